@@ -1,0 +1,4 @@
+pub mod Computed
+pub mod Cut
+pub mod Edited
+pub mod Seams

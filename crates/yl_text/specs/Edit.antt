@@ -1,0 +1,72 @@
+-- An edit of the lines of a text: some of them are replaced by bytes.
+use Rattle.std.specs.Prelude.{◌≡◌, ◌≢◌, ℕ, ◌+◌, ◌-◌, ◌≤◌, ◌<◌, ◌⊎◌, Bool, nat_lt, if◌then◌else◌, List, [], ◌∷◌, ◌++◌, length, take, drop, slice_index}
+use Rattle.std.specs.Str.{IsUtf8, IsValidUpTo}
+use Rattle.yl_text.specs.Lines.{Piece, text_of, lines_of}
+use Rattle.yl_text.specs.declared.TheConstants.{MAX_BYTES}
+use Rattle.yl_text.specs.declared.fault.TextFault.{TextFault}
+use Rattle.yl_text.specs.declared.fault.TextFault.TheVariants.{NotUtf8, Range, OpenEnd, JoinedBreak, TooLarge, Memory}
+
+-- the first and the last byte, or 0
+abbrev pub first_byte : List ℕ → ℕ
+first_byte t = slice_index t 0
+
+abbrev pub last_byte : List ℕ → ℕ
+last_byte t = slice_index t (length t - 1)
+
+-- lines a to b can be replaced
+pub record IsEditRange (ps : List Piece) (a b : ℕ) : Type 0 where
+  pub starts : a < length ps
+  pub ordered : a ≤ b
+  pub within : b ≤ length ps
+
+-- the bytes end in a break
+abbrev pub EndsInBreak : List ℕ → Type 0
+EndsInBreak t = (last_byte t ≡ 10) ⊎ (last_byte t ≡ 13)
+
+-- bytes that end in no break would stand before a kept line
+abbrev pub LeavesOpenEnd : List Piece → ℕ → List ℕ → Type 0
+LeavesOpenEnd ps b t = (b < length ps) × (t ≢ []) × ¬ (EndsInBreak t)
+
+-- a CR would stand before an LF
+abbrev pub Joins : List ℕ → List ℕ → Type 0
+Joins x y = (last_byte x ≡ 13) × (first_byte y ≡ 10)
+
+-- the text before line a, and from line b on
+abbrev pub front_of : List Piece → ℕ → List ℕ
+front_of ps a = text_of (take a ps)
+
+abbrev pub back_of : List Piece → ℕ → List ℕ
+back_of ps b = text_of (drop b ps)
+
+-- a break would be joined at a seam: at either end of the bytes, or where the kept parts meet
+abbrev pub JoinsBreaks : List Piece → ℕ → ℕ → List ℕ → Type 0
+JoinsBreaks ps a b t = (Joins (front_of ps a) t ⊎ Joins t (back_of ps b)) ⊎ ((t ≡ []) × Joins (front_of ps a) (back_of ps b))
+
+-- the text after the edit
+abbrev pub edited : List Piece → ℕ → ℕ → List ℕ → List ℕ
+edited ps a b t = front_of ps a ++ (t ++ back_of ps b)
+
+-- the lines of bytes that are put before a line, or at the end: before a line the last one, which is empty, is left out
+abbrev pub incoming_lines : Bool → List ℕ → List Piece
+incoming_lines before t = if before then take (length (lines_of t) - 1) (lines_of t) else lines_of t
+
+-- the lines that come in
+abbrev pub inserted : List Piece → ℕ → List ℕ → List Piece
+inserted ps b t = incoming_lines (nat_lt b (length ps)) t
+
+-- the edit has none of the faults
+pub record CanEdit (ps : List Piece) (a b : ℕ) (t : List ℕ) : Type 0 where
+  pub utf8 : IsUtf8 t
+  pub range : IsEditRange ps a b
+  pub closed : ¬ (LeavesOpenEnd ps b t)
+  pub apart : ¬ (JoinsBreaks ps a b t)
+  pub short : length (edited ps a b t) ≤ MAX_BYTES
+
+-- the first fault that stands
+abbrev pub IsEditFault : List Piece → ℕ → ℕ → List ℕ → TextFault → Type 0
+IsEditFault ps a b t (NotUtf8 n) = IsValidUpTo t n
+IsEditFault ps a b t Range = IsUtf8 t × ¬ (IsEditRange ps a b)
+IsEditFault ps a b t OpenEnd = IsUtf8 t × IsEditRange ps a b × LeavesOpenEnd ps b t
+IsEditFault ps a b t JoinedBreak = IsUtf8 t × IsEditRange ps a b × ¬ (LeavesOpenEnd ps b t) × JoinsBreaks ps a b t
+IsEditFault ps a b t TooLarge = IsUtf8 t × IsEditRange ps a b × ¬ (LeavesOpenEnd ps b t) × ¬ (JoinsBreaks ps a b t) × (MAX_BYTES < length (edited ps a b t))
+IsEditFault ps a b t Memory = ⊥

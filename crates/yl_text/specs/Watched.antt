@@ -1,0 +1,19 @@
+-- What a clause reads of a watched device, and how it counts failures.
+use Rattle.std.specs.Prelude.{◌≡◌, ℕ, ◌+◌, Bool, true, false, ◌&&◌, not, ◌==◌, if◌then◌else◌, List, length, Result, MatchResult}
+use Rattle.yl_text.specs.declared.device.Watched.{Watched}
+
+-- the reader or writer inside
+abbrev pub device_of : {D : Type 0} → Watched D → D
+device_of w = w.device
+
+-- how many failures it has seen
+abbrev pub failures_of : {D : Type 0} → Watched D → ℕ
+failures_of w = w.failures
+
+-- a read that fails counts one
+abbrev pub CountsRead : {E : Type 0} → ℕ → ℕ → Result ℕ E → Type 0
+CountsRead old new r = MatchResult r (λ _. new ≡ old) (λ _. new ≡ old + 1)
+
+-- a write that fails counts one, and so does one that takes nothing of a piece that is not empty
+abbrev pub CountsWrite : {E : Type 0} → ℕ → ℕ → Result ℕ E → List ℕ → Type 0
+CountsWrite old new r piece = MatchResult r (λ n. new ≡ (if n == 0 && not (length piece == 0) then old + 1 else old)) (λ _. new ≡ old + 1)

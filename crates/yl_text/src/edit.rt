@@ -1,0 +1,84 @@
+//! What an edit is refused for.
+ghost use Rattle.std.specs.Prelude.{◌≡◌, ◌+◌, ◌^◌, ◌<◌, ◌≤◌, ◌↔◌, IsTrue, length, take, slice_get};
+ghost use Rattle.yl_text.specs.Lines.{text_of};
+ghost use Rattle.yl_text.specs.Store.{AreLines, IsRange};
+ghost use Rattle.yl_text.specs.Edit.{first_byte, last_byte, EndsInBreak, IsEditRange, JoinsBreaks, LeavesOpenEnd, front_of, back_of};
+
+use crate::store::Lines;
+use crate::Break;
+
+pub fn starts_with_lf(bytes: &[u8]) -> bool
+    ensures { IsTrue result ↔ (first_byte bytes.now ≡ 10) }
+{
+    bytes.first() == Some(&b'\n')
+}
+
+pub fn ends_in_cr(bytes: &[u8]) -> bool
+    ensures { IsTrue result ↔ (last_byte bytes.now ≡ 13) }
+{
+    bytes.last() == Some(&b'\r')
+}
+
+pub fn ends_in_break(bytes: &[u8]) -> bool
+    ensures { IsTrue result ↔ EndsInBreak bytes.now }
+{
+    matches!(bytes.last(), Some(b'\n' | b'\r'))
+}
+
+/// Whether the text before line a ends in CR.
+pub fn front_ends_in_cr<S: Lines>(lines: &S, a: usize) -> bool
+    requires range { a < length (S.rows lines.now) }
+    requires lines { AreLines (S.rows lines.now) }
+    ensures { IsTrue result ↔ (last_byte (front_of (S.rows lines.now) a) ≡ 13) }
+{
+    a > 0 && lines.row(a - 1).end() == Break::Cr
+}
+
+/// Whether the text from line b on begins with LF.
+pub fn back_starts_with_lf<S: Lines>(lines: &S, b: usize) -> bool
+    requires range { b ≤ length (S.rows lines.now) }
+    requires lines { AreLines (S.rows lines.now) }
+    ensures { IsTrue result ↔ (first_byte (back_of (S.rows lines.now) b) ≡ 10) }
+{
+    b < lines.len()
+        && {
+            let row = lines.row(b);
+            row.as_str().is_empty() && row.end() == Break::Lf
+        }
+}
+
+/// How many bytes the lines a to b have.
+pub fn bytes_between<S: Lines>(lines: &S, a: usize, b: usize) -> u64
+    requires range { IsRange a b (length (S.rows lines.now)) }
+    requires lines { AreLines (S.rows lines.now) }
+    ensures { length (text_of (take a (S.rows lines.now))) + result
+        ≡ length (text_of (take b (S.rows lines.now))) }
+{
+    let mut sum = 0;
+    for i in a..b {
+        sum += lines.row(i).bytes() as u64;
+    }
+    sum
+}
+
+/// Whether a CR would stand before an LF at a seam.
+pub fn joins_breaks<S: Lines>(lines: &S, a: usize, b: usize, bytes: &[u8]) -> bool
+    requires range { IsEditRange (S.rows lines.now) a b }
+    requires lines { AreLines (S.rows lines.now) }
+    ensures { IsTrue result ↔ JoinsBreaks (S.rows lines.now) a b bytes.now }
+{
+    let front = front_ends_in_cr(lines, a);
+    let back = back_starts_with_lf(lines, b);
+    if bytes.is_empty() {
+        front && back
+    } else {
+        front && starts_with_lf(bytes) || ends_in_cr(bytes) && back
+    }
+}
+
+/// Whether bytes that end in no break would stand before a kept line.
+pub fn leaves_open_end<S: Lines>(lines: &S, b: usize, bytes: &[u8]) -> bool
+    ensures { IsTrue result ↔ LeavesOpenEnd (S.rows lines.now) b bytes.now }
+{
+    b < lines.len() && !bytes.is_empty() && !ends_in_break(bytes)
+}

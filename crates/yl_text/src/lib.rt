@@ -1,0 +1,34 @@
+//! Text as lines: rows, stores of rows, edits of them, and devices that count their failures.
+#![tactic(auto)]
+
+ghost use Rattle.yl_text.specs.Lines.{OneList, IsLinesOf};
+
+mod device;
+mod edit;
+mod fault;
+mod found;
+mod patched;
+mod plain_store;
+mod position;
+mod row;
+mod splitting;
+mod store;
+
+pub use device::Watched;
+pub use fault::TextFault;
+pub use found::{Found, RuleId};
+pub use patched::Patched;
+pub use plain_store::PlainStore;
+pub use position::Pos;
+pub use row::{Break, Row};
+pub use splitting::split;
+pub use store::{LineStore, Lines};
+
+/// The most bytes that a text may have.
+pub const MAX_BYTES: usize = 67_108_864;
+
+/// A law: a text has one list of lines, and no other.
+pub fn one_list_of_lines()
+    ensures unique { OneList }
+    ensures exists { IsLinesOf }
+{}

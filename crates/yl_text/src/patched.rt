@@ -1,0 +1,58 @@
+//! Lines of which some are replaced, with nothing copied.
+ghost use Rattle.std.specs.Prelude.{◌≡◌, ◌<◌, ◌≤◌, ◌+◌, ◌^◌, length, slice_get};
+ghost use Rattle.std.specs.List.{splice};
+ghost use Rattle.yl_text.specs.Store.{AreLines, IsRange};
+
+use crate::store::Lines;
+use crate::Row;
+
+/// The lines of a store, with these rows in place of the rows a to b.
+pub struct Patched<'a, S: Lines> {
+    lines: &'a S,
+    a: usize,
+    b: usize,
+    rows: &'a [Row<S::Alloc>],
+    ghost range: { IsRange a b (length (S.rows lines.now)) },
+    ghost few: { length (S.rows lines.now) + length rows.now < 2 ^ 64 },
+}
+
+impl<S: Lines> Drop for Patched<'_, S> {
+    fn drop(self) {
+        let Patched {
+            lines: _,
+            a: _,
+            b: _,
+            rows: _,
+        } = self;
+    }
+}
+
+impl<'a, S: Lines> Patched<'a, S> {
+    pub fn new(lines: &'a S, a: usize, b: usize, rows: &'a [Row<S::Alloc>]) -> Patched<'a, S>
+        requires range { IsRange a b (length (S.rows lines.now)) }
+        requires few { length (S.rows lines.now) + length rows.now < 2 ^ 64 }
+        ensures { splice (S.rows result.lines.now) result.a result.b result.rows.now ≡ splice (S.rows lines.now) a b rows.now }
+    {
+        Patched { lines, a, b, rows }
+    }
+}
+
+impl<'a, S: Lines> Lines for Patched<'a, S> {
+    type Alloc = S::Alloc;
+
+    ghost rows = { λ p. splice (S.rows p.lines.now) p.a p.b p.rows.now };
+
+    fn len(&self) -> usize {
+        self.lines.len() - (self.b - self.a) + self.rows.len()
+    }
+
+    fn row(&self, i: usize) -> &Row<S::Alloc> {
+        if i < self.a {
+            self.lines.row(i)
+        } else if i - self.a < self.rows.len() {
+            &self.rows[i - self.a]
+        } else {
+            self.lines.row(i - self.a - self.rows.len() + self.b)
+        }
+    }
+}

@@ -1,0 +1,78 @@
+//! Bytes into lines.
+ghost use Rattle.std.specs.Prelude.{◌≡◌, ◌≤◌, ◌<◌, ◌↔◌, ◌⊎◌, length, take, drop, IfOk, MatchResult, slice_index};
+ghost use Rattle.yl_text.specs.Lines.{HasNoBreak, lines_of, IsLines};
+ghost use Rattle.yl_text.specs.Split.{BreakAt};
+ghost use Rattle.yl_text.specs.Fault.{IsText, IsFaultOf};
+
+use crate::MAX_BYTES;
+use crate::fault::TextFault;
+use crate::row::{Break, Row};
+use std::alloc::{AllocError, Allocator};
+
+/// The place of the first LF or CR, else the length.
+pub fn first_break(bytes: &[u8]) -> usize
+    ensures within { result ≤ length bytes.now }
+    ensures before { HasNoBreak (take result bytes.now) }
+    ensures at { result < length bytes.now → (slice_index bytes.now result ≡ 10) ⊎ (slice_index bytes.now result ≡ 13) }
+{
+    for (i, byte) in bytes.iter().enumerate() {
+        if *byte == b'\n' || *byte == b'\r' {
+            return i;
+        }
+    }
+    bytes.len()
+}
+
+/// The break that begins there, if one does.
+fn break_at(bytes: &[u8], place: usize) -> Break
+    ensures { BreakAt bytes.now place result }
+{
+    match bytes.get(place) {
+        Some(b'\n') => Break::Lf,
+        Some(b'\r') => {
+            if bytes.get(place + 1) == Some(&b'\n') {
+                Break::CrLf
+            } else {
+                Break::Cr
+            }
+        }
+        _ => Break::No,
+    }
+}
+
+/// The lines of a text.
+fn rows_of<A: Allocator + Copy>(alloc: A, text: &str) -> Result<Vec<Row<A>, A>, AllocError>
+    ensures { IfOk result (λ rows. rows.items ≡ lines_of text.now) }
+{
+    let mut rows = Vec::new(alloc);
+    let mut rest = text;
+    loop {
+        let bytes = rest.as_bytes();
+        let place = first_break(bytes);
+        let end = break_at(bytes, place);
+        rows.push(Row::new(alloc, &rest[..place], end)?)?;
+        if end == Break::No {
+            return Ok(rows);
+        }
+        rest = &rest[place + end.len()..];
+    }
+}
+
+/// The lines of the bytes, or why these are no text: not UTF-8, too large, or want of memory.
+pub fn split<A: Allocator + Copy>(alloc: A, bytes: &[u8]) -> Result<Vec<Row<A>, A>, TextFault>
+    ensures text { MatchResult result (λ rows. IsText bytes.now) (λ fault. IsFaultOf bytes.now fault) }
+    ensures lines { IfOk result (λ rows. IsLines bytes.now rows.items) }
+{
+    let text = match simdutf8::compat::from_utf8(bytes) {
+        Ok(text) => text,
+        Err(error) => {
+            return Err(TextFault::NotUtf8 {
+                valid_up_to: error.valid_up_to(),
+            });
+        }
+    };
+    if text.len() > MAX_BYTES {
+        return Err(TextFault::TooLarge);
+    }
+    rows_of(alloc, text).map_err(|_| TextFault::Memory)
+}

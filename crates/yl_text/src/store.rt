@@ -1,0 +1,83 @@
+//! Lists of rows, and stores of them.
+ghost use Rattle.std.specs.Prelude.{◌≡◌, ◌+◌, ◌-◌, ◌<◌, ◌≤◌, List, length, slice_get, Some, OnOk, OnErr, IfOk, MatchResult};
+ghost use Rattle.std.specs.List.{splice};
+ghost use Rattle.yl_text.specs.Lines.{Piece, text_of};
+ghost use Rattle.yl_text.specs.Store.{AreLines, IsRange};
+ghost use Rattle.yl_text.specs.Edit.{CanEdit, IsEditFault};
+
+use crate::edit::{bytes_between, joins_breaks, leaves_open_end};
+use std::alloc::{AllocError, Allocator};
+use crate::{MAX_BYTES, Row, TextFault};
+
+/// A list of rows.
+pub trait Lines {
+    type Alloc: Allocator + Copy;
+
+    ghost rows: { Self → List Piece };
+
+    fn len(&self) -> usize
+        ensures { result ≡ length (rows self.now) };
+
+    fn row(&self, i: usize) -> &Row<Self::Alloc>
+        requires { i < length (rows self.now) }
+        ensures { slice_get (rows self.now) i ≡ Some result.now };
+}
+
+/// A store of the lines of a text.
+pub trait LineStore: Lines + Drop {
+    /// Why the bytes may not be put in place of the lines a to b: the first cause that stands.
+    final fn check(&self, a: usize, b: usize, bytes: &[u8]) -> Result<(), TextFault>
+    where
+        Self: Sized,
+        requires { AreLines (Self.rows self.now) }
+        ensures { MatchResult result (λ _. CanEdit (Self.rows self.now) a b bytes.now)
+            (λ fault. IsEditFault (Self.rows self.now) a b bytes.now fault) }
+    {
+        if let Err(error) = simdutf8::compat::from_utf8(bytes) {
+            return Err(TextFault::NotUtf8 {
+                valid_up_to: error.valid_up_to(),
+            });
+        }
+        if a >= self.len() || b < a || self.len() < b {
+            return Err(TextFault::Range);
+        }
+        if leaves_open_end(self, b, bytes) {
+            return Err(TextFault::OpenEnd);
+        }
+        if joins_breaks(self, a, b, bytes) {
+            return Err(TextFault::JoinedBreak);
+        }
+        let kept = self.bytes() - bytes_between(self, a, b);
+        if kept + bytes.len() as u64 > MAX_BYTES as u64 {
+            return Err(TextFault::TooLarge);
+        }
+        Ok(())
+    }
+
+    /// A store of these rows, which it takes out of the `Vec`, or nothing where there is no memory.
+    fn from_rows(rows: &mut Vec<Row<Self::Alloc>, Self::Alloc>) -> Result<Self, AllocError>
+    where
+        Self: Sized,
+        requires { AreLines rows.old.items }
+        ensures ok { IfOk result (λ store. Self.rows store ≡ rows.old.items) }
+        ensures err { OnErr result (rows.new.items ≡ rows.old.items) };
+
+    /// How many bytes the text has.
+    fn bytes(&self) -> u64
+        requires { AreLines (Self.rows self.now) }
+        ensures { result ≡ length (text_of (Self.rows self.now)) };
+
+    /// Puts these rows, which it takes out of the `Vec`, in place of the rows a to b. Where there
+    /// is no memory nothing changes.
+    fn splice(
+        &mut self,
+        a: usize,
+        b: usize,
+        rows: &mut Vec<Row<Self::Alloc>, Self::Alloc>,
+    ) -> Result<(), AllocError>
+        requires range { IsRange a b (length (Self.rows self.old)) }
+        requires lines { AreLines (splice (Self.rows self.old) a b rows.old.items) }
+        ensures ok { OnOk result (Self.rows self.new ≡ splice (Self.rows self.old) a b rows.old.items) }
+        ensures err { OnErr result (Self.rows self.new ≡ Self.rows self.old) }
+        ensures back { OnErr result (rows.new.items ≡ rows.old.items) };
+}
