@@ -1,0 +1,78 @@
+-- What clauses see of lexemes and comments.
+use Rattle.std.specs.Prelude.{ℕ, Bool, true, false, List}
+use Rattle.yl_text.specs.declared.position.Pos.{Pos}
+use Rattle.yl_scan.specs.declared.lexeme.Style.{Style}
+use Rattle.yl_scan.specs.declared.lexeme.Style.TheVariants.{Plain, Single, Double, Literal, Folded}
+use Rattle.yl_scan.specs.declared.lexeme.Kind.{Kind}
+use Rattle.yl_scan.specs.declared.lexeme.Kind.TheVariants.{Directive, DocStart, DocEnd, Entry, Key, Value, Comma, SeqOpen, SeqClose, MapOpen, MapClose, Alias, Anchor, Tag, Scalar}
+
+-- a lexeme: its lines count from that in which it begins; the value in UTF-8
+pub record LexemeValue : Type 0 where
+  pub kind : Kind
+  pub start : Pos
+  pub end : Pos
+  pub value : List ℕ
+
+-- a comment: the column of its `#`, and its text in UTF-8
+pub record CommentValue : Type 0 where
+  pub column : ℕ
+  pub text : List ℕ
+
+abbrev pub is_document_marker : Kind → Bool
+is_document_marker DocStart = true
+is_document_marker DocEnd = true
+is_document_marker _ = false
+
+abbrev pub is_opening : Kind → Bool
+is_opening SeqOpen = true
+is_opening MapOpen = true
+is_opening _ = false
+
+abbrev pub is_closing : Kind → Bool
+is_closing SeqClose = true
+is_closing MapClose = true
+is_closing _ = false
+
+abbrev pub is_property : Kind → Bool
+is_property Anchor = true
+is_property Tag = true
+is_property _ = false
+
+abbrev pub is_anchor : Kind → Bool
+is_anchor Anchor = true
+is_anchor _ = false
+
+abbrev pub is_entry : Kind → Bool
+is_entry Entry = true
+is_entry _ = false
+
+abbrev pub is_key : Kind → Bool
+is_key Key = true
+is_key _ = false
+
+abbrev pub is_value : Kind → Bool
+is_value Value = true
+is_value _ = false
+
+abbrev pub is_comma : Kind → Bool
+is_comma Comma = true
+is_comma _ = false
+
+abbrev pub is_quoted_style : Style → Bool
+is_quoted_style Single = true
+is_quoted_style Double = true
+is_quoted_style _ = false
+
+abbrev pub is_quoted : Kind → Bool
+is_quoted (Scalar s) = is_quoted_style s
+is_quoted _ = false
+
+-- an alias or a scalar
+abbrev pub is_leaf : Kind → Bool
+is_leaf (Scalar s) = true
+is_leaf Alias = true
+is_leaf _ = false
+
+abbrev pub opens_sequence : Kind → Bool
+opens_sequence SeqOpen = true
+opens_sequence _ = false

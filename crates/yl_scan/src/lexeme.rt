@@ -1,0 +1,160 @@
+//! Lexemes and comments: what the scanner reads of a text.
+
+use std::alloc::Allocator;
+use std::marker::Model;
+use yl_text::Pos;
+
+/// How a scalar is written: YAML 1.2.2, 7.3 and 8.1.
+#[derive(Clone, Copy, Debug, PartialEq, Eq)]
+pub enum Style {
+    Plain,
+    Single,
+    Double,
+    Literal,
+    Folded,
+}
+
+/// What a lexeme is: the indicators and markers of YAML 1.2.2, chapters 6 to 9, and its scalars.
+#[derive(Clone, Copy, Debug, PartialEq, Eq)]
+pub enum Kind {
+    /// A directive: `%` and what follows.
+    Directive,
+    /// The marker `---`.
+    DocStart,
+    /// The marker `...`.
+    DocEnd,
+    /// The indicator `-` of an entry.
+    Entry,
+    /// The indicator `?` of a key.
+    Key,
+    /// The indicator `:` of a value.
+    Value,
+    /// The indicator `,`.
+    Comma,
+    /// The bracket `[`.
+    SeqOpen,
+    /// The bracket `]`.
+    SeqClose,
+    /// The bracket `{`.
+    MapOpen,
+    /// The bracket `}`.
+    MapClose,
+    /// An alias: `*` and its name.
+    Alias,
+    /// An anchor: `&` and its name.
+    Anchor,
+    /// A tag: `!` and what follows.
+    Tag,
+    Scalar(Style),
+}
+
+/// A lexeme. Its lines count from the line in which it begins, its columns from 0 in characters; its end is
+/// behind its last character. The value is that of a plain or quoted scalar, the name of an anchor or an
+/// alias, the text of a directive, and of all else empty.
+#[derive(Drop)]
+pub struct Lexeme<A: Allocator> {
+    kind: Kind,
+    start: Pos,
+    end: Pos,
+    value: String<A>,
+}
+
+impl<A: Allocator> Model for Lexeme<A> {
+    ghost use Rattle.std.specs.Prelude.{string_bytes};
+    ghost use Rattle.yl_scan.specs.Lexeme.{LexemeValue};
+
+    ghost Value = { LexemeValue };
+
+    ghost view = { λ x. record { kind = x.kind; start = x.start; end = x.end; value = string_bytes x.value } };
+}
+
+impl<A: Allocator> Lexeme<A> {
+    ghost use Rattle.std.specs.Prelude.{◌≡◌, string_bytes};
+
+    /// A lexeme of these parts.
+    pub fn new(kind: Kind, start: Pos, end: Pos, value: String<A>) -> Lexeme<A>
+        ensures { result ≡ record { kind = kind; start = start; end = end; value = string_bytes value } }
+    {
+        Lexeme {
+            kind,
+            start,
+            end,
+            value,
+        }
+    }
+
+    pub fn kind(&self) -> Kind
+        ensures { result ≡ self.now.kind }
+    {
+        self.kind
+    }
+
+    /// Where it begins; the line is 0.
+    pub fn start(&self) -> Pos
+        ensures { result ≡ self.now.start }
+    {
+        self.start
+    }
+
+    /// Where it ends, behind its last character.
+    pub fn end(&self) -> Pos
+        ensures { result ≡ self.now.end }
+    {
+        self.end
+    }
+
+    /// Its value.
+    pub fn value(&self) -> &str
+        ensures { result.now ≡ self.now.value }
+    {
+        self.value.as_str()
+    }
+}
+
+/// A comment: the column of its `#`, from 0 in characters, and the text from there to before the break.
+#[derive(Drop)]
+pub struct Comment<A: Allocator> {
+    col: u32,
+    text: String<A>,
+}
+
+impl<A: Allocator> Model for Comment<A> {
+    ghost use Rattle.std.specs.Prelude.{string_bytes};
+    ghost use Rattle.yl_scan.specs.Lexeme.{CommentValue};
+
+    ghost Value = { CommentValue };
+
+    ghost view = { λ c. record { column = c.col; text = string_bytes c.text } };
+}
+
+impl<A: Allocator> Comment<A> {
+    ghost use Rattle.std.specs.Prelude.{◌≡◌, string_bytes};
+
+    /// A comment of these parts.
+    pub fn new(col: u32, text: String<A>) -> Comment<A>
+        ensures { result ≡ record { column = col; text = string_bytes text } }
+    {
+        Comment { col, text }
+    }
+
+    /// The column of its `#`, from 0 in characters.
+    pub fn col(&self) -> u32
+        ensures { result ≡ self.now.column }
+    {
+        self.col
+    }
+
+    /// Its text, with the `#`.
+    pub fn text(&self) -> &str
+        ensures { result.now ≡ self.now.text }
+    {
+        self.text.as_str()
+    }
+}
+
+/// A lexeme at a line of the text, counted from 0.
+#[derive(Clone, Copy)]
+pub struct At<'a, A: Allocator> {
+    pub line: u32,
+    pub lexeme: &'a Lexeme<A>,
+}
