@@ -3,6 +3,7 @@
 
 ghost use Rattle.yl_text.specs.Lines.{OneList, IsLinesOf};
 
+mod decode;
 mod device;
 mod edit;
 mod fault;
@@ -11,9 +12,11 @@ mod patched;
 mod plain_store;
 mod position;
 mod row;
+mod special;
 mod splitting;
 mod store;
 
+pub use decode::characters;
 pub use device::Watched;
 pub use fault::TextFault;
 pub use found::{Found, RuleId};
@@ -21,6 +24,7 @@ pub use patched::Patched;
 pub use plain_store::PlainStore;
 pub use position::Pos;
 pub use row::{Break, Row};
+pub use special::first_special;
 pub use splitting::split;
 pub use store::{LineStore, Lines};
 
