@@ -7,6 +7,7 @@ ghost use Rattle.yl_text.specs.Fault.{IsText, IsFaultOf};
 use crate::MAX_BYTES;
 use crate::fault::TextFault;
 use crate::row::{Break, Row};
+use memchr::memchr2;
 use std::alloc::{AllocError, Allocator};
 
 /// The place of the first LF or CR, else the length.
@@ -15,12 +16,7 @@ pub fn first_break(bytes: &[u8]) -> usize
     ensures before { HasNoBreak (take result bytes.now) }
     ensures at { result < length bytes.now → (slice_index bytes.now result ≡ 10) ⊎ (slice_index bytes.now result ≡ 13) }
 {
-    for (i, byte) in bytes.iter().enumerate() {
-        if *byte == b'\n' || *byte == b'\r' {
-            return i;
-        }
-    }
-    bytes.len()
+    memchr2(b'\n', b'\r', bytes).unwrap_or(bytes.len())
 }
 
 /// The break that begins there, if one does.
