@@ -4,11 +4,11 @@ ghost use Rattle.std.specs.List.{splice, remove_range, slice_rotate_right};
 ghost use Rattle.yl_text.specs.Lines.{text_of};
 ghost use Rattle.yl_text.specs.Store.{IsRange};
 
+use crate::Row;
 use crate::store::{LineStore, Lines};
 use std::alloc::{AllocError, Allocator};
 use std::marker::Model;
 use std::mem;
-use crate::Row;
 
 /// The lines of a text in one `Vec`.
 #[derive(Drop)]

@@ -6,26 +6,32 @@ ghost use Rattle.yl_text.specs.Store.{AreLines, IsRange};
 ghost use Rattle.yl_text.specs.Edit.{CanEdit, IsEditFault};
 
 use crate::edit::{bytes_between, joins_breaks, leaves_open_end};
-use std::alloc::{AllocError, Allocator};
 use crate::{MAX_BYTES, Row, TextFault};
+use std::alloc::{AllocError, Allocator};
 
-/// A list of rows.
+/// A list of rows, counted from 0.
 pub trait Lines {
     type Alloc: Allocator + Copy;
 
     ghost rows: { Self → List Piece };
 
+    /// How many rows there are.
     fn len(&self) -> usize
         ensures { result ≡ length (rows self.now) };
 
+    /// The row at `i`, not copied. It takes no memory.
     fn row(&self, i: usize) -> &Row<Self::Alloc>
         requires { i < length (rows self.now) }
         ensures { slice_get (rows self.now) i ≡ Some result.now };
 }
 
-/// A store of the lines of a text.
+/// A store of the lines of a text. `check` and `splice` together are an edit of the text: the bytes
+/// that come in are split into rows first (the last one, empty where they end in a break, is left out
+/// before a kept line), and the rows that result are the lines of the edited text.
 pub trait LineStore: Lines + Drop {
-    /// Why the bytes may not be put in place of the lines a to b: the first cause that stands.
+    /// Why the bytes may not be put in place of the lines a to b, b not included, counted from 0: the
+    /// first cause that stands, in the order `NotUtf8`, `Range`, `OpenEnd`, `JoinedBreak`, `TooLarge`. It
+    /// answers nothing else, and takes no memory.
     final fn check(&self, a: usize, b: usize, bytes: &[u8]) -> Result<(), TextFault>
     where
         Self: Sized,
@@ -62,13 +68,13 @@ pub trait LineStore: Lines + Drop {
         ensures ok { IfOk result (λ store. Self.rows store ≡ rows.old.items) }
         ensures err { OnErr result (rows.new.items ≡ rows.old.items) };
 
-    /// How many bytes the text has.
+    /// How many bytes the text has, breaks counted.
     fn bytes(&self) -> u64
         requires { AreLines (Self.rows self.now) }
         ensures { result ≡ length (text_of (Self.rows self.now)) };
 
-    /// Puts these rows, which it takes out of the `Vec`, in place of the rows a to b. Where there
-    /// is no memory nothing changes.
+    /// Puts these rows, which it takes out of the `Vec`, in place of the rows a to b, b not included.
+    /// Where there is no memory nothing changes.
     fn splice(
         &mut self,
         a: usize,
