@@ -1,8 +1,10 @@
 -- An edit of the lines of a text: the lines a to b, b not included, counted from 0, are replaced by bytes. Its faults are
 -- this project's own; what a break is, YAML 1.2.2, 5.4 says.
 use Rattle.std.specs.Prelude.{◌≡◌, ◌≢◌, ℕ, ◌+◌, ◌-◌, ◌≤◌, ◌<◌, ◌⊎◌, Bool, nat_lt, if◌then◌else◌, List, [], ◌∷◌, ◌++◌, length, take, drop, slice_index}
+use Rattle.std.specs.List.{splice}
 use Rattle.std.specs.Str.{IsUtf8, IsValidUpTo}
-use Rattle.yl_text.specs.Lines.{Piece, text_of, lines_of}
+use Rattle.yl_text.specs.Lines.{Piece, text_of, lines_of, IsLines}
+use Rattle.yl_text.specs.Store.{AreLines}
 use Rattle.yl_text.specs.declared.TheConstants.{MAX_BYTES}
 use Rattle.yl_text.specs.declared.fault.TextFault.{TextFault}
 use Rattle.yl_text.specs.declared.fault.TextFault.TheVariants.{NotUtf8, Range, OpenEnd, JoinedBreak, TooLarge, Memory}
@@ -71,3 +73,14 @@ IsEditFault ps a b t OpenEnd = IsUtf8 t × IsEditRange ps a b × LeavesOpenEnd p
 IsEditFault ps a b t JoinedBreak = IsUtf8 t × IsEditRange ps a b × ¬ (LeavesOpenEnd ps b t) × JoinsBreaks ps a b t
 IsEditFault ps a b t TooLarge = IsUtf8 t × IsEditRange ps a b × ¬ (LeavesOpenEnd ps b t) × ¬ (JoinsBreaks ps a b t) × (MAX_BYTES < length (edited ps a b t))
 IsEditFault ps a b t Memory = ⊥
+
+-- an edit without fault, made row by row, is the edit of the text: the rows that result are the lines of the text after it
+abbrev pub EditIsSplice : Type 0
+EditIsSplice = (ps : List Piece) (a b : ℕ) (t : List ℕ) → AreLines ps → CanEdit ps a b t → IsLines (edited ps a b t) (splice ps a b (inserted ps b t)) × AreLines (splice ps a b (inserted ps b t))
+
+-- an edit has one answer: a fault and no other, or none
+abbrev pub EditHasOneFault : Type 0
+EditHasOneFault = (ps : List Piece) (a b : ℕ) (t : List ℕ) (f g : TextFault) → IsEditFault ps a b t f → IsEditFault ps a b t g → f ≡ g
+
+abbrev pub EditHasFaultOrNone : Type 0
+EditHasFaultOrNone = (ps : List Piece) (a b : ℕ) (t : List ℕ) (f : TextFault) → CanEdit ps a b t → ¬ (IsEditFault ps a b t f)

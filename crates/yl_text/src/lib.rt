@@ -1,6 +1,7 @@
 //! Text as lines: rows, stores of rows, edits of them, and devices that count their failures.
 #![tactic(auto)]
 
+ghost use Rattle.yl_text.specs.Edit.{EditIsSplice, EditHasOneFault, EditHasFaultOrNone};
 ghost use Rattle.yl_text.specs.Lines.{OneList, IsLinesOf};
 
 mod decode;
@@ -35,4 +36,11 @@ pub const MAX_BYTES: usize = 67_108_864;
 pub fn one_list_of_lines()
     ensures unique { OneList }
     ensures exists { IsLinesOf }
+{}
+
+/// Laws of edits: made row by row, an edit is that of the text; and it has one fault, or none.
+pub fn one_answer_to_an_edit()
+    ensures splice { EditIsSplice }
+    ensures one_fault { EditHasOneFault }
+    ensures fault_or_none { EditHasFaultOrNone }
 {}

@@ -1,5 +1,5 @@
 //! Lists of rows, and stores of them.
-ghost use Rattle.std.specs.Prelude.{◌≡◌, ◌+◌, ◌-◌, ◌<◌, ◌≤◌, List, length, slice_get, Some, OnOk, OnErr, IfOk, MatchResult};
+ghost use Rattle.std.specs.Prelude.{◌≡◌, ◌+◌, ◌-◌, ◌<◌, ◌≤◌, List, [], length, slice_get, Some, OnOk, OnErr, IfOk, MatchResult};
 ghost use Rattle.std.specs.List.{splice};
 ghost use Rattle.yl_text.specs.Lines.{Piece, text_of};
 ghost use Rattle.yl_text.specs.Store.{AreLines, IsRange};
@@ -66,6 +66,7 @@ pub trait LineStore: Lines + Drop {
         Self: Sized,
         requires { AreLines rows.old.items }
         ensures ok { IfOk result (λ store. Self.rows store ≡ rows.old.items) }
+        ensures taken { OnOk result (rows.new.items ≡ []) }
         ensures err { OnErr result (rows.new.items ≡ rows.old.items) };
 
     /// How many bytes the text has, breaks counted.
@@ -84,6 +85,7 @@ pub trait LineStore: Lines + Drop {
         requires range { IsRange a b (length (Self.rows self.old)) }
         requires lines { AreLines (splice (Self.rows self.old) a b rows.old.items) }
         ensures ok { OnOk result (Self.rows self.new ≡ splice (Self.rows self.old) a b rows.old.items) }
+        ensures taken { OnOk result (rows.new.items ≡ []) }
         ensures err { OnErr result (Self.rows self.new ≡ Self.rows self.old) }
         ensures back { OnErr result (rows.new.items ≡ rows.old.items) };
 }
