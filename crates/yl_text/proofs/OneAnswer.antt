@@ -1,12 +1,10 @@
 -- An edit has one answer.
-use Rattle.std.proofs.Common.{◌≡◌, ℕ, ◌+◌, ◌≤◌, ◌<◌, List, length, take, refl, sym, ◌∙◌, ap, subst, arith}
+use Rattle.std.proofs.Common.{ℕ, List, length, refl, sym, ◌∙◌, ap, subst, arith}
 use Rattle.std.proofs.lemmas.List.{take_all}
 use Rattle.std.proofs.lemmas.Str.{utf8_valid_len-IsValidUpTo}
 use Rattle.std.specs.Str.{IsUtf8, IsValidUpTo}
-use Rattle.yl_text.specs.declared.fault.TextFault.{TextFault}
 use Rattle.yl_text.specs.declared.fault.TextFault.TheVariants.{NotUtf8, Range, OpenEnd, JoinedBreak, TooLarge, Memory}
-use Rattle.yl_text.specs.Lines.{Piece}
-use Rattle.yl_text.specs.Edit.{CanEdit, IsEditFault, EditHasOneFault, EditHasFaultOrNone}
+use Rattle.yl_text.specs.Edit.{EditHasOneFault, EditHasFaultOrNone}
 
 not_utf8 : (t : List ℕ) (n : ℕ) → IsValidUpTo t n → ¬ (IsUtf8 t)
 not_utf8 t n v u = v.longest (length t) v.short (subst IsUtf8 (sym (take_all (length t) t (omega arith))) u)

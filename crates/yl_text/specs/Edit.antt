@@ -1,6 +1,6 @@
 -- An edit of the lines of a text: the lines a to b, b not included, counted from 0, are replaced by bytes. Its faults are
 -- this project's own; what a break is, YAML 1.2.2, 5.4 says.
-use Rattle.std.specs.Prelude.{◌≡◌, ◌≢◌, ℕ, ◌+◌, ◌-◌, ◌≤◌, ◌<◌, ◌⊎◌, Bool, nat_lt, if◌then◌else◌, List, [], ◌∷◌, ◌++◌, length, take, drop, slice_index}
+use Rattle.std.specs.Prelude.{◌≡◌, ◌≢◌, ℕ, ◌-◌, ◌≤◌, ◌<◌, ◌⊎◌, Bool, nat_lt, if◌then◌else◌, List, [], ◌++◌, length, take, drop, slice_index}
 use Rattle.std.specs.List.{splice}
 use Rattle.std.specs.Str.{IsUtf8, IsValidUpTo}
 use Rattle.yl_text.specs.Lines.{Piece, text_of, lines_of, IsLines}

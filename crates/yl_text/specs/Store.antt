@@ -1,6 +1,5 @@
 -- Lists of lines, and ranges of them, counted from 0.
-use Rattle.std.specs.Prelude.{◌≡◌, ◌≢◌, ℕ, ◌+◌, ◌-◌, ◌≤◌, ◌<◌, ◌⊎◌, List, [], ◌∷◌, ◌++◌, length, take, drop}
-use Rattle.std.specs.List.{splice}
+use Rattle.std.specs.Prelude.{ℕ, ◌≤◌, List, length}
 use Rattle.yl_text.specs.Lines.{Piece, text_of, IsLines}
 use Rattle.yl_text.specs.declared.TheConstants.{MAX_BYTES}
 

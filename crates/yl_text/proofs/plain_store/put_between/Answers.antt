@@ -1,4 +1,4 @@
-use Rattle.std.proofs.Common.{◌≡◌, ◌+◌, ◌-◌, ◌≤◌, ◌<◌, ℕ, length, take, drop, ◌++◌, List, arith, ◌∙◌, rules, refl}
+use Rattle.std.proofs.Common.{◌≡◌, ◌+◌, ◌≤◌, ℕ, length, take, drop, ◌++◌, List, arith, rules, refl}
 use Rattle.std.proofs.lemmas.List.{same_lists, places}
 use Rattle.std.proofs.lemmas.Slice.{pushed}
 use Rattle.std.specs.List.{splice, remove_range, slice_rotate_right}
