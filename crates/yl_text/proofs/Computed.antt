@@ -1,12 +1,12 @@
 -- The lines of a text, computed: they are its lines, and the only ones.
-use Rattle.std.proofs.Common.{inl, inr, ◌≡◌, ◌≢◌, ℕ, Bool, true, false, cond, List, [], ◌∷◌, ◌++◌, get_or, refl, sym, ◌∙◌, ap, subst, arith, append_assoc, eqb}
-use Rattle.std.proofs.lemmas.Bool.{ne_eqb, cond-false, cases_eq, eq-eqb, cond-true, cond_both}
+use Rattle.std.proofs.Common.{inl, inr, ◌≡◌, ◌≢◌, ℕ, List, [], ◌∷◌, ◌++◌, get_or, refl, sym, ◌∙◌, ap, subst, arith, append_assoc}
+use Rattle.std.proofs.lemmas.Bool.{ne_eqb, cond-false, cases_eq, eq-eqb, cond-true}
 use Rattle.std.proofs.lemmas.List.{append-nil}
 use Rattle.std.proofs.lemmas.List.Elements.{All-head, All-tail, All-cons, All-nil}
 use Rattle.std.specs.Prelude.{All}
 use Rattle.yl_text.specs.declared.row.Break.{Break}
 use Rattle.yl_text.specs.declared.row.Break.TheVariants.{No, Lf, CrLf, Cr}
-use Rattle.yl_text.specs.Lines.{Piece, break_bytes, piece_bytes, text_of, HasNoBreak, AreEnded, StartsWithLf, AreWhole, IsLines, cr_before, byte_before, lines_from, lines_of, OneList}
+use Rattle.yl_text.specs.Lines.{Piece, break_bytes, text_of, HasNoBreak, AreEnded, StartsWithLf, AreWhole, IsLines, cr_before, byte_before, lines_from, lines_of, OneList}
 
 abbrev pub line : List ℕ → Break → Piece
 line xs e = record { text = xs; end = e }

@@ -1,15 +1,15 @@
 -- The lines of an edited text are the kept lines and those of the bytes.
-use Rattle.std.proofs.Common.{◌≡◌, ◌≢◌, ℕ, zero, suc, ◌+◌, ◌-◌, ◌<◌, ◌≤◌, ◌⊎◌, inl, inr, Bool, true, false, cond, List, [], ◌∷◌, ◌++◌, length, take, drop, get_or, refl, sym, ◌∙◌, ap, subst, arith, append_assoc, length-append}
+use Rattle.std.proofs.Common.{◌≡◌, ◌≢◌, ℕ, zero, suc, ◌+◌, ◌-◌, ◌<◌, ◌≤◌, ◌⊎◌, inl, inr, List, [], ◌∷◌, ◌++◌, length, take, drop, get_or, refl, sym, ◌∙◌, ap, subst, arith, append_assoc, length-append}
 use Rattle.std.proofs.lemmas.Bool.{cases_lt, cases_eq}
-use Rattle.std.proofs.lemmas.List.{append-nil, get_or_append_left, get_or-append-add, take-append-drop, take_all}
+use Rattle.std.proofs.lemmas.List.{append-nil, get_or_append_left, get_or-append-add, take-append-drop}
 use Rattle.std.proofs.lemmas.List.Elements.{All-head, All-tail, All-take}
 use Rattle.std.proofs.lemmas.List.Concat.{flat_map-append}
 use Rattle.std.specs.Prelude.{All}
 use Rattle.yl_text.specs.declared.row.Break.{Break}
 use Rattle.yl_text.specs.declared.row.Break.TheVariants.{No, Lf, CrLf, Cr}
 use Rattle.yl_text.specs.Lines.{Piece, break_bytes, piece_bytes, text_of, HasNoBreak, AreEnded, StartsWithLf, AreWhole, IsLines, lines_of}
-use Rattle.yl_text.proofs.Computed.{line, lines_of-last, lines_of-step, lines_of-is, lines_of-IsLines}
-use Rattle.std.specs.List.{splice, flat_map}
+use Rattle.yl_text.proofs.Computed.{lines_of-last, lines_of-step, lines_of-is, lines_of-IsLines}
+use Rattle.std.specs.List.{splice}
 use Rattle.std.proofs.lemmas.List.Elements.{All-cons, All-nil, All-drop, All-get_or}
 use Rattle.std.proofs.lemmas.Bool.{cond-true, cond-false, lt-ltb, le-ltb}
 use Rattle.yl_text.specs.declared.TheConstants.{MAX_BYTES}

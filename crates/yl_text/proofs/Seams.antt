@@ -1,5 +1,5 @@
 -- What stands at a seam, told from the rows there.
-use Rattle.std.proofs.Common.{◌≡◌, ◌≢◌, ℕ, suc, ◌+◌, ◌-◌, ◌<◌, ◌≤◌, ◌⊎◌, inl, inr, Some, List, [], ◌∷◌, ◌++◌, length, take, drop, get_or, refl, sym, ◌∙◌, ap, subst, arith, add-one, length-append}
+use Rattle.std.proofs.Common.{◌≡◌, ◌≢◌, ℕ, ◌+◌, ◌<◌, ◌≤◌, Some, List, [], ◌∷◌, ◌++◌, length, take, drop, get_or, refl, sym, ◌∙◌, ap, subst, arith, add-one, length-append}
 use Rattle.std.proofs.Math.Seq.{drop-cons}
 use Rattle.std.proofs.lemmas.Option.{slice_get_within, get_or_from_slice_get}
 use Rattle.std.proofs.lemmas.List.{append-nil, take_more, take-append-drop, get_or-take, length-take}
@@ -9,10 +9,10 @@ use Rattle.std.specs.Prelude.{All, ◌↔◌}
 use Rattle.std.specs.List.{slice_get}
 use Rattle.yl_text.specs.declared.row.Break.{Break}
 use Rattle.yl_text.specs.declared.row.Break.TheVariants.{No, Lf, CrLf, Cr}
-use Rattle.yl_text.specs.Lines.{Piece, break_bytes, piece_bytes, text_of, HasNoBreak, AreEnded, IsLines}
+use Rattle.yl_text.specs.Lines.{Piece, break_bytes, piece_bytes, text_of, HasNoBreak, AreEnded}
 use Rattle.yl_text.specs.Store.{AreLines}
 use Rattle.yl_text.specs.Edit.{first_byte, last_byte, front_of, back_of}
-use Rattle.yl_text.proofs.Edited.{AreClosed, take_closed, ended_back, last_of, some_byte}
+use Rattle.yl_text.proofs.Edited.{take_closed, ended_back, last_of, some_byte}
 
 drop_here : {X : Type 0} (xs : List X) (i : ℕ) (x : X) → slice_get xs i ≡ Some x → drop i xs ≡ x ∷ drop (i + 1) xs
 drop_here xs i x e =

@@ -1,4 +1,4 @@
--- What a rule finds in a text. Lines and columns count from 1.
+-- What a rule finds in a text. Lines and columns count from 1, columns in characters.
 use Rattle.std.specs.Prelude.{ℕ, List, [], ◌∷◌, ◌++◌, codes}
 use Rattle.yl_text.specs.declared.found.RuleId.{RuleId}
 use Rattle.yl_text.specs.declared.found.RuleId.TheVariants.{Anchors, Braces, Brackets, Colons, Commas, Comments, DocumentStart, EmptyLines, Hyphens, Indentation, KeyDuplicates, KeyOrdering, LineLength, NewLineAtEndOfFile, NewLines, QuotedStrings, Syntax, TrailingSpaces, Truthy}
@@ -10,6 +10,7 @@ pub record Finding : Type 0 where
   -- in UTF-8
   pub message : List ℕ
 
+-- the rules' names in yamllint's documentation ("Rules"); `syntax` is that of the text's fault
 abbrev pub rule_name : RuleId → List ℕ
 rule_name Anchors = codes "anchors"
 rule_name Braces = codes "braces"

@@ -3,6 +3,7 @@ pub mod Edit
 pub mod Fault
 pub mod Finding
 pub mod Lines
+pub mod Special
 pub mod Split
 pub mod Store
 pub mod Watched

@@ -1,6 +1,5 @@
--- Lists of lines, and edits of them.
-use Rattle.std.specs.Prelude.{◌≡◌, ◌≢◌, ℕ, ◌+◌, ◌-◌, ◌≤◌, ◌<◌, ◌⊎◌, List, [], ◌∷◌, ◌++◌, length, take, drop}
-use Rattle.std.specs.List.{splice}
+-- Lists of lines, and ranges of them, counted from 0.
+use Rattle.std.specs.Prelude.{ℕ, ◌≤◌, List, length}
 use Rattle.yl_text.specs.Lines.{Piece, text_of, IsLines}
 use Rattle.yl_text.specs.declared.TheConstants.{MAX_BYTES}
 
@@ -9,7 +8,7 @@ pub record AreLines (ps : List Piece) : Type 0 where
   pub lines : IsLines (text_of ps) ps
   pub short : length (text_of ps) ≤ MAX_BYTES
 
--- a to b is a range of that many rows
+-- a to b, b not included, is a range of that many rows
 pub record IsRange (a b len : ℕ) : Type 0 where
   pub ordered : a ≤ b
   pub within : b ≤ len

@@ -4,21 +4,24 @@ ghost use Rattle.yl_text.specs.Lines.{text_of};
 ghost use Rattle.yl_text.specs.Store.{AreLines, IsRange};
 ghost use Rattle.yl_text.specs.Edit.{first_byte, last_byte, EndsInBreak, IsEditRange, JoinsBreaks, LeavesOpenEnd, front_of, back_of};
 
-use crate::store::Lines;
 use crate::Break;
+use crate::store::Lines;
 
+/// Whether the bytes begin with LF.
 pub fn starts_with_lf(bytes: &[u8]) -> bool
     ensures { IsTrue result ↔ (first_byte bytes.now ≡ 10) }
 {
     bytes.first() == Some(&b'\n')
 }
 
+/// Whether the bytes end in CR.
 pub fn ends_in_cr(bytes: &[u8]) -> bool
     ensures { IsTrue result ↔ (last_byte bytes.now ≡ 13) }
 {
     bytes.last() == Some(&b'\r')
 }
 
+/// Whether the bytes end in a break: in LF or CR.
 pub fn ends_in_break(bytes: &[u8]) -> bool
     ensures { IsTrue result ↔ EndsInBreak bytes.now }
 {

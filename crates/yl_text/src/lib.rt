@@ -1,8 +1,10 @@
 //! Text as lines: rows, stores of rows, edits of them, and devices that count their failures.
 #![tactic(auto)]
 
+ghost use Rattle.yl_text.specs.Edit.{EditIsSplice, EditHasOneFault, EditHasFaultOrNone};
 ghost use Rattle.yl_text.specs.Lines.{OneList, IsLinesOf};
 
+mod decode;
 mod device;
 mod edit;
 mod fault;
@@ -11,9 +13,11 @@ mod patched;
 mod plain_store;
 mod position;
 mod row;
+mod special;
 mod splitting;
 mod store;
 
+pub use decode::characters;
 pub use device::Watched;
 pub use fault::TextFault;
 pub use found::{Found, RuleId};
@@ -21,6 +25,7 @@ pub use patched::Patched;
 pub use plain_store::PlainStore;
 pub use position::Pos;
 pub use row::{Break, Row};
+pub use special::first_special;
 pub use splitting::split;
 pub use store::{LineStore, Lines};
 
@@ -31,4 +36,11 @@ pub const MAX_BYTES: usize = 67_108_864;
 pub fn one_list_of_lines()
     ensures unique { OneList }
     ensures exists { IsLinesOf }
+{}
+
+/// Laws of edits: made row by row, an edit is that of the text; and it has one fault, or none.
+pub fn one_answer_to_an_edit()
+    ensures splice { EditIsSplice }
+    ensures one_fault { EditHasOneFault }
+    ensures fault_or_none { EditHasFaultOrNone }
 {}

@@ -3,10 +3,10 @@ ghost use Rattle.std.specs.Prelude.{◌≡◌, ◌<◌, ◌≤◌, ◌+◌, ◌^
 ghost use Rattle.std.specs.List.{splice};
 ghost use Rattle.yl_text.specs.Store.{AreLines, IsRange};
 
-use crate::store::Lines;
 use crate::Row;
+use crate::store::Lines;
 
-/// The lines of a store, with these rows in place of the rows a to b.
+/// The lines of a store, with these rows in place of the rows a to b, b not included, counted from 0.
 pub struct Patched<'a, S: Lines> {
     lines: &'a S,
     a: usize,
@@ -28,6 +28,7 @@ impl<S: Lines> Drop for Patched<'_, S> {
 }
 
 impl<'a, S: Lines> Patched<'a, S> {
+    /// These lines with these rows in place of the rows a to b. It takes no memory.
     pub fn new(lines: &'a S, a: usize, b: usize, rows: &'a [Row<S::Alloc>]) -> Patched<'a, S>
         requires range { IsRange a b (length (S.rows lines.now)) }
         requires few { length (S.rows lines.now) + length rows.now < 2 ^ 64 }

@@ -1,14 +1,14 @@
 //! A store that keeps its rows in one `Vec`.
-ghost use Rattle.std.specs.Prelude.{◌≡◌, ◌+◌, ◌^◌, ◌<◌, ◌≤◌, ◌++◌, length, take, drop, vec_len, vec_capacity};
+ghost use Rattle.std.specs.Prelude.{◌≡◌, ◌+◌, ◌^◌, ◌<◌, ◌≤◌, ◌++◌, [], length, take, drop, vec_len, vec_capacity};
 ghost use Rattle.std.specs.List.{splice, remove_range, slice_rotate_right};
 ghost use Rattle.yl_text.specs.Lines.{text_of};
 ghost use Rattle.yl_text.specs.Store.{IsRange};
 
+use crate::Row;
 use crate::store::{LineStore, Lines};
 use std::alloc::{AllocError, Allocator};
 use std::marker::Model;
 use std::mem;
-use crate::Row;
 
 /// The lines of a text in one `Vec`.
 #[derive(Drop)]
@@ -67,7 +67,8 @@ fn put_between<T: Drop, A: Allocator>(
 )
     requires range { IsRange a b (vec_len items.old) }
     requires room { vec_len items.old + vec_len new.old ≤ vec_capacity items.old }
-    ensures { items.new.items ≡ splice items.old.items a b new.old.items }
+    ensures items { items.new.items ≡ splice items.old.items a b new.old.items }
+    ensures taken { new.new.items ≡ [] }
 {
     let added = new.len();
     items.append(new).unwrap();

@@ -5,16 +5,22 @@ ghost use Rattle.yl_text.specs.Lines.{break_bytes};
 use std::alloc::{AllocError, Allocator};
 use std::marker::Model;
 
-/// How a line ends.
+/// How a line ends: in no break, or in one of the three breaks of YAML 1.2.2, section 5.4 (`b-break`).
+/// The characters 0x85, 0x2028 and 0x2029 are no breaks.
 #[derive(Clone, Copy, Debug, PartialEq, Eq)]
 pub enum Break {
+    /// In none: the last line of a text, and no other.
     No,
+    /// In 0x0A alone.
     Lf,
+    /// In 0x0D and 0x0A, which are one break.
     CrLf,
+    /// In 0x0D alone.
     Cr,
 }
 
 impl Break {
+    /// How many bytes the break has: 0, 1 or 2.
     pub fn len(self) -> usize
         ensures { result ≡ length (break_bytes self) }
     {
@@ -26,7 +32,8 @@ impl Break {
     }
 }
 
-/// A line: its text, and the break behind it.
+/// A line: its text in UTF-8, and the break behind it. In contracts it is a `Piece`, the text's bytes
+/// and the break.
 #[derive(Drop)]
 pub struct Row<A: Allocator> {
     text: String<A>,
@@ -45,6 +52,7 @@ impl<A: Allocator> Model for Row<A> {
 impl<A: Allocator> Row<A> {
     ghost use Rattle.yl_text.specs.Lines.{Piece};
 
+    /// A line with a copy of this text. It fails for want of memory alone.
     pub fn new(alloc: A, text: &str, end: Break) -> Result<Row<A>, AllocError>
         ensures text { IfOk result (λ row. row.text ≡ text.now) }
         ensures end { IfOk result (λ row. row.end ≡ end) }
@@ -55,13 +63,14 @@ impl<A: Allocator> Row<A> {
         })
     }
 
-    /// The line without its break.
+    /// The line without its break, not copied.
     pub fn as_str(&self) -> &str
         ensures { result.now ≡ self.now.text }
     {
         self.text.as_str()
     }
 
+    /// The break behind the line.
     pub fn end(&self) -> Break
         ensures { result ≡ self.now.end }
     {

@@ -7,23 +7,19 @@ ghost use Rattle.yl_text.specs.Fault.{IsText, IsFaultOf};
 use crate::MAX_BYTES;
 use crate::fault::TextFault;
 use crate::row::{Break, Row};
+use memchr::memchr2;
 use std::alloc::{AllocError, Allocator};
 
-/// The place of the first LF or CR, else the length.
+/// The place, in bytes from 0, of the first LF or CR, else the length.
 pub fn first_break(bytes: &[u8]) -> usize
     ensures within { result ≤ length bytes.now }
     ensures before { HasNoBreak (take result bytes.now) }
     ensures at { result < length bytes.now → (slice_index bytes.now result ≡ 10) ⊎ (slice_index bytes.now result ≡ 13) }
 {
-    for (i, byte) in bytes.iter().enumerate() {
-        if *byte == b'\n' || *byte == b'\r' {
-            return i;
-        }
-    }
-    bytes.len()
+    memchr2(b'\n', b'\r', bytes).unwrap_or(bytes.len())
 }
 
-/// The break that begins there, if one does.
+/// The break that begins at this place, in bytes from 0, if one does.
 fn break_at(bytes: &[u8], place: usize) -> Break
     ensures { BreakAt bytes.now place result }
 {
@@ -58,7 +54,12 @@ fn rows_of<A: Allocator + Copy>(alloc: A, text: &str) -> Result<Vec<Row<A>, A>, 
     }
 }
 
-/// The lines of the bytes, or why these are no text: not UTF-8, too large, or want of memory.
+/// The lines of the bytes, cut behind each break of YAML 1.2.2, section 5.4: all but the last end in
+/// one break, the last in none, and CR LF is never cut. So no bytes have one line, and a break at the
+/// end has an empty line behind it.
+///
+/// The faults, in the order in which they are looked for: `NotUtf8`; `TooLarge` for more than
+/// `MAX_BYTES` bytes; `Memory` where a growth was refused.
 pub fn split<A: Allocator + Copy>(alloc: A, bytes: &[u8]) -> Result<Vec<Row<A>, A>, TextFault>
     ensures text { MatchResult result (λ rows. IsText bytes.now) (λ fault. IsFaultOf bytes.now fault) }
     ensures lines { IfOk result (λ rows. IsLines bytes.now rows.items) }

@@ -1,31 +1,37 @@
 //! Lists of rows, and stores of them.
-ghost use Rattle.std.specs.Prelude.{◌≡◌, ◌+◌, ◌-◌, ◌<◌, ◌≤◌, List, length, slice_get, Some, OnOk, OnErr, IfOk, MatchResult};
+ghost use Rattle.std.specs.Prelude.{◌≡◌, ◌+◌, ◌-◌, ◌<◌, ◌≤◌, List, [], length, slice_get, Some, OnOk, OnErr, IfOk, MatchResult};
 ghost use Rattle.std.specs.List.{splice};
 ghost use Rattle.yl_text.specs.Lines.{Piece, text_of};
 ghost use Rattle.yl_text.specs.Store.{AreLines, IsRange};
 ghost use Rattle.yl_text.specs.Edit.{CanEdit, IsEditFault};
 
 use crate::edit::{bytes_between, joins_breaks, leaves_open_end};
-use std::alloc::{AllocError, Allocator};
 use crate::{MAX_BYTES, Row, TextFault};
+use std::alloc::{AllocError, Allocator};
 
-/// A list of rows.
+/// A list of rows, counted from 0.
 pub trait Lines {
     type Alloc: Allocator + Copy;
 
     ghost rows: { Self → List Piece };
 
+    /// How many rows there are.
     fn len(&self) -> usize
         ensures { result ≡ length (rows self.now) };
 
+    /// The row at `i`, not copied. It takes no memory.
     fn row(&self, i: usize) -> &Row<Self::Alloc>
         requires { i < length (rows self.now) }
         ensures { slice_get (rows self.now) i ≡ Some result.now };
 }
 
-/// A store of the lines of a text.
+/// A store of the lines of a text. `check` and `splice` together are an edit of the text: the bytes
+/// that come in are split into rows first (the last one, empty where they end in a break, is left out
+/// before a kept line), and the rows that result are the lines of the edited text.
 pub trait LineStore: Lines + Drop {
-    /// Why the bytes may not be put in place of the lines a to b: the first cause that stands.
+    /// Why the bytes may not be put in place of the lines a to b, b not included, counted from 0: the
+    /// first cause that stands, in the order `NotUtf8`, `Range`, `OpenEnd`, `JoinedBreak`, `TooLarge`. It
+    /// answers nothing else, and takes no memory.
     final fn check(&self, a: usize, b: usize, bytes: &[u8]) -> Result<(), TextFault>
     where
         Self: Sized,
@@ -60,15 +66,16 @@ pub trait LineStore: Lines + Drop {
         Self: Sized,
         requires { AreLines rows.old.items }
         ensures ok { IfOk result (λ store. Self.rows store ≡ rows.old.items) }
+        ensures taken { OnOk result (rows.new.items ≡ []) }
         ensures err { OnErr result (rows.new.items ≡ rows.old.items) };
 
-    /// How many bytes the text has.
+    /// How many bytes the text has, breaks counted.
     fn bytes(&self) -> u64
         requires { AreLines (Self.rows self.now) }
         ensures { result ≡ length (text_of (Self.rows self.now)) };
 
-    /// Puts these rows, which it takes out of the `Vec`, in place of the rows a to b. Where there
-    /// is no memory nothing changes.
+    /// Puts these rows, which it takes out of the `Vec`, in place of the rows a to b, b not included.
+    /// Where there is no memory nothing changes.
     fn splice(
         &mut self,
         a: usize,
@@ -78,6 +85,7 @@ pub trait LineStore: Lines + Drop {
         requires range { IsRange a b (length (Self.rows self.old)) }
         requires lines { AreLines (splice (Self.rows self.old) a b rows.old.items) }
         ensures ok { OnOk result (Self.rows self.new ≡ splice (Self.rows self.old) a b rows.old.items) }
+        ensures taken { OnOk result (rows.new.items ≡ []) }
         ensures err { OnErr result (Self.rows self.new ≡ Self.rows self.old) }
         ensures back { OnErr result (rows.new.items ≡ rows.old.items) };
 }

@@ -1,5 +1,5 @@
 use Rattle.std.proofs.Common.{◌≡◌, ℕ, List, [], ◌∷◌, length, refl, rules, sym, ap, ◌∙◌, arith}
-use Rattle.std.proofs.lemmas.Bool.{eqb-true, eq-eqb, eqb-false}
+use Rattle.std.proofs.lemmas.Bool.{eqb-true, eqb-false}
 use Rattle.yl_text.specs.declared.row.Break.TheVariants.{Lf}
 use Rattle.yl_text.proofs.Seams.{back_starts}
 use Rattle.yl_text.proofs.edit.back_starts_with_lf.Goals as goal

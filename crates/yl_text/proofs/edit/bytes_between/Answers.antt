@@ -1,7 +1,5 @@
-use Rattle.std.proofs.Common.{◌≡◌, ◌+◌, ℕ, arith}
-use Rattle.yl_text.specs.Store.{AreLines}
+use Rattle.std.proofs.Common.{◌+◌, arith}
 use Rattle.yl_text.proofs.Seams.{length-more, length-front}
-use Rattle.yl_text.specs.declared.TheConstants.{MAX_BYTES}
 use Rattle.yl_text.proofs.edit.bytes_between.Goals as goal
 
 pub overflow_add-sum : goal.overflow_add-sum

@@ -1,4 +1,4 @@
-use Rattle.std.proofs.Common.{◌≡◌, ◌+◌, ◌-◌, ℕ, List, [], refl, rules, arith, subst}
+use Rattle.std.proofs.Common.{◌≡◌, ◌+◌, ◌-◌, ℕ, rules, arith, subst}
 use Rattle.std.specs.Prelude.{◌↔◌}
 use Rattle.yl_text.specs.declared.row.Break.TheVariants.{Cr}
 use Rattle.yl_text.specs.Edit.{last_byte, front_of}

@@ -2,7 +2,6 @@ use Rattle.std.proofs.Common.{List, [], ◌∷◌, ◌++◌, ◌≡◌, ◌+◌,
 use Rattle.std.proofs.lemmas.List.{take_more, append-nil}
 use Rattle.std.proofs.lemmas.List.Concat.{flat_map-append}
 use Rattle.std.proofs.lemmas.List.Folds.{length-flat_map-take}
-use Rattle.std.specs.List.{flat_map}
 use Rattle.yl_text.specs.Lines.{Piece, piece_bytes, break_bytes, text_of}
 use Rattle.yl_text.proofs.plain_store.bytes_of.Goals as goal
 

@@ -1,9 +1,8 @@
-use Rattle.std.proofs.Common.{rules, ◌≡◌, ◌≢◌, ◌+◌, ◌<◌, ◌⊎◌, ℕ, List, [], ◌∷◌, ◌++◌, length, take, drop, get_or, arith, subst, sym, ◌∙◌, ap}
+use Rattle.std.proofs.Common.{rules, ◌≡◌, ◌≢◌, ◌+◌, ℕ, [], length, take, drop, sym, ◌∙◌, ap}
 use Rattle.std.proofs.lemmas.List.{append-nil}
 use Rattle.yl_text.specs.declared.row.Break.TheVariants.{No}
-use Rattle.yl_text.specs.Lines.{Piece, lines_of, HasNoBreak, break_bytes}
+use Rattle.yl_text.specs.Lines.{lines_of, break_bytes}
 use Rattle.yl_text.specs.Split.{BreakAt}
-use Rattle.yl_text.proofs.Computed.{line}
 use Rattle.yl_text.proofs.Cut.{cut_more, cut_last, cut_boundary, goes_on}
 use Rattle.yl_text.proofs.splitting.rows_of.Goals as goal
 

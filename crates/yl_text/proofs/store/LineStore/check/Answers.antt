@@ -1,7 +1,6 @@
-use Rattle.std.proofs.Common.{◌≡◌, ◌+◌, ◌≤◌, ℕ, length, take, arith, rules}
+use Rattle.std.proofs.Common.{arith, rules}
 use Rattle.std.specs.Str.{IsUtf8}
-use Rattle.yl_text.specs.Lines.{text_of}
-use Rattle.yl_text.specs.Edit.{edited, IsEditRange, LeavesOpenEnd, JoinsBreaks}
+use Rattle.yl_text.specs.Edit.{IsEditRange, LeavesOpenEnd, JoinsBreaks}
 use Rattle.yl_text.proofs.Seams.{length-edited, length-front}
 use Rattle.yl_text.proofs.store.LineStore.check.Goals as goal
 

@@ -1,0 +1,25 @@
+//! The characters of a line.
+ghost use Rattle.std.specs.Prelude.{◌≡◌, [], IfOk, OnOk, OnErr};
+ghost use Rattle.std.specs.Str.{chars};
+
+use crate::Row;
+use std::alloc::{AllocError, Allocator};
+
+/// Decodes the characters (code points) of a line, without its break, into the buffer in place of
+/// what it holds. So an index of the buffer is a column, counted from 0. On `Err` a growth was
+/// refused, and the buffer is empty.
+pub fn characters<A: Allocator, B: Allocator>(
+    row: &Row<A>,
+    buffer: &mut Vec<char, B>,
+) -> Result<(), AllocError>
+    ensures ok { OnOk result (buffer.new.items ≡ chars row.now.text) }
+    ensures err { OnErr result (buffer.new.items ≡ []) }
+{
+    let text = row.as_str();
+    buffer.clear();
+    buffer.try_reserve(text.len())?;
+    for c in text.chars() {
+        buffer.push_reserved(c);
+    }
+    Ok(())
+}
