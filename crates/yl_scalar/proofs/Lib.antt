@@ -1,0 +1,2 @@
+pub mod Encodes
+pub mod Trim
