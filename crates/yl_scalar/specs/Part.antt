@@ -1,5 +1,5 @@
 -- What a reader of a quoted scalar has of one line.
-use Rattle.std.specs.Prelude.{ℕ, List, Option, Some, None, ◌≤◌}
+use Rattle.std.specs.Prelude.{ℕ, List, Option, Some, None, ◌+◌, ◌≤◌, ◌<◌, ◌^◌}
 use Rattle.yl_scalar.specs.Quoted.{Stretch, Closes, Breaks, Faulty}
 use Rattle.yl_scalar.specs.declared.quoted.Part.{Part}
 use Rattle.yl_scalar.specs.declared.quoted.Part.TheVariants.{Open, Closed, Faulted}
@@ -16,3 +16,10 @@ IsWithin n (Open None) = Unit {0}
 IsWithin n (Open (Some place)) = place ≤ n
 IsWithin n (Closed place) = place ≤ n
 IsWithin n (Faulted fault place) = place ≤ n
+
+-- its column is a machine number, where reading began at this one
+abbrev pub FitsBehind : ℕ → Part → Type 0
+FitsBehind column (Open None) = Unit {0}
+FitsBehind column (Open (Some place)) = column + place < 2 ^ 64
+FitsBehind column (Closed place) = column + place < 2 ^ 64
+FitsBehind column (Faulted fault place) = column + place < 2 ^ 64

@@ -72,7 +72,12 @@ pub fn leading_white(row: &[char]) -> usize
     ensures within { result ≤ length row.now }
     ensures rest { drop result row.now ≡ without_front row.now }
 {
-    row.iter().take_while(|c| is_white(**c)).count()
+    for (i, c) in row.iter().enumerate() {
+        if !is_white(*c) {
+            return i;
+        }
+    }
+    row.len()
 }
 
 /// The row without the white space that it ends with.

@@ -57,6 +57,7 @@ pub fn indicators(header: &[char]) -> (usize, usize)
 }
 
 /// The index of the first character that fits no header behind its indicators.
+#[tactic(auto, using(crate::proofs::Front::white_within))]
 fn misfit_behind(text: &[char]) -> Option<usize>
     ensures place { result ≡ misfit_behind text.now }
     ensures within { IfSome result (λ at. at < length text.now) }

@@ -1,11 +1,11 @@
 //! Quoted scalars: YAML 1.2.2, 7.3.1 and 7.3.2.
-ghost use Rattle.std.specs.Prelude.{◌≡◌, ◌≤◌, ◌<◌, ◌+◌, ◌^◌, ℕ, IfOk, OnErr, OnOk, IsErr, true, false, length, string_bytes};
+ghost use Rattle.std.specs.Prelude.{◌≡◌, ◌≤◌, ◌<◌, ◌+◌, ◌^◌, IfOk, OnErr, OnOk, IsErr, true, false, length, string_bytes};
 ghost use Rattle.std.specs.Str.{encode_utf8_all};
 ghost use Rattle.yl_scalar.specs.Reading.{Refused};
 ghost use Rattle.yl_scalar.specs.Quoted.{stretch, quote, begins_with};
 ghost use Rattle.yl_scalar.specs.QuotedSteps.{quoted_begin, quoted_step, quoted_finish, took};
 ghost use Rattle.yl_scalar.specs.Reader.{said, quoted_state, quoted_failed};
-ghost use Rattle.yl_scalar.specs.Part.{gives, IsWithin};
+ghost use Rattle.yl_scalar.specs.Part.{gives, IsWithin, FitsBehind};
 
 use std::alloc::{AllocError, Allocator};
 
@@ -189,7 +189,7 @@ impl<A: Allocator + Copy> Quoted<A> {
 
     /// What a row read from this column on is to the scalar.
     fn take(&mut self, column: usize, part: Part) -> Line
-        requires { (at : ℕ) → IsWithin at part → column + at < 2 ^ 64 }
+        requires { FitsBehind column part }
         ensures line { said result (quoted_state self.new).value (quoted_state self.new)
             ≡ took (quoted_state self.old) column (gives part (quoted_state self.old).value) }
         ensures same { quoted_failed self.new ≡ quoted_failed self.old }
