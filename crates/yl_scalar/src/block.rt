@@ -4,7 +4,7 @@ ghost use Rattle.yl_scalar.specs.Reading.{Whole};
 ghost use Rattle.yl_scalar.specs.Header.{indicators, misfit};
 ghost use Rattle.yl_scalar.specs.Block.{block_begin, block_step, block_finish, deeper, with_content, text_line, header_end, header_read};
 ghost use Rattle.yl_text.specs.Character.{is_blank};
-ghost use Rattle.yl_scalar.specs.Reader.{said, extent_at, block_state, block_failed};
+ghost use Rattle.yl_scalar.specs.Reader.{said, extent_at, block_state, block_rows, block_failed};
 
 use std::alloc::{AllocError, Allocator};
 
@@ -77,6 +77,7 @@ impl<A: Allocator + Copy> Block<A> {
         requires small { least < 2 ^ 63 }
         ensures line { said result.1 [] (block_state result.0) ≡ block_begin least at header.now }
         ensures reads { block_failed result.0 ≡ false }
+        ensures count { block_rows result.0 ≡ 0 }
     {
         let (digit, _) = indicators(header);
         let content = if digit > 0 {
@@ -99,10 +100,11 @@ impl<A: Allocator + Copy> Block<A> {
 
     /// Reads the next row. Once a call is refused for memory, so is each later one.
     pub fn read(&mut self, row: &[char]) -> Result<Line, AllocError>
-        requires { (block_state self.old).down + (block_state self.old).blanks + 1 < 2 ^ 64 }
+        requires { block_rows self.old + 1 < 2 ^ 64 }
         ensures line { IfOk result (λ line. said line [] (block_state self.new) ≡ block_step (block_state self.old) row.now) }
         ensures reads { OnOk result (block_failed self.new ≡ false) }
         ensures failed { OnErr result (block_failed self.new ≡ true) }
+        ensures count { block_rows self.new ≤ block_rows self.old + 1 }
         ensures stays { block_failed self.old ≡ true → IsErr result }
     {
         if self.failed {
@@ -130,10 +132,11 @@ impl<A: Allocator + Copy> Block<A> {
     /// Passes a blank row, whose leading spaces count until the content column is known.
     fn pass_blank(&mut self, row: &[char]) -> Result<Line, AllocError>
         requires blank { is_blank row.now ≡ true }
-        requires fits { (block_state self.old).blanks + 1 < 2 ^ 64 }
+        requires fits { block_rows self.old + 1 < 2 ^ 64 }
         ensures line { IfOk result (λ line. said line [] (block_state self.new) ≡ block_step (block_state self.old) row.now) }
         ensures reads { OnOk result (block_failed self.new ≡ false) }
         ensures failed { OnErr result (block_failed self.new ≡ true) }
+        ensures count { block_rows self.new ≤ block_rows self.old + 1 }
     {
         if self.content.is_none() {
             self.failed = true;
@@ -146,10 +149,11 @@ impl<A: Allocator + Copy> Block<A> {
 
     /// Reads a row that is not blank and no marker.
     fn read_text(&mut self, row: &[char]) -> Line
-        requires { (block_state self.old).down + (block_state self.old).blanks + 1 < 2 ^ 64 }
+        requires { block_rows self.old + 1 < 2 ^ 64 }
         ensures line { said result [] (block_state self.new)
             ≡ text_line (block_state self.old).content (block_state self.old) row.now }
         ensures same { block_failed self.new ≡ block_failed self.old }
+        ensures count { block_rows self.new ≤ block_rows self.old + 1 }
     {
         let column = indentation(row);
         let Some(content) = self.content else {
@@ -169,9 +173,10 @@ impl<A: Allocator + Copy> Block<A> {
 
     /// Takes a row of content, which is indented to this column.
     fn take(&mut self, content: usize, row: &[char]) -> Line
-        requires { (block_state self.old).down + (block_state self.old).blanks + 1 < 2 ^ 64 }
+        requires { block_rows self.old + 1 < 2 ^ 64 }
         ensures line { said result [] (block_state self.new) ≡ with_content (block_state self.old) content row.now }
         ensures same { block_failed self.new ≡ block_failed self.old }
+        ensures count { block_rows self.new ≤ block_rows self.old + 1 }
     {
         let down = self.down + self.blanks + 1;
         if let Some(column) = first_bad(row) {

@@ -4,7 +4,7 @@ ghost use Rattle.std.specs.Str.{encode_utf8_all};
 ghost use Rattle.yl_scalar.specs.Reading.{Whole};
 ghost use Rattle.yl_scalar.specs.Plain.{is_safe_next, stop};
 ghost use Rattle.yl_scalar.specs.PlainSteps.{plain_begin, plain_step, plain_finish};
-ghost use Rattle.yl_scalar.specs.Reader.{said, extent_at, plain_state, plain_failed};
+ghost use Rattle.yl_scalar.specs.Reader.{said, extent_at, plain_state, plain_rows, plain_failed};
 
 use std::alloc::{AllocError, Allocator};
 
@@ -69,6 +69,7 @@ impl<A: Allocator + Copy> Plain<A> {
         ensures line { IfOk result (λ r. said r.1 (plain_state r.0).value (plain_state r.0)
             ≡ plain_begin flow least at text.now) }
         ensures reads { IfOk result (λ r. plain_failed r.0 ≡ false) }
+        ensures count { IfOk result (λ r. plain_rows r.0 ≡ 0) }
     {
         let taken = stop(flow, false, text);
         let part = without_end(&text[..taken]);
@@ -99,11 +100,12 @@ impl<A: Allocator + Copy> Plain<A> {
 
     /// Reads the next row. Once a call is refused for memory, so is each later one.
     pub fn read(&mut self, row: &[char]) -> Result<Line, AllocError>
-        requires { (plain_state self.old).down + (plain_state self.old).blanks + 1 < 2 ^ 64 }
+        requires { plain_rows self.old + 1 < 2 ^ 64 }
         ensures line { IfOk result (λ line. said line (plain_state self.new).value (plain_state self.new)
             ≡ plain_step (plain_state self.old) row.now) }
         ensures reads { OnOk result (plain_failed self.new ≡ false) }
         ensures failed { OnErr result (plain_failed self.new ≡ true) }
+        ensures count { plain_rows self.new ≤ plain_rows self.old + 1 }
         ensures stays { plain_failed self.old ≡ true → IsErr result }
     {
         if self.failed {

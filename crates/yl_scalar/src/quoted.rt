@@ -4,7 +4,7 @@ ghost use Rattle.std.specs.Str.{encode_utf8_all};
 ghost use Rattle.yl_scalar.specs.Reading.{Refused};
 ghost use Rattle.yl_scalar.specs.Quoted.{stretch, quote, begins_with};
 ghost use Rattle.yl_scalar.specs.QuotedSteps.{quoted_begin, quoted_step, quoted_finish, took};
-ghost use Rattle.yl_scalar.specs.Reader.{said, quoted_state, quoted_failed};
+ghost use Rattle.yl_scalar.specs.Reader.{said, quoted_state, quoted_rows, quoted_failed};
 ghost use Rattle.yl_scalar.specs.Part.{gives, IsWithin, FitsBehind};
 
 use std::alloc::{AllocError, Allocator};
@@ -112,6 +112,7 @@ impl<A: Allocator + Copy> Quoted<A> {
         ensures line { IfOk result (λ r. said r.1 (quoted_state r.0).value (quoted_state r.0)
             ≡ quoted_begin double opening text.now) }
         ensures reads { IfOk result (λ r. quoted_failed r.0 ≡ false) }
+        ensures count { IfOk result (λ r. quoted_rows r.0 ≡ 0) }
     {
         let mut value = Vec::new(alloc);
         let part = stretch(double, &mut value, text)?;
@@ -130,11 +131,12 @@ impl<A: Allocator + Copy> Quoted<A> {
 
     /// Reads the next row. Once a call is refused for memory, so is each later one.
     pub fn read(&mut self, row: &[char]) -> Result<Line, AllocError>
-        requires { (quoted_state self.old).down + (quoted_state self.old).blanks + 1 < 2 ^ 64 }
+        requires { quoted_rows self.old + 1 < 2 ^ 64 }
         ensures line { IfOk result (λ line. said line (quoted_state self.new).value (quoted_state self.new)
             ≡ quoted_step (quoted_state self.old) row.now) }
         ensures reads { OnOk result (quoted_failed self.new ≡ false) }
         ensures failed { OnErr result (quoted_failed self.new ≡ true) }
+        ensures count { quoted_rows self.new ≤ quoted_rows self.old + 1 }
         ensures stays { quoted_failed self.old ≡ true → IsErr result }
     {
         if self.failed {
@@ -193,6 +195,7 @@ impl<A: Allocator + Copy> Quoted<A> {
         ensures line { said result (quoted_state self.new).value (quoted_state self.new)
             ≡ took (quoted_state self.old) column (gives part (quoted_state self.old).value) }
         ensures same { quoted_failed self.new ≡ quoted_failed self.old }
+        ensures count { quoted_rows self.new ≡ quoted_rows self.old }
     {
         let down = self.down;
         self.backslash = None;
