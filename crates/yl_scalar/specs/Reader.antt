@@ -1,12 +1,14 @@
 -- What the readers of scalars and their answers say.
 use Rattle.std.specs.Prelude.{ℕ, ◌+◌, Bool, List, []}
-use Rattle.yl_scalar.specs.Reading.{Extent, Stepped, GoesOn, EndsIn, EndedAbove, Fails}
+use Rattle.yl_scalar.specs.Reading.{Extent, Reading, Whole, Refused, Stepped, GoesOn, EndsIn, EndedAbove, Fails}
 use Rattle.yl_scalar.specs.PlainSteps.{PlainState}
 use Rattle.yl_scalar.specs.QuotedSteps.{QuotedState}
 use Rattle.yl_scalar.specs.Block.{BlockState}
 use Rattle.yl_scalar.specs.declared.answer.Place.{Place}
 use Rattle.yl_scalar.specs.declared.answer.Line.{Line}
 use Rattle.yl_scalar.specs.declared.answer.Line.TheVariants.{GoesOn as LineGoesOn, EndsIn as LineEndsIn, EndedAbove as LineEndedAbove, Fails as LineFails}
+use Rattle.yl_scalar.specs.declared.answer.Outcome.{Outcome}
+use Rattle.yl_scalar.specs.declared.answer.Outcome.TheVariants.{Whole as OutcomeWhole, Refused as OutcomeRefused}
 use Rattle.yl_scalar.specs.declared.plain.Plain.{Plain}
 use Rattle.yl_scalar.specs.declared.quoted.Quoted.{Quoted}
 use Rattle.yl_scalar.specs.declared.block.Block.{Block}
@@ -20,6 +22,11 @@ said LineGoesOn value s = GoesOn s
 said (LineEndsIn place) value s = EndsIn (extent_at place value)
 said (LineEndedAbove place) value s = EndedAbove (extent_at place value)
 said (LineFails fault place) value s = Fails fault place.down place.column
+
+-- what is said of a whole scalar of this value
+abbrev pub outcome : Outcome → List ℕ → Reading
+outcome (OutcomeWhole place) value = Whole (extent_at place value)
+outcome (OutcomeRefused fault place) value = Refused fault place.down place.column
 
 abbrev pub plain_state : {A : Type 0} → Plain A → PlainState
 plain_state r = record { flow = r.flow; least = r.least; down = r.down; column = r.column; blanks = r.blanks; value = r.value.items }

@@ -36,3 +36,12 @@ pub enum Line {
     /// The scalar is refused.
     Fails(ScalarFault, Place),
 }
+
+/// What a whole scalar is.
+#[derive(Clone, Copy, Debug, PartialEq, Eq)]
+pub enum Outcome {
+    /// It ends before this place.
+    Whole(Place),
+    /// It is refused.
+    Refused(ScalarFault, Place),
+}

@@ -13,9 +13,11 @@ mod folding;
 mod header;
 mod plain;
 mod quoted;
+mod whole;
 
-pub use answer::{Line, Place, ScalarFault};
+pub use answer::{Line, Outcome, Place, ScalarFault};
 pub use block::Block;
 pub use character::{first_bad, indentation, is_allowed, is_blank, is_flow_indicator, is_marker, is_plain_safe, is_white, leading_white, without_end};
 pub use plain::{Plain, is_safe_next};
 pub use quoted::Quoted;
+pub use whole::{read_block, read_plain, read_quoted};
