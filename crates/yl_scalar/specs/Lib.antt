@@ -10,3 +10,5 @@ pub mod Header
 pub mod Block
 pub mod Reader
 pub mod Part
+pub mod PlainLines
+pub mod Written

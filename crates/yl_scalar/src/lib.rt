@@ -21,3 +21,13 @@ pub use character::{first_bad, indentation, is_allowed, is_blank, is_flow_indica
 pub use plain::{Plain, is_safe_next};
 pub use quoted::Quoted;
 pub use whole::{read_block, read_plain, read_quoted};
+
+ghost use Rattle.yl_scalar.specs.PlainLines.{PlainLaw};
+ghost use Rattle.yl_scalar.specs.Written.{QuotedLaw};
+
+/// Laws of the definitions: a plain scalar is what the lines that it takes make of it, and a text that is written in quotes is
+/// read back.
+pub fn scalars_by_their_lines()
+    ensures plain { PlainLaw }
+    ensures quoted { QuotedLaw }
+{}
