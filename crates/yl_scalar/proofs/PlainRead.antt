@@ -70,9 +70,9 @@ module _ (s : PlainState) (line : List ℕ) (more : List (List ℕ)) where
       let lows : s.down + (s.blanks + 1) + n ≡ s.down + s.blanks + suc n = omega arith in
       let column : cond (is_blank line) s.column line_end ≡ s.column = rw h refl in
       rw (one-add, blank_front line h, h, not_zero n)
-        (ih ∙ ap (λ low. behind (s.down + (s.blanks + 1) + 1) low (end_column s.flow s.column (take n more)) (s.value ++ folded s.flow (s.blanks + 1) (take n more))) (rw z lows)
-          ∙ ap (λ d. behind d (s.down + s.blanks + suc n) (end_column s.flow s.column (take n more)) (s.value ++ folded s.flow (s.blanks + 1) (take n more))) places
-          ∙ ap (λ c. behind (s.down + s.blanks + 1 + 1) (s.down + s.blanks + suc n) (end_column s.flow c (take n more)) (s.value ++ folded s.flow (s.blanks + 1) (take n more))) (sym column))
+      (ih ∙ ap (λ low. behind (s.down + (s.blanks + 1) + 1) low (end_column s.flow s.column (take n more)) (s.value ++ folded s.flow (s.blanks + 1) (take n more))) (rw z lows)
+      ∙ ap (λ d. behind d (s.down + s.blanks + suc n) (end_column s.flow s.column (take n more)) (s.value ++ folded s.flow (s.blanks + 1) (take n more))) places
+      ∙ ap (λ c. behind (s.down + s.blanks + 1 + 1) (s.down + s.blanks + suc n) (end_column s.flow c (take n more)) (s.value ++ folded s.flow (s.blanks + 1) (take n more))) (sym column))
 
   abbrev low_at : ℕ
   low_at = s.down + s.blanks + 1
@@ -91,10 +91,10 @@ module _ (s : PlainState) (line : List ℕ) (more : List (List ℕ)) where
       let value : s.value ++ break_of s.blanks ++ own ++ folded s.flow 0 (take n more) ≡ s.value ++ (break_of s.blanks ++ own ++ folded s.flow 0 (take n more)) = simp append_assoc in
       let column : cond (is_blank line) s.column line_end ≡ line_end = rw h refl in
       rw (one-add, h, e, not_zero n)
-        (ih ∙ ap (λ low. behind (low_at + 0 + 1) low (prefix_column line_end) (s.value ++ break_of s.blanks ++ own ++ folded s.flow 0 (take n more))) (lower (eqb n 0) refl)
-          ∙ ap (λ d. behind d (s.down + s.blanks + suc n) (prefix_column line_end) (s.value ++ break_of s.blanks ++ own ++ folded s.flow 0 (take n more))) places
-          ∙ ap (λ v. behind (low_at + 1) (s.down + s.blanks + suc n) (prefix_column line_end) v) value
-          ∙ ap (λ c. behind (low_at + 1) (s.down + s.blanks + suc n) (prefix_column c) (s.value ++ (break_of s.blanks ++ own ++ folded s.flow 0 (take n more)))) (sym column))
+      (ih ∙ ap (λ low. behind (low_at + 0 + 1) low (prefix_column line_end) (s.value ++ break_of s.blanks ++ own ++ folded s.flow 0 (take n more))) (lower (eqb n 0) refl)
+      ∙ ap (λ d. behind d (s.down + s.blanks + suc n) (prefix_column line_end) (s.value ++ break_of s.blanks ++ own ++ folded s.flow 0 (take n more))) places
+      ∙ ap (λ v. behind (low_at + 1) (s.down + s.blanks + suc n) (prefix_column line_end) v) value
+      ∙ ap (λ c. behind (low_at + 1) (s.down + s.blanks + suc n) (prefix_column c) (s.value ++ (break_of s.blanks ++ own ++ folded s.flow 0 (take n more)))) (sym column))
     where
       lower : (x : Bool) → eqb n 0 ≡ x → cond x low_at (low_at + 0 + n) ≡ s.down + s.blanks + suc n
       lower true z = let zero_left : n ≡ 0 = eqb-true n 0 z in omega arith

@@ -66,10 +66,10 @@ reads_back true after [] before kept at ok free = ap (λ t. Closes t (at + 1)) (
 reads_back false after [] before kept at ok free = rw free (ap (λ t. Closes t (at + 1)) (sym (append-nil before)))
 reads_back true after (c ∷ cs) before kept at ok free =
     double_one after cs before kept at c (first_holds _ _ ok) (eqb c 0x22) (eqb c 0x5C) refl refl
-      (λ before kept at. reads_back true after cs before kept at (rest_holds _ _ ok) free)
+    (λ before kept at. reads_back true after cs before kept at (rest_holds _ _ ok) free)
 reads_back false after (c ∷ cs) before kept at ok free =
     single_one after cs before kept at c (first_holds _ _ ok) (eqb c 0x27) refl
-      (λ before kept at. reads_back false after cs before kept at (rest_holds _ _ ok) free)
+    (λ before kept at. reads_back false after cs before kept at (rest_holds _ _ ok) free)
 
 pub quoted_law : QuotedLaw
 quoted_law double opening text after lines ok free =

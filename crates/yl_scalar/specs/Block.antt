@@ -47,7 +47,7 @@ spaces_with (Some content) spaces line = spaces
 abbrev pub with_content : BlockState → ℕ → List ℕ → Stepped BlockState
 with_content s content line =
     unless_bad (first_bad line) (s.down + s.blanks + 1) 0
-      (GoesOn (record { least = s.least; content = Some content; down = s.down + s.blanks + 1; column = length line; blanks = 0; spaces = s.spaces }))
+    (GoesOn (record { least = s.least; content = Some content; down = s.down + s.blanks + 1; column = length line; blanks = 0; spaces = s.spaces }))
 
 -- the first of these numbers of leading spaces that is greater than the column, with its line
 abbrev pub deeper : ℕ → ℕ → List ℕ → Option (ℕ × ℕ)

@@ -56,7 +56,7 @@ unless_refused (Some p) whole = Refused NotAllowed p.0 p.1
 abbrev pub of_lines : Bool → ℕ → List ℕ → ℕ → List (List ℕ) → Reading
 of_lines flow at first down lines =
     unless_refused (first_of (place_at 0 at (first_bad (part flow false first))) (bad_below flow 1 lines))
-      (Whole (record { down = down; column = end_column flow (at + length (part flow false first)) lines; value = part flow false first ++ folded flow 0 lines }))
+    (Whole (record { down = down; column = end_column flow (at + length (part flow false first)) lines; value = part flow false first ++ folded flow 0 lines }))
 
 -- a plain scalar is what the lines that it takes make of it
 abbrev pub PlainLaw : Type 0

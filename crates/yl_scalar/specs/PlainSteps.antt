@@ -28,8 +28,8 @@ taken reaches s = if reaches then GoesOn s else EndsIn (plain_extent s)
 abbrev pub plain_begin : Bool → ℕ → ℕ → List ℕ → Stepped PlainState
 plain_begin flow least at text =
     unless_bad (first_bad (part flow false text)) 0 at
-      (taken (reaches_end flow false text)
-        (record { flow = flow; least = least; down = 0; column = at + length (part flow false text); blanks = 0; value = part flow false text }))
+    (taken (reaches_end flow false text)
+    (record { flow = flow; least = least; down = 0; column = at + length (part flow false text); blanks = 0; value = part flow false text }))
 
 -- with a line that goes on with it, below blank ones
 abbrev pub with_line : PlainState → List ℕ → PlainState
@@ -47,7 +47,7 @@ plain_step s line =
     if is_blank line then GoesOn (record s { blanks = s.blanks + 1 })
     else if continues s.flow s.least line
     then unless_bad (first_bad (part s.flow true (without_front line))) (s.down + s.blanks + 1) (prefix_len is_white line)
-      (taken (reaches_end s.flow true (without_front line)) (with_line s line))
+    (taken (reaches_end s.flow true (without_front line)) (with_line s line))
     else EndedAbove (plain_extent s)
 
 -- a text may end behind it

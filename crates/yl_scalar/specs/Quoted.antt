@@ -32,9 +32,9 @@ stretch double skip text kept at [] = Breaks (take kept text) None
 stretch double skip text kept at (c ∷ cs) =
     if nat_lt 0 skip then stretch double (skip - 1) text kept (at + 1) cs
     else if c == quote double then
-      (if not double && begins_with 0x27 cs then stretch double 1 (text ++ c ∷ []) (length text + 1) (at + 1) cs else Closes text (at + 1))
+    (if not double && begins_with 0x27 cs then stretch double 1 (text ++ c ∷ []) (length text + 1) (at + 1) cs else Closes text (at + 1))
     else if double && c == 0x5C then
-      (if length cs == 0 then Breaks text (Some at)
-       else with_escape (escape cs) at (λ x skip. stretch double skip (text ++ x ∷ []) (length text + 1) (at + 1) cs))
+    (if length cs == 0 then Breaks text (Some at)
+    else with_escape (escape cs) at (λ x skip. stretch double skip (text ++ x ∷ []) (length text + 1) (at + 1) cs))
     else if is_quoted_character c then stretch double 0 (text ++ c ∷ []) (if is_white c then kept else length text + 1) (at + 1) cs
     else Faulty NotAllowed at

@@ -41,7 +41,7 @@ quoted_step s line =
     if is_marker line then Fails MarkerInQuote (s.down + s.blanks + 1) 0
     else if is_blank line then GoesOn (record s { blanks = s.blanks + 1 })
     else took (with_break s) (prefix_len is_white line)
-      (stretch s.double 0 (with_break s).value (length (with_break s).value) 0 (without_front line))
+    (stretch s.double 0 (with_break s).value (length (with_break s).value) 0 (without_front line))
 
 -- the text ends: behind a backslash, which is half an escape, or somewhere else
 abbrev pub cut : Option ℕ → QuotedState → Reading

@@ -6,11 +6,10 @@ ghost use Rattle.yl_scalar.specs.Block.{block_begin, block_step, block_finish, d
 ghost use Rattle.yl_text.specs.Character.{is_blank};
 ghost use Rattle.yl_scalar.specs.Reader.{said, extent_at, block_state, block_rows, block_failed};
 
-use std::alloc::{AllocError, Allocator};
-
 use crate::answer::{Line, Place, ScalarFault};
 use crate::character::{first_bad, indentation, is_blank, is_marker};
 use crate::header::{indicators, misfit};
+use std::alloc::{AllocError, Allocator};
 
 /// A block scalar that may go on below the rows that were read.
 #[derive(Debug, Drop)]

@@ -48,7 +48,11 @@ pub fn indicators(header: &[char]) -> (usize, usize)
             if is_indicator_digit(*c) {
                 (digit(*c), if is_chomping(d) { 2 } else { 1 })
             } else if is_chomping(*c) {
-                if is_indicator_digit(d) { (digit(d), 2) } else { (0, 1) }
+                if is_indicator_digit(d) {
+                    (digit(d), 2)
+                } else {
+                    (0, 1)
+                }
             } else {
                 (0, 0)
             }

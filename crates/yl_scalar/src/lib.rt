@@ -15,15 +15,18 @@ mod plain;
 mod quoted;
 mod whole;
 
+ghost use Rattle.yl_scalar.specs.PlainLines.{PlainLaw};
+ghost use Rattle.yl_scalar.specs.Written.{QuotedLaw};
+
 pub use answer::{Line, Outcome, Place, ScalarFault};
 pub use block::Block;
-pub use character::{first_bad, indentation, is_allowed, is_blank, is_flow_indicator, is_marker, is_plain_safe, is_white, leading_white, without_end};
+pub use character::{
+    first_bad, indentation, is_allowed, is_blank, is_flow_indicator, is_marker, is_plain_safe,
+    is_white, leading_white, without_end,
+};
 pub use plain::{Plain, is_safe_next};
 pub use quoted::Quoted;
 pub use whole::{read_block, read_plain, read_quoted};
-
-ghost use Rattle.yl_scalar.specs.PlainLines.{PlainLaw};
-ghost use Rattle.yl_scalar.specs.Written.{QuotedLaw};
 
 /// Laws of the definitions: a plain scalar is what the lines that it takes make of it, and a text that is written in quotes is
 /// read back.

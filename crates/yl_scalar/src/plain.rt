@@ -6,11 +6,13 @@ ghost use Rattle.yl_scalar.specs.Plain.{is_safe_next, stop};
 ghost use Rattle.yl_scalar.specs.PlainSteps.{plain_begin, plain_step, plain_finish};
 ghost use Rattle.yl_scalar.specs.Reader.{said, extent_at, plain_state, plain_rows, plain_failed};
 
-use std::alloc::{AllocError, Allocator};
-
 use crate::answer::{Line, Place, ScalarFault};
-use crate::character::{first_bad, indentation, is_blank, is_flow_indicator, is_marker, is_plain_safe, is_white, leading_white, without_end};
+use crate::character::{
+    first_bad, indentation, is_blank, is_flow_indicator, is_marker, is_plain_safe, is_white,
+    leading_white, without_end,
+};
 use crate::folding::{push_break, text_of};
+use std::alloc::{AllocError, Allocator};
 
 /// A plain scalar that may go on below the rows that were read.
 #[derive(Debug, Drop)]
@@ -125,10 +127,7 @@ impl<A: Allocator + Copy> Plain<A> {
         let down = self.down + self.blanks + 1;
         if let Some(place) = first_bad(part) {
             let column = white + place;
-            return Ok(Line::Fails(
-                ScalarFault::NotAllowed,
-                Place { down, column },
-            ));
+            return Ok(Line::Fails(ScalarFault::NotAllowed, Place { down, column }));
         }
         self.failed = true;
         push_break(&mut self.value, self.blanks)?;

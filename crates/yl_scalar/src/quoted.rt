@@ -7,12 +7,11 @@ ghost use Rattle.yl_scalar.specs.QuotedSteps.{quoted_begin, quoted_step, quoted_
 ghost use Rattle.yl_scalar.specs.Reader.{said, quoted_state, quoted_rows, quoted_failed};
 ghost use Rattle.yl_scalar.specs.Part.{gives, IsWithin, FitsBehind};
 
-use std::alloc::{AllocError, Allocator};
-
 use crate::answer::{Line, Place, ScalarFault};
 use crate::character::{is_blank, is_marker, is_quoted_character, is_white, leading_white};
 use crate::escape::escape;
 use crate::folding::{push_joint, text_of};
+use std::alloc::{AllocError, Allocator};
 
 /// A quoted scalar that goes on below the rows that were read.
 #[derive(Debug, Drop)]
@@ -53,7 +52,11 @@ fn begins_with(q: char, text: &[char]) -> bool
 }
 
 /// Reads a row, behind a value that is kept whole.
-fn stretch<A: Allocator>(double: bool, value: &mut Vec<char, A>, text: &[char]) -> Result<Part, AllocError>
+fn stretch<A: Allocator>(
+    double: bool,
+    value: &mut Vec<char, A>,
+    text: &[char],
+) -> Result<Part, AllocError>
     ensures part { IfOk result (λ part. gives part value.new.items
         ≡ stretch double 0 value.old.items (length value.old.items) 0 text.now) }
     ensures within { IfOk result (IsWithin (length text.now)) }
@@ -144,10 +147,7 @@ impl<A: Allocator + Copy> Quoted<A> {
         }
         let down = self.down + self.blanks + 1;
         if is_marker(row) {
-            return Ok(Line::Fails(
-                ScalarFault::MarkerInQuote,
-                Place { down, column: 0 },
-            ));
+            return Ok(Line::Fails(ScalarFault::MarkerInQuote, Place { down, column: 0 }));
         }
         if is_blank(row) {
             self.blanks += 1;
@@ -168,7 +168,9 @@ impl<A: Allocator + Copy> Quoted<A> {
     pub fn finish(&self) -> (ScalarFault, Place)
         ensures { Refused result.0 (result.1).down (result.1).column ≡ quoted_finish (quoted_state self.now) }
     {
-        if let Some(column) = self.backslash && self.blanks == 0 {
+        if let Some(column) = self.backslash
+            && self.blanks == 0
+        {
             let place = Place {
                 down: self.down,
                 column,

@@ -5,12 +5,11 @@ ghost use Rattle.yl_scalar.specs.QuotedSteps.{quoted};
 ghost use Rattle.yl_scalar.specs.Block.{block};
 ghost use Rattle.yl_scalar.specs.Reader.{outcome, plain_state, quoted_state};
 
-use std::alloc::{AllocError, Allocator};
-
 use crate::answer::{Line, Outcome};
 use crate::block::Block;
 use crate::plain::Plain;
 use crate::quoted::Quoted;
+use std::alloc::{AllocError, Allocator};
 
 /// Reads a plain scalar that begins at the column `at`, where `text` is the rest of its row and `rows` are all rows below.
 /// The reader then has its value.

@@ -115,7 +115,16 @@ fn double_quotes(rt: HostRuntime) -> Result<(), Fail> {
     assert!(rt; double_is(alloc, "a\\", &["  b\""], 1, 4, "ab")?);
     assert!(rt; double_is(alloc, "a", &["  \\", "b\""], 2, 2, "a b")?);
     assert!(rt; double_is(alloc, "x", &["", "y\""], 2, 2, "x\ny")?);
-    assert!(rt; double_is(alloc, "\\u00e9\\x41\\U0001F600\" ", &[], 0, 22, "\u{e9}A\u{1f600}")?);
+    assert!(rt;
+        double_is(
+            alloc,
+            "\\u00e9\\x41\\U0001F600\" ",
+            &[],
+            0,
+            22,
+            "\u{e9}A\u{1f600}"
+        )?
+    );
     assert!(rt; double_fails(alloc, "\\ud800\"", &[], ScalarFault::BadEscape, 0, 1)?);
     assert!(rt; double_fails(alloc, "\\U00110000\"", &[], ScalarFault::BadEscape, 0, 1)?);
     assert!(rt; double_fails(alloc, "a\\", &[], ScalarFault::BadEscape, 0, 2)?);
@@ -196,7 +205,13 @@ fn each_growth_of_a_quoted_scalar_is_refused(rt: HostRuntime) -> Result<(), Fail
         let value = reader.to_value(&heap);
         if heap.is_armed() {
             heap.refuse(0);
-            assert!(rt; outcome == Outcome::Whole(Place { down: 3, column: 10 }));
+            assert!(rt;
+                outcome
+                    == Outcome::Whole(Place {
+                        down: 3,
+                        column: 10
+                    })
+            );
             let value = value?;
             assert_eq!(rt; value.as_str(), "a quoted scalar over \ntwo rows");
             assert!(rt; n > 3, "{n} growths");

@@ -13,5 +13,6 @@ loop-len-preserved c = record {
 pub returns-clause-trimmed : goal.returns-clause-trimmed
 returns-clause-trimmed c =
     elim c.loop-len-test.branch [
-      then-loop-len-test+else-is_white w ↦ without_end_here _ _ _ (omega arith) c.loop-len.invariant.within w.index-row-len.is (sym w.is_white.ensures ∙ w.if-is_white.false) ∙ c.loop-len.invariant.same
-    | else-loop-len-test w ↦ (let e : c.loop-len.len ≡ 0 = omega arith in ap (λ n. take n c.args.row.now) e ∙ ap (λ n. without_end (take n c.args.row.now)) (sym e) ∙ c.loop-len.invariant.same) ]
+      | then-loop-len-test+else-is_white w ↦ without_end_here _ _ _ (omega arith) c.loop-len.invariant.within w.index-row-len.is (sym w.is_white.ensures ∙ w.if-is_white.false) ∙ c.loop-len.invariant.same
+      | else-loop-len-test w ↦ (let e : c.loop-len.len ≡ 0 = omega arith in ap (λ n. take n c.args.row.now) e ∙ ap (λ n. without_end (take n c.args.row.now)) (sym e) ∙ c.loop-len.invariant.same)
+    ]
