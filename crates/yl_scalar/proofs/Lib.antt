@@ -1,0 +1,5 @@
+pub mod Encodes
+pub mod Front
+pub mod PlainRead
+pub mod QuotedRead
+pub mod Trim

@@ -1,0 +1,9 @@
+use Rattle.yl_scalar.proofs.PlainRead.{plain_law}
+use Rattle.yl_scalar.proofs.QuotedRead.{quoted_law}
+use Rattle.yl_scalar.proofs.scalars_by_their_lines.Goals as goal
+
+pub returns-clause-plain : goal.returns-clause-plain
+returns-clause-plain c = plain_law
+
+pub returns-clause-quoted : goal.returns-clause-quoted
+returns-clause-quoted c = quoted_law

@@ -1,0 +1,268 @@
+use refusing::Refusing;
+use std::alloc::{AllocError, Global};
+use std::test::Fail;
+use yl_scalar::{
+    Block, Line, Outcome, Place, Plain, Quoted, ScalarFault, read_block, read_plain, read_quoted,
+};
+
+type Heap<'a> = &'a Refusing<Global>;
+
+fn characters(alloc: Global, text: &str) -> Result<Vec<char>, AllocError> {
+    text.chars().collect(alloc)
+}
+
+/// The characters of each row.
+fn rows(alloc: Global, texts: &[&str]) -> Result<Vec<Vec<char>>, AllocError> {
+    let mut rows = Vec::new(alloc);
+    for text in texts {
+        rows.push(characters(alloc, text)?)?;
+    }
+    Ok(rows)
+}
+
+fn views<'a>(alloc: Global, rows: &'a [Vec<char>]) -> Result<Vec<&'a [char]>, AllocError> {
+    let mut views = Vec::new(alloc);
+    for row in rows {
+        views.push(row.as_slice())?;
+    }
+    Ok(views)
+}
+
+/// Whether the double-quoted scalar at the start of these rows, behind its quote, ends there with this value.
+fn double_is(
+    alloc: Global,
+    text: &str,
+    below: &[&str],
+    down: usize,
+    column: usize,
+    value: &str,
+) -> Result<bool, AllocError> {
+    let text = characters(alloc, text)?;
+    let below = rows(alloc, below)?;
+    let below = views(alloc, &below)?;
+    let (reader, outcome) = read_quoted(alloc, true, 0, &text, &below)?;
+    let text = reader.to_value(alloc)?;
+    Ok(outcome == Outcome::Whole(Place { down, column }) && text.as_str() == value)
+}
+
+fn double_fails(
+    alloc: Global,
+    text: &str,
+    below: &[&str],
+    fault: ScalarFault,
+    down: usize,
+    column: usize,
+) -> Result<bool, AllocError> {
+    let text = characters(alloc, text)?;
+    let below = rows(alloc, below)?;
+    let below = views(alloc, &below)?;
+    let (_, outcome) = read_quoted(alloc, true, 0, &text, &below)?;
+    Ok(outcome == Outcome::Refused(fault, Place { down, column }))
+}
+
+// The rows of `- a`, `  b`, an empty one, `  c`: the scalar stands at the column 2, and its rows need one space.
+#[test]
+fn a_plain_scalar_over_four_rows(rt: HostRuntime) -> Result<(), Fail> {
+    let text = characters(rt.alloc(), "a")?;
+    let below = rows(rt.alloc(), &["  b", "", "  c", ""])?;
+    let below = views(rt.alloc(), &below)?;
+    let (reader, outcome) = read_plain(rt.alloc(), false, 1, 2, &text, &below)?;
+    assert!(rt; outcome == Outcome::Whole(Place { down: 3, column: 3 }));
+    let value = reader.to_value(rt.alloc())?;
+    assert_eq!(rt; value.as_str(), "a b\nc");
+    Ok(())
+}
+
+// A comment below a plain scalar, and a character that is not allowed in one.
+#[test]
+fn a_plain_scalar_of_one_row(rt: HostRuntime) -> Result<(), Fail> {
+    let text = characters(rt.alloc(), "a")?;
+    let below = rows(rt.alloc(), &["#b", ""])?;
+    let below = views(rt.alloc(), &below)?;
+    let (reader, outcome) = read_plain(rt.alloc(), false, 0, 0, &text, &below)?;
+    assert!(rt; outcome == Outcome::Whole(Place { down: 0, column: 1 }));
+    let value = reader.to_value(rt.alloc())?;
+    assert_eq!(rt; value.as_str(), "a");
+    let text = characters(rt.alloc(), "a\u{1}: b")?;
+    let (_, outcome) = read_plain(rt.alloc(), false, 0, 2, &text, &below)?;
+    let place = Place { down: 0, column: 3 };
+    assert!(rt; outcome == Outcome::Refused(ScalarFault::NotAllowed, place));
+    Ok(())
+}
+
+#[test]
+fn single_quotes(rt: HostRuntime) -> Result<(), Fail> {
+    let text = characters(rt.alloc(), "it''s'")?;
+    let (reader, outcome) = read_quoted(rt.alloc(), false, 0, &text, &[])?;
+    assert!(rt; outcome == Outcome::Whole(Place { down: 0, column: 7 }));
+    let value = reader.to_value(rt.alloc())?;
+    assert_eq!(rt; value.as_str(), "it's");
+    // In `a: 'x` the fault stands at the opening quote; a character that is not allowed comes first.
+    let text = characters(rt.alloc(), "x")?;
+    let (_, outcome) = read_quoted(rt.alloc(), false, 3, &text, &[])?;
+    let place = Place { down: 0, column: 3 };
+    assert!(rt; outcome == Outcome::Refused(ScalarFault::UnclosedQuote, place));
+    let text = characters(rt.alloc(), "a\u{1}")?;
+    let (_, outcome) = read_quoted(rt.alloc(), false, 0, &text, &[])?;
+    let place = Place { down: 0, column: 2 };
+    assert!(rt; outcome == Outcome::Refused(ScalarFault::NotAllowed, place));
+    Ok(())
+}
+
+#[test]
+fn double_quotes(rt: HostRuntime) -> Result<(), Fail> {
+    let alloc = rt.alloc();
+    assert!(rt; double_is(alloc, "a\\", &["  b\""], 1, 4, "ab")?);
+    assert!(rt; double_is(alloc, "a", &["  \\", "b\""], 2, 2, "a b")?);
+    assert!(rt; double_is(alloc, "x", &["", "y\""], 2, 2, "x\ny")?);
+    assert!(rt;
+        double_is(
+            alloc,
+            "\\u00e9\\x41\\U0001F600\" ",
+            &[],
+            0,
+            22,
+            "\u{e9}A\u{1f600}"
+        )?
+    );
+    assert!(rt; double_fails(alloc, "\\ud800\"", &[], ScalarFault::BadEscape, 0, 1)?);
+    assert!(rt; double_fails(alloc, "\\U00110000\"", &[], ScalarFault::BadEscape, 0, 1)?);
+    assert!(rt; double_fails(alloc, "a\\", &[], ScalarFault::BadEscape, 0, 2)?);
+    assert!(rt; double_fails(alloc, "a\\", &[""], ScalarFault::UnclosedQuote, 0, 0)?);
+    assert!(rt; double_fails(alloc, "a", &["--- \""], ScalarFault::MarkerInQuote, 1, 0)?);
+    Ok(())
+}
+
+#[test]
+fn block_scalars(rt: HostRuntime) -> Result<(), Fail> {
+    // `a: |2` inside a mapping at the column 0.
+    let header = characters(rt.alloc(), "2")?;
+    let below = rows(rt.alloc(), &["   x", "", "  y", "b: 1", ""])?;
+    let below = views(rt.alloc(), &below)?;
+    let outcome = read_block(rt.alloc(), 1, 3, &header, &below)?;
+    assert!(rt; outcome == Outcome::Whole(Place { down: 3, column: 3 }));
+    // Trailing blank rows are no part of it.
+    let below = rows(rt.alloc(), &["  x", "", " "])?;
+    let below = views(rt.alloc(), &below)?;
+    let outcome = read_block(rt.alloc(), 1, 3, &[], &below)?;
+    assert!(rt; outcome == Outcome::Whole(Place { down: 1, column: 3 }));
+    // A blank row above the content has more spaces than it.
+    let below = rows(rt.alloc(), &["   ", "  x", ""])?;
+    let below = views(rt.alloc(), &below)?;
+    let outcome = read_block(rt.alloc(), 0, 0, &[], &below)?;
+    let place = Place { down: 1, column: 3 };
+    assert!(rt; outcome == Outcome::Refused(ScalarFault::BadIndentation, place));
+    // A character that is not allowed, and one that is but fits no header.
+    let header = characters(rt.alloc(), "\u{1}")?;
+    let outcome = read_block(rt.alloc(), 0, 0, &header, &[])?;
+    let place = Place { down: 0, column: 1 };
+    assert!(rt; outcome == Outcome::Refused(ScalarFault::NotAllowed, place));
+    let header = characters(rt.alloc(), "0")?;
+    let outcome = read_block(rt.alloc(), 0, 0, &header, &[])?;
+    assert!(rt; outcome == Outcome::Refused(ScalarFault::BadHeader, place));
+    Ok(())
+}
+
+// Each growth of a whole reading and of its value is refused in turn.
+#[test]
+fn each_growth_of_a_plain_scalar_is_refused(rt: HostRuntime) -> Result<(), Fail> {
+    let text = characters(rt.alloc(), "a plain scalar")?;
+    let below = rows(rt.alloc(), &[" over more than", "", " one row # of text"])?;
+    let below = views(rt.alloc(), &below)?;
+    let heap = Refusing::new(rt.alloc());
+    for n in 1..u64::MAX {
+        heap.refuse(n);
+        let answer = read_plain::<Heap<'_>>(&heap, false, 1, 0, &text, &below);
+        let Ok((reader, outcome)) = answer else {
+            continue;
+        };
+        let value = reader.to_value(&heap);
+        if heap.is_armed() {
+            heap.refuse(0);
+            assert!(rt; outcome == Outcome::Whole(Place { down: 3, column: 8 }));
+            let value = value?;
+            assert_eq!(rt; value.as_str(), "a plain scalar over more than\none row");
+            assert!(rt; n > 3, "{n} growths");
+            return Ok(());
+        }
+        assert!(rt; value.is_err(), "the {n}th growth");
+    }
+    Ok(())
+}
+
+#[test]
+fn each_growth_of_a_quoted_scalar_is_refused(rt: HostRuntime) -> Result<(), Fail> {
+    let text = characters(rt.alloc(), "a quoted scalar")?;
+    let below = rows(rt.alloc(), &[" over \\", "", " two rows\""])?;
+    let below = views(rt.alloc(), &below)?;
+    let heap = Refusing::new(rt.alloc());
+    for n in 1..u64::MAX {
+        heap.refuse(n);
+        let answer = read_quoted::<Heap<'_>>(&heap, true, 0, &text, &below);
+        let Ok((reader, outcome)) = answer else {
+            continue;
+        };
+        let value = reader.to_value(&heap);
+        if heap.is_armed() {
+            heap.refuse(0);
+            assert!(rt;
+                outcome
+                    == Outcome::Whole(Place {
+                        down: 3,
+                        column: 10
+                    })
+            );
+            let value = value?;
+            assert_eq!(rt; value.as_str(), "a quoted scalar over \ntwo rows");
+            assert!(rt; n > 3, "{n} growths");
+            return Ok(());
+        }
+        assert!(rt; value.is_err(), "the {n}th growth");
+    }
+    Ok(())
+}
+
+#[test]
+fn each_growth_of_a_block_scalar_is_refused(rt: HostRuntime) -> Result<(), Fail> {
+    let below = rows(rt.alloc(), &["", " ", "", " ", "", "", "  x"])?;
+    let below = views(rt.alloc(), &below)?;
+    let heap = Refusing::new(rt.alloc());
+    for n in 1..u64::MAX {
+        heap.refuse(n);
+        let answer = read_block::<Heap<'_>>(&heap, 0, 0, &[], &below);
+        if heap.is_armed() {
+            heap.refuse(0);
+            let outcome = answer?;
+            assert!(rt; outcome == Outcome::Whole(Place { down: 7, column: 3 }));
+            assert!(rt; n > 1, "{n} growths");
+            return Ok(());
+        }
+        assert!(rt; answer.is_err(), "the {n}th growth");
+    }
+    Ok(())
+}
+
+// A reader that was refused memory refuses each later row, though there is memory again.
+#[test]
+fn no_row_is_read_behind_a_refused_one(rt: HostRuntime) -> Result<(), Fail> {
+    let text = characters(rt.alloc(), "a")?;
+    let row = characters(rt.alloc(), " a row of many characters")?;
+    let blank = characters(rt.alloc(), "")?;
+    let heap = Refusing::new(rt.alloc());
+    let (mut plain, line) = Plain::begin(&heap, false, 1, 0, &text)?;
+    assert!(rt; line == Line::GoesOn);
+    heap.refuse(1);
+    assert!(rt; plain.read(&row).is_err());
+    assert!(rt; plain.read(&blank).is_err());
+    let (mut quoted, line) = Quoted::begin(&heap, true, 0, &text)?;
+    assert!(rt; line == Line::GoesOn);
+    heap.refuse(1);
+    assert!(rt; quoted.read(&row).is_err());
+    assert!(rt; quoted.read(&blank).is_err());
+    let (mut block, line) = Block::begin(&heap, 1, 0, &blank);
+    assert!(rt; line == Line::GoesOn);
+    heap.refuse(1);
+    assert!(rt; block.read(&blank).is_err());
+    assert!(rt; block.read(&row).is_err());
+    Ok(())
+}
