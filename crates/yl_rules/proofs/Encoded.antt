@@ -7,11 +7,16 @@ use Rattle.std.proofs.lemmas.Bool.Decides.{nat_tests}
 use Rattle.std.proofs.lemmas.List.{reverse-append, append-nil}
 use Rattle.std.proofs.lemmas.List.Sums.{sum_by-append}
 use Rattle.std.proofs.lemmas.Str.{encode_ascii}
+use Rattle.yl_rules.specs.Comments.{starts_by}
 use lib.Utf8.{encodes, encode, next}
 
 -- no byte of a longer character passes
 abbrev pub IsAsciiTest : (ℕ → Bool) → Type 0
 IsAsciiTest p = (b : ℕ) → 128 ≤ b → p b ≡ false
+
+-- the test says the same of each byte of a longer character
+abbrev pub IsSameTest : (ℕ → Bool) → Bool → Type 0
+IsSameTest q v = (b : ℕ) → 128 ≤ b → q b ≡ v
 
 -- the byte begins a character
 abbrev pub begins : ℕ → Bool
@@ -25,6 +30,8 @@ pub record IsLong (p : ℕ → Bool) (bs : List ℕ) : Type 0 where
   pub rest : (zs : List ℕ) → list_any p (drop 1 (bs ++ zs)) ≡ list_any p zs
   pub count : count_by begins bs ≡ 1
   pub first : (zs : List ℕ) → 128 ≤ slice_index (bs ++ zs) 0
+  -- a test that all of them pass, or none
+  pub start : (q : ℕ → Bool) (v : Bool) (zs : List ℕ) → IsSameTest q v → starts_by q (bs ++ zs) ≡ v
 
 next_low : (n : ℕ) → 128 ≤ next n
 next_low n = omega arith
@@ -54,6 +61,7 @@ two p x y t h =
       rest = λ zs. rw py;
       count = rw (begins_lead x h, begins_next y);
       first = λ zs. omega arith;
+      start = λ q v zs same. same x (omega arith);
     }
 
 three : (p : ℕ → Bool) (x y z : ℕ) → IsAsciiTest p → 192 ≤ x → IsLong p (x ∷ next y ∷ next z ∷ [])
@@ -68,6 +76,7 @@ three p x y z t h =
       rest = λ zs. rw (py, pz);
       count = rw (begins_lead x h, begins_next y, begins_next z);
       first = λ zs. omega arith;
+      start = λ q v zs same. same x (omega arith);
     }
 
 four : (p : ℕ → Bool) (x y z w : ℕ) → IsAsciiTest p → 192 ≤ x → IsLong p (x ∷ next y ∷ next z ∷ next w ∷ [])
@@ -83,6 +92,7 @@ four p x y z w t h =
       rest = λ zs. rw (py, pz, pw);
       count = rw (begins_lead x h, begins_next y, begins_next z, begins_next w);
       first = λ zs. omega arith;
+      start = λ q v zs same. same x (omega arith);
     }
 
 -- a character past ASCII
@@ -179,3 +189,11 @@ count_one c =
 pub count-encodes : (cs : List ℕ) → count_by begins (encodes cs) ≡ length cs
 count-encodes [] = refl
 count-encodes (c ∷ cs) = sum_by-append (λ b. cond (begins b) 1 0) (encode c) (encodes cs) ∙ rw (count_one c, count-encodes cs, add_comm 1 (length cs), add-one) refl
+
+pub starts_by-encodes : (q : ℕ → Bool) (v : Bool) (cs : List ℕ) → IsSameTest q v → starts_by q (encodes cs) ≡ starts_by q cs
+starts_by-encodes q v [] same = refl
+starts_by-encodes q v (c ∷ cs) same =
+    ⊎_elim
+    (λ (h : c < 128). ap (λ (bs : List ℕ). starts_by q (bs ++ encodes cs)) (encode_ascii c h))
+    (λ (h : 128 ≤ c). (long (λ b. b == 0x20) c (λ b l. grind (arith, nat_tests)) h).start q v (encodes cs) same ∙ sym (same c h))
+    (cases_lt c 128)

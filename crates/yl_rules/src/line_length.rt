@@ -1,37 +1,14 @@
 //! The rule line-length.
-ghost use Rattle.std.specs.Prelude.{◌≡◌, ◌==◌, ℕ, length, drop, IfOk};
-ghost use Rattle.std.specs.List.{prefix_len};
+ghost use Rattle.std.specs.Prelude.{◌≡◌, IfOk};
 ghost use Rattle.std.specs.Option.{option_to_list};
 ghost use Rattle.std.specs.Str.{chars};
 ghost use Rattle.yl_rules.specs.LineLength.{is_non_breakable, is_one_word, line_length, past_mark};
 
+use crate::bytes::{count_front, past};
 use crate::options::RowOptions;
 use crate::width::width;
 use std::alloc::{AllocError, Allocator};
 use yl_text::{Found, RuleId};
-
-/// How many times this byte stands at the front.
-fn count_front(bytes: &[u8], wanted: u8) -> usize
-    ensures { result ≡ prefix_len (λ b. b == wanted) bytes.now }
-{
-    for (i, byte) in bytes.iter().enumerate() {
-        if *byte != wanted {
-            return i;
-        }
-    }
-    bytes.len()
-}
-
-fn past(bytes: &[u8], count: usize) -> &[u8]
-    ensures { result.now ≡ drop count bytes.now }
-{
-    if count < bytes.len() {
-        let (_, rest) = bytes.split_at(count);
-        rest
-    } else {
-        &[]
-    }
-}
 
 /// What follows the mark of a comment or of an entry.
 fn past_mark(bytes: &[u8]) -> &[u8]

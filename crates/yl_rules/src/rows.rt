@@ -1,12 +1,11 @@
 //! The rules that look at one line.
-ghost use Rattle.std.specs.Prelude.{◌≡◌, ◌+◌, ◌<◌, ◌≤◌, ◌++◌, [], ℕ, true, false, IfOk, OnOk, OnErr, vec_len};
-ghost use Rattle.std.specs.Option.{option_to_list};
+ghost use Rattle.std.specs.Prelude.{◌≡◌, ◌++◌, [], ℕ, true, false, IfOk, OnOk, OnErr};
 ghost use Rattle.std.specs.Str.{chars};
-ghost use Rattle.std.specs.Vec.{vec_capacity};
 ghost use Rattle.yl_rules.specs.Rows.{line_findings, row_findings};
 
 use crate::line_length::line_length_problem;
 use crate::options::RowOptions;
+use crate::pushes::push_both;
 use crate::trailing_spaces::{end_white, trailing_spaces_problem};
 use std::alloc::{AllocError, Allocator};
 use yl_text::{Found, Row};
@@ -16,33 +15,6 @@ fn is_suspect(text: &str, options: &RowOptions) -> bool
     ensures { result ≡ false → (line : ℕ) → line_findings options.now line (chars text.now) ≡ [] }
 {
     text.len() > options.max as usize || end_white(text.as_bytes()) > 0
-}
-
-/// Puts what was found behind the rest. There is room for it.
-fn push_reserved<A: Allocator>(found: &mut Vec<Found<A>, A>, more: Option<Found<A>>)
-    requires { vec_len found.old < vec_capacity found.old }
-    ensures items { found.new.items ≡ found.old.items ++ option_to_list more }
-    ensures room { vec_capacity found.new ≡ vec_capacity found.old }
-    ensures len { vec_len found.new ≤ vec_len found.old + 1 }
-{
-    if let Some(one) = more {
-        found.push_reserved(one);
-    }
-}
-
-/// Puts both behind the rest, or neither where there is no memory.
-fn push_both<A: Allocator>(
-    found: &mut Vec<Found<A>, A>,
-    first: Option<Found<A>>,
-    second: Option<Found<A>>,
-) -> Result<(), AllocError>
-    ensures ok { OnOk result (found.new.items ≡ found.old.items ++ (option_to_list first ++ option_to_list second)) }
-    ensures err { OnErr result (found.new.items ≡ found.old.items) }
-{
-    found.reserve(2)?;
-    push_reserved(found, first);
-    push_reserved(found, second);
-    Ok(())
 }
 
 /// Puts behind `found` what the rules that look at one line find in this one, whose number counts
