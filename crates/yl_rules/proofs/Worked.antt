@@ -1,4 +1,4 @@
--- Rows of the rules' documentation, computed.
+-- Short texts and what the rules find in them, computed.
 use Rattle.std.specs.Prelude.{ℕ, ◌≡◌, refl, List, [], ◌∷◌, ◌++◌, codes, true, Option, Some, None, replicate}
 use Rattle.std.specs.Fmt.{digits}
 use Rattle.std.specs.Str.{chars}

@@ -27,6 +27,9 @@ pub(crate) fn push_both<A: Allocator>(
     ensures ok { OnOk result (found.new.items ≡ found.old.items ++ (option_to_list first ++ option_to_list second)) }
     ensures err { OnErr result (found.new.items ≡ found.old.items) }
 {
+    if first.is_none() && second.is_none() {
+        return Ok(());
+    }
     found.reserve(2)?;
     push_reserved(found, first);
     push_reserved(found, second);
