@@ -6,105 +6,128 @@ use yl_rules::{CommentAt, CommentsOptions, comment_problems};
 // What the rule finds in one comment.
 fn found_in(
     alloc: Global,
-    line: u32,
-    col: u32,
-    text: &str,
-    behind: Option<u32>,
+    comment: CommentAt<'_>,
     options: &CommentsOptions,
 ) -> Result<String, AllocError> {
-    let comment = CommentAt {
-        line,
-        col,
-        text,
-        behind,
-    };
     let found = comment_problems(alloc, &[comment], options)?;
     shown(alloc, found.as_slice())
 }
 
 #[test]
-fn spaces_before_a_comment(rt: HostRuntime) -> Result<(), Fail> {
-    let options = CommentsOptions::standard();
-    let alloc = rt.alloc();
-    assert_eq!(rt;
-        found_in(alloc, 1, 5, "# x", Some(4), &options)?.as_str(),
-        "2:6 comments too few spaces before comment\n"
-    );
-    assert_eq!(rt;
-        found_in(alloc, 1, 6, "# x", Some(4), &options)?.as_str(),
-        ""
-    );
-    assert_eq!(rt; found_in(alloc, 1, 1, "# x", None, &options)?.as_str(), "");
-    let unbound = CommentsOptions {
-        min_spaces_from_content: None,
-        ..options
-    };
-    assert_eq!(rt;
-        found_in(alloc, 1, 5, "# x", Some(4), &unbound)?.as_str(),
-        ""
-    );
+fn comments_with_the_usual_options(rt: HostRuntime) -> Result<(), Fail> {
+    for (line, col, text, behind, wanted) in [
+        (
+            1,
+            5,
+            "# x",
+            Some(4),
+            "2:6 comments too few spaces before comment\n",
+        ),
+        (1, 6, "# x", Some(4), ""),
+        (1, 1, "# x", None, ""),
+        (
+            1,
+            0,
+            "##x",
+            None,
+            "2:3 comments missing starting space in comment\n",
+        ),
+        (
+            1,
+            2,
+            "#é",
+            None,
+            "2:4 comments missing starting space in comment\n",
+        ),
+        (
+            1,
+            0,
+            "#\tx",
+            None,
+            "2:2 comments missing starting space in comment\n",
+        ),
+        (1, 0, "###", None, ""),
+        (
+            1,
+            5,
+            "#x",
+            Some(4),
+            "2:6 comments too few spaces before comment\n2:7 comments missing starting space in comment\n",
+        ),
+        (0, 0, "#!x", None, ""),
+        (0, 0, "##!é", None, ""),
+        (
+            1,
+            0,
+            "#!x",
+            None,
+            "2:2 comments missing starting space in comment\n",
+        ),
+        (
+            0,
+            1,
+            "#!x",
+            None,
+            "1:3 comments missing starting space in comment\n",
+        ),
+        (
+            0,
+            0,
+            "#! x",
+            None,
+            "1:2 comments missing starting space in comment\n",
+        ),
+        (
+            0,
+            0,
+            "#!",
+            None,
+            "1:2 comments missing starting space in comment\n",
+        ),
+    ] {
+        let comment = CommentAt {
+            line,
+            col,
+            text,
+            behind,
+        };
+        let found = found_in(rt.alloc(), comment, &CommentsOptions::standard())?;
+        assert_eq!(rt; found.as_str(), wanted, "at {text}");
+    }
     Ok(())
 }
 
 #[test]
-fn the_space_that_a_comment_begins_with(rt: HostRuntime) -> Result<(), Fail> {
-    let options = CommentsOptions::standard();
-    let alloc = rt.alloc();
-    assert_eq!(rt;
-        found_in(alloc, 1, 0, "##x", None, &options)?.as_str(),
-        "2:3 comments missing starting space in comment\n"
-    );
-    assert_eq!(rt;
-        found_in(alloc, 1, 2, "#é", None, &options)?.as_str(),
-        "2:4 comments missing starting space in comment\n"
-    );
-    assert_eq!(rt;
-        found_in(alloc, 1, 0, "#\tx", None, &options)?.as_str(),
-        "2:2 comments missing starting space in comment\n"
-    );
-    assert_eq!(rt; found_in(alloc, 1, 0, "###", None, &options)?.as_str(), "");
-    assert_eq!(rt; found_in(alloc, 1, 0, "# x", None, &options)?.as_str(), "");
-    assert_eq!(rt;
-        found_in(alloc, 1, 5, "#x", Some(4), &options)?.as_str(),
-        "2:6 comments too few spaces before comment\n2:7 comments missing starting space in comment\n"
-    );
-    let lenient = CommentsOptions {
-        require_starting_space: false,
-        ..options
+fn comments_with_other_options(rt: HostRuntime) -> Result<(), Fail> {
+    let comment = CommentAt {
+        line: 0,
+        col: 0,
+        text: "#!x",
+        behind: Some(0),
     };
-    assert_eq!(rt; found_in(alloc, 1, 0, "##x", None, &lenient)?.as_str(), "");
-    Ok(())
-}
-
-#[test]
-fn interpreters(rt: HostRuntime) -> Result<(), Fail> {
-    let options = CommentsOptions::standard();
-    let alloc = rt.alloc();
-    assert_eq!(rt; found_in(alloc, 0, 0, "#!x", None, &options)?.as_str(), "");
-    assert_eq!(rt; found_in(alloc, 0, 0, "##!é", None, &options)?.as_str(), "");
-    assert_eq!(rt;
-        found_in(alloc, 1, 0, "#!x", None, &options)?.as_str(),
-        "2:2 comments missing starting space in comment\n"
-    );
-    assert_eq!(rt;
-        found_in(alloc, 0, 1, "#!x", None, &options)?.as_str(),
-        "1:3 comments missing starting space in comment\n"
-    );
-    assert_eq!(rt;
-        found_in(alloc, 0, 0, "#! x", None, &options)?.as_str(),
-        "1:2 comments missing starting space in comment\n"
-    );
-    assert_eq!(rt;
-        found_in(alloc, 0, 0, "#!", None, &options)?.as_str(),
-        "1:2 comments missing starting space in comment\n"
-    );
-    let checked = CommentsOptions {
-        ignore_shebangs: false,
-        ..options
-    };
-    assert_eq!(rt;
-        found_in(alloc, 0, 0, "#!x", None, &checked)?.as_str(),
-        "1:2 comments missing starting space in comment\n"
-    );
+    for (require_starting_space, ignore_shebangs, min_spaces_from_content, wanted) in [
+        (true, true, None, ""),
+        (
+            true,
+            false,
+            None,
+            "1:2 comments missing starting space in comment\n",
+        ),
+        (false, false, None, ""),
+        (
+            false,
+            true,
+            Some(1),
+            "1:1 comments too few spaces before comment\n",
+        ),
+    ] {
+        let options = CommentsOptions {
+            require_starting_space,
+            ignore_shebangs,
+            min_spaces_from_content,
+        };
+        let found = found_in(rt.alloc(), comment, &options)?;
+        assert_eq!(rt; found.as_str(), wanted);
+    }
     Ok(())
 }

@@ -18,99 +18,89 @@ fn found_in(
 
 #[test]
 fn white_space_at_the_end(rt: HostRuntime) -> Result<(), Fail> {
-    let options = RowOptions::standard();
-    let alloc = rt.alloc();
-    assert_eq!(rt;
-        found_in(alloc, 2, "a: 1 ", &options)?.as_str(),
-        "2:5 trailing-spaces trailing spaces\n"
-    );
-    assert_eq!(rt;
-        found_in(alloc, 1, "a: 1 \t  ", &options)?.as_str(),
-        "1:5 trailing-spaces trailing spaces\n"
-    );
-    assert_eq!(rt;
-        found_in(alloc, 3, "\t", &options)?.as_str(),
-        "3:1 trailing-spaces trailing spaces\n"
-    );
-    assert_eq!(rt; found_in(alloc, 3, "", &options)?.as_str(), "");
-    assert_eq!(rt; found_in(alloc, 3, " a", &options)?.as_str(), "");
-    assert_eq!(rt;
-        found_in(alloc, 7, "ключ: ✓ ", &options)?.as_str(),
-        "7:8 trailing-spaces trailing spaces\n"
-    );
-    // no white space of YAML
-    assert_eq!(rt; found_in(alloc, 7, "a\u{a0}", &options)?.as_str(), "");
+    for (line, text, wanted) in [
+        (2, "a: 1 ", "2:5 trailing-spaces trailing spaces\n"),
+        (1, "a: 1 \t  ", "1:5 trailing-spaces trailing spaces\n"),
+        (3, "\t", "3:1 trailing-spaces trailing spaces\n"),
+        (7, "ключ: ✓ ", "7:8 trailing-spaces trailing spaces\n"),
+        (1, "", ""),
+        (1, " a", ""),
+        // no white space of YAML
+        (1, "a\u{a0}", ""),
+    ] {
+        let found = found_in(rt.alloc(), line, text, &RowOptions::standard())?;
+        assert_eq!(rt; found.as_str(), wanted, "in {text}");
+    }
     Ok(())
 }
 
+// A text of a front, a piece so many times, and a rest.
 #[test]
 fn lines_past_the_limit(rt: HostRuntime) -> Result<(), Fail> {
-    let options = RowOptions::standard();
-    let alloc = rt.alloc();
-    let x40 = times(alloc, "", 40, "x", "")?;
-    let two_words = times(alloc, "a: ", 40, "x", " ")?;
-    let long = format!(in alloc; "{two_words}{x40}")?;
-    assert_eq!(rt;
-        found_in(alloc, 2, long.as_str(), &options)?.as_str(),
-        "2:81 line-length line too long (84 > 80 characters)\n"
-    );
-    // 80 characters of 160 bytes fit
-    let fits = times(alloc, "", 79, "é", " ")?;
-    assert_eq!(rt;
-        found_in(alloc, 2, fits.as_str(), &options)?.as_str(),
-        "2:80 trailing-spaces trailing spaces\n"
-    );
-    let past = times(alloc, "é ", 79, "é", "")?;
-    assert_eq!(rt;
-        found_in(alloc, 2, past.as_str(), &options)?.as_str(),
-        "2:81 line-length line too long (81 > 80 characters)\n"
-    );
-    let spaces = times(alloc, "", 81, " ", "")?;
-    assert_eq!(rt;
-        found_in(alloc, 1, spaces.as_str(), &options)?.as_str(),
-        "1:1 trailing-spaces trailing spaces\n1:81 line-length line too long (81 > 80 characters)\n"
-    );
-    let narrow = RowOptions {
-        max: 0,
-        allow_non_breakable_words: false,
-    };
-    assert_eq!(rt;
-        found_in(alloc, 1, "x", &narrow)?.as_str(),
-        "1:1 line-length line too long (1 > 0 characters)\n"
-    );
+    for (front, count, piece, rest, wanted) in [
+        (
+            "a: x ",
+            79,
+            "x",
+            "",
+            "1:81 line-length line too long (84 > 80 characters)\n",
+        ),
+        // 80 characters of 159 bytes fit
+        ("", 79, "é", " ", "1:80 trailing-spaces trailing spaces\n"),
+        (
+            "é ",
+            79,
+            "é",
+            "",
+            "1:81 line-length line too long (81 > 80 characters)\n",
+        ),
+        (
+            "",
+            81,
+            " ",
+            "",
+            "1:1 trailing-spaces trailing spaces\n1:81 line-length line too long (81 > 80 characters)\n",
+        ),
+        (
+            "- - ",
+            77,
+            "x",
+            "",
+            "1:81 line-length line too long (81 > 80 characters)\n",
+        ),
+        (
+            "--- ",
+            77,
+            "x",
+            "",
+            "1:81 line-length line too long (81 > 80 characters)\n",
+        ),
+        // one word, perhaps behind a mark
+        ("", 81, "x", "", ""),
+        ("- ", 79, "x", "", ""),
+        ("    - ", 81, "x", "", ""),
+        ("# ", 81, "é", "", ""),
+        ("### ", 81, "x", "", ""),
+        ("#é", 81, "x", "", ""),
+        ("-é", 81, "x", "", ""),
+    ] {
+        let text = times(rt.alloc(), front, count, piece, rest)?;
+        let found = found_in(rt.alloc(), 1, text.as_str(), &RowOptions::standard())?;
+        assert_eq!(rt; found.as_str(), wanted, "in {text}");
+    }
     Ok(())
 }
 
 #[test]
-fn one_word_may_be_long(rt: HostRuntime) -> Result<(), Fail> {
-    let options = RowOptions::standard();
-    let alloc = rt.alloc();
-    for front in ["", "- ", "  ", "    - ", "# ", "### ", "#é", "-é"] {
-        let word = times(alloc, front, 81, "x", "")?;
-        assert_eq!(rt;
-            found_in(alloc, 1, word.as_str(), &options)?.as_str(),
-            "",
-            "behind {front}"
-        );
-    }
-    let entries = times(alloc, "- - ", 77, "x", "")?;
-    assert_eq!(rt;
-        found_in(alloc, 1, entries.as_str(), &options)?.as_str(),
-        "1:81 line-length line too long (81 > 80 characters)\n"
-    );
-    let marker = times(alloc, "--- ", 77, "x", "")?;
-    assert_eq!(rt;
-        found_in(alloc, 1, marker.as_str(), &options)?.as_str(),
-        "1:81 line-length line too long (81 > 80 characters)\n"
-    );
-    let strict = RowOptions {
-        max: 80,
+fn words_that_are_not_spared(rt: HostRuntime) -> Result<(), Fail> {
+    let options = RowOptions {
+        max: 2,
         allow_non_breakable_words: false,
     };
-    let word = times(alloc, "", 81, "x", "")?;
+    let found = found_in(rt.alloc(), 1, "- xé", &options)?;
     assert_eq!(rt;
-        found_in(alloc, 1, word.as_str(), &strict)?.as_str(),
-        "1:81 line-length line too long (81 > 80 characters)\n"
+        found.as_str(),
+        "1:3 line-length line too long (4 > 2 characters)\n"
     );
     Ok(())
 }

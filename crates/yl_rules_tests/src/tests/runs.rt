@@ -14,90 +14,73 @@ fn found_in(alloc: Global, text: &str, options: &RunOptions) -> Result<String, T
 }
 
 #[test]
-fn runs_of_empty_lines(rt: HostRuntime) -> Result<(), Fail> {
-    let options = RunOptions::standard();
-    let alloc = rt.alloc();
-    assert_eq!(rt;
-        found_in(alloc, "---\na: 1\n\n\n\nb: 2\n", &options)?.as_str(),
-        "5:1 empty-lines too many blank lines (3 > 2)\n"
-    );
-    assert_eq!(rt;
-        found_in(alloc, "---\na: 1\n\n\nb: 2\n", &options)?.as_str(),
-        ""
-    );
-    assert_eq!(rt;
-        found_in(alloc, "---\na: 1\n\n", &options)?.as_str(),
-        "3:1 empty-lines too many blank lines (1 > 0)\n"
-    );
-    assert_eq!(rt; found_in(alloc, "\n", &options)?.as_str(), "");
-    assert_eq!(rt; found_in(alloc, "", &options)?.as_str(), "");
-    assert_eq!(rt;
-        found_in(alloc, "\n---\n", &options)?.as_str(),
-        "1:1 empty-lines too many blank lines (1 > 0)\n"
-    );
-    assert_eq!(rt;
-        found_in(alloc, "\n\n", &options)?.as_str(),
-        "2:1 empty-lines too many blank lines (2 > 0)\n"
-    );
-    // a line of white space is no empty one, and ends a run
-    assert_eq!(rt;
-        found_in(alloc, "a\n\n\n \n\n\nb\n", &options)?.as_str(),
-        ""
-    );
+fn texts_with_the_usual_options(rt: HostRuntime) -> Result<(), Fail> {
+    for (text, wanted) in [
+        (
+            "---\na: 1\n\n\n\nb: 2\n",
+            "5:1 empty-lines too many blank lines (3 > 2)\n",
+        ),
+        ("---\na: 1\n\n\nb: 2\n", ""),
+        (
+            "---\na: 1\n\n",
+            "3:1 empty-lines too many blank lines (1 > 0)\n",
+        ),
+        ("\n", ""),
+        ("", ""),
+        ("\n---\n", "1:1 empty-lines too many blank lines (1 > 0)\n"),
+        ("\n\n", "2:1 empty-lines too many blank lines (2 > 0)\n"),
+        // a line of white space is no empty one, and ends a run
+        ("a\n\n\n \n\n\nb\n", ""),
+        (
+            "---\r\na: 1\r\n",
+            "1:4 new-lines wrong new line character: expected \\n\n",
+        ),
+        (
+            "é\ra: 1\n",
+            "1:2 new-lines wrong new line character: expected \\n\n",
+        ),
+        ("---\na: 1\r\n", ""),
+        (
+            "---\na: [1, 2",
+            "2:9 new-line-at-end-of-file no new line character at the end of file\n",
+        ),
+        (
+            "---\né ",
+            "2:3 new-line-at-end-of-file no new line character at the end of file\n",
+        ),
+    ] {
+        let found = found_in(rt.alloc(), text, &RunOptions::standard())?;
+        assert_eq!(rt; found.as_str(), wanted, "in {text}");
+    }
     Ok(())
 }
 
 #[test]
-fn limits_of_empty_lines(rt: HostRuntime) -> Result<(), Fail> {
-    let alloc = rt.alloc();
+fn texts_with_other_options(rt: HostRuntime) -> Result<(), Fail> {
     let options = RunOptions {
-        new_line: NewLine::Unix,
+        new_line: NewLine::Dos,
         empty_lines: EmptyLinesOptions {
             max: 0,
             max_start: 1,
             max_end: 2,
         },
     };
-    assert_eq!(rt;
-        found_in(alloc, "\na\n\nb\n\n\n", &options)?.as_str(),
-        "3:1 empty-lines too many blank lines (1 > 0)\n"
-    );
-    assert_eq!(rt;
-        found_in(alloc, "\n\na\n\n\n\n", &options)?.as_str(),
-        "2:1 empty-lines too many blank lines (2 > 1)\n6:1 empty-lines too many blank lines (3 > 2)\n"
-    );
-    Ok(())
-}
-
-#[test]
-fn the_first_break_and_the_end(rt: HostRuntime) -> Result<(), Fail> {
-    let options = RunOptions::standard();
-    let alloc = rt.alloc();
-    assert_eq!(rt;
-        found_in(alloc, "---\r\na: 1\r\n", &options)?.as_str(),
-        "1:4 new-lines wrong new line character: expected \\n\n"
-    );
-    assert_eq!(rt;
-        found_in(alloc, "é\ra: 1\n", &options)?.as_str(),
-        "1:2 new-lines wrong new line character: expected \\n\n"
-    );
-    assert_eq!(rt; found_in(alloc, "---\na: 1\r\n", &options)?.as_str(), "");
-    assert_eq!(rt;
-        found_in(alloc, "---\na: [1, 2", &options)?.as_str(),
-        "2:9 new-line-at-end-of-file no new line character at the end of file\n"
-    );
-    assert_eq!(rt;
-        found_in(alloc, "---\n ", &options)?.as_str(),
-        "2:2 new-line-at-end-of-file no new line character at the end of file\n"
-    );
-    let dos = RunOptions {
-        new_line: NewLine::Dos,
-        ..options
-    };
-    assert_eq!(rt; found_in(alloc, "---\r\na: 1\n", &dos)?.as_str(), "");
-    assert_eq!(rt;
-        found_in(alloc, "---\na: é", &dos)?.as_str(),
-        "1:4 new-lines wrong new line character: expected \\r\\n\n2:5 new-line-at-end-of-file no new line character at the end of file\n"
-    );
+    for (text, wanted) in [
+        (
+            "\r\na\n\nb\n\n\n",
+            "3:1 empty-lines too many blank lines (1 > 0)\n",
+        ),
+        (
+            "\r\n\r\na\n\n\n\n",
+            "2:1 empty-lines too many blank lines (2 > 1)\n6:1 empty-lines too many blank lines (3 > 2)\n",
+        ),
+        (
+            "---\n",
+            "1:4 new-lines wrong new line character: expected \\r\\n\n",
+        ),
+    ] {
+        let found = found_in(rt.alloc(), text, &options)?;
+        assert_eq!(rt; found.as_str(), wanted, "in {text}");
+    }
     Ok(())
 }
