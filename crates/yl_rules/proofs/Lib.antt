@@ -1,0 +1,6 @@
+pub mod CommentLemmas
+pub mod Encoded
+pub mod OneWord
+pub mod Steps
+pub mod Texts
+pub mod Worked

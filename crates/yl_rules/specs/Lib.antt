@@ -1,0 +1,11 @@
+pub mod Comments
+pub mod EmptyLines
+pub mod EndOfFile
+pub mod LevelOf
+pub mod Levels
+pub mod LineLength
+pub mod NewLines
+pub mod PlacedComments
+pub mod Rows
+pub mod Runs
+pub mod TrailingSpaces

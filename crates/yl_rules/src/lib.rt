@@ -1,0 +1,24 @@
+//! The rules of the linter.
+#![tactic(auto)]
+
+mod bytes;
+mod comments;
+mod empty_lines;
+mod end_of_file;
+mod level;
+mod line_length;
+mod new_lines;
+mod options;
+mod pushes;
+mod rows;
+mod runs;
+mod trailing_spaces;
+mod width;
+
+pub use comments::{CommentAt, CommentsOptions, comment_problems, push_comment_problems};
+pub use empty_lines::EmptyLinesOptions;
+pub use level::{Level, Levels};
+pub use new_lines::NewLine;
+pub use options::{RowOptions, RunOptions};
+pub use rows::{push_row_problems, row_problems};
+pub use runs::run_problems;

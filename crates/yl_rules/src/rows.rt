@@ -1,0 +1,53 @@
+//! The rules that look at one line.
+ghost use Rattle.std.specs.Prelude.{◌≡◌, ◌++◌, [], ℕ, true, false, IfOk, OnOk, OnErr};
+ghost use Rattle.std.specs.Str.{chars};
+ghost use Rattle.yl_rules.specs.Rows.{line_findings, row_findings};
+
+use crate::line_length::line_length_problem;
+use crate::options::RowOptions;
+use crate::pushes::push_both;
+use crate::trailing_spaces::{end_white, trailing_spaces_problem};
+use std::alloc::{AllocError, Allocator};
+use yl_text::{Found, Row};
+
+/// Whether the line needs a closer look: it ends in white space, or has more bytes than it may have characters.
+fn is_suspect(text: &str, options: &RowOptions) -> bool
+    ensures { result ≡ false → (line : ℕ) → line_findings options.now line (chars text.now) ≡ [] }
+{
+    text.len() > options.max as usize || end_white(text.as_bytes()) > 0
+}
+
+/// Puts behind `found` what the rules that look at one line find in this one, whose number counts
+/// from 1. Where there is no memory nothing is added.
+pub fn push_row_problems<A: Allocator + Copy>(
+    alloc: A,
+    line: u64,
+    row: &Row<A>,
+    options: &RowOptions,
+    found: &mut Vec<Found<A>, A>,
+) -> Result<(), AllocError>
+    ensures ok { OnOk result (found.new.items ≡ found.old.items ++ row_findings options.now line row.now) }
+    ensures err { OnErr result (found.new.items ≡ found.old.items) }
+{
+    let text = row.as_str();
+    if !is_suspect(text, options) {
+        return Ok(());
+    }
+    let trailing = trailing_spaces_problem(alloc, line, text)?;
+    let long = line_length_problem(alloc, line, text, options)?;
+    push_both(found, trailing, long)
+}
+
+/// What the rules that look at one line find in this one, whose number counts from 1.
+pub fn row_problems<A: Allocator + Copy>(
+    alloc: A,
+    line: u64,
+    row: &Row<A>,
+    options: &RowOptions,
+) -> Result<Vec<Found<A>, A>, AllocError>
+    ensures { IfOk result (λ v. v.items ≡ row_findings options.now line row.now) }
+{
+    let mut found = Vec::new(alloc);
+    push_row_problems(alloc, line, row, options, &mut found)?;
+    Ok(found)
+}

@@ -1,0 +1,133 @@
+use super::shown;
+use std::alloc::{AllocError, Global};
+use std::test::Fail;
+use yl_rules::{CommentAt, CommentsOptions, comment_problems};
+
+// What the rule finds in one comment.
+fn found_in(
+    alloc: Global,
+    comment: CommentAt<'_>,
+    options: &CommentsOptions,
+) -> Result<String, AllocError> {
+    let found = comment_problems(alloc, &[comment], options)?;
+    shown(alloc, found.as_slice())
+}
+
+#[test]
+fn comments_with_the_usual_options(rt: HostRuntime) -> Result<(), Fail> {
+    for (line, col, text, behind, wanted) in [
+        (
+            1,
+            5,
+            "# x",
+            Some(4),
+            "2:6 comments too few spaces before comment\n",
+        ),
+        (1, 6, "# x", Some(4), ""),
+        (1, 1, "# x", None, ""),
+        (
+            1,
+            0,
+            "##x",
+            None,
+            "2:3 comments missing starting space in comment\n",
+        ),
+        (
+            1,
+            2,
+            "#é",
+            None,
+            "2:4 comments missing starting space in comment\n",
+        ),
+        (
+            1,
+            0,
+            "#\tx",
+            None,
+            "2:2 comments missing starting space in comment\n",
+        ),
+        (1, 0, "###", None, ""),
+        (
+            1,
+            5,
+            "#x",
+            Some(4),
+            "2:6 comments too few spaces before comment\n2:7 comments missing starting space in comment\n",
+        ),
+        (0, 0, "#!x", None, ""),
+        (0, 0, "##!é", None, ""),
+        (
+            1,
+            0,
+            "#!x",
+            None,
+            "2:2 comments missing starting space in comment\n",
+        ),
+        (
+            0,
+            1,
+            "#!x",
+            None,
+            "1:3 comments missing starting space in comment\n",
+        ),
+        (
+            0,
+            0,
+            "#! x",
+            None,
+            "1:2 comments missing starting space in comment\n",
+        ),
+        (
+            0,
+            0,
+            "#!",
+            None,
+            "1:2 comments missing starting space in comment\n",
+        ),
+    ] {
+        let comment = CommentAt {
+            line,
+            col,
+            text,
+            behind,
+        };
+        let found = found_in(rt.alloc(), comment, &CommentsOptions::standard())?;
+        assert_eq!(rt; found.as_str(), wanted, "at {text}");
+    }
+    Ok(())
+}
+
+#[test]
+fn comments_with_other_options(rt: HostRuntime) -> Result<(), Fail> {
+    let comment = CommentAt {
+        line: 0,
+        col: 0,
+        text: "#!x",
+        behind: Some(0),
+    };
+    for (require_starting_space, ignore_shebangs, min_spaces_from_content, wanted) in [
+        (true, true, None, ""),
+        (
+            true,
+            false,
+            None,
+            "1:2 comments missing starting space in comment\n",
+        ),
+        (false, false, None, ""),
+        (
+            false,
+            true,
+            Some(1),
+            "1:1 comments too few spaces before comment\n",
+        ),
+    ] {
+        let options = CommentsOptions {
+            require_starting_space,
+            ignore_shebangs,
+            min_spaces_from_content,
+        };
+        let found = found_in(rt.alloc(), comment, &options)?;
+        assert_eq!(rt; found.as_str(), wanted);
+    }
+    Ok(())
+}
