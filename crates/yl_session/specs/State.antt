@@ -1,0 +1,16 @@
+-- What a session shows: its configuration, its lines and its problems.
+use Rattle.std.specs.Prelude.{◌≡◌, ℕ, List}
+use Rattle.yl_text.specs.Lines.{Piece, IsLines}
+use Rattle.yl_session.specs.declared.report.Config.{Config}
+use Rattle.yl_session.specs.Report.{Reported, report}
+
+pub record State : Type 0 where
+  pub config : Config
+  pub rows : List Piece
+  pub problems : List Reported
+
+-- the session shows this text under this configuration: its lines, and the report of them
+pub record Shows (c : Config) (text : List ℕ) (s : State) : Type 0 where
+  pub config : s.config ≡ c
+  pub lines : IsLines text s.rows
+  pub problems : s.problems ≡ report c s.rows
