@@ -14,3 +14,7 @@ pub record Shows (c : Config) (text : List ℕ) (s : State) : Type 0 where
   pub config : s.config ≡ c
   pub lines : IsLines text s.rows
   pub problems : s.problems ≡ report c s.rows
+
+-- a text under a configuration is shown in one way, whatever edits led to it
+abbrev pub OneState : Type 0
+OneState = (c : Config) (text : List ℕ) (s t : State) → Shows c text s → Shows c text t → s ≡ t

@@ -5,6 +5,7 @@ ghost use Rattle.yl_text.specs.Lines.{Piece};
 ghost use Rattle.yl_text.specs.Fault.{IsText, IsFaultOf};
 ghost use Rattle.yl_text.specs.Store.{AreLines, IsRange};
 ghost use Rattle.yl_text.specs.Edit.{CanEdit, edited, incoming_lines};
+ghost use Rattle.yl_session.specs.State.{OneState};
 ghost use Rattle.yl_session.specs.Runs.{IsNothing};
 
 use crate::report::{Config, Problem, report_of, status};
@@ -165,9 +166,15 @@ impl<S: LineStore> Session<S> {
     fn lines(&self) -> u32
         ensures { result ≡ length self.now.rows }
     {
-        self.store.len() as u32
+        self.len() as u32
     }
 }
+
+/// A law: what a session shows follows from its configuration and its text alone. So after any edits it is
+/// what a session shows that is opened over the text that they left.
+pub fn one_state()
+    ensures { OneState }
+{}
 
 /// Whether no line is replaced by no bytes.
 fn is_nothing(a: usize, b: usize, bytes: &[u8]) -> bool

@@ -1,4 +1,4 @@
-use Rattle.std.proofs.Common.{◌≡◌, ◌+◌, ◌∷◌, [], ◌++◌, List, ℕ, take, ap, subst, sym, ◌∙◌}
+use Rattle.std.proofs.Common.{◌≡◌, ◌+◌, ◌∷◌, [], ◌++◌, List, ℕ, ◌<◌, length, get_or, take, ap, subst, sym, refl, ◌∙◌}
 use Rattle.std.specs.Prelude.{OnOk}
 use Rattle.std.proofs.lemmas.List.{take_more}
 use Rattle.yl_text.specs.Edit.{edited}
@@ -6,6 +6,10 @@ use Rattle.yl_session.specs.State.{State, Shows}
 use Rattle.yl_session.specs.Runs.{Replacement, IsAnswer}
 use Rattle.yl_session.proofs.Goes.{Replayed-push}
 use Rattle.yl_session.proofs.replaying.replay.Goals as goal
+
+-- the first edits and the next one
+taken : (es : List Replacement) (i : ℕ) (e : Replacement) → i < length es → e ≡ get_or es i e → take (i + 1) es ≡ take i es ++ e ∷ []
+taken es i e l is = take_more es i e l ∙ ap (λ (x : Replacement). take i es ++ x ∷ []) (sym is)
 
 pub loop-edit-preserved : goal.loop-edit-preserved
 loop-edit-preserved g c =
@@ -20,9 +24,9 @@ loop-edit-preserved g c =
     let P : Replacement → Type 0 = λ d. IsAnswer s.rows d.a d.b d.bytes r in
     let Q : Replacement → Type 0 = λ d. OnOk r (Shows s.config (edited s.rows d.a d.b d.bytes) u) in
     let run = Replayed-push c.args.config c.args.bytes.now (take i es) c.loop-edit.answers.items s e r u c.loop-edit.invariant.run (subst P inside c.edit-answer.ensures.answer) (subst Q inside c.edit-answer.ensures.done) c.edit-answer.ensures.refused in
-    let more : take (i + 1) es ≡ take i es ++ e ∷ [] = take_more es i e c.loop-edit-test.true ∙ ap (λ (x : Replacement). take i es ++ x ∷ []) (sym c.edit-item.is) in
+    let more = taken es i e c.loop-edit-test.true c.edit-item.is in
     record {
-      room = c.push_reserved.ensures.capacity ∙ c.loop-edit.invariant.room;
-      len = c.push_reserved.ensures.len ∙ ap (λ (n : ℕ). n + 1) c.loop-edit.invariant.len;
+      room = rw c.push_reserved.ensures.capacity c.loop-edit.invariant.room;
+      len = rw (c.push_reserved.ensures.len, c.loop-edit.invariant.len) refl;
       run = rw (more, c.push_reserved.ensures.items) run;
     }
