@@ -1,7 +1,7 @@
 -- What an edit of a text is answered, and what a list of edits leaves.
 use Rattle.std.specs.Prelude.{◌≡◌, ℕ, List, [], ◌∷◌, Result, Ok, Err}
 use Rattle.yl_text.specs.declared.fault.TextFault.{TextFault}
-use Rattle.yl_text.specs.declared.fault.TextFault.TheVariants.{NotUtf8, Range, OpenEnd, JoinedBreak, TooLarge, Memory}
+use Rattle.yl_text.specs.declared.fault.TextFault.TheVariants.{Memory}
 use Rattle.yl_text.specs.Lines.{Piece, lines_of}
 use Rattle.yl_text.specs.Edit.{CanEdit, IsEditFault, edited}
 use Rattle.yl_session.specs.declared.report.Config.{Config}
@@ -19,12 +19,8 @@ no_work = record { scanned = 0; documents = 0 }
 -- what an edit of these lines is refused for: the first cause that stands, or want of memory where none does and there is
 -- something to be done
 abbrev pub IsRefusal : List Piece → ℕ → ℕ → List ℕ → TextFault → Type 0
-IsRefusal ps a b bytes (NotUtf8 n) = IsEditFault ps a b bytes (NotUtf8 n)
-IsRefusal ps a b bytes Range = IsEditFault ps a b bytes Range
-IsRefusal ps a b bytes OpenEnd = IsEditFault ps a b bytes OpenEnd
-IsRefusal ps a b bytes JoinedBreak = IsEditFault ps a b bytes JoinedBreak
-IsRefusal ps a b bytes TooLarge = IsEditFault ps a b bytes TooLarge
 IsRefusal ps a b bytes Memory = CanEdit ps a b bytes × ¬ (IsNothing a b bytes)
+IsRefusal ps a b bytes fault = IsEditFault ps a b bytes fault
 
 -- the answer to an edit of these lines
 abbrev pub IsAnswer : List Piece → ℕ → ℕ → List ℕ → Result Work TextFault → Type 0
