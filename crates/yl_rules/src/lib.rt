@@ -10,4 +10,4 @@ mod width;
 
 pub use level::{Level, Levels};
 pub use options::RowOptions;
-pub use rows::{push_row_problems, row_problems};
+pub use rows::{push_line_problems, push_row_problems, row_problems};
