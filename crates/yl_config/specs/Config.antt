@@ -1,8 +1,6 @@
 -- What a configuration says of each rule.
-use Rattle.std.specs.Prelude.{Option, Some, None}
-use Rattle.yl_text.specs.declared.found.RuleId.{RuleId}
+use Rattle.std.specs.Prelude.{Some, None}
 use Rattle.yl_text.specs.declared.found.RuleId.TheVariants.{LineLength, Syntax, TrailingSpaces}
-use Rattle.yl_rules.specs.declared.level.Level.{Level}
 use Rattle.yl_rules.specs.declared.level.Level.TheVariants.{Error}
 use Rattle.yl_rules.specs.declared.options.RowOptions.{RowOptions}
 use Rattle.yl_rules.specs.Levels.{LevelTable}

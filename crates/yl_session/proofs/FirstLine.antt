@@ -1,11 +1,11 @@
 -- The first line of a text, and what stands behind it.
-use Rattle.std.proofs.Common.{◌≡◌, ◌≢◌, ℕ, ◌+◌, ◌<◌, ◌≤◌, ◌⊎◌, inl, inr, Some, List, [], ◌∷◌, length, take, drop, get_or, ◌∙◌, ap, arith}
+use Rattle.std.proofs.Common.{◌≡◌, ℕ, ◌+◌, ◌<◌, ◌≤◌, ◌⊎◌, inl, inr, Some, List, ◌∷◌, length, take, drop, get_or, ◌∙◌, ap, arith}
 use Rattle.std.proofs.lemmas.Bool.{cases_lt}
 use Rattle.std.proofs.lemmas.Option.{slice_get-get_or}
 use Rattle.std.specs.Str.{IsUtf8, IsCharBoundary}
 use Rattle.yl_text.specs.declared.row.Break.{Break}
 use Rattle.yl_text.specs.declared.row.Break.TheVariants.{No, Lf, CrLf, Cr}
-use Rattle.yl_text.specs.Lines.{Piece, break_bytes, HasNoBreak, lines_of}
+use Rattle.yl_text.specs.Lines.{break_bytes, HasNoBreak, lines_of}
 use Rattle.yl_text.specs.Split.{BreakAt}
 use Rattle.yl_text.proofs.Computed.{line}
 use Rattle.yl_text.proofs.Cut.{cut_more, cut_last, cut_boundary}

@@ -1,5 +1,5 @@
 //! One line cut off the front of a text, with nothing copied.
-ghost use Rattle.std.specs.Prelude.{◌≡◌, ◌≢◌, ◌≤◌, ◌<◌, ◌⊎◌, ◌∷◌, length, take, slice_index};
+ghost use Rattle.std.specs.Prelude.{◌≡◌, ◌≢◌, ◌≤◌, ◌<◌, ◌⊎◌, ◌∷◌, length, take, slice_index, IsUtf8};
 ghost use Rattle.yl_text.specs.Lines.{HasNoBreak, lines_of};
 ghost use Rattle.yl_text.specs.Split.{BreakAt};
 ghost use Rattle.yl_text.specs.declared.row.Break.TheVariants.{No};
@@ -9,6 +9,7 @@ use memchr::memchr2;
 use yl_text::Break;
 
 /// The first line of a text, its break, and what stands behind that.
+#[derive(Clone, Copy)]
 pub struct FirstLine<'a> {
     pub line: &'a str,
     pub end: Break,
@@ -47,6 +48,7 @@ fn break_at(bytes: &[u8], place: usize) -> Break
 /// The first line of a text.
 pub fn cut_line(text: &str) -> FirstLine<'_>
     ensures first { lines_of text.now ≡ record { text = result.line.now; end = result.end } ∷ lines_behind result.end result.rest.now }
+    ensures utf8 { IsUtf8 result.rest.now }
     ensures smaller { result.end ≢ No → length result.rest.now < length text.now }
 {
     let bytes = text.as_bytes();

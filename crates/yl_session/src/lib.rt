@@ -2,3 +2,6 @@
 #![tactic(auto)]
 
 mod cutting;
+mod report;
+
+pub use report::{report_of, report_of_text};
