@@ -5,7 +5,7 @@ use Rattle.std.specs.Prelude.{OnOk, OnErr}
 use Rattle.yl_text.specs.Lines.{Piece, lines_of}
 use Rattle.yl_text.specs.Edit.{edited}
 use Rattle.yl_text.proofs.Computed.{lines_of-is}
-use Rattle.yl_session.specs.declared.report.Config.{Config}
+use Rattle.yl_config.specs.declared.config.Config.{Config}
 use Rattle.yl_session.specs.State.{State, Shows}
 use Rattle.yl_session.specs.declared.session.Work.{Work}
 use Rattle.yl_session.specs.Runs.{Replacement, IsAnswer, after, left_by, AreAnswers, Replayed}

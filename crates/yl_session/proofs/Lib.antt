@@ -1,2 +1,4 @@
-pub mod Nothing
+pub mod Findings
+pub mod FirstLine
 pub mod Goes
+pub mod Nothing

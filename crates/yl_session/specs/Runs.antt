@@ -4,7 +4,7 @@ use Rattle.yl_text.specs.declared.fault.TextFault.{TextFault}
 use Rattle.yl_text.specs.declared.fault.TextFault.TheVariants.{Memory}
 use Rattle.yl_text.specs.Lines.{Piece, lines_of}
 use Rattle.yl_text.specs.Edit.{CanEdit, IsEditFault, edited}
-use Rattle.yl_session.specs.declared.report.Config.{Config}
+use Rattle.yl_config.specs.declared.config.Config.{Config}
 use Rattle.yl_session.specs.declared.session.Work.{Work}
 use Rattle.yl_session.specs.State.{State, Shows}
 

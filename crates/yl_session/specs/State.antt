@@ -1,8 +1,9 @@
 -- What a session shows: its configuration, its lines and its problems.
 use Rattle.std.specs.Prelude.{◌≡◌, ℕ, List}
 use Rattle.yl_text.specs.Lines.{Piece, IsLines}
-use Rattle.yl_session.specs.declared.report.Config.{Config}
-use Rattle.yl_session.specs.Report.{Reported, report}
+use Rattle.yl_config.specs.declared.config.Config.{Config}
+use Rattle.yl_report.specs.Report.{Reported}
+use Rattle.yl_session.specs.TextReport.{report}
 
 pub record State : Type 0 where
   pub config : Config

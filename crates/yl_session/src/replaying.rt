@@ -2,10 +2,10 @@
 ghost use Rattle.std.specs.Prelude.{◌≡◌, MatchResult, IfOk};
 ghost use Rattle.yl_text.specs.Fault.{IsText, IsFaultOf};
 
-use crate::report::Config;
 use crate::session::{Session, Work};
 use std::alloc::Allocator;
 use std::marker::Model;
+use yl_config::Config;
 use yl_text::{LineStore, TextFault};
 
 /// An edit: these bytes in place of the lines a to b, counted from 0, b not included.

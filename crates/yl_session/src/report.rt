@@ -1,85 +1,54 @@
-//! The problems of a text.
-ghost use Rattle.std.specs.Prelude.{◌≡◌, ◌<◌, ◌++◌, IfOk, OnOk, length, take, option_to_list, if◌then◌else◌, ◌==◌};
-ghost use Rattle.yl_session.specs.Report.{row_problems, report, status_of};
+//! The report of the lines of a text.
+ghost use Rattle.std.specs.Prelude.{◌≡◌, IfOk};
+ghost use Rattle.yl_text.specs.Lines.{lines_of};
+ghost use Rattle.yl_config.specs.Config.{row_options_of};
+ghost use Rattle.yl_session.specs.TextReport.{findings_from, report};
 
+use crate::cutting::cut_line;
 use std::alloc::{AllocError, Allocator};
-use std::marker::Model;
-use yl_text::{Lines, Row};
+use yl_config::Config;
+use yl_report::{Problem, Silences, arrange};
+use yl_rules::{RowOptions, push_line_problems, push_row_problems};
+use yl_text::{Break, Found, Lines};
 
-/// Toy.
-#[derive(Clone, Copy, Debug, PartialEq, Eq)]
-pub struct Config {
-    pub is_on: bool,
-}
-
-impl Config {
-    pub fn standard() -> Config
-        ensures { result ≡ record { is_on = Rattle.std.specs.Prelude.true } }
-    {
-        Config { is_on: true }
-    }
-}
-
-/// Toy.
-#[derive(Drop)]
-pub struct Problem<A: Allocator> {
-    length: u64,
-    message: String<A>,
-}
-
-impl<A: Allocator> Model for Problem<A> {
-    ghost use Rattle.std.specs.Prelude.{string_bytes};
-    ghost use Rattle.yl_session.specs.Report.{Reported};
-
-    ghost Value = { Reported };
-
-    ghost view = { λ p. record { length = p.length; message = string_bytes p.message } };
-}
-
-impl<A: Allocator> Problem<A> {
-    pub fn new(length: u64, message: String<A>) -> Problem<A>
-        ensures { result ≡ record { length = length; message = Rattle.std.specs.Prelude.string_bytes message } }
-    {
-        Problem { length, message }
-    }
-
-    pub fn length(&self) -> u64
-        ensures { result ≡ self.now.length }
-    {
-        self.length
-    }
-}
-
-pub fn status<A: Allocator>(problems: &[Problem<A>], strict: bool) -> u8
-    ensures { result ≡ status_of problems.now strict }
+/// What the rules that look at one line find in the rows.
+fn find_in_rows<L: Lines>(
+    alloc: L::Alloc,
+    options: &RowOptions,
+    lines: &L,
+) -> Result<Vec<Found<L::Alloc>, L::Alloc>, AllocError>
+    ensures { IfOk result (λ found. found.items ≡ findings_from options.now 1 (L.rows lines.now)) }
 {
-    if problems.is_empty() {
-        0
-    } else if strict {
-        2
-    } else {
-        1
+    let mut found = Vec::new(alloc);
+    for i in 0..lines.len() {
+        push_row_problems(alloc, i as u64 + 1, lines.row(i), options, &mut found)?;
     }
+    Ok(found)
 }
 
-/// Adds the line's problem, if it has one.
-fn push_problem<A: Allocator + Copy, B: Allocator>(
+/// What the rules that look at one line find in the lines of a text, which are not copied.
+fn find_in_text<A: Allocator + Copy>(
     alloc: A,
-    config: &Config,
-    problems: &mut Vec<Problem<A>, A>,
-    row: &Row<B>,
-) -> Result<(), AllocError>
-    ensures { OnOk result (problems.new.items ≡ problems.old.items ++ row_problems config.now row.now) }
+    options: &RowOptions,
+    text: &str,
+) -> Result<Vec<Found<A>, A>, AllocError>
+    ensures { IfOk result (λ found. found.items ≡ findings_from options.now 1 (lines_of text.now)) }
 {
-    let text = row.as_str();
-    if config.is_on && text.as_bytes().last() == Some(&b' ') {
-        let message = String::from_str(alloc, text)?;
-        problems.push(Problem::new(text.len() as u64, message))?;
+    let mut found = Vec::new(alloc);
+    let mut rest = text;
+    let mut line = 1;
+    'lines: loop {
+        let first = cut_line(rest);
+        push_line_problems(alloc, line, first.line, options, &mut found)?;
+        if first.end == Break::No {
+            return Ok(found);
+        }
+        rest = first.rest;
+        line += 1;
     }
-    Ok(())
 }
 
-/// The problems of all lines.
+/// The report of rows, which are the lines of a text.
 pub fn report_of<L: Lines>(
     alloc: L::Alloc,
     config: &Config,
@@ -87,9 +56,18 @@ pub fn report_of<L: Lines>(
 ) -> Result<Vec<Problem<L::Alloc>, L::Alloc>, AllocError>
     ensures { IfOk result (λ problems. problems.items ≡ report config.now (L.rows lines.now)) }
 {
-    let mut problems = Vec::new(alloc);
-    for i in 0..lines.len() {
-        push_problem(alloc, config, &mut problems, lines.row(i))?;
-    }
-    Ok(problems)
+    let found = find_in_rows(alloc, config.row_options(), lines)?;
+    arrange(alloc, found, config.levels(), &Silences::none(alloc))
+}
+
+/// The report of a text, whose lines are not copied.
+pub fn report_of_text<A: Allocator + Copy>(
+    alloc: A,
+    config: &Config,
+    text: &str,
+) -> Result<Vec<Problem<A>, A>, AllocError>
+    ensures { IfOk result (λ problems. problems.items ≡ report config.now (lines_of text.now)) }
+{
+    let found = find_in_text(alloc, config.row_options(), text)?;
+    arrange(alloc, found, config.levels(), &Silences::none(alloc))
 }

@@ -8,9 +8,11 @@ ghost use Rattle.yl_text.specs.Edit.{CanEdit, edited, incoming_lines};
 ghost use Rattle.yl_session.specs.State.{OneState};
 ghost use Rattle.yl_session.specs.Runs.{IsNothing};
 
-use crate::report::{Config, Problem, report_of, status};
+use crate::report::report_of;
 use std::alloc::{AllocError, Allocator};
 use std::marker::Model;
+use yl_config::Config;
+use yl_report::{Problem, status};
 use yl_text::{LineStore, Patched, Row, TextFault, split};
 
 /// What an edit took: how many rows were turned into lexemes, and of how many documents events were
@@ -33,7 +35,7 @@ pub struct Session<S: LineStore> {
 impl<S: LineStore> Model for Session<S> {
     ghost use Rattle.std.specs.Prelude.{◌≡◌};
     ghost use Rattle.yl_session.specs.State.{State};
-    ghost use Rattle.yl_session.specs.Report.{report};
+    ghost use Rattle.yl_session.specs.TextReport.{report};
     ghost use Rattle.yl_text.specs.Store.{AreLines};
 
     ghost Value = { State };
@@ -45,7 +47,8 @@ impl<S: LineStore> Model for Session<S> {
 
 impl<S: LineStore> Session<S> {
     ghost use Rattle.yl_session.specs.State.{Shows};
-    ghost use Rattle.yl_session.specs.Report.{report, status_of};
+    ghost use Rattle.yl_session.specs.TextReport.{report};
+    ghost use Rattle.yl_report.specs.Report.{status_of};
     ghost use Rattle.yl_session.specs.Runs.{IsAnswer, no_work};
 
     /// A session over these bytes.

@@ -1,8 +1,9 @@
 use Rattle.std.proofs.Common.{◌≡◌, ℕ, List, sym, ◌∙◌, ap}
 use Rattle.yl_text.specs.Lines.{Piece, lines_of}
 use Rattle.yl_text.proofs.Computed.{lines_of-is}
-use Rattle.yl_session.specs.declared.report.Config.{Config}
-use Rattle.yl_session.specs.Report.{Reported, report}
+use Rattle.yl_config.specs.declared.config.Config.{Config}
+use Rattle.yl_report.specs.Report.{Reported}
+use Rattle.yl_session.specs.TextReport.{report}
 use Rattle.yl_session.specs.State.{State, Shows}
 use Rattle.yl_session.proofs.session.one_state.Goals as goal
 

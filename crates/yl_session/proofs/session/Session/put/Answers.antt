@@ -6,8 +6,8 @@ use Rattle.yl_text.specs.Store.{AreLines}
 use Rattle.yl_text.specs.Edit.{CanEdit, edited, inserted, incoming_lines}
 use Rattle.yl_text.proofs.Edited.{AreLines-edited}
 use Rattle.yl_session.specs.State.{State, Shows}
-use Rattle.yl_session.specs.Report.{report}
-use Rattle.yl_session.specs.declared.report.Config.{Config}
+use Rattle.yl_session.specs.TextReport.{report}
+use Rattle.yl_config.specs.declared.config.Config.{Config}
 use Rattle.yl_session.proofs.session.Session.put.Goals as goal
 
 -- what the new rows are

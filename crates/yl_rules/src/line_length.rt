@@ -1,0 +1,78 @@
+//! The rule line-length.
+ghost use Rattle.std.specs.Prelude.{◌≡◌, ◌==◌, ℕ, length, drop, IfOk};
+ghost use Rattle.std.specs.List.{prefix_len};
+ghost use Rattle.std.specs.Option.{option_to_list};
+ghost use Rattle.std.specs.Str.{chars};
+ghost use Rattle.yl_rules.specs.LineLength.{is_non_breakable, is_one_word, line_length, past_mark};
+
+use crate::options::RowOptions;
+use crate::width::width;
+use std::alloc::{AllocError, Allocator};
+use yl_text::{Found, RuleId};
+
+/// How many times this byte stands at the front.
+fn count_front(bytes: &[u8], wanted: u8) -> usize
+    ensures { result ≡ prefix_len (λ b. b == wanted) bytes.now }
+{
+    for (i, byte) in bytes.iter().enumerate() {
+        if *byte != wanted {
+            return i;
+        }
+    }
+    bytes.len()
+}
+
+fn past(bytes: &[u8], count: usize) -> &[u8]
+    ensures { result.now ≡ drop count bytes.now }
+{
+    if count < bytes.len() {
+        let (_, rest) = bytes.split_at(count);
+        rest
+    } else {
+        &[]
+    }
+}
+
+/// What follows the mark of a comment or of an entry.
+fn past_mark(bytes: &[u8]) -> &[u8]
+    ensures { result.now ≡ past_mark bytes.now }
+{
+    match bytes {
+        [b'#', ..] => past(past(bytes, count_front(bytes, b'#')), 1),
+        [b'-', ..] => past(bytes, 2),
+        _ => bytes,
+    }
+}
+
+fn is_one_word(bytes: &[u8]) -> bool
+    ensures { result ≡ is_one_word bytes.now }
+{
+    !bytes.is_empty() && !past_mark(bytes).contains(&b' ')
+}
+
+/// Whether the line has no space at which it could be broken. Its bytes tell, since each byte that counts is ASCII.
+fn is_non_breakable(text: &str) -> bool
+    ensures { result ≡ is_non_breakable (chars text.now) }
+{
+    let bytes = text.as_bytes();
+    let inner = past(bytes, count_front(bytes, b' '));
+    is_one_word(inner)
+}
+
+/// The problem of a line, if it is too long. A line of few bytes has no more characters.
+pub(crate) fn line_length_problem<A: Allocator + Copy>(
+    alloc: A,
+    line: u64,
+    text: &str,
+    options: &RowOptions,
+) -> Result<Option<Found<A>>, AllocError>
+    ensures { IfOk result (λ o. option_to_list o ≡ line_length options.now line (chars text.now)) }
+{
+    let width = width(text);
+    let max = options.max;
+    if width <= max as usize || options.allow_non_breakable_words && is_non_breakable(text) {
+        return Ok(None);
+    }
+    let message = format!(in alloc; "line too long ({width} > {max} characters)")?;
+    Ok(Some(Found::new(line, max as u64 + 1, RuleId::LineLength, message)))
+}

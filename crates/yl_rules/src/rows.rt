@@ -1,0 +1,94 @@
+//! The rules that look at one line.
+ghost use Rattle.std.specs.Prelude.{◌≡◌, ◌+◌, ◌<◌, ◌≤◌, ◌++◌, [], ℕ, true, false, IfOk, OnOk, OnErr, vec_len};
+ghost use Rattle.std.specs.Option.{option_to_list};
+ghost use Rattle.std.specs.Str.{chars};
+ghost use Rattle.std.specs.Vec.{vec_capacity};
+ghost use Rattle.yl_rules.specs.Rows.{line_findings, row_findings};
+
+use crate::line_length::line_length_problem;
+use crate::options::RowOptions;
+use crate::trailing_spaces::{end_white, trailing_spaces_problem};
+use std::alloc::{AllocError, Allocator};
+use yl_text::{Found, Row};
+
+/// Whether the line needs a closer look: it ends in white space, or has more bytes than it may have characters.
+fn is_suspect(text: &str, options: &RowOptions) -> bool
+    ensures { result ≡ false → (line : ℕ) → line_findings options.now line (chars text.now) ≡ [] }
+{
+    text.len() > options.max as usize || end_white(text.as_bytes()) > 0
+}
+
+/// Puts what was found behind the rest. There is room for it.
+fn push_reserved<A: Allocator>(found: &mut Vec<Found<A>, A>, more: Option<Found<A>>)
+    requires { vec_len found.old < vec_capacity found.old }
+    ensures items { found.new.items ≡ found.old.items ++ option_to_list more }
+    ensures room { vec_capacity found.new ≡ vec_capacity found.old }
+    ensures len { vec_len found.new ≤ vec_len found.old + 1 }
+{
+    if let Some(one) = more {
+        found.push_reserved(one);
+    }
+}
+
+/// Puts both behind the rest, or neither where there is no memory.
+fn push_both<A: Allocator>(
+    found: &mut Vec<Found<A>, A>,
+    first: Option<Found<A>>,
+    second: Option<Found<A>>,
+) -> Result<(), AllocError>
+    ensures ok { OnOk result (found.new.items ≡ found.old.items ++ (option_to_list first ++ option_to_list second)) }
+    ensures err { OnErr result (found.new.items ≡ found.old.items) }
+{
+    found.reserve(2)?;
+    push_reserved(found, first);
+    push_reserved(found, second);
+    Ok(())
+}
+
+/// Puts behind `found` what the rules that look at one line find in a line of this text, whose number
+/// counts from 1. Where there is no memory nothing is added; where nothing is found none is taken.
+pub fn push_line_problems<A: Allocator + Copy>(
+    alloc: A,
+    line: u64,
+    text: &str,
+    options: &RowOptions,
+    found: &mut Vec<Found<A>, A>,
+) -> Result<(), AllocError>
+    ensures ok { OnOk result (found.new.items ≡ found.old.items ++ line_findings options.now line (chars text.now)) }
+    ensures err { OnErr result (found.new.items ≡ found.old.items) }
+{
+    if !is_suspect(text, options) {
+        return Ok(());
+    }
+    let trailing = trailing_spaces_problem(alloc, line, text)?;
+    let long = line_length_problem(alloc, line, text, options)?;
+    push_both(found, trailing, long)
+}
+
+/// The same for a row.
+pub fn push_row_problems<A: Allocator + Copy>(
+    alloc: A,
+    line: u64,
+    row: &Row<A>,
+    options: &RowOptions,
+    found: &mut Vec<Found<A>, A>,
+) -> Result<(), AllocError>
+    ensures ok { OnOk result (found.new.items ≡ found.old.items ++ row_findings options.now line row.now) }
+    ensures err { OnErr result (found.new.items ≡ found.old.items) }
+{
+    push_line_problems(alloc, line, row.as_str(), options, found)
+}
+
+/// What the rules that look at one line find in this one, whose number counts from 1.
+pub fn row_problems<A: Allocator + Copy>(
+    alloc: A,
+    line: u64,
+    row: &Row<A>,
+    options: &RowOptions,
+) -> Result<Vec<Found<A>, A>, AllocError>
+    ensures { IfOk result (λ v. v.items ≡ row_findings options.now line row.now) }
+{
+    let mut found = Vec::new(alloc);
+    push_row_problems(alloc, line, row, options, &mut found)?;
+    Ok(found)
+}

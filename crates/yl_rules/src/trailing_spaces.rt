@@ -1,0 +1,44 @@
+//! The rule trailing-spaces.
+ghost use Rattle.std.specs.Prelude.{◌≡◌, ◌==◌, ◌||◌, ◌≤◌, ◌<◌, ◌^◌, length, IfOk};
+ghost use Rattle.std.specs.Option.{option_to_list};
+ghost use Rattle.std.specs.Str.{chars};
+ghost use Rattle.yl_text.specs.Character.{is_white};
+ghost use Rattle.yl_rules.specs.TrailingSpaces.{end_white, trailing_spaces};
+
+use crate::width::width;
+use std::alloc::{AllocError, Allocator};
+use yl_text::{Found, RuleId};
+
+fn is_white(byte: u8) -> bool
+    ensures { result ≡ is_white byte }
+{
+    byte == b' ' || byte == b'\t'
+}
+
+/// How many bytes of white space the bytes end in.
+pub(crate) fn end_white(bytes: &[u8]) -> usize
+    ensures { result ≡ end_white bytes.now }
+{
+    let mut kept = bytes.len();
+    while kept > 0 && is_white(bytes[kept - 1]) {
+        kept -= 1;
+    }
+    bytes.len() - kept
+}
+
+/// The problem of a line, if it ends in white space.
+pub(crate) fn trailing_spaces_problem<A: Allocator + Copy>(
+    alloc: A,
+    line: u64,
+    text: &str,
+) -> Result<Option<Found<A>>, AllocError>
+    ensures { IfOk result (λ o. option_to_list o ≡ trailing_spaces line (chars text.now)) }
+{
+    let white = end_white(text.as_bytes());
+    if white == 0 {
+        return Ok(None);
+    }
+    let message = String::from_str(alloc, "trailing spaces")?;
+    let column = (width(text) - white) as u64 + 1;
+    Ok(Some(Found::new(line, column, RuleId::TrailingSpaces, message)))
+}

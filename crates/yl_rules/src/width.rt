@@ -1,0 +1,17 @@
+//! The width of a line.
+ghost use Rattle.std.specs.Prelude.{◌≡◌, ◌<◌, ◌≤◌, ◌^◌, length};
+ghost use Rattle.std.specs.Str.{chars};
+
+/// How many characters the text has: how many of its bytes begin one.
+pub(crate) fn width(text: &str) -> usize
+    ensures exact { result ≡ length (chars text.now) }
+    ensures within { result ≤ length text.now }
+{
+    let mut count = 0;
+    for byte in text.as_bytes() {
+        if *byte < 0x80 || *byte >= 0xc0 {
+            count += 1;
+        }
+    }
+    count
+}
