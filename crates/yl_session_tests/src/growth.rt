@@ -8,6 +8,7 @@ use yl_session::{Edit, Session, Work, replay};
 use yl_text::{PlainStore, TextFault};
 
 type Heap<'a> = &'a Refusing<Global>;
+
 type Watched<'a> = Session<PlainStore<Heap<'a>>>;
 
 const TEXT: &[u8] = b"a \r\nb\nc \n";
@@ -51,10 +52,16 @@ fn each_growth_of_an_edit(rt: HostRuntime) -> Result<(), Fail> {
             return Ok(());
         }
         assert_eq!(rt; answer, Err(TextFault::Memory), "the {n}th growth");
-        assert!(rt; shows(&session, &before, &[(1, 2), (3, 2)]), "the {n}th growth");
+        assert!(rt;
+            shows(&session, &before, &[(1, 2), (3, 2)]),
+            "the {n}th growth"
+        );
         assert_eq!(rt; session.status(false), 1);
         assert_eq!(rt; session.edit(1, 2, b"x \ny\r"), wanted, "the {n}th growth");
-        assert!(rt; shows(&session, &after, &[(1, 2), (2, 2), (4, 2)]), "the {n}th growth");
+        assert!(rt;
+            shows(&session, &after, &[(1, 2), (2, 2), (4, 2)]),
+            "the {n}th growth"
+        );
     }
     Ok(())
 }
@@ -65,14 +72,31 @@ fn each_growth_of_an_edit(rt: HostRuntime) -> Result<(), Fail> {
 fn each_growth_of_a_replay(rt: HostRuntime) -> Result<(), Fail> {
     let heap = Refusing::new(rt.alloc());
     let edits = vec![in &heap;
-        Edit { a: 1, b: 2, bytes: Vec::from_slice(&heap, b"x \n")? },
-        Edit { a: 9, b: 9, bytes: Vec::from_slice(&heap, b"")? },
-        Edit { a: 0, b: 1, bytes: Vec::from_slice(&heap, b"y\n")? },
+        Edit {
+            a: 1,
+            b: 2,
+            bytes: Vec::from_slice(&heap, b"x \n")?
+        },
+        Edit {
+            a: 9,
+            b: 9,
+            bytes: Vec::from_slice(&heap, b"")?
+        },
+        Edit {
+            a: 0,
+            b: 1,
+            bytes: Vec::from_slice(&heap, b"y\n")?
+        },
     ]?;
     let mut as_a_whole = 0;
     for n in 1..u64::MAX {
         heap.refuse(n);
-        let answer = replay::<PlainStore<Heap<'_>>>(&heap, Config::standard(), TEXT, edits.as_slice());
+        let answer = replay::<PlainStore<Heap<'_>>>(
+            &heap,
+            Config::standard(),
+            TEXT,
+            edits.as_slice(),
+        );
         let is_last = heap.is_armed();
         heap.refuse(0);
         let (session, answers) = match answer {
@@ -88,15 +112,24 @@ fn each_growth_of_a_replay(rt: HostRuntime) -> Result<(), Fail> {
         if is_last {
             assert!(rt; answers[0].is_ok() && answers[2].is_ok());
             assert!(rt; shows(&session, &["y", "x ", "c ", ""], &[(2, 2), (3, 2)]));
-            assert!(rt; as_a_whole > 4 && n > as_a_whole + 6, "{as_a_whole} and {n} growths");
+            assert!(rt;
+                as_a_whole > 4 && n > as_a_whole + 6,
+                "{as_a_whole} and {n} growths"
+            );
             return Ok(());
         } else if answers[0].is_ok() {
             assert_eq!(rt; answers[2], Err(TextFault::Memory), "the {n}th growth");
-            assert!(rt; shows(&session, &["a ", "x ", "c ", ""], &[(1, 2), (2, 2), (3, 2)]), "the {n}th growth");
+            assert!(rt;
+                shows(&session, &["a ", "x ", "c ", ""], &[(1, 2), (2, 2), (3, 2)]),
+                "the {n}th growth"
+            );
         } else {
             assert_eq!(rt; answers[0], Err(TextFault::Memory), "the {n}th growth");
             assert!(rt; answers[2].is_ok(), "the {n}th growth");
-            assert!(rt; shows(&session, &["y", "b", "c ", ""], &[(3, 2)]), "the {n}th growth");
+            assert!(rt;
+                shows(&session, &["y", "b", "c ", ""], &[(3, 2)]),
+                "the {n}th growth"
+            );
         }
     }
     Ok(())

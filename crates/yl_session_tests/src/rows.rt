@@ -63,16 +63,30 @@ fn an_edit_of_nothing_is_no_work(rt: HostRuntime) -> Result<(), Fail> {
 
 #[test]
 fn what_is_no_text_is_not_opened(rt: HostRuntime) -> Result<(), Fail> {
-    let answer: Result<Plain, TextFault> = Session::open(rt.alloc(), Config::standard(), b"a: \xc3");
+    let answer: Result<Plain, TextFault> = Session::open(
+        rt.alloc(),
+        Config::standard(),
+        b"a: \xc3",
+    );
     assert_eq!(rt; answer.err(), Some(TextFault::NotUtf8 { valid_up_to: 3 }));
 
     // one byte more than a text may have
     let long = vec![in rt.alloc(); b'x'; 67_108_865]?;
-    let answer: Result<Plain, TextFault> = Session::open(rt.alloc(), Config::standard(), long.as_slice());
+    let answer: Result<Plain, TextFault> = Session::open(
+        rt.alloc(),
+        Config::standard(),
+        long.as_slice(),
+    );
     assert_eq!(rt; answer.err(), Some(TextFault::TooLarge));
     let mut session: Plain = Session::open(rt.alloc(), Config::standard(), b"a\n")?;
-    assert_eq!(rt; session.edit(0, 2, long.as_slice()), Err(TextFault::TooLarge));
-    assert_eq!(rt; session.edit(0, 1, long.as_slice()), Err(TextFault::OpenEnd));
+    assert_eq!(rt;
+        session.edit(0, 2, long.as_slice()),
+        Err(TextFault::TooLarge)
+    );
+    assert_eq!(rt;
+        session.edit(0, 1, long.as_slice()),
+        Err(TextFault::OpenEnd)
+    );
     assert!(rt; shows(&session, &["a", ""], &[]));
     Ok(())
 }
@@ -104,10 +118,18 @@ fn breaks_meet_at_seams(rt: HostRuntime) -> Result<(), Fail> {
         ("a\r\nb\r\n\r\nc", 2, b"3444444"),
     ] {
         for (piece, want) in pieces.iter().zip(wanted) {
-            let mut session: Plain = Session::open(rt.alloc(), Config::standard(), text.as_bytes())?;
+            let mut session: Plain = Session::open(
+                rt.alloc(),
+                Config::standard(),
+                text.as_bytes(),
+            )?;
             let lines = session.len();
             match session.edit(1, b, piece) {
-                Ok(_) => assert_eq!(rt; session.len() as u64 + 48, u64::from(*want), "{text:?} {b}"),
+                Ok(_) => assert_eq!(rt;
+                    session.len() as u64 + 48,
+                    u64::from(*want),
+                    "{text:?} {b}"
+                ),
                 Err(fault) => {
                     assert_eq!(rt; fault, TextFault::JoinedBreak, "{text:?} {b}");
                     assert_eq!(rt; *want, b'J', "{text:?} {b}");
@@ -122,11 +144,28 @@ fn breaks_meet_at_seams(rt: HostRuntime) -> Result<(), Fail> {
 #[test]
 fn replay_goes_on_behind_a_refused_edit(rt: HostRuntime) -> Result<(), Fail> {
     let edits = vec![in rt.alloc();
-        Edit { a: 1, b: 2, bytes: Vec::from_slice(rt.alloc(), b"x \ny\r")? },
-        Edit { a: 3, b: 3, bytes: Vec::from_slice(rt.alloc(), b"\n")? },
-        Edit { a: 0, b: 1, bytes: Vec::from_slice(rt.alloc(), b"")? },
+        Edit {
+            a: 1,
+            b: 2,
+            bytes: Vec::from_slice(rt.alloc(), b"x \ny\r")?
+        },
+        Edit {
+            a: 3,
+            b: 3,
+            bytes: Vec::from_slice(rt.alloc(), b"\n")?
+        },
+        Edit {
+            a: 0,
+            b: 1,
+            bytes: Vec::from_slice(rt.alloc(), b"")?
+        },
     ]?;
-    let (session, answers) = replay::<PlainStore<Global>>(rt.alloc(), Config::standard(), b"a \nb\nc ", edits.as_slice())?;
+    let (session, answers) = replay::<PlainStore<Global>>(
+        rt.alloc(),
+        Config::standard(),
+        b"a \nb\nc ",
+        edits.as_slice(),
+    )?;
     assert_eq!(rt; answers.len(), 3);
     assert!(rt; answers[0].is_ok());
     assert_eq!(rt; answers[1], Err(TextFault::JoinedBreak));
