@@ -19,5 +19,5 @@ abbrev pub none_silenced : RuleId → ℕ → Bool
 none_silenced rule line = false
 
 -- the report of the lines of a text under a configuration
-abbrev pub report : Config → List Piece → List Reported
+unfoldable pub report : Config → List Piece → List Reported
 report config rows = arranged (levels_of config) false none_silenced (findings_from (row_options_of config) 1 rows)
