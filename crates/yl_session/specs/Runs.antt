@@ -1,4 +1,5 @@
--- What an edit of a text is answered, and what a list of edits leaves.
+-- What an edit of a text is answered, and what a list of edits leaves. Lines are those of YAML 1.2.2, 5.4; edits of whole lines are
+-- this project's own (docs/DECISIONS.md, "Texts and edits").
 use Rattle.std.specs.Prelude.{◌≡◌, ℕ, List, [], ◌∷◌, Result, Ok, Err}
 use Rattle.yl_text.specs.declared.fault.TextFault.{TextFault}
 use Rattle.yl_text.specs.declared.fault.TextFault.TheVariants.{Memory}

@@ -1,4 +1,4 @@
--- What a session shows: its configuration, its lines and its problems.
+-- What a session shows: its configuration, its lines (YAML 1.2.2, 5.4) and its problems. A clause sees no more of it.
 use Rattle.std.specs.Prelude.{◌≡◌, ℕ, List}
 use Rattle.yl_text.specs.Lines.{Piece, IsLines}
 use Rattle.yl_config.specs.declared.config.Config.{Config}
