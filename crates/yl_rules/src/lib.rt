@@ -20,5 +20,5 @@ pub use empty_lines::EmptyLinesOptions;
 pub use level::{Level, Levels};
 pub use new_lines::NewLine;
 pub use options::{RowOptions, RunOptions};
-pub use rows::{push_row_problems, row_problems};
+pub use rows::{push_line_problems, push_row_problems, row_problems};
 pub use runs::run_problems;

@@ -17,8 +17,28 @@ fn is_suspect(text: &str, options: &RowOptions) -> bool
     text.len() > options.max as usize || end_white(text.as_bytes()) > 0
 }
 
-/// Puts behind `found` what the rules that look at one line find in this one, whose number counts
-/// from 1. Where there is no memory nothing is added.
+/// Puts behind `found` what the rules that look at one line find in a line of this text, whose number
+/// counts from 1. Where there is no memory nothing is added; where nothing is found none is taken.
+pub fn push_line_problems<A: Allocator + Copy>(
+    alloc: A,
+    line: u64,
+    text: &str,
+    options: &RowOptions,
+    found: &mut Vec<Found<A>, A>,
+) -> Result<(), AllocError>
+    ensures ok { OnOk result (found.new.items ≡ found.old.items ++ line_findings options.now line (chars text.now)) }
+    ensures err { OnErr result (found.new.items ≡ found.old.items) }
+{
+    if !is_suspect(text, options) {
+        return Ok(());
+    }
+    let trailing = trailing_spaces_problem(alloc, line, text)?;
+    let long = line_length_problem(alloc, line, text, options)?;
+    push_both(found, trailing, long)
+}
+
+/// Puts behind `found` what the rules that look at one line find in this row, whose number counts
+/// from 1. Where there is no memory nothing is added; where nothing is found none is taken.
 pub fn push_row_problems<A: Allocator + Copy>(
     alloc: A,
     line: u64,
@@ -29,13 +49,7 @@ pub fn push_row_problems<A: Allocator + Copy>(
     ensures ok { OnOk result (found.new.items ≡ found.old.items ++ row_findings options.now line row.now) }
     ensures err { OnErr result (found.new.items ≡ found.old.items) }
 {
-    let text = row.as_str();
-    if !is_suspect(text, options) {
-        return Ok(());
-    }
-    let trailing = trailing_spaces_problem(alloc, line, text)?;
-    let long = line_length_problem(alloc, line, text, options)?;
-    push_both(found, trailing, long)
+    push_line_problems(alloc, line, row.as_str(), options, found)
 }
 
 /// What the rules that look at one line find in this one, whose number counts from 1.

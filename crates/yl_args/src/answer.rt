@@ -1,0 +1,48 @@
+//! What is asked of a program, or why it does not run.
+use std::alloc::{AllocError, AllocFailed};
+
+/// The program whose words they are.
+#[derive(Clone, Copy, Debug, PartialEq, Eq)]
+pub enum Program {
+    Yamllint,
+}
+
+/// How a run prints and counts.
+#[derive(Clone, Copy, Debug, PartialEq, Eq)]
+pub struct Flags {
+    /// Warnings give status 2 where no error gives 1.
+    pub strict: bool,
+    /// Warnings are not printed; they count all the same.
+    pub no_warnings: bool,
+}
+
+/// A run: the names of its files in order, of which there is at least one, and its flags. The name
+/// `-` is standard input.
+#[derive(Debug, Drop)]
+pub struct Asked {
+    pub files: Vec<String>,
+    pub flags: Flags,
+}
+
+/// Why nothing is run.
+#[derive(Debug, Drop)]
+pub enum Stop {
+    /// The help is asked for, which is this text.
+    Help(String),
+    /// The words are no command.
+    Use,
+    /// Want of memory.
+    Memory,
+}
+
+impl From<AllocError> for Stop {
+    fn from(_error: AllocError) -> Stop {
+        Stop::Memory
+    }
+}
+
+impl<T: Drop> From<AllocFailed<T>> for Stop {
+    fn from(_error: AllocFailed<T>) -> Stop {
+        Stop::Memory
+    }
+}

@@ -1,0 +1,115 @@
+use std::alloc::{AllocError, Global};
+use std::test::Fail;
+use yl_args::{Asked, Program, Stop, asked};
+
+fn words(alloc: Global, texts: &[&str]) -> Result<Vec<String>, AllocError> {
+    let mut words = Vec::new(alloc);
+    for text in texts {
+        words.push(String::from_str(alloc, text)?)?;
+    }
+    Ok(words)
+}
+
+// The files that are asked for, and the flags.
+fn shown(alloc: Global, asked: &Asked) -> Result<String, AllocError> {
+    let mut line = String::from_str(alloc, "files")?;
+    for file in &asked.files {
+        line.push_str(" ")?;
+        line.push_str(file.as_str())?;
+    }
+    if asked.flags.strict {
+        line.push_str(", strict")?;
+    }
+    if asked.flags.no_warnings {
+        line.push_str(", no warnings")?;
+    }
+    Ok(line)
+}
+
+// The answer as a line.
+fn answer(alloc: Global, texts: &[&str]) -> Result<String, AllocError> {
+    let words = words(alloc, texts)?;
+    match asked(alloc, Program::Yamllint, words.as_slice()) {
+        Ok(asked) => shown(alloc, &asked),
+        Err(Stop::Help(text)) => Ok(text),
+        Err(Stop::Use) => String::from_str(alloc, "use"),
+        Err(Stop::Memory) => String::from_str(alloc, "memory"),
+    }
+}
+
+#[test]
+fn reads_words(rt: HostRuntime) -> Result<(), Fail> {
+    let alloc = rt.alloc();
+    let rows: [(&[&str], &str); 12] = [
+        (&["a.yaml"], "files a.yaml"),
+        (&["a", "b", "-", "-"], "files a b - -"),
+        (&["-s", "a"], "files a, strict"),
+        (&["a", "--strict"], "files a, strict"),
+        (&["--no-warnings", "a"], "files a, no warnings"),
+        (&["-f", "parsable", "a"], "files a"),
+        (&["-fparsable", "a"], "files a"),
+        (&["-f=parsable", "a"], "files a"),
+        (&["-sfparsable", "a"], "files a, strict"),
+        (&["--", "-s", "--help"], "files -s --help"),
+        (&["-s", "--no-warnings", "--", "-"], "files -, strict, no warnings"),
+        (&[""], "files "),
+    ];
+    for (given, want) in rows {
+        assert_eq!(rt; answer(alloc, given)?.as_str(), want);
+    }
+    Ok(())
+}
+
+#[test]
+fn refuses_words(rt: HostRuntime) -> Result<(), Fail> {
+    let alloc = rt.alloc();
+    let rows: [&[&str]; 14] = [
+        &[],
+        &["-s"],
+        &["--"],
+        &["-q", "a"],
+        &["--format", "parsable", "a"],
+        &["-f", "colored", "a"],
+        &["-f", "-", "a"],
+        &["-f"],
+        &["-s", "-s", "a"],
+        &["-ss", "a"],
+        &["-s", "--strict", "a"],
+        &["-f", "parsable", "-f", "parsable", "a"],
+        &["--strict=yes", "a"],
+        &["--version"],
+    ];
+    for given in rows {
+        assert_eq!(rt; answer(alloc, given)?.as_str(), "use");
+    }
+    Ok(())
+}
+
+const HELP: &str =
+    "Usage: yamllint [OPTIONS] <FILE>...\n\nArguments:\n  <FILE>...  files to lint, `-` for standard input\n\nOptions:\n  -f <FORMAT>        how problems are printed [possible values: parsable]\n  -s, --strict       give status 2 for warnings\n      --no-warnings  print errors alone\n  -h, --help         Print help\n";
+
+#[test]
+fn helps_unless_a_fault_comes_first(rt: HostRuntime) -> Result<(), Fail> {
+    let alloc = rt.alloc();
+    let helped: [&[&str]; 6] = [
+        &["-h"],
+        &["--help"],
+        &["a", "-sh"],
+        &["-h", "-q"],
+        &["--help", "-f", "colored"],
+        &["-s", "-h", "-s"],
+    ];
+    for given in helped {
+        assert_eq!(rt; answer(alloc, given)?.as_str(), HELP);
+    }
+    let refused: [&[&str]; 4] = [
+        &["-q", "-h"],
+        &["-f", "colored", "-h"],
+        &["-f", "-h"],
+        &["-s", "-s", "--help"],
+    ];
+    for given in refused {
+        assert_eq!(rt; answer(alloc, given)?.as_str(), "use");
+    }
+    Ok(())
+}

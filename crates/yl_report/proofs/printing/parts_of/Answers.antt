@@ -1,0 +1,13 @@
+use Rattle.std.proofs.Common.{append_assoc}
+use Rattle.yl_report.proofs.printing.parts_of.Goals as goal
+
+pub returns : goal.returns
+returns c =
+    rw (
+      c.as_bytes.ensures.value,
+      c.as_bytes-2.ensures.value,
+      c.as_bytes-3.ensures.value,
+      c.as_bytes-4.ensures.value,
+      c.as_bytes-5.ensures.value,
+      c.as_bytes-6.ensures.value,
+    ) (simp append_assoc)

@@ -1,0 +1,121 @@
+ghost use Rattle.std.specs.Prelude.{◌≡◌, ◌++◌, IfOk, OnOk, option_to_list};
+ghost use Rattle.std.specs.List.{filter_map};
+ghost use Rattle.yl_rules.specs.LevelOf.{level_of};
+ghost use Rattle.yl_report.specs.Report.{order, order_in_line, order_in_place, sorted_once, is_reported, is_syntax as is_syntax_rule, with_level, arranged};
+ghost use Rattle.yl_report.specs.Arranged.{OneArrangement, SortedOnceArranges};
+ghost use Rattle.yl_report.specs.Silence.{file_silenced, silenced};
+
+use crate::problem::Problem;
+use crate::silence::Silences;
+use std::alloc::{AllocError, Allocator};
+use std::cmp::Ordering;
+use yl_rules::Levels;
+use yl_text::{Found, RuleId};
+
+// By rule name and message.
+fn compare_in_place<A: Allocator>(a: &Found<A>, b: &Found<A>) -> Ordering
+    ensures { result ≡ order_in_place a.now b.now }
+{
+    match a.rule().name().cmp(b.rule().name()) {
+        Ordering::Equal => a.message().cmp(b.message()),
+        apart => apart,
+    }
+}
+
+// By column, rule name and message.
+fn compare_in_line<A: Allocator>(a: &Found<A>, b: &Found<A>) -> Ordering
+    ensures { result ≡ order_in_line a.now b.now }
+{
+    match a.column().cmp(&b.column()) {
+        Ordering::Equal => compare_in_place(a, b),
+        apart => apart,
+    }
+}
+
+/// The order of a report: by line, column, rule name in ASCII order, and message.
+pub fn compare<A: Allocator>(a: &Found<A>, b: &Found<A>) -> Ordering
+    ensures { result ≡ order a.now b.now }
+{
+    match a.line().cmp(&b.line()) {
+        Ordering::Equal => compare_in_line(a, b),
+        apart => apart,
+    }
+}
+
+/// A law: of one list there is one arrangement, and `sorted_once` is it.
+pub fn one_arrangement()
+    ensures unique { OneArrangement }
+    ensures exists { SortedOnceArranges }
+{}
+
+fn is_syntax(rule: RuleId) -> bool
+    ensures { result ≡ is_syntax_rule rule }
+{
+    matches!(rule, RuleId::Syntax)
+}
+
+// Whether the rule is on, and nothing silences it at its line.
+fn is_reported<A: Allocator>(levels: &Levels, silences: &Silences<A>, found: &Found<A>) -> bool
+    ensures { result ≡ is_reported (level_of levels.now) (silenced silences.now) found.now }
+{
+    let is_on = levels.level_of(found.rule()).is_some();
+    let is_free = is_syntax(found.rule());
+    is_on && (is_free || !silences.is_silenced(found.rule(), found.line().saturating_sub(1)))
+}
+
+// Puts what was found in order, and drops what stands twice. It takes linear time where it is in
+// order already.
+fn sort_once<A: Allocator>(found: &mut Vec<Found<A>, A>)
+    ensures { found.new.items ≡ sorted_once found.old.items }
+{
+    found.sort_unstable_by(|a, b| compare(a, b));
+    found.dedup_by(|a, b| compare(a, b) == Ordering::Equal);
+}
+
+// Puts what was found at the end of the problems, if its rule is on.
+fn push_with_level<A: Allocator>(
+    problems: &mut Vec<Problem<A>, A>,
+    found: Found<A>,
+    levels: &Levels,
+) -> Result<(), AllocError>
+    ensures { OnOk result (problems.new.items ≡ problems.old.items
+        ++ option_to_list (with_level (level_of levels.now) found)) }
+{
+    if let Some(level) = levels.level_of(found.rule()) {
+        problems.push(Problem::new(found, level))?;
+    }
+    Ok(())
+}
+
+fn with_levels<A: Allocator + Copy>(
+    alloc: A,
+    found: Vec<Found<A>, A>,
+    levels: &Levels,
+) -> Result<Vec<Problem<A>, A>, AllocError>
+    ensures { IfOk result (λ v. v.items ≡ filter_map (with_level (level_of levels.now)) found.items) }
+{
+    let mut problems = Vec::with_capacity(alloc, found.len())?;
+    for one in found {
+        push_with_level(&mut problems, one, levels)?;
+    }
+    Ok(problems)
+}
+
+/// The report of what was found: the problems of rules that are on and not silenced, with their
+/// levels, each once, by line, column, rule name and message. It takes memory once, for its answer.
+pub fn arrange<A: Allocator + Copy>(
+    alloc: A,
+    mut found: Vec<Found<A>, A>,
+    levels: &Levels,
+    silences: &Silences<A>,
+) -> Result<Vec<Problem<A>, A>, AllocError>
+    ensures { IfOk result (λ v. v.items ≡ arranged (level_of levels.now)
+        (file_silenced silences.now) (silenced silences.now) found.items) }
+{
+    if silences.is_file_silenced() {
+        return Ok(Vec::new(alloc));
+    }
+    found.retain(|one| is_reported(levels, silences, one));
+    sort_once(&mut found);
+    with_levels(alloc, found, levels)
+}

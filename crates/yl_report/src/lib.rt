@@ -1,0 +1,12 @@
+//! The report of a text: its problems in order, silenced and with levels; its status; its printed lines.
+#![tactic(auto)]
+
+mod arranging;
+mod printing;
+mod problem;
+mod silence;
+
+pub use arranging::{arrange, compare, one_arrangement};
+pub use printing::{WriteFault, write_parts, write_report};
+pub use problem::{Problem, status};
+pub use silence::Silences;

@@ -1,0 +1,245 @@
+ghost use Rattle.std.specs.Prelude.{◌≡◌, ◌-◌, ◌^◌, ◌<◌, [], ◌++◌, OnOk, OnErr, codes};
+ghost use Rattle.std.specs.List.{flat_map};
+ghost use Rattle.std.specs.Io.KnownBytes.{Appends};
+ghost use Rattle.yl_text.specs.Watched.{device_of, failures_of};
+ghost use Rattle.yl_report.specs.Written.{AppendsFront, Passes};
+ghost use Rattle.yl_report.specs.Report.{printed_line, shown, printed};
+
+use crate::problem::Problem;
+use arrayvec::ArrayVec;
+use itoa::Buffer;
+use std::alloc::Allocator;
+use std::io::Write;
+use yl_text::Watched;
+
+/// The writer failed.
+#[derive(Clone, Copy, Debug, PartialEq, Eq)]
+pub struct WriteFault;
+
+// Bytes that wait to be written, so that a write takes many of them.
+type Waiting = ArrayVec<u8, 4096>;
+
+// Writes all of a piece.
+fn write_piece<W: Write>(out: &mut Watched<W>, piece: &[u8]) -> Result<(), WriteFault>
+    requires { failures_of out.old < 2 ^ 64 - 1 }
+    ensures ok { OnOk result (Appends (W.contents (device_of out.old)) (W.contents (device_of out.new)) piece.now) }
+    ensures quiet { OnOk result (failures_of out.new ≡ failures_of out.old) }
+    ensures err { OnErr result (AppendsFront (W.contents (device_of out.old)) (W.contents (device_of out.new)) piece.now) }
+    ensures failed { OnErr result (failures_of out.old < failures_of out.new) }
+{
+    let mut done = 0;
+    while done < piece.len() {
+        match out.write(&piece[done..]) {
+            Ok(0) => return Err(WriteFault),
+            Ok(n) => done += n,
+            Err(_) => return Err(WriteFault),
+        }
+    }
+    Ok(())
+}
+
+// Writes what waits.
+fn flush<W: Write>(out: &mut Watched<W>, waiting: &mut Waiting) -> Result<(), WriteFault>
+    requires { failures_of out.old < 2 ^ 64 - 1 }
+    ensures ok { OnOk result (Appends (W.contents (device_of out.old)) (W.contents (device_of out.new)) waiting.old.items) }
+    ensures none_waits { OnOk result (waiting.new.items ≡ []) }
+    ensures quiet { OnOk result (failures_of out.new ≡ failures_of out.old) }
+    ensures err { OnErr result (AppendsFront (W.contents (device_of out.old)) (W.contents (device_of out.new)) waiting.old.items) }
+    ensures failed { OnErr result (failures_of out.old < failures_of out.new) }
+{
+    write_piece(out, waiting.as_slice())?;
+    waiting.clear();
+    Ok(())
+}
+
+// Puts a piece behind what waits, for which that goes out where there is no room. A piece that is
+// longer than all the room goes out at once.
+fn put<W: Write>(
+    out: &mut Watched<W>,
+    waiting: &mut Waiting,
+    piece: &[u8],
+) -> Result<(), WriteFault>
+    requires { failures_of out.old < 2 ^ 64 - 1 }
+    ensures ok { OnOk result (Passes (W.contents (device_of out.old)) (W.contents (device_of out.new))
+        waiting.old.items piece.now waiting.new.items) }
+    ensures quiet { OnOk result (failures_of out.new ≡ failures_of out.old) }
+    ensures err { OnErr result (AppendsFront (W.contents (device_of out.old)) (W.contents (device_of out.new))
+        (waiting.old.items ++ piece.now)) }
+    ensures failed { OnErr result (failures_of out.old < failures_of out.new) }
+{
+    if waiting.try_extend_from_slice(piece).is_ok() {
+        return Ok(());
+    }
+    flush(out, waiting)?;
+    if waiting.try_extend_from_slice(piece).is_err() {
+        write_piece(out, piece)?;
+    }
+    Ok(())
+}
+
+// Puts pieces behind what waits, one after another.
+fn put_parts<W: Write>(
+    out: &mut Watched<W>,
+    waiting: &mut Waiting,
+    parts: &[&[u8]],
+) -> Result<(), WriteFault>
+    requires { failures_of out.old < 2 ^ 64 - 1 }
+    ensures ok { OnOk result (Passes (W.contents (device_of out.old)) (W.contents (device_of out.new))
+        waiting.old.items (flat_map (λ part. part.now) parts.now) waiting.new.items) }
+    ensures quiet { OnOk result (failures_of out.new ≡ failures_of out.old) }
+    ensures err { OnErr result (AppendsFront (W.contents (device_of out.old)) (W.contents (device_of out.new))
+        (waiting.old.items ++ flat_map (λ part. part.now) parts.now)) }
+    ensures failed { OnErr result (failures_of out.old < failures_of out.new) }
+{
+    for part in parts {
+        put(out, waiting, part)?;
+    }
+    Ok(())
+}
+
+/// Writes pieces one after another, in as few writes as a buffer of 4,096 bytes allows. It takes no
+/// memory. On a fault, which is told only where the writer failed, a beginning of them is out.
+pub fn write_parts<W: Write>(out: &mut Watched<W>, parts: &[&[u8]]) -> Result<(), WriteFault>
+    requires { failures_of out.old < 2 ^ 64 - 1 }
+    ensures ok { OnOk result (Appends (W.contents (device_of out.old)) (W.contents (device_of out.new))
+        (flat_map (λ part. part.now) parts.now)) }
+    ensures quiet { OnOk result (failures_of out.new ≡ failures_of out.old) }
+    ensures err { OnErr result (AppendsFront (W.contents (device_of out.old)) (W.contents (device_of out.new))
+        (flat_map (λ part. part.now) parts.now)) }
+    ensures failed { OnErr result (failures_of out.old < failures_of out.new) }
+{
+    let mut waiting = Waiting::new();
+    put_parts(out, &mut waiting, parts)?;
+    flush(out, &mut waiting)
+}
+
+// The pieces of a printed line.
+fn parts_of<'a>(
+    name: &'a str,
+    line: &'a str,
+    column: &'a str,
+    level: &'a str,
+    message: &'a str,
+    rule: &'a str,
+) -> [&'a [u8]; 12]
+    ensures { flat_map (λ part. part.now) result
+        ≡ name.now ++ codes ":" ++ line.now ++ codes ":" ++ column.now ++ codes ": [" ++ level.now
+        ++ codes "] " ++ message.now ++ codes " (" ++ rule.now ++ codes ")\n" }
+{
+    // Each of these is lent for as long as the other pieces, which an array of them asks.
+    let colon: &'a [u8] = b":";
+    let opened: &'a [u8] = b": [";
+    let closed: &'a [u8] = b"] ";
+    let before_rule: &'a [u8] = b" (";
+    let end: &'a [u8] = b")\n";
+    [
+        name.as_bytes(),
+        colon,
+        line.as_bytes(),
+        colon,
+        column.as_bytes(),
+        opened,
+        level.as_bytes(),
+        closed,
+        message.as_bytes(),
+        before_rule,
+        rule.as_bytes(),
+        end,
+    ]
+}
+
+// Puts the printed line of a problem behind what waits.
+fn put_line<W: Write, A: Allocator>(
+    name: &str,
+    problem: &Problem<A>,
+    out: &mut Watched<W>,
+    waiting: &mut Waiting,
+) -> Result<(), WriteFault>
+    requires { failures_of out.old < 2 ^ 64 - 1 }
+    ensures ok { OnOk result (Passes (W.contents (device_of out.old)) (W.contents (device_of out.new))
+        waiting.old.items (printed_line name.now problem.now) waiting.new.items) }
+    ensures quiet { OnOk result (failures_of out.new ≡ failures_of out.old) }
+    ensures err { OnErr result (AppendsFront (W.contents (device_of out.old)) (W.contents (device_of out.new))
+        (waiting.old.items ++ printed_line name.now problem.now)) }
+    ensures failed { OnErr result (failures_of out.old < failures_of out.new) }
+{
+    let mut line = Buffer::new();
+    let mut column = Buffer::new();
+    let line = line.format(problem.line());
+    let column = column.format(problem.column());
+    let level = problem.level().name();
+    let rule = problem.rule().name();
+    put_parts(
+        out,
+        waiting,
+        &parts_of(name, line, column, level, problem.message(), rule),
+    )
+}
+
+// Puts what is printed of a problem behind what waits.
+fn put_problem<W: Write, A: Allocator>(
+    name: &str,
+    problem: &Problem<A>,
+    no_warnings: bool,
+    out: &mut Watched<W>,
+    waiting: &mut Waiting,
+) -> Result<(), WriteFault>
+    requires { failures_of out.old < 2 ^ 64 - 1 }
+    ensures ok { OnOk result (Passes (W.contents (device_of out.old)) (W.contents (device_of out.new))
+        waiting.old.items (shown name.now no_warnings problem.now) waiting.new.items) }
+    ensures quiet { OnOk result (failures_of out.new ≡ failures_of out.old) }
+    ensures err { OnErr result (AppendsFront (W.contents (device_of out.old)) (W.contents (device_of out.new))
+        (waiting.old.items ++ shown name.now no_warnings problem.now)) }
+    ensures failed { OnErr result (failures_of out.old < failures_of out.new) }
+{
+    let is_hidden = no_warnings && !problem.is_error();
+    if is_hidden {
+        Ok(())
+    } else {
+        put_line(name, problem, out, waiting)
+    }
+}
+
+// Puts what is printed of the problems behind what waits.
+fn put_problems<W: Write, A: Allocator>(
+    name: &str,
+    problems: &[Problem<A>],
+    no_warnings: bool,
+    out: &mut Watched<W>,
+    waiting: &mut Waiting,
+) -> Result<(), WriteFault>
+    requires { failures_of out.old < 2 ^ 64 - 1 }
+    ensures ok { OnOk result (Passes (W.contents (device_of out.old)) (W.contents (device_of out.new))
+        waiting.old.items (printed name.now problems.now no_warnings) waiting.new.items) }
+    ensures quiet { OnOk result (failures_of out.new ≡ failures_of out.old) }
+    ensures err { OnErr result (AppendsFront (W.contents (device_of out.old)) (W.contents (device_of out.new))
+        (waiting.old.items ++ printed name.now problems.now no_warnings)) }
+    ensures failed { OnErr result (failures_of out.old < failures_of out.new) }
+{
+    for problem in problems {
+        put_problem(name, problem, no_warnings, out, waiting)?;
+    }
+    Ok(())
+}
+
+/// Writes the printed lines of the problems, without the warnings if so asked, in as few writes as a
+/// buffer of 4,096 bytes allows. It takes no memory. On a fault, which is told only where the writer
+/// failed, a beginning of them is out.
+pub fn write_report<W: Write, A: Allocator>(
+    name: &str,
+    problems: &[Problem<A>],
+    no_warnings: bool,
+    out: &mut Watched<W>,
+) -> Result<(), WriteFault>
+    requires { failures_of out.old < 2 ^ 64 - 1 }
+    ensures ok { OnOk result (Appends (W.contents (device_of out.old)) (W.contents (device_of out.new))
+        (printed name.now problems.now no_warnings)) }
+    ensures quiet { OnOk result (failures_of out.new ≡ failures_of out.old) }
+    ensures err { OnErr result (AppendsFront (W.contents (device_of out.old)) (W.contents (device_of out.new))
+        (printed name.now problems.now no_warnings)) }
+    ensures failed { OnErr result (failures_of out.old < failures_of out.new) }
+{
+    let mut waiting = Waiting::new();
+    put_problems(name, problems, no_warnings, out, &mut waiting)?;
+    flush(out, &mut waiting)
+}

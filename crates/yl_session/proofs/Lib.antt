@@ -1,0 +1,4 @@
+pub mod Findings
+pub mod FirstLine
+pub mod Goes
+pub mod Nothing

@@ -1,0 +1,11 @@
+//! The report of a text, and of a text that is kept open and edited.
+#![tactic(auto)]
+
+mod cutting;
+mod replaying;
+mod report;
+mod session;
+
+pub use replaying::{Edit, replay};
+pub use report::{report_of, report_of_text};
+pub use session::{Session, Work, one_state};

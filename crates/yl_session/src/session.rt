@@ -1,0 +1,202 @@
+//! A text that is kept open, with its report.
+ghost use Rattle.std.specs.Prelude.{◌≡◌, ◌<◌, ◌≤◌, ◌^◌, ◌↔◌, IsTrue, length, slice_get, Some, Ok, MatchResult, IfOk, OnOk, OnErr};
+ghost use Rattle.std.specs.List.{splice};
+ghost use Rattle.yl_text.specs.Lines.{Piece};
+ghost use Rattle.yl_text.specs.Fault.{IsText, IsFaultOf};
+ghost use Rattle.yl_text.specs.Store.{AreLines, IsRange};
+ghost use Rattle.yl_text.specs.Edit.{CanEdit, edited, incoming_lines};
+ghost use Rattle.yl_session.specs.State.{OneState};
+ghost use Rattle.yl_session.specs.Runs.{IsNothing};
+
+use crate::report::report_of;
+use std::alloc::{AllocError, Allocator};
+use std::marker::Model;
+use yl_config::Config;
+use yl_report::{Problem, status};
+use yl_text::{LineStore, Patched, Row, TextFault, split};
+
+/// What an edit took: how many rows were turned into lexemes, and of how many documents events were
+/// derived.
+#[derive(Clone, Copy, Debug, PartialEq, Eq)]
+pub struct Work {
+    pub scanned: u32,
+    pub documents: u32,
+}
+
+/// The lines of a text, and their report under a configuration.
+#[derive(Drop)]
+pub struct Session<S: LineStore> {
+    alloc: S::Alloc,
+    config: Config,
+    store: S,
+    problems: Vec<Problem<S::Alloc>, S::Alloc>,
+}
+
+impl<S: LineStore> Model for Session<S> {
+    ghost use Rattle.std.specs.Prelude.{◌≡◌};
+    ghost use Rattle.yl_session.specs.State.{State};
+    ghost use Rattle.yl_session.specs.TextReport.{report};
+    ghost use Rattle.yl_text.specs.Store.{AreLines};
+
+    ghost Value = { State };
+
+    ghost view = { λ s. record { config = s.config; rows = S.rows s.store; problems = s.problems.items } };
+
+    ghost invariant = { λ s. AreLines (S.rows s.store) × (s.problems.items ≡ report s.config (S.rows s.store)) };
+}
+
+impl<S: LineStore> Session<S> {
+    ghost use Rattle.yl_session.specs.State.{Shows};
+    ghost use Rattle.yl_session.specs.TextReport.{report};
+    ghost use Rattle.yl_report.specs.Report.{status_of};
+    ghost use Rattle.yl_session.specs.Runs.{IsAnswer, no_work};
+
+    /// A session over these bytes.
+    pub fn open(alloc: S::Alloc, config: Config, bytes: &[u8]) -> Result<Session<S>, TextFault>
+        ensures text { MatchResult result (λ _. IsText bytes.now) (λ fault. IsFaultOf bytes.now fault) }
+        ensures shown { IfOk result (λ session. Shows config bytes.now session) }
+    {
+        let mut rows = split(alloc, bytes)?;
+        let Ok(store) = S::from_rows(&mut rows) else {
+            return Err(TextFault::Memory);
+        };
+        let Ok(problems) = report_of(alloc, &config, &store) else {
+            return Err(TextFault::Memory);
+        };
+        Ok(Session {
+            alloc,
+            config,
+            store,
+            problems,
+        })
+    }
+
+    /// How many lines the text has.
+    pub fn len(&self) -> usize
+        ensures len { result ≡ length self.now.rows }
+        ensures lines { AreLines self.now.rows }
+    {
+        self.store.len()
+    }
+
+    /// A line without its break, counted from 0.
+    pub fn line(&self, i: usize) -> &str
+        requires { i < length self.now.rows }
+        ensures { (p : Piece) → slice_get self.now.rows i ≡ Some p → result.now ≡ p.text }
+    {
+        self.store.row(i).as_str()
+    }
+
+    /// The report of the text.
+    pub fn problems(&self) -> &[Problem<S::Alloc>]
+        ensures shown { result.now ≡ self.now.problems }
+        ensures report { self.now.problems ≡ report self.now.config self.now.rows }
+    {
+        self.problems.as_slice()
+    }
+
+    /// 1 if the report has an error, else 2 if it has a warning and `strict` is asked, else 0.
+    pub fn status(&self, strict: bool) -> u8
+        ensures { result ≡ status_of (report self.now.config self.now.rows) strict }
+    {
+        status(self.problems.as_slice(), strict)
+    }
+
+    /// Puts these rows in place of the lines a to b. All memory is taken before the first change.
+    fn change(
+        &mut self,
+        a: usize,
+        b: usize,
+        rows: &mut Vec<Row<S::Alloc>, S::Alloc>,
+    ) -> Result<(), AllocError>
+        requires range { IsRange a b (length self.old.rows) }
+        requires lines { AreLines (splice self.old.rows a b rows.old.items) }
+        ensures config { self.new.config ≡ self.old.config }
+        ensures rows { OnOk result (self.new.rows ≡ splice self.old.rows a b rows.old.items) }
+        ensures problems { OnOk result (self.new.problems ≡ report self.new.config self.new.rows) }
+        ensures err { OnErr result (self.new ≡ self.old) }
+    {
+        let problems = {
+            let patched = Patched::new(&self.store, a, b, rows.as_slice());
+            report_of(self.alloc, &self.config, &patched)?
+        };
+        self.store.splice(a, b, rows)?;
+        self.problems = problems;
+        Ok(())
+    }
+
+    /// Puts the bytes in place of the lines a to b, where that is no fault.
+    fn put(&mut self, a: usize, b: usize, bytes: &[u8]) -> Result<(), AllocError>
+        requires { CanEdit self.old.rows a b bytes.now }
+        ensures ok { OnOk result (Shows self.old.config (edited self.old.rows a b bytes.now) self.new) }
+        ensures err { OnErr result (self.new ≡ self.old) }
+    {
+        let before = b < self.store.len();
+        let Ok(mut rows) = incoming(self.alloc, before, bytes) else {
+            return Err(AllocError);
+        };
+        self.change(a, b, &mut rows)
+    }
+
+    /// Puts the bytes in place of the lines a to b, counted from 0, b not included. Where this is refused
+    /// nothing changes. An edit of no line by no bytes takes no memory.
+    pub fn edit(&mut self, a: u64, b: u64, bytes: &[u8]) -> Result<Work, TextFault>
+        ensures answer { IsAnswer self.old.rows a b bytes.now result }
+        ensures done { OnOk result (Shows self.old.config (edited self.old.rows a b bytes.now) self.new) }
+        ensures refused { OnErr result (self.new ≡ self.old) }
+        ensures nothing { a < length self.old.rows → IsNothing a b bytes.now → (result ≡ Ok no_work) × (self.new ≡ self.old) }
+    {
+        let (a, b) = (a as usize, b as usize);
+        if let Err(fault) = self.store.check(a, b, bytes) {
+            return Err(fault);
+        }
+        if is_nothing(a, b, bytes) {
+            return Ok(Work {
+                scanned: 0,
+                documents: 0,
+            });
+        }
+        match self.put(a, b, bytes) {
+            Ok(()) => Ok(Work {
+                scanned: self.lines(),
+                documents: 0,
+            }),
+            Err(AllocError) => Err(TextFault::Memory),
+        }
+    }
+
+    /// How many lines the text has, which is no more than its bytes and one.
+    fn lines(&self) -> u32
+        ensures { result ≡ length self.now.rows }
+    {
+        self.len() as u32
+    }
+}
+
+/// A law: what a session shows follows from its configuration and its text alone. So after any edits it is
+/// what a session shows that is opened over the text that they left.
+pub fn one_state()
+    ensures { OneState }
+{}
+
+/// Whether no line is replaced by no bytes.
+fn is_nothing(a: usize, b: usize, bytes: &[u8]) -> bool
+    ensures { IsTrue result ↔ IsNothing a b bytes.now }
+{
+    a == b && bytes.is_empty()
+}
+
+/// The lines of bytes that are put before a line, or at the end.
+fn incoming<A: Allocator + Copy>(
+    alloc: A,
+    before: bool,
+    bytes: &[u8],
+) -> Result<Vec<Row<A>, A>, TextFault>
+    ensures { IfOk result (λ rows. rows.items ≡ incoming_lines before bytes.now) }
+{
+    let mut rows = split(alloc, bytes)?;
+    if before {
+        rows.pop();
+    }
+    Ok(rows)
+}
