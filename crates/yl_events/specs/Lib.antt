@@ -1,0 +1,9 @@
+pub mod Documents
+pub mod Keys
+pub mod Counted
+pub mod Marks
+pub mod Grammar
+pub mod Events
+pub mod Machine
+pub mod Derives
+pub mod Answer
