@@ -11,7 +11,7 @@ use Rattle.yl_events.specs.declared.symbol.Properties.TheVariants.{Anchored, Tag
 use Rattle.yl_events.specs.Grammar.{Inline, Items, Item, Node, Entries, Value, Pairs, Keyed, Document, AliasNode, PropertiesNode, ScalarNode, Flow, NoItem, LastItem, MoreItems, NodeItem, PairItem, KeyItem, KeyValueItem, ValueItem, Missing, InlineNode, BlockSequence, BlockMapping, NoEntry, MoreEntries, NodeValue, Indentless, ValueEntry, Others, NoPair, PairEntry, KeyEntry, KeyValueEntry, Start, Bare, Marked, optional, inline, items, item, node, entries, value, pairs, keyed, directives, start, ending, spelling, closing}
 use Rattle.yl_events.specs.declared.symbol.Outline.{Outline}
 use Rattle.yl_events.specs.declared.symbol.Shape.TheVariants.{DocumentStart, SequenceEnd, MappingEnd, Empty}
-use Rattle.yl_events.specs.Events.{bare, decorated, missing, ended, flow_end, pair_start, pair_end, node_end, ◌then◌, inline_events, items_events, item_events, node_events, entries_events, value_events, pairs_events, keyed_events, events}
+use Rattle.yl_events.specs.Outlines.{bare, decorated, missing, ended, flow_end, pair_start, pair_end, node_end, ◌then◌, inline_events, items_events, item_events, node_events, entries_events, value_events, pairs_events, keyed_events, events}
 use Rattle.yl_events.specs.Derives.{Derives}
 use Rattle.yl_events.specs.declared.symbol.Goal.TheVariants as g
 use Rattle.yl_events.specs.Machine as m

@@ -4,7 +4,7 @@ use Rattle.std.proofs.Common.{sym, ◌∙◌, ap, append_assoc, append-nil}
 use Rattle.std.proofs.lemmas.List.{reverse-append}
 use Rattle.yl_events.specs.declared.symbol.Outline.{Outline}
 use Rattle.yl_events.specs.declared.symbol.Goal.{Goal}
-use Rattle.yl_events.specs.Events.{◌then◌}
+use Rattle.yl_events.specs.Outlines.{◌then◌}
 use Rattle.yl_events.specs.Machine.{Turn, Taken, followed}
 
 pub then_append : (out es : List Outline) → out then es ≡ out ++ es

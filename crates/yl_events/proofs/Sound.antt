@@ -10,7 +10,7 @@ use Rattle.yl_events.specs.declared.symbol.Properties.{Properties}
 use Rattle.yl_events.specs.declared.symbol.Properties.TheVariants.{Anchored, Tagged, AnchoredTagged, TaggedAnchored}
 use Rattle.yl_events.specs.Grammar.{Inline, Items, Item, Node, Entries, Value, Pairs, Document, AliasNode, PropertiesNode, ScalarNode, Flow, NoItem, LastItem, MoreItems, NodeItem, PairItem, KeyItem, KeyValueItem, ValueItem, Missing, InlineNode, BlockSequence, BlockMapping, NoEntry, MoreEntries, NodeValue, Indentless, ValueEntry, Others, NoPair, PairEntry, KeyEntry, KeyValueEntry, Start, Bare, Marked, optional, inline, items, item, node, entries, value, pairs, directives, start, ending, spelling, closing}
 use Rattle.yl_events.specs.declared.symbol.Outline.{Outline}
-use Rattle.yl_events.specs.Events.{◌then◌}
+use Rattle.yl_events.specs.Outlines.{◌then◌}
 use Rattle.yl_events.specs.declared.symbol.Goal.TheVariants as g
 use Rattle.yl_events.specs.Machine as m
 use Rattle.yl_events.specs.declared.symbol.Where.{Where}

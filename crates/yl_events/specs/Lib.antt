@@ -3,7 +3,10 @@ pub mod Keys
 pub mod Counted
 pub mod Marks
 pub mod Grammar
-pub mod Events
+pub mod Outlines
 pub mod Machine
 pub mod Derives
 pub mod Answer
+pub mod Faults
+pub mod Event
+pub mod Built

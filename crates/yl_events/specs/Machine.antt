@@ -9,7 +9,7 @@ use Rattle.yl_events.specs.declared.symbol.Properties.{Properties}
 use Rattle.yl_events.specs.declared.symbol.Properties.TheVariants.{Anchored, Tagged, AnchoredTagged, TaggedAnchored}
 use Rattle.yl_events.specs.declared.symbol.Outline.{Outline}
 use Rattle.yl_events.specs.declared.symbol.Shape.TheVariants.{DocumentStart, DocumentEnd, SequenceStart, SequenceEnd, MappingStart, MappingEnd, Alias, Scalar, Empty}
-use Rattle.yl_events.specs.Events.{bare, decorated, missing, ended, pair_start, pair_end, node_end, ◌then◌}
+use Rattle.yl_events.specs.Outlines.{bare, decorated, missing, ended, pair_start, pair_end, node_end, ◌then◌}
 use Rattle.yl_events.specs.declared.symbol.Where.{Where}
 use Rattle.yl_events.specs.declared.symbol.Where.TheVariants.{InInline, InBlock}
 use Rattle.yl_events.specs.declared.symbol.Goal.{Goal}

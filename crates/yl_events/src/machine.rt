@@ -1,10 +1,9 @@
 //! The parser: a stack of goals over the marked lexemes.
 
-ghost use Rattle.std.specs.Prelude.{◌≡◌, ◌++◌, [], ◌∷◌, IsSome, ℕ, Bool, true, false, List, reverse, IfOk, OnOk, MatchOption};
-ghost use Rattle.yl_events.specs.Events.{bare, missing, ended, decorated, pair_start, pair_end, node_end, ◌then◌};
+ghost use Rattle.std.specs.Prelude.{◌≡◌, ◌++◌, [], ◌∷◌, IsSome, true, reverse, IfOk, OnOk};
+ghost use Rattle.yl_events.specs.Outlines.{bare, missing, ended, decorated, pair_start, pair_end, node_end, ◌then◌};
 ghost use Rattle.yl_events.specs.Machine.{with_anchor, with_tag, takes, forms, items_take, closes, leaves, followed, step, finish, run, taken, Taken, Left, Stepped, Finished};
 ghost use Rattle.yl_events.specs.Answer.{IsParsed, Answers};
-ghost use Rattle.yl_events.specs.Derives.{Derives, HasFaultAt};
 ghost use Rattle.yl_events.specs.declared.symbol.Where.TheVariants.{InInline};
 ghost use Rattle.yl_events.specs.declared.symbol.Goal.TheVariants.{ItemEnd, NodeEnd};
 
@@ -605,23 +604,9 @@ fn run<A: Allocator + Copy>(alloc: A, symbols: &[Symbol]) -> Result<(Vec<Outline
 }
 
 /// The outlines of a document's marked lexemes, or the place of the fault.
-#[tactic(auto, using(crate::proofs::Laws::answered))]
+#[tactic(auto, using(crate::proofs::Answered::answered))]
 pub fn parse<A: Allocator + Copy>(alloc: A, symbols: &[Symbol]) -> Result<(Vec<Outline, A>, Option<usize>), AllocError>
     ensures { IfOk result (λ r. Answers symbols.now r.0.items r.1) }
 {
     run(alloc, symbols)
 }
-
-/// A document has at most one list of events.
-#[tactic(auto, using(crate::proofs::Complete::one_derivation))]
-pub fn one_derivation()
-    ensures { (ws : List Symbol) (es fs : List Outline) → Derives ws es → Derives ws fs → es ≡ fs }
-{}
-
-/// And it has one fault at the most, and none where it has events.
-#[tactic(auto, using(crate::proofs::Laws::one_fault, crate::proofs::Laws::no_fault))]
-pub fn one_fault()
-    ensures one { (ws : List Symbol) (i j : ℕ) → HasFaultAt ws i → HasFaultAt ws j → i ≡ j }
-    ensures none { (ws : List Symbol) (es : List Outline) (i : ℕ) → Derives ws es → HasFaultAt ws i → ⊥ }
-{}
-

@@ -6,13 +6,16 @@ use Rattle.yl_events.specs.declared.symbol.Symbol.{Symbol}
 use Rattle.yl_events.specs.declared.symbol.Symbol.TheVariants.{One}
 use Rattle.yl_events.specs.declared.symbol.Outline.{Outline}
 use Rattle.yl_events.specs.declared.symbol.Shape.TheVariants.{DocumentStart}
-use Rattle.yl_events.specs.Events.{bare, events}
+use Rattle.yl_events.specs.Outlines.{bare, events}
 use Rattle.yl_events.specs.Derives.{Derives, BeginsDerivation, HasFaultAt, front, lexeme_count}
 use Rattle.yl_events.specs.Machine as m
 use Rattle.yl_events.specs.declared.symbol.Goal.{Goal}
 use Rattle.yl_events.specs.Machine.{State, step, finish, run, parse, taken, fault_place}
 use Rattle.yl_events.specs.Answer.{IsParsed, Answers}
-use Rattle.yl_events.proofs.Complete.{parsed}
+use Rattle.yl_events.proofs.Complete.{parsed, one_derivation}
+use Rattle.yl_events.specs.Event.{EventValue, AreEvents, filled}
+use Rattle.yl_scan.specs.Lexeme.{LexemeValue}
+use Rattle.std.specs.Prelude.{map}
 use Rattle.yl_events.proofs.Sound.{Forest, forest, Fills, Stepped, Ran, step_back, leasts, run_back, document_of}
 
 unclosed : (r : Option (List Outline)) (ws : List Symbol) → Ran m.goals_of_document ws r → (es : List Outline) → m.closed r ≡ Some es → Fills m.goals_of_document ws
@@ -135,3 +138,7 @@ no_fault ws es i d a = ⊎_elim (λ h. let r = front_of (suc i) ws in a.within h
 pub answered : (ws : List Symbol) (es : List Outline) (p : Option ℕ) → IsParsed ws es p → Answers ws es p
 answered ws es None e = sound ws es e
 answered ws es (Some place) e = subst (HasFaultAt ws) (sym e.1) (fault ws e.0)
+
+-- a document has one list of events
+pub one_list : (xs : List LexemeValue) (es fs : List EventValue) → AreEvents xs es → AreEvents xs fs → es ≡ fs
+one_list xs es fs a b = a.filled ∙ ap (map (filled xs)) (one_derivation _ a.outlines b.outlines a.derived b.derived) ∙ sym b.filled

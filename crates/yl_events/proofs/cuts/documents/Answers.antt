@@ -1,7 +1,7 @@
 use Rattle.std.proofs.Common.{◌≡◌, ◌-◌, ◌∷◌, ◌∙◌, ap, sym, true, false, map, drop, reverse, length, suc, arith}
 use Rattle.yl_events.specs.Documents.{starts_marked}
-use Rattle.yl_events.proofs.Cuts.{cuts_from, none_at_end, unmarked_at_end, kind_at, marked_step, cut_step, one_more, beginnings_of, not_empty}
-use Rattle.yl_events.proofs.documents.documents.Goals as goal
+use Rattle.yl_events.proofs.Cutting.{cuts_from, none_at_end, unmarked_at_end, kind_at, marked_step, cut_step, one_more, beginnings_of, not_empty}
+use Rattle.yl_events.proofs.cuts.documents.Goals as goal
 
 pub loop-i-init : goal.loop-i-init
 loop-i-init g c = record { marked = unmarked_at_end _ c.args.lexemes.now; starts = c.new-starts.ensures.items ∙ none_at_end _ c.args.lexemes.now }

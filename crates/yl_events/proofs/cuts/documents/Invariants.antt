@@ -1,7 +1,7 @@
 use Rattle.std.proofs.Common.{◌≡◌, ◌-◌, map, length, drop, reverse}
 use Rattle.yl_events.specs.Documents.{starts_marked}
-use Rattle.yl_events.proofs.Cuts.{cuts_from}
-use Rattle.yl_events.proofs.documents.documents.Given as goal
+use Rattle.yl_events.proofs.Cutting.{cuts_from}
+use Rattle.yl_events.proofs.cuts.documents.Given as goal
 
 abbrev pub invariant-loop-i : goal.invariant-loop-i
 invariant-loop-i g l = record {
