@@ -10,3 +10,4 @@ pub mod Answer
 pub mod Faults
 pub mod Event
 pub mod Built
+pub mod Rows

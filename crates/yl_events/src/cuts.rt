@@ -29,7 +29,10 @@ fn starts_marked(kind: Kind, is_marked: bool) -> bool
 }
 
 /// The index of the lexeme with which each document of a text begins. The only error is memory.
-pub fn documents<A: Allocator + Copy>(alloc: A, lexemes: &[At<'_, A>]) -> Result<Vec<usize, A>, AllocError>
+pub fn documents<A: Allocator + Copy>(
+    alloc: A,
+    lexemes: &[At<'_, A>],
+) -> Result<Vec<usize, A>, AllocError>
     ensures { IfOk result (λ v. v.items ≡ beginnings (map (λ x. x.lexeme.now.kind) lexemes.now)) }
 {
     let mut starts = Vec::new(alloc);

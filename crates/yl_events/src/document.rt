@@ -22,7 +22,11 @@ use yl_text::Pos;
 fn value_at<'a, A: Allocator>(lexemes: &[At<'a, A>], i: usize) -> &'a str
     ensures { result.now ≡ value_at (map (λ x. placed x.line x.lexeme.now) lexemes.now) i }
 {
-    if i < lexemes.len() { lexemes[i].lexeme.value() } else { "" }
+    if i < lexemes.len() {
+        lexemes[i].lexeme.value()
+    } else {
+        ""
+    }
 }
 
 /// Where the lexeme of this index begins in the text.
@@ -48,7 +52,11 @@ fn content_value<'a, A: Allocator>(lexemes: &[At<'a, A>], place: Option<usize>) 
     }
 }
 
-fn kind_of<'a, A: Allocator>(lexemes: &[At<'a, A>], shape: Shape, place: Option<usize>) -> EventKind<'a>
+fn kind_of<'a, A: Allocator>(
+    lexemes: &[At<'a, A>],
+    shape: Shape,
+    place: Option<usize>,
+) -> EventKind<'a>
     ensures { kind_value result ≡ kind_of (map (λ x. placed x.line x.lexeme.now) lexemes.now) shape place }
 {
     match shape {
@@ -102,7 +110,10 @@ fn fill_all<'a, A: Allocator + Copy>(
 }
 
 /// The events of a document, or its fault.
-fn build<'a, A: Allocator + Copy>(alloc: A, lexemes: &[At<'a, A>]) -> Result<Built<'a, A>, AllocError>
+fn build<'a, A: Allocator + Copy>(
+    alloc: A,
+    lexemes: &[At<'a, A>],
+) -> Result<Built<'a, A>, AllocError>
     ensures { IfOk result (λ b. Builds (map (λ x. placed x.line x.lexeme.now) lexemes.now) (map event_value b.events.items) b.fault) }
 {
     let pieces = pieces(alloc, lexemes)?;

@@ -1,10 +1,9 @@
 //! Events: YAML 1.2.2, 3.1.1.
 
+use crate::fault::Fault;
 use std::alloc::Allocator;
 use yl_scan::Style;
 use yl_text::Pos;
-
-use crate::fault::Fault;
 
 /// What an event is. An alias has its name; a scalar its style and its value, which of a block scalar is empty.
 #[derive(Clone, Copy, Debug, PartialEq, Eq)]

@@ -56,7 +56,11 @@ fn depth_behind(depth: usize, symbol: Symbol) -> usize
 }
 
 /// Opens and closes at a symbol; answers how many brackets are open.
-fn pass<A: Allocator>(symbol: Symbol, depth: usize, blocks: &mut Vec<Block, A>) -> Result<usize, AllocError>
+fn pass<A: Allocator>(
+    symbol: Symbol,
+    depth: usize,
+    blocks: &mut Vec<Block, A>,
+) -> Result<usize, AllocError>
     requires { depth < 2 ^ 64 - 1 }
     ensures blocks { OnOk result (reverse blocks.new.items ≡ (open_behind (record { depth = depth; blocks = reverse blocks.old.items }) symbol).blocks) }
     ensures depth { IfOk result (λ d. d ≡ depth_behind depth symbol) }
@@ -68,7 +72,10 @@ fn pass<A: Allocator>(symbol: Symbol, depth: usize, blocks: &mut Vec<Block, A>) 
 }
 
 /// How many brackets are open behind these, and the open block collections.
-fn open_after<A: Allocator + Copy>(alloc: A, before: &[Symbol]) -> Result<(usize, Vec<Block, A>), AllocError>
+fn open_after<A: Allocator + Copy>(
+    alloc: A,
+    before: &[Symbol],
+) -> Result<(usize, Vec<Block, A>), AllocError>
     ensures { IfOk result (λ r. open_after (record { depth = 0; blocks = [] }) before.now ≡ record { depth = r.0; blocks = reverse r.1.items }) }
 {
     let mut blocks = Vec::new(alloc);
@@ -204,7 +211,11 @@ fn is_twice(before: &[Symbol], behind: &[Symbol]) -> bool
 }
 
 /// The fault by the innermost open collection.
-fn fault_in<A: Allocator + Copy>(alloc: A, before: &[Symbol], behind: &[Symbol]) -> Result<ParseFault, AllocError>
+fn fault_in<A: Allocator + Copy>(
+    alloc: A,
+    before: &[Symbol],
+    behind: &[Symbol],
+) -> Result<ParseFault, AllocError>
     ensures { IfOk result (λ f. f ≡ fault_in (open_after (record { depth = 0; blocks = [] }) before.now) behind.now) }
 {
     let (depth, mut blocks) = open_after(alloc, before)?;
@@ -216,7 +227,11 @@ fn fault_in<A: Allocator + Copy>(alloc: A, before: &[Symbol], behind: &[Symbol])
 }
 
 /// The fault of a document whose fault stands at the lexeme of this index.
-pub fn fault_kind<A: Allocator + Copy>(alloc: A, symbols: &[Symbol], place: usize) -> Result<ParseFault, AllocError>
+pub fn fault_kind<A: Allocator + Copy>(
+    alloc: A,
+    symbols: &[Symbol],
+    place: usize,
+) -> Result<ParseFault, AllocError>
     ensures { IfOk result (λ f. f ≡ fault_of symbols.now place) }
 {
     let n = front_len(place, symbols);

@@ -186,7 +186,11 @@ fn piece<A: Allocator>(at: &At<'_, A>, depth: usize, content: usize, before: &[P
 
 /// Opens and closes brackets at a lexeme with which there are so many. The brackets go by such counts. Answers the count
 /// of the first lexeme of the content that ends with this one; 0 where none does.
-fn follow<A: Allocator>(kind: Kind, count: usize, openings: &mut Vec<usize, A>) -> Result<usize, AllocError>
+fn follow<A: Allocator>(
+    kind: Kind,
+    count: usize,
+    openings: &mut Vec<usize, A>,
+) -> Result<usize, AllocError>
     ensures openings { OnOk result (reverse openings.new.items ≡ counts_behind kind count (reverse openings.old.items)) }
     ensures content { IfOk result (λ content. content ≡ content_behind kind count (reverse openings.old.items)) }
 {
@@ -205,7 +209,10 @@ fn follow<A: Allocator>(kind: Kind, count: usize, openings: &mut Vec<usize, A>) 
 }
 
 /// The lexemes with what those before say of each.
-pub fn pieces<A: Allocator + Copy>(alloc: A, lexemes: &[At<'_, A>]) -> Result<Vec<Piece, A>, AllocError>
+pub fn pieces<A: Allocator + Copy>(
+    alloc: A,
+    lexemes: &[At<'_, A>],
+) -> Result<Vec<Piece, A>, AllocError>
     ensures { IfOk result (λ v. v.items ≡ pieces [] (map (λ x. placed x.line x.lexeme.now) lexemes.now)) }
 {
     let mut pieces = Vec::new(alloc);

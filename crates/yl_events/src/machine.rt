@@ -7,7 +7,7 @@ ghost use Rattle.yl_events.specs.Answer.{IsParsed, Answers};
 ghost use Rattle.yl_events.specs.declared.symbol.Where.TheVariants.{InInline};
 ghost use Rattle.yl_events.specs.declared.symbol.Goal.TheVariants.{ItemEnd, NodeEnd};
 
-use crate::symbol::{Bracket, Outline, Shape, Goal, Properties, Symbol, Where};
+use crate::symbol::{Bracket, Goal, Outline, Properties, Shape, Symbol, Where};
 use std::alloc::{AllocError, Allocator};
 use yl_scan::Kind;
 
@@ -205,7 +205,11 @@ fn closes<A: Allocator>(
 }
 
 /// The beginning of a pair in a flow collection.
-fn start_pair<A: Allocator>(bracket: Bracket, i: usize, events: &mut Vec<Outline, A>) -> Result<(), AllocError>
+fn start_pair<A: Allocator>(
+    bracket: Bracket,
+    i: usize,
+    events: &mut Vec<Outline, A>,
+) -> Result<(), AllocError>
     ensures { OnOk result (events.new.items ≡ events.old.items then pair_start bracket i) }
 {
     match bracket {
@@ -551,7 +555,11 @@ fn leave<A: Allocator>(goal: Goal, events: &mut Vec<Outline, A>) -> Result<bool,
 }
 
 /// Takes a symbol: goals on top that may be left are left until one takes it.
-fn step<A: Allocator>(symbol: Symbol, goals: &mut Vec<Goal, A>, events: &mut Vec<Outline, A>) -> Result<bool, AllocError>
+fn step<A: Allocator>(
+    symbol: Symbol,
+    goals: &mut Vec<Goal, A>,
+    events: &mut Vec<Outline, A>,
+) -> Result<bool, AllocError>
     ensures { IfOk result (λ taken. Stepped (step (reverse goals.old.items) events.old.items symbol) taken goals.new.items events.new.items) }
 {
     while let Some(goal) = goals.pop() {
@@ -566,7 +574,10 @@ fn step<A: Allocator>(symbol: Symbol, goals: &mut Vec<Goal, A>, events: &mut Vec
 }
 
 /// Leaves all goals, where they may be left.
-fn finish<A: Allocator>(goals: &mut Vec<Goal, A>, events: &mut Vec<Outline, A>) -> Result<bool, AllocError>
+fn finish<A: Allocator>(
+    goals: &mut Vec<Goal, A>,
+    events: &mut Vec<Outline, A>,
+) -> Result<bool, AllocError>
     ensures { IfOk result (λ whole. Finished (finish (reverse goals.old.items) events.old.items) whole events.new.items) }
 {
     while let Some(goal) = goals.pop() {
@@ -578,7 +589,10 @@ fn finish<A: Allocator>(goals: &mut Vec<Goal, A>, events: &mut Vec<Outline, A>) 
 }
 
 /// The outlines of a document, and the index of the lexeme at which no derivation is left, where there is one.
-fn run<A: Allocator + Copy>(alloc: A, symbols: &[Symbol]) -> Result<(Vec<Outline, A>, Option<usize>), AllocError>
+fn run<A: Allocator + Copy>(
+    alloc: A,
+    symbols: &[Symbol],
+) -> Result<(Vec<Outline, A>, Option<usize>), AllocError>
     ensures { IfOk result (λ r. IsParsed symbols.now r.0.items r.1) }
 {
     let mut goals = vec![in alloc;
@@ -605,7 +619,10 @@ fn run<A: Allocator + Copy>(alloc: A, symbols: &[Symbol]) -> Result<(Vec<Outline
 
 /// The outlines of a document's marked lexemes, or the place of the fault.
 #[tactic(auto, using(crate::proofs::Answered::answered))]
-pub fn parse<A: Allocator + Copy>(alloc: A, symbols: &[Symbol]) -> Result<(Vec<Outline, A>, Option<usize>), AllocError>
+pub fn parse<A: Allocator + Copy>(
+    alloc: A,
+    symbols: &[Symbol],
+) -> Result<(Vec<Outline, A>, Option<usize>), AllocError>
     ensures { IfOk result (λ r. Answers symbols.now r.0.items r.1) }
 {
     run(alloc, symbols)

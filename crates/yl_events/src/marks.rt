@@ -101,7 +101,9 @@ fn open<A: Allocator>(
 fn note_key(begins: &mut [bool], key: Option<usize>)
     ensures { (i : ℕ) → i < length begins.old → slice_index_or begins.new i false ≡ (slice_index_or begins.old i false || is_at i key) }
 {
-    if let Some(i) = key && i < begins.len() {
+    if let Some(i) = key
+        && i < begins.len()
+    {
         begins[i] = true;
     }
 }
@@ -141,7 +143,10 @@ fn mark_one<A: Allocator>(
 }
 
 /// The lexemes of a document with their marks.
-pub fn symbols<A: Allocator + Copy>(alloc: A, pieces: &[Piece]) -> Result<Vec<Symbol, A>, AllocError>
+pub fn symbols<A: Allocator + Copy>(
+    alloc: A,
+    pieces: &[Piece],
+) -> Result<Vec<Symbol, A>, AllocError>
     ensures { IfOk result (λ v. v.items ≡ marks pieces.now [] 0 pieces.now) }
 {
     let keys = key_table(alloc, pieces)?;
@@ -170,15 +175,25 @@ fn column_at(pieces: &[Piece], i: usize) -> u32
 }
 
 /// The same marks, where whether a key unit begins at a lexeme stands with the lexeme.
-fn as_marked<A: Allocator>(alloc: A, pieces: &[Piece], symbols: &[Symbol]) -> Result<Vec<Marked, A>, AllocError>
+fn as_marked<A: Allocator>(
+    alloc: A,
+    pieces: &[Piece],
+    symbols: &[Symbol],
+) -> Result<Vec<Marked, A>, AllocError>
     ensures { IfOk result (λ v. v.items ≡ as_marked pieces.now false symbols.now) }
 {
     let mut marked = Vec::new(alloc);
     let mut begins_key = false;
     for symbol in symbols {
         match *symbol {
-            Symbol::OpenSequence(i) => marked.push(Marked::Open(Collection::Sequence, column_at(pieces, i)))?,
-            Symbol::OpenMapping(i) => marked.push(Marked::Open(Collection::Mapping, column_at(pieces, i)))?,
+            Symbol::OpenSequence(i) => marked.push(Marked::Open(
+                Collection::Sequence,
+                column_at(pieces, i),
+            ))?,
+            Symbol::OpenMapping(i) => marked.push(Marked::Open(
+                Collection::Mapping,
+                column_at(pieces, i),
+            ))?,
             Symbol::BeginKey(_) => begins_key = true,
             Symbol::Close => marked.push(Marked::Close)?,
             Symbol::One(_, i) => {
@@ -191,7 +206,10 @@ fn as_marked<A: Allocator>(alloc: A, pieces: &[Piece], symbols: &[Symbol]) -> Re
 }
 
 /// The lexemes of one whole document, in order, with the marks between them. The only error is memory.
-pub fn mark<A: Allocator + Copy>(alloc: A, lexemes: &[At<'_, A>]) -> Result<Vec<Marked, A>, AllocError>
+pub fn mark<A: Allocator + Copy>(
+    alloc: A,
+    lexemes: &[At<'_, A>],
+) -> Result<Vec<Marked, A>, AllocError>
     ensures { IfOk result (λ v. v.items ≡ marked_lexemes (map (λ x. placed x.line x.lexeme.now) lexemes.now)) }
 {
     let pieces = pieces(alloc, lexemes)?;

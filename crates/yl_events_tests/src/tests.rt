@@ -3,7 +3,8 @@ use std::alloc::{AllocError, Allocator, Global};
 use std::process::Abort;
 use std::test::Fail;
 use yl_events::{
-    Built, Collection, EventKind, Marked, ParseFault, documents, mark, one_derivation, one_fault, parse_document,
+    Built, Collection, EventKind, Marked, ParseFault, documents, mark, one_derivation, one_fault,
+    parse_document,
 };
 use yl_scan::{At, Kind, Lexeme, Meter, Style};
 use yl_text::Pos;
@@ -11,6 +12,7 @@ use yl_text::Pos;
 type Heap<'a> = &'a Refusing<Global>;
 
 const PLAIN: Kind = Kind::Scalar(Style::Plain);
+
 const DOUBLE: Kind = Kind::Scalar(Style::Double);
 
 // A lexeme in one line: its columns, and its value.
@@ -33,7 +35,10 @@ fn token(line: u32, kind: Kind, from: u32, to: u32, value: &'static str) -> Spot
     }
 }
 
-fn lexemes<A: Allocator + Copy>(alloc: A, tokens: &[Spot]) -> Result<Vec<Lexeme<A>, A>, AllocError> {
+fn lexemes<A: Allocator + Copy>(
+    alloc: A,
+    tokens: &[Spot],
+) -> Result<Vec<Lexeme<A>, A>, AllocError> {
     let mut lexemes = Vec::new(alloc);
     for token in tokens {
         let start = Pos {
@@ -81,7 +86,12 @@ fn shown<'a>(kind: EventKind<'a>) -> &'a str {
 }
 
 // The document has these events and no fault.
-fn expect_events(rt: &impl Abort, alloc: Global, tokens: &[Spot], wanted: &[&str]) -> Result<(), AllocError> {
+fn expect_events(
+    rt: &impl Abort,
+    alloc: Global,
+    tokens: &[Spot],
+    wanted: &[&str],
+) -> Result<(), AllocError> {
     let lexemes = lexemes(alloc, tokens)?;
     let placed = placed(alloc, tokens, &lexemes)?;
     let mut meter = Meter::new();
@@ -97,7 +107,13 @@ fn expect_events(rt: &impl Abort, alloc: Global, tokens: &[Spot], wanted: &[&str
 }
 
 // The document has this fault at the lexeme of this index, and no events.
-fn expect_fault(rt: &impl Abort, alloc: Global, tokens: &[Spot], kind: ParseFault, place: usize) -> Result<(), AllocError> {
+fn expect_fault(
+    rt: &impl Abort,
+    alloc: Global,
+    tokens: &[Spot],
+    kind: ParseFault,
+    place: usize,
+) -> Result<(), AllocError> {
     let lexemes = lexemes(alloc, tokens)?;
     let placed = placed(alloc, tokens, &lexemes)?;
     let mut meter = Meter::new();
@@ -148,7 +164,17 @@ fn indentless() -> [Spot; 8] {
 #[test]
 fn a_key_ends_an_indentless_sequence(rt: HostRuntime) -> Result<(), Fail> {
     let wanted = [
-        "+document", "+mapping", "a", "+sequence", "1", "2", "-sequence", "b", "", "-mapping", "-document",
+        "+document",
+        "+mapping",
+        "a",
+        "+sequence",
+        "1",
+        "2",
+        "-sequence",
+        "b",
+        "",
+        "-mapping",
+        "-document",
     ];
     expect_events(&rt, rt.alloc(), &indentless(), &wanted)?;
     Ok(())
@@ -170,7 +196,15 @@ fn flow() -> [Spot; 7] {
 #[test]
 fn a_pair_in_a_flow_sequence_is_a_mapping(rt: HostRuntime) -> Result<(), Fail> {
     let wanted = [
-        "+document", "+sequence", "+mapping", "a", "1", "-mapping", "b", "-sequence", "-document",
+        "+document",
+        "+sequence",
+        "+mapping",
+        "a",
+        "1",
+        "-mapping",
+        "b",
+        "-sequence",
+        "-document",
     ];
     expect_events(&rt, rt.alloc(), &flow(), &wanted)?;
     Ok(())
@@ -200,7 +234,13 @@ fn a_second_anchor(rt: HostRuntime) -> Result<(), Fail> {
         token(0, Kind::Anchor, 7, 9, "y"),
         token(0, PLAIN, 10, 11, "a"),
     ];
-    expect_fault(&rt, rt.alloc(), &tokens, ParseFault::PropertiesGivenTwice, 2)?;
+    expect_fault(
+        &rt,
+        rt.alloc(),
+        &tokens,
+        ParseFault::PropertiesGivenTwice,
+        2,
+    )?;
     Ok(())
 }
 
@@ -214,7 +254,13 @@ fn a_directive_without_a_document_start(rt: HostRuntime) -> Result<(), Fail> {
         token(1, Kind::Value, 1, 2, ""),
         token(1, PLAIN, 3, 4, "1"),
     ];
-    expect_fault(&rt, rt.alloc(), &tokens, ParseFault::DocumentStartExpected, 1)?;
+    expect_fault(
+        &rt,
+        rt.alloc(),
+        &tokens,
+        ParseFault::DocumentStartExpected,
+        1,
+    )?;
     Ok(())
 }
 
@@ -229,7 +275,13 @@ fn an_entry_behind_a_pair(rt: HostRuntime) -> Result<(), Fail> {
         token(1, Kind::Entry, 0, 1, ""),
         token(1, PLAIN, 2, 3, "b"),
     ];
-    expect_fault(&rt, rt.alloc(), &tokens, ParseFault::KeyOrEndOfMappingExpected, 3)?;
+    expect_fault(
+        &rt,
+        rt.alloc(),
+        &tokens,
+        ParseFault::KeyOrEndOfMappingExpected,
+        3,
+    )?;
     Ok(())
 }
 
@@ -253,7 +305,13 @@ fn a_node_behind_an_entry(rt: HostRuntime) -> Result<(), Fail> {
         token(1, DOUBLE, 2, 5, "1"),
         token(2, DOUBLE, 1, 4, "b"),
     ];
-    expect_fault(&rt, rt.alloc(), &tokens, ParseFault::EntryOrEndOfSequenceExpected, 4)?;
+    expect_fault(
+        &rt,
+        rt.alloc(),
+        &tokens,
+        ParseFault::EntryOrEndOfSequenceExpected,
+        4,
+    )?;
     Ok(())
 }
 
@@ -268,7 +326,13 @@ fn an_open_bracket_at_the_end(rt: HostRuntime) -> Result<(), Fail> {
         token(0, Kind::Comma, 5, 6, ""),
         token(0, PLAIN, 7, 8, "2"),
     ];
-    expect_fault(&rt, rt.alloc(), &tokens, ParseFault::CommaOrBracketExpected, 6)?;
+    expect_fault(
+        &rt,
+        rt.alloc(),
+        &tokens,
+        ParseFault::CommaOrBracketExpected,
+        6,
+    )?;
     Ok(())
 }
 
@@ -380,7 +444,11 @@ fn marks(rt: HostRuntime) -> Result<(), Fail> {
 }
 
 // Each growth of `parse_document` is refused in turn: nothing is counted then.
-fn refuse_each<'a>(rt: &impl Abort, heap: Heap<'a>, placed: &[At<'_, Heap<'a>>]) -> Result<(), AllocError> {
+fn refuse_each<'a>(
+    rt: &impl Abort,
+    heap: Heap<'a>,
+    placed: &[At<'_, Heap<'a>>],
+) -> Result<(), AllocError> {
     for n in 1..u64::MAX {
         let mut meter = Meter::new();
         heap.refuse(n);
@@ -416,7 +484,11 @@ fn deep(rt: HostRuntime) -> Result<(), Fail> {
     one_fault();
     let mut brackets = Vec::new(rt.alloc());
     for col in 0..200_000u32 {
-        let kind = if col < 100_000 { Kind::SeqOpen } else { Kind::SeqClose };
+        let kind = if col < 100_000 {
+            Kind::SeqOpen
+        } else {
+            Kind::SeqClose
+        };
         let start = Pos { line: 0, col };
         let end = Pos {
             line: 0,
