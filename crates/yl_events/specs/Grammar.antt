@@ -1,4 +1,6 @@
--- The grammar: a tree for each derivation, and its spelling before what follows it.
+-- The grammar of a document over its marked lexemes: YAML 1.2.2, 7.4 and 7.5 (nodes, flow collections), 8.2 (block collections),
+-- 9.1 and 9.2 (documents). A tree for each derivation, and its spelling before what follows it. A Value without key belongs to the
+-- Key before it if that has none yet: `Keyed`.
 use Rattle.std.specs.Prelude.{ℕ, List, [], ◌∷◌, Option, Some, None}
 use Rattle.yl_scan.specs.declared.lexeme.Kind.{Kind}
 use Rattle.yl_scan.specs.declared.lexeme.Style.{Style}
