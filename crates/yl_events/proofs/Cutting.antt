@@ -1,5 +1,5 @@
 -- Cuts from the back.
-use Rattle.std.specs.Prelude.{ℕ, zero, suc, ◌≡◌, ◌≤◌, ◌<◌, ◌==◌, ◌+◌, ◌-◌, refl, Bool, true, false, not, ◌||◌, ◌&&◌, cond, if◌then◌else◌, List, [], ◌∷◌, ◌++◌, length, map, drop, reverse}
+use Rattle.std.specs.Prelude.{ℕ, zero, suc, ◌≡◌, ◌≤◌, ◌<◌, ◌==◌, ◌-◌, refl, Bool, false, not, ◌||◌, ◌&&◌, cond, if◌then◌else◌, List, [], ◌∷◌, ◌++◌, length, map, drop, reverse}
 use Rattle.std.proofs.Common.{sym, ◌∙◌, ap, get_or, arith, drop-cons}
 use Rattle.std.proofs.lemmas.List.{reverse-append, reverse-reverse, drop-map, length-drop, length-map}
 use Rattle.yl_scan.specs.declared.lexeme.Kind.{Kind}

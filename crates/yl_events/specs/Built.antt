@@ -1,5 +1,5 @@
 -- What a document gives: its events, or its parse fault.
-use Rattle.std.specs.Prelude.{ℕ, ◌≡◌, List, [], Option, Some, None}
+use Rattle.std.specs.Prelude.{◌≡◌, List, [], Option, Some, None}
 use Rattle.yl_scan.specs.Lexeme.{LexemeValue}
 use Rattle.yl_events.specs.declared.fault.Fault.{Fault}
 use Rattle.yl_events.specs.Event.{EventValue, AreEvents}

@@ -7,7 +7,6 @@ use Rattle.yl_events.specs.declared.symbol.Symbol.TheVariants.{OpenSequence, Ope
 use Rattle.yl_events.specs.declared.symbol.Piece.{Piece}
 use Rattle.yl_events.specs.declared.symbol.OpenBlock.{OpenBlock}
 use Rattle.yl_events.specs.declared.symbol.Marking.{Marking}
-use Rattle.yl_events.specs.declared.symbol.Collection.{Collection}
 use Rattle.yl_events.specs.declared.symbol.Collection.TheVariants.{Sequence, Mapping}
 use Rattle.yl_events.specs.declared.symbol.Marked.{Marked}
 use Rattle.yl_events.specs.declared.symbol.Marked.TheVariants as is

@@ -4,7 +4,7 @@ use yl_scan::{Kind, Style};
 use yl_text::Pos;
 
 /// A lexeme, or a mark between lexemes. A mark names the lexeme that it stands before.
-#[derive(Clone, Copy, Debug, PartialEq, Eq)]
+#[derive(Clone, Copy)]
 pub enum Symbol {
     OpenSequence(usize),
     OpenMapping(usize),
@@ -13,14 +13,14 @@ pub enum Symbol {
     One(Kind, usize),
 }
 
-#[derive(Clone, Copy, Debug, PartialEq, Eq)]
+#[derive(Clone, Copy)]
 pub enum Bracket {
     Square,
     Curly,
 }
 
 /// At most one anchor and one tag, at least one of them, in either order.
-#[derive(Clone, Copy, Debug, PartialEq, Eq)]
+#[derive(Clone, Copy)]
 pub enum Properties {
     Anchored(usize),
     Tagged(usize),
@@ -28,7 +28,7 @@ pub enum Properties {
     TaggedAnchored(usize, usize),
 }
 
-#[derive(Clone, Copy, Debug, PartialEq, Eq)]
+#[derive(Clone, Copy)]
 pub enum Shape {
     DocumentStart,
     DocumentEnd,
@@ -42,7 +42,7 @@ pub enum Shape {
 }
 
 /// An event, by the lexemes where its content and its anchor stand.
-#[derive(Clone, Copy, Debug, PartialEq, Eq)]
+#[derive(Clone, Copy)]
 pub struct Outline {
     pub kind: Shape,
     pub place: Option<usize>,
@@ -51,14 +51,14 @@ pub struct Outline {
 }
 
 /// What a node may be: one that may be a key; any; any, and an indentless sequence.
-#[derive(Clone, Copy, Debug, PartialEq, Eq)]
+#[derive(Clone, Copy)]
 pub enum Where {
     InInline,
     InBlock(bool),
 }
 
 /// What the parser has still to read.
-#[derive(Clone, Copy, Debug, PartialEq, Eq)]
+#[derive(Clone, Copy)]
 pub enum Goal {
     Prefix,
     Directives,
@@ -76,14 +76,14 @@ pub enum Goal {
 }
 
 /// An open block collection; of a mapping, whether an indentless sequence is open in it.
-#[derive(Clone, Copy, Debug, PartialEq, Eq)]
+#[derive(Clone, Copy)]
 pub enum Block {
     InSequence,
     InMapping(bool),
 }
 
 /// A lexeme without its value, and what the lexemes before it say of its place.
-#[derive(Clone, Copy, Debug, PartialEq, Eq)]
+#[derive(Clone, Copy)]
 pub struct Piece {
     pub kind: Kind,
     /// Where it begins, in the text.
@@ -101,14 +101,14 @@ pub struct Piece {
 }
 
 /// A lexeme, and whether a key begins there.
-#[derive(Clone, Copy, Debug, PartialEq, Eq)]
+#[derive(Clone, Copy)]
 pub struct Marking {
     pub piece: Piece,
     pub begins_key: bool,
 }
 
 /// An open block collection and its column.
-#[derive(Clone, Copy, Debug, PartialEq, Eq)]
+#[derive(Clone, Copy)]
 pub struct OpenBlock {
     pub is_mapping: bool,
     pub column: u32,

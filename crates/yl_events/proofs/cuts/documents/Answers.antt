@@ -1,6 +1,5 @@
-use Rattle.std.proofs.Common.{◌≡◌, ◌-◌, ◌∷◌, ◌∙◌, ap, sym, true, false, map, drop, reverse, length, suc, arith}
-use Rattle.yl_events.specs.Documents.{starts_marked}
-use Rattle.yl_events.proofs.Cutting.{cuts_from, none_at_end, unmarked_at_end, kind_at, marked_step, cut_step, one_more, beginnings_of, not_empty}
+use Rattle.std.proofs.Common.{◌-◌, ◌∙◌, ap, sym, true, false, reverse, arith}
+use Rattle.yl_events.proofs.Cutting.{none_at_end, unmarked_at_end, kind_at, marked_step, cut_step, one_more, beginnings_of, not_empty}
 use Rattle.yl_events.proofs.cuts.documents.Goals as goal
 
 pub loop-i-init : goal.loop-i-init

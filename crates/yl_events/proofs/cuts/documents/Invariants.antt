@@ -1,4 +1,4 @@
-use Rattle.std.proofs.Common.{◌≡◌, ◌-◌, map, length, drop, reverse}
+use Rattle.std.proofs.Common.{◌≡◌, ◌-◌, map, drop, reverse}
 use Rattle.yl_events.specs.Documents.{starts_marked}
 use Rattle.yl_events.proofs.Cutting.{cuts_from}
 use Rattle.yl_events.proofs.cuts.documents.Given as goal

@@ -1,5 +1,5 @@
-use Rattle.std.proofs.Common.{◌≡◌, ◌<◌, ◌++◌, ℕ, [], false, reverse, drop, length, vec_len, slice_index_or}
-use Rattle.yl_events.specs.Marks.{marks, all_closed, begins_key}
+use Rattle.std.proofs.Common.{◌≡◌, ◌++◌, [], reverse, drop, vec_len}
+use Rattle.yl_events.specs.Marks.{marks, all_closed}
 use Rattle.yl_events.proofs.marks.symbols.Given as goal
 
 abbrev pub invariant-loop-i : goal.invariant-loop-i
