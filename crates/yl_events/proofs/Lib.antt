@@ -1,0 +1,7 @@
+pub mod Complete
+pub mod Sound
+pub mod Answered
+pub mod Counts
+pub mod Pushes
+pub mod Back
+pub mod Cutting

@@ -1,0 +1,18 @@
+-- What a document gives: its events, or its parse fault.
+use Rattle.std.specs.Prelude.{◌≡◌, List, [], Option, Some, None}
+use Rattle.yl_scan.specs.Lexeme.{LexemeValue}
+use Rattle.yl_events.specs.declared.fault.Fault.{Fault}
+use Rattle.yl_events.specs.Event.{EventValue, AreEvents}
+use Rattle.yl_events.specs.Derives.{HasFaultAt}
+use Rattle.yl_events.specs.Faults.{fault_of}
+use Rattle.yl_events.specs.Marks.{marked}
+
+-- the fault stands at the first lexeme with which no beginning of a derivation is left, or behind the document
+pub record IsFaultOf (xs : List LexemeValue) (f : Fault) : Type 0 where
+  pub place : HasFaultAt (marked xs) f.place
+  pub kind : f.kind ≡ fault_of (marked xs) f.place
+
+-- the events of the derivation and no fault, or the fault and no events
+abbrev pub Builds : List LexemeValue → List EventValue → Option Fault → Type 0
+Builds xs es None = AreEvents xs es
+Builds xs es (Some f) = IsFaultOf xs f × (es ≡ [])

@@ -1,0 +1,107 @@
+-- Events: YAML 1.2.2, 3.1.1. Names and values in UTF-8.
+use Rattle.std.specs.Prelude.{ℕ, ◌≡◌, Bool, List, [], map, Option, Some, None, slice_get}
+use Rattle.yl_text.specs.declared.position.Pos.{Pos}
+use Rattle.yl_scan.specs.declared.lexeme.Style.{Style}
+use Rattle.yl_scan.specs.Lexeme.{LexemeValue}
+use Rattle.yl_events.specs.declared.symbol.Outline.{Outline}
+use Rattle.yl_events.specs.declared.symbol.Shape.{Shape}
+use Rattle.yl_events.specs.declared.symbol.Shape.TheVariants as shape
+use Rattle.yl_events.specs.declared.event.EventKind.{EventKind}
+use Rattle.yl_events.specs.declared.event.EventKind.TheVariants as kind
+use Rattle.yl_events.specs.declared.event.Anchor.{Anchor}
+use Rattle.yl_events.specs.declared.event.Event.{Event}
+use Rattle.yl_events.specs.Derives.{Derives}
+use Rattle.yl_events.specs.Marks.{marked}
+
+-- what an event is
+pub data Happening : Type 0 where
+  DocumentStart : Happening
+  DocumentEnd : Happening
+  SequenceStart : Happening
+  SequenceEnd : Happening
+  MappingStart : Happening
+  MappingEnd : Happening
+  AliasOf : (name : List ℕ) → Happening
+  ScalarOf : (style : Style) (value : List ℕ) → Happening
+  Empty : Happening
+
+pub record AnchorValue : Type 0 where
+  pub name : List ℕ
+  pub place : Pos
+
+-- an event: the place is that of its content, behind properties
+pub record EventValue : Type 0 where
+  pub kind : Happening
+  pub place : Option Pos
+  pub anchor : Option AnchorValue
+  pub is_tagged : Bool
+
+-- ---- as the code has them
+
+abbrev pub kind_value : EventKind → Happening
+kind_value kind.DocumentStart = DocumentStart
+kind_value kind.DocumentEnd = DocumentEnd
+kind_value kind.SequenceStart = SequenceStart
+kind_value kind.SequenceEnd = SequenceEnd
+kind_value kind.MappingStart = MappingStart
+kind_value kind.MappingEnd = MappingEnd
+kind_value (kind.Alias name) = AliasOf name.now
+kind_value (kind.Scalar style value) = ScalarOf style value.now
+kind_value kind.Empty = Empty
+
+abbrev pub anchor_value : Option Anchor → Option AnchorValue
+anchor_value None = None
+anchor_value (Some a) = Some (record { name = a.name.now; place = a.place })
+
+abbrev pub event_value : Event → EventValue
+event_value e = record { kind = kind_value e.kind; place = e.place; anchor = anchor_value e.anchor; is_tagged = e.is_tagged }
+
+-- ---- names, values and places of a document's lexemes
+
+abbrev pub value_of : Option LexemeValue → List ℕ
+value_of None = []
+value_of (Some x) = x.value
+
+abbrev pub start_of : Option LexemeValue → Pos
+start_of None = record { line = 0; col = 0 }
+start_of (Some x) = x.start
+
+abbrev pub value_at : List LexemeValue → ℕ → List ℕ
+value_at xs i = value_of (slice_get xs i)
+
+abbrev pub start_at : List LexemeValue → ℕ → Pos
+start_at xs i = start_of (slice_get xs i)
+
+-- the value at a content's place, if it has one
+abbrev pub content_value : List LexemeValue → Option ℕ → List ℕ
+content_value xs None = []
+content_value xs (Some i) = value_at xs i
+
+abbrev pub kind_of : List LexemeValue → Shape → Option ℕ → Happening
+kind_of xs shape.DocumentStart place = DocumentStart
+kind_of xs shape.DocumentEnd place = DocumentEnd
+kind_of xs shape.SequenceStart place = SequenceStart
+kind_of xs shape.SequenceEnd place = SequenceEnd
+kind_of xs shape.MappingStart place = MappingStart
+kind_of xs shape.MappingEnd place = MappingEnd
+kind_of xs shape.Alias place = AliasOf (content_value xs place)
+kind_of xs (shape.Scalar style) place = ScalarOf style (content_value xs place)
+kind_of xs shape.Empty place = Empty
+
+abbrev pub place_of : List LexemeValue → Option ℕ → Option Pos
+place_of xs None = None
+place_of xs (Some i) = Some (start_at xs i)
+
+abbrev pub anchor_of : List LexemeValue → Option ℕ → Option AnchorValue
+anchor_of xs None = None
+anchor_of xs (Some i) = Some (record { name = value_at xs i; place = start_at xs i })
+
+-- an event of the document of these lexemes
+abbrev pub filled : List LexemeValue → Outline → EventValue
+filled xs o = record { kind = kind_of xs o.kind o.place; place = place_of xs o.place; anchor = anchor_of xs o.anchor; is_tagged = o.is_tagged }
+
+-- these are the events of the derivation of the document of these lexemes
+pub record AreEvents (xs : List LexemeValue) (es : List EventValue) : Type 0 where
+  pub outlines : List Outline
+  pub derived : Derives (marked xs) outlines
+  pub filled : es ≡ map (filled xs) outlines

@@ -1,0 +1,124 @@
+-- Which parse fault a document has: by the lexeme before, by the properties directly before, and by the innermost collection that is
+-- open behind the closings before its place (YAML 1.2.2, 9.2; 6.9 and 7.1; 7.4 and 8.2).
+use Rattle.std.specs.Prelude.{ℕ, Bool, true, false, ◌||◌, ◌==◌, ◌-◌, if◌then◌else◌, List, [], ◌∷◌, ◌+◌, reverse, take, drop, codes}
+use Rattle.yl_scan.specs.declared.lexeme.Kind.{Kind}
+use Rattle.yl_events.specs.declared.symbol.Symbol.{Symbol}
+use Rattle.yl_events.specs.declared.symbol.Symbol.TheVariants.{OpenSequence, OpenMapping, BeginKey, Close, One}
+use Rattle.yl_events.specs.declared.symbol.Block.{Block}
+use Rattle.yl_events.specs.declared.symbol.Block.TheVariants.{InSequence, InMapping}
+use Rattle.yl_events.specs.declared.fault.ParseFault.{ParseFault}
+use Rattle.yl_events.specs.declared.fault.ParseFault.TheVariants.{DocumentStartExpected, PropertiesGivenTwice, CommaOrBracketExpected, KeyOrEndOfMappingExpected, EntryOrEndOfSequenceExpected, SecondNode}
+
+abbrev pub fault_text : ParseFault → List ℕ
+fault_text DocumentStartExpected = codes "document start \"---\" expected"
+fault_text PropertiesGivenTwice = codes "properties given twice or on an alias"
+fault_text CommaOrBracketExpected = codes "comma or closing bracket expected"
+fault_text KeyOrEndOfMappingExpected = codes "key or end of mapping expected"
+fault_text EntryOrEndOfSequenceExpected = codes "entry or end of sequence expected"
+fault_text SecondNode = codes "second node"
+
+-- ---- what is open
+
+-- how many brackets are open, and the open block collections, the innermost first
+pub record Open : Type 0 where
+  pub depth : ℕ
+  pub blocks : List Block
+
+-- an indentless sequence is open in the innermost mapping, or no longer
+abbrev pub with_indentless : Bool → List Block → List Block
+with_indentless is_open (InMapping _ ∷ blocks) = InMapping is_open ∷ blocks
+with_indentless is_open blocks = blocks
+
+abbrev pub blocks_behind : List Block → Symbol → List Block
+blocks_behind blocks (OpenSequence i) = InSequence ∷ blocks
+blocks_behind blocks (OpenMapping i) = InMapping false ∷ blocks
+blocks_behind blocks (BeginKey i) = with_indentless false blocks
+blocks_behind blocks Close = drop 1 blocks
+blocks_behind blocks (One Kind.Entry i) = with_indentless true blocks
+blocks_behind blocks (One Kind.Key i) = with_indentless false blocks
+blocks_behind blocks (One Kind.Value i) = with_indentless false blocks
+blocks_behind blocks _ = blocks
+
+abbrev pub depth_behind : ℕ → Symbol → ℕ
+depth_behind depth (One Kind.SeqOpen i) = depth + 1
+depth_behind depth (One Kind.MapOpen i) = depth + 1
+depth_behind depth (One Kind.SeqClose i) = depth - 1
+depth_behind depth (One Kind.MapClose i) = depth - 1
+depth_behind depth _ = depth
+
+abbrev pub is_close : Symbol → Bool
+is_close Close = true
+is_close _ = false
+
+-- in brackets nothing is said of blocks, but for the closings of a marker or the end
+abbrev pub open_behind : Open → Symbol → Open
+open_behind o w = record { depth = depth_behind o.depth w; blocks = if is_close w || o.depth == 0 then blocks_behind o.blocks w else o.blocks }
+
+abbrev pub open_after : Open → List Symbol → Open
+open_after o [] = o
+open_after o (w ∷ ws) = open_after (open_behind o w) ws
+
+-- without the closings that come next
+abbrev pub closed_by : List Symbol → List Block → List Block
+closed_by (Close ∷ ws) blocks = closed_by ws (drop 1 blocks)
+closed_by _ blocks = blocks
+
+-- ---- properties directly before, of the latest symbols
+
+abbrev pub has_anchor : List Symbol → Bool
+has_anchor (One Kind.Anchor i ∷ ws) = true
+has_anchor (One Kind.Tag i ∷ ws) = has_anchor ws
+has_anchor _ = false
+
+abbrev pub has_tag : List Symbol → Bool
+has_tag (One Kind.Tag i ∷ ws) = true
+has_tag (One Kind.Anchor i ∷ ws) = has_tag ws
+has_tag _ = false
+
+abbrev pub has_property : List Symbol → Bool
+has_property (One Kind.Anchor i ∷ ws) = true
+has_property (One Kind.Tag i ∷ ws) = true
+has_property _ = false
+
+-- a second anchor or tag, or an alias behind properties
+abbrev pub is_twice : List Symbol → List Symbol → Bool
+is_twice before (One Kind.Anchor i ∷ ws) = has_anchor before
+is_twice before (One Kind.Tag i ∷ ws) = has_tag before
+is_twice before (One Kind.Alias i ∷ ws) = has_property before
+is_twice before _ = false
+
+abbrev pub is_behind_directive : List Symbol → Bool
+is_behind_directive (One Kind.Directive i ∷ ws) = true
+is_behind_directive _ = false
+
+-- ---- which one it is
+
+abbrev pub fault_in_blocks : List Block → ParseFault
+fault_in_blocks [] = SecondNode
+fault_in_blocks (InMapping false ∷ blocks) = KeyOrEndOfMappingExpected
+fault_in_blocks (_ ∷ blocks) = EntryOrEndOfSequenceExpected
+
+-- by the innermost open collection, behind the closings that come next
+abbrev pub fault_in : Open → List Symbol → ParseFault
+fault_in o behind = if o.depth == 0 then fault_in_blocks (closed_by behind o.blocks) else CommaOrBracketExpected
+
+-- by what stands before its place and behind it; the first that fits
+abbrev pub fault_between : List Symbol → List Symbol → ParseFault
+fault_between before behind =
+    if is_behind_directive (reverse before) then DocumentStartExpected
+    else if is_twice (reverse before) behind then PropertiesGivenTwice
+    else fault_in (open_after (record { depth = 0; blocks = [] }) before) behind
+
+-- how many of so many lexemes are left behind a symbol
+abbrev pub left_behind : Symbol → ℕ → ℕ
+left_behind (One kind i) left = left - 1
+left_behind _ left = left
+
+-- how many symbols there are up to and with so many lexemes, and none behind the last of these
+abbrev pub front_len : ℕ → List Symbol → ℕ
+front_len left [] = 0
+front_len left (w ∷ ws) = if left == 0 then 0 else front_len (left_behind w left) ws + 1
+
+-- the fault at this lexeme of the marked document
+abbrev pub fault_of : List Symbol → ℕ → ParseFault
+fault_of ws place = let n = front_len place ws in fault_between (take n ws) (drop n ws)

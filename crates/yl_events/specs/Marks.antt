@@ -1,0 +1,111 @@
+-- The marks of a document: where block collections open and close, by the columns of their lexemes (YAML 1.2.2, 8.2).
+use Rattle.std.specs.Prelude.{ℕ, suc, Bool, true, false, not, ◌&&◌, ◌||◌, ◌==◌, nat_lt, if◌then◌else◌, List, [], ◌∷◌, ◌++◌, Option, Some, None, is_some, slice_get}
+use Rattle.std.specs.List.{list_any}
+use Rattle.yl_scan.specs.Lexeme.{LexemeValue, is_document_marker, is_entry, is_key, is_value}
+use Rattle.yl_events.specs.declared.symbol.Symbol.{Symbol}
+use Rattle.yl_events.specs.declared.symbol.Symbol.TheVariants.{OpenSequence, OpenMapping, BeginKey, Close, One}
+use Rattle.yl_events.specs.declared.symbol.Piece.{Piece}
+use Rattle.yl_events.specs.declared.symbol.OpenBlock.{OpenBlock}
+use Rattle.yl_events.specs.declared.symbol.Marking.{Marking}
+use Rattle.yl_events.specs.declared.symbol.Collection.TheVariants.{Sequence, Mapping}
+use Rattle.yl_events.specs.declared.symbol.Marked.{Marked}
+use Rattle.yl_events.specs.declared.symbol.Marked.TheVariants as is
+use Rattle.yl_events.specs.Keys.{pieces}
+
+-- it stands in a mapping of its column
+abbrev pub is_in_mapping : Marking → Bool
+is_in_mapping m = m.begins_key || is_key m.piece.kind || (is_value m.piece.kind && not (is_some m.piece.key))
+
+-- it goes on with a collection of its column
+abbrev pub continues : Marking → OpenBlock → Bool
+continues m c = is_entry m.piece.kind || (c.is_mapping && is_in_mapping m)
+
+-- it closes the collection
+abbrev pub closes : Marking → OpenBlock → Bool
+closes m c =
+    is_document_marker m.piece.kind
+    || (m.piece.depth == 0 && m.piece.is_first
+    && (nat_lt m.piece.start.col c.column || (c.column == m.piece.start.col && not (continues m c))))
+
+-- the collections that it leaves open, the innermost first, and a Close for each other
+abbrev pub left_open : Marking → List OpenBlock → List OpenBlock
+left_open m [] = []
+left_open m (c ∷ cs) = if closes m c then left_open m cs else c ∷ cs
+
+abbrev pub closings : Marking → List OpenBlock → List Symbol
+closings m [] = []
+closings m (c ∷ cs) = if closes m c then Close ∷ closings m cs else []
+
+-- the innermost has this column, and is a mapping if that is asked
+abbrev pub is_in : Bool → ℕ → List OpenBlock → Bool
+is_in only_mapping column [] = false
+is_in only_mapping column (c ∷ cs) = c.column == column && (c.is_mapping || not only_mapping)
+
+-- what is opened before it: nothing, or a mapping or a sequence
+abbrev pub opened : Marking → List OpenBlock → Option Bool
+opened m cs =
+    if nat_lt 0 m.piece.depth || is_document_marker m.piece.kind then None
+    else if is_in_mapping m && not (is_in true m.piece.start.col cs) then Some true
+    else if is_entry m.piece.kind && not (is_in false m.piece.start.col cs) then Some false
+    else None
+
+abbrev pub with_opened : Option Bool → ℕ → List OpenBlock → List OpenBlock
+with_opened None column cs = cs
+with_opened (Some mapping) column cs = record { is_mapping = mapping; column = column } ∷ cs
+
+abbrev pub opening : Option Bool → ℕ → List Symbol
+opening None i = []
+opening (Some true) i = OpenMapping i ∷ []
+opening (Some false) i = OpenSequence i ∷ []
+
+-- some Value's key begins at the lexeme of this index
+abbrev pub is_at : ℕ → Option ℕ → Bool
+is_at i None = false
+is_at i (Some k) = k == i
+
+abbrev pub begins_key : ℕ → List Piece → Bool
+begins_key i xs = list_any (λ p. is_at i p.key) xs
+
+abbrev pub key_mark : Bool → ℕ → List Symbol
+key_mark false i = []
+key_mark true i = BeginKey i ∷ []
+
+abbrev pub all_closed : List OpenBlock → List Symbol
+all_closed [] = []
+all_closed (c ∷ cs) = Close ∷ all_closed cs
+
+-- the lexemes from this index on with their marks, where these collections are open
+abbrev pub marks : List Piece → List OpenBlock → ℕ → List Piece → List Symbol
+marks all open_ones i [] = all_closed open_ones
+marks all open_ones i (x ∷ xs) =
+    let m : Marking = record { piece = x; begins_key = begins_key i all } in
+    let left = left_open m open_ones in
+    let new = opened m left in
+    closings m open_ones ++ opening new i ++ key_mark m.begins_key i ++ One x.kind i
+    ∷ marks all (with_opened new x.start.col left) (suc i) xs
+
+-- a document's lexemes with their marks
+abbrev pub marked : List LexemeValue → List Symbol
+marked xs = marks (pieces [] xs) [] 0 (pieces [] xs)
+
+-- ---- as callers see them
+
+abbrev pub column_of : Option Piece → ℕ
+column_of None = 0
+column_of (Some x) = x.start.col
+
+-- a collection opens in the column of the lexeme before which it opens
+abbrev pub column_at : List Piece → ℕ → ℕ
+column_at xs i = column_of (slice_get xs i)
+
+-- the same marks; whether a key unit begins at a lexeme stands with the lexeme
+abbrev pub as_marked : List Piece → Bool → List Symbol → List Marked
+as_marked xs begins [] = []
+as_marked xs begins (OpenSequence i ∷ ws) = is.Open Sequence (column_at xs i) ∷ as_marked xs begins ws
+as_marked xs begins (OpenMapping i ∷ ws) = is.Open Mapping (column_at xs i) ∷ as_marked xs begins ws
+as_marked xs begins (BeginKey i ∷ ws) = as_marked xs true ws
+as_marked xs begins (Close ∷ ws) = is.Close ∷ as_marked xs begins ws
+as_marked xs begins (One kind i ∷ ws) = is.Lexeme i begins ∷ as_marked xs false ws
+
+abbrev pub marked_lexemes : List LexemeValue → List Marked
+marked_lexemes xs = as_marked (pieces [] xs) false (marked xs)

@@ -1,0 +1,52 @@
+//! Where documents begin.
+
+ghost use Rattle.std.specs.Prelude.{◌≡◌, ◌||◌, ◌&&◌, not, IfOk, map};
+ghost use Rattle.yl_events.specs.Documents.{is_document_end, is_document_start, is_directive, beginnings};
+
+use std::alloc::{AllocError, Allocator};
+use yl_scan::{At, Kind};
+
+/// Whether a document ends with a lexeme of this kind, where a marker `---` comes next, or directives and then one.
+fn ends_document(kind: Kind, is_marked: bool) -> bool
+    ensures { result ≡ (is_document_end kind || (not (is_directive kind) && is_marked)) }
+{
+    match kind {
+        Kind::DocEnd => true,
+        Kind::Directive => false,
+        _ => is_marked,
+    }
+}
+
+/// Whether the lexemes from here on begin with a marker `---`, or with directives and then one.
+fn starts_marked(kind: Kind, is_marked: bool) -> bool
+    ensures { result ≡ (is_document_start kind || (is_directive kind && is_marked)) }
+{
+    match kind {
+        Kind::DocStart => true,
+        Kind::Directive => is_marked,
+        _ => false,
+    }
+}
+
+/// The index of the lexeme with which each document of a text begins. The only error is memory.
+pub fn documents<A: Allocator + Copy>(
+    alloc: A,
+    lexemes: &[At<'_, A>],
+) -> Result<Vec<usize, A>, AllocError>
+    ensures { IfOk result (λ v. v.items ≡ beginnings (map (λ x. x.lexeme.now.kind) lexemes.now)) }
+{
+    let mut starts = Vec::new(alloc);
+    if lexemes.is_empty() {
+        return Ok(starts);
+    }
+    let mut is_marked = false;
+    for i in (1..lexemes.len()).rev() {
+        is_marked = starts_marked(lexemes[i].lexeme.kind(), is_marked);
+        if ends_document(lexemes[i - 1].lexeme.kind(), is_marked) {
+            starts.push(i)?;
+        }
+    }
+    starts.push(0)?;
+    starts.reverse();
+    Ok(starts)
+}

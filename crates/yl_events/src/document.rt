@@ -1,0 +1,155 @@
+//! The events of a document, or its parse fault.
+
+ghost use Rattle.std.specs.Prelude.{◌≡◌, ◌≤◌, ◌<◌, ◌+◌, ◌^◌, ◌-◌, ℕ, List, [], map, length, IfOk, OnOk, OnErr, IfSome};
+ghost use Rattle.yl_scan.specs.Lexeme.{LexemeValue};
+ghost use Rattle.yl_events.specs.declared.symbol.Symbol.{Symbol as Marks};
+ghost use Rattle.yl_events.specs.Keys.{placed};
+ghost use Rattle.yl_events.specs.Event.{EventValue, event_value, kind_value, value_at, start_at, content_value, kind_of, filled, AreEvents};
+ghost use Rattle.yl_events.specs.Built.{Builds, IsFaultOf};
+
+use crate::event::{Anchor, Built, Event, EventKind};
+use crate::fault::Fault;
+use crate::fault_kind::fault_kind;
+use crate::keys::pieces;
+use crate::machine::parse;
+use crate::marks::symbols;
+use crate::symbol::{Outline, Shape};
+use std::alloc::{AllocError, Allocator};
+use yl_scan::{At, Meter};
+use yl_text::Pos;
+
+/// The value of the lexeme of this index.
+fn value_at<'a, A: Allocator>(lexemes: &[At<'a, A>], i: usize) -> &'a str
+    ensures { result.now ≡ value_at (map (λ x. placed x.line x.lexeme.now) lexemes.now) i }
+{
+    if i < lexemes.len() {
+        lexemes[i].lexeme.value()
+    } else {
+        ""
+    }
+}
+
+/// Where the lexeme of this index begins in the text.
+fn start_at<A: Allocator>(lexemes: &[At<'_, A>], i: usize) -> Pos
+    ensures { result ≡ start_at (map (λ x. placed x.line x.lexeme.now) lexemes.now) i }
+{
+    if i < lexemes.len() {
+        Pos {
+            line: lexemes[i].line,
+            col: lexemes[i].lexeme.start().col,
+        }
+    } else {
+        Pos { line: 0, col: 0 }
+    }
+}
+
+fn content_value<'a, A: Allocator>(lexemes: &[At<'a, A>], place: Option<usize>) -> &'a str
+    ensures { result.now ≡ content_value (map (λ x. placed x.line x.lexeme.now) lexemes.now) place }
+{
+    match place {
+        None => "",
+        Some(i) => value_at(lexemes, i),
+    }
+}
+
+fn kind_of<'a, A: Allocator>(
+    lexemes: &[At<'a, A>],
+    shape: Shape,
+    place: Option<usize>,
+) -> EventKind<'a>
+    ensures { kind_value result ≡ kind_of (map (λ x. placed x.line x.lexeme.now) lexemes.now) shape place }
+{
+    match shape {
+        Shape::DocumentStart => EventKind::DocumentStart,
+        Shape::DocumentEnd => EventKind::DocumentEnd,
+        Shape::SequenceStart => EventKind::SequenceStart,
+        Shape::SequenceEnd => EventKind::SequenceEnd,
+        Shape::MappingStart => EventKind::MappingStart,
+        Shape::MappingEnd => EventKind::MappingEnd,
+        Shape::Alias => EventKind::Alias(content_value(lexemes, place)),
+        Shape::Scalar(style) => EventKind::Scalar(style, content_value(lexemes, place)),
+        Shape::Empty => EventKind::Empty,
+    }
+}
+
+/// The event of an outline.
+fn fill<'a, A: Allocator>(lexemes: &[At<'a, A>], outline: &Outline) -> Event<'a>
+    ensures { event_value result ≡ filled (map (λ x. placed x.line x.lexeme.now) lexemes.now) outline.now }
+{
+    let place = match outline.place {
+        None => None,
+        Some(i) => Some(start_at(lexemes, i)),
+    };
+    let anchor = match outline.anchor {
+        None => None,
+        Some(i) => Some(Anchor {
+            name: value_at(lexemes, i),
+            place: start_at(lexemes, i),
+        }),
+    };
+    Event {
+        kind: kind_of(lexemes, outline.kind, outline.place),
+        place,
+        anchor,
+        is_tagged: outline.is_tagged,
+    }
+}
+
+fn fill_all<'a, A: Allocator + Copy>(
+    alloc: A,
+    lexemes: &[At<'a, A>],
+    outlines: &[Outline],
+) -> Result<Vec<Event<'a>, A>, AllocError>
+    ensures { IfOk result (λ v. map event_value v.items ≡ map (filled (map (λ x. placed x.line x.lexeme.now) lexemes.now)) outlines.now) }
+{
+    let mut events = Vec::new(alloc);
+    for outline in outlines {
+        events.push(fill(lexemes, outline))?;
+    }
+    Ok(events)
+}
+
+/// The events of a document, or its fault.
+fn build<'a, A: Allocator + Copy>(
+    alloc: A,
+    lexemes: &[At<'a, A>],
+) -> Result<Built<'a, A>, AllocError>
+    ensures { IfOk result (λ b. Builds (map (λ x. placed x.line x.lexeme.now) lexemes.now) (map event_value b.events.items) b.fault) }
+{
+    let pieces = pieces(alloc, lexemes)?;
+    let symbols = symbols(alloc, &pieces)?;
+    let (outlines, place) = parse(alloc, &symbols)?;
+    match place {
+        None => {
+            let events = fill_all(alloc, lexemes, &outlines)?;
+            Ok(Built {
+                events,
+                fault: None,
+            })
+        }
+        Some(place) => {
+            let kind = fault_kind(alloc, &symbols, place)?;
+            Ok(Built {
+                events: Vec::new(alloc),
+                fault: Some(Fault { kind, place }),
+            })
+        }
+    }
+}
+
+/// The events of one whole document's lexemes, or its parse fault and no events. Counts the document in the meter. The
+/// only error is memory, and nothing is counted then.
+pub fn parse_document<'a, A: Allocator + Copy>(
+    alloc: A,
+    lexemes: &[At<'a, A>],
+    meter: &mut Meter,
+) -> Result<Built<'a, A>, AllocError>
+    requires { meter.old.documents < 2 ^ 32 - 1 }
+    ensures built { IfOk result (λ b. Builds (map (λ x. placed x.line x.lexeme.now) lexemes.now) (map event_value b.events.items) b.fault) }
+    ensures counted { OnOk result (meter.new ≡ record meter.old { documents = meter.old.documents + 1 }) }
+    ensures uncounted { OnErr result (meter.new ≡ meter.old) }
+{
+    let built = build(alloc, lexemes)?;
+    meter.documents += 1;
+    Ok(built)
+}
