@@ -1,3 +1,4 @@
+pub mod BlockRead
 pub mod Encodes
 pub mod Front
 pub mod PlainRead

@@ -1,16 +1,16 @@
 -- A plain scalar read line by line is what the lines that it takes make of it.
-use Rattle.std.proofs.Common.{◌≡◌, ℕ, zero, suc, ◌+◌, Bool, true, false, ◌&&◌, cond, List, [], ◌∷◌, ◌++◌, length, take, refl, ap, sym, ◌∙◌, append_assoc, arith, eqb, one-add, zero-add, ne_eqb}
+use Rattle.std.proofs.Common.{◌≡◌, ℕ, suc, ◌+◌, Bool, true, false, ◌&&◌, cond, List, [], ◌∷◌, ◌++◌, length, take, refl, ap, sym, ◌∙◌, append_assoc, arith, eqb, one-add, zero-add, ne_eqb}
 use Rattle.std.specs.Prelude.{Option, Some, None}
 use Rattle.std.specs.List.{prefix_len}
 use Rattle.std.proofs.lemmas.Bool.{eqb-true}
 use Rattle.std.proofs.lemmas.List.{append-nil}
 use Rattle.yl_text.specs.Character.{is_white, is_blank, without_front}
 use Rattle.yl_scalar.specs.Allowed.{first_bad}
-use Rattle.yl_scalar.specs.Reading.{Reading, Whole, Refused, Stepped, GoesOn, EndsIn, EndedAbove, settled, read, unless_bad}
+use Rattle.yl_scalar.specs.Reading.{Reading, Whole, GoesOn, EndedAbove, settled, read, unless_bad}
 use Rattle.yl_scalar.specs.Folding.{break_of}
 use Rattle.yl_scalar.specs.Plain.{part, reaches_end, continues}
-use Rattle.yl_scalar.specs.PlainSteps.{PlainState, plain_extent, plain_begin, plain_step, plain_finish, plain, taken, with_line}
-use Rattle.yl_scalar.specs.PlainLines.{lines_taken, lines_below, folded, end_column, place_at, first_of, bad_below, unless_refused, of_lines, PlainLaw}
+use Rattle.yl_scalar.specs.PlainSteps.{PlainState, plain_extent, plain_step, plain_finish, taken, with_line}
+use Rattle.yl_scalar.specs.PlainLines.{lines_taken, folded, end_column, bad_below, unless_refused, of_lines, PlainLaw}
 
 abbrev whole : ℕ → ℕ → List ℕ → Reading
 whole down column value = Whole (record { down = down; column = column; value = value })

@@ -1,13 +1,13 @@
 -- A text that is written in quotes is read back.
-use Rattle.std.proofs.Common.{◌≡◌, ℕ, zero, suc, ◌+◌, Bool, true, false, not, ◌&&◌, cond, List, [], ◌∷◌, ◌++◌, length, refl, ap, sym, ◌∙◌, append_assoc, arith, eqb, zero-add, ne_eqb}
+use Rattle.std.proofs.Common.{◌≡◌, ℕ, suc, ◌+◌, Bool, true, false, ◌&&◌, cond, List, [], ◌∷◌, ◌++◌, length, refl, ap, sym, ◌∙◌, append_assoc, arith, eqb, zero-add, ne_eqb}
 use Rattle.std.specs.List.{list_all}
 use Rattle.std.proofs.lemmas.Bool.{eqb-true}
 use Rattle.std.proofs.lemmas.List.{append-nil}
 use Rattle.yl_scalar.specs.Allowed.{is_quoted_character}
 use Rattle.yl_scalar.specs.Reading.{Whole, settled, read}
-use Rattle.yl_scalar.specs.Quoted.{Stretch, Closes, stretch, quote, begins_with}
-use Rattle.yl_scalar.specs.QuotedSteps.{QuotedState, took, opened, quoted, quoted_step, quoted_finish}
-use Rattle.yl_scalar.specs.Written.{in_double, in_single, written, QuotedLaw}
+use Rattle.yl_scalar.specs.Quoted.{Closes, stretch, quote, begins_with}
+use Rattle.yl_scalar.specs.QuotedSteps.{took, opened, quoted_step, quoted_finish}
+use Rattle.yl_scalar.specs.Written.{written, QuotedLaw}
 
 -- text that was read before a character, and text behind it
 abbrev ReadsBack : Bool → List ℕ → List ℕ → List ℕ → ℕ → ℕ → Type 0

@@ -12,3 +12,4 @@ pub mod Reader
 pub mod Part
 pub mod PlainLines
 pub mod Written
+pub mod BlockLines

@@ -1,5 +1,5 @@
 -- What a reader of a quoted scalar has of one line.
-use Rattle.std.specs.Prelude.{ℕ, List, Option, Some, None, ◌+◌, ◌≤◌, ◌<◌, ◌^◌}
+use Rattle.std.specs.Prelude.{ℕ, List, Some, None, ◌+◌, ◌≤◌, ◌<◌, ◌^◌}
 use Rattle.yl_scalar.specs.Quoted.{Stretch, Closes, Breaks, Faulty}
 use Rattle.yl_scalar.specs.declared.quoted.Part.{Part}
 use Rattle.yl_scalar.specs.declared.quoted.Part.TheVariants.{Open, Closed, Faulted}

@@ -1,6 +1,6 @@
 -- Plain scalars: YAML 1.2.2, 7.3.3.
-use Rattle.std.specs.Prelude.{ℕ, Bool, true, false, not, ◌&&◌, ◌||◌, ◌==◌, nat_lt, nat_le, if◌then◌else◌, List, [], ◌∷◌, ◌++◌, ◌+◌, ◌-◌, take, length}
-use Rattle.yl_text.specs.Character.{is_white, is_flow_indicator, is_plain_safe, is_blank, indentation, is_marker, without_front, without_end}
+use Rattle.std.specs.Prelude.{ℕ, Bool, true, false, not, ◌&&◌, ◌||◌, ◌==◌, nat_lt, nat_le, if◌then◌else◌, List, [], ◌∷◌, ◌+◌, take, length}
+use Rattle.yl_text.specs.Character.{is_white, is_flow_indicator, is_plain_safe, indentation, is_marker, without_front, without_end}
 
 -- a plain-safe character comes next
 abbrev pub is_safe_next : Bool → List ℕ → Bool

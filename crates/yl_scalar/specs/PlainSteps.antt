@@ -1,5 +1,5 @@
 -- Plain scalars line by line: YAML 1.2.2, 7.3.3 and 6.5.
-use Rattle.std.specs.Prelude.{ℕ, Bool, true, false, if◌then◌else◌, List, [], ◌++◌, ◌+◌, length}
+use Rattle.std.specs.Prelude.{ℕ, Bool, true, false, if◌then◌else◌, List, ◌++◌, ◌+◌, length}
 use Rattle.std.specs.List.{prefix_len}
 use Rattle.yl_text.specs.Character.{is_white, is_blank, without_front}
 use Rattle.yl_scalar.specs.Allowed.{first_bad}

@@ -2,7 +2,7 @@
 use Rattle.std.specs.Prelude.{ℕ, Bool, ◌==◌, if◌then◌else◌, List, [], ◌++◌, ◌+◌, length, Option, Some, None, option_map}
 use Rattle.std.specs.List.{prefix_len}
 use Rattle.yl_text.specs.Character.{is_white, is_blank, is_marker, without_front}
-use Rattle.yl_scalar.specs.Reading.{Extent, Reading, Refused, Stepped, GoesOn, EndsIn, Fails, settled, read}
+use Rattle.yl_scalar.specs.Reading.{Reading, Refused, Stepped, GoesOn, EndsIn, Fails, settled, read}
 use Rattle.yl_scalar.specs.Folding.{joint}
 use Rattle.yl_scalar.specs.Quoted.{Stretch, Closes, Breaks, Faulty, stretch}
 use Rattle.yl_scalar.specs.declared.answer.ScalarFault.TheVariants.{UnclosedQuote, MarkerInQuote, BadEscape}

@@ -1,5 +1,5 @@
 -- What the readers of scalars and their answers say.
-use Rattle.std.specs.Prelude.{ℕ, ◌+◌, Bool, List, []}
+use Rattle.std.specs.Prelude.{ℕ, ◌+◌, Bool, List}
 use Rattle.yl_scalar.specs.Reading.{Extent, Reading, Whole, Refused, Stepped, GoesOn, EndsIn, EndedAbove, Fails}
 use Rattle.yl_scalar.specs.PlainSteps.{PlainState}
 use Rattle.yl_scalar.specs.QuotedSteps.{QuotedState}

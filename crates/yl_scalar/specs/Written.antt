@@ -1,5 +1,5 @@
 -- A text as a quoted scalar in one line: YAML 1.2.2, 7.3.1 and 7.3.2.
-use Rattle.std.specs.Prelude.{ℕ, Bool, true, false, not, ◌&&◌, ◌||◌, ◌==◌, if◌then◌else◌, List, [], ◌∷◌, ◌++◌, ◌+◌, length, ◌≡◌}
+use Rattle.std.specs.Prelude.{ℕ, Bool, true, false, ◌==◌, if◌then◌else◌, List, [], ◌∷◌, ◌++◌, ◌+◌, length, ◌≡◌}
 use Rattle.std.specs.List.{list_all}
 use Rattle.yl_scalar.specs.Allowed.{is_quoted_character}
 use Rattle.yl_scalar.specs.Reading.{Whole}

@@ -15,6 +15,7 @@ mod plain;
 mod quoted;
 mod whole;
 
+ghost use Rattle.yl_scalar.specs.BlockLines.{BlockLaw};
 ghost use Rattle.yl_scalar.specs.PlainLines.{PlainLaw};
 ghost use Rattle.yl_scalar.specs.Written.{QuotedLaw};
 
@@ -28,9 +29,10 @@ pub use plain::{Plain, is_safe_next};
 pub use quoted::Quoted;
 pub use whole::{read_block, read_plain, read_quoted};
 
-/// Laws of the definitions: a plain scalar is what the lines that it takes make of it, and a text that is written in quotes is
-/// read back.
+/// Laws of the definitions: a plain scalar and a block scalar are what the lines that they take make of them, and a text that is
+/// written in quotes is read back.
 pub fn scalars_by_their_lines()
     ensures plain { PlainLaw }
     ensures quoted { QuotedLaw }
+    ensures block { BlockLaw }
 {}

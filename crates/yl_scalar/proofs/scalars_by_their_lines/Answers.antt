@@ -1,3 +1,4 @@
+use Rattle.yl_scalar.proofs.BlockRead.{block_law}
 use Rattle.yl_scalar.proofs.PlainRead.{plain_law}
 use Rattle.yl_scalar.proofs.QuotedRead.{quoted_law}
 use Rattle.yl_scalar.proofs.scalars_by_their_lines.Goals as goal
@@ -7,3 +8,6 @@ returns-clause-plain c = plain_law
 
 pub returns-clause-quoted : goal.returns-clause-quoted
 returns-clause-quoted c = quoted_law
+
+pub returns-clause-block : goal.returns-clause-block
+returns-clause-block c = block_law

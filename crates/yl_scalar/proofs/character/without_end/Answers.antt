@@ -1,5 +1,5 @@
-use Rattle.std.proofs.Common.{◌≡◌, ◌+◌, ◌-◌, ◌≤◌, length, take, arith, ap, sym, ◌∙◌, refl, length-take}
-use Rattle.yl_text.specs.Character.{without_end, is_white}
+use Rattle.std.proofs.Common.{◌≡◌, take, arith, ap, sym, ◌∙◌}
+use Rattle.yl_text.specs.Character.{without_end}
 use Rattle.yl_scalar.proofs.Trim.{without_end_back, without_end_here}
 use Rattle.yl_scalar.proofs.character.without_end.Goals as goal
 use Rattle.yl_scalar.proofs.character.without_end.Goals.{then-loop-len-test+else-is_white, else-loop-len-test}

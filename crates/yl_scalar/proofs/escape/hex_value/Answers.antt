@@ -1,11 +1,8 @@
-use Rattle.std.proofs.Common.{◌≡◌, ℕ, Bool, true, false, ◌&&◌, suc, ◌<◌, ◌≤◌, ◌+◌, ◌*◌, ◌^◌, List, length, take, get_or, arith, rules, ap, sym, ◌∙◌, refl, ltb, add-one, lit<, lt-ltb}
-use Rattle.std.specs.List.{list_all}
+use Rattle.std.proofs.Common.{◌≡◌, ℕ, ◌<◌, ◌≤◌, ◌+◌, ◌*◌, ◌^◌, get_or, arith, ap, ◌∙◌, add-one, lit<, lt-ltb}
 use Rattle.std.specs.Char.{is_digit, digit_value}
-use Rattle.std.specs.Str.Parse.{digits_value}
 use Rattle.std.proofs.lemmas.List.{get_or_read}
 use Rattle.std.proofs.lemmas.List.Folds.{list_all_more}
 use Rattle.std.proofs.lemmas.Int.Digits.{digits_value_more}
-use Rattle.std.proofs.lemmas.Grind.{common_steps}
 use Rattle.std.proofs.Math.Nat.{pow-suc, pow-le-pow_right}
 use Rattle.yl_scalar.proofs.escape.hex_value.Goals as goal
 

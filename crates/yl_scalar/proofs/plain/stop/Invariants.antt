@@ -1,5 +1,5 @@
-use Rattle.std.proofs.Common.{◌≡◌, ◌≤◌, ◌<◌, ◌+◌, length, List, take, drop, ℕ, ◌-◌, ◌*◌}
-use Rattle.yl_scalar.specs.Plain.{is_safe_next, stop}
+use Rattle.std.proofs.Common.{◌≡◌, ◌+◌, drop}
+use Rattle.yl_scalar.specs.Plain.{stop}
 use Rattle.yl_scalar.proofs.plain.stop.Given as goal
 
 -- what is passed and what is still to come make the whole

@@ -1,4 +1,4 @@
-use Rattle.std.proofs.Common.{◌≡◌, ◌+◌, ◌≤◌, take, drop, length}
+use Rattle.std.proofs.Common.{◌≡◌, drop, length}
 use Rattle.yl_scalar.specs.Quoted.{stretch}
 use Rattle.yl_scalar.proofs.quoted.stretch.Given as goal
 
