@@ -6,6 +6,7 @@ pub mod LastSwitch
 pub mod Noted
 pub mod Order
 pub mod Places
+pub mod Rows
 pub mod Unique
 pub mod With
 pub mod Writing
