@@ -1,3 +1,9 @@
+pub mod Fault
 pub mod Run
 pub mod Text
+pub use Rattle.yl_config.specs.Config
+pub use Rattle.yl_report.specs.Report
+pub use Rattle.yl_report.specs.Written
+pub use Rattle.yl_session.specs.TextReport
+pub use Rattle.yl_text.specs.Lines
 pub use Rattle.yl_text.specs.Watched

@@ -30,6 +30,16 @@ pub enum RunFault {
     Memory,
 }
 
+/// What ends a program before its work is done.
+#[derive(Clone, Copy, Debug)]
+pub enum Fault<'a> {
+    /// The words are no command.
+    Use,
+    Memory,
+    /// The run over the file of this name ended early.
+    Run(&'a str, RunFault),
+}
+
 impl From<AllocError> for RunFault {
     ghost from_gives = { λ _ fault. fault ≡ Memory };
 

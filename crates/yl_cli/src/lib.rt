@@ -1,8 +1,13 @@
-//! From the bytes of a reader to the report on a writer.
+//! From the words of a command line to a report on a writer.
 #![tactic(auto)]
 
 mod fault;
 mod input;
+mod run;
+mod saying;
 
-pub use fault::{BadText, RunFault};
+pub use fault::{BadText, Fault, RunFault};
 pub use input::{MOST_READ, read_text, text_of};
+pub use run::{joined, lint};
+pub use saying::say;
+pub use yl_args::{Asked, Flags, Program, Stop, asked};

@@ -1,0 +1,75 @@
+//! A file linted from its bytes to printed lines and a status.
+ghost use Rattle.std.specs.Prelude.{◌≡◌, ◌-◌, ◌^◌, ◌<◌, IfOk, IfErr, IfSome, OnOk, OnErr};
+ghost use Rattle.std.specs.Io.KnownBytes.{Appends};
+ghost use Rattle.yl_text.specs.Lines.{lines_of};
+ghost use Rattle.yl_text.specs.Watched.{device_of, failures_of};
+ghost use Rattle.yl_report.specs.Written.{AppendsFront};
+ghost use Rattle.yl_report.specs.Report.{printed, status_of};
+ghost use Rattle.yl_session.specs.TextReport.{report};
+ghost use Rattle.yl_cli.specs.Text.{without_mark, TakesAtMost};
+ghost use Rattle.yl_cli.specs.Run.{IsRunFault, joined_status};
+
+use crate::fault::RunFault;
+use crate::input::{MOST_READ, read_text, text_of};
+use std::alloc::Allocator;
+use std::io::{Read, Write};
+use yl_args::Flags;
+use yl_config::Config;
+use yl_report::{status, write_report};
+use yl_session::report_of_text;
+use yl_text::Watched;
+
+/// Reads a text to its end, writes its report, and answers its status: 1 with an error, else 2 with a
+/// warning where `strict` is asked, else 0. The printed lines begin with `name`. On a fault a
+/// beginning of the report is out.
+pub fn lint<A: Allocator + Copy, R: Read, W: Write>(
+    alloc: A,
+    name: &str,
+    config: &Config,
+    flags: Flags,
+    input: &mut Watched<R>,
+    out: &mut Watched<W>,
+) -> Result<u8, RunFault>
+    requires reader { failures_of input.old < 2 ^ 64 - 1 }
+    requires writer { failures_of out.old < 2 ^ 64 - 1 }
+    ensures output { OnOk result (IfSome (R.remaining (device_of input.old)) (λ bytes.
+        Appends (W.contents (device_of out.old)) (W.contents (device_of out.new))
+        (printed name.now (report config.now (lines_of (without_mark bytes))) flags.no_warnings))) }
+    ensures code { IfOk result (λ code. IfSome (R.remaining (device_of input.old)) (λ bytes.
+        code ≡ status_of (report config.now (lines_of (without_mark bytes))) flags.strict)) }
+    ensures read { TakesAtMost MOST_READ (R.remaining (device_of input.old)) (R.remaining (device_of input.new)) }
+    ensures reader_quiet { OnOk result (failures_of input.new ≡ failures_of input.old) }
+    ensures writer_quiet { OnOk result (failures_of out.new ≡ failures_of out.old) }
+    ensures begun { OnErr result (IfSome (R.remaining (device_of input.old)) (λ bytes.
+        AppendsFront (W.contents (device_of out.old)) (W.contents (device_of out.new))
+        (printed name.now (report config.now (lines_of (without_mark bytes))) flags.no_warnings))) }
+    ensures fault { IfErr result (IsRunFault (record {
+      reads_before = failures_of input.old;
+      reads_after = failures_of input.new;
+      writes_before = failures_of out.old;
+      writes_after = failures_of out.new;
+    })
+        (R.remaining (device_of input.old))) }
+{
+    let bytes = read_text(alloc, input)?;
+    let text = match text_of(bytes.as_slice()) {
+        Ok(text) => text,
+        Err(fault) => return Err(RunFault::Text(fault)),
+    };
+    let problems = report_of_text(alloc, config, text)?;
+    match write_report(name, problems.as_slice(), flags.no_warnings, out) {
+        Ok(()) => Ok(status(problems.as_slice(), flags.strict)),
+        Err(_) => Err(RunFault::Write),
+    }
+}
+
+/// The status of two files: 1 if one is 1, else 2 if one is 2, else 0.
+pub fn joined(a: u8, b: u8) -> u8
+    ensures { result ≡ joined_status a b }
+{
+    match (a, b) {
+        (1, _) | (_, 1) => 1,
+        (2, _) | (_, 2) => 2,
+        _ => 0,
+    }
+}

@@ -1,0 +1,87 @@
+//! Readers and writers in memory.
+use std::alloc::Global;
+use std::io;
+use std::io::{ErrorKind, Read, Write};
+
+/// A reader over bytes in memory, which gives at most `most` bytes a call and fails at the call `fails_at`,
+/// counted from 1.
+#[derive(Drop)]
+pub struct Source<'a> {
+    bytes: &'a [u8],
+    most: usize,
+    calls: u64,
+    fails_at: u64,
+}
+
+impl Read for Source<'_> {
+    fn read(&mut self, buf: &mut [u8]) -> io::Result<usize> {
+        self.calls = self.calls.saturating_add(1);
+        if self.calls == self.fails_at {
+            return Err(io::Error::from(ErrorKind::Other));
+        }
+        let room = buf.len().min(self.most);
+        let mut bytes = self.bytes;
+        let answer = bytes.read(&mut buf[..room]);
+        self.bytes = bytes;
+        answer
+    }
+}
+
+/// A reader that gives the same byte so many times.
+#[derive(Drop)]
+pub struct Repeated {
+    pub byte: u8,
+    pub left: usize,
+}
+
+impl Read for Repeated {
+    fn read(&mut self, buf: &mut [u8]) -> io::Result<usize> {
+        let n = buf.len().min(self.left);
+        buf[..n].fill(self.byte);
+        self.left -= n;
+        Ok(n)
+    }
+}
+
+/// A writer over memory, which takes at most `most` bytes a call and `room` in all, and then fails or takes none.
+#[derive(Drop)]
+pub struct Sink {
+    pub bytes: Vec<u8>,
+    most: usize,
+    room: usize,
+    fails: bool,
+}
+
+impl Write for Sink {
+    fn write(&mut self, piece: &[u8]) -> io::Result<usize> {
+        let n = piece.len().min(self.most).min(self.room);
+        if n == 0 && self.fails {
+            return Err(io::Error::from(ErrorKind::Other));
+        }
+        self.bytes.extend_from_slice(&piece[..n])?;
+        self.room -= n;
+        Ok(n)
+    }
+
+    fn flush(&mut self) -> io::Result<()> {
+        Ok(())
+    }
+}
+
+pub fn make_source(bytes: &[u8], most: usize, fails_at: u64) -> Source<'_> {
+    Source {
+        bytes,
+        most,
+        calls: 0,
+        fails_at,
+    }
+}
+
+pub fn make_sink(alloc: Global, most: usize, room: usize, fails: bool) -> Sink {
+    Sink {
+        bytes: Vec::new(alloc),
+        most,
+        room,
+        fails,
+    }
+}

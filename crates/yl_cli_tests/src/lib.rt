@@ -1,0 +1,9 @@
+//! Tests of `lint`, `say` and `joined` over devices that fail and memory that is refused.
+#![tactic(auto)]
+
+#[cfg(test)]
+mod devices;
+#[cfg(test)]
+mod linting;
+#[cfg(test)]
+mod saying;
