@@ -1,5 +1,12 @@
+pub mod Addressed
+pub mod Ends
+pub mod HasLine
 pub mod Inserted
+pub mod LastSwitch
+pub mod Noted
 pub mod Order
+pub mod Places
+pub mod Rows
 pub mod Unique
 pub mod With
 pub mod Writing

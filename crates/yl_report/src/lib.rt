@@ -2,11 +2,16 @@
 #![tactic(auto)]
 
 mod arranging;
+mod comment;
+mod directive;
+mod marks;
+mod noting;
 mod printing;
 mod problem;
 mod silence;
 
 pub use arranging::{arrange, compare, one_arrangement};
+pub use comment::CommentAt;
 pub use printing::{WriteFault, write_parts, write_report};
 pub use problem::{Problem, status};
 pub use silence::Silences;

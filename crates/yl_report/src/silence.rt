@@ -1,15 +1,32 @@
-use std::alloc::Allocator;
+//! What the silencing comments of a text say.
+ghost use Rattle.std.specs.Prelude.{◌≡◌};
+ghost use Rattle.yl_rules.specs.Levels.{slot};
+
+use crate::comment::{CommentAt, disables_file};
+use crate::marks::Marks;
+use crate::noting::marks_in;
+use std::alloc::{AllocError, Allocator};
 use yl_text::RuleId;
+
+// A place for each rule.
+fn slot(rule: RuleId) -> usize
+    ensures { result ≡ slot rule }
+{
+    rule as usize
+}
 
 /// What the silencing comments of a text say.
 #[derive(Drop)]
 pub struct Silences<A: Allocator> {
     is_file_silenced: bool,
-    switches: Vec<u32, A>,
+    // By rule; none if the text has no silencing comment.
+    rules: Vec<Marks<A>, A>,
 }
 
 impl<A: Allocator> Silences<A> {
-    ghost use Rattle.std.specs.Prelude.{◌≡◌, false};
+    ghost use Rattle.std.specs.Prelude.{◌≡◌, false, IfOk, map};
+    ghost use Rattle.yl_report.specs.CommentOf.{comment_of};
+    ghost use Rattle.yl_report.specs.Directive.{is_silenced, disables_file as disables_file_of};
     ghost use Rattle.yl_report.specs.Silence.{file_silenced, silenced};
 
     /// Nothing is silenced.
@@ -19,8 +36,26 @@ impl<A: Allocator> Silences<A> {
     {
         Silences {
             is_file_silenced: false,
-            switches: Vec::new(alloc),
+            rules: Vec::new(alloc),
         }
+    }
+
+    /// What the first line and the comments of a text say.
+    pub fn read(
+        alloc: A,
+        first_row: &str,
+        comments: &[CommentAt<'_>],
+    ) -> Result<Silences<A>, AllocError>
+    where
+        A: Copy,
+        ensures file { IfOk result (λ s. file_silenced s ≡ disables_file_of first_row.now) }
+        ensures lines { IfOk result (λ s. silenced s ≡ is_silenced (map comment_of comments.now)) }
+    {
+        let rules = marks_in(alloc, comments)?;
+        Ok(Silences {
+            is_file_silenced: disables_file(first_row),
+            rules,
+        })
     }
 
     /// Whether nothing of the file is reported.
@@ -34,6 +69,9 @@ impl<A: Allocator> Silences<A> {
     pub fn is_silenced(&self, rule: RuleId, line: u64) -> bool
         ensures { result ≡ silenced self.now rule line }
     {
-        false
+        match self.rules.get(slot(rule)) {
+            Some(marks) => marks.is_off(line),
+            None => false,
+        }
     }
 }

@@ -1,0 +1,74 @@
+//! The lines at which one rule says nothing.
+ghost use Rattle.std.specs.Prelude.{◌≡◌, ℕ, ◌≤◌, ◌<◌, ◌==◌, OnOk, nat_le, IsTrue, if◌then◌else◌};
+ghost use Rattle.std.specs.List.{list_any};
+ghost use Rattle.std.specs.List.Sorted.{IsNonDecreasing, IsNonDecreasingBy};
+ghost use Rattle.yl_report.specs.Switched.{switched_off};
+
+use std::alloc::{AllocError, Allocator};
+
+/// From a line on, counted from 0, a rule is off or on.
+#[derive(Clone, Copy)]
+pub struct Switch {
+    pub line: u64,
+    pub is_off: bool,
+}
+
+// Puts a switch behind the others, without those that it makes void: that stand at or behind its line.
+pub fn push_switch<A: Allocator>(
+    switches: &mut Vec<Switch, A>,
+    line: u64,
+    is_off: bool,
+) -> Result<(), AllocError>
+    requires { IsNonDecreasingBy (λ w. w.line) switches.old.items }
+    ensures rising { OnOk result (IsNonDecreasingBy (λ w. w.line) switches.new.items) }
+    ensures switched { OnOk result ((at : ℕ) → switched_off switches.new.items at
+        ≡ (if nat_le line at then is_off else switched_off switches.old.items at)) }
+{
+    while switches.last().is_some_and(|last| last.line > line) {
+        let _ = switches.pop();
+    }
+    switches.push(Switch { line, is_off })?;
+    Ok(())
+}
+
+// Whether the last switch at or before a line is off.
+fn is_switched_off(switches: &[Switch], line: u64) -> bool
+    requires { IsNonDecreasingBy (λ w. w.line) switches.now }
+    ensures { result ≡ switched_off switches.now line }
+{
+    let behind = switches.partition_point(|switch| switch.line <= line);
+    if behind == 0 {
+        return false;
+    }
+    switches[behind - 1].is_off
+}
+
+fn has_line(lines: &[u64], line: u64) -> bool
+    requires { IsNonDecreasing lines.now }
+    ensures { result ≡ list_any (λ own. own == line) lines.now }
+{
+    lines.binary_search(&line).is_ok()
+}
+
+/// The lines, counted from 0, at which one rule says nothing.
+#[derive(Drop)]
+pub struct Marks<A: Allocator> {
+    // Where the rule is switched off and on, in the order of the lines.
+    pub switches: Vec<Switch, A>,
+    // The single lines at which it is off, in order.
+    pub lines: Vec<u64, A>,
+    ghost rising: { IsNonDecreasingBy (λ w. w.line) switches.items },
+    ghost ordered: { IsNonDecreasing lines.items },
+}
+
+impl<A: Allocator> Marks<A> {
+    ghost use Rattle.std.specs.Prelude.{◌≡◌, Some};
+    ghost use Rattle.yl_report.specs.Silence.{marked_off};
+
+    /// Whether the rule says nothing at a line, counted from 0.
+    pub fn is_off(&self, line: u64) -> bool
+        ensures { result ≡ marked_off (Some self.now) line }
+    {
+        is_switched_off(&self.switches, line) || has_line(&self.lines, line)
+    }
+}

@@ -1,0 +1,4 @@
+mod devices;
+mod printing;
+mod refused;
+mod silencing;
