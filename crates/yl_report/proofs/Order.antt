@@ -1,8 +1,8 @@
 -- The order of findings is total, and only equal findings tie.
-use Rattle.std.proofs.Common.{◌≡◌, ℕ, List, [], ◌∷◌, Bool, true, false, refl, sym, ◌∙◌, ap, Option, Some, None}
+use Rattle.std.proofs.Common.{◌≡◌, ℕ, List, [], ◌∷◌, Bool, refl, sym, ◌∙◌, ap, Option, Some}
 use Rattle.std.specs.Prelude.{bytes_eq}
 use Rattle.std.specs.List.{find}
-use Rattle.std.specs.Ordering.{nat_cmp, then_cmp, on, eq_by_cmp, is_eq, is_lt, ordering_then}
+use Rattle.std.specs.Ordering.{nat_cmp, eq_by_cmp, is_lt, ordering_then}
 use Rattle.std.specs.declared.cmp.Ordering.{Ordering}
 use Rattle.std.specs.declared.cmp.Ordering.TheVariants.{Less, Equal, Greater}
 use Rattle.std.specs.Cmp.{IsTotalOrder, then_total, on_total, nat_cmp_total, IsStrictWeakOrder}

@@ -1,5 +1,5 @@
 -- What the silencing comments of a text say of each rule and line, as it is kept.
-use Rattle.std.specs.Prelude.{ℕ, Bool, false, ◌||◌, ◌==◌, List, Option, Some, None, slice_get}
+use Rattle.std.specs.Prelude.{ℕ, Bool, false, ◌||◌, ◌==◌, Option, Some, None, slice_get}
 use Rattle.std.specs.List.{list_any}
 use Rattle.yl_text.specs.declared.found.RuleId.{RuleId}
 use Rattle.yl_rules.specs.Levels.{slot}

@@ -1,7 +1,6 @@
-use Rattle.std.proofs.Common.{rules, Bool, ◌≡◌, sym, ◌∙◌, ap}
+use Rattle.std.proofs.Common.{rules, Bool, ◌≡◌, ◌∙◌, ap}
 use Rattle.std.specs.List.{filter, filter_map}
 use Rattle.std.proofs.lemmas.Fn.{filter_same}
-use Rattle.yl_text.specs.Finding.{Finding}
 use Rattle.yl_rules.specs.LevelOf.{level_of}
 use Rattle.yl_report.specs.Silence.{silenced, file_silenced}
 use Rattle.yl_report.specs.Report.{is_reported, with_level, arranged, sorted_once}

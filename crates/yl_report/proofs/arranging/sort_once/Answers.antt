@@ -1,4 +1,4 @@
-use Rattle.std.proofs.Common.{◌≡◌, rules, Bool, List}
+use Rattle.std.proofs.Common.{◌≡◌, rules}
 use Rattle.std.specs.Ordering.{is_lt, eq_by_cmp}
 use Rattle.std.specs.List.{dedup}
 use Rattle.std.specs.List.Sorted.{IsSorted}
@@ -6,7 +6,7 @@ use Rattle.std.proofs.lemmas.Fn.{dedup_same}
 use Rattle.std.proofs.lemmas.List.Sorted.{answers_always}
 use Rattle.yl_text.specs.Finding.{Finding}
 use Rattle.yl_report.specs.Report.{order, sorted_once}
-use Rattle.yl_report.proofs.Order.{order_total, below_ranks, only_equal, arranged}
+use Rattle.yl_report.proofs.Order.{below_ranks, arranged}
 use Rattle.yl_report.proofs.Unique.{one_arrangement}
 use Rattle.yl_report.proofs.Inserted.{sorted_once_arranged}
 use Rattle.yl_report.proofs.arranging.sort_once.Goals as goal

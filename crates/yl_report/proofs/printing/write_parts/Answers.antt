@@ -1,4 +1,3 @@
-use Rattle.std.proofs.Common.{rules}
 use Rattle.yl_report.proofs.Writing.{passes_break_end, err_then}
 use Rattle.yl_report.proofs.printing.write_parts.Goals as goal
 
