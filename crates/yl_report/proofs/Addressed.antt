@@ -1,25 +1,13 @@
 -- Only comments that begin as all do that silence a rule count.
-<<<<<<< HEAD
-use Rattle.std.proofs.Common.{◌≡◌, ◌<◌, ◌≤◌, ◌+◌, ℕ, suc, List, [], ◌∷◌, ◌++◌, Bool, true, false, ◌||◌, ◌&&◌, cond, if◌then◌else◌, refl, sym, ap, ◌∙◌, take, map, length, drop}
-=======
 use Rattle.std.proofs.Common.{◌≡◌, ℕ, List, [], ◌∷◌, ◌++◌, Bool, true, false, ◌||◌, cond, if◌then◌else◌, refl, sym, ap, ◌∙◌, map}
->>>>>>> c7693bfb1b5ef3905c20766190c6a184ab068715
 use Rattle.std.specs.Prelude.{◌==◌, codes, nat_le, None}
 use Rattle.std.specs.List.{list_any, filter, last_or, starts_with}
 use Rattle.std.proofs.lemmas.Bool.{and_parts, and_from, and_right, or_from, false_from_ne_true}
 use Rattle.yl_text.specs.Character.{is_blank, without_end}
-<<<<<<< HEAD
-use Rattle.yl_text.specs.Finding.{rule_name}
-use Rattle.yl_text.specs.declared.found.RuleId.{RuleId}
-use Rattle.yl_report.specs.declared.comment.CommentAt.{CommentAt}
-use Rattle.yl_report.specs.CommentOf.{comment_of, is_addressed}
-use Rattle.yl_report.specs.Directive.{Comment, says, disables, enables, switches, is_disabled_by, is_switched_off, own_line, disables_line, is_silenced, rest_speaks}
-=======
 use Rattle.yl_text.specs.declared.found.RuleId.{RuleId}
 use Rattle.yl_report.specs.declared.comment.CommentAt.{CommentAt}
 use Rattle.yl_report.specs.CommentOf.{comment_of, is_addressed}
 use Rattle.yl_report.specs.Directive.{says, disables, enables, switches, is_disabled_by, disables_line, is_silenced}
->>>>>>> c7693bfb1b5ef3905c20766190c6a184ab068715
 
 abbrev begins : List ℕ → List ℕ → Bool
 begins = starts_with (λ a b. a == b)

@@ -1,9 +1,5 @@
 -- A search in sorted lines.
-<<<<<<< HEAD
-use Rattle.std.proofs.Common.{◌≡◌, ◌<◌, ◌≤◌, ◌⊎◌, inl, inr, ℕ, List, length, get_or, arith, Bool, true, false, Result, Ok, Err, sym, ap, ◌∙◌}
-=======
 use Rattle.std.proofs.Common.{◌≡◌, ◌<◌, ◌≤◌, ◌⊎◌, inl, inr, ℕ, List, length, get_or, arith, Result, Ok, Err, sym, ◌∙◌}
->>>>>>> c7693bfb1b5ef3905c20766190c6a184ab068715
 use Rattle.std.specs.Prelude.{◌==◌}
 use Rattle.std.specs.Ordering.{nat_cmp}
 use Rattle.std.specs.Result.{is_ok}

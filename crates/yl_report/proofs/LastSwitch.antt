@@ -1,9 +1,5 @@
 -- Laws of the last switch at or before a line.
-<<<<<<< HEAD
-use Rattle.std.proofs.Common.{◌≡◌, ℕ, zero, suc, ◌+◌, ◌<◌, ◌≤◌, List, [], ◌∷◌, ◌++◌, Bool, true, false, cond, if◌then◌else◌, refl, sym, ap, ◌∙◌, take, length, get_or, arith, Option, Some, None, append-nil, ltb, leb}
-=======
 use Rattle.std.proofs.Common.{◌≡◌, ℕ, zero, suc, ◌+◌, ◌<◌, List, [], ◌∷◌, ◌++◌, Bool, true, false, cond, if◌then◌else◌, refl, sym, ap, ◌∙◌, take, length, get_or, arith, Option, Some, None, append-nil}
->>>>>>> c7693bfb1b5ef3905c20766190c6a184ab068715
 use Rattle.std.specs.Prelude.{nat_le}
 use Rattle.std.specs.List.{filter, last_or, AllWithin}
 use Rattle.std.proofs.lemmas.List.{take_more}

@@ -2,11 +2,7 @@
 use Rattle.std.proofs.Common.{◌≡◌, refl, List, [], ◌∷◌, ◌++◌, true, false, codes}
 use Rattle.std.specs.Fmt.{digits}
 use Rattle.yl_text.specs.declared.found.RuleId.TheVariants.{NewLineAtEndOfFile, Syntax, Colons, TrailingSpaces}
-<<<<<<< HEAD
-use Rattle.yl_text.specs.Finding.{Finding, found}
-=======
 use Rattle.yl_text.specs.Finding.{found}
->>>>>>> c7693bfb1b5ef3905c20766190c6a184ab068715
 use Rattle.yl_rules.specs.Levels.{standard_levels}
 use Rattle.yl_report.specs.Directive.{Comment, is_silenced, disables_file}
 use Rattle.yl_report.specs.Report.{Reported, arranged, printed, status_of}
@@ -16,11 +12,7 @@ abbrev cut_off : List Reported
 cut_off = arranged standard_levels false (λ _ _. false) (found Syntax 2 9 (codes "syntax error: comma or closing bracket expected") ++ found NewLineAtEndOfFile 2 9 (codes "no new line character at the end of file") ++ found Syntax 2 9 (codes "syntax error: comma or closing bracket expected"))
 
 cut_off_printed : printed (codes "f.yaml") cut_off true
-<<<<<<< HEAD
-  ≡ codes "f.yaml:2:9: [error] no new line character at the end of file (new-line-at-end-of-file)\nf.yaml:2:9: [error] syntax error: comma or closing bracket expected (syntax)\n"
-=======
     ≡ codes "f.yaml:2:9: [error] no new line character at the end of file (new-line-at-end-of-file)\nf.yaml:2:9: [error] syntax error: comma or closing bracket expected (syntax)\n"
->>>>>>> c7693bfb1b5ef3905c20766190c6a184ab068715
 unfolding digits
 cut_off_printed = refl
 

@@ -1,8 +1,4 @@
-<<<<<<< HEAD
-use Rattle.std.proofs.Common.{rules, tests, ◌==◌, ℕ, List, drop, bytes_eq}
-=======
 use Rattle.std.proofs.Common.{rules, tests, ◌==◌, ℕ}
->>>>>>> c7693bfb1b5ef3905c20766190c6a184ab068715
 use Rattle.std.proofs.lemmas.Iterator.Splits.{YieldsList-from_slice_split}
 use Rattle.std.proofs.lemmas.Iterator.Search.{any_from_yields_List}
 use Rattle.yl_report.specs.Directive.{is_name}

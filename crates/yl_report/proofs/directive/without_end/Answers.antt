@@ -1,8 +1,4 @@
-<<<<<<< HEAD
-use Rattle.std.proofs.Common.{arith, ◌≡◌, ◌+◌, ◌-◌, ◌≤◌, sym, ◌∙◌}
-=======
 use Rattle.std.proofs.Common.{arith, ◌-◌, sym, ◌∙◌}
->>>>>>> c7693bfb1b5ef3905c20766190c6a184ab068715
 use Rattle.yl_report.proofs.Ends.{white_goes, other_stays, none_stays}
 use Rattle.yl_report.proofs.directive.without_end.Goals as goal
 use Rattle.yl_report.proofs.directive.without_end.Goals.{then-loop-end-test+else-is_white, else-loop-end-test}

@@ -1,11 +1,5 @@
-<<<<<<< HEAD
-use Rattle.std.proofs.Common.{◌≡◌, ◌-◌, sym, arith, rules, true, false}
-use Rattle.std.specs.Prelude.{nat_le}
-use Rattle.std.specs.List.Sorted.{IsPartitionPoint}
-=======
 use Rattle.std.proofs.Common.{◌-◌, sym, arith, rules}
 use Rattle.std.specs.Prelude.{nat_le}
->>>>>>> c7693bfb1b5ef3905c20766190c6a184ab068715
 use Rattle.std.proofs.lemmas.List.Sorted.{IsPartitionPoint-from_clause, IsPartitionedBy-leb}
 use Rattle.yl_report.specs.declared.marks.Switch.{Switch}
 use Rattle.yl_report.proofs.LastSwitch.{switched_off-none, switched_off-at}

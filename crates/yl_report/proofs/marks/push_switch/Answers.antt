@@ -1,8 +1,4 @@
-<<<<<<< HEAD
-use Rattle.std.proofs.Common.{◌≡◌, ap, ◌∙◌, refl}
-=======
 use Rattle.std.proofs.Common.{ap, ◌∙◌, refl}
->>>>>>> c7693bfb1b5ef3905c20766190c6a184ab068715
 use Rattle.std.specs.Prelude.{nat_le}
 use Rattle.yl_report.specs.Switched.{switched_off}
 use Rattle.yl_report.proofs.LastSwitch.{switched_off-push}

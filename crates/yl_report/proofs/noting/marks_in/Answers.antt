@@ -1,19 +1,9 @@
-<<<<<<< HEAD
-use Rattle.std.proofs.Common.{◌≡◌, ◌∙◌, ap, sym, List, [], map, length}
-use Rattle.std.specs.Prelude.{slice_get, vec_len}
-use Rattle.std.specs.List.{filter}
-use Rattle.std.proofs.lemmas.Bool.{eqb-true}
-use Rattle.std.proofs.lemmas.List.{nil_from_length}
-use Rattle.yl_rules.specs.Levels.{slot}
-use Rattle.yl_report.specs.CommentOf.{comment_of, is_addressed}
-=======
 use Rattle.std.proofs.Common.{◌≡◌, ◌∙◌, ap, sym, [], map}
 use Rattle.std.specs.Prelude.{slice_get, vec_len}
 use Rattle.std.proofs.lemmas.Bool.{eqb-true}
 use Rattle.std.proofs.lemmas.List.{nil_from_length}
 use Rattle.yl_rules.specs.Levels.{slot}
 use Rattle.yl_report.specs.CommentOf.{comment_of}
->>>>>>> c7693bfb1b5ef3905c20766190c6a184ab068715
 use Rattle.yl_report.specs.Directive.{is_silenced}
 use Rattle.yl_report.specs.Silence.{marked_off}
 use Rattle.yl_report.proofs.Addressed.{is_silenced-addressed}

@@ -1,7 +1,3 @@
-<<<<<<< HEAD
-use Rattle.std.proofs.Common.{rules}
-=======
->>>>>>> c7693bfb1b5ef3905c20766190c6a184ab068715
 use Rattle.yl_report.specs.Silence.{file_silenced, silenced}
 use Rattle.yl_report.proofs.silence.Silences.read.Goals as goal
 
