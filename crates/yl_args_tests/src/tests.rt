@@ -51,7 +51,10 @@ fn reads_words(rt: HostRuntime) -> Result<(), Fail> {
         (&["-f=parsable", "a"], "files a"),
         (&["-sfparsable", "a"], "files a, strict"),
         (&["--", "-s", "--help"], "files -s --help"),
-        (&["-s", "--no-warnings", "--", "-"], "files -, strict, no warnings"),
+        (
+            &["-s", "--no-warnings", "--", "-"],
+            "files -, strict, no warnings",
+        ),
         (&[""], "files "),
     ];
     for (given, want) in rows {

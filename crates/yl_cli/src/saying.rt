@@ -29,7 +29,13 @@ fn parts_of<'a>(program: &'a str, file: &'a str, what: &'a str) -> [&'a [u8]; 5]
     // Each of these is lent for as long as the other pieces, which an array of them asks.
     let colon: &'a [u8] = b": ";
     let end: &'a [u8] = b"\n";
-    [program.as_bytes(), colon, file.as_bytes(), what.as_bytes(), end]
+    [
+        program.as_bytes(),
+        colon,
+        file.as_bytes(),
+        what.as_bytes(),
+        end,
+    ]
 }
 
 // The pieces of the line of a file that is not UTF-8 from this byte on.
@@ -40,7 +46,14 @@ fn placed_parts_of<'a>(program: &'a str, file: &'a str, place: &'a str) -> [&'a 
     let colon: &'a [u8] = b": ";
     let what: &'a [u8] = b": not UTF-8 at byte ";
     let end: &'a [u8] = b"\n";
-    [program.as_bytes(), colon, file.as_bytes(), what, place.as_bytes(), end]
+    [
+        program.as_bytes(),
+        colon,
+        file.as_bytes(),
+        what,
+        place.as_bytes(),
+        end,
+    ]
 }
 
 // Writes a line that names no place.

@@ -10,17 +10,29 @@ fn says_faults(rt: HostRuntime) -> Result<(), Fail> {
     let rows: [(Fault<'_>, &[u8]); 7] = [
         (Fault::Use, b"yamllint: fault of use\n"),
         (Fault::Memory, b"yamllint: out of memory\n"),
-        (Fault::Run("a.yaml", RunFault::Read), b"yamllint: a.yaml: cannot be read\n"),
         (
-            Fault::Run("stdin", RunFault::Text(BadText::NotUtf8 { valid_up_to: 1203 })),
+            Fault::Run("a.yaml", RunFault::Read),
+            b"yamllint: a.yaml: cannot be read\n",
+        ),
+        (
+            Fault::Run(
+                "stdin",
+                RunFault::Text(BadText::NotUtf8 { valid_up_to: 1203 }),
+            ),
             b"yamllint: stdin: not UTF-8 at byte 1203\n",
         ),
         (
             Fault::Run("b.yaml", RunFault::Text(BadText::TooLarge)),
             b"yamllint: b.yaml: too large\n",
         ),
-        (Fault::Run("a.yaml", RunFault::Write), b"yamllint: output cannot be written\n"),
-        (Fault::Run("a.yaml", RunFault::Memory), b"yamllint: out of memory\n"),
+        (
+            Fault::Run("a.yaml", RunFault::Write),
+            b"yamllint: output cannot be written\n",
+        ),
+        (
+            Fault::Run("a.yaml", RunFault::Memory),
+            b"yamllint: out of memory\n",
+        ),
     ];
     for (fault, line) in &rows {
         let mut out = Watched::new(make_sink(alloc, 3, 1000, true));
