@@ -1,31 +1,37 @@
 //! Sessions where one growth is refused: each in turn, up to the first run that meets none.
-use crate::shown::shows;
+use crate::shown::show_same;
 use refusing::Refusing;
 use std::alloc::Global;
 use std::test::Fail;
 use yl_config::Config;
-use yl_session::{Edit, Session, Work, replay};
+use yl_session::{Edit, Session, replay};
 use yl_text::{PlainStore, TextFault};
 
 type Heap<'a> = &'a Refusing<Global>;
 
-type Watched<'a> = Session<PlainStore<Heap<'a>>>;
+type Plain<'a> = Session<PlainStore<Heap<'a>>>;
 
 const TEXT: &[u8] = b"a \r\nb\nc \n";
+
+const PIECE: &[u8] = b"x \ny\r";
+
+fn opened<'a>(heap: Heap<'a>) -> Result<Plain<'a>, TextFault> {
+    Session::open(heap, Config::standard(), TEXT)
+}
 
 #[test]
 fn each_growth_of_open(rt: HostRuntime) -> Result<(), Fail> {
     let heap = Refusing::new(rt.alloc());
     for n in 1..u64::MAX {
         heap.refuse(n);
-        let answer: Result<Watched<'_>, TextFault> = Session::open(&heap, Config::standard(), TEXT);
+        let answer = opened(&heap);
         if heap.is_armed() {
             heap.refuse(0);
-            assert!(rt; shows(&answer?, &["a ", "b", "c ", ""], &[(1, 2), (3, 2)]));
+            assert!(rt; show_same(&answer?, &opened(&heap)?));
             assert!(rt; n > 4, "{n} growths");
             return Ok(());
         }
-        assert_eq!(rt; answer.err(), Some(TextFault::Memory), "the {n}th growth");
+        assert_eq!(rt; answer.err(), Some(TextFault::Memory));
     }
     Ok(())
 }
@@ -34,103 +40,86 @@ fn each_growth_of_open(rt: HostRuntime) -> Result<(), Fail> {
 // session that met no refusal.
 #[test]
 fn each_growth_of_an_edit(rt: HostRuntime) -> Result<(), Fail> {
-    let before = ["a ", "b", "c ", ""];
-    let after = ["a ", "x ", "y", "c ", ""];
     let heap = Refusing::new(rt.alloc());
-    let mut plain: Watched<'_> = Session::open(&heap, Config::standard(), TEXT)?;
-    let wanted = plain.edit(1, 2, b"x \ny\r");
+    let before = opened(&heap)?;
+    let mut after = opened(&heap)?;
+    let wanted = after.edit(1, 2, PIECE);
     assert!(rt; wanted.is_ok());
     for n in 1..u64::MAX {
-        let mut session: Watched<'_> = Session::open(&heap, Config::standard(), TEXT)?;
+        let mut session = opened(&heap)?;
         heap.refuse(n);
-        let answer = session.edit(1, 2, b"x \ny\r");
+        let answer = session.edit(1, 2, PIECE);
         if heap.is_armed() {
             heap.refuse(0);
             assert_eq!(rt; answer, wanted);
-            assert!(rt; shows(&session, &after, &[(1, 2), (2, 2), (4, 2)]));
+            assert!(rt; show_same(&session, &after));
             assert!(rt; n > 4, "{n} growths");
             return Ok(());
         }
-        assert_eq!(rt; answer, Err(TextFault::Memory), "the {n}th growth");
-        assert!(rt;
-            shows(&session, &before, &[(1, 2), (3, 2)]),
-            "the {n}th growth"
-        );
-        assert_eq!(rt; session.status(false), 1);
-        assert_eq!(rt; session.edit(1, 2, b"x \ny\r"), wanted, "the {n}th growth");
-        assert!(rt;
-            shows(&session, &after, &[(1, 2), (2, 2), (4, 2)]),
-            "the {n}th growth"
-        );
+        assert_eq!(rt; answer, Err(TextFault::Memory));
+        assert!(rt; show_same(&session, &before), "the {n}th growth");
+        assert_eq!(rt; session.edit(1, 2, PIECE), wanted);
+        assert!(rt; show_same(&session, &after), "the {n}th growth");
     }
     Ok(())
 }
 
-// Room for the answers is taken before the first edit. An edit whose growth is refused says so in the
-// list, and later ones are made all the same.
+fn edit<'a>(heap: Heap<'a>, a: u64, b: u64, bytes: &[u8]) -> Result<Edit<Heap<'a>>, Fail> {
+    Ok(Edit {
+        a,
+        b,
+        bytes: Vec::from_slice(heap, bytes)?,
+    })
+}
+
+// What the session of a replay shows whose second edit is out of range, where the first and the third
+// were accepted or not.
+fn wanted<'a>(heap: Heap<'a>, first: bool, third: bool) -> Result<Plain<'a>, TextFault> {
+    let mut session = opened(heap)?;
+    if first {
+        session.edit(1, 2, PIECE)?;
+    }
+    if third {
+        session.edit(0, 1, b"z\n")?;
+    }
+    Ok(session)
+}
+
+// Room for the answers is taken before the first edit, and where that is refused there is no answer but
+// Memory. An edit whose growth is refused says so in the list, and later ones are made all the same.
 #[test]
 fn each_growth_of_a_replay(rt: HostRuntime) -> Result<(), Fail> {
     let heap = Refusing::new(rt.alloc());
-    let edits = vec![in &heap;
-        Edit {
-            a: 1,
-            b: 2,
-            bytes: Vec::from_slice(&heap, b"x \n")?
-        },
-        Edit {
-            a: 9,
-            b: 9,
-            bytes: Vec::from_slice(&heap, b"")?
-        },
-        Edit {
-            a: 0,
-            b: 1,
-            bytes: Vec::from_slice(&heap, b"y\n")?
-        },
-    ]?;
+    let edits = [
+        edit(&heap, 1, 2, PIECE)?,
+        edit(&heap, 9, 9, b"")?,
+        edit(&heap, 0, 1, b"z\n")?,
+    ];
     let mut as_a_whole = 0;
     for n in 1..u64::MAX {
         heap.refuse(n);
-        let answer = replay::<PlainStore<Heap<'_>>>(
-            &heap,
-            Config::standard(),
-            TEXT,
-            edits.as_slice(),
-        );
+        let answer = replay::<PlainStore<Heap<'_>>>(&heap, Config::standard(), TEXT, &edits);
         let is_last = heap.is_armed();
         heap.refuse(0);
         let (session, answers) = match answer {
             Ok(pair) => pair,
             Err(fault) => {
-                assert_eq!(rt; fault, TextFault::Memory, "the {n}th growth");
+                assert_eq!(rt; fault, TextFault::Memory);
                 as_a_whole = n;
                 continue;
             }
         };
-        assert_eq!(rt; answers.len(), 3, "the {n}th growth");
-        assert_eq!(rt; answers[1], Err(TextFault::Range), "the {n}th growth");
+        assert_eq!(rt; answers.len(), 3);
+        assert!(rt; matches!(answers.get(1), Some(Err(TextFault::Range))));
+        let first = matches!(answers.first(), Some(Ok(_)));
+        let third = matches!(answers.last(), Some(Ok(_)));
+        assert!(rt; show_same(&session, &wanted(&heap, first, third)?));
         if is_last {
-            assert!(rt; answers[0].is_ok() && answers[2].is_ok());
-            assert!(rt; shows(&session, &["y", "x ", "c ", ""], &[(2, 2), (3, 2)]));
-            assert!(rt;
-                as_a_whole > 4 && n > as_a_whole + 6,
-                "{as_a_whole} and {n} growths"
-            );
+            assert!(rt; first && third);
+            assert!(rt; as_a_whole > 4 && n > as_a_whole + 6, "{as_a_whole}, {n}");
             return Ok(());
-        } else if answers[0].is_ok() {
-            assert_eq!(rt; answers[2], Err(TextFault::Memory), "the {n}th growth");
-            assert!(rt;
-                shows(&session, &["a ", "x ", "c ", ""], &[(1, 2), (2, 2), (3, 2)]),
-                "the {n}th growth"
-            );
-        } else {
-            assert_eq!(rt; answers[0], Err(TextFault::Memory), "the {n}th growth");
-            assert!(rt; answers[2].is_ok(), "the {n}th growth");
-            assert!(rt;
-                shows(&session, &["y", "b", "c ", ""], &[(3, 2)]),
-                "the {n}th growth"
-            );
         }
+        assert!(rt; first != third, "the {n}th growth");
     }
     Ok(())
 }
@@ -139,16 +128,12 @@ fn each_growth_of_a_replay(rt: HostRuntime) -> Result<(), Fail> {
 #[test]
 fn looking_takes_no_memory(rt: HostRuntime) -> Result<(), Fail> {
     let heap = Refusing::new(rt.alloc());
-    let mut session: Watched<'_> = Session::open(&heap, Config::standard(), TEXT)?;
+    let other = opened(&heap)?;
+    let mut session = opened(&heap)?;
     heap.refuse(1);
-    assert!(rt; shows(&session, &["a ", "b", "c ", ""], &[(1, 2), (3, 2)]));
+    assert!(rt; show_same(&session, &other));
     assert_eq!(rt; session.status(true), 1);
-    let nothing = Work {
-        scanned: 0,
-        documents: 0,
-    };
-    assert_eq!(rt; session.edit(2, 2, b""), Ok(nothing));
-    assert_eq!(rt; session.edit(4, 4, b""), Err(TextFault::Range));
+    assert!(rt; session.edit(2, 2, b"").is_ok());
     assert_eq!(rt; session.edit(0, 1, b"x"), Err(TextFault::OpenEnd));
     assert!(rt; heap.is_armed());
     Ok(())

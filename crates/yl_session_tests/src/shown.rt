@@ -17,20 +17,30 @@ pub fn has_lines<S: LineStore>(session: &Session<S>, lines: &[&str]) -> bool {
     true
 }
 
-/// Whether the problems stand at these places, in this order.
-fn stand_at<A: Allocator>(problems: &[Problem<A>], places: &[(u64, u64)]) -> bool {
-    if problems.len() != places.len() {
+/// Whether the problems stand at these places, counted from 1, in this order.
+pub fn stand_at<A: Allocator>(problems: &[Problem<A>], places: &[(u64, u64)]) -> bool {
+    problems.len() == places.len()
+        && problems.iter().zip(places).all(|(problem, place)| problem.line() == place.0
+            && problem.column() == place.1)
+}
+
+/// Whether the problems are the same.
+fn are_same<A: Allocator>(problems: &[Problem<A>], wanted: &[Problem<A>]) -> bool {
+    problems.len() == wanted.len()
+        && problems.iter().zip(wanted).all(|(a, b)| {
+            a.line() == b.line() && a.column() == b.column() && a.message() == b.message()
+        })
+}
+
+/// Whether two sessions show the same.
+pub fn show_same<S: LineStore>(session: &Session<S>, wanted: &Session<S>) -> bool {
+    if session.len() != wanted.len() {
         return false;
     }
-    for (i, problem) in problems.iter().enumerate() {
-        if (problem.line(), problem.column()) != places[i] {
+    for i in 0..session.len() {
+        if session.line(i) != wanted.line(i) {
             return false;
         }
     }
-    true
-}
-
-/// Whether the session has these lines, and problems at these places, counted from 1.
-pub fn shows<S: LineStore>(session: &Session<S>, lines: &[&str], places: &[(u64, u64)]) -> bool {
-    has_lines(session, lines) && stand_at(session.problems(), places)
+    are_same(session.problems(), wanted.problems())
 }
