@@ -1,9 +1,0 @@
-//! Tests of sessions, over a store and an allocator.
-#![tactic(auto)]
-
-#[cfg(test)]
-mod growth;
-#[cfg(test)]
-mod rows;
-#[cfg(test)]
-mod shown;
