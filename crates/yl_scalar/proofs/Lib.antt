@@ -1,0 +1,3 @@
+pub mod Encodes
+pub mod Front
+pub mod Trim

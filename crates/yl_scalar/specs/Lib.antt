@@ -1,0 +1,12 @@
+pub mod Allowed
+pub mod Reading
+pub mod Folding
+pub mod Plain
+pub mod PlainSteps
+pub mod Escape
+pub mod Quoted
+pub mod QuotedSteps
+pub mod Header
+pub mod Block
+pub mod Reader
+pub mod Part

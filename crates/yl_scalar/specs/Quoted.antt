@@ -1,0 +1,40 @@
+-- Quoted scalars in one line: YAML 1.2.2, 7.3.1 and 7.3.2.
+use Rattle.std.specs.Prelude.{ℕ, Bool, true, false, not, ◌&&◌, ◌==◌, nat_lt, if◌then◌else◌, List, [], ◌∷◌, ◌++◌, ◌+◌, ◌-◌, take, length, Option, Some, None}
+use Rattle.yl_text.specs.Character.{is_white}
+use Rattle.yl_scalar.specs.Allowed.{is_quoted_character}
+use Rattle.yl_scalar.specs.Escape.{escape}
+use Rattle.yl_scalar.specs.declared.answer.ScalarFault.{ScalarFault}
+use Rattle.yl_scalar.specs.declared.answer.ScalarFault.TheVariants.{NotAllowed, BadEscape}
+
+-- what a line makes of a quoted scalar: it ends behind so many characters; it goes on behind the break, with the place of the
+-- backslash before the break if there is one; or there is a fault
+pub data Stretch : Type 0 where
+  Closes : (text : List ℕ) (place : ℕ) → Stretch
+  Breaks : (text : List ℕ) (backslash : Option ℕ) → Stretch
+  Faulty : (fault : ScalarFault) (place : ℕ) → Stretch
+
+-- an escape and what follows it, or a fault at its backslash
+abbrev pub with_escape : Option (ℕ × ℕ) → ℕ → (ℕ → ℕ → Stretch) → Stretch
+with_escape None place more = Faulty BadEscape place
+with_escape (Some e) place more = more e.0 (e.1 + 1)
+
+abbrev pub begins_with : ℕ → List ℕ → Bool
+begins_with q [] = false
+begins_with q (c ∷ cs) = c == q
+
+abbrev pub quote : Bool → ℕ
+quote double = if double then 0x22 else 0x27
+
+-- skip: how many characters belong to an escape that was read. text: what came before, of which `kept` characters stand
+-- before the white space at its end that is not escaped. at: how many characters were read
+abbrev pub stretch : Bool → ℕ → List ℕ → ℕ → ℕ → List ℕ → Stretch
+stretch double skip text kept at [] = Breaks (take kept text) None
+stretch double skip text kept at (c ∷ cs) =
+    if nat_lt 0 skip then stretch double (skip - 1) text kept (at + 1) cs
+    else if c == quote double then
+      (if not double && begins_with 0x27 cs then stretch double 1 (text ++ c ∷ []) (length text + 1) (at + 1) cs else Closes text (at + 1))
+    else if double && c == 0x5C then
+      (if length cs == 0 then Breaks text (Some at)
+       else with_escape (escape cs) at (λ x skip. stretch double skip (text ++ x ∷ []) (length text + 1) (at + 1) cs))
+    else if is_quoted_character c then stretch double 0 (text ++ c ∷ []) (if is_white c then kept else length text + 1) (at + 1) cs
+    else Faulty NotAllowed at

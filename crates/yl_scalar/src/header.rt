@@ -1,0 +1,83 @@
+//! Headers of block scalars: YAML 1.2.2, 8.1.1.
+ghost use Rattle.std.specs.Prelude.{◌≡◌, ◌≤◌, ◌<◌, ◌-◌, IfSome, length};
+ghost use Rattle.yl_scalar.specs.Header.{is_indicator_digit, is_chomping, next, indicators, misfit, misfit_behind};
+
+use crate::character::{is_blank, leading_white};
+
+fn is_indicator_digit(c: char) -> bool
+    ensures { result ≡ is_indicator_digit c }
+{
+    '1' <= c && c <= '9'
+}
+
+fn is_chomping(c: char) -> bool
+    ensures { result ≡ is_chomping c }
+{
+    c == '+' || c == '-'
+}
+
+/// The character that comes next, or NUL.
+fn next(text: &[char]) -> char
+    ensures { result ≡ next text.now }
+{
+    match text {
+        [] => '\0',
+        [c, ..] => *c,
+    }
+}
+
+/// The number that a digit from 1 to 9 writes.
+fn digit(c: char) -> usize
+    requires { (48 < c) × (c < 58) }
+    ensures value { result ≡ c - 48 }
+    ensures small { result < 10 }
+{
+    (c as u32 - '0' as u32) as usize
+}
+
+/// The indentation indicator, or 0, and how many characters the indicators take.
+pub fn indicators(header: &[char]) -> (usize, usize)
+    ensures value { result ≡ indicators header.now }
+    ensures small { result.0 < 10 }
+    ensures within { result.1 ≤ length header.now }
+{
+    match header {
+        [] => (0, 0),
+        [c, rest @ ..] => {
+            let d = next(rest);
+            if is_indicator_digit(*c) {
+                (digit(*c), if is_chomping(d) { 2 } else { 1 })
+            } else if is_chomping(*c) {
+                if is_indicator_digit(d) { (digit(d), 2) } else { (0, 1) }
+            } else {
+                (0, 0)
+            }
+        }
+    }
+}
+
+/// The index of the first character that fits no header behind its indicators.
+#[tactic(auto, using(crate::proofs::Front::white_within))]
+fn misfit_behind(text: &[char]) -> Option<usize>
+    ensures place { result ≡ misfit_behind text.now }
+    ensures within { IfSome result (λ at. at < length text.now) }
+{
+    if is_blank(text) {
+        return None;
+    }
+    let white = leading_white(text);
+    if white > 0 && next(&text[white..]) == '#' {
+        return None;
+    }
+    Some(white)
+}
+
+/// The index of the first character of a header, from behind its `|` or `>` on, that does not fit.
+pub fn misfit(header: &[char]) -> Option<usize>
+    ensures place { result ≡ misfit header.now }
+    ensures within { IfSome result (λ at. at < length header.now) }
+{
+    let (_, taken) = indicators(header);
+    let place = misfit_behind(&header[taken..])?;
+    Some(taken + place)
+}

@@ -1,0 +1,163 @@
+//! Plain scalars: YAML 1.2.2, 7.3.3.
+ghost use Rattle.std.specs.Prelude.{◌≡◌, ◌≤◌, ◌<◌, ◌+◌, ◌^◌, IfOk, OnErr, OnOk, IsErr, IsTrue, true, false, length, string_bytes};
+ghost use Rattle.std.specs.Str.{encode_utf8_all};
+ghost use Rattle.yl_scalar.specs.Reading.{Whole};
+ghost use Rattle.yl_scalar.specs.Plain.{is_safe_next, stop};
+ghost use Rattle.yl_scalar.specs.PlainSteps.{plain_begin, plain_step, plain_finish};
+ghost use Rattle.yl_scalar.specs.Reader.{said, extent_at, plain_state, plain_rows, plain_failed};
+
+use std::alloc::{AllocError, Allocator};
+
+use crate::answer::{Line, Place, ScalarFault};
+use crate::character::{first_bad, indentation, is_blank, is_flow_indicator, is_marker, is_plain_safe, is_white, leading_white, without_end};
+use crate::folding::{push_break, text_of};
+
+/// A plain scalar that may go on below the rows that were read.
+#[derive(Debug, Drop)]
+pub struct Plain<A: Allocator> {
+    flow: bool,
+    least: usize,
+    down: usize,
+    column: usize,
+    blanks: usize,
+    value: Vec<char, A>,
+    failed: bool,
+}
+
+/// Whether a plain-safe character comes next.
+pub fn is_safe_next(flow: bool, text: &[char]) -> bool
+    ensures { result ≡ is_safe_next flow text.now }
+{
+    match text {
+        [] => false,
+        [c, ..] => is_plain_safe(flow, *c),
+    }
+}
+
+/// How many characters of a row a plain scalar takes at the most.
+fn stop(flow: bool, behind_space: bool, text: &[char]) -> usize
+    ensures count { result ≡ stop flow behind_space text.now }
+    ensures within { result ≤ length text.now }
+{
+    let mut behind_space = behind_space;
+    for (i, c) in text.iter().enumerate() {
+        if *c == ':' && !is_safe_next(flow, &text[i + 1..]) {
+            return i;
+        }
+        if *c == '#' && behind_space {
+            return i;
+        }
+        if flow && is_flow_indicator(*c) {
+            return i;
+        }
+        behind_space = is_white(*c);
+    }
+    text.len()
+}
+
+impl<A: Allocator + Copy> Plain<A> {
+    /// A scalar that begins at the column `at`, where the rest of its row is `text`. In block context a row below needs an
+    /// indentation of `least` at the least, which is one more than that of the surrounding collection, to go on with it.
+    pub fn begin(
+        alloc: A,
+        flow: bool,
+        least: usize,
+        at: usize,
+        text: &[char],
+    ) -> Result<(Plain<A>, Line), AllocError>
+        requires { at + length text.now < 2 ^ 64 }
+        ensures line { IfOk result (λ r. said r.1 (plain_state r.0).value (plain_state r.0)
+            ≡ plain_begin flow least at text.now) }
+        ensures reads { IfOk result (λ r. plain_failed r.0 ≡ false) }
+        ensures count { IfOk result (λ r. plain_rows r.0 ≡ 0) }
+    {
+        let taken = stop(flow, false, text);
+        let part = without_end(&text[..taken]);
+        let mut value = Vec::new(alloc);
+        value.extend_from_slice(part)?;
+        let column = at + part.len();
+        let reader = Plain {
+            flow,
+            least,
+            down: 0,
+            column,
+            blanks: 0,
+            value,
+            failed: false,
+        };
+        if let Some(place) = first_bad(part) {
+            let place = Place {
+                down: 0,
+                column: at + place,
+            };
+            return Ok((reader, Line::Fails(ScalarFault::NotAllowed, place)));
+        }
+        if taken == text.len() {
+            return Ok((reader, Line::GoesOn));
+        }
+        Ok((reader, Line::EndsIn(Place { down: 0, column })))
+    }
+
+    /// Reads the next row. Once a call is refused for memory, so is each later one.
+    pub fn read(&mut self, row: &[char]) -> Result<Line, AllocError>
+        requires { plain_rows self.old + 1 < 2 ^ 64 }
+        ensures line { IfOk result (λ line. said line (plain_state self.new).value (plain_state self.new)
+            ≡ plain_step (plain_state self.old) row.now) }
+        ensures reads { OnOk result (plain_failed self.new ≡ false) }
+        ensures failed { OnErr result (plain_failed self.new ≡ true) }
+        ensures count { plain_rows self.new ≤ plain_rows self.old + 1 }
+        ensures stays { plain_failed self.old ≡ true → IsErr result }
+    {
+        if self.failed {
+            return Err(AllocError);
+        }
+        if is_blank(row) {
+            self.blanks += 1;
+            return Ok(Line::GoesOn);
+        }
+        let white = leading_white(row);
+        let text = &row[white..];
+        let taken = stop(self.flow, true, text);
+        if is_marker(row) || !(self.flow || self.least <= indentation(row)) || taken == 0 {
+            return Ok(Line::EndedAbove(self.finish()));
+        }
+        let part = without_end(&text[..taken]);
+        let down = self.down + self.blanks + 1;
+        if let Some(place) = first_bad(part) {
+            let column = white + place;
+            return Ok(Line::Fails(
+                ScalarFault::NotAllowed,
+                Place { down, column },
+            ));
+        }
+        self.failed = true;
+        push_break(&mut self.value, self.blanks)?;
+        self.value.extend_from_slice(part)?;
+        self.failed = false;
+        self.down = down;
+        self.column = white + part.len();
+        self.blanks = 0;
+        if taken == text.len() {
+            Ok(Line::GoesOn)
+        } else {
+            Ok(Line::EndsIn(self.finish()))
+        }
+    }
+
+    /// Where the scalar ends, if no row follows.
+    pub fn finish(&self) -> Place
+        ensures { Whole (extent_at result (plain_state self.now).value) ≡ plain_finish (plain_state self.now) }
+    {
+        Place {
+            down: self.down,
+            column: self.column,
+        }
+    }
+
+    /// The scalar's value so far; the whole value once it has ended.
+    pub fn to_value(&self, alloc: A) -> Result<String<A>, AllocError>
+        ensures { IfOk result (λ text. string_bytes text ≡ encode_utf8_all (plain_state self.now).value) }
+    {
+        text_of(alloc, &self.value)
+    }
+}

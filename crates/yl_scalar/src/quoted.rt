@@ -1,0 +1,221 @@
+//! Quoted scalars: YAML 1.2.2, 7.3.1 and 7.3.2.
+ghost use Rattle.std.specs.Prelude.{◌≡◌, ◌≤◌, ◌<◌, ◌+◌, ◌^◌, IfOk, OnErr, OnOk, IsErr, true, false, length, string_bytes};
+ghost use Rattle.std.specs.Str.{encode_utf8_all};
+ghost use Rattle.yl_scalar.specs.Reading.{Refused};
+ghost use Rattle.yl_scalar.specs.Quoted.{stretch, quote, begins_with};
+ghost use Rattle.yl_scalar.specs.QuotedSteps.{quoted_begin, quoted_step, quoted_finish, took};
+ghost use Rattle.yl_scalar.specs.Reader.{said, quoted_state, quoted_rows, quoted_failed};
+ghost use Rattle.yl_scalar.specs.Part.{gives, IsWithin, FitsBehind};
+
+use std::alloc::{AllocError, Allocator};
+
+use crate::answer::{Line, Place, ScalarFault};
+use crate::character::{is_blank, is_marker, is_quoted_character, is_white, leading_white};
+use crate::escape::escape;
+use crate::folding::{push_joint, text_of};
+
+/// A quoted scalar that goes on below the rows that were read.
+#[derive(Debug, Drop)]
+pub struct Quoted<A: Allocator> {
+    double: bool,
+    opening: usize,
+    down: usize,
+    blanks: usize,
+    value: Vec<char, A>,
+    backslash: Option<usize>,
+    failed: bool,
+}
+
+/// What a row has of a scalar, places counted from where reading began.
+#[derive(Clone, Copy, Debug, PartialEq, Eq)]
+enum Part {
+    /// It goes on behind the break, before which a backslash may stand.
+    Open(Option<usize>),
+    /// It ends behind this many characters.
+    Closed(usize),
+    /// This fault stands behind this many characters.
+    Faulted(ScalarFault, usize),
+}
+
+fn quote(double: bool) -> char
+    ensures { result ≡ quote double }
+{
+    if double { '"' } else { '\'' }
+}
+
+fn begins_with(q: char, text: &[char]) -> bool
+    ensures { result ≡ begins_with q text.now }
+{
+    match text {
+        [] => false,
+        [c, ..] => *c == q,
+    }
+}
+
+/// Reads a row, behind a value that is kept whole.
+fn stretch<A: Allocator>(double: bool, value: &mut Vec<char, A>, text: &[char]) -> Result<Part, AllocError>
+    ensures part { IfOk result (λ part. gives part value.new.items
+        ≡ stretch double 0 value.old.items (length value.old.items) 0 text.now) }
+    ensures within { IfOk result (IsWithin (length text.now)) }
+{
+    let mut kept = value.len();
+    let mut skip = 0;
+    for (i, c) in text.iter().enumerate() {
+        if skip > 0 {
+            skip -= 1;
+            continue;
+        }
+        let after = &text[i + 1..];
+        if *c == quote(double) {
+            if double || !begins_with('\'', after) {
+                return Ok(Part::Closed(i + 1));
+            }
+            value.push(*c)?;
+            kept = value.len();
+            skip = 1;
+            continue;
+        }
+        if double && *c == '\\' {
+            if after.is_empty() {
+                return Ok(Part::Open(Some(i)));
+            }
+            let Some((x, len)) = escape(after) else {
+                return Ok(Part::Faulted(ScalarFault::BadEscape, i));
+            };
+            value.push(x)?;
+            kept = value.len();
+            skip = len + 1;
+            continue;
+        }
+        if !is_quoted_character(*c) {
+            return Ok(Part::Faulted(ScalarFault::NotAllowed, i));
+        }
+        value.push(*c)?;
+        if !is_white(*c) {
+            kept = value.len();
+        }
+    }
+    value.truncate(kept);
+    Ok(Part::Open(None))
+}
+
+impl<A: Allocator + Copy> Quoted<A> {
+    /// A scalar whose quote, a double or a single one, opens at the column `opening`, where `text` is the rest of the row
+    /// behind the quote.
+    pub fn begin(
+        alloc: A,
+        double: bool,
+        opening: usize,
+        text: &[char],
+    ) -> Result<(Quoted<A>, Line), AllocError>
+        requires { opening + 1 + length text.now < 2 ^ 64 }
+        ensures line { IfOk result (λ r. said r.1 (quoted_state r.0).value (quoted_state r.0)
+            ≡ quoted_begin double opening text.now) }
+        ensures reads { IfOk result (λ r. quoted_failed r.0 ≡ false) }
+        ensures count { IfOk result (λ r. quoted_rows r.0 ≡ 0) }
+    {
+        let mut value = Vec::new(alloc);
+        let part = stretch(double, &mut value, text)?;
+        let mut reader = Quoted {
+            double,
+            opening,
+            down: 0,
+            blanks: 0,
+            value,
+            backslash: None,
+            failed: false,
+        };
+        let line = reader.take(opening + 1, part);
+        Ok((reader, line))
+    }
+
+    /// Reads the next row. Once a call is refused for memory, so is each later one.
+    pub fn read(&mut self, row: &[char]) -> Result<Line, AllocError>
+        requires { quoted_rows self.old + 1 < 2 ^ 64 }
+        ensures line { IfOk result (λ line. said line (quoted_state self.new).value (quoted_state self.new)
+            ≡ quoted_step (quoted_state self.old) row.now) }
+        ensures reads { OnOk result (quoted_failed self.new ≡ false) }
+        ensures failed { OnErr result (quoted_failed self.new ≡ true) }
+        ensures count { quoted_rows self.new ≤ quoted_rows self.old + 1 }
+        ensures stays { quoted_failed self.old ≡ true → IsErr result }
+    {
+        if self.failed {
+            return Err(AllocError);
+        }
+        let down = self.down + self.blanks + 1;
+        if is_marker(row) {
+            return Ok(Line::Fails(
+                ScalarFault::MarkerInQuote,
+                Place { down, column: 0 },
+            ));
+        }
+        if is_blank(row) {
+            self.blanks += 1;
+            return Ok(Line::GoesOn);
+        }
+        let white = leading_white(row);
+        self.failed = true;
+        push_joint(&mut self.value, self.backslash, self.blanks)?;
+        let part = stretch(self.double, &mut self.value, &row[white..])?;
+        self.failed = false;
+        self.down = down;
+        self.blanks = 0;
+        Ok(self.take(white, part))
+    }
+
+    /// The fault of a text that ends here, and its place: half an escape where it ends directly behind a backslash, else an
+    /// unclosed quote.
+    pub fn finish(&self) -> (ScalarFault, Place)
+        ensures { Refused result.0 (result.1).down (result.1).column ≡ quoted_finish (quoted_state self.now) }
+    {
+        if let Some(column) = self.backslash && self.blanks == 0 {
+            let place = Place {
+                down: self.down,
+                column,
+            };
+            return (ScalarFault::BadEscape, place);
+        }
+        let place = Place {
+            down: 0,
+            column: self.opening,
+        };
+        (ScalarFault::UnclosedQuote, place)
+    }
+
+    /// The scalar's value so far; the whole value once it has ended.
+    pub fn to_value(&self, alloc: A) -> Result<String<A>, AllocError>
+        ensures { IfOk result (λ text. string_bytes text ≡ encode_utf8_all (quoted_state self.now).value) }
+    {
+        text_of(alloc, &self.value)
+    }
+
+    /// What a row read from this column on is to the scalar.
+    fn take(&mut self, column: usize, part: Part) -> Line
+        requires { FitsBehind column part }
+        ensures line { said result (quoted_state self.new).value (quoted_state self.new)
+            ≡ took (quoted_state self.old) column (gives part (quoted_state self.old).value) }
+        ensures same { quoted_failed self.new ≡ quoted_failed self.old }
+        ensures count { quoted_rows self.new ≡ quoted_rows self.old }
+    {
+        let down = self.down;
+        self.backslash = None;
+        match part {
+            Part::Open(None) => Line::GoesOn,
+            Part::Open(Some(at)) => {
+                self.backslash = Some(column + at);
+                Line::GoesOn
+            }
+            Part::Closed(at) => Line::EndsIn(Place {
+                down,
+                column: column + at,
+            }),
+            Part::Faulted(fault, at) => Line::Fails(
+                fault,
+                Place {
+                    down,
+                    column: column + at,
+                },
+            ),
+        }
+    }
+}

@@ -1,0 +1,111 @@
+//! Whole scalars, from their first row to the one behind them.
+ghost use Rattle.std.specs.Prelude.{◌≡◌, ◌<◌, ◌+◌, ◌^◌, [], IfOk, length, map};
+ghost use Rattle.yl_scalar.specs.PlainSteps.{plain};
+ghost use Rattle.yl_scalar.specs.QuotedSteps.{quoted};
+ghost use Rattle.yl_scalar.specs.Block.{block};
+ghost use Rattle.yl_scalar.specs.Reader.{outcome, plain_state, quoted_state};
+
+use std::alloc::{AllocError, Allocator};
+
+use crate::answer::{Line, Outcome};
+use crate::block::Block;
+use crate::plain::Plain;
+use crate::quoted::Quoted;
+
+/// Reads a plain scalar that begins at the column `at`, where `text` is the rest of its row and `rows` are all rows below.
+/// The reader then has its value.
+pub fn read_plain<A: Allocator + Copy>(
+    alloc: A,
+    flow: bool,
+    least: usize,
+    at: usize,
+    text: &[char],
+    rows: &[&[char]],
+) -> Result<(Plain<A>, Outcome), AllocError>
+    requires fits { at + length text.now < 2 ^ 64 }
+    ensures { IfOk result (λ r. outcome r.1 (plain_state r.0).value
+        ≡ plain flow least at text.now (map (λ row. row.now) rows.now)) }
+{
+    let (mut reader, line) = Plain::begin(alloc, flow, least, at, text)?;
+    match line {
+        Line::GoesOn => {}
+        Line::EndsIn(place) | Line::EndedAbove(place) => {
+            return Ok((reader, Outcome::Whole(place)));
+        }
+        Line::Fails(fault, place) => return Ok((reader, Outcome::Refused(fault, place))),
+    }
+    for row in rows {
+        match reader.read(row)? {
+            Line::GoesOn => {}
+            Line::EndsIn(place) | Line::EndedAbove(place) => {
+                return Ok((reader, Outcome::Whole(place)));
+            }
+            Line::Fails(fault, place) => return Ok((reader, Outcome::Refused(fault, place))),
+        }
+    }
+    let place = reader.finish();
+    Ok((reader, Outcome::Whole(place)))
+}
+
+/// Reads a quoted scalar whose quote opens at the column `opening`, where `text` is the rest of its row behind the quote and
+/// `rows` are all rows below. The reader then has its value.
+pub fn read_quoted<A: Allocator + Copy>(
+    alloc: A,
+    double: bool,
+    opening: usize,
+    text: &[char],
+    rows: &[&[char]],
+) -> Result<(Quoted<A>, Outcome), AllocError>
+    requires fits { opening + 1 + length text.now < 2 ^ 64 }
+    ensures { IfOk result (λ r. outcome r.1 (quoted_state r.0).value
+        ≡ quoted double opening text.now (map (λ row. row.now) rows.now)) }
+{
+    let (mut reader, line) = Quoted::begin(alloc, double, opening, text)?;
+    match line {
+        Line::GoesOn => {}
+        Line::EndsIn(place) | Line::EndedAbove(place) => {
+            return Ok((reader, Outcome::Whole(place)));
+        }
+        Line::Fails(fault, place) => return Ok((reader, Outcome::Refused(fault, place))),
+    }
+    for row in rows {
+        match reader.read(row)? {
+            Line::GoesOn => {}
+            Line::EndsIn(place) | Line::EndedAbove(place) => {
+                return Ok((reader, Outcome::Whole(place)));
+            }
+            Line::Fails(fault, place) => return Ok((reader, Outcome::Refused(fault, place))),
+        }
+    }
+    let (fault, place) = reader.finish();
+    Ok((reader, Outcome::Refused(fault, place)))
+}
+
+/// Reads a block scalar whose indicator stands at the column `at`, where `header` is the rest of its row behind that and `rows`
+/// are all rows below.
+pub fn read_block<A: Allocator + Copy>(
+    alloc: A,
+    least: usize,
+    at: usize,
+    header: &[char],
+    rows: &[&[char]],
+) -> Result<Outcome, AllocError>
+    requires fits { at + 1 + length header.now < 2 ^ 64 }
+    requires small { least < 2 ^ 63 }
+    ensures { IfOk result (λ r. outcome r [] ≡ block least at header.now (map (λ row. row.now) rows.now)) }
+{
+    let (mut reader, line) = Block::begin(alloc, least, at, header);
+    match line {
+        Line::GoesOn => {}
+        Line::EndsIn(place) | Line::EndedAbove(place) => return Ok(Outcome::Whole(place)),
+        Line::Fails(fault, place) => return Ok(Outcome::Refused(fault, place)),
+    }
+    for row in rows {
+        match reader.read(row)? {
+            Line::GoesOn => {}
+            Line::EndsIn(place) | Line::EndedAbove(place) => return Ok(Outcome::Whole(place)),
+            Line::Fails(fault, place) => return Ok(Outcome::Refused(fault, place)),
+        }
+    }
+    Ok(Outcome::Whole(reader.finish()))
+}
