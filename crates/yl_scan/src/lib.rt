@@ -1,8 +1,37 @@
 //! Lexemes and comments of a text, read row by row.
+//!
+//! The definition of what a text consists of is `specs/Entries.antt`: it looks back over all lexemes before a place. The code
+//! keeps `Surroundings` instead, and `read_row` reads one row from them.
 #![tactic(auto)]
 
+ghost use Rattle.yl_scan.specs.Laws.{KeptSuffices, ScalarsCarry};
+
+mod fault;
+mod found;
 mod lexeme;
 mod meter;
+mod reader;
+mod row;
+mod stack;
+mod surroundings;
+mod text;
+mod word;
 
+pub use fault::{Faulted, ScanFault};
 pub use lexeme::{At, Comment, Kind, Lexeme, Style};
 pub use meter::Meter;
+pub use reader::Reader;
+pub use row::{End, Open, read_row};
+pub use stack::Stack;
+pub use surroundings::{Property, Surroundings};
+pub use word::first_tab;
+
+/// A law: what `Surroundings` keep of the lexemes before a row suffices to read it as the definition does.
+pub fn kept_suffices()
+    ensures { KeptSuffices }
+{}
+
+/// A law: a scalar that is carried from row to row gives what it gives when it is read whole.
+pub fn scalars_carry()
+    ensures { ScalarsCarry }
+{}

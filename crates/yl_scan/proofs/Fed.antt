@@ -1,0 +1,80 @@
+-- What a row tells, and what the rows below still tell.
+use Rattle.std.proofs.Common.{◌≡◌, ℕ, zero, suc, ◌+◌, ◌-◌, ◌≤◌, ◌<◌, ◌⊎◌, inl, inr, Bool, true, false, cond, not, ◌&&◌, ◌||◌, List, [], ◌∷◌, ◌++◌, map, length, take, drop, Option, Some, None, refl, ap, sym, ◌∙◌, eqb, ltb, lt-ltb, arith, sub-one, add-one}
+use Rattle.std.specs.Prelude.{is_some, option_to_list}
+use Rattle.yl_text.specs.Character.{is_white, is_blank}
+use Rattle.yl_scan.specs.declared.lexeme.Style.{Style}
+use Rattle.yl_scan.specs.declared.fault.Faulted.{Faulted}
+use Rattle.yl_scan.specs.Lexeme.{LexemeValue, CommentValue}
+use Rattle.yl_scan.specs.Fault.{is_unclosed}
+use Rattle.yl_scan.specs.Step.{Found, found_at, step_fault, bad_in, first_tab}
+use Rattle.yl_scan.specs.Mode.{Mode, open_found}
+use Rattle.yl_scan.specs.Known.{Known, around, row_start, new_row, reach, nothing_known, pass}
+use Rattle.yl_scan.specs.Entries.{Entry, State, Stopped, state_of, Reading, goes_down, failed, chosen, comment_or, comment_of, after_lexeme, below, entry_of, sound_state, stopped_rows}
+use Rattle.yl_scan.specs.Run.{took, read, run}
+use Rattle.yl_scan.specs.Left.{Out, Told, given, told, entry_told, silent, at_line, rows_to}
+
+-- ---- where nothing but white space follows, a row is at its end
+
+and_left : (a b : Bool) → (a && b) ≡ true → a ≡ true
+and_left true b h = refl
+and_left false b h = h
+
+and_right : (a b : Bool) → (a && b) ≡ true → b ≡ true
+and_right true b h = h
+and_right false b h = cc
+
+positive : (n : ℕ) → ltb 0 (suc n) ≡ true
+positive n = lt-ltb 0 (suc n) (omega arith)
+
+pub over : (rows : List (List ℕ)) (tab : Option ℕ) (n : ℕ) (bs first : Bool) (at : ℕ) (k : Known) (cs : List ℕ) → is_blank (drop n cs) ≡ true
+    → read rows tab n bs first at k cs ≡ goes_down 0 0 (new_row k)
+over rows tab n bs first at k [] h = refl
+over rows tab zero bs first at k (c ∷ cs) h =
+    let w = and_left (is_white c) (is_blank cs) h in
+    rw w (over rows tab 0 true first (at + 1) k cs (and_right (is_white c) (is_blank cs) h))
+over rows tab (suc n) bs first at k (c ∷ cs) h = rw (positive n, sub-one) (over rows tab n false first (at + 1) k cs h)
+
+pub any_column : (column other : ℕ) (start : Bool) (k : Known) (rows : List (List ℕ)) → run start 0 column k rows ≡ run start 0 other k rows
+any_column column other start k [] = refl
+any_column column other start k (row ∷ rows) = refl
+
+module _ (line : ℕ) (row : List ℕ) (rows : List (List ℕ)) where
+  -- a row that was read so, whose start is this or not sound
+  abbrev pub row_told : Option State → Reading Known → Out
+  row_told state r = given line (entry_told line (entry_of state r)) (told (line + 1) (below (λ down column k. run false down column k rows) rows r r.fault))
+
+  abbrev quiet : Bool → Known → Out
+  quiet sound k = given line (record { above = None; lexemes = []; comment = None; sound = sound; fault = None }) (told (line + 1) (run false 0 0 k rows))
+
+  blank_told : (k : Known) → new_row k ≡ k → is_blank row ≡ true → told line (run false 0 0 k (row ∷ rows)) ≡ quiet false k
+  blank_told k e h =
+      ap (row_told (sound_state false row (around k))) (over rows (first_tab false row) 0 true true 0 k row h)
+      ∙ ap (λ k'. quiet (is_some (sound_state false row (around k))) k') e
+      ∙ ap (λ b. quiet (is_some (cond (not b) (Some (state_of (around k))) None)) k) h
+
+  rest_told : (column : ℕ) (k : Known) → new_row k ≡ k → is_blank (drop column row) ≡ true → told line (run false 1 column k (row ∷ rows)) ≡ quiet false k
+  rest_told column k e h = ap (row_told None) (over rows (first_tab true row) column false false 0 k row h) ∙ ap (quiet false) e
+
+  -- a scalar goes on: so many rows further down the reading goes on, behind a column
+  pub goes_on : (down column : ℕ) (k : Known) → new_row k ≡ k
+      → ((down ≡ 0) × (is_blank row ≡ true)) ⊎ (((down ≡ 1) × (is_blank (drop column row) ≡ true)) ⊎ (2 ≤ down))
+      → told line (run false down column k (row ∷ rows)) ≡ given line silent (told (line + 1) (run false (down - 1) column k rows))
+  goes_on zero column k e (inl h) = blank_told k e h.1 ∙ ap (λ es. given line silent (told (line + 1) es)) (any_column 0 column false k rows)
+  goes_on zero column k e (inr (inl h)) = let no : zero ≡ 1 = h.0 in cc
+  goes_on zero column k e (inr (inr h)) = absurd (omega arith)
+  goes_on (suc zero) column k e (inl h) = let no : suc zero ≡ 0 = h.0 in cc
+  goes_on (suc zero) column k e (inr (inl h)) = rest_told column k e h.1 ∙ ap (λ es. given line silent (told (line + 1) es)) (any_column 0 column false k rows)
+  goes_on (suc zero) column k e (inr (inr h)) = absurd (omega arith)
+  goes_on (suc (suc down)) column k e h = rw sub-one refl
+
+  -- the same of a fault that stands further down
+  stop_silent : (to_end b : Bool) → (b || to_end) ≡ true → is_some (cond (b || to_end) None (Some Stopped)) ≡ false
+  stop_silent to_end b h = rw h
+
+  pub reach_goes_on : (to_end : Bool) (down : ℕ) → ((is_blank row || to_end) ≡ true) ⊎ (1 ≤ down)
+      → told line (stopped_rows to_end down (row ∷ rows)) ≡ given line silent (told (line + 1) (stopped_rows to_end (down - 1) rows))
+  reach_goes_on to_end zero (inl h) =
+      ap (λ sound. given line (record { above = None; lexemes = []; comment = None; sound = sound; fault = None }) (told (line + 1) (stopped_rows to_end 0 rows)))
+      (stop_silent to_end (is_blank row) h)
+  reach_goes_on to_end zero (inr h) = absurd (omega arith)
+  reach_goes_on to_end (suc down) h = rw sub-one refl

@@ -1,0 +1,136 @@
+-- What a row tells where a scalar is carried into it.
+use Rattle.std.proofs.Common.{◌≡◌, ℕ, zero, suc, ◌+◌, ◌-◌, ◌≤◌, ◌<◌, ◌⊎◌, inl, inr, Bool, true, false, cond, not, ◌||◌, List, [], ◌∷◌, ◌++◌, drop, map, Option, Some, None, refl, ap, sym, subst, ◌∙◌, arith}
+use Rattle.std.specs.Prelude.{is_some}
+use Rattle.std.specs.List.{filter}
+use Rattle.std.proofs.lemmas.List.{append-nil}
+use Rattle.yl_text.specs.Character.{is_blank}
+use Rattle.yl_scalar.specs.declared.answer.ScalarFault.{ScalarFault}
+use Rattle.yl_scalar.specs.declared.answer.ScalarFault.TheVariants.{NotAllowed, UnclosedQuote, MarkerInQuote, BadEscape, BadHeader, BadIndentation}
+use Rattle.yl_scalar.specs.Reading.{Extent, Reading as ScalarReading, Whole, Refused, Stepped, GoesOn, EndsIn, EndedAbove, Fails, settled, read}
+use Rattle.yl_scan.specs.declared.lexeme.Style.{Style}
+use Rattle.yl_scan.specs.declared.fault.Faulted.{Faulted}
+use Rattle.yl_scan.specs.Lexeme.{LexemeValue, CommentValue}
+use Rattle.yl_scan.specs.Fault.{of_scalar, is_unclosed, is_tab}
+use Rattle.yl_scan.specs.Step.{Found, scalar_found}
+use Rattle.yl_scan.specs.Mode.{Mode, mode_step, mode_finish, open_found, rows_in, KeepsSpaces}
+use Rattle.yl_scan.specs.Known.{Known, new_row}
+use Rattle.yl_scan.specs.Known.{nothing_known}
+use Rattle.yl_scan.specs.Entries.{State, Reading, lexeme_of, stopped_rows, kept, ends_by, goes_down, failed, with_lexeme, chosen, after_lexeme}
+use Rattle.yl_scan.specs.Rows.{gave, comment_end}
+use Rattle.yl_scan.specs.Run.{run}
+use Rattle.yl_scan.specs.Left.{Out, Told, silent, given, told, at_line, fault_in, Stand, Fresh, Within, Halted, ended_above, failed_above, rows_to, whole, left}
+use Rattle.yl_scan.proofs.Fed.{row_told, any_column, goes_on, reach_goes_on}
+use Rattle.yl_scan.proofs.Carry.{Carries, Facts, mode_ends_at, facts}
+
+-- what is still told of a scalar whose whole reading this is
+abbrev reading_left : ℕ → ℕ → Style → ℕ → Known → ScalarReading → List (List ℕ) → Out
+reading_left line begun style at k r rows = let f = scalar_found style at r in whole line begun at f k rows f.fault
+
+module _ (line begun : ℕ) (style : Style) (at : ℕ) (k : Known) (row : List ℕ) (rows : List (List ℕ)) (fresh : new_row k ≡ k) (lt : begun < line) where
+  one_less : (down : ℕ) → rows_to line begun down - 1 ≡ rows_to (line + 1) begun down
+  one_less down = omega arith
+
+  carried : (r : ScalarReading) (passed : ℕ) → passed ≡ line - (begun + 1) → Carries passed row r
+      → reading_left line begun style at k r (row ∷ rows) ≡ given line silent (reading_left (line + 1) begun style at k r rows)
+  carried (Whole e) passed p h =
+      ap (ended_above line begun (lexeme_of at (scalar_found style at (Whole e))))
+      (goes_on line row rows (rows_to line begun e.down) e.column k fresh (as_rows h)
+      ∙ ap (λ n. given line silent (told (line + 1) (run false n e.column k rows))) (one_less e.down))
+    where
+      as_rows : ((e.down - passed ≡ 0) × (is_blank row ≡ true)) ⊎ (((e.down - passed ≡ 1) × (is_blank (drop e.column row) ≡ true)) ⊎ (2 ≤ e.down - passed))
+          → ((rows_to line begun e.down ≡ 0) × (is_blank row ≡ true)) ⊎ (((rows_to line begun e.down ≡ 1) × (is_blank (drop e.column row) ≡ true)) ⊎ (2 ≤ rows_to line begun e.down))
+      as_rows (inl h) = inl (omega (arith, p, h.0), h.1)
+      as_rows (inr (inl h)) = inr (inl (omega (arith, p, h.0), h.1))
+      as_rows (inr (inr h)) = inr (inr (omega (arith, p)))
+  carried (Refused fault down column) passed p h =
+      ap (failed_above begun (record { fault = of_scalar fault; down = down; column = column }))
+      (reach_goes_on line row rows (is_unclosed (of_scalar fault)) (rows_to line begun down) (as_rows h)
+      ∙ ap (λ n. given line silent (told (line + 1) (stopped_rows (is_unclosed (of_scalar fault)) n rows))) (one_less down))
+    where
+      as_rows : ((is_blank row || is_unclosed (of_scalar fault)) ≡ true) ⊎ (1 ≤ down - passed) → ((is_blank row || is_unclosed (of_scalar fault)) ≡ true) ⊎ (1 ≤ rows_to line begun down)
+      as_rows (inl h) = inl h
+      as_rows (inr h) = inr (omega (arith, p))
+
+  pub carry_on : (m m' : Mode) → rows_in m ≡ line - (begun + 1) → KeepsSpaces m → mode_step m row ≡ GoesOn m'
+      → left line (Within begun style at m k) (row ∷ rows) ≡ given line silent (left (line + 1) (Within begun style at m' k) rows)
+  carry_on m m' p spaces e =
+      let h : Facts m row (GoesOn m') = subst (Facts m row) e (facts m row spaces) in
+      let r = read mode_step mode_finish m' rows in
+      ap (λ t. reading_left line begun style at k (settled (λ m. read mode_step mode_finish m rows) t) (row ∷ rows)) e
+      ∙ carried (read mode_step mode_finish m' rows) (rows_in m) p (h.1 (read mode_step mode_finish m' rows) (mode_ends_at m' rows))
+
+  pub carry_ends : (m : Mode) (x : Extent) → rows_in m ≡ line - (begun + 1) → KeepsSpaces m → mode_step m row ≡ EndsIn x
+      → left line (Within begun style at m k) (row ∷ rows) ≡ ended_above line begun (lexeme_of at (scalar_found style at (Whole x))) (told line (run false 1 x.column k (row ∷ rows)))
+  carry_ends m x p spaces e =
+      let h : x.down ≡ rows_in m + 1 = subst (Facts m row) e (facts m row spaces) in
+      let one : rows_to line begun x.down ≡ 1 = omega arith in
+      ap (λ t. reading_left line begun style at k (settled (λ m. read mode_step mode_finish m rows) t) (row ∷ rows)) e
+      ∙ ap (λ n. ended_above line begun (lexeme_of at (scalar_found style at (Whole x))) (told line (run false n x.column k (row ∷ rows)))) one
+
+  pub carry_above : (m : Mode) (x : Extent) → rows_in m ≡ line - (begun + 1) → KeepsSpaces m → mode_step m row ≡ EndedAbove x
+      → left line (Within begun style at m k) (row ∷ rows) ≡ ended_above line begun (lexeme_of at (scalar_found style at (Whole x))) (told line (run false 0 x.column k (row ∷ rows)))
+  carry_above m x p spaces e =
+      let h : x.down ≤ rows_in m = subst (Facts m row) e (facts m row spaces) in
+      let none : rows_to line begun x.down ≡ 0 = omega arith in
+      ap (λ t. reading_left line begun style at k (settled (λ m. read mode_step mode_finish m rows) t) (row ∷ rows)) e
+      ∙ ap (λ n. ended_above line begun (lexeme_of at (scalar_found style at (Whole x))) (told line (run false n x.column k (row ∷ rows)))) none
+
+-- ---- a row that is read
+
+not_tab : (fault : ScalarFault) → is_tab (of_scalar fault) ≡ false
+not_tab NotAllowed = refl
+not_tab UnclosedQuote = refl
+not_tab MarkerInQuote = refl
+not_tab BadEscape = refl
+not_tab BadHeader = refl
+not_tab BadIndentation = refl
+
+-- these lexemes, a comment, whether the row is sound, and a fault of this row
+abbrev pub row_told_of : ℕ → List LexemeValue → Option CommentValue → Bool → Option Faulted → Told
+row_told_of line xs comment sound fault = record { above = None; lexemes = kept fault xs; comment = comment; sound = sound; fault = fault_in line fault }
+
+module _ (line : ℕ) (row : List ℕ) (rows : List (List ℕ)) (state : Option State) (xs : List LexemeValue) where
+  pub read_told : (k : Known) (c : Option CommentValue) → row_told line row rows state (gave xs (comment_end k c)) ≡ given line (row_told_of line xs c (is_some state) None) (left (line + 1) (Fresh false (new_row k)) rows)
+  read_told k None = ap (λ ys. given line (record { above = None; lexemes = ys; comment = None; sound = is_some state; fault = None }) (told (line + 1) (run false 0 0 (new_row k) rows))) (append-nil xs)
+  read_told k (Some c) = ap (λ ys. given line (record { above = None; lexemes = ys; comment = Some c; sound = is_some state; fault = None }) (told (line + 1) (run false 0 0 (new_row k) rows))) (append-nil xs)
+
+  pub stop_told : (f : Faulted) → row_told line row rows state (gave xs (failed f nothing_known)) ≡ given line (row_told_of line xs None (is_some state) (Some f)) (left (line + 1) (Halted (is_unclosed f.fault) f.down) rows)
+  stop_told f = ap (λ ys. given line (record { above = None; lexemes = kept (Some f) ys; comment = None; sound = is_some state; fault = Some (line, f) }) (told (line + 1) (stopped_rows (is_unclosed f.fault) f.down rows))) (append-nil xs)
+
+  -- a scalar that may go on; what its row holds behind it is nothing
+  module _ (style : Style) (at : ℕ) (k : Known) (more : ℕ → Reading Known) where
+    here_down : (d : ℕ) → rows_to (line + 1) line d ≡ d
+    here_down d = omega arith
+
+    move_lexeme : (x : LexemeValue) (ys : List LexemeValue) (os : List (ℕ × LexemeValue)) → map (at_line line) (ys ++ x ∷ []) ++ os ≡ map (at_line line) ys ++ ((line, x) ∷ os)
+    move_lexeme x [] os = refl
+    move_lexeme x (y ∷ ys) os = ap (λ zs. (line, y) ∷ zs) (move_lexeme x ys os)
+
+    -- the row's lexemes and one more, or the row's lexemes and then one that began in it
+    abbrev with_last : LexemeValue → Out → Out
+    with_last x o = given line (record { above = None; lexemes = xs ++ x ∷ []; comment = None; sound = is_some state; fault = None }) o
+
+    moved : (x : LexemeValue) (o : Out) → with_last x o ≡ given line (row_told_of line xs None (is_some state) None) (ended_above (line + 1) line x o)
+    moved x o = ap (λ (ls : List (ℕ × LexemeValue)). let out : Out = record { lexemes = ls; comments = o.comments; sound = is_some state ∷ o.sound; fault = o.fault } in out) (move_lexeme x xs o.lexemes)
+
+    lands : (e : Extent) (d : ℕ) → (d ≡ 0 → more (e.column - at - 1) ≡ goes_down 0 0 (new_row k))
+        → row_told line row rows state (gave xs (with_lexeme (lexeme_of at (scalar_found style at (Whole e))) (after_lexeme at (scalar_found style at (Whole e)) (new_row k) more d)))
+        ≡ with_last (lexeme_of at (scalar_found style at (Whole e))) (told (line + 1) (run false d e.column (new_row k) rows))
+    lands e zero h =
+        ap (λ r. row_told line row rows state (gave xs (with_lexeme (lexeme_of at (scalar_found style at (Whole e))) r))) (h refl)
+        ∙ ap (λ es. with_last (lexeme_of at (scalar_found style at (Whole e))) (told (line + 1) es)) (any_column 0 e.column false (new_row k) rows)
+    lands e (suc d) h = refl
+
+    pub opens_told : (r : ScalarReading) → ((e : Extent) → r ≡ Whole e → e.down ≡ 0 → more (e.column - at - 1) ≡ goes_down 0 0 (new_row k))
+        → row_told line row rows state (gave xs (let f = scalar_found style at r in chosen (lexeme_of at f) nothing_known (after_lexeme at f (new_row k) more f.down) f.fault))
+        ≡ given line (row_told_of line xs None (is_some state) None) (reading_left (line + 1) line style at (new_row k) r rows)
+    opens_told (Whole e) rest =
+        lands e e.down (λ z. rest e refl z)
+        ∙ moved (lexeme_of at (scalar_found style at (Whole e))) (told (line + 1) (run false e.down e.column (new_row k) rows))
+        ∙ ap (λ n. given line (row_told_of line xs None (is_some state) None) (ended_above (line + 1) line (lexeme_of at (scalar_found style at (Whole e))) (told (line + 1) (run false n e.column (new_row k) rows)))) (sym (here_down e.down))
+    opens_told (Refused fault down column) rest =
+        let g : Faulted = record { fault = of_scalar fault; down = down; column = column } in
+        let u = is_unclosed (of_scalar fault) in
+        ap (λ b. given line (record { above = None; lexemes = cond b (filter (ends_by column) (xs ++ [])) (xs ++ []); comment = None; sound = is_some state; fault = Some (line, g) }) (told (line + 1) (stopped_rows u down rows))) (not_tab fault)
+        ∙ ap (λ ys. given line (record { above = None; lexemes = ys; comment = None; sound = is_some state; fault = Some (line, g) }) (told (line + 1) (stopped_rows u down rows))) (append-nil xs)
+        ∙ ap (λ n. given line (row_told_of line xs None (is_some state) None) (failed_above line g (told (line + 1) (stopped_rows u n rows)))) (sym (here_down down))

@@ -1,0 +1,20 @@
+-- Laws of the definitions.
+use Rattle.std.specs.Prelude.{◌≡◌, ◌<◌, ℕ, ◌+◌, ◌-◌, true, List, ◌∷◌}
+use Rattle.yl_scalar.specs.Reading.{GoesOn}
+use Rattle.yl_scan.specs.declared.lexeme.Style.{Style}
+use Rattle.yl_scan.specs.Mode.{Mode, mode_step, rows_in, KeepsSpaces}
+use Rattle.yl_scan.specs.Left.{Within, silent, given, left}
+use Rattle.yl_scan.specs.Entries.{entries}
+use Rattle.yl_scan.specs.Known.{Known, new_row, nothing_known}
+use Rattle.yl_scan.specs.Run.{run}
+
+-- a text's rows, read by looking back over all lexemes before each place, are those that stacks and the row's own unit give
+abbrev pub KeptSuffices : Type 0
+KeptSuffices = (rows : List (List ℕ)) → run true 0 0 nothing_known rows ≡ entries rows
+
+-- a row that a scalar goes through tells nothing, and what the rows below it still tell is what they tell from the scalar as it
+-- stands behind the row: carrying a scalar from row to row gives what reading it whole out of all rows gives
+abbrev pub ScalarsCarry : Type 0
+ScalarsCarry =
+    (line begun : ℕ) (style : Style) (at : ℕ) (k : Known) (row : List ℕ) (rows : List (List ℕ)) (m m' : Mode) → new_row k ≡ k → begun < line → rows_in m ≡ line - (begun + 1) → KeepsSpaces m
+    → mode_step m row ≡ GoesOn m' → left line (Within begun style at m k) (row ∷ rows) ≡ given line silent (left (line + 1) (Within begun style at m' k) rows)

@@ -1,0 +1,183 @@
+-- What the earlier lexemes say of a place: YAML 1.2.2, chapters 6 to 8. They are listed with the latest first: here, those that
+-- begin in this line, and older, those before.
+use Rattle.std.specs.Prelude.{ℕ, Bool, true, false, not, ◌&&◌, ◌||◌, ◌==◌, nat_lt, nat_le, if◌then◌else◌, List, [], ◌∷◌, ◌++◌, ◌+◌, ◌-◌, length, Option, Some, None, is_some}
+use Rattle.yl_scan.specs.declared.lexeme.Kind.{Kind}
+use Rattle.yl_scan.specs.Lexeme.{is_document_marker, is_opening, is_closing, is_property, is_anchor, is_entry, is_key, is_value, is_comma, is_leaf}
+
+-- first: nothing but white space stands before it in its line. flow: it stands in brackets. begins: a key may begin at it.
+-- key: of a Value, the column of its key's first lexeme, if it has a key
+pub record Past : Type 0 where
+  pub kind : Kind
+  pub column : ℕ
+  pub first : Bool
+  pub flow : Bool
+  pub begins : Bool
+  pub key : Option ℕ
+
+-- ---- brackets (flow collections: 7.4)
+
+-- the open brackets, the innermost first; skip counts closing brackets that are still to meet their partners
+abbrev pub open_brackets : ℕ → List Past → List Kind
+open_brackets skip [] = []
+open_brackets skip (x ∷ xs) =
+    if is_document_marker x.kind then []
+    else if is_closing x.kind then open_brackets (skip + 1) xs
+    else if is_opening x.kind then (if skip == 0 then x.kind ∷ open_brackets 0 xs else open_brackets (skip - 1) xs)
+    else open_brackets skip xs
+
+-- ---- keys (implicit keys: 7.4.2, 8.2.2)
+
+-- from the partner of a closing bracket on
+abbrev pub from_partner : ℕ → List Past → List Past
+from_partner depth [] = []
+from_partner depth (x ∷ xs) =
+    if is_closing x.kind then from_partner (depth + 1) xs
+    else if is_opening x.kind then (if depth == 1 then x ∷ xs else from_partner (depth - 1) xs)
+    else from_partner depth xs
+
+-- the latest lexemes that are one content (an alias, a scalar or matched brackets): from its first lexeme on
+abbrev pub from_content : List Past → List Past
+from_content [] = []
+from_content (x ∷ xs) = if is_closing x.kind then from_partner 1 xs else if is_leaf x.kind then x ∷ xs else []
+
+-- two properties of one node: an anchor and a tag
+abbrev pub are_both : Kind → Kind → Bool
+are_both k other = is_property other && (if is_anchor k then not (is_anchor other) else is_anchor other)
+
+-- the first lexeme of the properties that the list begins with, and all before it: at most one anchor and one tag
+abbrev pub from_properties : List Past → List Past
+from_properties [] = []
+from_properties (x ∷ []) = if is_property x.kind then x ∷ [] else []
+from_properties (x ∷ y ∷ xs) =
+    if not (is_property x.kind) then [] else if are_both x.kind y.kind then y ∷ xs else x ∷ y ∷ xs
+
+abbrev pub tail : List Past → List Past
+tail [] = []
+tail (x ∷ xs) = xs
+
+abbrev pub or_from : List Past → List Past → List Past
+or_from [] ys = ys
+or_from (x ∷ xs) ys = x ∷ xs
+
+abbrev pub unit_from : List Past → List Past → List Past
+unit_from [] properties = properties
+unit_from (x ∷ xs) properties = or_from (from_properties xs) (x ∷ xs)
+
+-- the latest lexemes that are one unit (a content with its properties, or properties alone), from its first lexeme on
+abbrev pub from_unit : List Past → List Past
+from_unit xs = unit_from (from_content xs) (from_properties xs)
+
+-- where the unit begins, if a key may begin there
+abbrev pub key_start : List Past → Option ℕ
+key_start [] = None
+key_start (x ∷ xs) = if x.begins then Some x.column else None
+
+-- before this column, and no more than 1024 characters
+abbrev pub near : ℕ → Option ℕ → Option ℕ
+near column None = None
+near column (Some start) = if nat_le start column && nat_le column (start + 1024) then Some start else None
+
+-- the column of the key of a Value at this column: the unit before it, all of it in this line
+abbrev pub key_of : ℕ → List Past → Option ℕ
+key_of column here = near column (key_start (from_unit here))
+
+abbrev pub opens_item : Option Kind → Bool
+opens_item None = false
+opens_item (Some k) = is_opening k || is_comma k
+
+-- an Entry, a Key, or a Value without key
+abbrev pub asks_behind : Kind → Option ℕ → Bool
+asks_behind kind key = is_entry kind || is_key kind || (is_value kind && not (is_some key))
+
+abbrev pub is_asking : Past → Bool
+is_asking x = asks_behind x.kind x.key
+
+abbrev pub asks_for_node : List Past → Bool
+asks_for_node [] = false
+asks_for_node (x ∷ xs) = is_asking x
+
+-- ---- columns (indentation: 6.1, 8.2)
+
+-- n + 1, where the columns are listed each one more and the greatest first
+abbrev pub level : List ℕ → ℕ
+level [] = 0
+level (l ∷ ls) = l
+
+abbrev pub with_column : ℕ → List ℕ → List ℕ
+with_column column levels = if nat_le (level levels) column then (column + 1) ∷ levels else levels
+
+-- without the columns that are greater than this one
+abbrev pub up_to : ℕ → List ℕ → List ℕ
+up_to column [] = []
+up_to column (l ∷ ls) = if nat_lt (column + 1) l then up_to column ls else l ∷ ls
+
+-- a first lexeme removes the columns greater than its own
+abbrev pub cut : Bool → ℕ → List ℕ → List ℕ
+cut removes column levels = if removes then up_to column levels else levels
+
+abbrev pub or_own : ℕ → Option ℕ → ℕ
+or_own own None = own
+or_own own (Some key) = key
+
+-- behind a lexeme of this kind, in brackets or not, first or not, at this column, with this key, where these are the columns before it
+abbrev pub levels_behind : Kind → Bool → Bool → ℕ → Option ℕ → List ℕ → List ℕ
+levels_behind kind flow first column key levels =
+    if is_document_marker kind then []
+    else if flow then levels
+    else if is_entry kind || is_key kind then with_column column (cut first column levels)
+    else if is_value kind then with_column (or_own column key) (cut first column levels)
+    else cut first column levels
+
+abbrev pub levels_with : Past → List ℕ → List ℕ
+levels_with x levels = levels_behind x.kind x.flow x.first x.column x.key levels
+
+abbrev pub levels : List Past → List ℕ
+levels [] = []
+levels (x ∷ xs) = levels_with x (levels xs)
+
+-- ---- all of it
+
+abbrev pub last_kind : List Past → Option Kind
+last_kind [] = None
+last_kind (x ∷ xs) = Some x.kind
+
+-- what surrounds a place
+pub record Around : Type 0 where
+  pub levels : List ℕ
+  pub brackets : List Kind
+  pub last : Option Kind
+  -- a key may begin behind the latest lexeme
+  pub behind : Bool
+  -- where a Value's key would begin, if it is not too far
+  pub start : Option ℕ
+
+abbrev pub is_flow : List Kind → Bool
+is_flow [] = false
+is_flow (k ∷ ks) = true
+
+abbrev pub in_flow : Around → Bool
+in_flow a = is_flow a.brackets
+
+abbrev pub look : List Past → List Past → Around
+look here older =
+    let brackets = open_brackets 0 (here ++ older) in
+    record {
+      levels = levels (here ++ older);
+      brackets = brackets;
+      last = last_kind (here ++ older);
+      behind = if is_flow brackets then opens_item (last_kind (here ++ older)) else asks_for_node here;
+      start = key_start (from_unit here);
+    }
+
+abbrev pub may_begin : Bool → Around → Bool
+may_begin first a = if in_flow a then a.behind else first || a.behind
+
+-- at a place, which removes the columns that are greater if it is first in its row, out of brackets
+abbrev pub at_place : Bool → ℕ → Around → Around
+at_place first column a = record {
+  levels = cut (first && not (is_flow a.brackets)) column a.levels;
+  brackets = a.brackets;
+  last = a.last;
+  behind = a.behind;
+  start = a.start;
+}

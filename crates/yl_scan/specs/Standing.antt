@@ -1,0 +1,29 @@
+-- What the scanner finds at a place, and what the rows below make of it.
+use Rattle.std.specs.Prelude.{◌≡◌, ◌<◌, ◌^◌, ℕ, List, string_bytes, Option, Some, None}
+use Rattle.yl_scalar.specs.Reading.{Reading, Stepped, GoesOn, EndsIn, EndedAbove, Fails}
+use Rattle.yl_scan.specs.declared.lexeme.Style.{Style}
+use Rattle.yl_scan.specs.declared.found.Found as code
+use Rattle.yl_scan.specs.declared.found.Standing.{Standing}
+use Rattle.yl_scan.specs.declared.found.Standing.TheVariants.{Ended, Open}
+use Rattle.yl_scan.specs.Step.{Found, upto}
+use Rattle.yl_scan.specs.Mode.{open_found}
+use Rattle.yl_scan.specs.Reader.{mode_of}
+
+abbrev pub found_of : {A : Type 0} → code.Found A → Found
+found_of f = upto f.kind f.column (string_bytes f.value) f.fault
+
+abbrev pub standing : {A : Type 0} → ℕ → List (List ℕ) → Standing A → Found
+standing at rows (Ended f) = found_of f
+standing at rows (Open style r) = open_found style at (mode_of r) rows
+
+-- nothing of it is found, or that
+abbrev pub found_option : {A : Type 0} → Option (code.Found A) → Option Found
+found_option None = None
+found_option (Some f) = Some (found_of f)
+
+-- if it ends, then in its first row, before a column that fits
+abbrev pub EndsHere : {S : Type 0} → Stepped S → Type 0
+EndsHere (GoesOn s) = Unit {0}
+EndsHere (EndsIn e) = (e.down ≡ 0) × (e.column < 2 ^ 32)
+EndsHere (EndedAbove e) = (e.down ≡ 0) × (e.column < 2 ^ 32)
+EndsHere (Fails fault down column) = Unit {0}

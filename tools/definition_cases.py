@@ -1,0 +1,124 @@
+#!/usr/bin/env python3
+"""definition_cases.py MODEL FOLDER SEED COUNT MAXLEN: compares the definition `entries` of yl_scan with a reference model.
+
+MODEL is the folder of the model (machine.py, texts.py); FOLDER is the specs/ of a library that stands on yl_scan. It gets files
+of lemmas by `refl`, one a text: that `entries` gives for each row the state, the lexemes, the comment and the fault that the
+model gives. A check of that library then makes the comparison."""
+
+import json
+import os
+import random
+import re
+import subprocess
+import sys
+
+MODEL, FOLDER = sys.argv[1:3]
+SEED, COUNT, MAXLEN = map(int, sys.argv[3:6])
+sys.path.insert(0, MODEL)
+from texts import random_text  # noqa: E402
+
+SCALARS = ("Plain", "Single", "Double", "Literal", "Folded")
+FAULTS = {
+    "character not allowed here": "NotAllowed",
+    "tab in indentation": "TabInIndentation",
+    "block entry not allowed here": "EntryNotAllowed",
+    "mapping key not allowed here": "KeyNotAllowed",
+    "mapping value not allowed here": "ValueNotAllowed",
+    "quoted scalar is not closed": "UnclosedQuote",
+    "document marker in quoted scalar": "MarkerInQuote",
+    "bad escape": "BadEscape",
+    "bad block scalar header": "BadHeader",
+    "bad block scalar indentation": "BadIndentation",
+    "bracket without partner": "BracketWithoutPartner",
+    "empty anchor or alias name": "EmptyName",
+    "bad tag": "BadTag",
+    "content after document end": "ContentAfterDocumentEnd",
+}
+HEAD = """use Rattle.std.specs.Prelude.{ℕ, ◌≡◌, refl, List, [], ◌∷◌, Option, Some, None}
+use Rattle.yl_scan.specs.declared.lexeme.Style.TheVariants.{Plain, Single, Double, Literal, Folded}
+use Rattle.yl_scan.specs.declared.lexeme.Kind.{Kind}
+use Rattle.yl_scan.specs.declared.lexeme.Kind.TheVariants.{Directive, DocStart, DocEnd, Entry as EntryKind, Key, Value, Comma, SeqOpen, SeqClose, MapOpen, MapClose, Alias, Anchor, Tag, Scalar}
+use Rattle.yl_scan.specs.declared.fault.Faulted.{Faulted}
+use Rattle.yl_scan.specs.declared.fault.ScanFault.{ScanFault}
+use Rattle.yl_scan.specs.declared.fault.ScanFault.TheVariants as fault
+use Rattle.yl_scan.specs.Lexeme.{LexemeValue, CommentValue}
+use Rattle.yl_scan.specs.Step.{found_at}
+use Rattle.yl_scan.specs.Entries.{entries, place, Entry, State, Stopped, Stands}
+
+abbrev lexeme : Kind → ℕ → ℕ → ℕ → List ℕ → LexemeValue
+lexeme kind at down column value = record { kind = kind; start = place 0 at; end = place down column; value = value }
+
+abbrev fails : ScanFault → ℕ → ℕ → Option Faulted
+fails f down column = Some (record { fault = f; down = down; column = column })
+
+abbrev comment : ℕ → List ℕ → Option CommentValue
+comment column text = Some (record { column = column; text = text })
+
+abbrev row : Option State → List LexemeValue → Option CommentValue → Option Faulted → Entry
+row state xs c f = record { state = state; lexemes = xs; comment = c; fault = f }
+"""
+
+
+def numbers(xs):
+    return "(" + "".join(f"{x} ∷ " for x in xs) + "[])"
+
+
+def kind(k):
+    return f"(Scalar {k})" if k in SCALARS else "EntryKind" if k == "Entry" else k
+
+
+def state(s):
+    if s is None:
+        return "None"
+    if s == "stopped":
+        return "(Some Stopped)"
+    brackets = "".join({"[": "SeqOpen", "{": "MapOpen"}[x] + " ∷ " for x in reversed(s[1])) + "[]"
+    last = "None" if s[2] is None else f"(Some {kind(s[2])})"
+    return f"(Some (Stands {numbers(x + 1 for x in reversed(s[0]))} ({brackets}) {last}))"
+
+
+def case(number, text, answer):
+    """The lemma of one text, or None if the model does not tell in which row the faulty lexeme begins."""
+    lines = re.split("\r\n|\r|\n", text)
+    fault = answer["scan_fault"]
+    home = None
+    if fault is not None:
+        home = fault["line"]
+        if fault["text"] not in ("quoted scalar is not closed", "tab in indentation") and home > 0 and answer["states"][home] is None:
+            return None
+    rows = []
+    for k in range(len(lines)):
+        lexemes = "".join(
+            f"lexeme {kind(x[0])} {x[2]} {x[3] - k} {x[4]} {numbers(x[5].encode())} ∷ " for x in answer["tokens"] if x[1] == k
+        )
+        comments = [x for x in answer["comments"] if x[0] == k]
+        told = f"(comment {comments[0][1]} {numbers(comments[0][2].encode())})" if comments else "None"
+        stops = f"(fails fault.{FAULTS[fault['text']]} 0 {fault['col']})" if k == home else "None"
+        rows.append(f"row {state(answer['states'][k])} ({lexemes}[]) {told} {stops} ∷ ")
+    given = "(" + "".join(numbers(ord(c) for c in line) + " ∷ " for line in lines) + "[])"
+    return f"-- {text!r}\npub case_{number} : entries {given} ≡ {''.join(rows)}[]\nunfolding lib.Utf8.encode found_at\ncase_{number} = refl\n"
+
+
+def main():
+    r = random.Random(SEED)
+    texts = []
+    while len(texts) < COUNT:
+        text = random_text(r)
+        if len(text) <= MAXLEN and text not in texts:
+            texts.append(text)
+    asked = "".join(json.dumps({"config": "rules: {}\n", "text_hex": t.encode().hex(), "edits": []}) + "\n" for t in texts)
+    words = ["python3", os.path.join(MODEL, "machine.py"), "batch"]
+    answers = subprocess.run(words, input=asked, text=True, capture_output=True, check=True).stdout.splitlines()
+    cases = [case(i, t, json.loads(a)) for i, (t, a) in enumerate(zip(texts, answers))]
+    kept = [c for c in cases if c is not None]
+    names = []
+    for i in range(0, len(kept), 100):
+        names.append(f"Cases{i // 100}")
+        with open(os.path.join(FOLDER, names[-1] + ".antt"), "w") as f:
+            f.write(HEAD + "\n" + "\n".join(kept[i : i + 100]))
+    with open(os.path.join(FOLDER, "Lib.antt"), "w") as f:
+        f.write("".join(f"pub mod {n}\n" for n in names))
+    print(f"{len(kept)} texts of {len(texts)}; the others' faults stand in a row that begins inside a lexeme")
+
+
+main()
