@@ -1,0 +1,7 @@
+//! Tests of sessions, over a store and an allocator.
+#![tactic(auto)]
+
+#[cfg(test)]
+mod growth;
+#[cfg(test)]
+mod shown;
