@@ -7,8 +7,8 @@ use Rattle.yl_scan.specs.declared.lexeme.Kind.{Kind}
 use Rattle.yl_scan.specs.Past.{Past, Around, look, at_place, is_flow, is_asking, up_to, cut, levels_behind, levels_with}
 use Rattle.yl_scan.specs.Step.{Found, found_at, step_fault, bad_in, first_tab}
 use Rattle.yl_scan.specs.Known.{Known, around, new_row, reach, nothing_known, own, brackets_with, unit_with, outer_with, pass}
-use Rattle.yl_scan.specs.Entries.{Entry, Reading, goes_down, commented, failed, with_lexeme, chosen, comment_or, comment_of, lexeme_of, past_of, after_lexeme, below, entry_of, sound_state, took as look_took, read as look_read, entries_from, entries}
-use Rattle.yl_scan.specs.Run.{took, read, run}
+use Rattle.yl_scan.specs.Entries.{Entry, Reading, goes_down, commented, failed, with_lexeme, chosen, comment_or, comment_of, lexeme_of, past_of, after_lexeme, below, entry_of, sound_state, read as look_read, entries_from, entries}
+use Rattle.yl_scan.specs.Run.{read, run}
 use Rattle.yl_scan.proofs.Looks.{known_of, looks, next_row}
 
 -- with what is kept in place of the lexemes

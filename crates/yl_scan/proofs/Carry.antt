@@ -1,13 +1,13 @@
 -- A scalar that is carried from row to row gives what reading it whole gives.
-use Rattle.std.proofs.Common.{◌≡◌, ℕ, zero, suc, ◌+◌, ◌-◌, ◌≤◌, ◌<◌, ◌⊎◌, inl, inr, Bool, true, false, cond, not, ◌&&◌, ◌||◌, List, [], ◌∷◌, ◌++◌, length, length-append, take, drop, Option, Some, None, refl, ap, sym, subst, ◌∙◌, eqb, ltb, leb, arith, zero-add}
+use Rattle.std.proofs.Common.{◌≡◌, ℕ, suc, ◌+◌, ◌-◌, ◌≤◌, ◌⊎◌, inl, inr, Bool, true, false, cond, not, ◌&&◌, ◌||◌, List, [], ◌∷◌, ◌++◌, length, length-append, take, drop, Option, Some, None, refl, ap, sym, subst, ◌∙◌, eqb, ltb, leb, arith, zero-add}
 use Rattle.std.specs.List.{prefix_len}
 use Rattle.std.specs.Prelude.{option_map}
 use Rattle.std.proofs.lemmas.Bool.{eqb-true}
 use Rattle.std.proofs.Math.Seq.{take-length}
 use Rattle.yl_text.specs.Character.{is_white, is_blank, is_marker, indentation, without_front, without_end}
 use Rattle.yl_scalar.specs.declared.answer.ScalarFault.{ScalarFault}
-use Rattle.yl_scalar.specs.declared.answer.ScalarFault.TheVariants.{NotAllowed, UnclosedQuote, MarkerInQuote, BadEscape, BadIndentation}
-use Rattle.yl_scalar.specs.Reading.{Extent, Reading, Whole, Refused, Stepped, GoesOn, EndsIn, EndedAbove, Fails, settled, read, unless_bad}
+use Rattle.yl_scalar.specs.declared.answer.ScalarFault.TheVariants.{UnclosedQuote, MarkerInQuote}
+use Rattle.yl_scalar.specs.Reading.{Reading, Whole, Refused, Stepped, GoesOn, EndsIn, EndedAbove, Fails, read, unless_bad}
 use Rattle.yl_scalar.specs.Allowed.{first_bad, is_quoted_character}
 use Rattle.yl_scalar.specs.Plain.{stop, part, reaches_end, continues}
 use Rattle.yl_scalar.specs.PlainSteps.{PlainState, plain_extent, plain_step, plain_finish, with_line, taken}
@@ -53,7 +53,7 @@ drop_front (c ∷ cs) k = by_case (is_white c) (drop_front cs k)
     by_case true ih = let e : 1 + prefix_len is_white cs + k ≡ suc (prefix_len is_white cs + k) = omega arith in ap (λ n. drop n (c ∷ cs)) e ∙ ih
     by_case false ih = rw zero-add
 
-blank_end : (t : List ℕ) → is_blank (drop (length (without_end t)) t) ≡ true
+pub blank_end : (t : List ℕ) → is_blank (drop (length (without_end t)) t) ≡ true
 blank_end [] = refl
 blank_end (c ∷ cs) = by_case (is_blank (c ∷ cs)) refl (blank_end cs)
   where
@@ -68,7 +68,7 @@ remainder flow row h =
     ap without_end (ap (λ n. take n (without_front row)) (eqb-true (stop flow true (without_front row)) (length (without_front row)) h) ∙ take-length (without_front row)) in
     ap is_blank (drop_front row (length (part flow true (without_front row))) ∙ ap (λ p. drop (length p) (without_front row)) e) ∙ blank_end (without_front row)
 
-blank_behind : (row : List ℕ) → is_blank (drop (length row) row) ≡ true
+pub blank_behind : (row : List ℕ) → is_blank (drop (length row) row) ≡ true
 blank_behind [] = refl
 blank_behind (c ∷ cs) = blank_behind cs
 

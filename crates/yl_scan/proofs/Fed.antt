@@ -1,17 +1,12 @@
 -- What a row tells, and what the rows below still tell.
-use Rattle.std.proofs.Common.{◌≡◌, ℕ, zero, suc, ◌+◌, ◌-◌, ◌≤◌, ◌<◌, ◌⊎◌, inl, inr, Bool, true, false, cond, not, ◌&&◌, ◌||◌, List, [], ◌∷◌, ◌++◌, map, length, take, drop, Option, Some, None, refl, ap, sym, ◌∙◌, eqb, ltb, lt-ltb, arith, sub-one, add-one}
-use Rattle.std.specs.Prelude.{is_some, option_to_list}
+use Rattle.std.proofs.Common.{◌≡◌, ℕ, zero, suc, ◌+◌, ◌-◌, ◌≤◌, ◌⊎◌, inl, inr, Bool, true, false, cond, not, ◌&&◌, ◌||◌, List, [], ◌∷◌, drop, Option, Some, None, refl, ap, ◌∙◌, ltb, lt-ltb, arith, sub-one}
+use Rattle.std.specs.Prelude.{is_some}
 use Rattle.yl_text.specs.Character.{is_white, is_blank}
-use Rattle.yl_scan.specs.declared.lexeme.Style.{Style}
-use Rattle.yl_scan.specs.declared.fault.Faulted.{Faulted}
-use Rattle.yl_scan.specs.Lexeme.{LexemeValue, CommentValue}
-use Rattle.yl_scan.specs.Fault.{is_unclosed}
-use Rattle.yl_scan.specs.Step.{Found, found_at, step_fault, bad_in, first_tab}
-use Rattle.yl_scan.specs.Mode.{Mode, open_found}
-use Rattle.yl_scan.specs.Known.{Known, around, row_start, new_row, reach, nothing_known, pass}
-use Rattle.yl_scan.specs.Entries.{Entry, State, Stopped, state_of, Reading, goes_down, failed, chosen, comment_or, comment_of, after_lexeme, below, entry_of, sound_state, stopped_rows}
-use Rattle.yl_scan.specs.Run.{took, read, run}
-use Rattle.yl_scan.specs.Left.{Out, Told, given, told, entry_told, silent, at_line, rows_to}
+use Rattle.yl_scan.specs.Step.{first_tab}
+use Rattle.yl_scan.specs.Known.{Known, around, new_row}
+use Rattle.yl_scan.specs.Entries.{State, Stopped, state_of, Reading, goes_down, below, entry_of, sound_state, stopped_rows}
+use Rattle.yl_scan.specs.Run.{read, run}
+use Rattle.yl_scan.specs.Left.{Out, given, told, entry_told, silent}
 
 -- ---- where nothing but white space follows, a row is at its end
 

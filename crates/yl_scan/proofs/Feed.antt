@@ -1,24 +1,24 @@
 -- What a row tells where a scalar is carried into it.
-use Rattle.std.proofs.Common.{◌≡◌, ℕ, zero, suc, ◌+◌, ◌-◌, ◌≤◌, ◌<◌, ◌⊎◌, inl, inr, Bool, true, false, cond, not, ◌||◌, List, [], ◌∷◌, ◌++◌, drop, map, Option, Some, None, refl, ap, sym, subst, ◌∙◌, arith}
+use Rattle.std.proofs.Common.{◌≡◌, ℕ, zero, suc, ◌+◌, ◌-◌, ◌≤◌, ◌<◌, ◌⊎◌, inl, inr, Bool, true, false, cond, ◌||◌, List, [], ◌∷◌, ◌++◌, drop, map, Option, Some, None, refl, ap, sym, subst, ◌∙◌, arith}
 use Rattle.std.specs.Prelude.{is_some}
 use Rattle.std.specs.List.{filter}
 use Rattle.std.proofs.lemmas.List.{append-nil}
 use Rattle.yl_text.specs.Character.{is_blank}
 use Rattle.yl_scalar.specs.declared.answer.ScalarFault.{ScalarFault}
 use Rattle.yl_scalar.specs.declared.answer.ScalarFault.TheVariants.{NotAllowed, UnclosedQuote, MarkerInQuote, BadEscape, BadHeader, BadIndentation}
-use Rattle.yl_scalar.specs.Reading.{Extent, Reading as ScalarReading, Whole, Refused, Stepped, GoesOn, EndsIn, EndedAbove, Fails, settled, read}
+use Rattle.yl_scalar.specs.Reading.{Extent, Reading as ScalarReading, Whole, Refused, GoesOn, EndsIn, EndedAbove, settled, read}
 use Rattle.yl_scan.specs.declared.lexeme.Style.{Style}
 use Rattle.yl_scan.specs.declared.fault.Faulted.{Faulted}
 use Rattle.yl_scan.specs.Lexeme.{LexemeValue, CommentValue}
 use Rattle.yl_scan.specs.Fault.{of_scalar, is_unclosed, is_tab}
-use Rattle.yl_scan.specs.Step.{Found, scalar_found}
-use Rattle.yl_scan.specs.Mode.{Mode, mode_step, mode_finish, open_found, rows_in, KeepsSpaces}
+use Rattle.yl_scan.specs.Step.{scalar_found}
+use Rattle.yl_scan.specs.Mode.{Mode, mode_step, mode_finish, rows_in, KeepsSpaces}
 use Rattle.yl_scan.specs.Known.{Known, new_row}
 use Rattle.yl_scan.specs.Known.{nothing_known}
 use Rattle.yl_scan.specs.Entries.{State, Reading, lexeme_of, stopped_rows, kept, ends_by, goes_down, failed, with_lexeme, chosen, after_lexeme}
 use Rattle.yl_scan.specs.Rows.{gave, comment_end}
 use Rattle.yl_scan.specs.Run.{run}
-use Rattle.yl_scan.specs.Left.{Out, Told, silent, given, told, at_line, fault_in, Stand, Fresh, Within, Halted, ended_above, failed_above, rows_to, whole, left}
+use Rattle.yl_scan.specs.Left.{Out, Told, silent, given, told, at_line, fault_in, Fresh, Within, Halted, ended_above, failed_above, rows_to, whole, left}
 use Rattle.yl_scan.proofs.Fed.{row_told, any_column, goes_on, reach_goes_on}
 use Rattle.yl_scan.proofs.Carry.{Carries, Facts, mode_ends_at, facts}
 

@@ -1,4 +1,5 @@
 pub mod Agree
+pub mod Beginnings
 pub mod Carry
 pub mod Encodes
 pub mod Fed

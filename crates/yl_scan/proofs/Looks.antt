@@ -1,10 +1,10 @@
 -- What looking back over the earlier lexemes finds is what the scanner keeps of them.
-use Rattle.std.proofs.Common.{◌≡◌, ℕ, zero, suc, ◌+◌, ◌-◌, Bool, true, false, cond, not, ◌&&◌, ◌||◌, List, [], ◌∷◌, ◌++◌, Option, Some, None, refl, ap, sym, ◌∙◌, eqb, arith, add-one, sub-one}
+use Rattle.std.proofs.Common.{◌≡◌, ℕ, zero, suc, ◌+◌, ◌-◌, Bool, true, false, cond, not, ◌&&◌, List, [], ◌∷◌, ◌++◌, Option, Some, None, refl, ap, sym, ◌∙◌, eqb, add-one, sub-one}
 use Rattle.std.proofs.Math.Dec.{eqb-suc-zero, eqb-suc-suc}
 use Rattle.yl_scan.specs.declared.lexeme.Kind.{Kind}
 use Rattle.yl_scan.specs.declared.lexeme.Kind.TheVariants.{Anchor, Tag}
 use Rattle.yl_scan.specs.Lexeme.{is_document_marker, is_opening, is_closing, is_property, is_anchor, is_leaf}
-use Rattle.yl_scan.specs.Past.{Past, Around, open_brackets, from_partner, from_content, from_properties, from_unit, unit_from, or_from, are_both, key_start, opens_item, is_asking, asks_for_node, levels, levels_with, last_kind, is_flow, look, tail}
+use Rattle.yl_scan.specs.Past.{Past, Around, open_brackets, from_partner, from_properties, from_unit, unit_from, or_from, are_both, key_start, opens_item, asks_for_node, levels, levels_with, last_kind, is_flow, look}
 use Rattle.yl_scan.specs.Known.{Known, around, row_start, new_row, popped, first, joined, own, brackets_with, content_start, property_start, unit_with, outer_with, pass}
 
 -- what is kept behind the lexemes of a row, and those before

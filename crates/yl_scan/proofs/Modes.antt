@@ -4,7 +4,7 @@ use Rattle.yl_text.specs.Character.{is_blank, without_end}
 use Rattle.yl_scalar.specs.declared.answer.ScalarFault.TheVariants.{BadHeader}
 use Rattle.yl_scalar.specs.declared.answer.Line.{Line}
 use Rattle.yl_scalar.specs.declared.answer.Line.TheVariants as line
-use Rattle.yl_scalar.specs.Reading.{Extent, Reading, Stepped, GoesOn, EndsIn, EndedAbove, Fails, settled, read, unless_bad}
+use Rattle.yl_scalar.specs.Reading.{Reading, Stepped, GoesOn, EndsIn, EndedAbove, Fails, settled, read, unless_bad}
 use Rattle.yl_scalar.specs.Reader.{said}
 use Rattle.yl_scalar.specs.Allowed.{first_bad, is_quoted_character}
 use Rattle.yl_scalar.specs.Escape.{escape}

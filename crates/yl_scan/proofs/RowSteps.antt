@@ -1,11 +1,11 @@
 -- What a row gives from a place on, by what stands there.
-use Rattle.std.proofs.Common.{◌≡◌, ℕ, zero, suc, ◌+◌, ◌-◌, ◌<◌, ◌≤◌, ◌⊎◌, inl, inr, Bool, true, false, cond, ◌&&◌, List, [], ◌∷◌, ◌++◌, length, take, drop, length-drop, get_or, drop-cons, add-one, Option, refl, ap, sym, ◌∙◌, eqb, ltb, lt-ltb, arith}
+use Rattle.std.proofs.Common.{◌≡◌, ℕ, suc, ◌+◌, ◌-◌, ◌<◌, ◌≤◌, ◌⊎◌, inl, inr, Bool, true, false, ◌&&◌, List, ◌∷◌, length, take, drop, length-drop, get_or, drop-cons, add-one, Option, refl, ap, sym, ◌∙◌, eqb, lt-ltb, arith}
 use Rattle.std.proofs.lemmas.Bool.{eqb-true}
 use Rattle.std.proofs.Math.Seq.{take-length}
 use Rattle.yl_text.specs.Character.{is_white}
 use Rattle.yl_scan.specs.Step.{found_at, bad_in}
 use Rattle.yl_scan.specs.Known.{Known, around, new_row, reach, nothing_known}
-use Rattle.yl_scan.specs.Entries.{Reading, comment_or, comment_of}
+use Rattle.yl_scan.specs.Entries.{comment_or, comment_of}
 use Rattle.yl_scan.specs.Run.{took, read}
 
 pub read_skip : (rows : List (List ℕ)) (tab : Option ℕ) (skip : ℕ) (bs first : Bool) (at : ℕ) (k : Known) (c : ℕ) (cs : List ℕ) → 0 < skip

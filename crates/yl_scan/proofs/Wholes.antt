@@ -1,18 +1,17 @@
 -- Where a scalar that goes on may end: no row below is taken back.
-use Rattle.std.proofs.Common.{◌≡◌, ℕ, zero, suc, ◌+◌, ◌-◌, ◌≤◌, ◌<◌, ◌⊎◌, inl, inr, Bool, true, false, cond, not, ◌&&◌, List, [], ◌∷◌, ◌++◌, length, Option, Some, None, refl, ap, sym, ◌∙◌, arith, eqb, leb}
+use Rattle.std.proofs.Common.{◌≡◌, ℕ, ◌+◌, ◌≤◌, ◌<◌, ◌⊎◌, inl, inr, Bool, true, false, cond, List, [], ◌∷◌, length, Option, Some, None, refl, arith, eqb, leb}
 use Rattle.std.specs.Prelude.{option_map}
 use Rattle.std.proofs.lemmas.Bool.{eqb-true}
 use Rattle.std.specs.List.{prefix_len}
 use Rattle.yl_text.specs.Character.{is_white, is_blank, is_marker, indentation, without_front}
-use Rattle.yl_scalar.specs.declared.answer.ScalarFault.{ScalarFault}
-use Rattle.yl_scalar.specs.declared.answer.ScalarFault.TheVariants.{UnclosedQuote, MarkerInQuote, BadEscape, BadIndentation, NotAllowed}
-use Rattle.yl_scalar.specs.Reading.{Extent, Reading, Whole, Refused, Stepped, GoesOn, EndsIn, EndedAbove, Fails, settled, read, unless_bad}
+use Rattle.yl_scalar.specs.declared.answer.ScalarFault.TheVariants.{UnclosedQuote, MarkerInQuote, BadEscape}
+use Rattle.yl_scalar.specs.Reading.{Reading, Whole, Refused, Stepped, GoesOn, EndedAbove, Fails, settled, read, unless_bad}
 use Rattle.yl_scalar.specs.Allowed.{first_bad}
 use Rattle.yl_scalar.specs.Plain.{part, reaches_end, continues}
 use Rattle.yl_scalar.specs.PlainSteps.{PlainState, plain_extent, plain_step, plain_finish, with_line, taken}
 use Rattle.yl_scalar.specs.Quoted.{Stretch, Closes, Breaks, Faulty, stretch}
 use Rattle.yl_scalar.specs.QuotedSteps.{QuotedState, quoted_step, quoted_finish, took, with_break, cut}
-use Rattle.yl_scalar.specs.Block.{BlockState, block_extent, block_step, block_finish, text_line, with_content, deeper, begun, spaces_with}
+use Rattle.yl_scalar.specs.Block.{BlockState, block_extent, block_step, block_finish, text_line, deeper, begun, spaces_with}
 
 -- ---- plain scalars
 

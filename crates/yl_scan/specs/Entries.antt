@@ -1,6 +1,6 @@
 -- What a text consists of, row by row: for each row the state if it is sound, the lexemes and the comment that begin in it, with
 -- places relative to it, and the scan fault of the lexeme that begins in it. YAML 1.2.2, chapters 5 to 9.
-use Rattle.std.specs.Prelude.{ℕ, zero, suc, Bool, true, false, not, ◌&&◌, ◌||◌, ◌==◌, nat_lt, nat_le, if◌then◌else◌, List, [], ◌∷◌, ◌++◌, ◌+◌, ◌-◌, Option, Some, None, is_some}
+use Rattle.std.specs.Prelude.{ℕ, zero, suc, Bool, true, false, not, ◌&&◌, ◌||◌, ◌==◌, nat_lt, nat_le, if◌then◌else◌, List, [], ◌∷◌, ◌++◌, ◌+◌, ◌-◌, Option, Some, None}
 use Rattle.std.specs.List.{filter}
 use Rattle.std.specs.Str.{encode_utf8_all}
 use Rattle.yl_text.specs.declared.position.Pos.{Pos}

@@ -4,7 +4,7 @@ use Rattle.yl_scalar.specs.declared.answer.ScalarFault.{ScalarFault}
 use Rattle.yl_scalar.specs.declared.answer.ScalarFault.TheVariants as scalar
 use Rattle.yl_scan.specs.declared.fault.ScanFault.{ScanFault}
 use Rattle.yl_scan.specs.declared.fault.Faulted.{Faulted}
-use Rattle.yl_scan.specs.declared.fault.ScanFault.TheVariants.{NotAllowed, TabInIndentation, EntryNotAllowed, KeyNotAllowed, ValueNotAllowed, UnclosedQuote, MarkerInQuote, BadEscape, BadHeader, BadIndentation, BracketWithoutPartner, EmptyName, BadTag, ContentAfterDocumentEnd}
+use Rattle.yl_scan.specs.declared.fault.ScanFault.TheVariants.{NotAllowed, TabInIndentation, UnclosedQuote, MarkerInQuote, BadEscape, BadHeader, BadIndentation}
 
 abbrev pub fault_at : ScanFault → ℕ → Faulted
 fault_at fault column = record { fault = fault; down = 0; column = column }

@@ -1,5 +1,5 @@
 -- What the rows from a scanner's state on still tell, and what a step tells of it.
-use Rattle.std.specs.Prelude.{ℕ, Bool, true, false, ◌||◌, not, if◌then◌else◌, List, [], ◌∷◌, ◌++◌, ◌+◌, ◌-◌, map, Option, Some, None, is_some, option_to_list}
+use Rattle.std.specs.Prelude.{ℕ, Bool, false, List, [], ◌∷◌, ◌++◌, ◌+◌, ◌-◌, map, Option, Some, None, is_some, option_to_list}
 use Rattle.yl_scan.specs.declared.lexeme.Style.{Style}
 use Rattle.yl_scan.specs.declared.fault.Faulted.{Faulted}
 use Rattle.yl_scan.specs.Lexeme.{LexemeValue, CommentValue}

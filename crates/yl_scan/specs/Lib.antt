@@ -1,3 +1,4 @@
+pub mod Begins
 pub mod Entries
 pub mod Fault
 pub mod Known

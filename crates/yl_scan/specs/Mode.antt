@@ -1,5 +1,5 @@
 -- A scalar that may go on in the row below, of any style.
-use Rattle.std.specs.Prelude.{ℕ, ◌+◌, ◌≤◌, List, [], ◌∷◌, length}
+use Rattle.std.specs.Prelude.{ℕ, ◌+◌, ◌≤◌, List, length}
 use Rattle.yl_scalar.specs.Reading.{Reading, Stepped, GoesOn, EndsIn, EndedAbove, Fails, read}
 use Rattle.yl_scalar.specs.PlainSteps.{PlainState, plain_step, plain_finish}
 use Rattle.yl_scalar.specs.QuotedSteps.{QuotedState, quoted_step, quoted_finish}

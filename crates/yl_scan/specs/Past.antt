@@ -1,6 +1,6 @@
 -- What the earlier lexemes say of a place: YAML 1.2.2, chapters 6 to 8. They are listed with the latest first: here, those that
 -- begin in this line, and older, those before.
-use Rattle.std.specs.Prelude.{ℕ, Bool, true, false, not, ◌&&◌, ◌||◌, ◌==◌, nat_lt, nat_le, if◌then◌else◌, List, [], ◌∷◌, ◌++◌, ◌+◌, ◌-◌, length, Option, Some, None, is_some}
+use Rattle.std.specs.Prelude.{ℕ, Bool, true, false, not, ◌&&◌, ◌||◌, ◌==◌, nat_lt, nat_le, if◌then◌else◌, List, [], ◌∷◌, ◌++◌, ◌+◌, ◌-◌, Option, Some, None, is_some}
 use Rattle.yl_scan.specs.declared.lexeme.Kind.{Kind}
 use Rattle.yl_scan.specs.Lexeme.{is_document_marker, is_opening, is_closing, is_property, is_anchor, is_entry, is_key, is_value, is_comma, is_leaf}
 

@@ -1,5 +1,5 @@
 -- What a scalar's reader and its answers say.
-use Rattle.std.specs.Prelude.{ℕ, List, [], ◌∷◌}
+use Rattle.std.specs.Prelude.{ℕ, List, []}
 use Rattle.yl_scalar.specs.declared.answer.Line.{Line}
 use Rattle.yl_scalar.specs.declared.answer.Outcome.{Outcome}
 use Rattle.yl_scalar.specs.Reading.{Reading, Stepped}

@@ -1,7 +1,6 @@
 -- What the reading of a row and its answers say.
-use Rattle.std.specs.Prelude.{◌≡◌, ℕ, ◌+◌, false, List, [], ◌∷◌, ◌++◌, drop, Option, Some, None}
+use Rattle.std.specs.Prelude.{◌≡◌, ℕ, ◌+◌, false, List, ◌++◌, drop, Option, Some, None}
 use Rattle.yl_scan.specs.declared.lexeme.Style.{Style}
-use Rattle.yl_scan.specs.declared.row.Open.{Open}
 use Rattle.yl_scan.specs.declared.row.Next.{Next}
 use Rattle.yl_scan.specs.declared.row.Next.TheVariants.{Skip, Opens, Stops}
 use Rattle.yl_scan.specs.declared.row.End.{End}

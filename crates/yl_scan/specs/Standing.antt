@@ -1,7 +1,6 @@
 -- What the scanner finds at a place, and what the rows below make of it.
 use Rattle.std.specs.Prelude.{◌≡◌, ◌<◌, ◌^◌, ℕ, List, string_bytes, Option, Some, None}
-use Rattle.yl_scalar.specs.Reading.{Reading, Stepped, GoesOn, EndsIn, EndedAbove, Fails}
-use Rattle.yl_scan.specs.declared.lexeme.Style.{Style}
+use Rattle.yl_scalar.specs.Reading.{Stepped, GoesOn, EndsIn, EndedAbove, Fails}
 use Rattle.yl_scan.specs.declared.found.Found as code
 use Rattle.yl_scan.specs.declared.found.Standing.{Standing}
 use Rattle.yl_scan.specs.declared.found.Standing.TheVariants.{Ended, Open}

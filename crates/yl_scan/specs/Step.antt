@@ -1,12 +1,12 @@
 -- One lexeme: YAML 1.2.2, chapters 6 to 9, from its first character on, the rest of its line and the lines below.
-use Rattle.std.specs.Prelude.{ℕ, Bool, true, false, not, ◌&&◌, ◌||◌, ◌==◌, nat_lt, nat_le, if◌then◌else◌, List, [], ◌∷◌, ◌++◌, ◌+◌, ◌-◌, take, drop, length, Option, Some, None, option_map}
+use Rattle.std.specs.Prelude.{ℕ, Bool, true, false, not, ◌&&◌, ◌||◌, ◌==◌, nat_lt, if◌then◌else◌, List, [], ◌∷◌, ◌+◌, take, drop, length, Option, Some, None, option_map}
 use Rattle.std.specs.List.{prefix_len, position}
 use Rattle.std.specs.Str.{encode_utf8_all}
 use Rattle.yl_text.specs.Character.{is_white, is_non_space, is_flow_indicator, is_blank, is_marker_of, without_front, without_end}
 use Rattle.yl_scalar.specs.Allowed.{first_bad}
 use Rattle.yl_scalar.specs.Plain.{is_safe_next}
 use Rattle.yl_scalar.specs.Header.{next}
-use Rattle.yl_scalar.specs.Reading.{Extent, Reading, Whole, Refused}
+use Rattle.yl_scalar.specs.Reading.{Reading, Whole, Refused}
 use Rattle.yl_scalar.specs.PlainSteps.{plain}
 use Rattle.yl_scalar.specs.QuotedSteps.{quoted}
 use Rattle.yl_scalar.specs.Block.{block}
@@ -14,7 +14,6 @@ use Rattle.yl_scan.specs.declared.lexeme.Style.{Style}
 use Rattle.yl_scan.specs.declared.lexeme.Style.TheVariants.{Plain, Single, Double, Literal, Folded}
 use Rattle.yl_scan.specs.declared.lexeme.Kind.{Kind}
 use Rattle.yl_scan.specs.declared.lexeme.Kind.TheVariants.{Directive, DocStart, DocEnd, Entry, Key, Value, Comma, SeqOpen, SeqClose, MapOpen, MapClose, Alias, Anchor, Tag, Scalar}
-use Rattle.yl_scan.specs.declared.fault.ScanFault.{ScanFault}
 use Rattle.yl_scan.specs.declared.fault.ScanFault.TheVariants.{NotAllowed, TabInIndentation, EntryNotAllowed, KeyNotAllowed, ValueNotAllowed, BracketWithoutPartner, EmptyName, BadTag, ContentAfterDocumentEnd}
 use Rattle.yl_scan.specs.declared.fault.Faulted.{Faulted}
 use Rattle.yl_scan.specs.Fault.{fault_at, of_scalar, when, or_else}

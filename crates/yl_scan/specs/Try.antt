@@ -5,7 +5,7 @@ use Rattle.yl_scan.specs.declared.lexeme.Kind.{Kind}
 use Rattle.yl_scan.specs.declared.lexeme.Kind.TheVariants.{DocStart, Entry as EntryKind, Value, Comma, MapOpen, MapClose, Alias, Scalar}
 use Rattle.yl_scan.specs.declared.fault.ScanFault.{ScanFault}
 use Rattle.yl_scan.specs.declared.fault.ScanFault.TheVariants.{TabInIndentation, ValueNotAllowed, UnclosedQuote}
-use Rattle.yl_scan.specs.Lexeme.{LexemeValue, CommentValue}
+use Rattle.yl_scan.specs.Lexeme.{LexemeValue}
 use Rattle.yl_scan.specs.Step.{found_at}
 use Rattle.yl_scan.specs.Entries.{entries, place, Entry, State, Stopped, Stands}
 

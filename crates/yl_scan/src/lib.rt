@@ -4,6 +4,7 @@
 //! keeps `Surroundings` instead, and `read_row` reads one row from them.
 #![tactic(auto)]
 
+ghost use Rattle.yl_scan.specs.Begins.{BlockBegins, PlainBegins, QuotedBegins};
 ghost use Rattle.yl_scan.specs.Laws.{KeptSuffices, ScalarsCarry};
 
 mod fault;
@@ -34,4 +35,11 @@ pub fn kept_suffices()
 /// A law: a scalar that is carried from row to row gives what it gives when it is read whole.
 pub fn scalars_carry()
     ensures { ScalarsCarry }
+{}
+
+/// A law: behind a scalar that may go on below, the row in which it begins holds nothing but white space.
+pub fn scalars_begin()
+    ensures plain { PlainBegins }
+    ensures quoted { QuotedBegins }
+    ensures block { BlockBegins }
 {}

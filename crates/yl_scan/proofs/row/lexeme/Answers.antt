@@ -1,10 +1,10 @@
-use Rattle.std.proofs.Common.{◌≡◌, ℕ, ap, sym, ◌∙◌, refl}
+use Rattle.std.proofs.Common.{ap, sym, ◌∙◌}
 use Rattle.yl_scan.specs.Surroundings.{known}
 use Rattle.yl_scan.specs.Known.{around}
 use Rattle.yl_scan.specs.Step.{found_at}
 use Rattle.yl_scan.specs.Standing.{standing}
 use Rattle.yl_scan.specs.Run.{took}
-use Rattle.yl_scan.specs.Rows.{gave, next}
+use Rattle.yl_scan.specs.Rows.{gave}
 use Rattle.yl_scan.proofs.row.lexeme.Goals as goal
 
 pub returns-in_ok-ended-in-Ended : goal.returns-in_ok-ended-in-Ended

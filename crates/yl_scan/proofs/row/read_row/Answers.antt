@@ -1,4 +1,4 @@
-use Rattle.std.proofs.Common.{◌≡◌, ℕ, ◌+◌, ap, sym, ◌∙◌, refl, inl, inr, drop, false}
+use Rattle.std.proofs.Common.{◌+◌, ap, sym, ◌∙◌, inl, inr, drop, false}
 use Rattle.yl_scan.specs.Surroundings.{known}
 use Rattle.yl_scan.specs.Step.{found_at, bad_in}
 use Rattle.yl_scan.specs.Known.{around, reach, new_row, nothing_known}
