@@ -1,0 +1,7 @@
+//! Tests of sessions with ample memory: what edits are answered, and what is shown then.
+#![tactic(auto)]
+
+#[cfg(test)]
+mod rows;
+#[cfg(test)]
+mod shown;
