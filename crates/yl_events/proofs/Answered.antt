@@ -14,7 +14,7 @@ use Rattle.yl_events.specs.Machine.{State, step, finish, run, parse, taken, faul
 use Rattle.yl_events.specs.Answer.{IsParsed, Answers}
 use Rattle.yl_events.proofs.Complete.{parsed, one_derivation}
 use Rattle.yl_events.specs.Event.{EventValue, AreEvents, filled}
-use Rattle.yl_scan.specs.Lexeme.{LexemeValue}
+use Rattle.yl_lexeme.specs.Lexeme.{LexemeValue}
 use Rattle.std.specs.Prelude.{map}
 use Rattle.yl_events.proofs.Sound.{Forest, forest, Fills, Stepped, Ran, step_back, leasts, run_back, document_of}
 

@@ -5,7 +5,7 @@ use Rattle.std.proofs.Math.Seq.{take-suc, take-append_seam}
 use Rattle.std.proofs.lemmas.List.{reverse-append, reverse-reverse, length-reverse, length-take, length-append}
 use Rattle.std.proofs.Common.{append_assoc, drop-cons}
 use Rattle.yl_text.specs.declared.position.Pos.{Pos}
-use Rattle.yl_scan.specs.Lexeme.{LexemeValue, is_document_marker, is_opening, is_closing, is_leaf}
+use Rattle.yl_lexeme.specs.Lexeme.{LexemeValue, is_document_marker, is_opening, is_closing, is_leaf}
 use Rattle.yl_events.specs.declared.symbol.Piece.{Piece}
 use Rattle.yl_events.specs.Keys.{openings, innermost, from_content, from_properties, from_unit, or_else, is_key_of, key_from, piece, pieces}
 use Rattle.yl_events.specs.Counted.{counts_behind, first_count, content_behind}

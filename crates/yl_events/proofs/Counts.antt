@@ -1,7 +1,7 @@
 -- The marked document has the document's lexemes.
 use Rattle.std.specs.Prelude.{ℕ, suc, ◌≡◌, ◌≤◌, ◌+◌, refl, Bool, true, false, List, [], ◌∷◌, ◌++◌, length, Option, Some, None, if◌then◌else◌}
 use Rattle.std.proofs.Common.{◌∙◌, ap, arith}
-use Rattle.yl_scan.specs.Lexeme.{LexemeValue}
+use Rattle.yl_lexeme.specs.Lexeme.{LexemeValue}
 use Rattle.yl_events.specs.declared.symbol.Symbol.{Symbol}
 use Rattle.yl_events.specs.declared.symbol.Symbol.TheVariants.{Close, One}
 use Rattle.yl_events.specs.declared.symbol.Piece.{Piece}

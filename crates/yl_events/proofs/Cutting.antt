@@ -2,7 +2,7 @@
 use Rattle.std.specs.Prelude.{ℕ, zero, suc, ◌≡◌, ◌≤◌, ◌<◌, ◌==◌, ◌-◌, refl, Bool, false, not, ◌||◌, ◌&&◌, cond, if◌then◌else◌, List, [], ◌∷◌, ◌++◌, length, map, drop, reverse}
 use Rattle.std.proofs.Common.{sym, ◌∙◌, ap, get_or, arith, drop-cons}
 use Rattle.std.proofs.lemmas.List.{reverse-append, reverse-reverse, drop-map, length-drop, length-map}
-use Rattle.yl_scan.specs.declared.lexeme.Kind.{Kind}
+use Rattle.yl_lexeme.specs.declared.lexeme.Kind.{Kind}
 use Rattle.yl_events.specs.Documents.{is_document_end, is_document_start, is_directive, starts_marked, is_cut, cuts_behind, beginnings}
 
 -- the cuts behind the first of these lexemes, which stands at this place

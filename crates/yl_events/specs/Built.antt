@@ -1,6 +1,6 @@
 -- What a document gives: its events, or its parse fault.
 use Rattle.std.specs.Prelude.{◌≡◌, List, [], Option, Some, None}
-use Rattle.yl_scan.specs.Lexeme.{LexemeValue}
+use Rattle.yl_lexeme.specs.Lexeme.{LexemeValue}
 use Rattle.yl_events.specs.declared.fault.Fault.{Fault}
 use Rattle.yl_events.specs.Event.{EventValue, AreEvents}
 use Rattle.yl_events.specs.Derives.{HasFaultAt}

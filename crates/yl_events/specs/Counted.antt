@@ -1,7 +1,7 @@
 -- Open brackets by the number of lexemes up to and with each.
 use Rattle.std.specs.Prelude.{ℕ, if◌then◌else◌, List, [], ◌∷◌, drop}
-use Rattle.yl_scan.specs.declared.lexeme.Kind.{Kind}
-use Rattle.yl_scan.specs.Lexeme.{is_document_marker, is_opening, is_closing, is_leaf}
+use Rattle.yl_lexeme.specs.declared.lexeme.Kind.{Kind}
+use Rattle.yl_lexeme.specs.Lexeme.{is_document_marker, is_opening, is_closing, is_leaf}
 
 -- behind one more lexeme
 abbrev pub counts_behind : Kind → ℕ → List ℕ → List ℕ

@@ -1,7 +1,7 @@
 -- The cuts between documents: YAML 1.2.2, 9.2 to 9.5. A document begins with the text's first lexeme, with a marker `---`
 -- or the first of the directives directly before it, and behind a marker `...`.
 use Rattle.std.specs.Prelude.{ℕ, suc, Bool, true, false, not, ◌&&◌, ◌||◌, List, [], ◌∷◌, if◌then◌else◌}
-use Rattle.yl_scan.specs.declared.lexeme.Kind.{Kind}
+use Rattle.yl_lexeme.specs.declared.lexeme.Kind.{Kind}
 
 abbrev pub is_directive : Kind → Bool
 is_directive Kind.Directive = true

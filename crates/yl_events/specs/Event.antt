@@ -1,8 +1,8 @@
 -- Events: YAML 1.2.2, 3.1.1. Names and values in UTF-8.
 use Rattle.std.specs.Prelude.{ℕ, ◌≡◌, Bool, List, [], map, Option, Some, None, slice_get}
 use Rattle.yl_text.specs.declared.position.Pos.{Pos}
-use Rattle.yl_scan.specs.declared.lexeme.Style.{Style}
-use Rattle.yl_scan.specs.Lexeme.{LexemeValue}
+use Rattle.yl_lexeme.specs.declared.lexeme.Style.{Style}
+use Rattle.yl_lexeme.specs.Lexeme.{LexemeValue}
 use Rattle.yl_events.specs.declared.symbol.Outline.{Outline}
 use Rattle.yl_events.specs.declared.symbol.Shape.{Shape}
 use Rattle.yl_events.specs.declared.symbol.Shape.TheVariants as shape

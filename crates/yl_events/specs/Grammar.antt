@@ -2,8 +2,8 @@
 -- 9.1 and 9.2 (documents). A tree for each derivation, and its spelling before what follows it. A Value without key belongs to the
 -- Key before it if that has none yet: `Keyed`.
 use Rattle.std.specs.Prelude.{ℕ, List, [], ◌∷◌, Option, Some, None}
-use Rattle.yl_scan.specs.declared.lexeme.Kind.{Kind}
-use Rattle.yl_scan.specs.declared.lexeme.Style.{Style}
+use Rattle.yl_lexeme.specs.declared.lexeme.Kind.{Kind}
+use Rattle.yl_lexeme.specs.declared.lexeme.Style.{Style}
 use Rattle.yl_events.specs.declared.symbol.Symbol.{Symbol}
 use Rattle.yl_events.specs.declared.symbol.Symbol.TheVariants.{OpenSequence, OpenMapping, BeginKey, Close, One}
 use Rattle.yl_events.specs.declared.symbol.Bracket.{Bracket}

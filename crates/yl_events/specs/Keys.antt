@@ -1,8 +1,8 @@
 -- Keys, and where they may begin: YAML 1.2.2, 7.4.2 and 8.2.2. Earlier lexemes are listed with the latest first.
 use Rattle.std.specs.Prelude.{ℕ, Bool, true, false, not, ◌&&◌, ◌||◌, ◌==◌, nat_lt, nat_le, if◌then◌else◌, List, [], ◌∷◌, ◌+◌, length, drop, Option, Some, None, is_some}
-use Rattle.yl_scan.specs.declared.lexeme.Kind.{Kind}
+use Rattle.yl_lexeme.specs.declared.lexeme.Kind.{Kind}
 use Rattle.yl_text.specs.declared.position.Pos.{Pos}
-use Rattle.yl_scan.specs.Lexeme.{LexemeValue, is_document_marker, is_opening, is_closing, is_property, is_anchor, is_entry, is_key, is_value, is_comma, is_leaf}
+use Rattle.yl_lexeme.specs.Lexeme.{LexemeValue, is_document_marker, is_opening, is_closing, is_property, is_anchor, is_entry, is_key, is_value, is_comma, is_leaf}
 use Rattle.yl_events.specs.declared.symbol.Piece.{Piece}
 
 -- a lexeme at a line of the text

@@ -1,7 +1,7 @@
 -- The marks of a document: where block collections open and close, by the columns of their lexemes (YAML 1.2.2, 8.2).
 use Rattle.std.specs.Prelude.{ℕ, suc, Bool, true, false, not, ◌&&◌, ◌||◌, ◌==◌, nat_lt, if◌then◌else◌, List, [], ◌∷◌, ◌++◌, Option, Some, None, is_some, slice_get}
 use Rattle.std.specs.List.{list_any}
-use Rattle.yl_scan.specs.Lexeme.{LexemeValue, is_document_marker, is_entry, is_key, is_value}
+use Rattle.yl_lexeme.specs.Lexeme.{LexemeValue, is_document_marker, is_entry, is_key, is_value}
 use Rattle.yl_events.specs.declared.symbol.Symbol.{Symbol}
 use Rattle.yl_events.specs.declared.symbol.Symbol.TheVariants.{OpenSequence, OpenMapping, BeginKey, Close, One}
 use Rattle.yl_events.specs.declared.symbol.Piece.{Piece}

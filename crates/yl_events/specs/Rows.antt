@@ -1,9 +1,9 @@
 -- Worked rows. Lexemes go by their index.
 use Rattle.std.specs.Prelude.{ℕ, ◌≡◌, refl, List, [], ◌∷◌, ◌++◌, Some, None}
-use Rattle.yl_scan.specs.declared.lexeme.Kind.{Kind}
-use Rattle.yl_scan.specs.declared.lexeme.Kind.TheVariants.{DocStart, DocEnd, Directive, Entry, Value, Anchor, Scalar}
-use Rattle.yl_scan.specs.declared.lexeme.Style.TheVariants.{Plain, Double}
-use Rattle.yl_scan.specs.Lexeme.{LexemeValue}
+use Rattle.yl_lexeme.specs.declared.lexeme.Kind.{Kind}
+use Rattle.yl_lexeme.specs.declared.lexeme.Kind.TheVariants.{DocStart, DocEnd, Directive, Entry, Value, Anchor, Scalar}
+use Rattle.yl_lexeme.specs.declared.lexeme.Style.TheVariants.{Plain, Double}
+use Rattle.yl_lexeme.specs.Lexeme.{LexemeValue}
 use Rattle.yl_events.specs.declared.symbol.Outline.{Outline}
 use Rattle.yl_events.specs.declared.symbol.Shape.{Shape}
 use Rattle.yl_events.specs.declared.symbol.Shape.TheVariants as shape

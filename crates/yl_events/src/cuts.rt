@@ -4,7 +4,7 @@ ghost use Rattle.std.specs.Prelude.{◌≡◌, ◌||◌, ◌&&◌, not, IfOk, ma
 ghost use Rattle.yl_events.specs.Documents.{is_document_end, is_document_start, is_directive, beginnings};
 
 use std::alloc::{AllocError, Allocator};
-use yl_scan::{At, Kind};
+use yl_lexeme::{At, Kind};
 
 /// Whether a document ends with a lexeme of this kind, where a marker `---` comes next, or directives and then one.
 fn ends_document(kind: Kind, is_marked: bool) -> bool

@@ -1,7 +1,7 @@
 //! The events of a document, or its parse fault.
 
 ghost use Rattle.std.specs.Prelude.{◌≡◌, ◌≤◌, ◌<◌, ◌+◌, ◌^◌, ◌-◌, ℕ, List, [], map, length, IfOk, OnOk, OnErr, IfSome};
-ghost use Rattle.yl_scan.specs.Lexeme.{LexemeValue};
+ghost use Rattle.yl_lexeme.specs.Lexeme.{LexemeValue};
 ghost use Rattle.yl_events.specs.declared.symbol.Symbol.{Symbol as Marks};
 ghost use Rattle.yl_events.specs.Keys.{placed};
 ghost use Rattle.yl_events.specs.Event.{EventValue, event_value, kind_value, value_at, start_at, content_value, kind_of, filled, AreEvents};
@@ -15,7 +15,7 @@ use crate::machine::parse;
 use crate::marks::symbols;
 use crate::symbol::{Outline, Shape};
 use std::alloc::{AllocError, Allocator};
-use yl_scan::{At, Meter};
+use yl_lexeme::{At, Meter};
 use yl_text::Pos;
 
 /// The value of the lexeme of this index.

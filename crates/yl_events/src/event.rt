@@ -2,7 +2,7 @@
 
 use crate::fault::Fault;
 use std::alloc::Allocator;
-use yl_scan::Style;
+use yl_lexeme::Style;
 use yl_text::Pos;
 
 /// What an event is. An alias has its name; a scalar its style and its value, which of a block scalar is empty.

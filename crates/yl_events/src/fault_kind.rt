@@ -6,7 +6,7 @@ ghost use Rattle.yl_events.specs.Faults.{with_indentless, blocks_behind, depth_b
 use crate::fault::ParseFault;
 use crate::symbol::{Block, Symbol};
 use std::alloc::{AllocError, Allocator};
-use yl_scan::Kind;
+use yl_lexeme::Kind;
 
 /// An indentless sequence is open in the innermost mapping, or no longer.
 fn set_indentless<A: Allocator>(is_open: bool, blocks: &mut Vec<Block, A>) -> Result<(), AllocError>

@@ -1,13 +1,13 @@
 //! Keys, and where they may begin.
 
 ghost use Rattle.std.specs.Prelude.{◌≡◌, ◌≤◌, ◌<◌, ◌+◌, [], ◌∷◌, ◌++◌, ℕ, List, length, map, take, reverse, IfOk, OnOk};
-ghost use Rattle.yl_scan.specs.Lexeme.{is_closing, is_opening, is_leaf, is_property, is_anchor, is_document_marker};
+ghost use Rattle.yl_lexeme.specs.Lexeme.{is_closing, is_opening, is_leaf, is_property, is_anchor, is_document_marker};
 ghost use Rattle.yl_events.specs.Keys.{placed, openings, from_content, from_properties, from_unit, is_first, is_behind_flow, is_behind_indicator, may_begin, is_property_in, is_key_of, key_from, piece, pieces};
 ghost use Rattle.yl_events.specs.Counted.{counts_behind, content_behind};
 
 use crate::symbol::Piece;
 use std::alloc::{AllocError, Allocator};
-use yl_scan::{At, Kind};
+use yl_lexeme::{At, Kind};
 use yl_text::Pos;
 
 fn is_closing(kind: Kind) -> bool

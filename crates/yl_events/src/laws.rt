@@ -1,7 +1,7 @@
 //! What the definitions say of each document. No function here calls anything.
 
 ghost use Rattle.std.specs.Prelude.{◌≡◌, ◌≤◌, ℕ, List, length};
-ghost use Rattle.yl_scan.specs.Lexeme.{LexemeValue};
+ghost use Rattle.yl_lexeme.specs.Lexeme.{LexemeValue};
 ghost use Rattle.yl_events.specs.declared.symbol.Symbol.{Symbol};
 ghost use Rattle.yl_events.specs.declared.symbol.Outline.{Outline};
 ghost use Rattle.yl_events.specs.Marks.{marked};

@@ -9,7 +9,7 @@ ghost use Rattle.yl_events.specs.declared.symbol.Goal.TheVariants.{ItemEnd, Node
 
 use crate::symbol::{Bracket, Goal, Outline, Properties, Shape, Symbol, Where};
 use std::alloc::{AllocError, Allocator};
-use yl_scan::Kind;
+use yl_lexeme::Kind;
 
 fn bare(kind: Shape, place: Option<usize>) -> Outline
     ensures { result ≡ bare kind place }

@@ -7,7 +7,7 @@ ghost use Rattle.yl_events.specs.Marks.{is_in_mapping, continues, closes, left_o
 use crate::keys::{is_document_marker, pieces};
 use crate::symbol::{Collection, Marked, Marking, OpenBlock, Piece, Symbol};
 use std::alloc::{AllocError, Allocator};
-use yl_scan::{At, Kind};
+use yl_lexeme::{At, Kind};
 
 fn is_in_mapping(m: Marking) -> bool
     ensures { result ≡ is_in_mapping m }

@@ -1,6 +1,6 @@
 //! What the grammar reads and gives. Lexemes go by their index in the document.
 
-use yl_scan::{Kind, Style};
+use yl_lexeme::{Kind, Style};
 use yl_text::Pos;
 
 /// A lexeme, or a mark between lexemes. A mark names the lexeme that it stands before.

@@ -6,7 +6,7 @@ use yl_events::{
     Built, Collection, EventKind, Marked, ParseFault, documents, mark, one_derivation, one_fault,
     parse_document,
 };
-use yl_scan::{At, Kind, Lexeme, Meter, Style};
+use yl_lexeme::{At, Kind, Lexeme, Meter, Style};
 use yl_text::Pos;
 
 type Heap<'a> = &'a Refusing<Global>;

@@ -2,14 +2,14 @@
 use Rattle.std.proofs.Common.{◌≡◌, ℕ, zero, suc, ◌+◌, ◌-◌, Bool, true, false, cond, not, ◌&&◌, List, [], ◌∷◌, ◌++◌, Option, Some, None, refl, ap, sym, ◌∙◌, eqb, ltb}
 use Rattle.yl_text.specs.Character.{is_white}
 use Rattle.yl_scan.specs.declared.fault.Faulted.{Faulted}
-use Rattle.yl_scan.specs.Lexeme.{LexemeValue, CommentValue, is_property, is_anchor}
-use Rattle.yl_scan.specs.declared.lexeme.Kind.{Kind}
-use Rattle.yl_scan.specs.Past.{Past, Around, look, at_place, is_flow, is_asking, up_to, cut, levels_behind, levels_with}
+use Rattle.yl_lexeme.specs.Lexeme.{LexemeValue, CommentValue, is_property, is_anchor}
+use Rattle.yl_lexeme.specs.declared.lexeme.Kind.{Kind}
+use Rattle.yl_lexeme.specs.Past.{past_of, Past, Around, look, at_place, is_flow, is_asking, up_to, cut, levels_behind, levels_with}
 use Rattle.yl_scan.specs.Step.{Found, found_at, step_fault, bad_in, first_tab}
-use Rattle.yl_scan.specs.Known.{Known, around, new_row, reach, nothing_known, own, brackets_with, unit_with, outer_with, pass}
-use Rattle.yl_scan.specs.Entries.{Entry, Reading, goes_down, commented, failed, with_lexeme, chosen, comment_or, comment_of, lexeme_of, past_of, after_lexeme, below, entry_of, sound_state, read as look_read, entries_from, entries}
+use Rattle.yl_lexeme.specs.Known.{Known, around, new_row, reach, nothing_known, own, brackets_with, unit_with, outer_with, pass, known_of}
+use Rattle.yl_scan.specs.Entries.{Entry, Reading, goes_down, commented, failed, with_lexeme, chosen, comment_or, comment_of, lexeme_of, after_lexeme, below, entry_of, sound_state, read as look_read, entries_from, entries}
 use Rattle.yl_scan.specs.Run.{read, run}
-use Rattle.yl_scan.proofs.Looks.{known_of, looks, next_row}
+use Rattle.yl_lexeme.proofs.Looks.{looks, next_row}
 
 -- with what is kept in place of the lexemes
 on : Reading (List Past) → Reading Known

@@ -4,9 +4,7 @@ pub mod Carry
 pub mod Encodes
 pub mod Fed
 pub mod Feed
-pub mod Looks
 pub mod Modes
 pub mod RowSteps
-pub mod Stacks
 pub mod Took
 pub mod Wholes

@@ -4,7 +4,7 @@ use Rattle.std.proofs.lemmas.Bool.{eqb-true}
 use Rattle.std.proofs.Math.Seq.{take-length}
 use Rattle.yl_text.specs.Character.{is_white}
 use Rattle.yl_scan.specs.Step.{found_at, bad_in}
-use Rattle.yl_scan.specs.Known.{Known, around, new_row, reach, nothing_known}
+use Rattle.yl_lexeme.specs.Known.{Known, around, new_row, reach, nothing_known}
 use Rattle.yl_scan.specs.Entries.{comment_or, comment_of}
 use Rattle.yl_scan.specs.Run.{took, read}
 

@@ -1,15 +1,16 @@
 -- What a lexeme makes of the row, by what was found.
 use Rattle.std.proofs.Common.{◌≡◌, ℕ, ◌-◌, Bool, true, false, cond, List, [], ◌∷◌, ◌++◌, append_assoc, Option, Some, None, refl, ap, sym, ◌∙◌}
 use Rattle.yl_scalar.specs.Reading.{Reading as ScalarReading, Whole, Refused, read as read_scalar}
-use Rattle.yl_scan.specs.declared.lexeme.Style.{Style}
-use Rattle.yl_scan.specs.declared.lexeme.Kind.{Kind}
-use Rattle.yl_scan.specs.declared.lexeme.Kind.TheVariants.{Scalar}
+use Rattle.yl_lexeme.specs.declared.lexeme.Style.{Style}
+use Rattle.yl_lexeme.specs.declared.lexeme.Kind.{Kind}
+use Rattle.yl_lexeme.specs.declared.lexeme.Kind.TheVariants.{Scalar}
 use Rattle.yl_scan.specs.declared.fault.Faulted.{Faulted}
-use Rattle.yl_scan.specs.Lexeme.{LexemeValue}
+use Rattle.yl_lexeme.specs.Lexeme.{LexemeValue}
 use Rattle.yl_scan.specs.Fault.{or_else}
 use Rattle.yl_scan.specs.Step.{Found, upto, scalar_found, place_fault}
-use Rattle.yl_scan.specs.Known.{Known, around, new_row, nothing_known, pass}
-use Rattle.yl_scan.specs.Entries.{Reading, failed, with_lexeme, chosen, after_lexeme, lexeme_of, past_of, ends_document}
+use Rattle.yl_lexeme.specs.Known.{Known, around, new_row, nothing_known, pass}
+use Rattle.yl_lexeme.specs.Past.{past_of}
+use Rattle.yl_scan.specs.Entries.{Reading, failed, with_lexeme, chosen, after_lexeme, lexeme_of, ends_document}
 use Rattle.yl_scan.specs.Mode.{Mode, mode_step, mode_finish, open_found}
 use Rattle.yl_scan.specs.Run.{took}
 use Rattle.yl_scan.specs.Rows.{gave, opened}

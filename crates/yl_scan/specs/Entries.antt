@@ -5,12 +5,12 @@ use Rattle.std.specs.List.{filter}
 use Rattle.std.specs.Str.{encode_utf8_all}
 use Rattle.yl_text.specs.declared.position.Pos.{Pos}
 use Rattle.yl_text.specs.Character.{is_white, is_blank}
-use Rattle.yl_scan.specs.declared.lexeme.Kind.{Kind}
-use Rattle.yl_scan.specs.declared.lexeme.Kind.TheVariants.{DocEnd}
-use Rattle.yl_scan.specs.Lexeme.{LexemeValue, CommentValue}
+use Rattle.yl_lexeme.specs.declared.lexeme.Kind.{Kind}
+use Rattle.yl_lexeme.specs.declared.lexeme.Kind.TheVariants.{DocEnd}
+use Rattle.yl_lexeme.specs.Lexeme.{LexemeValue, CommentValue}
 use Rattle.yl_scan.specs.declared.fault.Faulted.{Faulted}
 use Rattle.yl_scan.specs.Fault.{is_unclosed, is_tab}
-use Rattle.yl_scan.specs.Past.{Past, Around, look, at_place, in_flow, may_begin, near}
+use Rattle.yl_lexeme.specs.Past.{Past, Around, look, at_place, past_of}
 use Rattle.yl_scan.specs.Step.{Found, found_at, step_fault, bad_in, first_tab}
 
 -- what must be known at a sound row: each open column one more (the greatest first), the open brackets (the innermost first), and
@@ -60,11 +60,6 @@ lexeme_of at found = record { kind = found.kind; start = place 0 at; end = place
 
 abbrev pub comment_of : ℕ → List ℕ → CommentValue
 comment_of at text = record { column = at; text = encode_utf8_all text }
-
--- what is remembered of it
-abbrev pub past_of : ℕ → Bool → Around → Kind → Past
-past_of at first a kind =
-    record { kind = kind; column = at; first = first; flow = in_flow a; begins = may_begin first a; key = near at a.start }
 
 -- behind a lexeme that ends in this row or further down
 abbrev pub after_lexeme : {S : Type 0} → ℕ → Found → S → (ℕ → Reading S) → ℕ → Reading S

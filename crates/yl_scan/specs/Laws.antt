@@ -1,11 +1,11 @@
 -- Laws of the definitions.
 use Rattle.std.specs.Prelude.{◌≡◌, ◌<◌, ℕ, ◌+◌, ◌-◌, true, List, ◌∷◌}
 use Rattle.yl_scalar.specs.Reading.{GoesOn}
-use Rattle.yl_scan.specs.declared.lexeme.Style.{Style}
+use Rattle.yl_lexeme.specs.declared.lexeme.Style.{Style}
 use Rattle.yl_scan.specs.Mode.{Mode, mode_step, rows_in, KeepsSpaces}
 use Rattle.yl_scan.specs.Left.{Within, silent, given, left}
 use Rattle.yl_scan.specs.Entries.{entries}
-use Rattle.yl_scan.specs.Known.{Known, new_row, nothing_known}
+use Rattle.yl_lexeme.specs.Known.{Known, new_row, nothing_known}
 use Rattle.yl_scan.specs.Run.{run}
 
 -- a text's rows, read by looking back over all lexemes before each place, are those that stacks and the row's own unit give

@@ -1,16 +1,12 @@
 pub mod Begins
 pub mod Entries
 pub mod Fault
-pub mod Known
 pub mod Laws
 pub mod Left
-pub mod Lexeme
 pub mod Mode
-pub mod Past
 pub mod Reader
 pub mod Rows
 pub mod Run
 pub mod Standing
 pub mod Step
-pub mod Surroundings
 pub mod Try

@@ -4,7 +4,7 @@ use Rattle.yl_scalar.specs.Reading.{Reading, Stepped, GoesOn, EndsIn, EndedAbove
 use Rattle.yl_scalar.specs.PlainSteps.{PlainState, plain_step, plain_finish}
 use Rattle.yl_scalar.specs.QuotedSteps.{QuotedState, quoted_step, quoted_finish}
 use Rattle.yl_scalar.specs.Block.{BlockState, block_step, block_finish}
-use Rattle.yl_scan.specs.declared.lexeme.Style.{Style}
+use Rattle.yl_lexeme.specs.declared.lexeme.Style.{Style}
 use Rattle.yl_scan.specs.Step.{Found, scalar_found}
 
 pub data Mode : Type 0 where

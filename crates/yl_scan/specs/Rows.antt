@@ -1,15 +1,15 @@
 -- What the reading of a row and its answers say.
 use Rattle.std.specs.Prelude.{◌≡◌, ℕ, ◌+◌, false, List, ◌++◌, drop, Option, Some, None}
-use Rattle.yl_scan.specs.declared.lexeme.Style.{Style}
+use Rattle.yl_lexeme.specs.declared.lexeme.Style.{Style}
 use Rattle.yl_scan.specs.declared.row.Next.{Next}
 use Rattle.yl_scan.specs.declared.row.Next.TheVariants.{Skip, Opens, Stops}
 use Rattle.yl_scan.specs.declared.row.End.{End}
 use Rattle.yl_scan.specs.declared.row.End.TheVariants.{Read, Opens as EndOpens, Stops as EndStops}
-use Rattle.yl_scan.specs.Lexeme.{LexemeValue, CommentValue}
+use Rattle.yl_lexeme.specs.Lexeme.{LexemeValue, CommentValue}
 use Rattle.yl_scan.specs.Step.{bad_in}
 use Rattle.yl_scan.specs.Mode.{Mode, open_found}
 use Rattle.yl_scan.specs.Reader.{mode_of}
-use Rattle.yl_scan.specs.Known.{Known, new_row, nothing_known}
+use Rattle.yl_lexeme.specs.Known.{Known, new_row, nothing_known}
 use Rattle.yl_scan.specs.Entries.{Reading, goes_down, commented, failed, chosen, after_lexeme, lexeme_of, comment_of, comment_or}
 use Rattle.yl_scan.specs.Run.{read}
 

@@ -2,8 +2,9 @@
 use Rattle.std.specs.Prelude.{ℕ, zero, suc, Bool, true, false, ◌&&◌, ◌==◌, nat_lt, if◌then◌else◌, List, [], ◌∷◌, ◌+◌, ◌-◌, Option, None}
 use Rattle.yl_text.specs.Character.{is_white}
 use Rattle.yl_scan.specs.Step.{Found, found_at, step_fault, bad_in, first_tab}
-use Rattle.yl_scan.specs.Known.{Known, around, new_row, reach, nothing_known, pass}
-use Rattle.yl_scan.specs.Entries.{Entry, Reading, goes_down, chosen, comment_or, comment_of, lexeme_of, past_of, after_lexeme, below, entry_of, sound_state}
+use Rattle.yl_lexeme.specs.Past.{past_of}
+use Rattle.yl_lexeme.specs.Known.{Known, around, new_row, reach, nothing_known, pass}
+use Rattle.yl_scan.specs.Entries.{Entry, Reading, goes_down, chosen, comment_or, comment_of, lexeme_of, after_lexeme, below, entry_of, sound_state}
 
 -- k: at the lexeme's place
 abbrev pub took : Option ℕ → Bool → ℕ → Known → (ℕ → Known → Reading Known) → Found → Reading Known

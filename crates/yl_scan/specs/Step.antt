@@ -10,15 +10,15 @@ use Rattle.yl_scalar.specs.Reading.{Reading, Whole, Refused}
 use Rattle.yl_scalar.specs.PlainSteps.{plain}
 use Rattle.yl_scalar.specs.QuotedSteps.{quoted}
 use Rattle.yl_scalar.specs.Block.{block}
-use Rattle.yl_scan.specs.declared.lexeme.Style.{Style}
-use Rattle.yl_scan.specs.declared.lexeme.Style.TheVariants.{Plain, Single, Double, Literal, Folded}
-use Rattle.yl_scan.specs.declared.lexeme.Kind.{Kind}
-use Rattle.yl_scan.specs.declared.lexeme.Kind.TheVariants.{Directive, DocStart, DocEnd, Entry, Key, Value, Comma, SeqOpen, SeqClose, MapOpen, MapClose, Alias, Anchor, Tag, Scalar}
+use Rattle.yl_lexeme.specs.declared.lexeme.Style.{Style}
+use Rattle.yl_lexeme.specs.declared.lexeme.Style.TheVariants.{Plain, Single, Double, Literal, Folded}
+use Rattle.yl_lexeme.specs.declared.lexeme.Kind.{Kind}
+use Rattle.yl_lexeme.specs.declared.lexeme.Kind.TheVariants.{Directive, DocStart, DocEnd, Entry, Key, Value, Comma, SeqOpen, SeqClose, MapOpen, MapClose, Alias, Anchor, Tag, Scalar}
 use Rattle.yl_scan.specs.declared.fault.ScanFault.TheVariants.{NotAllowed, TabInIndentation, EntryNotAllowed, KeyNotAllowed, ValueNotAllowed, BracketWithoutPartner, EmptyName, BadTag, ContentAfterDocumentEnd}
 use Rattle.yl_scan.specs.declared.fault.Faulted.{Faulted}
 use Rattle.yl_scan.specs.Fault.{fault_at, of_scalar, when, or_else}
-use Rattle.yl_scan.specs.Lexeme.{is_quoted, is_closing, opens_sequence}
-use Rattle.yl_scan.specs.Past.{Around, in_flow, may_begin, level, near}
+use Rattle.yl_lexeme.specs.Lexeme.{is_quoted, is_closing, opens_sequence}
+use Rattle.yl_lexeme.specs.Past.{Around, in_flow, may_begin, level, near}
 
 -- what stands at a place: a lexeme that ends so many lines further down, before a column, its value in UTF-8, and the first fault
 -- in it

@@ -1,11 +1,11 @@
 -- Worked rows.
 use Rattle.std.specs.Prelude.{ℕ, ◌≡◌, refl, List, [], ◌∷◌, ◌++◌, codes, Option, Some, None}
-use Rattle.yl_scan.specs.declared.lexeme.Style.TheVariants.{Plain, Double}
-use Rattle.yl_scan.specs.declared.lexeme.Kind.{Kind}
-use Rattle.yl_scan.specs.declared.lexeme.Kind.TheVariants.{DocStart, Entry as EntryKind, Value, Comma, MapOpen, MapClose, Alias, Scalar}
+use Rattle.yl_lexeme.specs.declared.lexeme.Style.TheVariants.{Plain, Double}
+use Rattle.yl_lexeme.specs.declared.lexeme.Kind.{Kind}
+use Rattle.yl_lexeme.specs.declared.lexeme.Kind.TheVariants.{DocStart, Entry as EntryKind, Value, Comma, MapOpen, MapClose, Alias, Scalar}
 use Rattle.yl_scan.specs.declared.fault.ScanFault.{ScanFault}
 use Rattle.yl_scan.specs.declared.fault.ScanFault.TheVariants.{TabInIndentation, ValueNotAllowed, UnclosedQuote}
-use Rattle.yl_scan.specs.Lexeme.{LexemeValue}
+use Rattle.yl_lexeme.specs.Lexeme.{LexemeValue}
 use Rattle.yl_scan.specs.Step.{found_at}
 use Rattle.yl_scan.specs.Entries.{entries, place, Entry, State, Stopped, Stands}
 

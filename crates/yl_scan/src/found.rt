@@ -7,24 +7,23 @@ ghost use Rattle.yl_scalar.specs.PlainSteps.{plain};
 ghost use Rattle.yl_scalar.specs.QuotedSteps.{quoted};
 ghost use Rattle.yl_scalar.specs.Block.{block};
 ghost use Rattle.yl_scan.specs.Fault.{fault_at, when, or_else};
-ghost use Rattle.yl_scan.specs.Known.{around};
-ghost use Rattle.yl_scan.specs.Past.{near};
-ghost use Rattle.yl_scan.specs.Surroundings.{known};
+ghost use Rattle.yl_lexeme.specs.Known.{around};
+ghost use Rattle.yl_lexeme.specs.Past.{near};
+ghost use Rattle.yl_lexeme.specs.Surroundings.{known};
 ghost use Rattle.yl_scan.specs.Mode.{mode_step, mode_finish};
 ghost use Rattle.yl_scan.specs.Reader.{said_by};
 ghost use Rattle.yl_scan.specs.Step.{upto, bad_in, tab_before, in_block, place_fault, behind_end, closes, is_value_at, is_directive_place, is_quoted_or_closing, scalar_found, plain_found, value_found, name_found, tag_found, tag_len, document_at, block_at, flow_at, word_at, scalar_at, found_at};
 ghost use Rattle.yl_scan.specs.Standing.{found_of, standing, found_option, EndsHere};
 
 use crate::fault::{Faulted, ScanFault, of_scalar};
-use crate::lexeme::{Kind, Style};
 use crate::reader::Reader;
-use crate::surroundings::{Surroundings, near};
 use crate::text::text_of;
 use crate::word::{
     directive, is_comment_next, is_flow_indicator_next, is_marker_of, is_plain_start,
     is_space_next, name_len, tag_len,
 };
 use std::alloc::{AllocError, Allocator};
+use yl_lexeme::{Kind, Style, Surroundings, near};
 use yl_scalar::{Block, Line, Plain, Quoted, first_bad, is_blank, leading_white};
 
 /// A lexeme that ends in its row, before a column.

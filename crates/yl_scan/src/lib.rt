@@ -9,22 +9,14 @@ ghost use Rattle.yl_scan.specs.Laws.{KeptSuffices, ScalarsCarry};
 
 mod fault;
 mod found;
-mod lexeme;
-mod meter;
 mod reader;
 mod row;
-mod stack;
-mod surroundings;
 mod text;
 mod word;
 
 pub use fault::{Faulted, ScanFault};
-pub use lexeme::{At, Comment, Kind, Lexeme, Style};
-pub use meter::Meter;
 pub use reader::Reader;
 pub use row::{End, Open, read_row};
-pub use stack::Stack;
-pub use surroundings::{Property, Surroundings};
 pub use word::first_tab;
 
 /// A law: what `Surroundings` keep of the lexemes before a row suffices to read it as the definition does.

@@ -1,8 +1,8 @@
 //! The lexemes of a row.
 
 ghost use Rattle.std.specs.Prelude.{◌≡◌, ◌≤◌, ◌<◌, ◌+◌, ◌-◌, ◌++◌, ◌^◌, ◌∷◌, [], IfOk, List, Option, ℕ, length};
-ghost use Rattle.yl_scan.specs.Known.{Known, around, reach};
-ghost use Rattle.yl_scan.specs.Surroundings.{known};
+ghost use Rattle.yl_lexeme.specs.Known.{Known, around, reach};
+ghost use Rattle.yl_lexeme.specs.Surroundings.{known};
 ghost use Rattle.yl_scan.specs.Mode.{open_found};
 ghost use Rattle.yl_scan.specs.Reader.{mode_of};
 ghost use Rattle.yl_scan.specs.Step.{found_at, place_fault};
@@ -13,11 +13,10 @@ ghost use Rattle.yl_scan.specs.Rows.{gave, next, ended, noted};
 
 use crate::fault::Faulted;
 use crate::found::{Found, Standing, bad_in, found_at, or_else, place_fault};
-use crate::lexeme::{Comment, Kind, Lexeme, Style};
 use crate::reader::Reader;
-use crate::surroundings::Surroundings;
 use crate::text::text_of;
 use std::alloc::{AllocError, Allocator};
+use yl_lexeme::{Comment, Kind, Lexeme, Style, Surroundings};
 use yl_scalar::is_white;
 use yl_text::Pos;
 

@@ -1,7 +1,8 @@
 use refusing::Refusing;
 use std::alloc::{AllocError, Allocator, Global};
 use std::test::Fail;
-use yl_scan::{End, Faulted, Kind, Lexeme, ScanFault, Style, Surroundings, first_tab, read_row};
+use yl_lexeme::{Kind, Lexeme, Style, Surroundings};
+use yl_scan::{End, Faulted, ScanFault, first_tab, read_row};
 
 /// What a text of one row holds.
 fn read<A: Allocator + Copy>(

@@ -1,6 +1,6 @@
 use Rattle.std.proofs.Common.{ap, sym, ◌∙◌}
-use Rattle.yl_scan.specs.Surroundings.{known}
-use Rattle.yl_scan.specs.Known.{around}
+use Rattle.yl_lexeme.specs.Surroundings.{known}
+use Rattle.yl_lexeme.specs.Known.{around}
 use Rattle.yl_scan.specs.Step.{found_at}
 use Rattle.yl_scan.specs.Standing.{standing}
 use Rattle.yl_scan.specs.Run.{took}

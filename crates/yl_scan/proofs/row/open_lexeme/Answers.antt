@@ -1,4 +1,4 @@
-use Rattle.yl_scan.specs.Surroundings.{known}
+use Rattle.yl_lexeme.specs.Surroundings.{known}
 use Rattle.yl_scan.specs.Reader.{mode_of}
 use Rattle.yl_scan.proofs.Took.{open_goes}
 use Rattle.yl_scan.proofs.row.open_lexeme.Goals as goal

@@ -1,7 +1,7 @@
 use Rattle.std.proofs.Common.{◌+◌, ap, sym, ◌∙◌, inl, inr, drop, false}
-use Rattle.yl_scan.specs.Surroundings.{known}
+use Rattle.yl_lexeme.specs.Surroundings.{known}
 use Rattle.yl_scan.specs.Step.{found_at, bad_in}
-use Rattle.yl_scan.specs.Known.{around, reach, new_row, nothing_known}
+use Rattle.yl_lexeme.specs.Known.{around, reach, new_row, nothing_known}
 use Rattle.yl_scan.specs.Entries.{comment_or, comment_of}
 use Rattle.yl_scan.specs.Run.{took, read}
 use Rattle.yl_scan.specs.Rows.{gave, next}

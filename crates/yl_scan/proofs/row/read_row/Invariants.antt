@@ -1,5 +1,5 @@
 use Rattle.std.proofs.Common.{◌≡◌, ℕ, drop, List}
-use Rattle.yl_scan.specs.Surroundings.{known}
+use Rattle.yl_lexeme.specs.Surroundings.{known}
 use Rattle.yl_scan.specs.Run.{read}
 use Rattle.yl_scan.specs.Rows.{gave}
 use Rattle.yl_scan.proofs.row.read_row.Given as goal

@@ -61,7 +61,7 @@ pub struct Lexeme<A: Allocator> {
 
 impl<A: Allocator> Model for Lexeme<A> {
     ghost use Rattle.std.specs.Prelude.{string_bytes};
-    ghost use Rattle.yl_scan.specs.Lexeme.{LexemeValue};
+    ghost use Rattle.yl_lexeme.specs.Lexeme.{LexemeValue};
 
     ghost Value = { LexemeValue };
 
@@ -120,7 +120,7 @@ pub struct Comment<A: Allocator> {
 
 impl<A: Allocator> Model for Comment<A> {
     ghost use Rattle.std.specs.Prelude.{string_bytes};
-    ghost use Rattle.yl_scan.specs.Lexeme.{CommentValue};
+    ghost use Rattle.yl_lexeme.specs.Lexeme.{CommentValue};
 
     ghost Value = { CommentValue };
 

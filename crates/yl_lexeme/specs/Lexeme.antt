@@ -1,10 +1,10 @@
 -- What clauses see of lexemes and comments.
 use Rattle.std.specs.Prelude.{ℕ, Bool, true, false, List}
 use Rattle.yl_text.specs.declared.position.Pos.{Pos}
-use Rattle.yl_scan.specs.declared.lexeme.Style.{Style}
-use Rattle.yl_scan.specs.declared.lexeme.Style.TheVariants.{Single, Double}
-use Rattle.yl_scan.specs.declared.lexeme.Kind.{Kind}
-use Rattle.yl_scan.specs.declared.lexeme.Kind.TheVariants.{DocStart, DocEnd, Entry, Key, Value, Comma, SeqOpen, SeqClose, MapOpen, MapClose, Alias, Anchor, Tag, Scalar}
+use Rattle.yl_lexeme.specs.declared.lexeme.Style.{Style}
+use Rattle.yl_lexeme.specs.declared.lexeme.Style.TheVariants.{Single, Double}
+use Rattle.yl_lexeme.specs.declared.lexeme.Kind.{Kind}
+use Rattle.yl_lexeme.specs.declared.lexeme.Kind.TheVariants.{DocStart, DocEnd, Entry, Key, Value, Comma, SeqOpen, SeqClose, MapOpen, MapClose, Alias, Anchor, Tag, Scalar}
 
 -- a lexeme: its lines count from that in which it begins; the value in UTF-8
 pub record LexemeValue : Type 0 where

@@ -1,8 +1,8 @@
 -- What the scanner's surroundings keep.
 use Rattle.std.specs.Prelude.{ℕ, Bool, Option, Some, None}
-use Rattle.yl_scan.specs.declared.surroundings.Surroundings.{Surroundings}
-use Rattle.yl_scan.specs.declared.surroundings.Property.{Property}
-use Rattle.yl_scan.specs.Known.{Known}
+use Rattle.yl_lexeme.specs.declared.surroundings.Surroundings.{Surroundings}
+use Rattle.yl_lexeme.specs.declared.surroundings.Property.{Property}
+use Rattle.yl_lexeme.specs.Known.{Known}
 
 abbrev pub property_pair : Option Property → Option (Bool × Option ℕ)
 property_pair None = None

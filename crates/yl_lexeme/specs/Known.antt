@@ -1,8 +1,8 @@
 -- What a scanner keeps of the lexemes that it has read: stacks, and within a row the unit that may become a key.
 use Rattle.std.specs.Prelude.{ℕ, Bool, false, not, ◌&&◌, if◌then◌else◌, List, [], ◌∷◌, Option, Some, None}
-use Rattle.yl_scan.specs.declared.lexeme.Kind.{Kind}
-use Rattle.yl_scan.specs.Lexeme.{is_document_marker, is_opening, is_closing, is_property, is_anchor, is_leaf}
-use Rattle.yl_scan.specs.Past.{Past, Around, is_flow, opens_item, is_asking, cut, levels_with}
+use Rattle.yl_lexeme.specs.declared.lexeme.Kind.{Kind}
+use Rattle.yl_lexeme.specs.Lexeme.{is_document_marker, is_opening, is_closing, is_property, is_anchor, is_leaf}
+use Rattle.yl_lexeme.specs.Past.{Past, Around, open_brackets, levels, last_kind, is_flow, opens_item, is_asking, cut, levels_with}
 
 -- levels: one more than each column, the greatest first. brackets: the open ones, the innermost first. asks: the latest lexeme is
 -- an Entry, a Key or a Value without key. unit: where the unit that the latest lexemes make begins, if a key may begin there.
@@ -109,3 +109,8 @@ pass x k = record {
   outer = outer_with x k;
   property = if is_property x.kind then Some (is_anchor x.kind, own x) else None;
 }
+
+-- what is kept behind the lexemes of a row, and those before
+abbrev pub known_of : List Past → List Past → Known
+known_of [] older = row_start (levels older) (open_brackets 0 older) (last_kind older)
+known_of (x ∷ here) older = pass x (known_of here older)

@@ -1,8 +1,8 @@
 -- What the earlier lexemes say of a place: YAML 1.2.2, chapters 6 to 8. They are listed with the latest first: here, those that
 -- begin in this line, and older, those before.
 use Rattle.std.specs.Prelude.{ℕ, Bool, true, false, not, ◌&&◌, ◌||◌, ◌==◌, nat_lt, nat_le, if◌then◌else◌, List, [], ◌∷◌, ◌++◌, ◌+◌, ◌-◌, Option, Some, None, is_some}
-use Rattle.yl_scan.specs.declared.lexeme.Kind.{Kind}
-use Rattle.yl_scan.specs.Lexeme.{is_document_marker, is_opening, is_closing, is_property, is_anchor, is_entry, is_key, is_value, is_comma, is_leaf}
+use Rattle.yl_lexeme.specs.declared.lexeme.Kind.{Kind}
+use Rattle.yl_lexeme.specs.Lexeme.{is_document_marker, is_opening, is_closing, is_property, is_anchor, is_entry, is_key, is_value, is_comma, is_leaf}
 
 -- first: nothing but white space stands before it in its line. flow: it stands in brackets. begins: a key may begin at it.
 -- key: of a Value, the column of its key's first lexeme, if it has a key
@@ -181,3 +181,8 @@ at_place first column a = record {
   behind = a.behind;
   start = a.start;
 }
+
+-- what is remembered of a lexeme at a column
+abbrev pub past_of : ℕ → Bool → Around → Kind → Past
+past_of at first a kind =
+    record { kind = kind; column = at; first = first; flow = in_flow a; begins = may_begin first a; key = near at a.start }

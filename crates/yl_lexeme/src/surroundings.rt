@@ -1,12 +1,12 @@
 //! What the earlier lexemes say of a place.
 
 ghost use Rattle.std.specs.Prelude.{◌≡◌, ◌≤◌, ◌<◌, ◌+◌, ◌^◌, [], IfOk, Some, None, if◌then◌else◌};
-ghost use Rattle.yl_scan.specs.Lexeme.{is_document_marker, is_opening, is_closing, is_property, is_anchor};
+ghost use Rattle.yl_lexeme.specs.Lexeme.{is_document_marker, is_opening, is_closing, is_property, is_anchor};
 ghost use Rattle.std.specs.Option.{ForSome};
-ghost use Rattle.yl_scan.specs.Past.{up_to, with_column, near, level, in_flow, may_begin, opens_item, levels_behind, asks_behind};
-ghost use Rattle.yl_scan.specs.Known.{around, new_row, reach, pass, row_start, brackets_with, unit_behind, outer_behind, content_start, property_start};
-ghost use Rattle.yl_scan.specs.Entries.{past_of};
-ghost use Rattle.yl_scan.specs.Surroundings.{known, property_pair};
+ghost use Rattle.yl_lexeme.specs.Past.{up_to, with_column, near, level, in_flow, may_begin, opens_item, levels_behind, asks_behind};
+ghost use Rattle.yl_lexeme.specs.Known.{around, new_row, reach, pass, row_start, brackets_with, unit_behind, outer_behind, content_start, property_start};
+ghost use Rattle.yl_lexeme.specs.Past.{past_of};
+ghost use Rattle.yl_lexeme.specs.Surroundings.{known, property_pair};
 
 use crate::lexeme::Kind;
 use crate::stack::Stack;

@@ -1,16 +1,11 @@
 -- What looking back over the earlier lexemes finds is what the scanner keeps of them.
 use Rattle.std.proofs.Common.{◌≡◌, ℕ, zero, suc, ◌+◌, ◌-◌, Bool, true, false, cond, not, ◌&&◌, List, [], ◌∷◌, ◌++◌, Option, Some, None, refl, ap, sym, ◌∙◌, eqb, add-one, sub-one}
 use Rattle.std.proofs.Math.Dec.{eqb-suc-zero, eqb-suc-suc}
-use Rattle.yl_scan.specs.declared.lexeme.Kind.{Kind}
-use Rattle.yl_scan.specs.declared.lexeme.Kind.TheVariants.{Anchor, Tag}
-use Rattle.yl_scan.specs.Lexeme.{is_document_marker, is_opening, is_closing, is_property, is_anchor, is_leaf}
-use Rattle.yl_scan.specs.Past.{Past, Around, open_brackets, from_partner, from_properties, from_unit, unit_from, or_from, are_both, key_start, opens_item, asks_for_node, levels, levels_with, last_kind, is_flow, look}
-use Rattle.yl_scan.specs.Known.{Known, around, row_start, new_row, popped, first, joined, own, brackets_with, content_start, property_start, unit_with, outer_with, pass}
-
--- what is kept behind the lexemes of a row, and those before
-abbrev pub known_of : List Past → List Past → Known
-known_of [] older = row_start (levels older) (open_brackets 0 older) (last_kind older)
-known_of (x ∷ here) older = pass x (known_of here older)
+use Rattle.yl_lexeme.specs.declared.lexeme.Kind.{Kind}
+use Rattle.yl_lexeme.specs.declared.lexeme.Kind.TheVariants.{Anchor, Tag}
+use Rattle.yl_lexeme.specs.Lexeme.{is_document_marker, is_opening, is_closing, is_property, is_anchor, is_leaf}
+use Rattle.yl_lexeme.specs.Past.{Past, Around, open_brackets, from_partner, from_properties, from_unit, unit_from, or_from, are_both, key_start, opens_item, asks_for_node, levels, levels_with, last_kind, is_flow, look}
+use Rattle.yl_lexeme.specs.Known.{Known, around, row_start, new_row, popped, first, joined, own, brackets_with, content_start, property_start, unit_with, outer_with, known_of}
 
 same_if : {A : Type 0} (b : Bool) {x x' y y' : A} → x ≡ x' → y ≡ y' → cond b x y ≡ cond b x' y'
 same_if true p q = p

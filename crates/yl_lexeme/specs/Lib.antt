@@ -1,0 +1,5 @@
+pub mod Known
+pub mod Laws
+pub mod Lexeme
+pub mod Past
+pub mod Surroundings

@@ -1,0 +1,22 @@
+//! Lexemes, and what the earlier lexemes say of a place: the columns of the open block collections, the open brackets, and where a
+//! key may begin (YAML 1.2.2, 6.1, 7.4 and 8.2).
+//!
+//! The definition, `specs/Past.antt`, looks back over all lexemes before a place. The code keeps `Surroundings` instead.
+#![tactic(auto)]
+
+ghost use Rattle.yl_lexeme.specs.Laws.{KeptSuffices};
+
+mod lexeme;
+mod meter;
+mod stack;
+mod surroundings;
+
+pub use lexeme::{At, Comment, Kind, Lexeme, Style};
+pub use meter::Meter;
+pub use stack::Stack;
+pub use surroundings::{Property, Surroundings, near};
+
+/// A law: what `Surroundings` keep of the lexemes before a place is what looking back over them finds.
+pub fn surroundings_suffice()
+    ensures { KeptSuffices }
+{}
