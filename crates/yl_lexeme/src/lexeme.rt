@@ -48,6 +48,51 @@ pub enum Kind {
     Scalar(Style),
 }
 
+impl Kind {
+    ghost use Rattle.std.specs.Prelude.{◌≡◌, Some};
+    ghost use Rattle.yl_lexeme.specs.Lexeme.{is_document_marker, is_opening, is_closing};
+    ghost use Rattle.yl_lexeme.specs.Past.{opens_item, asks_behind};
+
+    /// Whether it is `---` or `...`.
+    pub fn is_document_marker(self) -> bool
+        ensures { result ≡ is_document_marker self }
+    {
+        matches!(self, Kind::DocStart | Kind::DocEnd)
+    }
+
+    /// Whether it is `[` or `{`.
+    pub fn is_opening(self) -> bool
+        ensures { result ≡ is_opening self }
+    {
+        matches!(self, Kind::SeqOpen | Kind::MapOpen)
+    }
+
+    /// Whether it is `]` or `}`.
+    pub fn is_closing(self) -> bool
+        ensures { result ≡ is_closing self }
+    {
+        matches!(self, Kind::SeqClose | Kind::MapClose)
+    }
+
+    /// Whether an item of a flow collection may begin behind it: it is `[`, `{` or `,`.
+    pub fn opens_item(self) -> bool
+        ensures { result ≡ opens_item (Some self) }
+    {
+        self.is_opening() || matches!(self, Kind::Comma)
+    }
+
+    /// Whether it asks for a node of a block collection: it is an entry, a key, or a value without key.
+    pub fn asks(self, key: Option<usize>) -> bool
+        ensures { result ≡ asks_behind self key }
+    {
+        match self {
+            Kind::Entry | Kind::Key => true,
+            Kind::Value => key.is_none(),
+            _ => false,
+        }
+    }
+}
+
 /// A lexeme. Its lines count from the line in which it begins, its columns from 0 in characters; its end is
 /// behind its last character. The value is that of a plain or quoted scalar, the name of an anchor or an
 /// alias, the text of a directive, and of all else empty.

@@ -4,19 +4,26 @@
 //! The definition, `specs/Past.antt`, looks back over all lexemes before a place. The code keeps `Surroundings` instead.
 #![tactic(auto)]
 
-ghost use Rattle.yl_lexeme.specs.Laws.{KeptSuffices};
+ghost use Rattle.yl_lexeme.specs.Laws.{KeptSuffices, UnitSuffices};
 
 mod lexeme;
 mod meter;
 mod stack;
 mod surroundings;
+mod unit;
 
 pub use lexeme::{At, Comment, Kind, Lexeme, Style};
 pub use meter::Meter;
 pub use stack::Stack;
-pub use surroundings::{Property, Surroundings, near};
+pub use surroundings::{Surroundings, is_near, near};
+pub use unit::KeyUnit;
 
 /// A law: what `Surroundings` keep of the lexemes before a place is what looking back over them finds.
 pub fn surroundings_suffice()
     ensures { KeptSuffices }
+{}
+
+/// A law: where `KeyUnit` keeps that a key begins is where looking back over the line finds it.
+pub fn unit_suffices<T: Copy>()
+    ensures { UnitSuffices T }
 {}

@@ -1,7 +1,7 @@
 //! Stacks.
 
 ghost use Rattle.std.specs.Prelude.{◌≡◌, [], ◌∷◌, IfOk};
-ghost use Rattle.yl_lexeme.specs.Known.{popped, first};
+ghost use Rattle.yl_lexeme.specs.Kept.{popped, first};
 
 use std::alloc::{AllocError, Allocator};
 use std::marker::Model;

@@ -447,7 +447,7 @@ fn value_found<A: Allocator + Copy>(
     requires fits { at < 2 ^ 31 }
     ensures { found_of result ≡ value_found tab first at (around (known surroundings.now)) (near at (around (known surroundings.now)).start) }
 {
-    let fault = match near(at, surroundings.unit) {
+    let fault = match near(at, surroundings.unit.start()) {
         Some(key) => tab_before(tab, key),
         None => {
             let refused = when(
