@@ -203,3 +203,17 @@ pub struct At<'a, A: Allocator> {
     pub line: u32,
     pub lexeme: &'a Lexeme<A>,
 }
+
+impl<'a, A: Allocator> At<'a, A> {
+    ghost use Rattle.std.specs.Prelude.{◌≡◌};
+
+    /// Where it begins in the text.
+    pub fn start(&self) -> Pos
+        ensures { result ≡ record { line = self.now.line; col = self.now.lexeme.now.start.col } }
+    {
+        Pos {
+            line: self.line,
+            col: self.lexeme.start().col,
+        }
+    }
+}
