@@ -7,7 +7,6 @@ ghost use Rattle.yl_events.specs.Keys.{placed, depth_behind, is_in, is_first, is
 use crate::symbol::{KeyStart, Piece};
 use std::alloc::{AllocError, Allocator};
 use yl_lexeme::{At, KeyUnit, Kind, is_near};
-use yl_text::Pos;
 
 /// How many brackets are open behind one more lexeme.
 fn depth_behind(kind: Kind, depth: usize) -> usize
@@ -94,10 +93,7 @@ fn piece_at<A: Allocator>(
     ensures { result ≡ piece_at (placed at.now.line at.now.lexeme.now) depth latest key }
 {
     let kind = at.lexeme.kind();
-    let start = Pos {
-        line: at.line,
-        col: at.lexeme.start().col,
-    };
+    let start = at.start();
     let key = match kind {
         Kind::Value => key_at(start.col, key),
         _ => None,

@@ -46,10 +46,9 @@ fn close<A: Allocator>(
     ensures left { OnOk result (reverse collections.new.items ≡ left_open m (reverse collections.old.items)) }
     ensures closed { OnOk result (symbols.new.items ≡ symbols.old.items ++ closings m (reverse collections.old.items)) }
 {
-    while let Some(c) = collections.last().copied() {
-        if !closes(m, c) {
-            break;
-        }
+    while let Some(c) = collections.last().copied()
+        && closes(m, c)
+    {
         let _ = collections.pop();
         symbols.push(Symbol::Close)?;
     }
@@ -73,14 +72,8 @@ fn open<A: Allocator>(
     }
     let column = m.piece.start.col;
     let innermost = collections.last().copied();
-    let here = match innermost {
-        None => false,
-        Some(c) => c.column == column,
-    };
-    let in_mapping = match innermost {
-        None => false,
-        Some(c) => c.column == column && c.is_mapping,
-    };
+    let here = innermost.is_some_and(|c| c.column == column);
+    let in_mapping = innermost.is_some_and(|c| c.column == column && c.is_mapping);
     if is_in_mapping(m) && !in_mapping {
         collections.push(OpenBlock {
             is_mapping: true,
