@@ -39,6 +39,9 @@ piece_there y before x n latest unit key d l u k e =
     e ∙ ap (λ n. piece_at y n latest key) d ∙ ap (λ l. piece_at y (depth before) l key) l
     ∙ ap (piece_at y (depth before) (first before)) (k ∙ ap (λ (k : Kept KeyStart). k.unit) u ∙ keeps (here y.start.line before))
 
+pub line_there : (y : LexemeValue) (x : Piece) (n : ℕ) (latest : Option Piece) (key : Option KeyStart) → x ≡ piece_at y n latest key → x.start.line ≡ y.start.line
+line_there y x n latest key e = ap (λ (p : Piece). p.start.line) e
+
 -- ---- one more piece
 
 piece_more : (ps qs : List Piece) (x : Piece) → qs ≡ ps ++ x ∷ [] → reverse qs ≡ x ∷ reverse ps

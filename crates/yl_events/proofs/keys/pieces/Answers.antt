@@ -1,8 +1,7 @@
-use Rattle.std.proofs.Common.{rules, ◌≡◌, ◌+◌, reverse, ap, arith}
-use Rattle.yl_events.specs.declared.symbol.Piece.{Piece}
+use Rattle.std.proofs.Common.{rules, ◌≡◌, ◌+◌, reverse, arith}
 use Rattle.yl_lexeme.specs.Kept.{kept_of}
 use Rattle.yl_events.specs.Keys.{placed, here, piece}
-use Rattle.yl_events.proofs.Back.{reached, piece_there, unit_step, latest_step, depth_step, pieces_step, mapped_at}
+use Rattle.yl_events.proofs.Back.{reached, piece_there, line_there, unit_step, latest_step, depth_step, pieces_step, mapped_at}
 use Rattle.yl_events.proofs.keys.pieces.Goals as goal
 
 pub loop-at-preserved : goal.loop-at-preserved
@@ -20,5 +19,5 @@ loop-at-preserved g c =
       latest = latest_step c.loop-at.pieces.items c.push.new.self.items x more;
       depth = depth_step c.loop-at.pieces.items c.push.new.self.items x c.loop-at.depth c.depth_behind-depth.result more inv.depth c.depth_behind-depth.ensures.one;
       most = omega (arith, inv.most, c.depth_behind-depth.ensures.most);
-      unit = unit_step y.start.line c.loop-at.pieces.items c.push.new.self.items x c.reach_line.new.unit _ c.len.result c.place_of.result (ap (λ (p : Piece). p.start.line) c.piece_at-next.ensures) more unit (search rules) c.place_of.ensures c.in_ok-pass.ensures;
+      unit = unit_step y.start.line c.loop-at.pieces.items c.push.new.self.items x c.reach_line.new.unit _ c.len.result c.place_of.result (line_there y x _ _ _ c.piece_at-next.ensures) more unit (search rules) c.place_of.ensures c.in_ok-pass.ensures;
     }
