@@ -1,7 +1,8 @@
 //! Lexemes, and what the earlier lexemes say of a place: the columns of the open block collections, the open brackets, and where a
 //! key may begin (YAML 1.2.2, 6.1, 7.4 and 8.2).
 //!
-//! The definition, `specs/Past.antt`, looks back over all lexemes before a place. The code keeps `Surroundings` instead.
+//! The definition, `specs/Past.antt`, looks back over all lexemes before a place. The code keeps `Surroundings` instead. Within a line,
+//! `specs/Keys.antt` says which of the latest lexemes may be a key; `KeyUnit` keeps that, for the scanner and for a document's marks.
 #![tactic(auto)]
 
 ghost use Rattle.yl_lexeme.specs.Laws.{KeptSuffices, UnitSuffices};
