@@ -8,15 +8,21 @@ ghost use Rattle.yl_scan.specs.Begins.{BlockBegins, PlainBegins, QuotedBegins};
 ghost use Rattle.yl_scan.specs.Laws.{KeptSuffices, ScalarsCarry};
 
 mod fault;
+mod feeding;
 mod found;
 mod reader;
+mod resting;
 mod row;
+mod scanner;
+mod step;
 mod text;
 mod word;
 
 pub use fault::{Faulted, ScanFault};
 pub use reader::Reader;
 pub use row::{End, Open, read_row};
+pub use scanner::Scanner;
+pub use step::{Ended, Failed, Step};
 pub use word::first_tab;
 
 /// A law: what `Surroundings` keep of the lexemes before a row suffices to read it as the definition does.
