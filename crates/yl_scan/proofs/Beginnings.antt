@@ -1,9 +1,11 @@
 -- Behind a scalar that may go on, its first row holds nothing but white space.
-use Rattle.std.proofs.Common.{◌≡◌, ℕ, suc, ◌+◌, ◌-◌, ◌≤◌, Bool, true, false, List, [], ◌∷◌, length, take, drop, Option, Some, None, refl, ap, ◌∙◌, arith}
+use Rattle.std.proofs.Common.{◌≡◌, ℕ, suc, ◌+◌, ◌-◌, ◌≤◌, Bool, true, false, List, [], ◌∷◌, length, take, drop, Option, Some, None, refl, ap, sym, subst, ◌∙◌, arith}
 use Rattle.std.proofs.lemmas.Bool.{eqb-true}
 use Rattle.std.proofs.Math.Seq.{take-length}
 use Rattle.yl_text.specs.Character.{is_blank, without_end}
 use Rattle.yl_scalar.specs.declared.answer.ScalarFault.TheVariants.{BadHeader}
+use Rattle.yl_scalar.specs.declared.answer.Line.{Line}
+use Rattle.yl_scalar.specs.Reader.{said}
 use Rattle.yl_scalar.specs.Reading.{Stepped, GoesOn, Fails, unless_bad}
 use Rattle.yl_scalar.specs.Allowed.{first_bad}
 use Rattle.yl_scalar.specs.Plain.{stop, part, reaches_end}
@@ -15,7 +17,7 @@ use Rattle.yl_scalar.specs.Block.{BlockState, block_begin, header_read, header_e
 use Rattle.yl_scan.specs.Mode.{Mode, InPlain, InQuoted, InBlock, by}
 use Rattle.yl_scan.specs.Begins.{BeginsAt}
 use Rattle.yl_scan.proofs.Carry.{blank_end, blank_behind}
-use Rattle.yl_scan.proofs.Modes.{part_len}
+use Rattle.yl_scan.proofs.Modes.{part_len, said_by_style}
 
 unless_begins : {S : Type 0} (f : S → Mode) (at : ℕ) (text : List ℕ) (bad : Option ℕ) (down column : ℕ) (t : Stepped S) → BeginsAt at text (by f t) → BeginsAt at text (by f (unless_bad bad down column t))
 unless_begins f at text None down column t h = h
@@ -59,3 +61,8 @@ header_begins least at c header (Some place) =
 
 pub block_begins : (least at c : ℕ) (header : List ℕ) → BeginsAt at (c ∷ header) (by InBlock (block_begin least at header))
 block_begins least at c header = header_begins least at c header (misfit header)
+
+-- the same of what a reader's answer says
+pub line_begins : {S : Type 0} (f : S → Mode) (at : ℕ) (text : List ℕ) (l : Line) (value : List ℕ) (s : S) (t : Stepped S)
+    → said l value s ≡ t → BeginsAt at text (by f t) → BeginsAt at text (said l value (f s))
+line_begins f at text l value s t e h = subst (BeginsAt at text) (sym (said_by_style f l value s ∙ ap (by f) e)) h
