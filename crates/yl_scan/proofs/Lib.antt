@@ -1,6 +1,7 @@
 pub mod Agree
 pub mod Beginnings
 pub mod Carry
+pub mod Columns
 pub mod Encodes
 pub mod Fed
 pub mod Feed
