@@ -7,5 +7,6 @@ pub mod Fed
 pub mod Feed
 pub mod Modes
 pub mod RowSteps
+pub mod Stepping
 pub mod Took
 pub mod Wholes

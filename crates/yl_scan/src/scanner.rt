@@ -53,7 +53,9 @@ impl<A: Allocator + Copy> Scanner<A> {
     }
 
     /// Reads the next row, and counts it.
-    pub fn feed(&mut self, row: &Row<A>, meter: &mut Meter) -> Result<Step<A>, AllocError> {
+    pub fn feed(&mut self, row: &Row<A>, meter: &mut Meter) -> Result<Step<A>, AllocError>
+        requires meter { meter.old.lines < 2 ^ 32 - 1 }
+    {
         meter.lines += 1;
         if self.refused {
             return Err(AllocError);
