@@ -1,4 +1,4 @@
--- Behind a scalar that may go on, its first row holds nothing but white space.
+-- A scalar that may go on ends so far in its first row, and behind it the row holds nothing but white space.
 use Rattle.std.proofs.Common.{◌≡◌, ℕ, suc, ◌+◌, ◌-◌, ◌≤◌, Bool, true, false, List, [], ◌∷◌, length, take, drop, Option, Some, None, refl, ap, sym, subst, ◌∙◌, arith}
 use Rattle.std.proofs.lemmas.Bool.{eqb-true}
 use Rattle.std.proofs.Math.Seq.{take-length}

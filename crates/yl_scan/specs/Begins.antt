@@ -1,4 +1,4 @@
--- The row in which a scalar begins that may go on below: behind its end so far it holds nothing but white space.
+-- The row in which a scalar begins that may go on below: it ends there so far, and behind that end the row holds nothing but white space.
 use Rattle.std.specs.Prelude.{◌≡◌, ℕ, ◌+◌, ◌-◌, Bool, true, List, ◌∷◌, drop, length}
 use Rattle.yl_text.specs.Character.{is_blank}
 use Rattle.yl_scalar.specs.Reading.{Stepped, GoesOn, EndsIn, EndedAbove, Fails}
