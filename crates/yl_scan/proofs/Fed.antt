@@ -4,7 +4,7 @@ use Rattle.std.specs.Prelude.{is_some}
 use Rattle.yl_text.specs.Character.{is_white, is_blank}
 use Rattle.yl_scan.specs.Step.{first_tab}
 use Rattle.yl_lexeme.specs.Known.{Known, around, new_row}
-use Rattle.yl_scan.specs.Entries.{State, Stopped, state_of, Reading, goes_down, below, entry_of, sound_state, stopped_rows}
+use Rattle.yl_scan.specs.Entries.{Stopped, state_of, goes_down, sound_state, stopped_rows}
 use Rattle.yl_scan.specs.Run.{read, run}
 use Rattle.yl_scan.specs.Left.{Out, given, told, row_told, silent}
 

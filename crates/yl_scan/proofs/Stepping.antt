@@ -1,27 +1,27 @@
 -- What the rows tell a scanner, by where it stands before them.
-use Rattle.std.proofs.Common.{◌≡◌, ℕ, zero, suc, ◌+◌, ◌-◌, ◌≤◌, ◌<◌, ◌⊎◌, inl, inr, Bool, true, false, cond, not, ◌&&◌, ◌||◌, List, [], ◌∷◌, ◌++◌, length, length-drop, drop, ◌^◌, Option, Some, None, refl, ap, sym, subst, ◌∙◌, ltb, lt-ltb, le-ltb, eqb, sub-one, arith}
+use Rattle.std.proofs.Common.{◌≡◌, ℕ, zero, suc, ◌+◌, ◌-◌, ◌≤◌, ◌<◌, ◌⊎◌, inl, inr, Bool, true, false, cond, not, ◌&&◌, ◌||◌, List, [], ◌∷◌, length, length-drop, drop, ◌^◌, Option, Some, None, refl, ap, sym, subst, ◌∙◌, ltb, lt-ltb, le-ltb, eqb, sub-one, arith}
 use Rattle.std.proofs.Math.Dec.{eqb-suc-zero}
 use Rattle.std.specs.Prelude.{is_some}
 use Rattle.yl_text.specs.Character.{is_white, is_blank}
 use Rattle.yl_scalar.specs.declared.answer.ScalarFault.{ScalarFault}
-use Rattle.yl_scalar.specs.Reading.{Extent, Reading as ScalarReading, Whole, Refused, GoesOn, EndsIn, EndedAbove, Fails, settled, read as read_scalar}
+use Rattle.yl_scalar.specs.Reading.{Extent, Whole, GoesOn, EndsIn, EndedAbove, Fails, settled, read as read_scalar}
 use Rattle.yl_lexeme.specs.declared.lexeme.Style.{Style}
 use Rattle.yl_scan.specs.declared.fault.Faulted.{Faulted}
 use Rattle.yl_lexeme.specs.Lexeme.{LexemeValue}
-use Rattle.yl_lexeme.specs.Known.{Known, new_row, nothing_known}
-use Rattle.yl_scan.specs.Fault.{of_scalar, is_unclosed}
+use Rattle.yl_lexeme.specs.Known.{Known, new_row}
+use Rattle.yl_scan.specs.Fault.{of_scalar}
 use Rattle.yl_scan.specs.Step.{scalar_found}
 use Rattle.yl_scan.specs.declared.step.Ended.{Ended}
 use Rattle.yl_scan.specs.declared.step.Failed.{Failed}
 use Rattle.yl_scan.specs.declared.step.Step.{Step}
-use Rattle.yl_scan.specs.Scanner.{IsUnderWay, told_of, ended_at, failed_at}
-use Rattle.yl_scan.specs.Mode.{Mode, InPlain, InQuoted, InBlock, mode_step, mode_finish, rows_in, KeepsSpaces, ColumnBy, StepBy}
+use Rattle.yl_scan.specs.Scanner.{IsUnderWay, told_of, failed_at}
+use Rattle.yl_scan.specs.Mode.{Mode, InPlain, InQuoted, InBlock, mode_step, mode_finish, rows_in, KeepsSpaces, StepBy}
 use Rattle.yl_scan.specs.Begins.{Rests}
-use Rattle.yl_scan.specs.Entries.{State, Stopped, Reading, goes_down, lexeme_of, stopped_rows}
+use Rattle.yl_scan.specs.Entries.{State, Stopped, stopped_rows}
 use Rattle.yl_scan.specs.Rows.{gave, opened}
 use Rattle.yl_scan.specs.Run.{read, run}
-use Rattle.yl_scan.specs.Left.{Out, Told, given, told, row_told, Fresh, Within, Halted, ended_above, failed_above, rows_to, whole, left}
-use Rattle.yl_scan.proofs.Fed.{over}
+use Rattle.yl_scan.specs.Left.{Out, Told, given, told, row_told, Within, Halted, ended_above, failed_above, rows_to, whole, left}
+use Rattle.yl_scan.proofs.Fed.{over, any_column}
 use Rattle.yl_scan.proofs.Feed.{row_told_of, opens_told}
 use Rattle.yl_scan.proofs.Columns.{step_by, by_more}
 use Rattle.yl_scan.proofs.Carry.{Facts, ModeEnds, mode_ends_at, facts}
@@ -60,6 +60,12 @@ row_opens line row rows tab state xs style at m k lt rests =
     (let item = some_item row at lt in
     ends_before_blank at item.0 (drop (at + 1) row) m e (subst (λ text. Rests at text m) item.1 rests) (subst (ModeEnds m) is (mode_ends_at m rows)) none))
 
+-- a row below the first one is not the text's start
+pub not_first : (line column : ℕ) (k : Known) (row : List ℕ) (rows : List (List ℕ)) → 0 < line
+    → told line (run false 0 column k (row ∷ rows)) ≡ told line (run (eqb line 0) 0 0 k (row ∷ rows))
+not_first zero column k row rows h = absurd (omega arith)
+not_first (suc line) column k row rows h = rw eqb-suc-zero (ap (told (suc line)) (any_column column 0 false k (row ∷ rows)))
+
 -- ---- a row that refuses a scalar from above
 
 abbrev refused : ℕ → Bool → ℕ → Faulted → Told
@@ -73,10 +79,12 @@ module _ (line begun : ℕ) (style : Style) (at : ℕ) (k : Known) (row : List �
     where
       g : Faulted
       g = record { fault = of_scalar fault; down = down; column = column }
+
       whole_fails : left line (Within begun style at m k) (row ∷ rows) ≡ failed_above begun g (told line (stopped_rows false (rows_to line begun down) (row ∷ rows)))
       whole_fails =
           ap (λ t. let f = scalar_found style at (settled (λ m. read_scalar mode_step mode_finish m rows) t) in whole line begun at f k (row ∷ rows) f.fault) e
           ∙ ap (λ b. failed_above begun g (told line (stopped_rows b (rows_to line begun down) (row ∷ rows)))) (subst (Facts m row) e (facts m row spaces)).0
+
       by_place : (down ≡ rows_in m + 1) ⊎ ((down ≤ rows_in m) × (is_blank row ≡ false))
           → failed_above begun g (told line (stopped_rows false (rows_to line begun down) (row ∷ rows))) ≡ given line (refused line (ltb down (line - begun)) begun g) (left (line + 1) (Halted false 0) rows)
       by_place (inl h) =
@@ -124,7 +132,7 @@ module _ (line begun at : ℕ) (m : Mode) (row : List ℕ) (way : IsUnderWay lin
       record {
         above = omega (arith, way.above);
         rows = omega (arith, way.rows, way.above, h.0);
-        spaces = h.2.1 way.spaces;
+        spaces = h.2 way.spaces;
         columns = subst (StepBy (2 ^ 31)) e (step_by (2 ^ 31) m row way.columns (omega (arith, fits)));
         column = way.column;
       }
@@ -141,26 +149,23 @@ module _ (line begun at : ℕ) (m : Mode) (row : List ℕ) (way : IsUnderWay lin
 
 -- ---- steps
 
-module _ {A : Type 0} (line begun : ℕ) (le : begun ≤ line) where
-  back : line - (line - begun) ≡ begun
-  back = omega (arith, le)
+back : (line begun : ℕ) → begun ≤ line → line - (line - begun) ≡ begun
+back line begun le = omega (arith, le)
 
+placed : {X : Type 0} {a b : ℕ} {x y : X} → a ≡ b → x ≡ y → ◌≡◌ {A = ℕ × X} (a, x) (b, y)
+placed p q = λ i. (p i, q i)
+
+module _ {A : Type 0} (line begun : ℕ) (le : begun ≤ line) where
   -- a lexeme from above, and what its last row tells
   pub with_ended : (step : Step A) (e : Ended A) (x : LexemeValue) (o : Out) → step.ended ≡ None → e.ago ≡ line - begun → e.lexeme ≡ x
       → ended_above line begun x (given line (told_of line step) o) ≡ given line (told_of line (record step { ended = Some e })) o
   with_ended step e x o none ago is =
       ap (λ (above : Option (Ended A)). ended_above line begun x (given line (told_of line (record step { ended = above })) o)) none
-      ∙ ap (λ (p : ℕ × LexemeValue). given line (record (told_of line step) { above = Some p }) o) (pair (sym back ∙ ap (λ n. line - n) (sym ago)) (sym is))
-    where
-      pair : {a b : ℕ} {x y : LexemeValue} → a ≡ b → x ≡ y → (a, x) ≡ (b, y)
-      pair p q = λ i. (p i, q i)
+      ∙ ap (λ (p : ℕ × LexemeValue). given line (record (told_of line step) { above = Some p }) o) (placed (sym (back line begun le) ∙ ap (λ n. line - n) (sym ago)) (sym is))
 
   pub with_failed : (step : Step A) (f : Failed) (g : Faulted) (sound : Bool) (o : Out)
       → told_of line step ≡ record { above = None; lexemes = []; comment = None; sound = sound; fault = None } → f.ago ≡ line - begun → f.fault ≡ g
       → given line (refused line sound begun g) o ≡ given line (told_of line (record step { failed = Some f })) o
   with_failed step f g sound o silent ago is =
-      ap (λ (p : ℕ × Faulted). given line (record { above = None; lexemes = []; comment = None; sound = sound; fault = Some p }) o) (pair (sym back ∙ ap (λ n. line - n) (sym ago)) (sym is))
+      ap (λ (p : ℕ × Faulted). given line (record { above = None; lexemes = []; comment = None; sound = sound; fault = Some p }) o) (placed (sym (back line begun le) ∙ ap (λ n. line - n) (sym ago)) (sym is))
       ∙ ap (λ (t : Told). given line (record t { fault = Some (failed_at line f) }) o) (sym silent)
-    where
-      pair : {a b : ℕ} {x y : Faulted} → a ≡ b → x ≡ y → (a, x) ≡ (b, y)
-      pair p q = λ i. (p i, q i)

@@ -1,5 +1,5 @@
 -- What a scanner shows before a row, and what its steps say.
-use Rattle.std.specs.Prelude.{◌≡◌, ◌<◌, ℕ, ◌+◌, ◌-◌, ◌^◌, Bool, false, List, [], ◌∷◌, map, Option, Some, None, option_map, option_to_list}
+use Rattle.std.specs.Prelude.{◌≡◌, ◌<◌, ℕ, ◌+◌, ◌-◌, ◌^◌, Bool, true, false, List, [], map, Option, Some, None, option_map, option_to_list}
 use Rattle.std.specs.Str.{chars}
 use Rattle.yl_text.specs.Lines.{Piece}
 use Rattle.yl_scalar.specs.declared.answer.Place.{Place}
@@ -53,6 +53,17 @@ abbrev pub stand_of : {A : Type 0} → Bool → Known → code.Resting A → Sta
 stand_of start k Between = Fresh start k
 stand_of start k (CodeWithin begun o) = Within begun o.style o.at (mode_of o.reader) k
 stand_of start k (CodeHalted reach) = Halted reach.to_end reach.down
+
+-- what is known of the lexemes before, unless a fault has come before
+abbrev pub known_in : Stand → Option Known
+known_in (Fresh start k) = Some k
+known_in (Within begun style at m k) = Some k
+known_in (Halted to_end down) = None
+
+abbrev pub is_halted : Stand → Bool
+is_halted (Fresh start k) = false
+is_halted (Within begun style at m k) = false
+is_halted (Halted to_end down) = true
 
 -- a scalar in progress began above, has read all rows since, and stands within columns that fit
 pub record IsUnderWay (line begun at : ℕ) (m : Mode) : Type 0 where

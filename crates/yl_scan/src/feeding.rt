@@ -191,12 +191,7 @@ fn scalar_lexeme<A: Allocator + Copy>(
         line: place.down as u32,
         col: place.column as u32,
     };
-    Ok(Lexeme::new(
-        Kind::Scalar(style),
-        start,
-        end,
-        reader.to_value(alloc)?,
-    ))
+    Ok(Lexeme::new(Kind::Scalar(style), start, end, reader.to_value(alloc)?))
 }
 
 /// A scalar's fault.
@@ -239,7 +234,15 @@ fn within_row<A: Allocator + Copy>(
         }
         Line::EndsIn(place) => {
             let lexeme = scalar_lexeme(alloc, style, at, &reader, place)?;
-            let (mut step, resting) = read_on(alloc, surroundings, line, place.column, false, false, row)?;
+            let (mut step, resting) = read_on(
+                alloc,
+                surroundings,
+                line,
+                place.column,
+                false,
+                false,
+                row,
+            )?;
             step.ended = Some(Ended { ago, lexeme });
             Ok((step, resting))
         }
@@ -252,7 +255,13 @@ fn within_row<A: Allocator + Copy>(
         Line::Fails(fault, place) => {
             let mut step = Step::silent(alloc, place.down < ago as usize);
             step.failed = Some(scalar_failed(ago, fault, place));
-            Ok((step, Resting::Halted(Reach { to_end: false, down: 0 })))
+            Ok((
+                step,
+                Resting::Halted(Reach {
+                    to_end: false,
+                    down: 0,
+                }),
+            ))
         }
     }
 }

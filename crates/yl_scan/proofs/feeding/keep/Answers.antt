@@ -1,4 +1,4 @@
-use Rattle.std.proofs.Common.{rules, Bool, cond, sym, ap, ◌≡◌, ◌∙◌}
+use Rattle.std.proofs.Common.{rules, cond, sym, ap, ◌∙◌}
 use Rattle.std.specs.List.{filter}
 use Rattle.std.proofs.lemmas.Fn.{filter_same}
 use Rattle.yl_scan.specs.Entries.{ends_by}
