@@ -1,7 +1,7 @@
 #!/usr/bin/env python3
-"""definition_cases.py MODEL FOLDER SEED COUNT MAXLEN: compares the definition `entries` of yl_scan with a reference model.
+"""definition_cases.py MODEL FOLDER SEED COUNT MAXLEN: compares the definition `entries` of yl_row with a reference model.
 
-MODEL is the folder of the model (machine.py, texts.py); FOLDER is the specs/ of a library that stands on yl_scan. It gets files
+MODEL is the folder of the model (machine.py, texts.py); FOLDER is the specs/ of a library that stands on yl_row. It gets files
 of lemmas by `refl`, one a text: that `entries` gives for each row the state, the lexemes, the comment and the fault that the
 model gives. A check of that library then makes the comparison."""
 
