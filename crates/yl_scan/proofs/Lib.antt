@@ -1,10 +1,3 @@
-pub mod Agree
-pub mod Beginnings
-pub mod Carry
-pub mod Encodes
 pub mod Fed
 pub mod Feed
-pub mod Modes
-pub mod RowSteps
-pub mod Took
-pub mod Wholes
+pub mod Stepping
