@@ -14,12 +14,14 @@ pub enum Style {
     Folded,
 }
 
-/// What a lexeme is: the indicators and markers of YAML 1.2.2, chapters 6 to 9, and its scalars.
-#[derive(Clone, Copy, Debug, PartialEq, Eq)]
+/// What a lexeme is: the indicators and markers of YAML 1.2.2, chapters 6 to 9, and its scalars. The default is what a
+/// `SmallVec` fills its unused room with, and says nothing.
+#[derive(Clone, Copy, Debug, Default, PartialEq, Eq)]
 pub enum Kind {
     /// A directive: `%` and what follows.
     Directive,
     /// The marker `---`.
+    #[default]
     DocStart,
     /// The marker `...`.
     DocEnd,

@@ -7,15 +7,18 @@
 
 ghost use Rattle.yl_lexeme.specs.Laws.{KeptSuffices, UnitSuffices};
 
+mod brackets;
+mod levels;
 mod lexeme;
 mod meter;
 mod stack;
 mod surroundings;
 mod unit;
 
+pub use brackets::Brackets;
+pub use levels::Levels;
 pub use lexeme::{At, Comment, Kind, Lexeme, Style};
 pub use meter::Meter;
-pub use stack::Stack;
 pub use surroundings::{Surroundings, is_near, near};
 pub use unit::KeyUnit;
 

@@ -7,18 +7,19 @@ ghost use Rattle.yl_lexeme.specs.Known.{around, new_row, reach, pass, row_start,
 ghost use Rattle.yl_lexeme.specs.Past.{past_of};
 ghost use Rattle.yl_lexeme.specs.Surroundings.{known};
 
+use crate::brackets::Brackets;
+use crate::levels::Levels;
 use crate::lexeme::Kind;
-use crate::stack::Stack;
 use crate::unit::KeyUnit;
 use std::alloc::{AllocError, Allocator};
 
 /// What the earlier lexemes say of a place.
 #[derive(Drop)]
-pub struct Surroundings<A: Allocator + Copy> {
+pub struct Surroundings<'a, A: Allocator + Copy> {
     /// One more than each column of an open block collection.
-    pub levels: Stack<u32, A>,
+    pub levels: Levels<'a, A>,
     /// The open brackets.
-    pub brackets: Stack<Kind, A>,
+    pub brackets: Brackets<'a, A>,
     /// The kind of the last lexeme.
     pub last: Option<Kind>,
     /// The last lexeme of the row is an entry, a key, or a value without key.
@@ -46,7 +47,7 @@ pub fn near(column: usize, start: Option<usize>) -> Option<usize>
 }
 
 /// Drops the columns greater than this one.
-fn cut<A: Allocator + Copy>(levels: &mut Stack<u32, A>, column: usize)
+fn cut<A: Allocator + Copy>(levels: &mut Levels<'_, A>, column: usize)
     requires { column < 2 ^ 31 }
     ensures { levels.new ≡ up_to column levels.old }
 {
@@ -59,7 +60,7 @@ fn cut<A: Allocator + Copy>(levels: &mut Stack<u32, A>, column: usize)
 
 /// Adds a column, if it is greater than all.
 fn add_column<A: Allocator + Copy>(
-    levels: &mut Stack<u32, A>,
+    levels: &mut Levels<'_, A>,
     column: usize,
 ) -> Result<(), AllocError>
     requires { column < 2 ^ 31 }
@@ -72,17 +73,17 @@ fn add_column<A: Allocator + Copy>(
     Ok(())
 }
 
-impl<A: Allocator + Copy> Surroundings<A> {
+impl<'a, A: Allocator + Copy> Surroundings<'a, A> {
     /// Nothing has been read.
-    pub fn new(alloc: A) -> Surroundings<A>
+    pub fn new(alloc: &'a A) -> Surroundings<'a, A>
         ensures { known result ≡ row_start [] [] None }
     {
         Surroundings {
-            levels: Stack::new(alloc),
-            brackets: Stack::new(alloc),
+            levels: Levels::new(alloc),
+            brackets: Brackets::new(alloc),
             last: None,
             asks: false,
-            unit: KeyUnit::new(alloc),
+            unit: KeyUnit::new(*alloc),
         }
     }
 
@@ -151,7 +152,7 @@ impl<A: Allocator + Copy> Surroundings<A> {
 }
 
 fn pass_levels<A: Allocator + Copy>(
-    levels: &mut Stack<u32, A>,
+    levels: &mut Levels<'_, A>,
     kind: Kind,
     flow: bool,
     first: bool,
@@ -180,7 +181,7 @@ fn pass_levels<A: Allocator + Copy>(
 }
 
 fn pass_brackets<A: Allocator + Copy>(
-    brackets: &mut Stack<Kind, A>,
+    brackets: &mut Brackets<'_, A>,
     kind: Kind,
 ) -> Result<(), AllocError>
     ensures { IfOk result (λ _. brackets.new ≡ brackets_with kind brackets.old) }
