@@ -105,6 +105,13 @@ impl<A: Allocator + Copy> Scanner<A> {
         Ok(step)
     }
 
+    /// How many rows were fed.
+    pub fn line(&self) -> u32
+        ensures { result ≡ self.now.line }
+    {
+        self.line
+    }
+
     /// Whether a fault has come before.
     pub fn is_stopped(&self) -> bool
         ensures { result ≡ is_halted self.now.stand }
