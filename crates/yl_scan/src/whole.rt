@@ -1,10 +1,11 @@
 //! What a whole text holds: its rows are fed one after another.
 
 ghost use Rattle.std.specs.Prelude.{◌≡◌, ◌<◌, ◌+◌, ◌-◌, ◌^◌, ◌++◌, [], IfOk, OnOk, ℕ, Option, None, All, length, map, option_map, option_to_list};
+ghost use Rattle.std.specs.Option.{ForSome};
 ghost use Rattle.std.specs.Str.{chars};
 ghost use Rattle.yl_row.specs.Entries.{entries};
 ghost use Rattle.yl_scan.specs.Left.{at_line, first_fault, given, nothing, told};
-ghost use Rattle.yl_scan.specs.Scanner.{at_end, characters_of, ended_at, failed_at, told_of};
+ghost use Rattle.yl_scan.specs.Scanner.{BeginsInText, IsAbove, IsNotBelow, at_end, characters_of, ended_at, failed_at, told_of};
 ghost use Rattle.yl_scan.specs.Whole.{comments_in, fault_of, joined, lexeme_in, out_of};
 
 use crate::scanner::Scanner;
@@ -50,10 +51,11 @@ fn add_ended<A: Allocator>(
     line: u32,
     ended: Option<Ended<A>>,
 ) -> Result<(), AllocError>
+    requires { ForSome ended (IsAbove line) }
     ensures { OnOk result (map lexeme_in all.new.items ≡ map lexeme_in all.old.items ++ option_to_list (option_map (ended_at line) ended)) }
 {
     if let Some(Ended { ago, lexeme }) = ended {
-        let line = line.saturating_sub(ago);
+        let line = line - ago;
         all.push(LexemeAt { line, lexeme })?;
     }
     Ok(())
@@ -89,11 +91,12 @@ fn add_comment<A: Allocator>(
 
 /// The first of two faults; the second began so many rows before this line.
 fn first_of(fault: Option<FaultAt>, line: u32, failed: Option<Failed>) -> Option<FaultAt>
+    requires { ForSome failed (IsNotBelow line) }
     ensures { fault_of result ≡ first_fault (fault_of fault) (option_map (failed_at line) failed) }
 {
     match (fault, failed) {
         (None, Some(failed)) => Some(FaultAt {
-            line: line.saturating_sub(failed.ago),
+            line: line - failed.ago,
             fault: failed.fault,
         }),
         _ => fault,
@@ -115,6 +118,7 @@ impl<A: Allocator + Copy> Scanned<A> {
 
     /// Adds what the row at this line told.
     fn add_row(&mut self, line: u32, step: Step<A>) -> Result<(), AllocError>
+        requires { BeginsInText line step }
         ensures { OnOk result (out_of self.new ≡ joined (out_of self.old) (given line (told_of line step) nothing)) }
     {
         let Step {
@@ -134,6 +138,7 @@ impl<A: Allocator + Copy> Scanned<A> {
 
     /// Adds what the text's end told behind so many rows.
     fn add_end(&mut self, line: u32, step: Step<A>) -> Result<(), AllocError>
+        requires { BeginsInText line step }
         ensures { OnOk result (out_of self.new ≡ joined (out_of self.old) (at_end (told_of line step))) }
     {
         add_ended(&mut self.lexemes, line, step.ended)?;

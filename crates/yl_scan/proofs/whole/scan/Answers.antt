@@ -1,9 +1,9 @@
-use Rattle.std.proofs.Common.{◌+◌, ◌<◌, ◌^◌, length, rules, ap, ◌∙◌, drop}
+use Rattle.std.proofs.Common.{◌+◌, ◌<◌, ◌^◌, length, rules, ap, subst, sym, ◌∙◌, drop}
 use Rattle.std.specs.Str.{chars}
 use Rattle.std.proofs.lemmas.List.Elements.{All-get_or}
 use Rattle.yl_text.specs.Lines.{Piece}
 use Rattle.yl_scan.specs.Left.{given, nothing}
-use Rattle.yl_scan.specs.Scanner.{Scanning, characters_of, told_of}
+use Rattle.yl_scan.specs.Scanner.{BeginsInText, Scanning, characters_of, told_of}
 use Rattle.yl_scan.specs.Whole.{joined, out_of}
 use Rattle.yl_scan.proofs.Joined.{start_told, row_told_too, counts}
 use Rattle.yl_scan.proofs.whole.scan.Goals as goal
@@ -33,3 +33,9 @@ loop-row-preserved g c =
           (c.in_ok-step.ensures.told (characters_of (drop (c.loop-row.row-index + 1) rows)))
           c.loop-row.invariant.told;
     }
+
+pub add_row-requires : goal.add_row-requires
+add_row-requires g c = subst (λ line. BeginsInText line c.in_ok-step.step) (sym c.line-line.ensures) c.in_ok-step.ensures.in_text
+
+pub add_end-requires : goal.add_end-requires
+add_end-requires g c = subst (λ line. BeginsInText line c.in_ok-step-2.step) (sym c.line-line-2.ensures) c.in_ok-step-2.ensures.in_text
