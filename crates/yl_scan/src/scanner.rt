@@ -5,7 +5,7 @@ ghost use Rattle.std.specs.Option.{ForSome};
 ghost use Rattle.std.specs.Str.{chars};
 ghost use Rattle.yl_lexeme.specs.Known.{nothing_known};
 ghost use Rattle.yl_scan.specs.Left.{Fresh, given, left};
-ghost use Rattle.yl_scan.specs.Scanner.{at_end, is_halted, known_in, told_of};
+ghost use Rattle.yl_scan.specs.Scanner.{BeginsInText, at_end, is_halted, known_in, told_of};
 
 use crate::feeding::{ended_text, fed_row};
 use crate::resting::Resting;
@@ -64,6 +64,7 @@ impl<'a, A: Allocator + Copy> Scanner<'a, A> {
         ensures told { IfOk result (λ step. (rows : List (List ℕ)) →
             left self.old.line self.old.stand (chars row.now.text ∷ rows)
             ≡ given self.old.line (told_of self.old.line step) (left self.new.line self.new.stand rows)) }
+        ensures in_text { IfOk result (λ step. BeginsInText self.old.line step) }
         ensures line { OnOk result (self.new.line ≡ self.old.line + 1) }
         ensures refused { self.new.refused ≡ self.old.refused }
     {
@@ -89,6 +90,7 @@ impl<'a, A: Allocator + Copy> Scanner<'a, A> {
         ensures told { IfOk result (λ step. (rows : List (List ℕ)) →
             left self.old.line self.old.stand (chars row.now.text ∷ rows)
             ≡ given self.old.line (told_of self.old.line step) (left self.new.line self.new.stand rows)) }
+        ensures in_text { IfOk result (λ step. BeginsInText self.old.line step) }
         ensures line { OnOk result (self.new.line ≡ self.old.line + 1) }
         ensures meter { meter.new ≡ record { lines = meter.old.lines + 1; documents = meter.old.documents } }
         ensures goes_on { OnOk result (self.new.refused ≡ false) }
@@ -103,6 +105,13 @@ impl<'a, A: Allocator + Copy> Scanner<'a, A> {
         let step = self.read(row)?;
         self.refused = false;
         Ok(step)
+    }
+
+    /// How many rows were fed.
+    pub fn line(&self) -> u32
+        ensures { result ≡ self.now.line }
+    {
+        self.line
     }
 
     /// Whether a fault has come before.
@@ -139,6 +148,7 @@ impl<'a, A: Allocator + Copy> Scanner<'a, A> {
     /// What the text's end tells.
     pub fn finish(self) -> Result<Step<A>, AllocError>
         ensures told { IfOk result (λ step. left self.line self.stand [] ≡ at_end (told_of self.line step)) }
+        ensures in_text { IfOk result (λ step. BeginsInText self.line step) }
         ensures stays { self.refused ≡ true → IsErr result }
     {
         if self.refused {
