@@ -147,9 +147,9 @@ impl<'a, A: Allocator + Copy> Scanner<'a, A> {
 
     /// What the text's end tells.
     pub fn finish(self) -> Result<Step<A>, AllocError>
-        ensures told { IfOk result (λ step. left self.line self.stand [] ≡ at_end (told_of self.line step)) }
-        ensures in_text { IfOk result (λ step. BeginsInText self.line step) }
-        ensures stays { self.refused ≡ true → IsErr result }
+        ensures told { IfOk result (λ step. left self.entry.line self.entry.stand [] ≡ at_end (told_of self.entry.line step)) }
+        ensures in_text { IfOk result (λ step. BeginsInText self.entry.line step) }
+        ensures stays { self.entry.refused ≡ true → IsErr result }
     {
         if self.refused {
             return Err(AllocError);
