@@ -36,6 +36,7 @@ spot x = record { kind = x.kind; start = if x.begins then Some x.column else Non
 abbrev pub is_near : ℕ → ℕ → Bool
 is_near column start = nat_le column (start + 1024)
 
+-- the column of the key of a Value at this column, by where the unit directly before it begins
 abbrev pub near : ℕ → Option ℕ → Option ℕ
 near column None = None
 near column (Some start) = if nat_le start column && is_near column start then Some start else None

@@ -1,8 +1,7 @@
 //! The unit that the latest lexemes of a line make, which may become a key (YAML 1.2.2, 7.4.2 and 8.2.2).
 
 ghost use Rattle.std.specs.Prelude.{◌≡◌, IfOk};
-ghost use Rattle.yl_lexeme.specs.Lexeme.{is_property, is_anchor};
-ghost use Rattle.yl_lexeme.specs.Kept.{Kept, nothing_kept, property_pair, content_start, property_start, property_behind, unit_behind, outer_behind, kept_behind};
+ghost use Rattle.yl_lexeme.specs.Kept.{nothing_kept, property_pair, content_start, property_start, property_behind, unit_behind, outer_behind, kept_behind};
 
 use crate::lexeme::Kind;
 use crate::stack::Stack;
