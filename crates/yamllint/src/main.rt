@@ -1,7 +1,7 @@
 //! `yamllint`: prints the problems of YAML files.
 #![tactic(auto)]
 
-ghost use Rattle.std.specs.Prelude.{◌≡◌, ◌-◌, ◌^◌, ◌<◌, OnOk};
+ghost use Rattle.std.specs.Prelude.{◌≡◌, ◌-◌, ◌^◌, ◌<◌, IfErr, OnOk, bytes_eq, codes, if◌then◌else◌};
 ghost use Rattle.yl_text.specs.Watched.{failures_of};
 
 use std::io::Write;
@@ -15,14 +15,18 @@ use yl_text::Watched;
 const FAULT: u8 = 255;
 
 // Says a fault on standard error.
-fn stopped(rt: &HostRuntime, fault: &Fault<'_>) -> u8 {
+fn stopped(rt: &HostRuntime, fault: &Fault<'_>) -> u8
+    ensures { result ≡ FAULT }
+{
     let mut out = Watched::new(rt.stderr());
     let _ = say(Program::Yamllint, fault, &mut out);
     FAULT
 }
 
 // The name under which a file's problems are printed.
-fn shown_name(file: &str) -> &str {
+fn shown_name(file: &str) -> &str
+    ensures { result.now ≡ (if bytes_eq file.now (codes "-") then codes "stdin" else file.now) }
+{
     if file == "-" { "stdin" } else { file }
 }
 
@@ -34,7 +38,8 @@ fn linted<W: Write>(
     out: &mut Watched<W>,
 ) -> Result<u8, RunFault>
     requires { failures_of out.old < 2 ^ 64 - 1 }
-    ensures { OnOk result (failures_of out.new ≡ failures_of out.old) }
+    ensures quiet { OnOk result (failures_of out.new ≡ failures_of out.old) }
+    ensures told { IfErr result (λ fault. fault ≡ RunFault.Write → failures_of out.old < failures_of out.new) }
 {
     let config = Config::standard();
     let name = shown_name(file);

@@ -1,4 +1,7 @@
 //! What is asked of a program, or why it does not run.
+ghost use Rattle.std.specs.Prelude.{◌≡◌};
+ghost use Rattle.yl_args.specs.declared.answer.Stop.TheVariants.{Memory};
+
 use std::alloc::{AllocError, AllocFailed};
 
 /// The program whose words they are.
@@ -36,12 +39,16 @@ pub enum Stop {
 }
 
 impl From<AllocError> for Stop {
+    ghost from_gives = { λ _ stop. stop ≡ Memory };
+
     fn from(_error: AllocError) -> Stop {
         Stop::Memory
     }
 }
 
 impl<T: Drop> From<AllocFailed<T>> for Stop {
+    ghost from_gives = { λ _ stop. stop ≡ Memory };
+
     fn from(_error: AllocFailed<T>) -> Stop {
         Stop::Memory
     }

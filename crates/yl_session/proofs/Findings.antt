@@ -1,16 +1,16 @@
 -- What is found in lines, one line after another.
-use Rattle.std.proofs.Common.{◌≡◌, ◌≢◌, ℕ, ◌+◌, ◌<◌, List, [], ◌∷◌, ◌++◌, Some, drop, refl, ap, sym, ◌∙◌, append_assoc, add-one, append-nil}
+use Rattle.std.proofs.Common.{◌≡◌, ◌≢◌, ℕ, ◌+◌, ◌<◌, List, ◌∷◌, ◌++◌, Some, drop, ap, sym, ◌∙◌, append_assoc, add-one, append-nil}
 use Rattle.std.proofs.Math.Seq.{drop-cons}
 use Rattle.std.proofs.lemmas.Option.{slice_get_within, get_or_from_slice_get}
 use Rattle.std.specs.List.{slice_get}
 use Rattle.std.specs.Prelude.{length}
 use Rattle.yl_text.specs.Finding.{Finding}
 use Rattle.yl_text.specs.Lines.{Piece, lines_of}
-use Rattle.yl_text.specs.declared.row.Break.{Break}
-use Rattle.yl_text.specs.declared.row.Break.TheVariants.{No, Lf, CrLf, Cr}
+use Rattle.yl_text.specs.Split.{lines_behind}
+use Rattle.yl_text.proofs.Cut.{behind_break, behind_none}
+use Rattle.yl_text.specs.declared.row.Break.TheVariants.{No}
 use Rattle.yl_rules.specs.declared.options.RowOptions.{RowOptions}
 use Rattle.yl_rules.specs.Rows.{row_findings}
-use Rattle.yl_session.specs.Cut.{lines_behind}
 use Rattle.yl_session.specs.TextReport.{findings_from}
 
 -- what was to come first is found
@@ -29,12 +29,6 @@ rows_go_on o i rows row found new total at e whole =
     moved found new (row_findings o (i + 1) row) (findings_from o (i + 1 + 1) (drop (i + 1) rows)) total e
     (ap (λ (rest : List Piece). found ++ findings_from o (i + 1) rest) (sym (rows_at rows i row at)) ∙ whole)
 
-behind_break : (e : Break) (rest : List ℕ) → e ≢ No → lines_behind e rest ≡ lines_of rest
-behind_break No rest more = absurd (more refl)
-behind_break Lf rest more = refl
-behind_break CrLf rest more = refl
-behind_break Cr rest more = refl
-
 module _ (o : RowOptions) (line : ℕ) (text rest : List ℕ) (row : Piece) (found new total : List Finding)
     (first : lines_of text ≡ row ∷ lines_behind row.end rest) (e : new ≡ found ++ row_findings o line row) (whole : found ++ findings_from o line (lines_of text) ≡ total) where
   in_order : found ++ (row_findings o line row ++ findings_from o (line + 1) (lines_behind row.end rest)) ≡ total
@@ -49,6 +43,5 @@ module _ (o : RowOptions) (line : ℕ) (text rest : List ℕ) (row : Piece) (fou
   -- the last line
   pub lines_end : row.end ≡ No → new ≡ total
   lines_end last =
-      let none : lines_behind row.end rest ≡ [] = ap (λ (b : Break). lines_behind b rest) last in
-      sym (append-nil new) ∙ ap (λ (rows : List Piece). new ++ findings_from o (line + 1) rows) (sym none)
+      sym (append-nil new) ∙ ap (λ (rows : List Piece). new ++ findings_from o (line + 1) rows) (sym (behind_none row.end rest last))
       ∙ moved found new (row_findings o line row) (findings_from o (line + 1) (lines_behind row.end rest)) total e in_order

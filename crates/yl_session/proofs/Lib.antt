@@ -1,4 +1,3 @@
 pub mod Findings
-pub mod FirstLine
 pub mod Goes
 pub mod Nothing

@@ -1,18 +1,17 @@
 -- An edit of no line by no bytes has none of the faults, and leaves the text.
-use Rattle.std.proofs.Common.{◌≡◌, ◌≢◌, ℕ, zero, suc, ◌+◌, ◌<◌, ◌≤◌, ◌⊎◌, inl, inr, Some, List, [], ◌∷◌, ◌++◌, length, take, drop, get_or, refl, sym, ◌∙◌, ap, subst, arith, add-one}
+use Rattle.std.proofs.Common.{◌≡◌, ℕ, zero, suc, ◌<◌, ◌≤◌, inl, inr, Some, List, [], ◌∷◌, length, take, drop, refl, sym, ◌∙◌, ap, subst, arith, add-one}
 use Rattle.std.proofs.lemmas.List.{take-append-drop}
 use Rattle.std.proofs.lemmas.List.Concat.{flat_map-append}
 use Rattle.std.proofs.lemmas.Str.{IsUtf8-nil}
 use Rattle.std.specs.List.{slice_get}
-use Rattle.yl_text.specs.declared.row.Break.{Break}
-use Rattle.yl_text.specs.declared.row.Break.TheVariants.{No, Lf, CrLf, Cr}
+use Rattle.yl_text.specs.declared.row.Break.TheVariants.{Lf, Cr}
 use Rattle.yl_text.specs.declared.TheConstants.{MAX_BYTES}
-use Rattle.yl_text.specs.Lines.{Piece, piece_bytes, text_of, StartsWithLf, AreWhole, IsLines}
+use Rattle.yl_text.specs.Lines.{Piece, piece_bytes, text_of, AreWhole, IsLines}
 use Rattle.yl_text.specs.Store.{AreLines}
 use Rattle.yl_text.specs.declared.fault.TextFault.{TextFault}
 use Rattle.yl_text.specs.declared.fault.TextFault.TheVariants.{NotUtf8, Range, OpenEnd, JoinedBreak, TooLarge, Memory}
 use Rattle.yl_session.specs.Runs.{IsNothing}
-use Rattle.yl_text.specs.Edit.{CanEdit, IsEditFault, Joins, front_of, back_of, edited, first_byte, last_byte}
+use Rattle.yl_text.specs.Edit.{CanEdit, IsEditFault, Joins, front_of, back_of, edited, last_byte}
 use Rattle.yl_text.proofs.Seams.{back_starts, front_ends}
 
 -- there is an element at a place within

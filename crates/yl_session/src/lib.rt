@@ -1,7 +1,6 @@
 //! The report of a text, and of a text that is kept open and edited.
 #![tactic(auto)]
 
-mod cutting;
 mod replaying;
 mod report;
 mod session;

@@ -4,12 +4,11 @@ ghost use Rattle.yl_text.specs.Lines.{lines_of};
 ghost use Rattle.yl_config.specs.Config.{row_options_of};
 ghost use Rattle.yl_session.specs.TextReport.{findings_from, report};
 
-use crate::cutting::cut_line;
 use std::alloc::{AllocError, Allocator};
 use yl_config::Config;
 use yl_report::{Problem, Silences, arrange};
 use yl_rules::{RowOptions, push_line_problems, push_row_problems};
-use yl_text::{Break, Found, Lines};
+use yl_text::{Break, Found, Lines, cut_line};
 
 /// What the rules that look at one line find in the rows.
 fn find_in_rows<L: Lines>(

@@ -11,7 +11,7 @@ use Rattle.std.specs.Str.{IsUtf8, IsCharBoundary}
 use Rattle.yl_text.specs.declared.row.Break.{Break}
 use Rattle.yl_text.specs.declared.row.Break.TheVariants.{No, Lf, CrLf, Cr}
 use Rattle.yl_text.specs.Lines.{Piece, break_bytes, HasNoBreak, lines_of}
-use Rattle.yl_text.specs.Split.{BreakAt}
+use Rattle.yl_text.specs.Split.{BreakAt, lines_behind}
 use Rattle.yl_text.proofs.Computed.{line, lines_of-step, lines_of-last}
 
 drop_at : (t : List ℕ) (n x : ℕ) → slice_get t n ≡ Some x → drop n t ≡ x ∷ drop (n + 1) t
@@ -42,33 +42,62 @@ alone t n Cr b k = λ h.
       | inr m ↦ absurd (omega (arith, get_or_past t (n + 1) 0 m, g'))
     ]
 
-pub cut_more : (t : List ℕ) (n : ℕ) (e : Break) → HasNoBreak (take n t) → BreakAt t n e → e ≢ No → lines_of t ≡ line (take n t) e ∷ lines_of (drop (n + length (break_bytes e)) t)
+cut_more : (t : List ℕ) (n : ℕ) (e : Break) → HasNoBreak (take n t) → BreakAt t n e → e ≢ No → lines_of t ≡ line (take n t) e ∷ lines_of (drop (n + length (break_bytes e)) t)
 cut_more t n e h b k =
     ap (λ (u : List ℕ). lines_of u) (sym (take-append-drop n t) ∙ ap (λ (u : List ℕ). take n t ++ u) (drop-break t n e b k))
     ∙ lines_of-step (take n t) e (drop (n + length (break_bytes e)) t) h k (alone t n e b)
 
--- the last line
-pub cut_last : (t : List ℕ) (n : ℕ) → n ≤ length t → HasNoBreak (take n t) → (n < length t → (get_or t n 0 ≡ 10) ⊎ (get_or t n 0 ≡ 13)) → BreakAt t n No → lines_of t ≡ line (take n t) No ∷ []
-cut_last t n w h at b =
+-- where no break begins, the text ends
+ends : (t : List ℕ) (n : ℕ) → n ≤ length t → (n < length t → (get_or t n 0 ≡ 10) ⊎ (get_or t n 0 ≡ 13)) → BreakAt t n No → n ≡ length t
+ends t n w at b =
     elim (Rattle.std.proofs.lemmas.Bool.cases_lt n (length t)) [
       | inl l ↦ elim (at l) [
         | inl e ↦ absurd (b.0 (slice_get-get_or t n 0 l ∙ ap Some e))
         | inr e ↦ absurd (b.1 (slice_get-get_or t n 0 l ∙ ap Some e))
       ]
-      | inr m ↦
-          let all : take n t ≡ t = Rattle.std.proofs.lemmas.List.take_all n t m in
-          let P : List ℕ → Type 0 = λ u. lines_of u ≡ line (take n t) No ∷ [] in
-          subst P all (lines_of-last (take n t) h)
+      | inr m ↦ omega arith
     ]
 
--- the text may be cut behind the break
-pub cut_boundary : (t : List ℕ) (n : ℕ) (e : Break) → IsUtf8 t → BreakAt t n e → e ≢ No → IsCharBoundary t (n + length (break_bytes e))
+-- the last line
+cut_last : (t : List ℕ) (n : ℕ) → n ≤ length t → HasNoBreak (take n t) → (n < length t → (get_or t n 0 ≡ 10) ⊎ (get_or t n 0 ≡ 13)) → BreakAt t n No → lines_of t ≡ line (take n t) No ∷ []
+cut_last t n w h at b =
+    let all : take n t ≡ t = Rattle.std.proofs.lemmas.List.take_all n t (omega (arith, ends t n w at b)) in
+    let P : List ℕ → Type 0 = λ u. lines_of u ≡ line (take n t) No ∷ [] in
+    subst P all (lines_of-last (take n t) h)
+
+-- the text may be cut behind a break
+cut_boundary : (t : List ℕ) (n : ℕ) (e : Break) → IsUtf8 t → BreakAt t n e → e ≢ No → IsCharBoundary t (n + length (break_bytes e))
 cut_boundary t n No u b k = absurd (k refl)
 cut_boundary t n Lf u b k = IsCharBoundary-after_ascii t n u (slice_get_within t n 10 b) (omega (arith, get_or_from_slice_get t n 10 0 b))
 cut_boundary t n Cr u b k = IsCharBoundary-after_ascii t n u (slice_get_within t n 13 b.0) (omega (arith, get_or_from_slice_get t n 13 0 b.0))
 cut_boundary t n CrLf u b k =
     let two : n + 1 + 1 ≡ n + 2 = omega arith in
     subst (λ (m : ℕ). IsCharBoundary t m) two (IsCharBoundary-after_ascii t (n + 1) u (slice_get_within t (n + 1) 10 b.1) (omega (arith, get_or_from_slice_get t (n + 1) 10 0 b.1)))
+
+-- and behind the first one, if there is one
+pub rest_boundary : (t : List ℕ) (n : ℕ) (e : Break) → IsUtf8 t → n ≤ length t → (n < length t → (get_or t n 0 ≡ 10) ⊎ (get_or t n 0 ≡ 13)) → BreakAt t n e → IsCharBoundary t (n + length (break_bytes e))
+rest_boundary t n No u w at b = let all : n ≡ length t = ends t n w at b in (omega arith, λ h. absurd (omega arith))
+rest_boundary t n Lf u w at b = cut_boundary t n Lf u b (λ e. cc)
+rest_boundary t n CrLf u w at b = cut_boundary t n CrLf u b (λ e. cc)
+rest_boundary t n Cr u w at b = cut_boundary t n Cr u b (λ e. cc)
+
+pub lines_first : (t : List ℕ) (n : ℕ) (e : Break) → n ≤ length t → HasNoBreak (take n t) → (n < length t → (get_or t n 0 ≡ 10) ⊎ (get_or t n 0 ≡ 13)) → BreakAt t n e
+    → lines_of t ≡ line (take n t) e ∷ lines_behind e (drop (n + length (break_bytes e)) t)
+lines_first t n No w h at b = cut_last t n w h at b
+lines_first t n Lf w h at b = cut_more t n Lf h b (λ e. cc)
+lines_first t n CrLf w h at b = cut_more t n CrLf h b (λ e. cc)
+lines_first t n Cr w h at b = cut_more t n Cr h b (λ e. cc)
+
+-- what stands behind a break
+pub behind_break : (e : Break) (rest : List ℕ) → e ≢ No → lines_behind e rest ≡ lines_of rest
+behind_break No rest more = absurd (more refl)
+behind_break Lf rest more = refl
+behind_break CrLf rest more = refl
+behind_break Cr rest more = refl
+
+-- and behind none
+pub behind_none : (e : Break) (rest : List ℕ) → e ≡ No → lines_behind e rest ≡ []
+behind_none e rest last = ap (λ (b : Break). lines_behind b rest) last
 
 same_line : (row : Piece) (xs : List ℕ) (e : Break) → row.text ≡ xs → row.end ≡ e → row ≡ line xs e
 same_line row xs e a b = let P : List ℕ → Type 0 = λ ys. line row.text row.end ≡ line ys e in subst P a (ap (λ (f : Break). line row.text f) b)

@@ -26,7 +26,7 @@ pub use plain_store::PlainStore;
 pub use position::Pos;
 pub use row::{Break, Row};
 pub use special::first_special;
-pub use splitting::split;
+pub use splitting::{FirstLine, cut_line, split};
 pub use store::{LineStore, Lines};
 
 /// The most bytes that a text may have.

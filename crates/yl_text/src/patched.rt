@@ -5,6 +5,7 @@ ghost use Rattle.yl_text.specs.Store.{AreLines, IsRange};
 
 use crate::Row;
 use crate::store::Lines;
+use std::marker::Model;
 
 /// The lines of a store, with these rows in place of the rows a to b, b not included, counted from 0.
 pub struct Patched<'a, S: Lines> {
@@ -12,8 +13,19 @@ pub struct Patched<'a, S: Lines> {
     a: usize,
     b: usize,
     rows: &'a [Row<S::Alloc>],
-    ghost range: { IsRange a b (length (S.rows lines.now)) },
-    ghost few: { length (S.rows lines.now) + length rows.now < 2 ^ 64 },
+}
+
+impl<'a, S: Lines> Model for Patched<'a, S> {
+    ghost use Rattle.std.specs.Prelude.{List, length, ◌+◌, ◌<◌, ◌^◌};
+    ghost use Rattle.std.specs.List.{splice};
+    ghost use Rattle.yl_text.specs.Lines.{Piece};
+    ghost use Rattle.yl_text.specs.Store.{IsRange};
+
+    ghost Value = { List Piece };
+
+    ghost view = { λ p. splice (S.rows p.lines.now) p.a p.b p.rows.now };
+
+    ghost invariant = { λ p. IsRange p.a p.b (length (S.rows p.lines.now)) × (length (S.rows p.lines.now) + length p.rows.now < 2 ^ 64) };
 }
 
 impl<S: Lines> Drop for Patched<'_, S> {
@@ -32,7 +44,7 @@ impl<'a, S: Lines> Patched<'a, S> {
     pub fn new(lines: &'a S, a: usize, b: usize, rows: &'a [Row<S::Alloc>]) -> Patched<'a, S>
         requires range { IsRange a b (length (S.rows lines.now)) }
         requires few { length (S.rows lines.now) + length rows.now < 2 ^ 64 }
-        ensures { splice (S.rows result.lines.now) result.a result.b result.rows.now ≡ splice (S.rows lines.now) a b rows.now }
+        ensures { result ≡ splice (S.rows lines.now) a b rows.now }
     {
         Patched { lines, a, b, rows }
     }
@@ -41,7 +53,7 @@ impl<'a, S: Lines> Patched<'a, S> {
 impl<'a, S: Lines> Lines for Patched<'a, S> {
     type Alloc = S::Alloc;
 
-    ghost rows = { λ p. splice (S.rows p.lines.now) p.a p.b p.rows.now };
+    ghost rows = { λ p. p };
 
     fn len(&self) -> usize {
         self.lines.len() - (self.b - self.a) + self.rows.len()

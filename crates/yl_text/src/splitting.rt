@@ -1,8 +1,9 @@
 //! Bytes into lines.
-ghost use Rattle.std.specs.Prelude.{◌≡◌, ◌≤◌, ◌<◌, ◌↔◌, ◌⊎◌, length, take, drop, IfOk, MatchResult, slice_index};
+ghost use Rattle.std.specs.Prelude.{◌≡◌, ◌≢◌, ◌≤◌, ◌<◌, ◌⊎◌, ◌∷◌, length, take, IfOk, IsUtf8, MatchResult, slice_index};
 ghost use Rattle.yl_text.specs.Lines.{HasNoBreak, lines_of, IsLines};
-ghost use Rattle.yl_text.specs.Split.{BreakAt};
+ghost use Rattle.yl_text.specs.Split.{BreakAt, lines_behind};
 ghost use Rattle.yl_text.specs.Fault.{IsText, IsFaultOf};
+ghost use Rattle.yl_text.specs.declared.row.Break.TheVariants.{No};
 
 use crate::MAX_BYTES;
 use crate::fault::TextFault;
@@ -10,8 +11,16 @@ use crate::row::{Break, Row};
 use memchr::memchr2;
 use std::alloc::{AllocError, Allocator};
 
+/// The first line of a text, its break, and what stands behind that.
+#[derive(Clone, Copy)]
+pub struct FirstLine<'a> {
+    pub line: &'a str,
+    pub end: Break,
+    pub rest: &'a str,
+}
+
 /// The place, in bytes from 0, of the first LF or CR, else the length.
-pub fn first_break(bytes: &[u8]) -> usize
+fn first_break(bytes: &[u8]) -> usize
     ensures within { result ≤ length bytes.now }
     ensures before { HasNoBreak (take result bytes.now) }
     ensures at { result < length bytes.now → (slice_index bytes.now result ≡ 10) ⊎ (slice_index bytes.now result ≡ 13) }
@@ -36,6 +45,22 @@ fn break_at(bytes: &[u8], place: usize) -> Break
     }
 }
 
+/// The first line of a text, cut off its front with nothing copied.
+pub fn cut_line(text: &str) -> FirstLine<'_>
+    ensures first { lines_of text.now ≡ record { text = result.line.now; end = result.end } ∷ lines_behind result.end result.rest.now }
+    ensures utf8 { IsUtf8 result.rest.now }
+    ensures smaller { result.end ≢ No → length result.rest.now < length text.now }
+{
+    let bytes = text.as_bytes();
+    let place = first_break(bytes);
+    let end = break_at(bytes, place);
+    FirstLine {
+        line: &text[..place],
+        end,
+        rest: &text[place + end.len()..],
+    }
+}
+
 /// The lines of a text.
 fn rows_of<A: Allocator + Copy>(alloc: A, text: &str) -> Result<Vec<Row<A>, A>, AllocError>
     ensures { IfOk result (λ rows. rows.items ≡ lines_of text.now) }
@@ -43,14 +68,12 @@ fn rows_of<A: Allocator + Copy>(alloc: A, text: &str) -> Result<Vec<Row<A>, A>, 
     let mut rows = Vec::new(alloc);
     let mut rest = text;
     loop {
-        let bytes = rest.as_bytes();
-        let place = first_break(bytes);
-        let end = break_at(bytes, place);
-        rows.push(Row::new(alloc, &rest[..place], end)?)?;
-        if end == Break::No {
+        let first = cut_line(rest);
+        rows.push(Row::new(alloc, first.line, first.end)?)?;
+        if first.end == Break::No {
             return Ok(rows);
         }
-        rest = &rest[place + end.len()..];
+        rest = first.rest;
     }
 }
 

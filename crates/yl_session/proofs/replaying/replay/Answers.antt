@@ -2,7 +2,7 @@ use Rattle.std.proofs.Common.{◌≡◌, ◌+◌, ◌∷◌, [], ◌++◌, List,
 use Rattle.std.specs.Prelude.{OnOk}
 use Rattle.std.proofs.lemmas.List.{take_more}
 use Rattle.yl_text.specs.Edit.{edited}
-use Rattle.yl_session.specs.State.{State, Shows}
+use Rattle.yl_session.specs.State.{Shows}
 use Rattle.yl_session.specs.Runs.{Replacement, IsAnswer}
 use Rattle.yl_session.proofs.Goes.{Replayed-push}
 use Rattle.yl_session.proofs.replaying.replay.Goals as goal

@@ -1,4 +1,4 @@
-use Rattle.std.proofs.Common.{◌≡◌, ◌-◌, ℕ, List, length, take, arith, sym, ap, ◌∙◌}
+use Rattle.std.proofs.Common.{◌≡◌, ◌-◌, ℕ, List, length, take, arith, sym, ◌∙◌}
 use Rattle.std.specs.Vec.{vec_len}
 use Rattle.yl_text.specs.Lines.{Piece, lines_of}
 use Rattle.yl_text.proofs.Computed.{lines_of-is}

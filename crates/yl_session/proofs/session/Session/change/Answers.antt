@@ -1,4 +1,4 @@
-use Rattle.std.proofs.Common.{◌≡◌, ◌≤◌, ◌+◌, List, ℕ, length, take, drop, arith, length-append, ◌++◌}
+use Rattle.std.proofs.Common.{◌≤◌, ◌+◌, List, ℕ, length, take, drop, arith, length-append, ◌++◌}
 use Rattle.std.specs.List.{splice}
 use Rattle.yl_text.specs.Lines.{Piece, text_of}
 use Rattle.yl_text.specs.Store.{AreLines}

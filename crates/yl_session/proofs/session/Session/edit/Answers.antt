@@ -1,7 +1,7 @@
-use Rattle.std.proofs.Common.{◌≡◌, ℕ, List, [], length, ap, subst, sym, ◌∙◌, refl}
+use Rattle.std.proofs.Common.{ℕ, List, ap, subst, refl}
 use Rattle.yl_text.specs.declared.fault.TextFault.{TextFault}
 use Rattle.yl_text.specs.declared.fault.TextFault.TheVariants.{NotUtf8, Range, OpenEnd, JoinedBreak, TooLarge, Memory}
-use Rattle.yl_text.specs.Lines.{Piece, IsLines}
+use Rattle.yl_text.specs.Lines.{Piece}
 use Rattle.yl_text.specs.Store.{AreLines}
 use Rattle.yl_text.specs.Edit.{IsEditFault, edited}
 use Rattle.yl_session.specs.State.{State, Shows}

@@ -1,5 +1,4 @@
-use Rattle.std.proofs.Common.{◌≡◌, ℕ, ◌≤◌, arith}
-use Rattle.yl_text.specs.Store.{AreLines}
+use Rattle.std.proofs.Common.{arith}
 use Rattle.yl_text.proofs.Edited.{length-lines}
 use Rattle.yl_session.proofs.session.Session.lines.Goals as goal
 

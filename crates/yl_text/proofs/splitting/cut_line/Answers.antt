@@ -1,8 +1,8 @@
 use Rattle.std.proofs.Common.{◌≡◌, ◌+◌, ℕ, length, drop, ap, ◌∙◌}
 use Rattle.std.proofs.Math.Nat.{sub-zero}
 use Rattle.yl_text.specs.Lines.{break_bytes}
-use Rattle.yl_session.proofs.FirstLine.{rest_boundary, lines_first}
-use Rattle.yl_session.proofs.cutting.cut_line.Goals as goal
+use Rattle.yl_text.proofs.Cut.{rest_boundary, lines_first}
+use Rattle.yl_text.proofs.splitting.cut_line.Goals as goal
 
 pub range_from-requires : goal.range_from-requires
 range_from-requires c =
