@@ -3,7 +3,9 @@
 
 MODEL is the folder of the model (machine.py, texts.py); FOLDER is the specs/ of a library that stands on yl_row. It gets files
 of lemmas by `refl`, one a text: that `entries` gives for each row the state, the lexemes, the comment and the fault that the
-model gives. A check of that library then makes the comparison."""
+model gives. The model tells the row that a fault stands in. Where the faulty lexeme may have begun above that row, a text has two
+lemmas: of the rows without their faults, and of the fault with the row that it stands in.
+A check of that library then makes the comparison."""
 
 import json
 import os
@@ -34,7 +36,7 @@ FAULTS = {
     "bad tag": "BadTag",
     "content after document end": "ContentAfterDocumentEnd",
 }
-HEAD = """use Rattle.std.specs.Prelude.{ℕ, ◌≡◌, refl, List, [], ◌∷◌, Option, Some, None}
+HEAD = """use Rattle.std.specs.Prelude.{ℕ, ◌≡◌, refl, List, [], ◌∷◌, ◌+◌, map, Option, Some, None}
 use Rattle.yl_lexeme.specs.declared.lexeme.Style.TheVariants.{Plain, Single, Double, Literal, Folded}
 use Rattle.yl_lexeme.specs.declared.lexeme.Kind.{Kind}
 use Rattle.yl_lexeme.specs.declared.lexeme.Kind.TheVariants.{Directive, DocStart, DocEnd, Entry as EntryKind, Key, Value, Comma, SeqOpen, SeqClose, MapOpen, MapClose, Alias, Anchor, Tag, Scalar}
@@ -56,6 +58,17 @@ comment column text = Some (record { column = column; text = text })
 
 abbrev row : Option State → List LexemeValue → Option CommentValue → Option Faulted → Entry
 row state xs c f = record { state = state; lexemes = xs; comment = c; fault = f }
+
+abbrev without_fault : Entry → Entry
+without_fault e = row e.state e.lexemes e.comment None
+
+abbrev with_fault : ℕ → Option Faulted → List Faulted → List Faulted
+with_fault line None fs = fs
+with_fault line (Some f) fs = record { fault = f.fault; down = line + f.down; column = f.column } ∷ fs
+
+abbrev faults_from : ℕ → List Entry → List Faulted
+faults_from line [] = []
+faults_from line (e ∷ es) = with_fault line e.fault (faults_from (line + 1) es)
 """
 
 
@@ -78,14 +91,11 @@ def state(s):
 
 
 def case(number, text, answer):
-    """The lemma of one text, or None if the model does not tell in which row the faulty lexeme begins."""
+    """The lemmas of one text, and whether the row is known in which the faulty lexeme begins."""
     lines = re.split("\r\n|\r|\n", text)
     fault = answer["scan_fault"]
-    home = None
-    if fault is not None:
-        home = fault["line"]
-        if fault["text"] not in ("quoted scalar is not closed", "tab in indentation") and home > 0 and answer["states"][home] is None:
-            return None
+    home = None if fault is None else fault["line"]
+    is_known = not home or fault["text"] in ("quoted scalar is not closed", "tab in indentation") or answer["states"][home] is not None
     rows = []
     for k in range(len(lines)):
         lexemes = "".join(
@@ -93,10 +103,15 @@ def case(number, text, answer):
         )
         comments = [x for x in answer["comments"] if x[0] == k]
         told = f"(comment {comments[0][1]} {numbers(comments[0][2].encode())})" if comments else "None"
-        stops = f"(fails fault.{FAULTS[fault['text']]} 0 {fault['col']})" if k == home else "None"
+        stops = f"(fails fault.{FAULTS[fault['text']]} 0 {fault['col']})" if is_known and k == home else "None"
         rows.append(f"row {state(answer['states'][k])} ({lexemes}[]) {told} {stops} ∷ ")
-    given = "(" + "".join(numbers(ord(c) for c in line) + " ∷ " for line in lines) + "[])"
-    return f"-- {text!r}\npub case_{number} : entries {given} ≡ {''.join(rows)}[]\nunfolding lib.Utf8.encode found_at\ncase_{number} = refl\n"
+    given = "entries (" + "".join(numbers(ord(c) for c in line) + " ∷ " for line in lines) + "[])"
+    equations = {f"case_{number}": (given if is_known else f"map without_fault ({given})", f"{''.join(rows)}[]")}
+    if not is_known:
+        stands = f"record {{ fault = fault.{FAULTS[fault['text']]}; down = {home}; column = {fault['col']} }} ∷ []"
+        equations[f"fault_{number}"] = (f"faults_from 0 ({given})", stands)
+    lemmas = (f"pub {name} : {a} ≡ {b}\nunfolding lib.Utf8.encode found_at\n{name} = refl\n" for name, (a, b) in equations.items())
+    return f"-- {text!r}\n" + "".join(lemmas), is_known
 
 
 def main():
@@ -110,15 +125,15 @@ def main():
     words = ["python3", os.path.join(MODEL, "machine.py"), "batch"]
     answers = subprocess.run(words, input=asked, text=True, capture_output=True, check=True).stdout.splitlines()
     cases = [case(i, t, json.loads(a)) for i, (t, a) in enumerate(zip(texts, answers))]
-    kept = [c for c in cases if c is not None]
     names = []
-    for i in range(0, len(kept), 100):
+    for i in range(0, len(cases), 100):
         names.append(f"Cases{i // 100}")
         with open(os.path.join(FOLDER, names[-1] + ".antt"), "w") as f:
-            f.write(HEAD + "\n" + "\n".join(kept[i : i + 100]))
+            f.write(HEAD + "\n" + "\n".join(lemmas for lemmas, _ in cases[i : i + 100]))
     with open(os.path.join(FOLDER, "Lib.antt"), "w") as f:
         f.write("".join(f"pub mod {n}\n" for n in names))
-    print(f"{len(kept)} texts of {len(texts)}; the others' faults stand in a row that begins inside a lexeme")
+    known = sum(is_known for _, is_known in cases)
+    print(f"{len(cases)} texts; of {len(cases) - known} the row is not known in which the faulty lexeme begins")
 
 
 main()

@@ -1,10 +1,26 @@
 -- Scan faults and their places.
-use Rattle.std.specs.Prelude.{ℕ, Bool, true, false, Option, Some, None}
+use Rattle.std.specs.Prelude.{ℕ, Bool, true, false, List, Option, Some, None, codes}
 use Rattle.yl_scalar.specs.declared.answer.ScalarFault.{ScalarFault}
 use Rattle.yl_scalar.specs.declared.answer.ScalarFault.TheVariants as scalar
 use Rattle.yl_row.specs.declared.fault.ScanFault.{ScanFault}
 use Rattle.yl_row.specs.declared.fault.Faulted.{Faulted}
-use Rattle.yl_row.specs.declared.fault.ScanFault.TheVariants.{NotAllowed, TabInIndentation, UnclosedQuote, MarkerInQuote, BadEscape, BadHeader, BadIndentation}
+use Rattle.yl_row.specs.declared.fault.ScanFault.TheVariants.{NotAllowed, TabInIndentation, EntryNotAllowed, KeyNotAllowed, ValueNotAllowed, UnclosedQuote, MarkerInQuote, BadEscape, BadHeader, BadIndentation, BracketWithoutPartner, EmptyName, BadTag, ContentAfterDocumentEnd}
+
+abbrev pub fault_text : ScanFault → List ℕ
+fault_text NotAllowed = codes "character not allowed here"
+fault_text TabInIndentation = codes "tab in indentation"
+fault_text EntryNotAllowed = codes "block entry not allowed here"
+fault_text KeyNotAllowed = codes "mapping key not allowed here"
+fault_text ValueNotAllowed = codes "mapping value not allowed here"
+fault_text UnclosedQuote = codes "quoted scalar is not closed"
+fault_text MarkerInQuote = codes "document marker in quoted scalar"
+fault_text BadEscape = codes "bad escape"
+fault_text BadHeader = codes "bad block scalar header"
+fault_text BadIndentation = codes "bad block scalar indentation"
+fault_text BracketWithoutPartner = codes "bracket without partner"
+fault_text EmptyName = codes "empty anchor or alias name"
+fault_text BadTag = codes "bad tag"
+fault_text ContentAfterDocumentEnd = codes "content after document end"
 
 abbrev pub fault_at : ScanFault → ℕ → Faulted
 fault_at fault column = record { fault = fault; down = 0; column = column }

@@ -193,7 +193,7 @@ block_at rows tab first at a c cs =
     else if c == 0x3A && is_value_at (in_flow a) a.last cs then value_found tab first at a (near at a.start)
     else flow_at rows at a c cs
 
--- document markers and directives stand at a row's start alone (9.1)
+-- document markers (9.1.2) and directives (6.8) stand at a row's start alone
 abbrev pub document_at : ℕ → List ℕ → Around → Option Found
 document_at c cs a =
     if is_marker_of 0x2D (c ∷ cs) then Some (upto DocStart 3 [] None)

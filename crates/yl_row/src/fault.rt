@@ -1,7 +1,7 @@
 //! Scan faults: why a text is cut into lexemes no further.
 
 ghost use Rattle.std.specs.Prelude.{◌≡◌};
-ghost use Rattle.yl_row.specs.Fault.{of_scalar};
+ghost use Rattle.yl_row.specs.Fault.{fault_text, of_scalar};
 
 use yl_scalar::ScalarFault;
 
@@ -40,7 +40,9 @@ pub enum ScanFault {
 
 impl ScanFault {
     /// What is wrong, in words.
-    pub fn text(self) -> &'static str {
+    pub fn text(self) -> &'static str
+        ensures { result.now ≡ fault_text self }
+    {
         match self {
             ScanFault::NotAllowed => "character not allowed here",
             ScanFault::TabInIndentation => "tab in indentation",

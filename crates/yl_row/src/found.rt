@@ -7,6 +7,7 @@ ghost use Rattle.yl_scalar.specs.PlainSteps.{plain};
 ghost use Rattle.yl_scalar.specs.QuotedSteps.{quoted};
 ghost use Rattle.yl_scalar.specs.Block.{block};
 ghost use Rattle.yl_row.specs.Begins.{BeginsAt};
+ghost use Rattle.yl_row.specs.declared.fault.ScanFault.TheVariants.{BracketWithoutPartner};
 ghost use Rattle.yl_row.specs.Fault.{fault_at, when, or_else};
 ghost use Rattle.yl_lexeme.specs.Known.{around};
 ghost use Rattle.yl_lexeme.specs.Past.{near};
@@ -400,6 +401,21 @@ fn closes<A: Allocator + Copy>(sequence: bool, surroundings: &Surroundings<'_, A
     }
 }
 
+/// A closing bracket that is not of the innermost bracket's kind.
+fn unpaired<A: Allocator + Copy>(
+    sequence: bool,
+    at: usize,
+    surroundings: &Surroundings<A>,
+) -> Option<Faulted>
+    ensures { result ≡ when (not (closes sequence (around (known surroundings.now)).brackets)) BracketWithoutPartner at }
+{
+    when(
+        !closes(sequence, surroundings),
+        ScanFault::BracketWithoutPartner,
+        at,
+    )
+}
+
 /// An indicator of flow collections, or what else may stand there.
 fn flow_at<A: Allocator + Copy>(
     alloc: A,
@@ -415,33 +431,18 @@ fn flow_at<A: Allocator + Copy>(
         flow_at rows at (around (known surroundings.now)) c rest.now ≡ standing at rows s) }
     ensures rests { IfOk result (λ s. StandingRests at text.now s) }
 {
-    if c == '[' {
-        return Ok(Standing::Ended(sign(alloc, Kind::SeqOpen, at as u32 + 1, None)));
-    }
-    if c == '{' {
-        return Ok(Standing::Ended(sign(alloc, Kind::MapOpen, at as u32 + 1, None)));
-    }
-    if c == ']' {
-        let fault = when(
-            !closes(true, surroundings),
-            ScanFault::BracketWithoutPartner,
-            at,
-        );
-        return Ok(Standing::Ended(sign(alloc, Kind::SeqClose, at as u32 + 1, fault)));
-    }
-    if c == '}' {
-        let fault = when(
-            !closes(false, surroundings),
-            ScanFault::BracketWithoutPartner,
-            at,
-        );
-        return Ok(Standing::Ended(sign(alloc, Kind::MapClose, at as u32 + 1, fault)));
-    }
-    if c == ',' {
-        let fault = when(!surroundings.in_flow(), ScanFault::NotAllowed, at);
-        return Ok(Standing::Ended(sign(alloc, Kind::Comma, at as u32 + 1, fault)));
-    }
-    word_at(alloc, at, surroundings, c, rest, text)
+    let (kind, fault) = match c {
+        '[' => (Kind::SeqOpen, None),
+        '{' => (Kind::MapOpen, None),
+        ']' => (Kind::SeqClose, unpaired(true, at, surroundings)),
+        '}' => (Kind::MapClose, unpaired(false, at, surroundings)),
+        ',' => (
+            Kind::Comma,
+            when(!surroundings.in_flow(), ScanFault::NotAllowed, at),
+        ),
+        _ => return word_at(alloc, at, surroundings, c, rest, text),
+    };
+    Ok(Standing::Ended(sign(alloc, kind, at as u32 + 1, fault)))
 }
 
 /// A value's indicator.

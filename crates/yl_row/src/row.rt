@@ -16,6 +16,7 @@ use crate::fault::Faulted;
 use crate::found::{Found, Standing, bad_in, found_at, or_else, place_fault};
 use crate::reader::Reader;
 use crate::text::text_of;
+use crate::word::begins_comment;
 use std::alloc::{AllocError, Allocator};
 use yl_lexeme::{Comment, Kind, Lexeme, Style, Surroundings};
 use yl_scalar::is_white;
@@ -219,7 +220,7 @@ pub fn read_row<A: Allocator + Copy>(
             behind_space = true;
             continue;
         }
-        if *c == '#' && behind_space {
+        if begins_comment(*c, behind_space) {
             let end = comment(alloc, i, &row[i..])?;
             return Ok(end);
         }

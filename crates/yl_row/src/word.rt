@@ -1,6 +1,6 @@
 //! Words in a row: names, tags, directives, markers, and what may follow them.
 
-ghost use Rattle.std.specs.Prelude.{◌≡◌, ◌≤◌, ◌==◌, ◌+◌, ◌<◌, ◌^◌, IfSome, length, false};
+ghost use Rattle.std.specs.Prelude.{◌≡◌, ◌≤◌, ◌==◌, ◌&&◌, ◌+◌, ◌<◌, ◌^◌, IfSome, length, false};
 ghost use Rattle.std.specs.List.{position};
 ghost use Rattle.std.specs.Option.{ForSome};
 ghost use Rattle.yl_text.specs.Character.{is_marker_of};
@@ -61,6 +61,13 @@ pub fn is_comment_next(text: &[char]) -> bool
     }
 }
 
+/// A comment begins with this character: `#` at the row's start or behind white space.
+pub fn begins_comment(c: char, behind_space: bool) -> bool
+    ensures { result ≡ (c == 35 && behind_space) }
+{
+    c == '#' && behind_space
+}
+
 fn is_verbatim_next(text: &[char]) -> bool
     ensures { result ≡ (next text.now == 60) }
 {
@@ -77,7 +84,7 @@ fn directive_len(text: &[char]) -> usize
 {
     let mut behind_space = false;
     for (i, c) in text.iter().enumerate() {
-        if *c == '#' && behind_space {
+        if begins_comment(*c, behind_space) {
             return i;
         }
         behind_space = is_white(*c);
