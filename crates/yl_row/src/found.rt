@@ -405,7 +405,7 @@ fn closes<A: Allocator + Copy>(sequence: bool, surroundings: &Surroundings<'_, A
 fn unpaired<A: Allocator + Copy>(
     sequence: bool,
     at: usize,
-    surroundings: &Surroundings<A>,
+    surroundings: &Surroundings<'_, A>,
 ) -> Option<Faulted>
     ensures { result ≡ when (not (closes sequence (around (known surroundings.now)).brackets)) BracketWithoutPartner at }
 {
