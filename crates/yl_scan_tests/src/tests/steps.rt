@@ -76,7 +76,7 @@ fn rows_behind_a_fault(rt: HostRuntime) -> Result<(), Fail> {
         assert_eq!(rt; step.failed.is_some(), line == 0);
         assert!(rt; step.ended.is_none() && step.lexemes.is_empty() && step.comment.is_none());
         assert!(rt; scanner.is_stopped());
-        assert_eq!(rt; meter.lines, line + 1);
+        assert_eq!(rt; meter.lines, scanner.line());
         assert_eq!(rt; meter.documents, 0);
     }
     assert_eq!(rt; meter.lines, 5);

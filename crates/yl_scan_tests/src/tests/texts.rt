@@ -27,7 +27,10 @@ fn a_flow_mapping(rt: HostRuntime) -> Result<(), Fail> {
 #[test]
 fn quoted_scalars(rt: HostRuntime) -> Result<(), Fail> {
     let double = scanned(rt.alloc(), "\"a\\\n  b\"\n")?;
-    assert_eq!(rt; shown(rt.alloc(), &double)?.as_str(), "Scalar(Double) 0:0 +1:4 ab\n");
+    assert_eq!(rt;
+        shown(rt.alloc(), &double)?.as_str(),
+        "Scalar(Double) 0:0 +1:4 ab\n"
+    );
     let single = scanned(rt.alloc(), "'it''s'")?;
     assert_eq!(rt;
         shown(rt.alloc(), &single)?.as_str(),
