@@ -144,7 +144,7 @@ fn is_sound_behind(reach: Reach, row: &[char]) -> bool
 /// Reads a row from a column on, at its start or behind a lexeme that began above.
 fn read_on<A: Allocator + Copy>(
     alloc: A,
-    surroundings: &mut Surroundings<A>,
+    surroundings: &mut Surroundings<'_, A>,
     line: u32,
     skip: usize,
     fresh: bool,
@@ -169,7 +169,7 @@ fn read_on<A: Allocator + Copy>(
 /// Reads a row that begins inside no lexeme.
 fn fresh_row<A: Allocator + Copy>(
     alloc: A,
-    surroundings: &mut Surroundings<A>,
+    surroundings: &mut Surroundings<'_, A>,
     line: u32,
     row: &[char],
 ) -> Result<(Step<A>, Resting<A>), AllocError>
@@ -226,7 +226,7 @@ fn scalar_failed(ago: u32, fault: ScalarFault, place: Place) -> Failed
 /// Reads a row that begins inside a scalar, or directly behind it.
 fn within_row<A: Allocator + Copy>(
     alloc: A,
-    surroundings: &mut Surroundings<A>,
+    surroundings: &mut Surroundings<'_, A>,
     line: u32,
     begun: u32,
     scalar: Open<A>,
@@ -301,7 +301,7 @@ fn halted_row<A: Allocator + Copy>(alloc: A, reach: Reach, row: &[char]) -> (Ste
 /// Reads a row.
 pub fn fed_row<A: Allocator + Copy>(
     alloc: A,
-    surroundings: &mut Surroundings<A>,
+    surroundings: &mut Surroundings<'_, A>,
     line: u32,
     resting: Resting<A>,
     row: &[char],

@@ -18,9 +18,9 @@ use yl_text::{Row, characters};
 
 /// A scanner. It is fed a text's rows from the first on, and tells what each row tells.
 #[derive(Drop)]
-pub struct Scanner<A: Allocator + Copy> {
+pub struct Scanner<'a, A: Allocator + Copy> {
     alloc: A,
-    surroundings: Surroundings<A>,
+    surroundings: Surroundings<'a, A>,
     /// The characters of the row.
     characters: Vec<char, A>,
     resting: Resting<A>,
@@ -30,7 +30,7 @@ pub struct Scanner<A: Allocator + Copy> {
     refused: bool,
 }
 
-impl<A: Allocator + Copy> Model for Scanner<A> {
+impl<'a, A: Allocator + Copy> Model for Scanner<'a, A> {
     ghost use Rattle.std.specs.Prelude.{◌==◌};
     ghost use Rattle.yl_lexeme.specs.Known.{new_row};
     ghost use Rattle.yl_lexeme.specs.Surroundings.{known};
@@ -43,15 +43,15 @@ impl<A: Allocator + Copy> Model for Scanner<A> {
     ghost invariant = { λ s. IsInStep s.line s.resting };
 }
 
-impl<A: Allocator + Copy> Scanner<A> {
+impl<'a, A: Allocator + Copy> Scanner<'a, A> {
     /// A scanner at a text's start.
-    pub fn start(alloc: A) -> Scanner<A>
+    pub fn start(alloc: &'a A) -> Scanner<'a, A>
         ensures { result ≡ record { line = 0; stand = Fresh true nothing_known; refused = false } }
     {
         Scanner {
-            alloc,
+            alloc: *alloc,
             surroundings: Surroundings::new(alloc),
-            characters: Vec::new(alloc),
+            characters: Vec::new(*alloc),
             resting: Resting::Between,
             line: 0,
             refused: false,
@@ -147,9 +147,9 @@ impl<A: Allocator + Copy> Scanner<A> {
 
     /// What the text's end tells.
     pub fn finish(self) -> Result<Step<A>, AllocError>
-        ensures told { IfOk result (λ step. left self.line self.stand [] ≡ at_end (told_of self.line step)) }
-        ensures in_text { IfOk result (λ step. BeginsInText self.line step) }
-        ensures stays { self.refused ≡ true → IsErr result }
+        ensures told { IfOk result (λ step. left self.entry.line self.entry.stand [] ≡ at_end (told_of self.entry.line step)) }
+        ensures in_text { IfOk result (λ step. BeginsInText self.entry.line step) }
+        ensures stays { self.entry.refused ≡ true → IsErr result }
     {
         if self.refused {
             return Err(AllocError);

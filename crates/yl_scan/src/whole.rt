@@ -159,7 +159,7 @@ pub fn scan<A: Allocator + Copy>(
     ensures told { IfOk result (λ scanned. out_of scanned ≡ told 0 (entries (characters_of rows.now))) }
     ensures meter { OnOk result (meter.new ≡ record { lines = meter.old.lines + length rows.now; documents = meter.old.documents }) }
 {
-    let mut scanner = Scanner::start(alloc);
+    let mut scanner = Scanner::start(&alloc);
     let mut scanned = Scanned::empty(alloc);
     for row in rows {
         let line = scanner.line();

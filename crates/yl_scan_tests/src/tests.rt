@@ -64,7 +64,7 @@ fn fault_of(alloc: Global, text: &str) -> Result<Option<FaultAt>, TextFault> {
 /// Feeds a row.
 fn fed<A: Allocator + Copy>(
     global: Global,
-    scanner: &mut Scanner<A>,
+    scanner: &mut Scanner<'_, A>,
     row: &Row<A>,
     meter: &mut Meter,
 ) -> Result<Step<A>, AllocError> {

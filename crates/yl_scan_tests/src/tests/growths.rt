@@ -43,7 +43,7 @@ fn is_refused<'a>(
     heap: Heap<'a>,
     rows: &[Row<Heap<'a>>],
 ) -> Result<bool, AllocError> {
-    let mut scanner = Scanner::start(heap);
+    let mut scanner = Scanner::start(&heap);
     let mut meter = Meter::new();
     let mut is_refused = false;
     for row in rows {

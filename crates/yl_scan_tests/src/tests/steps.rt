@@ -9,7 +9,7 @@ use yl_text::{Row, split};
 /// For each lexeme that ends below its first row: how many rows were fed before the row that shows its end, and how many rows
 /// above that row it began. Behind the last row the text's end shows it.
 fn ends(alloc: Global, rows: &[Row<Global>]) -> Result<Vec<(u32, u32)>, AllocError> {
-    let mut scanner = Scanner::start(alloc);
+    let mut scanner = Scanner::start(&alloc);
     let mut meter = Meter::new();
     let mut ends = Vec::new(alloc);
     for row in rows {
@@ -48,7 +48,7 @@ fn how_many_rows_ago_a_lexeme_began(rt: HostRuntime) -> Result<(), Fail> {
 fn what_a_scanner_shows_between_rows(rt: HostRuntime) -> Result<(), Fail> {
     let alloc = rt.alloc();
     let rows = split(alloc, b"a: [\n  1,\n  2]\n]\n")?;
-    let mut scanner = Scanner::start(alloc);
+    let mut scanner = Scanner::start(&alloc);
     let mut meter = Meter::new();
     let no_levels: [u32; 0] = [];
     assert_eq!(rt; scanner.levels(), no_levels.as_slice());
@@ -68,7 +68,7 @@ fn what_a_scanner_shows_between_rows(rt: HostRuntime) -> Result<(), Fail> {
 fn rows_behind_a_fault(rt: HostRuntime) -> Result<(), Fail> {
     let alloc = rt.alloc();
     let rows = split(alloc, b"]\na: 1 # c\n\nb\n")?;
-    let mut scanner = Scanner::start(alloc);
+    let mut scanner = Scanner::start(&alloc);
     let mut meter = Meter::new();
     for row in &rows {
         let line = scanner.line();
