@@ -4,14 +4,16 @@ use std::alloc::Allocator;
 use yl_lexeme::{Comment, Lexeme};
 use yl_row::Faulted;
 
-/// A lexeme that began so many rows before the row that was fed last, at least one.
+/// A lexeme that began so many rows above the row that tells it, at least one. What the text's end tells counts from behind the
+/// last row.
 #[derive(Drop)]
 pub struct Ended<A: Allocator> {
     pub ago: u32,
     pub lexeme: Lexeme<A>,
 }
 
-/// A fault in a lexeme that began so many rows before the row that was fed last; 0 is that row.
+/// A fault in a lexeme that began so many rows above the row that tells it; 0 is that row. What the text's end tells counts from
+/// behind the last row.
 #[derive(Clone, Copy, Debug, PartialEq, Eq)]
 pub struct Failed {
     pub ago: u32,

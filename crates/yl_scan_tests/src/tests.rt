@@ -1,153 +1,110 @@
-use refusing::Refusing;
-use std::alloc::{AllocError, Allocator, Global};
-use std::test::Fail;
-use yl_lexeme::{Kind, Lexeme, Style, Surroundings};
-use yl_row::{End, Faulted, ScanFault, first_tab, read_row};
+mod faults;
+mod growths;
+mod large;
+mod steps;
+mod texts;
 
-/// What a text of one row holds.
-fn read<A: Allocator + Copy>(
-    alloc: A,
-    text: &str,
-) -> Result<(Vec<Lexeme<A>, A>, End<A>), AllocError> {
-    let mut row = Vec::new(alloc);
-    for c in text.chars() {
-        row.push(c)?;
+ghost use Rattle.std.specs.Prelude.{◌<◌, ◌^◌, All, IfOk, IsTrue, length};
+ghost use Rattle.std.specs.Str.{chars};
+
+use std::alloc::{AllocError, Allocator, Global};
+use yl_lexeme::{Lexeme, Meter};
+use yl_scan::{FaultAt, Scanned, Scanner, Step, scan};
+use yl_text::{Row, TextFault, characters, split};
+
+/// More rows, and more characters of a row, than a test has.
+const MANY: usize = 2_000_000;
+
+/// Whether a row is short enough for a scanner.
+fn is_short<A: Allocator>(global: Global, row: &Row<A>) -> Result<bool, AllocError>
+    ensures { IfOk result (λ short. IsTrue short → length (chars row.now.text) < 2 ^ 31) }
+{
+    let mut buffer = Vec::new(global);
+    characters(row, &mut buffer)?;
+    Ok(buffer.len() < MANY)
+}
+
+/// Whether each row is short enough for a scanner.
+fn are_short<A: Allocator>(global: Global, rows: &[Row<A>]) -> Result<bool, AllocError>
+    ensures { IfOk result (λ short. IsTrue short → All (λ row. length (chars row.text) < 2 ^ 31) rows.now) }
+{
+    for row in rows {
+        if !is_short(global, row)? {
+            return Ok(false);
+        }
     }
-    if row.len() > 2_000_000 {
+    Ok(true)
+}
+
+/// What a text of these rows holds.
+fn scan_rows<A: Allocator + Copy>(
+    global: Global,
+    alloc: A,
+    rows: &[Row<A>],
+    meter: &mut Meter,
+) -> Result<Scanned<A>, AllocError> {
+    if meter.lines != 0 || rows.len() > MANY || !are_short(global, rows)? {
         return Err(AllocError);
     }
-    let mut surroundings = Surroundings::new(&alloc);
-    let mut lexemes = Vec::new(alloc);
-    let tab = first_tab(&row);
-    let end = read_row(alloc, &mut surroundings, &mut lexemes, tab, 0, true, &row)?;
-    Ok((lexemes, end))
+    scan(alloc, rows, meter)
 }
 
-/// The kinds of a row's lexemes with the columns where they begin and end.
-fn lexemes(alloc: Global, text: &str) -> Result<Vec<(Kind, u32, u32)>, AllocError> {
-    let (lexemes, _) = read(alloc, text)?;
-    let mut seen = Vec::new(alloc);
-    for x in &lexemes {
-        seen.push((x.kind(), x.start().col, x.end().col))?;
+/// What a text holds.
+fn scanned(alloc: Global, text: &str) -> Result<Scanned<Global>, TextFault> {
+    let rows = split(alloc, text.as_bytes())?;
+    let mut meter = Meter::new();
+    scan_rows(alloc, alloc, &rows, &mut meter).map_err(|_| TextFault::Memory)
+}
+
+/// The scan fault of a text.
+fn fault_of(alloc: Global, text: &str) -> Result<Option<FaultAt>, TextFault> {
+    Ok(scanned(alloc, text)?.fault)
+}
+
+/// Feeds a row.
+fn fed<A: Allocator + Copy>(
+    global: Global,
+    scanner: &mut Scanner<'_, A>,
+    row: &Row<A>,
+    meter: &mut Meter,
+) -> Result<Step<A>, AllocError> {
+    if scanner.line() as usize > MANY || meter.lines as usize > MANY || !is_short(global, row)? {
+        return Err(AllocError);
     }
-    Ok(seen)
+    scanner.feed(row, meter)
 }
 
-/// The fault that a row stops at.
-fn fault(alloc: Global, text: &str) -> Result<Option<Faulted>, AllocError> {
-    let (_, end) = read(alloc, text)?;
-    match end {
-        End::Stops(fault) => Ok(Some(fault)),
-        _ => Ok(None),
+/// A lexeme that begins at this line: its kind, its start, its end, and its value if it has one.
+fn show_lexeme<A: Allocator>(
+    alloc: Global,
+    shown: &mut String<Global>,
+    line: u32,
+    lexeme: &Lexeme<A>,
+) -> Result<(), AllocError> {
+    let kind = lexeme.kind();
+    let start = lexeme.start().col;
+    let down = lexeme.end().line;
+    let end = lexeme.end().col;
+    let value = lexeme.value();
+    let text = format!(in alloc; "{kind:?} {line}:{start} +{down}:{end} {value}\n")?;
+    shown.push_str(text.as_str())
+}
+
+/// The lexemes of a text, a line each, and then its comments.
+fn shown<A: Allocator + Copy>(
+    alloc: Global,
+    scanned: &Scanned<A>,
+) -> Result<String<Global>, AllocError> {
+    let mut text = String::new(alloc);
+    for at in &scanned.lexemes {
+        show_lexeme(alloc, &mut text, at.line, &at.lexeme)?;
     }
-}
-
-#[test]
-fn a_flow_mapping(rt: HostRuntime) -> Result<(), Fail> {
-    let seen = lexemes(rt.alloc(), "{\"a\":1, b: 2}")?;
-    let plain = Kind::Scalar(Style::Plain);
-    let double = Kind::Scalar(Style::Double);
-    assert_eq!(rt;
-        seen.as_slice(),
-        [
-            (Kind::MapOpen, 0, 1),
-            (double, 1, 4),
-            (Kind::Value, 4, 5),
-            (plain, 5, 6),
-            (Kind::Comma, 6, 7),
-            (plain, 8, 9),
-            (Kind::Value, 9, 10),
-            (plain, 11, 12),
-            (Kind::MapClose, 12, 13),
-        ]
-        .as_slice()
-    );
-    Ok(())
-}
-
-#[test]
-fn an_alias_takes_the_colon(rt: HostRuntime) -> Result<(), Fail> {
-    let (lexemes, end) = read(rt.alloc(), "*a: 1")?;
-    assert_eq!(rt; lexemes.len(), 1);
-    assert_eq!(rt; lexemes[0].value(), "a:");
-    assert!(rt; matches!(end, End::Opens(_)));
-    Ok(())
-}
-
-#[test]
-fn a_value_of_a_quoted_scalar(rt: HostRuntime) -> Result<(), Fail> {
-    let (lexemes, _) = read(rt.alloc(), "'it''s' # c")?;
-    assert_eq!(rt; lexemes.len(), 1);
-    assert_eq!(rt; lexemes[0].value(), "it's");
-    Ok(())
-}
-
-#[test]
-fn faults_and_their_places(rt: HostRuntime) -> Result<(), Fail> {
-    let at = |fault, column| Some(Faulted {
-        fault,
-        down: 0,
-        column,
-    });
-    assert_eq!(rt;
-        fault(rt.alloc(), "--- a: 1")?,
-        at(ScanFault::ValueNotAllowed, 5)
-    );
-    assert_eq!(rt;
-        fault(rt.alloc(), "\tb: 1")?,
-        at(ScanFault::TabInIndentation, 0)
-    );
-    assert_eq!(rt;
-        fault(rt.alloc(), "\"\\ud800\"")?,
-        at(ScanFault::BadEscape, 1)
-    );
-    assert_eq!(rt;
-        fault(rt.alloc(), "]")?,
-        at(ScanFault::BracketWithoutPartner, 0)
-    );
-    assert_eq!(rt;
-        fault(rt.alloc(), "a: [b]#c")?,
-        at(ScanFault::NotAllowed, 6)
-    );
-    Ok(())
-}
-
-#[test]
-fn many_open_brackets(rt: HostRuntime) -> Result<(), Fail> {
-    let mut text = String::new(rt.alloc());
-    for _i in 0..100_000 {
-        text.push('[')?;
+    for at in &scanned.comments {
+        let line = at.line;
+        let col = at.comment.col();
+        let comment = at.comment.text();
+        let one = format!(in alloc; "Comment {line}:{col} {comment}\n")?;
+        text.push_str(one.as_str())?;
     }
-    let (lexemes, _) = read(rt.alloc(), &text)?;
-    assert_eq!(rt; lexemes.len(), 100_000);
-    Ok(())
-}
-
-#[test]
-fn a_row_of_a_mebibyte(rt: HostRuntime) -> Result<(), Fail> {
-    let mut text = String::new(rt.alloc());
-    text.push('[')?;
-    for _i in 0..262_144 {
-        text.push_str("aa, ")?;
-    }
-    let (lexemes, _) = read(rt.alloc(), &text)?;
-    assert_eq!(rt; lexemes.len(), 524_289);
-    Ok(())
-}
-
-#[test]
-fn each_growth_is_refused(rt: HostRuntime) -> Result<(), Fail> {
-    let heap = Refusing::new(rt.alloc());
-    for n in 1..u64::MAX {
-        heap.refuse(n);
-        let answer = read(&heap, "- {\"a\": &b c, d: [e]} # f");
-        if heap.is_armed() {
-            heap.refuse(0);
-            assert!(rt; answer.is_ok());
-            assert!(rt; n > 5, "{n} growths");
-            return Ok(());
-        }
-        assert!(rt; answer.is_err(), "the {n}th growth");
-    }
-    Ok(())
+    Ok(text)
 }
