@@ -20,7 +20,7 @@ use Rattle.yl_scan.specs.Mode.{Mode, InPlain, InQuoted, InBlock, by, mode_step, 
 use Rattle.yl_scan.proofs.Wholes.{PlainEnds, QuotedEnds, BlockEnds, behind, behind_content, plain_ends_at, quoted_ends_at, block_ends_at}
 use Rattle.yl_scan.proofs.Modes.{read_alike}
 
-abbrev ModeEnds : Mode → Reading → Type 0
+abbrev pub ModeEnds : Mode → Reading → Type 0
 ModeEnds (InPlain s) r = PlainEnds s r
 ModeEnds (InQuoted s) r = QuotedEnds s r
 ModeEnds (InBlock s) r = BlockEnds s r

@@ -4,9 +4,9 @@ use Rattle.std.specs.Prelude.{is_some}
 use Rattle.yl_text.specs.Character.{is_white, is_blank}
 use Rattle.yl_scan.specs.Step.{first_tab}
 use Rattle.yl_lexeme.specs.Known.{Known, around, new_row}
-use Rattle.yl_scan.specs.Entries.{State, Stopped, state_of, Reading, goes_down, below, entry_of, sound_state, stopped_rows}
+use Rattle.yl_scan.specs.Entries.{Stopped, state_of, goes_down, sound_state, stopped_rows}
 use Rattle.yl_scan.specs.Run.{read, run}
-use Rattle.yl_scan.specs.Left.{Out, given, told, entry_told, silent}
+use Rattle.yl_scan.specs.Left.{Out, given, told, row_told, silent}
 
 -- ---- where nothing but white space follows, a row is at its end
 
@@ -34,21 +34,17 @@ any_column column other start k [] = refl
 any_column column other start k (row ∷ rows) = refl
 
 module _ (line : ℕ) (row : List ℕ) (rows : List (List ℕ)) where
-  -- a row that was read so, whose start is this or not sound
-  abbrev pub row_told : Option State → Reading Known → Out
-  row_told state r = given line (entry_told line (entry_of state r)) (told (line + 1) (below (λ down column k. run false down column k rows) rows r r.fault))
-
   abbrev quiet : Bool → Known → Out
   quiet sound k = given line (record { above = None; lexemes = []; comment = None; sound = sound; fault = None }) (told (line + 1) (run false 0 0 k rows))
 
   blank_told : (k : Known) → new_row k ≡ k → is_blank row ≡ true → told line (run false 0 0 k (row ∷ rows)) ≡ quiet false k
   blank_told k e h =
-      ap (row_told (sound_state false row (around k))) (over rows (first_tab false row) 0 true true 0 k row h)
+      ap (row_told line rows (sound_state false row (around k))) (over rows (first_tab false row) 0 true true 0 k row h)
       ∙ ap (λ k'. quiet (is_some (sound_state false row (around k))) k') e
       ∙ ap (λ b. quiet (is_some (cond (not b) (Some (state_of (around k))) None)) k) h
 
   rest_told : (column : ℕ) (k : Known) → new_row k ≡ k → is_blank (drop column row) ≡ true → told line (run false 1 column k (row ∷ rows)) ≡ quiet false k
-  rest_told column k e h = ap (row_told None) (over rows (first_tab true row) column false false 0 k row h) ∙ ap (quiet false) e
+  rest_told column k e h = ap (row_told line rows None) (over rows (first_tab true row) column false false 0 k row h) ∙ ap (quiet false) e
 
   -- a scalar goes on: so many rows further down the reading goes on, behind a column
   pub goes_on : (down column : ℕ) (k : Known) → new_row k ≡ k

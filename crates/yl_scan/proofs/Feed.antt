@@ -18,8 +18,8 @@ use Rattle.yl_lexeme.specs.Known.{nothing_known}
 use Rattle.yl_scan.specs.Entries.{State, Reading, lexeme_of, stopped_rows, kept, ends_by, goes_down, failed, with_lexeme, chosen, after_lexeme}
 use Rattle.yl_scan.specs.Rows.{gave, comment_end}
 use Rattle.yl_scan.specs.Run.{run}
-use Rattle.yl_scan.specs.Left.{Out, Told, silent, given, told, at_line, fault_in, Fresh, Within, Halted, ended_above, failed_above, rows_to, whole, left}
-use Rattle.yl_scan.proofs.Fed.{row_told, any_column, goes_on, reach_goes_on}
+use Rattle.yl_scan.specs.Left.{Out, Told, silent, given, told, at_line, fault_in, row_told, Fresh, Within, Halted, ended_above, failed_above, rows_to, whole, left}
+use Rattle.yl_scan.proofs.Fed.{any_column, goes_on, reach_goes_on}
 use Rattle.yl_scan.proofs.Carry.{Carries, Facts, mode_ends_at, facts}
 
 -- what is still told of a scalar whose whole reading this is
@@ -90,11 +90,11 @@ abbrev pub row_told_of : ℕ → List LexemeValue → Option CommentValue → Bo
 row_told_of line xs comment sound fault = record { above = None; lexemes = kept fault xs; comment = comment; sound = sound; fault = fault_in line fault }
 
 module _ (line : ℕ) (row : List ℕ) (rows : List (List ℕ)) (state : Option State) (xs : List LexemeValue) where
-  pub read_told : (k : Known) (c : Option CommentValue) → row_told line row rows state (gave xs (comment_end k c)) ≡ given line (row_told_of line xs c (is_some state) None) (left (line + 1) (Fresh false (new_row k)) rows)
+  pub read_told : (k : Known) (c : Option CommentValue) → row_told line rows state (gave xs (comment_end k c)) ≡ given line (row_told_of line xs c (is_some state) None) (left (line + 1) (Fresh false (new_row k)) rows)
   read_told k None = ap (λ ys. given line (record { above = None; lexemes = ys; comment = None; sound = is_some state; fault = None }) (told (line + 1) (run false 0 0 (new_row k) rows))) (append-nil xs)
   read_told k (Some c) = ap (λ ys. given line (record { above = None; lexemes = ys; comment = Some c; sound = is_some state; fault = None }) (told (line + 1) (run false 0 0 (new_row k) rows))) (append-nil xs)
 
-  pub stop_told : (f : Faulted) → row_told line row rows state (gave xs (failed f nothing_known)) ≡ given line (row_told_of line xs None (is_some state) (Some f)) (left (line + 1) (Halted (is_unclosed f.fault) f.down) rows)
+  pub stop_told : (f : Faulted) → row_told line rows state (gave xs (failed f nothing_known)) ≡ given line (row_told_of line xs None (is_some state) (Some f)) (left (line + 1) (Halted (is_unclosed f.fault) f.down) rows)
   stop_told f = ap (λ ys. given line (record { above = None; lexemes = kept (Some f) ys; comment = None; sound = is_some state; fault = Some (line, f) }) (told (line + 1) (stopped_rows (is_unclosed f.fault) f.down rows))) (append-nil xs)
 
   -- a scalar that may go on; what its row holds behind it is nothing
@@ -114,15 +114,15 @@ module _ (line : ℕ) (row : List ℕ) (rows : List (List ℕ)) (state : Option 
     moved x o = ap (λ (ls : List (ℕ × LexemeValue)). let out : Out = record { lexemes = ls; comments = o.comments; sound = is_some state ∷ o.sound; fault = o.fault } in out) (move_lexeme x xs o.lexemes)
 
     lands : (e : Extent) (d : ℕ) → (d ≡ 0 → more (e.column - at - 1) ≡ goes_down 0 0 (new_row k))
-        → row_told line row rows state (gave xs (with_lexeme (lexeme_of at (scalar_found style at (Whole e))) (after_lexeme at (scalar_found style at (Whole e)) (new_row k) more d)))
+        → row_told line rows state (gave xs (with_lexeme (lexeme_of at (scalar_found style at (Whole e))) (after_lexeme at (scalar_found style at (Whole e)) (new_row k) more d)))
         ≡ with_last (lexeme_of at (scalar_found style at (Whole e))) (told (line + 1) (run false d e.column (new_row k) rows))
     lands e zero h =
-        ap (λ r. row_told line row rows state (gave xs (with_lexeme (lexeme_of at (scalar_found style at (Whole e))) r))) (h refl)
+        ap (λ r. row_told line rows state (gave xs (with_lexeme (lexeme_of at (scalar_found style at (Whole e))) r))) (h refl)
         ∙ ap (λ es. with_last (lexeme_of at (scalar_found style at (Whole e))) (told (line + 1) es)) (any_column 0 e.column false (new_row k) rows)
     lands e (suc d) h = refl
 
     pub opens_told : (r : ScalarReading) → ((e : Extent) → r ≡ Whole e → e.down ≡ 0 → more (e.column - at - 1) ≡ goes_down 0 0 (new_row k))
-        → row_told line row rows state (gave xs (let f = scalar_found style at r in chosen (lexeme_of at f) nothing_known (after_lexeme at f (new_row k) more f.down) f.fault))
+        → row_told line rows state (gave xs (let f = scalar_found style at r in chosen (lexeme_of at f) nothing_known (after_lexeme at f (new_row k) more f.down) f.fault))
         ≡ given line (row_told_of line xs None (is_some state) None) (reading_left (line + 1) line style at (new_row k) r rows)
     opens_told (Whole e) rest =
         lands e e.down (λ z. rest e refl z)

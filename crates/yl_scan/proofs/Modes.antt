@@ -76,7 +76,7 @@ without_end_len (x ∷ xs) = by_case (is_blank (x ∷ xs)) (without_end_len xs)
     by_case true h = omega arith
     by_case false h = omega arith
 
-part_len : (flow bs : Bool) (text : List ℕ) → length (part flow bs text) ≤ length text
+pub part_len : (flow bs : Bool) (text : List ℕ) → length (part flow bs text) ≤ length text
 part_len flow bs text = omega (arith, without_end_len (take (stop flow bs text) text), length-take (stop flow bs text) text)
 
 pub plain_ends : (flow : Bool) (least at : ℕ) (text : List ℕ) → at + length text < 2 ^ 31 → EndsHere (plain_begin flow least at text)
@@ -87,7 +87,7 @@ plain_ends flow least at text lt =
 
 -- ---- what a line has of a quoted scalar ends in it
 
-abbrev ClosesBy : ℕ → Stretch → Type 0
+abbrev pub ClosesBy : ℕ → Stretch → Type 0
 ClosesBy n (Closes text place) = place ≤ n
 ClosesBy n (Breaks text backslash) = Unit {0}
 ClosesBy n (Faulty fault place) = Unit {0}
@@ -105,7 +105,7 @@ escape_closes : (n place : ℕ) (e : Option (ℕ × ℕ)) (more : ℕ → ℕ �
 escape_closes n place None more h = tt
 escape_closes n place (Some e) more h = h e.0 (e.1 + 1)
 
-stretch_closes : (double : Bool) (skip : ℕ) (text : List ℕ) (kept at : ℕ) (cs : List ℕ) → ClosesBy (at + length cs) (stretch double skip text kept at cs)
+pub stretch_closes : (double : Bool) (skip : ℕ) (text : List ℕ) (kept at : ℕ) (cs : List ℕ) → ClosesBy (at + length cs) (stretch double skip text kept at cs)
 stretch_closes double skip text kept at [] = tt
 stretch_closes double skip text kept at (c ∷ cs) =
     let n = at + length (c ∷ cs) in

@@ -1,11 +1,11 @@
--- The row in which a scalar begins that may go on below: behind its end so far it holds nothing but white space.
-use Rattle.std.specs.Prelude.{◌≡◌, ℕ, ◌-◌, Bool, true, List, ◌∷◌, drop}
+-- The row in which a scalar begins that may go on below: it ends there so far, and behind that end the row holds nothing but white space.
+use Rattle.std.specs.Prelude.{◌≡◌, ℕ, ◌+◌, ◌-◌, Bool, true, List, ◌∷◌, drop, length}
 use Rattle.yl_text.specs.Character.{is_blank}
 use Rattle.yl_scalar.specs.Reading.{Stepped, GoesOn, EndsIn, EndedAbove, Fails}
 use Rattle.yl_scalar.specs.PlainSteps.{plain_begin}
 use Rattle.yl_scalar.specs.QuotedSteps.{quoted_begin}
 use Rattle.yl_scalar.specs.Block.{block_begin}
-use Rattle.yl_scan.specs.Mode.{Mode, InPlain, InQuoted, InBlock, by, rows_in, KeepsSpaces}
+use Rattle.yl_scan.specs.Mode.{Mode, InPlain, InQuoted, InBlock, by, rows_in, KeepsSpaces, ColumnBy}
 
 -- the scalar that begins at this column, with this text from there on
 abbrev pub BlankBehind : ℕ → List ℕ → Mode → Type 0
@@ -17,6 +17,7 @@ pub record Rests (at : ℕ) (text : List ℕ) (m : Mode) : Type 0 where
   pub rows : rows_in m ≡ 0
   pub spaces : KeepsSpaces m
   pub blank : BlankBehind at text m
+  pub column : ColumnBy (at + length text) m
 
 abbrev pub BeginsAt : ℕ → List ℕ → Stepped Mode → Type 0
 BeginsAt at text (GoesOn m) = Rests at text m

@@ -7,7 +7,7 @@ use Rattle.yl_scan.specs.Fault.{is_unclosed}
 use Rattle.yl_scan.specs.Step.{Found}
 use Rattle.yl_scan.specs.Mode.{Mode, open_found}
 use Rattle.yl_lexeme.specs.Known.{Known}
-use Rattle.yl_scan.specs.Entries.{Entry, lexeme_of, stopped_rows}
+use Rattle.yl_scan.specs.Entries.{Entry, State, Reading, lexeme_of, below, entry_of, stopped_rows}
 use Rattle.yl_scan.specs.Run.{run}
 
 -- lexemes, comments and the fault with the line of the row in which they begin (a fault's lexeme), and which lines are sound
@@ -60,6 +60,11 @@ entry_told line e = record { above = None; lexemes = e.lexemes; comment = e.comm
 abbrev pub told : ℕ → List Entry → Out
 told line [] = nothing
 told line (e ∷ es) = given line (entry_told line e) (told (line + 1) es)
+
+-- a row at this line that was read so, whose state is this, and what the rows below it tell
+abbrev pub row_told : ℕ → List (List ℕ) → Option State → Reading Known → Out
+row_told line rows state r =
+    given line (entry_told line (entry_of state r)) (told (line + 1) (below (λ down column k. run false down column k rows) rows r r.fault))
 
 -- a row that tells nothing
 abbrev pub silent : Told

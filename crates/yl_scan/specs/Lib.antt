@@ -7,6 +7,7 @@ pub mod Mode
 pub mod Reader
 pub mod Rows
 pub mod Run
+pub mod Scanner
 pub mod Standing
 pub mod Step
 pub mod Try

@@ -46,3 +46,16 @@ abbrev pub KeepsSpaces : Mode → Type 0
 KeepsSpaces (InPlain s) = Unit {0}
 KeepsSpaces (InQuoted s) = Unit {0}
 KeepsSpaces (InBlock s) = length s.spaces ≤ s.down + s.blanks
+
+-- where it ends so far lies in the row that was read last, which is so long; of a quoted scalar no end is known
+abbrev pub ColumnBy : ℕ → Mode → Type 0
+ColumnBy n (InPlain s) = s.column ≤ n
+ColumnBy n (InQuoted s) = Unit {0}
+ColumnBy n (InBlock s) = s.column ≤ n
+
+-- the same of what a row made of it: it stands so, or it has ended
+abbrev pub StepBy : ℕ → Stepped Mode → Type 0
+StepBy n (GoesOn m) = ColumnBy n m
+StepBy n (EndsIn e) = e.column ≤ n
+StepBy n (EndedAbove e) = e.column ≤ n
+StepBy n (Fails fault down column) = Unit {0}

@@ -1,5 +1,5 @@
 -- What the reading of a row and its answers say.
-use Rattle.std.specs.Prelude.{◌≡◌, ℕ, ◌+◌, false, List, ◌++◌, drop, Option, Some, None}
+use Rattle.std.specs.Prelude.{◌≡◌, ◌<◌, ℕ, ◌+◌, false, List, ◌++◌, drop, length, Option, Some, None}
 use Rattle.yl_lexeme.specs.declared.lexeme.Style.{Style}
 use Rattle.yl_scan.specs.declared.row.Next.{Next}
 use Rattle.yl_scan.specs.declared.row.Next.TheVariants.{Skip, Opens, Stops}
@@ -9,6 +9,7 @@ use Rattle.yl_lexeme.specs.Lexeme.{LexemeValue, CommentValue}
 use Rattle.yl_scan.specs.Step.{bad_in}
 use Rattle.yl_scan.specs.Mode.{Mode, open_found}
 use Rattle.yl_scan.specs.Reader.{mode_of}
+use Rattle.yl_scan.specs.Begins.{Rests}
 use Rattle.yl_lexeme.specs.Known.{Known, new_row, nothing_known}
 use Rattle.yl_scan.specs.Entries.{Reading, goes_down, commented, failed, chosen, after_lexeme, lexeme_of, comment_of, comment_or}
 use Rattle.yl_scan.specs.Run.{read}
@@ -42,3 +43,15 @@ ended rows tab row k (EndStops f) = failed f nothing_known
 abbrev pub noted : {A : Type 0} → ℕ → List ℕ → End A → Type 0
 noted at text end = (rows : List (List ℕ)) (tab : Option ℕ) (row : List ℕ) (k : Known) →
     comment_or (comment_of at text) (new_row k) nothing_known (bad_in at text) ≡ ended rows tab row k end
+
+-- a scalar that may go on below begins at this column, with this text from there on: so it stands behind its first row
+abbrev pub NextRests : {A : Type 0} → ℕ → List ℕ → Next A → Type 0
+NextRests at text (Skip n) = Unit {0}
+NextRests at text (Opens style r) = Rests at text (mode_of r)
+NextRests at text (Stops f) = Unit {0}
+
+-- the same of a scalar that a row leaves open: it begins in the row
+abbrev pub EndRests : {A : Type 0} → List ℕ → End A → Type 0
+EndRests row (Read c) = Unit {0}
+EndRests row (EndOpens o) = (o.at < length row) × Rests o.at (drop o.at row) (mode_of o.reader)
+EndRests row (EndStops f) = Unit {0}

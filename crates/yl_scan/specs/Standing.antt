@@ -7,6 +7,7 @@ use Rattle.yl_scan.specs.declared.found.Standing.TheVariants.{Ended, Open}
 use Rattle.yl_scan.specs.Step.{Found, upto}
 use Rattle.yl_scan.specs.Mode.{open_found}
 use Rattle.yl_scan.specs.Reader.{mode_of}
+use Rattle.yl_scan.specs.Begins.{Rests}
 
 abbrev pub found_of : {A : Type 0} → code.Found A → Found
 found_of f = upto f.kind f.column (string_bytes f.value) f.fault
@@ -26,3 +27,8 @@ EndsHere (GoesOn s) = Unit {0}
 EndsHere (EndsIn e) = (e.down ≡ 0) × (e.column < 2 ^ 32)
 EndsHere (EndedAbove e) = (e.down ≡ 0) × (e.column < 2 ^ 32)
 EndsHere (Fails fault down column) = Unit {0}
+
+-- a scalar that may go on below begins at this column, with this text from there on: so it stands behind its first row
+abbrev pub StandingRests : {A : Type 0} → ℕ → List ℕ → Standing A → Type 0
+StandingRests at text (Ended f) = Unit {0}
+StandingRests at text (Open style r) = Rests at text (mode_of r)

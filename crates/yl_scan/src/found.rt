@@ -6,6 +6,7 @@ ghost use Rattle.yl_scalar.specs.Reading.{read, settled};
 ghost use Rattle.yl_scalar.specs.PlainSteps.{plain};
 ghost use Rattle.yl_scalar.specs.QuotedSteps.{quoted};
 ghost use Rattle.yl_scalar.specs.Block.{block};
+ghost use Rattle.yl_scan.specs.Begins.{BeginsAt};
 ghost use Rattle.yl_scan.specs.Fault.{fault_at, when, or_else};
 ghost use Rattle.yl_lexeme.specs.Known.{around};
 ghost use Rattle.yl_lexeme.specs.Past.{near};
@@ -13,7 +14,7 @@ ghost use Rattle.yl_lexeme.specs.Surroundings.{known};
 ghost use Rattle.yl_scan.specs.Mode.{mode_step, mode_finish};
 ghost use Rattle.yl_scan.specs.Reader.{said_by};
 ghost use Rattle.yl_scan.specs.Step.{upto, bad_in, tab_before, in_block, place_fault, behind_end, closes, is_value_at, is_directive_place, is_quoted_or_closing, scalar_found, plain_found, value_found, name_found, tag_found, tag_len, document_at, block_at, flow_at, word_at, scalar_at, found_at};
-ghost use Rattle.yl_scan.specs.Standing.{found_of, standing, found_option, EndsHere};
+ghost use Rattle.yl_scan.specs.Standing.{found_of, standing, found_option, EndsHere, StandingRests};
 
 use crate::fault::{Faulted, ScanFault, of_scalar};
 use crate::reader::Reader;
@@ -248,8 +249,9 @@ fn begun<A: Allocator + Copy>(
 ) -> Result<Standing<A>, AllocError>
     requires fits { at < 2 ^ 31 }
     requires here { EndsHere (said_by line reader) }
-    ensures { IfOk result (λ s. (rows : List (List ℕ)) →
+    ensures found { IfOk result (λ s. (rows : List (List ℕ)) →
         scalar_found style at (settled (λ m. read mode_step mode_finish m rows) (said_by line reader)) ≡ standing at rows s) }
+    ensures rests { IfOk result (λ s. (text : List ℕ) → BeginsAt at text (said_by line reader) → StandingRests at text s) }
 {
     match line {
         Line::GoesOn => Ok(Standing::Open(style, reader)),
@@ -281,7 +283,8 @@ fn quoted_found<A: Allocator + Copy>(
     rest: &[char],
 ) -> Result<Standing<A>, AllocError>
     requires fits { at + length rest.now < 2 ^ 31 }
-    ensures { IfOk result (λ s. (rows : List (List ℕ)) → scalar_found style at (quoted double at rest.now rows) ≡ standing at rows s) }
+    ensures found { IfOk result (λ s. (rows : List (List ℕ)) → scalar_found style at (quoted double at rest.now rows) ≡ standing at rows s) }
+    ensures rests { IfOk result (λ s. (text : List ℕ) → StandingRests at text s) }
 {
     let (reader, line) = Quoted::begin(alloc, double, at, rest)?;
     begun(alloc, style, at, Reader::Quoted(reader), line)
@@ -297,7 +300,8 @@ fn block_found<A: Allocator + Copy>(
 ) -> Result<Standing<A>, AllocError>
     requires fits { at + length rest.now < 2 ^ 31 }
     requires small { least < 2 ^ 63 }
-    ensures { IfOk result (λ s. (rows : List (List ℕ)) → scalar_found style at (block least at rest.now rows) ≡ standing at rows s) }
+    ensures found { IfOk result (λ s. (rows : List (List ℕ)) → scalar_found style at (block least at rest.now rows) ≡ standing at rows s) }
+    ensures rests { IfOk result (λ s. (c : ℕ) → StandingRests at (c ∷ rest.now) s) }
 {
     let (reader, line) = Block::begin(alloc, least, at, rest);
     begun(alloc, style, at, Reader::Block(reader), line)
@@ -315,7 +319,8 @@ fn plain_found<A: Allocator + Copy>(
 ) -> Result<Standing<A>, AllocError>
     requires fits { at + length text.now < 2 ^ 31 }
     requires text { text.now ≡ c ∷ rest.now }
-    ensures { IfOk result (λ s. (rows : List (List ℕ)) → plain_found flow least at c rest.now rows ≡ standing at rows s) }
+    ensures found { IfOk result (λ s. (rows : List (List ℕ)) → plain_found flow least at c rest.now rows ≡ standing at rows s) }
+    ensures rests { IfOk result (λ s. StandingRests at text.now s) }
 {
     if !is_plain_start(flow, c, rest) {
         let fault = when(true, ScanFault::NotAllowed, at);
@@ -336,8 +341,9 @@ fn scalar_at<A: Allocator + Copy>(
 ) -> Result<Standing<A>, AllocError>
     requires fits { at + length text.now < 2 ^ 31 }
     requires text { text.now ≡ c ∷ rest.now }
-    ensures { IfOk result (λ s. (rows : List (List ℕ)) →
+    ensures found { IfOk result (λ s. (rows : List (List ℕ)) →
         scalar_at rows at (around (known surroundings.now)) c rest.now ≡ standing at rows s) }
+    ensures rests { IfOk result (λ s. StandingRests at text.now s) }
 {
     if c == '\'' {
         return quoted_found(alloc, Style::Single, false, at, rest);
@@ -367,8 +373,9 @@ fn word_at<A: Allocator + Copy>(
 ) -> Result<Standing<A>, AllocError>
     requires fits { at + length text.now < 2 ^ 31 }
     requires text { text.now ≡ c ∷ rest.now }
-    ensures { IfOk result (λ s. (rows : List (List ℕ)) →
+    ensures found { IfOk result (λ s. (rows : List (List ℕ)) →
         word_at rows at (around (known surroundings.now)) c rest.now ≡ standing at rows s) }
+    ensures rests { IfOk result (λ s. StandingRests at text.now s) }
 {
     if c == '&' {
         return Ok(Standing::Ended(name_found(alloc, Kind::Anchor, at, rest)?));
@@ -404,8 +411,9 @@ fn flow_at<A: Allocator + Copy>(
 ) -> Result<Standing<A>, AllocError>
     requires fits { at + length text.now < 2 ^ 31 }
     requires text { text.now ≡ c ∷ rest.now }
-    ensures { IfOk result (λ s. (rows : List (List ℕ)) →
+    ensures found { IfOk result (λ s. (rows : List (List ℕ)) →
         flow_at rows at (around (known surroundings.now)) c rest.now ≡ standing at rows s) }
+    ensures rests { IfOk result (λ s. StandingRests at text.now s) }
 {
     if c == '[' {
         return Ok(Standing::Ended(sign(alloc, Kind::SeqOpen, at as u32 + 1, None)));
@@ -479,8 +487,9 @@ fn block_at<A: Allocator + Copy>(
 ) -> Result<Standing<A>, AllocError>
     requires fits { at + length text.now < 2 ^ 31 }
     requires text { text.now ≡ c ∷ rest.now }
-    ensures { IfOk result (λ s. (rows : List (List ℕ)) →
+    ensures found { IfOk result (λ s. (rows : List (List ℕ)) →
         block_at rows tab first at (around (known surroundings.now)) c rest.now ≡ standing at rows s) }
+    ensures rests { IfOk result (λ s. StandingRests at text.now s) }
 {
     let flow = surroundings.in_flow();
     if c == '-' && is_space_next(rest) {
@@ -521,8 +530,9 @@ pub fn found_at<A: Allocator + Copy>(
 ) -> Result<Standing<A>, AllocError>
     requires fits { at + length text.now < 2 ^ 31 }
     requires text { text.now ≡ c ∷ rest.now }
-    ensures { IfOk result (λ s. (rows : List (List ℕ)) →
+    ensures found { IfOk result (λ s. (rows : List (List ℕ)) →
         found_at rows tab first at (around (known surroundings.now)) c rest.now ≡ standing at rows s) }
+    ensures rests { IfOk result (λ s. StandingRests at text.now s) }
 {
     if at == 0
         && let Some(found) = document_at(alloc, surroundings, c, rest, text)?

@@ -4,12 +4,13 @@ ghost use Rattle.std.specs.Prelude.{◌≡◌, ◌≤◌, ◌<◌, ◌+◌, ◌-
 ghost use Rattle.yl_lexeme.specs.Known.{Known, around, reach};
 ghost use Rattle.yl_lexeme.specs.Surroundings.{known};
 ghost use Rattle.yl_scan.specs.Mode.{open_found};
+ghost use Rattle.yl_scan.specs.Begins.{Rests};
 ghost use Rattle.yl_scan.specs.Reader.{mode_of};
 ghost use Rattle.yl_scan.specs.Step.{found_at, place_fault};
 ghost use Rattle.yl_scan.specs.Entries.{Reading, lexeme_of, ends_document};
 ghost use Rattle.yl_scan.specs.Run.{took, read};
 ghost use Rattle.yl_scan.specs.Standing.{found_of};
-ghost use Rattle.yl_scan.specs.Rows.{gave, next, ended, noted};
+ghost use Rattle.yl_scan.specs.Rows.{gave, next, ended, noted, NextRests, EndRests};
 
 use crate::fault::Faulted;
 use crate::found::{Found, Standing, bad_in, found_at, or_else, place_fault};
@@ -83,9 +84,10 @@ fn open_lexeme<A: Allocator + Copy>(
     reader: Reader<A>,
 ) -> Result<Next<A>, AllocError>
     requires { at < 2 ^ 31 }
-    ensures { IfOk result (λ r. (rows : List (List ℕ)) (tab : Option ℕ) (more : ℕ → Known → Reading Known) →
+    ensures read { IfOk result (λ r. (rows : List (List ℕ)) (tab : Option ℕ) (more : ℕ → Known → Reading Known) →
         before ≡ place_fault tab first at (around (known surroundings.old)) →
         took tab first at (known surroundings.old) more (open_found style at (mode_of reader) rows) ≡ next rows at (known surroundings.new) more r) }
+    ensures rests { IfOk result (λ r. (text : List ℕ) → Rests at text (mode_of reader) → NextRests at text r) }
 {
     match before {
         Some(fault) => Ok(Next::Stops(fault)),
@@ -107,10 +109,11 @@ fn ended_lexeme<A: Allocator + Copy>(
     found: Found<A>,
 ) -> Result<Next<A>, AllocError>
     requires { at < 2 ^ 31 }
-    ensures { IfOk result (λ r. (rows : List (List ℕ)) (tab : Option ℕ) (more : ℕ → Known → Reading Known) →
+    ensures read { IfOk result (λ r. (rows : List (List ℕ)) (tab : Option ℕ) (more : ℕ → Known → Reading Known) →
         before ≡ place_fault tab first at (around (known surroundings.old)) →
         gave lexemes.old.items (took tab first at (known surroundings.old) more (found_of found))
         ≡ gave lexemes.new.items (next rows at (known surroundings.new) more r)) }
+    ensures rests { IfOk result (λ r. (text : List ℕ) → NextRests at text r) }
 {
     let kind = found.kind;
     let column = found.column as usize;
@@ -155,10 +158,11 @@ fn lexeme<A: Allocator + Copy>(
 ) -> Result<Next<A>, AllocError>
     requires fits { at + length text.now < 2 ^ 31 }
     requires text { text.now ≡ c ∷ rest.now }
-    ensures { IfOk result (λ r. (rows : List (List ℕ)) (more : ℕ → Known → Reading Known) →
+    ensures read { IfOk result (λ r. (rows : List (List ℕ)) (more : ℕ → Known → Reading Known) →
         gave lexemes.old.items (took tab first at (reach first at (known surroundings.old)) more
         (found_at rows tab first at (around (reach first at (known surroundings.old))) c rest.now))
         ≡ gave lexemes.new.items (next rows at (known surroundings.new) more r)) }
+    ensures rests { IfOk result (λ r. NextRests at text.now r) }
 {
     surroundings.reach(first, at);
     let before = place_fault(surroundings, tab, first, at);
@@ -177,7 +181,8 @@ fn lexeme<A: Allocator + Copy>(
 /// The comment that a row ends with, which begins at this column.
 fn comment<A: Allocator + Copy>(alloc: A, at: usize, text: &[char]) -> Result<End<A>, AllocError>
     requires { at + length text.now < 2 ^ 31 }
-    ensures { IfOk result (λ end. noted at text.now end) }
+    ensures read { IfOk result (λ end. noted at text.now end) }
+    ensures rests { IfOk result (λ end. (row : List ℕ) → EndRests row end) }
 {
     if let Some(fault) = bad_in(at, text) {
         return Ok(End::Stops(fault));
@@ -196,9 +201,10 @@ pub fn read_row<A: Allocator + Copy>(
     row: &[char],
 ) -> Result<End<A>, AllocError>
     requires { length row.now < 2 ^ 31 }
-    ensures { IfOk result (λ end. (rows : List (List ℕ)) →
+    ensures read { IfOk result (λ end. (rows : List (List ℕ)) →
         gave lexemes.old.items (read rows tab skip fresh fresh 0 (known surroundings.old) row.now)
         ≡ gave lexemes.new.items (ended rows tab row.now (known surroundings.new) end)) }
+    ensures rests { IfOk result (λ end. EndRests row.now end) }
 {
     let mut skip = skip;
     let mut behind_space = fresh;

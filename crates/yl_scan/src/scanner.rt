@@ -1,11 +1,17 @@
 //! The scanner, which is fed a text's rows.
 
-ghost use Rattle.std.specs.Prelude.{◌≡◌, ◌<◌, ◌+◌, ◌-◌, ◌^◌, ◌==◌, ◌∷◌, [], true, false, IfOk, OnErr, List, ℕ, length};
+ghost use Rattle.std.specs.Prelude.{◌≡◌, ◌<◌, ◌+◌, ◌-◌, ◌^◌, ◌∷◌, [], true, false, IfOk, OnOk, OnErr, IsErr, List, ℕ, length, reverse};
+ghost use Rattle.std.specs.Option.{ForSome};
+ghost use Rattle.std.specs.Str.{chars};
+ghost use Rattle.yl_lexeme.specs.Known.{nothing_known};
+ghost use Rattle.yl_scan.specs.Left.{Fresh, given, left};
+ghost use Rattle.yl_scan.specs.Scanner.{at_end, is_halted, known_in, told_of};
 
 use crate::feeding::{ended_text, fed_row};
 use crate::resting::Resting;
 use crate::step::Step;
 use std::alloc::{AllocError, Allocator};
+use std::marker::Model;
 use std::mem;
 use yl_lexeme::{Kind, Meter, Surroundings};
 use yl_text::{Row, characters};
@@ -24,9 +30,24 @@ pub struct Scanner<A: Allocator + Copy> {
     refused: bool,
 }
 
+impl<A: Allocator + Copy> Model for Scanner<A> {
+    ghost use Rattle.std.specs.Prelude.{◌==◌};
+    ghost use Rattle.yl_lexeme.specs.Known.{new_row};
+    ghost use Rattle.yl_lexeme.specs.Surroundings.{known};
+    ghost use Rattle.yl_scan.specs.Scanner.{IsInStep, Scanning, stand_of};
+
+    ghost Value = { Scanning };
+
+    ghost view = { λ s. record { line = s.line; stand = stand_of (s.line == 0) (new_row (known s.surroundings)) s.resting; refused = s.refused } };
+
+    ghost invariant = { λ s. IsInStep s.line s.resting };
+}
+
 impl<A: Allocator + Copy> Scanner<A> {
     /// A scanner at a text's start.
-    pub fn start(alloc: A) -> Scanner<A> {
+    pub fn start(alloc: A) -> Scanner<A>
+        ensures { result ≡ record { line = 0; stand = Fresh true nothing_known; refused = false } }
+    {
         Scanner {
             alloc,
             surroundings: Surroundings::new(alloc),
@@ -37,7 +58,15 @@ impl<A: Allocator + Copy> Scanner<A> {
         }
     }
 
-    fn read(&mut self, row: &Row<A>) -> Result<Step<A>, AllocError> {
+    fn read(&mut self, row: &Row<A>) -> Result<Step<A>, AllocError>
+        requires fits { length (chars row.now.text) < 2 ^ 31 }
+        requires few { self.old.line < 2 ^ 32 - 1 }
+        ensures told { IfOk result (λ step. (rows : List (List ℕ)) →
+            left self.old.line self.old.stand (chars row.now.text ∷ rows)
+            ≡ given self.old.line (told_of self.old.line step) (left self.new.line self.new.stand rows)) }
+        ensures line { OnOk result (self.new.line ≡ self.old.line + 1) }
+        ensures refused { self.new.refused ≡ self.old.refused }
+    {
         characters(row, &mut self.characters)?;
         let resting = mem::replace(&mut self.resting, Resting::Between);
         let (step, resting) = fed_row(
@@ -53,7 +82,19 @@ impl<A: Allocator + Copy> Scanner<A> {
     }
 
     /// Reads the next row, and counts it.
-    pub fn feed(&mut self, row: &Row<A>, meter: &mut Meter) -> Result<Step<A>, AllocError> {
+    pub fn feed(&mut self, row: &Row<A>, meter: &mut Meter) -> Result<Step<A>, AllocError>
+        requires fits { length (chars row.now.text) < 2 ^ 31 }
+        requires few { self.old.line < 2 ^ 32 - 1 }
+        requires meter { meter.old.lines < 2 ^ 32 - 1 }
+        ensures told { IfOk result (λ step. (rows : List (List ℕ)) →
+            left self.old.line self.old.stand (chars row.now.text ∷ rows)
+            ≡ given self.old.line (told_of self.old.line step) (left self.new.line self.new.stand rows)) }
+        ensures line { OnOk result (self.new.line ≡ self.old.line + 1) }
+        ensures meter { meter.new ≡ record { lines = meter.old.lines + 1; documents = meter.old.documents } }
+        ensures goes_on { OnOk result (self.new.refused ≡ false) }
+        ensures refused { OnErr result (self.new.refused ≡ true) }
+        ensures stays { self.old.refused ≡ true → IsErr result }
+    {
         meter.lines += 1;
         if self.refused {
             return Err(AllocError);
@@ -65,7 +106,9 @@ impl<A: Allocator + Copy> Scanner<A> {
     }
 
     /// Whether a fault has come before.
-    pub fn is_stopped(&self) -> bool {
+    pub fn is_stopped(&self) -> bool
+        ensures { result ≡ is_halted self.now.stand }
+    {
         match self.resting {
             Resting::Halted(_) => true,
             _ => false,
@@ -73,26 +116,41 @@ impl<A: Allocator + Copy> Scanner<A> {
     }
 
     /// One more than the column of each open block collection, counted from 0 in characters, the outermost first.
-    pub fn levels(&self) -> &[u32] {
+    pub fn levels(&self) -> &[u32]
+        ensures { ForSome (known_in self.now.stand) (λ k. reverse result.now ≡ k.levels) }
+    {
         self.surroundings.levels.as_slice()
     }
 
     /// The open brackets, the outermost first.
-    pub fn brackets(&self) -> &[Kind] {
+    pub fn brackets(&self) -> &[Kind]
+        ensures { ForSome (known_in self.now.stand) (λ k. reverse result.now ≡ k.brackets) }
+    {
         self.surroundings.brackets.as_slice()
     }
 
     /// The kind of the last lexeme.
-    pub fn last(&self) -> Option<Kind> {
+    pub fn last(&self) -> Option<Kind>
+        ensures { ForSome (known_in self.now.stand) (λ k. result ≡ k.last) }
+    {
         self.surroundings.last
     }
 
     /// What the text's end tells.
-    pub fn finish(self) -> Result<Step<A>, AllocError> {
-        let Scanner { alloc, resting, line, refused, .. } = self;
-        if refused {
+    pub fn finish(self) -> Result<Step<A>, AllocError>
+        ensures told { IfOk result (λ step. left self.line self.stand [] ≡ at_end (told_of self.line step)) }
+        ensures stays { self.refused ≡ true → IsErr result }
+    {
+        if self.refused {
             return Err(AllocError);
         }
-        ended_text(alloc, line, resting)
+        let Scanner {
+            alloc,
+            resting,
+            line,
+            ..
+        } = self;
+        let step = ended_text(alloc, line, resting)?;
+        Ok(step)
     }
 }

@@ -1,6 +1,7 @@
 //! What a row tells.
 
-ghost use Rattle.std.specs.Prelude.{◌≡◌, [], Some, None, true, false};
+ghost use Rattle.std.specs.Prelude.{◌≡◌, ℕ, [], None};
+ghost use Rattle.yl_scan.specs.Scanner.{told_of};
 
 use crate::fault::Faulted;
 use std::alloc::Allocator;
@@ -38,6 +39,7 @@ pub struct Step<A: Allocator> {
 impl<A: Allocator> Step<A> {
     /// A row that tells nothing but whether it is sound.
     pub fn silent(alloc: A, is_sound: bool) -> Step<A>
+        ensures { (line : ℕ) → told_of line result ≡ record { above = None; lexemes = []; comment = None; sound = is_sound; fault = None } }
     {
         Step {
             ended: None,

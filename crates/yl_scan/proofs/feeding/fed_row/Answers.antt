@@ -1,0 +1,5 @@
+use Rattle.std.proofs.Common.{◌+◌}
+use Rattle.yl_scan.proofs.feeding.fed_row.Goals as goal
+
+pub returns-in-Halted-clause-in_step : goal.returns-in-Halted-clause-in_step
+returns-in-Halted-clause-in_step g c = c.halted_row.ensures.in_step (c.args.line + 1)
