@@ -6,7 +6,7 @@ use crate::printer::Printer;
 use crate::quoting::print_quoted;
 use std::alloc::Allocator;
 use std::io::Write;
-use yl_events::{Event, EventKind, parse_document};
+use yl_events::{Event, EventKind, Fault, parse_document};
 use yl_lexeme::{At, Lexeme, Meter};
 
 /// A lexeme, and the line of the text in which it begins, counted from 0.
@@ -92,26 +92,28 @@ fn print_event<W: Write>(printer: &mut Printer<W>, event: &Event<'_>) -> Result<
     printer.text("\n")
 }
 
-// The fault of a document, whose parse fault, if it has one, stands at the lexeme of an index or behind all.
-fn document_fault<A: Allocator>(
+// Where a document's parse fault stands. Behind all its lexemes it stands only where no scan fault does.
+fn parse_fault<A: Allocator>(
     document: &[Placed<A>],
-    parse: Option<yl_events::Fault>,
+    fault: Fault,
     behind: Behind,
 ) -> Option<TextFault> {
-    let parse = parse.map(|fault| (fault.kind.text(), document.get(fault.place)));
-    match (parse, behind) {
-        (None, Behind::End(_)) => None,
-        (Some((text, None)), Behind::End(place)) => Some(TextFault { place, text }),
-        (Some((text, Some(at))), Behind::End(_)) => Some(TextFault {
+    let text = fault.kind.text();
+    match (document.get(fault.place), behind) {
+        (Some(at), _) => Some(TextFault {
             place: at.place(),
             text,
         }),
-        (Some((text, Some(at))), Behind::Stop(scan)) if at.place() < scan.place => {
-            Some(TextFault {
-                place: at.place(),
-                text,
-            })
-        }
+        (None, Behind::End(place)) => Some(TextFault { place, text }),
+        (None, Behind::Stop(_)) => None,
+    }
+}
+
+// The earlier one of a document's parse fault and the text's scan fault.
+fn earlier(parse: Option<TextFault>, behind: Behind) -> Option<TextFault> {
+    match (parse, behind) {
+        (_, Behind::End(_)) => parse,
+        (Some(fault), Behind::Stop(scan)) if fault.place < scan.place => Some(fault),
         (_, Behind::Stop(scan)) => Some(scan),
     }
 }
@@ -131,7 +133,11 @@ pub fn print_document<A: Allocator + Copy, W: Write>(
         })?;
     }
     let built = parse_document(alloc, &lexemes, &mut Meter::new())?;
-    if let Some(fault) = document_fault(document, built.fault, behind) {
+    let parse = match built.fault {
+        Some(fault) => parse_fault(document, fault, behind),
+        None => None,
+    };
+    if let Some(fault) = earlier(parse, behind) {
         return print_fault(printer, fault);
     }
     for event in &built.events {

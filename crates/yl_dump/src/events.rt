@@ -1,6 +1,7 @@
 //! The events of a text.
 ghost use Rattle.std.specs.Prelude.{◌≤◌, length};
 ghost use Rattle.yl_text.specs.declared.TheConstants.{MAX_BYTES};
+ghost use Rattle.yl_dump.specs.Fits.{Fits};
 
 use crate::document::{Behind, Placed, print_document};
 use crate::fault::{DumpFault, Place, TextFault, scan_fault};
@@ -64,7 +65,10 @@ fn take_step<A: Allocator + Copy, W: Write>(
     for lexeme in lexemes {
         take_lexeme(alloc, printer, document, Placed { line, lexeme })?;
     }
-    Ok(failed.map(|failed| scan_fault(line, failed)))
+    match failed {
+        Some(failed) => Ok(Some(scan_fault(line, failed))),
+        None => Ok(None),
+    }
 }
 
 // Where a text ends that has these rows.
@@ -83,7 +87,9 @@ fn print_documents<A: Allocator + Copy, W: Write>(
     alloc: A,
     printer: &mut Printer<W>,
     rows: &[Row<A>],
-) -> Result<(), DumpFault> {
+) -> Result<(), DumpFault>
+    requires { Fits rows.now }
+{
     let mut document = Vec::new(alloc);
     let mut scanner = Scanner::start(alloc);
     let mut meter = Meter::new();

@@ -1,6 +1,7 @@
 //! Lexemes and comments.
 ghost use Rattle.std.specs.Prelude.{◌≤◌, length};
 ghost use Rattle.yl_text.specs.declared.TheConstants.{MAX_BYTES};
+ghost use Rattle.yl_dump.specs.Fits.{Fits};
 
 use crate::fault::{DumpFault, Place, scan_fault};
 use crate::names::kind_name;
@@ -11,6 +12,7 @@ use std::alloc::Allocator;
 use std::io::Write;
 use yl_lexeme::{Comment, Lexeme, Meter};
 use yl_scan::{Scanner, Step};
+use yl_text::Row;
 
 // Prints two places, a name and a quoted text.
 fn print_line<W: Write>(
@@ -44,7 +46,13 @@ fn print_lexeme<A: Allocator, W: Write>(
         line: u64::from(line) + u64::from(lexeme.end().line),
         column: u64::from(lexeme.end().col),
     };
-    print_line(printer, start, end, kind_name(lexeme.kind()), lexeme.value())
+    print_line(
+        printer,
+        start,
+        end,
+        kind_name(lexeme.kind()),
+        lexeme.value(),
+    )
 }
 
 // Prints a comment in this line, counted from 0.
@@ -89,6 +97,26 @@ fn print_step<A: Allocator, W: Write>(
     Ok(())
 }
 
+// Prints the lexemes and the comments of a text that has these rows, and its scan fault.
+fn print_lexemes<A: Allocator + Copy, W: Write>(
+    alloc: A,
+    printer: &mut Printer<W>,
+    rows: &[Row<A>],
+) -> Result<(), DumpFault>
+    requires { Fits rows.now }
+{
+    let mut scanner = Scanner::start(alloc);
+    let mut meter = Meter::new();
+    let mut line = 0;
+    for row in rows {
+        let step = scanner.feed(row, &mut meter)?;
+        print_step(printer, line, &step)?;
+        line += 1;
+    }
+    let step = scanner.finish()?;
+    print_step(printer, line, &step)
+}
+
 /// Writes a line for each lexeme and each comment of a text in order, `LINE:COLUMN-LINE:COLUMN KIND "VALUE"`, and behind them
 /// `LINE:COLUMN fault "TEXT"`, if the text has a scan fault.
 pub fn write_lexemes<A: Allocator + Copy, W: Write + Drop>(
@@ -100,15 +128,6 @@ pub fn write_lexemes<A: Allocator + Copy, W: Write + Drop>(
 {
     let rows = rows_of(alloc, text)?;
     let mut printer = Printer::new(out);
-    let mut scanner = Scanner::start(alloc);
-    let mut meter = Meter::new();
-    let mut line = 0;
-    for row in &rows {
-        let step = scanner.feed(row, &mut meter)?;
-        print_step(&mut printer, line, &step)?;
-        line += 1;
-    }
-    let step = scanner.finish()?;
-    print_step(&mut printer, line, &step)?;
+    print_lexemes(alloc, &mut printer, &rows)?;
     printer.flush()
 }

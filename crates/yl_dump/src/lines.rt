@@ -1,6 +1,7 @@
 //! Lines, with what a scanner knows where one begins.
-ghost use Rattle.std.specs.Prelude.{◌≤◌, length};
+ghost use Rattle.std.specs.Prelude.{◌≡◌, ◌≤◌, length, vec_len, IfOk};
 ghost use Rattle.yl_text.specs.declared.TheConstants.{MAX_BYTES};
+ghost use Rattle.yl_dump.specs.Fits.{Fits};
 
 use crate::fault::DumpFault;
 use crate::names::kind_name;
@@ -24,7 +25,10 @@ enum Line {
 
 // What the line is that told this, where a fault came before or not.
 fn line_of<A: Allocator>(was_stopped: bool, step: &Step<A>) -> Line {
-    let fails_above = step.failed.is_some_and(|failed| failed.ago > 0);
+    let fails_above = match step.failed {
+        Some(failed) => failed.ago > 0,
+        None => false,
+    };
     if !step.is_sound {
         Line::NotSound
     } else if was_stopped || fails_above {
@@ -35,7 +39,10 @@ fn line_of<A: Allocator>(was_stopped: bool, step: &Step<A>) -> Line {
 }
 
 // What each line of a text is.
-fn lines_of<A: Allocator + Copy>(alloc: A, rows: &[Row<A>]) -> Result<Vec<Line, A>, DumpFault> {
+fn lines_of<A: Allocator + Copy>(alloc: A, rows: &[Row<A>]) -> Result<Vec<Line, A>, DumpFault>
+    requires { Fits rows.now }
+    ensures { IfOk result (λ lines. vec_len lines ≡ length rows.now) }
+{
     let mut lines = Vec::new(alloc);
     let mut scanner = Scanner::start(alloc);
     let mut meter = Meter::new();
@@ -103,6 +110,24 @@ fn print_line<A: Allocator + Copy, W: Write>(
     printer.text("\n")
 }
 
+// Prints the lines of a text that has these rows.
+fn print_lines<A: Allocator + Copy, W: Write>(
+    alloc: A,
+    printer: &mut Printer<W>,
+    rows: &[Row<A>],
+) -> Result<(), DumpFault>
+    requires { Fits rows.now }
+{
+    let lines = lines_of(alloc, rows)?;
+    let mut scanner = Scanner::start(alloc);
+    let mut meter = Meter::new();
+    for (i, row) in rows.iter().enumerate() {
+        print_line(printer, i as u64 + 1, lines[i], &scanner)?;
+        let _step = scanner.feed(row, &mut meter)?;
+    }
+    Ok(())
+}
+
 /// Writes for each line of a text `LINE sound COLUMNS BRACKETS LAST`, with the columns of the open block collections, the open
 /// brackets and the last lexeme's kind before it, or `LINE stopped`, where a fault has come before, or `LINE not-sound`, where a
 /// lexeme or a fault's reach is in progress or the line is blank. The text is scanned twice, since only a row that was read tells
@@ -115,15 +140,7 @@ pub fn write_lines<A: Allocator + Copy, W: Write + Drop>(
     requires { length text.now ≤ MAX_BYTES }
 {
     let rows = rows_of(alloc, text)?;
-    let lines = lines_of(alloc, &rows)?;
     let mut printer = Printer::new(out);
-    let mut scanner = Scanner::start(alloc);
-    let mut meter = Meter::new();
-    let mut number = 1;
-    for (row, line) in rows.iter().zip(&lines) {
-        print_line(&mut printer, number, *line, &scanner)?;
-        let _step = scanner.feed(row, &mut meter)?;
-        number += 1;
-    }
+    print_lines(alloc, &mut printer, &rows)?;
     printer.flush()
 }

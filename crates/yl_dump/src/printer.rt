@@ -38,7 +38,8 @@ impl<W: Write> Printer<W> {
             return Ok(());
         }
         self.flush()?;
-        if self.waiting.try_extend_from_slice(piece).is_err() && self.out.write_all(piece).is_err()
+        if self.waiting.try_extend_from_slice(piece).is_err()
+            && self.out.write_all(piece).is_err()
         {
             return Err(DumpFault::Write);
         }
