@@ -1,7 +1,7 @@
 #!/usr/bin/env python3
-"""definition_cases.py MODEL FOLDER SEED COUNT MAXLEN: compares the definition `entries` of yl_scan with a reference model.
+"""definition_cases.py MODEL FOLDER SEED COUNT MAXLEN: compares the definition `entries` of yl_row with a reference model.
 
-MODEL is the folder of the model (machine.py, texts.py); FOLDER is the specs/ of a library that stands on yl_scan. It gets files
+MODEL is the folder of the model (machine.py, texts.py); FOLDER is the specs/ of a library that stands on yl_row. It gets files
 of lemmas by `refl`, one a text: that `entries` gives for each row the state, the lexemes, the comment and the fault that the
 model gives. A check of that library then makes the comparison."""
 
@@ -38,12 +38,12 @@ HEAD = """use Rattle.std.specs.Prelude.{ℕ, ◌≡◌, refl, List, [], ◌∷�
 use Rattle.yl_lexeme.specs.declared.lexeme.Style.TheVariants.{Plain, Single, Double, Literal, Folded}
 use Rattle.yl_lexeme.specs.declared.lexeme.Kind.{Kind}
 use Rattle.yl_lexeme.specs.declared.lexeme.Kind.TheVariants.{Directive, DocStart, DocEnd, Entry as EntryKind, Key, Value, Comma, SeqOpen, SeqClose, MapOpen, MapClose, Alias, Anchor, Tag, Scalar}
-use Rattle.yl_scan.specs.declared.fault.Faulted.{Faulted}
-use Rattle.yl_scan.specs.declared.fault.ScanFault.{ScanFault}
-use Rattle.yl_scan.specs.declared.fault.ScanFault.TheVariants as fault
+use Rattle.yl_row.specs.declared.fault.Faulted.{Faulted}
+use Rattle.yl_row.specs.declared.fault.ScanFault.{ScanFault}
+use Rattle.yl_row.specs.declared.fault.ScanFault.TheVariants as fault
 use Rattle.yl_lexeme.specs.Lexeme.{LexemeValue, CommentValue}
-use Rattle.yl_scan.specs.Step.{found_at}
-use Rattle.yl_scan.specs.Entries.{entries, place, Entry, State, Stopped, Stands}
+use Rattle.yl_row.specs.Step.{found_at}
+use Rattle.yl_row.specs.Entries.{entries, place, Entry, State, Stopped, Stands}
 
 abbrev lexeme : Kind → ℕ → ℕ → ℕ → List ℕ → LexemeValue
 lexeme kind at down column value = record { kind = kind; start = place 0 at; end = place down column; value = value }

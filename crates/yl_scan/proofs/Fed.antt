@@ -2,10 +2,10 @@
 use Rattle.std.proofs.Common.{◌≡◌, ℕ, zero, suc, ◌+◌, ◌-◌, ◌≤◌, ◌⊎◌, inl, inr, Bool, true, false, cond, not, ◌&&◌, ◌||◌, List, [], ◌∷◌, drop, Option, Some, None, refl, ap, ◌∙◌, ltb, lt-ltb, arith, sub-one}
 use Rattle.std.specs.Prelude.{is_some}
 use Rattle.yl_text.specs.Character.{is_white, is_blank}
-use Rattle.yl_scan.specs.Step.{first_tab}
+use Rattle.yl_row.specs.Step.{first_tab}
 use Rattle.yl_lexeme.specs.Known.{Known, around, new_row}
-use Rattle.yl_scan.specs.Entries.{Stopped, state_of, goes_down, sound_state, stopped_rows}
-use Rattle.yl_scan.specs.Run.{read, run}
+use Rattle.yl_row.specs.Entries.{Stopped, state_of, goes_down, sound_state, stopped_rows}
+use Rattle.yl_row.specs.Run.{read, run}
 use Rattle.yl_scan.specs.Left.{Out, given, told, row_told, silent}
 
 -- ---- where nothing but white space follows, a row is at its end

@@ -8,19 +8,19 @@ use Rattle.yl_scalar.specs.declared.answer.ScalarFault.{ScalarFault}
 use Rattle.yl_scalar.specs.declared.answer.ScalarFault.TheVariants.{NotAllowed, UnclosedQuote, MarkerInQuote, BadEscape, BadHeader, BadIndentation}
 use Rattle.yl_scalar.specs.Reading.{Extent, Reading as ScalarReading, Whole, Refused, GoesOn, EndsIn, EndedAbove, settled, read}
 use Rattle.yl_lexeme.specs.declared.lexeme.Style.{Style}
-use Rattle.yl_scan.specs.declared.fault.Faulted.{Faulted}
+use Rattle.yl_row.specs.declared.fault.Faulted.{Faulted}
 use Rattle.yl_lexeme.specs.Lexeme.{LexemeValue, CommentValue}
-use Rattle.yl_scan.specs.Fault.{of_scalar, is_unclosed, is_tab}
-use Rattle.yl_scan.specs.Step.{scalar_found}
-use Rattle.yl_scan.specs.Mode.{Mode, mode_step, mode_finish, rows_in, KeepsSpaces}
+use Rattle.yl_row.specs.Fault.{of_scalar, is_unclosed, is_tab}
+use Rattle.yl_row.specs.Step.{scalar_found}
+use Rattle.yl_row.specs.Mode.{Mode, mode_step, mode_finish, rows_in, KeepsSpaces}
 use Rattle.yl_lexeme.specs.Known.{Known, new_row}
 use Rattle.yl_lexeme.specs.Known.{nothing_known}
-use Rattle.yl_scan.specs.Entries.{State, Reading, lexeme_of, stopped_rows, kept, ends_by, goes_down, failed, with_lexeme, chosen, after_lexeme}
-use Rattle.yl_scan.specs.Rows.{gave, comment_end}
-use Rattle.yl_scan.specs.Run.{run}
+use Rattle.yl_row.specs.Entries.{State, Reading, lexeme_of, stopped_rows, kept, ends_by, goes_down, failed, with_lexeme, chosen, after_lexeme}
+use Rattle.yl_row.specs.Rows.{gave, comment_end}
+use Rattle.yl_row.specs.Run.{run}
 use Rattle.yl_scan.specs.Left.{Out, Told, silent, given, told, at_line, fault_in, row_told, Fresh, Within, Halted, ended_above, failed_above, rows_to, whole, left}
 use Rattle.yl_scan.proofs.Fed.{any_column, goes_on, reach_goes_on}
-use Rattle.yl_scan.proofs.Carry.{Carries, Facts, mode_ends_at, facts}
+use Rattle.yl_row.proofs.Carry.{Carries, Facts, mode_ends_at, facts}
 
 -- what is still told of a scalar whose whole reading this is
 abbrev reading_left : ℕ → ℕ → Style → ℕ → Known → ScalarReading → List (List ℕ) → Out

@@ -1,12 +1,3 @@
-pub mod Agree
-pub mod Beginnings
-pub mod Carry
-pub mod Columns
-pub mod Encodes
 pub mod Fed
 pub mod Feed
-pub mod Modes
-pub mod RowSteps
 pub mod Stepping
-pub mod Took
-pub mod Wholes

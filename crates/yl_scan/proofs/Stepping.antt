@@ -6,25 +6,25 @@ use Rattle.yl_text.specs.Character.{is_white, is_blank}
 use Rattle.yl_scalar.specs.declared.answer.ScalarFault.{ScalarFault}
 use Rattle.yl_scalar.specs.Reading.{Extent, Whole, GoesOn, EndsIn, EndedAbove, Fails, settled, read as read_scalar}
 use Rattle.yl_lexeme.specs.declared.lexeme.Style.{Style}
-use Rattle.yl_scan.specs.declared.fault.Faulted.{Faulted}
+use Rattle.yl_row.specs.declared.fault.Faulted.{Faulted}
 use Rattle.yl_lexeme.specs.Lexeme.{LexemeValue}
 use Rattle.yl_lexeme.specs.Known.{Known, new_row}
-use Rattle.yl_scan.specs.Fault.{of_scalar}
-use Rattle.yl_scan.specs.Step.{scalar_found}
+use Rattle.yl_row.specs.Fault.{of_scalar}
+use Rattle.yl_row.specs.Step.{scalar_found}
 use Rattle.yl_scan.specs.declared.step.Ended.{Ended}
 use Rattle.yl_scan.specs.declared.step.Failed.{Failed}
 use Rattle.yl_scan.specs.declared.step.Step.{Step}
 use Rattle.yl_scan.specs.Scanner.{IsUnderWay, told_of, failed_at}
-use Rattle.yl_scan.specs.Mode.{Mode, InPlain, InQuoted, InBlock, mode_step, mode_finish, rows_in, KeepsSpaces, StepBy}
-use Rattle.yl_scan.specs.Begins.{Rests}
-use Rattle.yl_scan.specs.Entries.{State, Stopped, stopped_rows}
-use Rattle.yl_scan.specs.Rows.{gave, opened}
-use Rattle.yl_scan.specs.Run.{read, run}
+use Rattle.yl_row.specs.Mode.{Mode, InPlain, InQuoted, InBlock, mode_step, mode_finish, rows_in, KeepsSpaces, StepBy}
+use Rattle.yl_row.specs.Begins.{Rests}
+use Rattle.yl_row.specs.Entries.{State, Stopped, stopped_rows}
+use Rattle.yl_row.specs.Rows.{gave, opened}
+use Rattle.yl_row.specs.Run.{read, run}
 use Rattle.yl_scan.specs.Left.{Out, Told, given, told, row_told, Within, Halted, ended_above, failed_above, rows_to, whole, left}
 use Rattle.yl_scan.proofs.Fed.{over, any_column}
 use Rattle.yl_scan.proofs.Feed.{row_told_of, opens_told}
-use Rattle.yl_scan.proofs.Columns.{step_by, by_more}
-use Rattle.yl_scan.proofs.Carry.{Facts, ModeEnds, mode_ends_at, facts}
+use Rattle.yl_row.proofs.Columns.{step_by, by_more}
+use Rattle.yl_row.proofs.Carry.{Facts, ModeEnds, mode_ends_at, facts}
 
 -- ---- a row that leaves a scalar open
 

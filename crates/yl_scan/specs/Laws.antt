@@ -1,16 +1,10 @@
--- Laws of the definitions.
-use Rattle.std.specs.Prelude.{◌≡◌, ◌<◌, ℕ, ◌+◌, ◌-◌, true, List, ◌∷◌}
+-- A law of the definitions.
+use Rattle.std.specs.Prelude.{◌≡◌, ◌<◌, ℕ, ◌+◌, ◌-◌, List, ◌∷◌}
 use Rattle.yl_scalar.specs.Reading.{GoesOn}
 use Rattle.yl_lexeme.specs.declared.lexeme.Style.{Style}
-use Rattle.yl_scan.specs.Mode.{Mode, mode_step, rows_in, KeepsSpaces}
+use Rattle.yl_row.specs.Mode.{Mode, mode_step, rows_in, KeepsSpaces}
 use Rattle.yl_scan.specs.Left.{Within, silent, given, left}
-use Rattle.yl_scan.specs.Entries.{entries}
-use Rattle.yl_lexeme.specs.Known.{Known, new_row, nothing_known}
-use Rattle.yl_scan.specs.Run.{run}
-
--- a text's rows, read by looking back over all lexemes before each place, are those that stacks and the row's own unit give
-abbrev pub KeptSuffices : Type 0
-KeptSuffices = (rows : List (List ℕ)) → run true 0 0 nothing_known rows ≡ entries rows
+use Rattle.yl_lexeme.specs.Known.{Known, new_row}
 
 -- a row that a scalar goes through tells nothing, and what the rows below it still tell is what they tell from the scalar as it
 -- stands behind the row: carrying a scalar from row to row gives what reading it whole out of all rows gives

@@ -1,14 +1,14 @@
 -- What the rows from a scanner's state on still tell, and what a step tells of it.
 use Rattle.std.specs.Prelude.{ℕ, Bool, false, List, [], ◌∷◌, ◌++◌, ◌+◌, ◌-◌, map, Option, Some, None, is_some, option_to_list}
 use Rattle.yl_lexeme.specs.declared.lexeme.Style.{Style}
-use Rattle.yl_scan.specs.declared.fault.Faulted.{Faulted}
+use Rattle.yl_row.specs.declared.fault.Faulted.{Faulted}
 use Rattle.yl_lexeme.specs.Lexeme.{LexemeValue, CommentValue}
-use Rattle.yl_scan.specs.Fault.{is_unclosed}
-use Rattle.yl_scan.specs.Step.{Found}
-use Rattle.yl_scan.specs.Mode.{Mode, open_found}
+use Rattle.yl_row.specs.Fault.{is_unclosed}
+use Rattle.yl_row.specs.Step.{Found}
+use Rattle.yl_row.specs.Mode.{Mode, open_found}
 use Rattle.yl_lexeme.specs.Known.{Known}
-use Rattle.yl_scan.specs.Entries.{Entry, State, Reading, lexeme_of, below, entry_of, stopped_rows}
-use Rattle.yl_scan.specs.Run.{run}
+use Rattle.yl_row.specs.Entries.{Entry, State, Reading, lexeme_of, below, entry_of, stopped_rows}
+use Rattle.yl_row.specs.Run.{run}
 
 -- lexemes, comments and the fault with the line of the row in which they begin (a fault's lexeme), and which lines are sound
 pub record Out : Type 0 where

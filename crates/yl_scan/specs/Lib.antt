@@ -1,13 +1,3 @@
-pub mod Begins
-pub mod Entries
-pub mod Fault
 pub mod Laws
 pub mod Left
-pub mod Mode
-pub mod Reader
-pub mod Rows
-pub mod Run
 pub mod Scanner
-pub mod Standing
-pub mod Step
-pub mod Try

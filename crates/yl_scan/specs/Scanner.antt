@@ -8,16 +8,16 @@ use Rattle.yl_scalar.specs.Reading.{Whole}
 use Rattle.yl_lexeme.specs.declared.lexeme.Style.{Style}
 use Rattle.yl_lexeme.specs.Lexeme.{LexemeValue}
 use Rattle.yl_lexeme.specs.Known.{Known}
-use Rattle.yl_scan.specs.declared.fault.Faulted.{Faulted}
+use Rattle.yl_row.specs.declared.fault.Faulted.{Faulted}
 use Rattle.yl_scan.specs.declared.step.Ended.{Ended}
 use Rattle.yl_scan.specs.declared.step.Failed.{Failed}
 use Rattle.yl_scan.specs.declared.step.Step.{Step}
 use Rattle.yl_scan.specs.declared.resting.Resting as code
 use Rattle.yl_scan.specs.declared.resting.Resting.TheVariants.{Between, Within as CodeWithin, Halted as CodeHalted}
-use Rattle.yl_scan.specs.Step.{scalar_found}
-use Rattle.yl_scan.specs.Mode.{Mode, rows_in, KeepsSpaces, ColumnBy}
-use Rattle.yl_scan.specs.Reader.{mode_of}
-use Rattle.yl_scan.specs.Entries.{lexeme_of}
+use Rattle.yl_row.specs.Step.{scalar_found}
+use Rattle.yl_row.specs.Mode.{Mode, rows_in, KeepsSpaces, ColumnBy}
+use Rattle.yl_row.specs.Reader.{mode_of}
+use Rattle.yl_row.specs.Entries.{lexeme_of}
 use Rattle.yl_scan.specs.Left.{Out, Told, Stand, Fresh, Within, Halted}
 
 -- a scanner: how many rows it was fed, where it stands before the next one, and whether it was refused memory

@@ -6,24 +6,21 @@ ghost use Rattle.yl_lexeme.specs.Known.{Known, new_row};
 ghost use Rattle.yl_lexeme.specs.Surroundings.{known};
 ghost use Rattle.yl_scalar.specs.Reading.{GoesOn, Fails};
 ghost use Rattle.yl_text.specs.Character.{is_blank};
-ghost use Rattle.yl_scan.specs.Fault.{is_tab, is_unclosed, of_scalar};
-ghost use Rattle.yl_scan.specs.Step.{first_tab};
-ghost use Rattle.yl_scan.specs.Entries.{State, ends_by, kept, stopped_rows};
-ghost use Rattle.yl_scan.specs.Mode.{mode_finish};
-ghost use Rattle.yl_scan.specs.Reader.{mode_of, value_of};
-ghost use Rattle.yl_scan.specs.Run.{read, run};
-ghost use Rattle.yl_scan.specs.Rows.{EndRests, gave, ended};
+ghost use Rattle.yl_row.specs.Fault.{is_tab, is_unclosed, of_scalar};
+ghost use Rattle.yl_row.specs.Step.{first_tab};
+ghost use Rattle.yl_row.specs.Entries.{State, ends_by, kept, stopped_rows};
+ghost use Rattle.yl_row.specs.Mode.{mode_finish};
+ghost use Rattle.yl_row.specs.Reader.{mode_of, value_of};
+ghost use Rattle.yl_row.specs.Run.{read, run};
+ghost use Rattle.yl_row.specs.Rows.{EndRests, gave, ended};
 ghost use Rattle.yl_scan.specs.Left.{Within, given, left, row_told, told};
 ghost use Rattle.yl_scan.specs.Scanner.{IsInStep, IsUnderWay, at_end, scalar_lexeme, stand_of, told_of};
 
-use crate::fault::{Faulted, ScanFault, of_scalar};
-use crate::reader::Reader;
 use crate::resting::{Reach, Resting};
-use crate::row::{End, Open, read_row};
 use crate::step::{Ended, Failed, Step};
-use crate::word::first_tab;
 use std::alloc::{AllocError, Allocator};
 use yl_lexeme::{Kind, Lexeme, Style, Surroundings};
+use yl_row::{End, Faulted, Open, Reader, ScanFault, first_tab, of_scalar, read_row};
 use yl_scalar::{Line, Outcome, Place, ScalarFault, is_blank};
 use yl_text::Pos;
 
@@ -70,6 +67,19 @@ fn reach_of(fault: Faulted) -> Reach
     Reach {
         to_end: is_unclosed(fault.fault),
         down: fault.down,
+    }
+}
+
+/// A row that tells nothing but whether it is sound.
+fn silent<A: Allocator>(alloc: A, is_sound: bool) -> Step<A>
+    ensures { (line : ℕ) → told_of line result ≡ record { above = None; lexemes = []; comment = None; sound = is_sound; fault = None } }
+{
+    Step {
+        ended: None,
+        lexemes: Vec::new(alloc),
+        comment: None,
+        is_sound,
+        failed: None,
     }
 }
 
@@ -230,7 +240,7 @@ fn within_row<A: Allocator + Copy>(
     match answer {
         Line::GoesOn => {
             let scalar = Open { style, at, reader };
-            Ok((Step::silent(alloc, false), Resting::Within(begun, scalar)))
+            Ok((silent(alloc, false), Resting::Within(begun, scalar)))
         }
         Line::EndsIn(place) => {
             let lexeme = scalar_lexeme(alloc, style, at, &reader, place)?;
@@ -253,7 +263,7 @@ fn within_row<A: Allocator + Copy>(
             Ok((step, resting))
         }
         Line::Fails(fault, place) => {
-            let mut step = Step::silent(alloc, place.down < ago as usize);
+            let mut step = silent(alloc, place.down < ago as usize);
             step.failed = Some(scalar_failed(ago, fault, place));
             Ok((
                 step,
@@ -273,7 +283,7 @@ fn halted_row<A: Allocator + Copy>(alloc: A, reach: Reach, row: &[char]) -> (Ste
         ≡ given line (told_of line result.0) (left (line + 1) (stand_of false k result.1) rows) }
     ensures in_step { (line : ℕ) → IsInStep line result.1 }
 {
-    let step = Step::silent(alloc, is_sound_behind(reach, row));
+    let step = silent(alloc, is_sound_behind(reach, row));
     let reach = Reach {
         to_end: reach.to_end,
         down: reach.down.saturating_sub(1),
@@ -318,7 +328,7 @@ pub fn ended_text<A: Allocator + Copy>(
     requires { IsInStep line resting }
     ensures { IfOk result (λ step. (start : Bool) (k : Known) → left line (stand_of start k resting) [] ≡ at_end (told_of line step)) }
 {
-    let mut step = Step::silent(alloc, false);
+    let mut step = silent(alloc, false);
     if let Resting::Within(begun, scalar) = resting {
         let Open { style, at, reader } = scalar;
         let ago = line - begun;

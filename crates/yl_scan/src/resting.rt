@@ -1,7 +1,7 @@
 //! Where a scanner stands between two rows.
 
-use crate::row::Open;
 use std::alloc::Allocator;
+use yl_row::Open;
 
 /// How far a fault reaches: so many rows further, or to the text's end.
 #[derive(Clone, Copy, Debug, PartialEq, Eq)]

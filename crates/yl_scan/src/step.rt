@@ -1,11 +1,8 @@
 //! What a row tells.
 
-ghost use Rattle.std.specs.Prelude.{◌≡◌, ℕ, [], None};
-ghost use Rattle.yl_scan.specs.Scanner.{told_of};
-
-use crate::fault::Faulted;
 use std::alloc::Allocator;
 use yl_lexeme::{Comment, Lexeme};
+use yl_row::Faulted;
 
 /// A lexeme that began so many rows before the row that was fed last, at least one.
 #[derive(Drop)]
@@ -34,19 +31,4 @@ pub struct Step<A: Allocator> {
     pub is_sound: bool,
     /// The scan fault of the text, if it shows here.
     pub failed: Option<Failed>,
-}
-
-impl<A: Allocator> Step<A> {
-    /// A row that tells nothing but whether it is sound.
-    pub fn silent(alloc: A, is_sound: bool) -> Step<A>
-        ensures { (line : ℕ) → told_of line result ≡ record { above = None; lexemes = []; comment = None; sound = is_sound; fault = None } }
-    {
-        Step {
-            ended: None,
-            lexemes: Vec::new(alloc),
-            comment: None,
-            is_sound,
-            failed: None,
-        }
-    }
 }

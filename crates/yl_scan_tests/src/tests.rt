@@ -2,7 +2,7 @@ use refusing::Refusing;
 use std::alloc::{AllocError, Allocator, Global};
 use std::test::Fail;
 use yl_lexeme::{Kind, Lexeme, Style, Surroundings};
-use yl_scan::{End, Faulted, ScanFault, first_tab, read_row};
+use yl_row::{End, Faulted, ScanFault, first_tab, read_row};
 
 /// What a text of one row holds.
 fn read<A: Allocator + Copy>(

@@ -3,7 +3,7 @@ use Rattle.std.specs.Prelude.{is_some, ◌||◌, ◌==◌, not}
 use Rattle.yl_text.specs.Character.{is_blank}
 use Rattle.yl_lexeme.specs.Known.{around, new_row}
 use Rattle.yl_lexeme.specs.Surroundings.{known}
-use Rattle.yl_scan.specs.Entries.{State, state_of, sound_state}
+use Rattle.yl_row.specs.Entries.{State, state_of, sound_state}
 use Rattle.yl_scan.proofs.feeding.fresh_row.Goals as goal
 
 is_there : (b : Bool) (s : State) → is_some (cond b (Some s) None) ≡ b

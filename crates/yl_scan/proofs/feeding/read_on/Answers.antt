@@ -1,8 +1,8 @@
 use Rattle.std.proofs.Common.{ap, sym, ◌∙◌, not}
 use Rattle.yl_lexeme.specs.Surroundings.{known}
-use Rattle.yl_scan.specs.Step.{first_tab}
-use Rattle.yl_scan.specs.Run.{read}
-use Rattle.yl_scan.specs.Rows.{gave}
+use Rattle.yl_row.specs.Step.{first_tab}
+use Rattle.yl_row.specs.Run.{read}
+use Rattle.yl_row.specs.Rows.{gave}
 use Rattle.yl_scan.specs.Left.{row_told}
 use Rattle.yl_scan.proofs.feeding.read_on.Goals as goal
 

@@ -1,7 +1,7 @@
 use Rattle.std.proofs.Common.{ap, subst, ◌∙◌, ◌+◌, None}
 use Rattle.yl_lexeme.specs.Known.{new_row}
-use Rattle.yl_scan.specs.Reader.{mode_of}
-use Rattle.yl_scan.specs.Rows.{EndRests, gave, ended}
+use Rattle.yl_row.specs.Reader.{mode_of}
+use Rattle.yl_row.specs.Rows.{EndRests, gave, ended}
 use Rattle.yl_scan.specs.Left.{Within, given, left, row_told}
 use Rattle.yl_scan.proofs.Feed.{row_told_of}
 use Rattle.yl_scan.proofs.Stepping.{row_opens, begins_under_way}

@@ -2,7 +2,7 @@ use Rattle.std.proofs.Common.{ap, sym, refl, ◌∙◌, ◌+◌, None, false, ar
 use Rattle.yl_scalar.specs.Reader.{extent_at}
 use Rattle.yl_lexeme.specs.Known.{new_row}
 use Rattle.yl_lexeme.specs.Surroundings.{known}
-use Rattle.yl_scan.specs.Reader.{mode_of, value_of, said_by}
+use Rattle.yl_row.specs.Reader.{mode_of, value_of, said_by}
 use Rattle.yl_scan.specs.Left.{Within, Halted, ended_above, given, left}
 use Rattle.yl_scan.specs.Scanner.{scalar_lexeme, stand_of}
 use Rattle.yl_scan.proofs.Feed.{carry_on, carry_ends, carry_above}

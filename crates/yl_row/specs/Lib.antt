@@ -1,0 +1,11 @@
+pub mod Begins
+pub mod Entries
+pub mod Fault
+pub mod Laws
+pub mod Mode
+pub mod Reader
+pub mod Rows
+pub mod Run
+pub mod Standing
+pub mod Step
+pub mod Try

@@ -1,0 +1,543 @@
+//! The lexeme that stands at a place of a row.
+
+ghost use Rattle.std.specs.Prelude.{◌≡◌, ◌≤◌, ◌<◌, ◌+◌, ◌-◌, ◌^◌, ◌∷◌, [], not, IfOk, Some, None, List, ℕ, length, drop, string_bytes};
+ghost use Rattle.std.specs.Str.{encode_utf8_all};
+ghost use Rattle.yl_scalar.specs.Reading.{read, settled};
+ghost use Rattle.yl_scalar.specs.PlainSteps.{plain};
+ghost use Rattle.yl_scalar.specs.QuotedSteps.{quoted};
+ghost use Rattle.yl_scalar.specs.Block.{block};
+ghost use Rattle.yl_row.specs.Begins.{BeginsAt};
+ghost use Rattle.yl_row.specs.Fault.{fault_at, when, or_else};
+ghost use Rattle.yl_lexeme.specs.Known.{around};
+ghost use Rattle.yl_lexeme.specs.Past.{near};
+ghost use Rattle.yl_lexeme.specs.Surroundings.{known};
+ghost use Rattle.yl_row.specs.Mode.{mode_step, mode_finish};
+ghost use Rattle.yl_row.specs.Reader.{said_by};
+ghost use Rattle.yl_row.specs.Step.{upto, bad_in, tab_before, in_block, place_fault, behind_end, closes, is_value_at, is_directive_place, is_quoted_or_closing, scalar_found, plain_found, value_found, name_found, tag_found, tag_len, document_at, block_at, flow_at, word_at, scalar_at, found_at};
+ghost use Rattle.yl_row.specs.Standing.{found_of, standing, found_option, EndsHere, StandingRests};
+
+use crate::fault::{Faulted, ScanFault, of_scalar};
+use crate::reader::Reader;
+use crate::text::text_of;
+use crate::word::{
+    directive, is_comment_next, is_flow_indicator_next, is_marker_of, is_plain_start,
+    is_space_next, name_len, tag_len,
+};
+use std::alloc::{AllocError, Allocator};
+use yl_lexeme::{Kind, Style, Surroundings, near};
+use yl_scalar::{Block, Line, Plain, Quoted, first_bad, is_blank, leading_white};
+
+/// A lexeme that ends in its row, before a column.
+#[derive(Drop)]
+pub struct Found<A: Allocator> {
+    pub kind: Kind,
+    pub column: u32,
+    pub value: String<A>,
+    /// The first fault in it.
+    pub fault: Option<Faulted>,
+}
+
+/// What stands at a place.
+#[derive(Drop)]
+pub enum Standing<A: Allocator + Copy> {
+    /// A lexeme that ends in its row.
+    Ended(Found<A>),
+    /// A scalar that may go on in the row below.
+    Open(Style, Reader<A>),
+}
+
+fn when(holds: bool, fault: ScanFault, column: usize) -> Option<Faulted>
+    ensures { result ≡ when holds fault column }
+{
+    if holds {
+        Some(Faulted {
+            fault,
+            down: 0,
+            column,
+        })
+    } else {
+        None
+    }
+}
+
+pub fn or_else(fault: Option<Faulted>, other: Option<Faulted>) -> Option<Faulted>
+    ensures { result ≡ or_else fault other }
+{
+    match fault {
+        None => other,
+        Some(fault) => Some(fault),
+    }
+}
+
+/// The first character that is not allowed in what begins at a column.
+pub fn bad_in(column: usize, text: &[char]) -> Option<Faulted>
+    requires { column + length text.now < 2 ^ 63 }
+    ensures { result ≡ bad_in column text.now }
+{
+    match first_bad(text) {
+        None => None,
+        Some(place) => when(true, ScanFault::NotAllowed, column + place),
+    }
+}
+
+/// The row's first tab, if it stands before a column.
+fn tab_before(tab: Option<usize>, column: usize) -> Option<Faulted>
+    ensures { result ≡ tab_before tab column }
+{
+    match tab {
+        None => None,
+        Some(tab) => when(tab < column, ScanFault::TabInIndentation, tab),
+    }
+}
+
+fn in_block<A: Allocator + Copy>(
+    surroundings: &Surroundings<A>,
+    fault: Option<Faulted>,
+) -> Option<Faulted>
+    ensures { result ≡ in_block (around (known surroundings.now)) fault }
+{
+    if surroundings.in_flow() { None } else { fault }
+}
+
+/// A tab before a place that is first in its row, out of brackets.
+pub fn place_fault<A: Allocator + Copy>(
+    surroundings: &Surroundings<A>,
+    tab: Option<usize>,
+    first: bool,
+    at: usize,
+) -> Option<Faulted>
+    ensures { result ≡ place_fault tab first at (around (known surroundings.now)) }
+{
+    if first {
+        in_block(surroundings, tab_before(tab, at))
+    } else {
+        None
+    }
+}
+
+/// Something behind a document's end that is no comment.
+fn behind_end(column: usize, text: &[char]) -> Option<Faulted>
+    requires { column + length text.now < 2 ^ 63 }
+    ensures { result ≡ behind_end column text.now }
+{
+    let white = leading_white(text);
+    let is_content = !is_blank(text) && !(white > 0 && is_comment_next(&text[white..]));
+    when(
+        is_content,
+        ScanFault::ContentAfterDocumentEnd,
+        column + white,
+    )
+}
+
+/// A lexeme with no value.
+fn sign<A: Allocator>(alloc: A, kind: Kind, column: u32, fault: Option<Faulted>) -> Found<A>
+    ensures { found_of result ≡ upto kind column [] fault }
+{
+    Found {
+        kind,
+        column,
+        value: String::new(alloc),
+        fault,
+    }
+}
+
+/// A directive may stand behind this lexeme.
+fn is_directive_place(last: Option<Kind>) -> bool
+    ensures { result ≡ is_directive_place last }
+{
+    match last {
+        None | Some(Kind::DocEnd | Kind::Directive) => true,
+        Some(_) => false,
+    }
+}
+
+fn is_quoted_or_closing(last: Option<Kind>) -> bool
+    ensures { result ≡ is_quoted_or_closing last }
+{
+    match last {
+        Some(Kind::Scalar(Style::Single | Style::Double) | Kind::SeqClose | Kind::MapClose) => true,
+        _ => false,
+    }
+}
+
+/// A document marker or a directive at a row's start.
+fn document_at<A: Allocator + Copy>(
+    alloc: A,
+    surroundings: &Surroundings<A>,
+    c: char,
+    rest: &[char],
+    text: &[char],
+) -> Result<Option<Found<A>>, AllocError>
+    requires fits { length text.now < 2 ^ 31 }
+    requires text { text.now ≡ c ∷ rest.now }
+    ensures { IfOk result (λ found. document_at c rest.now (around (known surroundings.now)) ≡ found_option found) }
+{
+    if is_marker_of('-', text) {
+        return Ok(Some(sign(alloc, Kind::DocStart, 3, None)));
+    }
+    if is_marker_of('.', text) {
+        let fault = if rest.len() < 2 {
+            None
+        } else {
+            behind_end(3, &rest[2..])
+        };
+        return Ok(Some(sign(alloc, Kind::DocEnd, 3, fault)));
+    }
+    if c == '%' && is_directive_place(surroundings.last) {
+        let directive = directive(text);
+        return Ok(Some(Found {
+            kind: Kind::Directive,
+            column: directive.len() as u32,
+            value: text_of(alloc, directive)?,
+            fault: bad_in(0, directive),
+        }));
+    }
+    Ok(None)
+}
+
+/// An anchor or an alias, by the text behind its indicator.
+fn name_found<A: Allocator + Copy>(
+    alloc: A,
+    kind: Kind,
+    at: usize,
+    text: &[char],
+) -> Result<Found<A>, AllocError>
+    requires fits { at + length text.now < 2 ^ 31 }
+    ensures { IfOk result (λ found. found_of found ≡ name_found kind at text.now) }
+{
+    let len = name_len(text);
+    let name = &text[..len];
+    Ok(Found {
+        kind,
+        column: (at + 1 + len) as u32,
+        value: text_of(alloc, name)?,
+        fault: or_else(
+            when(len == 0, ScanFault::EmptyName, at),
+            bad_in(at + 1, name),
+        ),
+    })
+}
+
+/// A tag, by the text behind its indicator.
+fn tag_found<A: Allocator + Copy>(alloc: A, at: usize, text: &[char]) -> Found<A>
+    requires fits { at + length text.now < 2 ^ 31 }
+    ensures { found_of result ≡ tag_found at text.now (tag_len text.now) }
+{
+    match tag_len(text) {
+        None => sign(
+            alloc,
+            Kind::Tag,
+            at as u32 + 1,
+            when(true, ScanFault::BadTag, at),
+        ),
+        Some(len) => sign(
+            alloc,
+            Kind::Tag,
+            (at + 1 + len) as u32,
+            bad_in(at + 1, &text[..len]),
+        ),
+    }
+}
+
+/// A scalar whose first row has been read.
+fn begun<A: Allocator + Copy>(
+    alloc: A,
+    style: Style,
+    at: usize,
+    reader: Reader<A>,
+    line: Line,
+) -> Result<Standing<A>, AllocError>
+    requires fits { at < 2 ^ 31 }
+    requires here { EndsHere (said_by line reader) }
+    ensures found { IfOk result (λ s. (rows : List (List ℕ)) →
+        scalar_found style at (settled (λ m. read mode_step mode_finish m rows) (said_by line reader)) ≡ standing at rows s) }
+    ensures rests { IfOk result (λ s. (text : List ℕ) → BeginsAt at text (said_by line reader) → StandingRests at text s) }
+{
+    match line {
+        Line::GoesOn => Ok(Standing::Open(style, reader)),
+        Line::EndsIn(place) | Line::EndedAbove(place) => Ok(Standing::Ended(Found {
+            kind: Kind::Scalar(style),
+            column: place.column as u32,
+            value: reader.to_value(alloc)?,
+            fault: None,
+        })),
+        Line::Fails(fault, place) => Ok(Standing::Ended(Found {
+            kind: Kind::Scalar(style),
+            column: at as u32,
+            value: String::new(alloc),
+            fault: Some(Faulted {
+                fault: of_scalar(fault),
+                down: place.down,
+                column: place.column,
+            }),
+        })),
+    }
+}
+
+#[tactic(auto, using(crate::proofs::Modes::said_by_style, crate::proofs::Modes::quoted_alike, crate::proofs::Modes::quoted_ends, crate::proofs::Modes::ends_by))]
+fn quoted_found<A: Allocator + Copy>(
+    alloc: A,
+    style: Style,
+    double: bool,
+    at: usize,
+    rest: &[char],
+) -> Result<Standing<A>, AllocError>
+    requires fits { at + length rest.now < 2 ^ 31 }
+    ensures found { IfOk result (λ s. (rows : List (List ℕ)) → scalar_found style at (quoted double at rest.now rows) ≡ standing at rows s) }
+    ensures rests { IfOk result (λ s. (text : List ℕ) → StandingRests at text s) }
+{
+    let (reader, line) = Quoted::begin(alloc, double, at, rest)?;
+    begun(alloc, style, at, Reader::Quoted(reader), line)
+}
+
+#[tactic(auto, using(crate::proofs::Modes::said_by_style, crate::proofs::Modes::block_alike, crate::proofs::Modes::block_ends, crate::proofs::Modes::ends_by))]
+fn block_found<A: Allocator + Copy>(
+    alloc: A,
+    style: Style,
+    least: usize,
+    at: usize,
+    rest: &[char],
+) -> Result<Standing<A>, AllocError>
+    requires fits { at + length rest.now < 2 ^ 31 }
+    requires small { least < 2 ^ 63 }
+    ensures found { IfOk result (λ s. (rows : List (List ℕ)) → scalar_found style at (block least at rest.now rows) ≡ standing at rows s) }
+    ensures rests { IfOk result (λ s. (c : ℕ) → StandingRests at (c ∷ rest.now) s) }
+{
+    let (reader, line) = Block::begin(alloc, least, at, rest);
+    begun(alloc, style, at, Reader::Block(reader), line)
+}
+
+#[tactic(auto, using(crate::proofs::Modes::said_by_style, crate::proofs::Modes::plain_alike, crate::proofs::Modes::plain_ends, crate::proofs::Modes::ends_by))]
+fn plain_found<A: Allocator + Copy>(
+    alloc: A,
+    flow: bool,
+    least: usize,
+    at: usize,
+    c: char,
+    rest: &[char],
+    text: &[char],
+) -> Result<Standing<A>, AllocError>
+    requires fits { at + length text.now < 2 ^ 31 }
+    requires text { text.now ≡ c ∷ rest.now }
+    ensures found { IfOk result (λ s. (rows : List (List ℕ)) → plain_found flow least at c rest.now rows ≡ standing at rows s) }
+    ensures rests { IfOk result (λ s. StandingRests at text.now s) }
+{
+    if !is_plain_start(flow, c, rest) {
+        let fault = when(true, ScanFault::NotAllowed, at);
+        return Ok(Standing::Ended(sign(alloc, Kind::Scalar(Style::Plain), at as u32, fault)));
+    }
+    let (reader, line) = Plain::begin(alloc, flow, least, at, text)?;
+    begun(alloc, Style::Plain, at, Reader::Plain(reader), line)
+}
+
+/// A scalar.
+fn scalar_at<A: Allocator + Copy>(
+    alloc: A,
+    at: usize,
+    surroundings: &Surroundings<A>,
+    c: char,
+    rest: &[char],
+    text: &[char],
+) -> Result<Standing<A>, AllocError>
+    requires fits { at + length text.now < 2 ^ 31 }
+    requires text { text.now ≡ c ∷ rest.now }
+    ensures found { IfOk result (λ s. (rows : List (List ℕ)) →
+        scalar_at rows at (around (known surroundings.now)) c rest.now ≡ standing at rows s) }
+    ensures rests { IfOk result (λ s. StandingRests at text.now s) }
+{
+    if c == '\'' {
+        return quoted_found(alloc, Style::Single, false, at, rest);
+    }
+    if c == '"' {
+        return quoted_found(alloc, Style::Double, true, at, rest);
+    }
+    let flow = surroundings.in_flow();
+    let least = surroundings.level();
+    if c == '|' && !flow {
+        return block_found(alloc, Style::Literal, least, at, rest);
+    }
+    if c == '>' && !flow {
+        return block_found(alloc, Style::Folded, least, at, rest);
+    }
+    plain_found(alloc, flow, least, at, c, rest, text)
+}
+
+/// An anchor, an alias, a tag or a scalar.
+fn word_at<A: Allocator + Copy>(
+    alloc: A,
+    at: usize,
+    surroundings: &Surroundings<A>,
+    c: char,
+    rest: &[char],
+    text: &[char],
+) -> Result<Standing<A>, AllocError>
+    requires fits { at + length text.now < 2 ^ 31 }
+    requires text { text.now ≡ c ∷ rest.now }
+    ensures found { IfOk result (λ s. (rows : List (List ℕ)) →
+        word_at rows at (around (known surroundings.now)) c rest.now ≡ standing at rows s) }
+    ensures rests { IfOk result (λ s. StandingRests at text.now s) }
+{
+    if c == '&' {
+        return Ok(Standing::Ended(name_found(alloc, Kind::Anchor, at, rest)?));
+    }
+    if c == '*' {
+        return Ok(Standing::Ended(name_found(alloc, Kind::Alias, at, rest)?));
+    }
+    if c == '!' {
+        return Ok(Standing::Ended(tag_found(alloc, at, rest)));
+    }
+    scalar_at(alloc, at, surroundings, c, rest, text)
+}
+
+/// Whether the innermost bracket is of this kind.
+fn closes<A: Allocator + Copy>(sequence: bool, surroundings: &Surroundings<A>) -> bool
+    ensures { result ≡ closes sequence (around (known surroundings.now)).brackets }
+{
+    match surroundings.brackets.top() {
+        None => false,
+        Some(Kind::SeqOpen) => sequence,
+        Some(_) => !sequence,
+    }
+}
+
+/// An indicator of flow collections, or what else may stand there.
+fn flow_at<A: Allocator + Copy>(
+    alloc: A,
+    at: usize,
+    surroundings: &Surroundings<A>,
+    c: char,
+    rest: &[char],
+    text: &[char],
+) -> Result<Standing<A>, AllocError>
+    requires fits { at + length text.now < 2 ^ 31 }
+    requires text { text.now ≡ c ∷ rest.now }
+    ensures found { IfOk result (λ s. (rows : List (List ℕ)) →
+        flow_at rows at (around (known surroundings.now)) c rest.now ≡ standing at rows s) }
+    ensures rests { IfOk result (λ s. StandingRests at text.now s) }
+{
+    if c == '[' {
+        return Ok(Standing::Ended(sign(alloc, Kind::SeqOpen, at as u32 + 1, None)));
+    }
+    if c == '{' {
+        return Ok(Standing::Ended(sign(alloc, Kind::MapOpen, at as u32 + 1, None)));
+    }
+    if c == ']' {
+        let fault = when(
+            !closes(true, surroundings),
+            ScanFault::BracketWithoutPartner,
+            at,
+        );
+        return Ok(Standing::Ended(sign(alloc, Kind::SeqClose, at as u32 + 1, fault)));
+    }
+    if c == '}' {
+        let fault = when(
+            !closes(false, surroundings),
+            ScanFault::BracketWithoutPartner,
+            at,
+        );
+        return Ok(Standing::Ended(sign(alloc, Kind::MapClose, at as u32 + 1, fault)));
+    }
+    if c == ',' {
+        let fault = when(!surroundings.in_flow(), ScanFault::NotAllowed, at);
+        return Ok(Standing::Ended(sign(alloc, Kind::Comma, at as u32 + 1, fault)));
+    }
+    word_at(alloc, at, surroundings, c, rest, text)
+}
+
+/// A value's indicator.
+fn value_found<A: Allocator + Copy>(
+    alloc: A,
+    tab: Option<usize>,
+    first: bool,
+    at: usize,
+    surroundings: &Surroundings<A>,
+) -> Found<A>
+    requires fits { at < 2 ^ 31 }
+    ensures { found_of result ≡ value_found tab first at (around (known surroundings.now)) (near at (around (known surroundings.now)).start) }
+{
+    let fault = match near(at, surroundings.unit) {
+        Some(key) => tab_before(tab, key),
+        None => {
+            let refused = when(
+                !surroundings.may_begin(first),
+                ScanFault::ValueNotAllowed,
+                at,
+            );
+            or_else(tab_before(tab, at), refused)
+        }
+    };
+    sign(
+        alloc,
+        Kind::Value,
+        at as u32 + 1,
+        in_block(surroundings, fault),
+    )
+}
+
+/// An indicator of block collections, or what else may stand there.
+fn block_at<A: Allocator + Copy>(
+    alloc: A,
+    tab: Option<usize>,
+    first: bool,
+    at: usize,
+    surroundings: &Surroundings<A>,
+    c: char,
+    rest: &[char],
+    text: &[char],
+) -> Result<Standing<A>, AllocError>
+    requires fits { at + length text.now < 2 ^ 31 }
+    requires text { text.now ≡ c ∷ rest.now }
+    ensures found { IfOk result (λ s. (rows : List (List ℕ)) →
+        block_at rows tab first at (around (known surroundings.now)) c rest.now ≡ standing at rows s) }
+    ensures rests { IfOk result (λ s. StandingRests at text.now s) }
+{
+    let flow = surroundings.in_flow();
+    if c == '-' && is_space_next(rest) {
+        let refused = flow || !surroundings.may_begin(first);
+        let refused = when(refused, ScanFault::EntryNotAllowed, at);
+        let fault = or_else(in_block(surroundings, tab_before(tab, at)), refused);
+        return Ok(Standing::Ended(sign(alloc, Kind::Entry, at as u32 + 1, fault)));
+    }
+    if c == '?' && is_space_next(rest) {
+        let refused = when(!surroundings.may_begin(first), ScanFault::KeyNotAllowed, at);
+        let fault = in_block(surroundings, or_else(tab_before(tab, at), refused));
+        return Ok(Standing::Ended(sign(alloc, Kind::Key, at as u32 + 1, fault)));
+    }
+    if c == ':' && is_value_at(flow, surroundings.last, rest) {
+        return Ok(Standing::Ended(value_found(alloc, tab, first, at, surroundings)));
+    }
+    flow_at(alloc, at, surroundings, c, rest, text)
+}
+
+/// A value's colon, by what follows it.
+fn is_value_at(flow: bool, last: Option<Kind>, rest: &[char]) -> bool
+    ensures { result ≡ is_value_at flow last rest.now }
+{
+    is_space_next(rest) || (flow && (is_flow_indicator_next(rest) || is_quoted_or_closing(last)))
+}
+
+/// The lexeme at a column of a row, which is the character `c` with `rest` behind it, `text` together.
+#[tactic(auto, unfolding(crate::specs::Step::found_at))]
+pub fn found_at<A: Allocator + Copy>(
+    alloc: A,
+    tab: Option<usize>,
+    first: bool,
+    at: usize,
+    surroundings: &Surroundings<A>,
+    c: char,
+    rest: &[char],
+    text: &[char],
+) -> Result<Standing<A>, AllocError>
+    requires fits { at + length text.now < 2 ^ 31 }
+    requires text { text.now ≡ c ∷ rest.now }
+    ensures found { IfOk result (λ s. (rows : List (List ℕ)) →
+        found_at rows tab first at (around (known surroundings.now)) c rest.now ≡ standing at rows s) }
+    ensures rests { IfOk result (λ s. StandingRests at text.now s) }
+{
+    if at == 0
+        && let Some(found) = document_at(alloc, surroundings, c, rest, text)?
+    {
+        return Ok(Standing::Ended(found));
+    }
+    block_at(alloc, tab, first, at, surroundings, c, rest, text)
+}

@@ -1,0 +1,251 @@
+//! The lexemes of a row.
+
+ghost use Rattle.std.specs.Prelude.{◌≡◌, ◌≤◌, ◌<◌, ◌+◌, ◌-◌, ◌++◌, ◌^◌, ◌∷◌, [], IfOk, List, Option, ℕ, length};
+ghost use Rattle.yl_lexeme.specs.Known.{Known, around, reach};
+ghost use Rattle.yl_lexeme.specs.Surroundings.{known};
+ghost use Rattle.yl_row.specs.Mode.{open_found};
+ghost use Rattle.yl_row.specs.Begins.{Rests};
+ghost use Rattle.yl_row.specs.Reader.{mode_of};
+ghost use Rattle.yl_row.specs.Step.{found_at, place_fault};
+ghost use Rattle.yl_row.specs.Entries.{Reading, lexeme_of, ends_document};
+ghost use Rattle.yl_row.specs.Run.{took, read};
+ghost use Rattle.yl_row.specs.Standing.{found_of};
+ghost use Rattle.yl_row.specs.Rows.{gave, next, ended, noted, NextRests, EndRests};
+
+use crate::fault::Faulted;
+use crate::found::{Found, Standing, bad_in, found_at, or_else, place_fault};
+use crate::reader::Reader;
+use crate::text::text_of;
+use std::alloc::{AllocError, Allocator};
+use yl_lexeme::{Comment, Kind, Lexeme, Style, Surroundings};
+use yl_scalar::is_white;
+use yl_text::Pos;
+
+/// A scalar that may go on in the row below, and where it begins.
+#[derive(Drop)]
+pub struct Open<A: Allocator + Copy> {
+    pub style: Style,
+    pub at: usize,
+    pub reader: Reader<A>,
+}
+
+/// What comes behind a lexeme.
+#[derive(Drop)]
+pub enum Next<A: Allocator + Copy> {
+    /// So many more characters of it.
+    Skip(usize),
+    /// A scalar that may go on in the row below.
+    Opens(Style, Reader<A>),
+    /// None: there is a fault.
+    Stops(Faulted),
+}
+
+/// How a row ends.
+#[derive(Drop)]
+pub enum End<A: Allocator + Copy> {
+    /// It is read, and may have a comment.
+    Read(Option<Comment<A>>),
+    /// A scalar may go on in the row below.
+    Opens(Open<A>),
+    /// There is a fault.
+    Stops(Faulted),
+}
+
+/// The lexeme that was found at a column.
+fn lexeme_of<A: Allocator>(at: usize, found: Found<A>) -> Lexeme<A>
+    requires { at < 2 ^ 32 }
+    ensures { result ≡ lexeme_of at (found_of found) }
+{
+    let Found {
+        kind,
+        column,
+        value,
+        fault: _,
+    } = found;
+    let start = Pos {
+        line: 0,
+        col: at as u32,
+    };
+    let end = Pos {
+        line: 0,
+        col: column,
+    };
+    Lexeme::new(kind, start, end, value)
+}
+
+/// Passes a scalar that may go on below, unless there is a fault before it.
+#[tactic(auto, using(crate::proofs::Took::open_goes, crate::proofs::Took::open_stops))]
+fn open_lexeme<A: Allocator + Copy>(
+    surroundings: &mut Surroundings<A>,
+    before: Option<Faulted>,
+    first: bool,
+    at: usize,
+    style: Style,
+    reader: Reader<A>,
+) -> Result<Next<A>, AllocError>
+    requires { at < 2 ^ 31 }
+    ensures read { IfOk result (λ r. (rows : List (List ℕ)) (tab : Option ℕ) (more : ℕ → Known → Reading Known) →
+        before ≡ place_fault tab first at (around (known surroundings.old)) →
+        took tab first at (known surroundings.old) more (open_found style at (mode_of reader) rows) ≡ next rows at (known surroundings.new) more r) }
+    ensures rests { IfOk result (λ r. (text : List ℕ) → Rests at text (mode_of reader) → NextRests at text r) }
+{
+    match before {
+        Some(fault) => Ok(Next::Stops(fault)),
+        None => {
+            surroundings.pass(Kind::Scalar(style), first, at)?;
+            Ok(Next::Opens(style, reader))
+        }
+    }
+}
+
+/// Passes a lexeme that ends in its row, unless there is a fault before it or in it.
+#[tactic(auto, using(crate::proofs::Took::ended_goes, crate::proofs::Took::ended_stops, crate::proofs::Took::ended_document))]
+fn ended_lexeme<A: Allocator + Copy>(
+    surroundings: &mut Surroundings<A>,
+    lexemes: &mut Vec<Lexeme<A>, A>,
+    before: Option<Faulted>,
+    first: bool,
+    at: usize,
+    found: Found<A>,
+) -> Result<Next<A>, AllocError>
+    requires { at < 2 ^ 31 }
+    ensures read { IfOk result (λ r. (rows : List (List ℕ)) (tab : Option ℕ) (more : ℕ → Known → Reading Known) →
+        before ≡ place_fault tab first at (around (known surroundings.old)) →
+        gave lexemes.old.items (took tab first at (known surroundings.old) more (found_of found))
+        ≡ gave lexemes.new.items (next rows at (known surroundings.new) more r)) }
+    ensures rests { IfOk result (λ r. (text : List ℕ) → NextRests at text r) }
+{
+    let kind = found.kind;
+    let column = found.column as usize;
+    let fault = or_else(before, found.fault);
+    let lexeme = lexeme_of(at, found);
+    match fault {
+        Some(fault) => {
+            if ends_document(kind) {
+                lexemes.push(lexeme)?;
+                return Ok(Next::Stops(fault));
+            }
+            Ok(Next::Stops(fault))
+        }
+        None => {
+            surroundings.pass(kind, first, at)?;
+            lexemes.push(lexeme)?;
+            Ok(Next::Skip(column.saturating_sub(at).saturating_sub(1)))
+        }
+    }
+}
+
+fn ends_document(kind: Kind) -> bool
+    ensures { result ≡ ends_document kind }
+{
+    match kind {
+        Kind::DocEnd => true,
+        _ => false,
+    }
+}
+
+/// Reads the lexeme at a column, which is the character `c` with `rest` behind it, `text` together.
+fn lexeme<A: Allocator + Copy>(
+    alloc: A,
+    surroundings: &mut Surroundings<A>,
+    lexemes: &mut Vec<Lexeme<A>, A>,
+    tab: Option<usize>,
+    first: bool,
+    at: usize,
+    c: char,
+    rest: &[char],
+    text: &[char],
+) -> Result<Next<A>, AllocError>
+    requires fits { at + length text.now < 2 ^ 31 }
+    requires text { text.now ≡ c ∷ rest.now }
+    ensures read { IfOk result (λ r. (rows : List (List ℕ)) (more : ℕ → Known → Reading Known) →
+        gave lexemes.old.items (took tab first at (reach first at (known surroundings.old)) more
+        (found_at rows tab first at (around (reach first at (known surroundings.old))) c rest.now))
+        ≡ gave lexemes.new.items (next rows at (known surroundings.new) more r)) }
+    ensures rests { IfOk result (λ r. NextRests at text.now r) }
+{
+    surroundings.reach(first, at);
+    let before = place_fault(surroundings, tab, first, at);
+    match found_at(alloc, tab, first, at, surroundings, c, rest, text)? {
+        Standing::Open(style, reader) => {
+            let opened = open_lexeme(surroundings, before, first, at, style, reader)?;
+            Ok(opened)
+        }
+        Standing::Ended(found) => {
+            let ended = ended_lexeme(surroundings, lexemes, before, first, at, found)?;
+            Ok(ended)
+        }
+    }
+}
+
+/// The comment that a row ends with, which begins at this column.
+fn comment<A: Allocator + Copy>(alloc: A, at: usize, text: &[char]) -> Result<End<A>, AllocError>
+    requires { at + length text.now < 2 ^ 31 }
+    ensures read { IfOk result (λ end. noted at text.now end) }
+    ensures rests { IfOk result (λ end. (row : List ℕ) → EndRests row end) }
+{
+    if let Some(fault) = bad_in(at, text) {
+        return Ok(End::Stops(fault));
+    }
+    Ok(End::Read(Some(Comment::new(at as u32, text_of(alloc, text)?))))
+}
+
+/// Reads a row: it begins behind `skip` characters of a lexeme, or at its start.
+pub fn read_row<A: Allocator + Copy>(
+    alloc: A,
+    surroundings: &mut Surroundings<A>,
+    lexemes: &mut Vec<Lexeme<A>, A>,
+    tab: Option<usize>,
+    skip: usize,
+    fresh: bool,
+    row: &[char],
+) -> Result<End<A>, AllocError>
+    requires { length row.now < 2 ^ 31 }
+    ensures read { IfOk result (λ end. (rows : List (List ℕ)) →
+        gave lexemes.old.items (read rows tab skip fresh fresh 0 (known surroundings.old) row.now)
+        ≡ gave lexemes.new.items (ended rows tab row.now (known surroundings.new) end)) }
+    ensures rests { IfOk result (λ end. EndRests row.now end) }
+{
+    let mut skip = skip;
+    let mut behind_space = fresh;
+    let mut first = fresh;
+    for (i, c) in row.iter().enumerate() {
+        if skip > 0 {
+            skip -= 1;
+            behind_space = false;
+            continue;
+        }
+        if is_white(*c) {
+            behind_space = true;
+            continue;
+        }
+        if *c == '#' && behind_space {
+            let end = comment(alloc, i, &row[i..])?;
+            return Ok(end);
+        }
+        match lexeme(
+            alloc,
+            surroundings,
+            lexemes,
+            tab,
+            first,
+            i,
+            *c,
+            &row[i + 1..],
+            &row[i..],
+        )? {
+            Next::Skip(more) => skip = more,
+            Next::Opens(style, reader) => {
+                return Ok(End::Opens(Open {
+                    style,
+                    at: i,
+                    reader,
+                }));
+            }
+            Next::Stops(fault) => return Ok(End::Stops(fault)),
+        }
+        behind_space = false;
+        first = false;
+    }
+    Ok(End::Read(None))
+}

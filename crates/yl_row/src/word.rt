@@ -1,0 +1,175 @@
+//! Words in a row: names, tags, directives, markers, and what may follow them.
+
+ghost use Rattle.std.specs.Prelude.{◌≡◌, ◌≤◌, ◌==◌, ◌+◌, ◌<◌, ◌^◌, IfSome, length, false};
+ghost use Rattle.std.specs.List.{position};
+ghost use Rattle.std.specs.Option.{ForSome};
+ghost use Rattle.yl_text.specs.Character.{is_marker_of};
+ghost use Rattle.yl_scalar.specs.Header.{next};
+ghost use Rattle.yl_row.specs.Step.{is_name_character, name_len, is_space_next, is_flow_indicator_next, is_name_next, directive_len, directive, tag_len, closing_of, verbatim_len, is_plain_start, is_tab};
+
+use yl_scalar::{is_flow_indicator, is_safe_next, is_white, without_end};
+
+fn is_name_character(c: char) -> bool
+    ensures { result ≡ is_name_character c }
+{
+    !is_white(c) && !is_flow_indicator(c)
+}
+
+/// How many characters of a name the text begins with.
+pub fn name_len(text: &[char]) -> usize
+    ensures count { result ≡ name_len text.now }
+    ensures within { result ≤ length text.now }
+{
+    text.iter().take_while(|c| is_name_character(**c)).count()
+}
+
+/// White space, a break or the end comes next.
+pub fn is_space_next(text: &[char]) -> bool
+    ensures { result ≡ is_space_next text.now }
+{
+    match text {
+        [] => true,
+        [c, ..] => is_white(*c),
+    }
+}
+
+pub fn is_flow_indicator_next(text: &[char]) -> bool
+    ensures { result ≡ is_flow_indicator_next text.now }
+{
+    match text {
+        [] => false,
+        [c, ..] => is_flow_indicator(*c),
+    }
+}
+
+fn is_name_next(text: &[char]) -> bool
+    ensures { result ≡ is_name_next text.now }
+{
+    match text {
+        [] => false,
+        [c, ..] => is_name_character(*c),
+    }
+}
+
+/// The character `#` comes next.
+pub fn is_comment_next(text: &[char]) -> bool
+    ensures { result ≡ (next text.now == 35) }
+{
+    match text {
+        [] => false,
+        [c, ..] => *c == '#',
+    }
+}
+
+fn is_verbatim_next(text: &[char]) -> bool
+    ensures { result ≡ (next text.now == 60) }
+{
+    match text {
+        [] => false,
+        [c, ..] => *c == '<',
+    }
+}
+
+/// How much of the text is a directive's, white space at its end counted.
+fn directive_len(text: &[char]) -> usize
+    ensures count { result ≡ directive_len false text.now }
+    ensures within { result ≤ length text.now }
+{
+    let mut behind_space = false;
+    for (i, c) in text.iter().enumerate() {
+        if *c == '#' && behind_space {
+            return i;
+        }
+        behind_space = is_white(*c);
+    }
+    text.len()
+}
+
+/// The directive that the text begins with.
+pub fn directive(text: &[char]) -> &[char]
+    ensures directive { result.now ≡ directive text.now }
+    ensures within { length result.now ≤ length text.now }
+{
+    without_end(&text[..directive_len(text)])
+}
+
+/// The place of the first `>`.
+fn closing_of(text: &[char]) -> Option<usize>
+    ensures place { result ≡ closing_of text.now }
+    ensures within { IfSome result (λ place. place < length text.now) }
+{
+    text.iter().position(|c| *c == '>')
+}
+
+/// How many characters a verbatim tag has behind its `!`, if it is not bad, by the place of its `>`.
+fn verbatim_len(text: &[char], close: Option<usize>) -> Option<usize>
+    requires { ForSome close (λ place. place < length text.now) }
+    ensures count { result ≡ verbatim_len text.now close }
+    ensures within { IfSome result (λ len. len ≤ length text.now) }
+{
+    match close {
+        None => None,
+        Some(close) => {
+            if is_name_next(&text[close + 1..]) {
+                None
+            } else {
+                Some(close + 1)
+            }
+        }
+    }
+}
+
+/// How many characters a tag has behind its `!`, if it is not bad.
+pub fn tag_len(text: &[char]) -> Option<usize>
+    ensures count { result ≡ tag_len text.now }
+    ensures within { IfSome result (λ len. len ≤ length text.now) }
+{
+    if is_verbatim_next(text) {
+        return verbatim_len(text, closing_of(text));
+    }
+    Some(name_len(text))
+}
+
+/// The row begins with three times this character, and white space or nothing behind.
+pub fn is_marker_of(c: char, row: &[char]) -> bool
+    ensures { result ≡ is_marker_of c row.now }
+{
+    match row {
+        [x, y, z, rest @ ..] => *x == c && *y == c && *z == c && is_space_next(rest),
+        _ => false,
+    }
+}
+
+/// A plain scalar may begin with this character, before that text.
+pub fn is_plain_start(flow: bool, c: char, text: &[char]) -> bool
+    ensures { result ≡ is_plain_start flow c text.now }
+{
+    match c {
+        '-' | '?' | ':' => is_safe_next(flow, text),
+        ','
+        | '['
+        | ']'
+        | '{'
+        | '}'
+        | '#'
+        | '&'
+        | '*'
+        | '!'
+        | '|'
+        | '>'
+        | '\''
+        | '"'
+        | '%'
+        | '@'
+        | '`'
+        | '\u{feff}' => false,
+        _ => true,
+    }
+}
+
+/// The place of the first tab.
+pub fn first_tab(row: &[char]) -> Option<usize>
+    ensures { result ≡ position is_tab row.now }
+{
+    row.iter().position(|c| *c == '\t')
+}
