@@ -1,5 +1,5 @@
 -- Rows that a scanner takes.
-use Rattle.std.specs.Prelude.{ℕ, ◌<◌, ◌^◌, ◌-◌, List, length, All}
+use Rattle.std.specs.Prelude.{◌<◌, ◌^◌, ◌-◌, List, length, All}
 use Rattle.std.specs.Str.{chars}
 use Rattle.yl_text.specs.Lines.{Piece}
 
