@@ -125,7 +125,7 @@ pub fn print_document<A: Allocator + Copy, W: Write>(
     document: &[Placed<A>],
     behind: Behind,
 ) -> Result<(), DumpFault> {
-    let mut lexemes = Vec::new(alloc);
+    let mut lexemes = Vec::with_capacity(alloc, document.len())?;
     for placed in document {
         lexemes.push(At {
             line: placed.line,

@@ -1,6 +1,7 @@
 //! The events of a text.
-ghost use Rattle.std.specs.Prelude.{◌≤◌, length};
+ghost use Rattle.std.specs.Prelude.{◌≡◌, ◌≤◌, ◌||◌, ◌&&◌, not, length};
 ghost use Rattle.yl_text.specs.declared.TheConstants.{MAX_BYTES};
+ghost use Rattle.yl_events.specs.Documents.{is_document_end, is_document_start, is_directive};
 ghost use Rattle.yl_dump.specs.Fits.{Fits};
 
 use crate::document::{Behind, Placed, print_document};
@@ -15,10 +16,14 @@ use yl_text::Row;
 
 // Whether a document begins with a lexeme of this kind, behind one of the kind `last`. Directives stand only at a text's start
 // and behind a document's end, so that a document that has some begins with the first of them.
-fn begins_document(last: Kind, kind: Kind) -> bool {
-    match kind {
-        Kind::DocStart => last != Kind::Directive,
-        _ => last == Kind::DocEnd,
+fn begins_document(last: Kind, kind: Kind) -> bool
+    ensures { result ≡ (is_document_end last || (is_document_start kind && not (is_directive last))) }
+{
+    match (last, kind) {
+        (Kind::DocEnd, _) => true,
+        (Kind::Directive, _) => false,
+        (_, Kind::DocStart) => true,
+        _ => false,
     }
 }
 

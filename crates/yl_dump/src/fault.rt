@@ -1,5 +1,5 @@
 //! Why a text is not shown to its end, and faults in a text.
-ghost use Rattle.std.specs.Prelude.{◌≡◌};
+ghost use Rattle.std.specs.Prelude.{◌≡◌, ◌+◌, ◌-◌, ◌^◌, min};
 ghost use Rattle.yl_dump.specs.declared.fault.DumpFault.TheVariants.{Memory};
 
 use std::alloc::{AllocError, AllocFailed};
@@ -47,7 +47,10 @@ pub struct TextFault {
 }
 
 /// The scan fault that was told at this line, counted from 0.
-pub fn scan_fault(line: u32, failed: Failed) -> TextFault {
+pub fn scan_fault(line: u32, failed: Failed) -> TextFault
+    ensures line { result.place.line ≡ min (line - failed.ago + failed.fault.down) (2 ^ 64 - 1) }
+    ensures column { result.place.column ≡ failed.fault.column }
+{
     let begun = u64::from(line).saturating_sub(u64::from(failed.ago));
     let place = Place {
         line: begun.saturating_add(failed.fault.down as u64),

@@ -1,9 +1,13 @@
 //! Names of kinds.
+ghost use Rattle.std.specs.Prelude.{◌≡◌};
+ghost use Rattle.yl_dump.specs.Names.{kind_name as name_of, scalar_name as scalar_name_of, style_sign as sign_of};
 
 use yl_lexeme::{Kind, Style};
 
 /// The name of a lexeme's kind.
-pub fn kind_name(kind: Kind) -> &'static str {
+pub fn kind_name(kind: Kind) -> &'static str
+    ensures { result.now ≡ name_of kind }
+{
     match kind {
         Kind::Directive => "Directive",
         Kind::DocStart => "DocStart",
@@ -23,7 +27,9 @@ pub fn kind_name(kind: Kind) -> &'static str {
     }
 }
 
-fn scalar_name(style: Style) -> &'static str {
+fn scalar_name(style: Style) -> &'static str
+    ensures { result.now ≡ scalar_name_of style }
+{
     match style {
         Style::Plain => "Scalar(Plain)",
         Style::Single => "Scalar(Single)",
@@ -34,7 +40,9 @@ fn scalar_name(style: Style) -> &'static str {
 }
 
 /// The sign before a scalar's value in an event stream.
-pub fn style_sign(style: Style) -> &'static str {
+pub fn style_sign(style: Style) -> &'static str
+    ensures { result.now ≡ sign_of style }
+{
     match style {
         Style::Plain => ":",
         Style::Single => "'",
