@@ -23,7 +23,7 @@ rows_short : (ps : List Piece) → length (text_of ps) < 2 ^ 31 → All IsShort 
 rows_short [] h = All-nil IsShort
 rows_short (p ∷ ps) h =
     let own : length (text_of (p ∷ ps)) ≡ (length p.text + length (break_bytes p.end)) + length (text_of ps) =
-      length-append (p.text ++ break_bytes p.end) (text_of ps) ∙ ap (λ n. n + length (text_of ps)) (length-append p.text (break_bytes p.end)) in
+    length-append (p.text ++ break_bytes p.end) (text_of ps) ∙ ap (λ n. n + length (text_of ps)) (length-append p.text (break_bytes p.end)) in
     let few : length (chars p.text) ≤ length p.text = length-chars p.text in
     All-cons IsShort p ps (omega (arith, own, few, h)) (rows_short ps (omega (arith, own, h)))
 
