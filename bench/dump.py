@@ -3,15 +3,15 @@
 
 PROGRAM is the path of `yldump`. Inputs of MIB MiB (10 unless said otherwise) of five forms are made in a folder that goes away again. For each
 form `yldump` and a C program over libyaml (`events.c`, which is built by gcc -O2; Debian's package is libyaml-dev) print the events of the
-same file to /dev/null, in turns, and the least of three times counts. A ratio below 1 says that `yldump` took less time."""
+same file to /dev/null, in turns, and the least of five times counts, the processor's time of program and system. A ratio below 1 says that
+`yldump` took less time."""
 
 import os
 import subprocess
 import sys
 import tempfile
 
-from run import MIB, run
-
+MIB = 1024 * 1024
 HERE = os.path.dirname(os.path.abspath(__file__))
 # A form: a piece of text that is repeated, with the number of the repetition.
 FORMS = {
@@ -32,6 +32,17 @@ def write_text(path, size, form):
             n += 1000
 
 
+def run(command):
+    """Seconds of processor time and peak memory in bytes of one run."""
+    with open(os.devnull, "wb") as nothing:
+        process = subprocess.Popen(command, stdout=nothing)
+        _, status, usage = os.wait4(process.pid, 0)
+    process.returncode = os.waitstatus_to_exitcode(status)
+    if process.returncode != 0:
+        sys.exit(f"{command[0]} ended with {process.returncode}")
+    return usage.ru_utime + usage.ru_stime, usage.ru_maxrss * 1024
+
+
 def build(folder):
     program = os.path.join(folder, "events")
     subprocess.run(["gcc", "-O2", "-o", program, os.path.join(HERE, "events.c"), "-lyaml"], check=True)
@@ -48,7 +59,7 @@ def main():
         for form in FORMS:
             write_text(path, size * MIB, form)
             ours, theirs = [], []
-            for _ in range(3):
+            for _ in range(5):
                 theirs.append(run([libyaml, path]))
                 ours.append(run([program, "--events", path]))
             seconds, peak = min(s for s, _ in ours), max(m for _, m in ours)
