@@ -1,6 +1,6 @@
 -- Which parse fault a document has: by the lexeme before, by the properties directly before, and by the innermost collection that is
 -- open behind the closings before its place (YAML 1.2.2, 9.2; 6.9 and 7.1; 7.4 and 8.2).
-use Rattle.std.specs.Prelude.{ℕ, Bool, true, false, ◌||◌, ◌==◌, ◌-◌, if◌then◌else◌, List, [], ◌∷◌, ◌+◌, reverse, take, drop, codes}
+use Rattle.std.specs.Prelude.{ℕ, Bool, true, false, not, ◌||◌, ◌==◌, ◌-◌, if◌then◌else◌, List, [], ◌∷◌, ◌+◌, reverse, take, drop, codes}
 use Rattle.yl_lexeme.specs.declared.lexeme.Kind.{Kind}
 use Rattle.yl_events.specs.declared.symbol.Symbol.{Symbol}
 use Rattle.yl_events.specs.declared.symbol.Symbol.TheVariants.{OpenSequence, OpenMapping, BeginKey, Close, One}
@@ -65,26 +65,17 @@ closed_by _ blocks = blocks
 
 -- ---- properties directly before, of the latest symbols
 
-abbrev pub has_anchor : List Symbol → Bool
-has_anchor (One Kind.Anchor i ∷ ws) = true
-has_anchor (One Kind.Tag i ∷ ws) = has_anchor ws
-has_anchor _ = false
-
-abbrev pub has_tag : List Symbol → Bool
-has_tag (One Kind.Tag i ∷ ws) = true
-has_tag (One Kind.Anchor i ∷ ws) = has_tag ws
-has_tag _ = false
-
-abbrev pub has_property : List Symbol → Bool
-has_property (One Kind.Anchor i ∷ ws) = true
-has_property (One Kind.Tag i ∷ ws) = true
-has_property _ = false
+-- an anchor, or a tag
+abbrev pub has : Bool → List Symbol → Bool
+has anchor (One Kind.Anchor i ∷ ws) = anchor || has anchor ws
+has anchor (One Kind.Tag i ∷ ws) = not anchor || has anchor ws
+has anchor _ = false
 
 -- a second anchor or tag, or an alias behind properties
 abbrev pub is_twice : List Symbol → List Symbol → Bool
-is_twice before (One Kind.Anchor i ∷ ws) = has_anchor before
-is_twice before (One Kind.Tag i ∷ ws) = has_tag before
-is_twice before (One Kind.Alias i ∷ ws) = has_property before
+is_twice before (One Kind.Anchor i ∷ ws) = has true before
+is_twice before (One Kind.Tag i ∷ ws) = has false before
+is_twice before (One Kind.Alias i ∷ ws) = has true before || has false before
 is_twice before _ = false
 
 abbrev pub is_behind_directive : List Symbol → Bool

@@ -1,6 +1,5 @@
 pub mod Documents
 pub mod Keys
-pub mod Counted
 pub mod Marks
 pub mod Grammar
 pub mod Outlines

@@ -93,6 +93,14 @@ takes (ItemEnd b) (One Kind.Comma s) = turn (Items b ∷ []) []
 takes (ItemEnd b) (One kind s) = closes b kind
 takes _ _ = None
 
+-- it takes some mark
+abbrev pub takes_marks : Goal → Bool
+takes_marks (Formed w ps) = true
+takes_marks Entries = true
+takes_marks Pairs = true
+takes_marks (Items b) = true
+takes_marks _ = false
+
 -- the events of a goal that nothing comes for, where it may be left
 abbrev pub leaves : Goal → Option (List Outline)
 leaves Prefix = Some []

@@ -22,10 +22,9 @@ use yl_text::Pos;
 fn value_at<'a, A: Allocator>(lexemes: &[At<'a, A>], i: usize) -> &'a str
     ensures { result.now ≡ value_at (map (λ x. placed x.line x.lexeme.now) lexemes.now) i }
 {
-    if i < lexemes.len() {
-        lexemes[i].lexeme.value()
-    } else {
-        ""
+    match lexemes.get(i) {
+        None => "",
+        Some(at) => at.lexeme.value(),
     }
 }
 
@@ -33,13 +32,9 @@ fn value_at<'a, A: Allocator>(lexemes: &[At<'a, A>], i: usize) -> &'a str
 fn start_at<A: Allocator>(lexemes: &[At<'_, A>], i: usize) -> Pos
     ensures { result ≡ start_at (map (λ x. placed x.line x.lexeme.now) lexemes.now) i }
 {
-    if i < lexemes.len() {
-        Pos {
-            line: lexemes[i].line,
-            col: lexemes[i].lexeme.start().col,
-        }
-    } else {
-        Pos { line: 0, col: 0 }
+    match lexemes.get(i) {
+        None => Pos { line: 0, col: 0 },
+        Some(at) => at.start(),
     }
 }
 

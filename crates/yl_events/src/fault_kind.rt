@@ -1,7 +1,7 @@
 //! Which fault a document has.
 
 ghost use Rattle.std.specs.Prelude.{◌≡◌, ◌∷◌, [], ◌++◌, ◌<◌, ◌≤◌, ◌+◌, ◌^◌, ◌-◌, ℕ, List, length, take, drop, reverse, OnOk, IfOk, vec_len};
-ghost use Rattle.yl_events.specs.Faults.{with_indentless, blocks_behind, depth_behind, open_behind, open_after, closed_by, has_anchor, has_tag, has_property, is_twice, is_behind_directive, fault_in_blocks, fault_in, fault_between, left_behind, front_len, fault_of};
+ghost use Rattle.yl_events.specs.Faults.{with_indentless, blocks_behind, depth_behind, open_behind, open_after, closed_by, has, is_twice, is_behind_directive, fault_in_blocks, fault_in, fault_between, left_behind, front_len, fault_of};
 
 use crate::fault::ParseFault;
 use crate::symbol::{Block, Symbol};
@@ -101,14 +101,10 @@ fn close_by<A: Allocator>(behind: &[Symbol], blocks: &mut Vec<Block, A>)
 fn fault_in_blocks(blocks: &[Block]) -> ParseFault
     ensures { result ≡ fault_in_blocks (reverse blocks.now) }
 {
-    let n = blocks.len();
-    if n == 0 {
-        return ParseFault::SecondNode;
-    }
-    let block = blocks[n - 1];
-    match block {
-        Block::InMapping(false) => ParseFault::KeyOrEndOfMappingExpected,
-        Block::InMapping(true) | Block::InSequence => ParseFault::EntryOrEndOfSequenceExpected,
+    match blocks {
+        [] => ParseFault::SecondNode,
+        [.., Block::InMapping(false)] => ParseFault::KeyOrEndOfMappingExpected,
+        [.., _] => ParseFault::EntryOrEndOfSequenceExpected,
     }
 }
 
@@ -137,77 +133,40 @@ fn front_len(place: usize, symbols: &[Symbol]) -> usize
     symbols.len()
 }
 
-fn has_anchor(before: &[Symbol]) -> bool
-    ensures { result ≡ has_anchor (reverse before.now) }
+/// Whether the properties that end there have an anchor, or a tag.
+fn has(anchor: bool, before: &[Symbol]) -> bool
+    ensures { result ≡ has anchor (reverse before.now) }
 {
     let mut n = before.len();
     while n > 0 {
         let symbol = before[n - 1];
         match symbol {
-            Symbol::One(Kind::Anchor, _) => return true,
-            Symbol::One(Kind::Tag, _) => {}
+            Symbol::One(Kind::Anchor, _) if anchor => return true,
+            Symbol::One(Kind::Tag, _) if !anchor => return true,
+            Symbol::One(Kind::Anchor | Kind::Tag, _) => {}
             _ => return false,
         }
         n -= 1;
     }
     false
-}
-
-fn has_tag(before: &[Symbol]) -> bool
-    ensures { result ≡ has_tag (reverse before.now) }
-{
-    let mut n = before.len();
-    while n > 0 {
-        let symbol = before[n - 1];
-        match symbol {
-            Symbol::One(Kind::Tag, _) => return true,
-            Symbol::One(Kind::Anchor, _) => {}
-            _ => return false,
-        }
-        n -= 1;
-    }
-    false
-}
-
-fn has_property(before: &[Symbol]) -> bool
-    ensures { result ≡ has_property (reverse before.now) }
-{
-    let n = before.len();
-    if n == 0 {
-        return false;
-    }
-    let symbol = before[n - 1];
-    matches!(symbol, Symbol::One(Kind::Anchor | Kind::Tag, _))
-}
-
-fn is_behind_directive(before: &[Symbol]) -> bool
-    ensures { result ≡ is_behind_directive (reverse before.now) }
-{
-    let n = before.len();
-    if n == 0 {
-        return false;
-    }
-    let symbol = before[n - 1];
-    matches!(symbol, Symbol::One(Kind::Directive, _))
 }
 
 /// Whether a second anchor or tag comes, or an alias behind properties.
 fn is_twice(before: &[Symbol], behind: &[Symbol]) -> bool
     ensures { result ≡ is_twice (reverse before.now) behind.now }
 {
-    if behind.len() == 0 {
-        return false;
-    }
-    let symbol = behind[0];
-    match symbol {
-        Symbol::One(kind, _) => match kind {
-            Kind::Anchor => has_anchor(before),
-            Kind::Tag => has_tag(before),
-            Kind::Alias => has_property(before),
-            _ => false,
-        },
+    match behind {
+        [Symbol::One(Kind::Anchor, _), ..] => has(true, before),
+        [Symbol::One(Kind::Tag, _), ..] => has(false, before),
+        [Symbol::One(Kind::Alias, _), ..] => has(true, before) || has(false, before),
         _ => false,
     }
+}
+
+fn is_behind_directive(before: &[Symbol]) -> bool
+    ensures { result ≡ is_behind_directive (reverse before.now) }
+{
+    matches!(before, [.., Symbol::One(Kind::Directive, _)])
 }
 
 /// The fault by the innermost open collection.

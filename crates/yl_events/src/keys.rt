@@ -1,176 +1,101 @@
 //! Keys, and where they may begin.
 
-ghost use Rattle.std.specs.Prelude.{◌≡◌, ◌≤◌, ◌<◌, ◌+◌, [], ◌∷◌, ◌++◌, ℕ, List, length, map, take, reverse, IfOk, OnOk};
-ghost use Rattle.yl_lexeme.specs.Lexeme.{is_closing, is_opening, is_leaf, is_property, is_anchor, is_document_marker};
-ghost use Rattle.yl_events.specs.Keys.{placed, openings, from_content, from_properties, from_unit, is_first, is_behind_flow, is_behind_indicator, may_begin, is_property_in, is_key_of, key_from, piece, pieces};
-ghost use Rattle.yl_events.specs.Counted.{counts_behind, content_behind};
+ghost use Rattle.std.specs.Prelude.{◌≡◌, ◌<◌, ◌≤◌, ◌+◌, ◌-◌, ◌^◌, [], map, IfOk, if◌then◌else◌};
+ghost use Rattle.yl_lexeme.specs.Kept.{nothing_kept};
+ghost use Rattle.yl_events.specs.Keys.{placed, depth_behind, is_in, is_first, is_behind_flow, is_behind_indicator, may_begin, place_of, key_at, piece_at, pieces};
 
-use crate::symbol::Piece;
+use crate::symbol::{KeyStart, Piece};
 use std::alloc::{AllocError, Allocator};
-use yl_lexeme::{At, Kind};
-use yl_text::Pos;
+use yl_lexeme::{At, KeyUnit, Kind, is_near};
 
-fn is_closing(kind: Kind) -> bool
-    ensures { result ≡ is_closing kind }
+/// How many brackets are open behind one more lexeme.
+fn depth_behind(kind: Kind, depth: usize) -> usize
+    requires { depth < 2 ^ 64 - 1 }
+    ensures one { result ≡ depth_behind kind depth }
+    ensures most { result ≤ depth + 1 }
 {
-    matches!(kind, Kind::SeqClose | Kind::MapClose)
-}
-
-fn is_opening(kind: Kind) -> bool
-    ensures { result ≡ is_opening kind }
-{
-    matches!(kind, Kind::SeqOpen | Kind::MapOpen)
-}
-
-fn is_leaf(kind: Kind) -> bool
-    ensures { result ≡ is_leaf kind }
-{
-    matches!(kind, Kind::Alias | Kind::Scalar(_))
-}
-
-fn is_anchor(kind: Kind) -> bool
-    ensures { result ≡ is_anchor kind }
-{
-    matches!(kind, Kind::Anchor)
-}
-
-pub fn is_document_marker(kind: Kind) -> bool
-    ensures { result ≡ is_document_marker kind }
-{
-    matches!(kind, Kind::DocStart | Kind::DocEnd)
-}
-
-fn is_property_in(line: u32, piece: &Piece) -> bool
-    ensures { result ≡ is_property_in line piece.now }
-{
-    matches!(piece.kind, Kind::Anchor | Kind::Tag) && piece.start.line == line
-}
-
-/// How many pieces there are up to and with the first of the properties in this line that end with the last one; 0
-/// where there are none.
-fn from_properties(line: u32, pieces: &[Piece]) -> usize
-    ensures within { result ≤ length pieces.now }
-    ensures properties { from_properties line (reverse pieces.now) ≡ reverse (take result pieces.now) }
-{
-    let n = pieces.len();
-    if n == 0 {
-        return 0;
-    }
-    let last = &pieces[n - 1];
-    if !is_property_in(line, last) {
-        return 0;
-    }
-    if n == 1 {
-        return 1;
-    }
-    let before = &pieces[n - 2];
-    if is_property_in(line, before) && is_anchor(last.kind) != is_anchor(before.kind) {
-        n - 1
+    if kind.is_document_marker() {
+        0
+    } else if kind.is_opening() {
+        depth + 1
+    } else if kind.is_closing() {
+        depth.saturating_sub(1)
     } else {
-        n
+        depth
     }
 }
 
-/// The same for a unit, where the content that ends with the last piece begins with the one of this count.
-fn from_unit(line: u32, content: usize, pieces: &[Piece]) -> usize
-    requires within { content ≤ length pieces.now }
-    requires content { from_content (reverse pieces.now) ≡ reverse (take content pieces.now) }
-    ensures within { result ≤ length pieces.now }
-    ensures unit { from_unit line (reverse pieces.now) ≡ reverse (take result pieces.now) }
+fn is_first(line: u32, latest: Option<Piece>) -> bool
+    ensures { result ≡ is_first line latest }
 {
-    if content == 0 {
-        return from_properties(line, pieces);
+    match latest {
+        None => true,
+        Some(piece) => piece.end_line < u64::from(line),
     }
-    let properties = from_properties(line, &pieces[..content - 1]);
-    if properties == 0 { content } else { properties }
 }
 
-fn is_first(line: u32, pieces: &[Piece]) -> bool
-    ensures { result ≡ is_first line (reverse pieces.now) }
+fn is_behind_flow(latest: Option<Piece>) -> bool
+    ensures { result ≡ is_behind_flow latest }
 {
-    let n = pieces.len();
-    n == 0 || pieces[n - 1].end_line < u64::from(line)
-}
-
-fn is_behind_flow(pieces: &[Piece]) -> bool
-    ensures { result ≡ is_behind_flow (reverse pieces.now) }
-{
-    let n = pieces.len();
-    if n == 0 {
-        return false;
+    match latest {
+        None => false,
+        Some(piece) => piece.kind.opens_item(),
     }
-    let kind = pieces[n - 1].kind;
-    is_opening(kind) || matches!(kind, Kind::Comma)
 }
 
-fn is_behind_indicator(line: u32, pieces: &[Piece]) -> bool
-    ensures { result ≡ is_behind_indicator line (reverse pieces.now) }
+fn is_behind_indicator(line: u32, latest: Option<Piece>) -> bool
+    ensures { result ≡ is_behind_indicator line latest }
 {
-    let n = pieces.len();
-    if n == 0 {
-        return false;
+    match latest {
+        None => false,
+        Some(piece) => piece.start.line == line && piece.kind.asks(piece.key),
     }
-    let last = pieces[n - 1];
-    last.start.line == line
-        && match last.kind {
-            Kind::Entry | Kind::Key => true,
-            Kind::Value => last.key.is_none(),
-            _ => false,
-        }
 }
 
-/// Whether a key may begin there.
-fn may_begin(line: u32, depth: usize, pieces: &[Piece]) -> bool
-    requires { depth ≡ length (openings (reverse pieces.now)) }
-    ensures { result ≡ may_begin line (reverse pieces.now) }
+/// Whether a key may begin in a line, in so many brackets, behind the latest lexeme.
+fn may_begin(line: u32, depth: usize, latest: Option<Piece>) -> bool
+    ensures { result ≡ may_begin line depth latest }
 {
     if depth > 0 {
-        is_behind_flow(pieces)
+        is_behind_flow(latest)
     } else {
-        is_first(line, pieces) || is_behind_indicator(line, pieces)
+        is_first(line, latest) || is_behind_indicator(line, latest)
     }
 }
 
-/// Whether a unit that begins with this piece is the key of a Value there.
-fn is_key_of(place: Pos, first: &Piece) -> bool
-    ensures { result ≡ is_key_of place first.now }
+/// The place of a lexeme of this index, if a key may begin at it.
+fn place_of(index: usize, piece: Piece) -> Option<KeyStart>
+    ensures { result ≡ place_of index piece }
 {
-    first.start.line == place.line
-        && u64::from(place.col) <= u64::from(first.start.col) + 1024
-        && first.may_begin
+    piece.may_begin.then_some(KeyStart {
+        index,
+        column: piece.start.col,
+    })
 }
 
-/// How many lexemes stand before the key of a Value there, if it has one.
-fn key_of(place: Pos, content: usize, pieces: &[Piece]) -> Option<usize>
-    requires within { content ≤ length pieces.now }
-    requires content { from_content (reverse pieces.now) ≡ reverse (take content pieces.now) }
-    ensures { result ≡ key_from place (from_unit place.line (reverse pieces.now)) }
+/// How many lexemes stand before the key of a Value in this column.
+fn key_at(column: u32, key: Option<KeyStart>) -> Option<usize>
+    ensures { result ≡ key_at column key }
 {
-    let n = from_unit(place.line, content, pieces);
-    if n == 0 {
-        return None;
-    }
-    if is_key_of(place, &pieces[n - 1]) {
-        Some(n - 1)
-    } else {
-        None
+    match key {
+        Some(key) if is_near(column as usize, key.column as usize) => Some(key.index),
+        _ => None,
     }
 }
 
-/// A lexeme behind these.
-fn piece<A: Allocator>(at: &At<'_, A>, depth: usize, content: usize, before: &[Piece]) -> Piece
-    requires depth { depth ≡ length (openings (reverse before.now)) }
-    requires within { content ≤ length before.now }
-    requires content { from_content (reverse before.now) ≡ reverse (take content before.now) }
-    ensures { result ≡ piece (placed at.now.line at.now.lexeme.now) (reverse before.now) }
+/// A lexeme in so many brackets, behind the latest one, where the key would begin of a Value in its place.
+fn piece_at<A: Allocator>(
+    at: &At<'_, A>,
+    depth: usize,
+    latest: Option<Piece>,
+    key: Option<KeyStart>,
+) -> Piece
+    ensures { result ≡ piece_at (placed at.now.line at.now.lexeme.now) depth latest key }
 {
     let kind = at.lexeme.kind();
-    let start = Pos {
-        line: at.line,
-        col: at.lexeme.start().col,
-    };
+    let start = at.start();
     let key = match kind {
-        Kind::Value => key_of(start, content, before),
+        Kind::Value => key_at(start.col, key),
         _ => None,
     };
     Piece {
@@ -178,34 +103,24 @@ fn piece<A: Allocator>(at: &At<'_, A>, depth: usize, content: usize, before: &[P
         start,
         end_line: u64::from(at.line) + u64::from(at.lexeme.end().line),
         depth,
-        is_first: is_first(start.line, before),
-        may_begin: may_begin(start.line, depth, before),
+        is_first: is_first(start.line, latest),
+        may_begin: may_begin(start.line, depth, latest),
         key,
     }
 }
 
-/// Opens and closes brackets at a lexeme with which there are so many. The brackets go by such counts. Answers the count
-/// of the first lexeme of the content that ends with this one; 0 where none does.
-fn follow<A: Allocator>(
-    kind: Kind,
-    count: usize,
-    openings: &mut Vec<usize, A>,
-) -> Result<usize, AllocError>
-    ensures openings { OnOk result (reverse openings.new.items ≡ counts_behind kind count (reverse openings.old.items)) }
-    ensures content { IfOk result (λ content. content ≡ content_behind kind count (reverse openings.old.items)) }
+/// Begins a new line, if the latest lexeme begins in another one.
+fn reach_line<A: Allocator + Copy>(
+    unit: &mut KeyUnit<KeyStart, A>,
+    line: u32,
+    latest: Option<Piece>,
+)
+    ensures { unit.new ≡ (if is_in line latest then unit.old else nothing_kept) }
 {
-    if is_document_marker(kind) {
-        openings.clear();
-        return Ok(0);
+    match latest {
+        Some(piece) if piece.start.line == line => {}
+        _ => unit.new_line(),
     }
-    if is_opening(kind) {
-        openings.push(count)?;
-        return Ok(0);
-    }
-    if is_closing(kind) {
-        return Ok(openings.pop().unwrap_or(0));
-    }
-    Ok(if is_leaf(kind) { count } else { 0 })
 }
 
 /// The lexemes with what those before say of each.
@@ -216,12 +131,16 @@ pub fn pieces<A: Allocator + Copy>(
     ensures { IfOk result (λ v. v.items ≡ pieces [] (map (λ x. placed x.line x.lexeme.now) lexemes.now)) }
 {
     let mut pieces = Vec::new(alloc);
-    let mut openings = Vec::new(alloc);
-    let mut content = 0usize;
+    let mut unit = KeyUnit::new(alloc);
+    let mut depth = 0usize;
+    let mut latest: Option<Piece> = None;
     for at in lexemes {
-        let next = piece(at, openings.len(), content, &pieces);
+        reach_line(&mut unit, at.line, latest);
+        let next = piece_at(at, depth, latest, unit.start());
+        unit.pass(next.kind, place_of(pieces.len(), next))?;
         pieces.push(next)?;
-        content = follow(next.kind, pieces.len(), &mut openings)?;
+        depth = depth_behind(next.kind, depth);
+        latest = Some(next);
     }
     Ok(pieces)
 }

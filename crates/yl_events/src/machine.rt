@@ -1,8 +1,8 @@
 //! The parser: a stack of goals over the marked lexemes.
 
-ghost use Rattle.std.specs.Prelude.{◌≡◌, ◌++◌, [], ◌∷◌, IsSome, true, reverse, IfOk, OnOk};
+ghost use Rattle.std.specs.Prelude.{◌≡◌, ◌++◌, [], ◌∷◌, ℕ, IsSome, true, false, reverse, IfOk, OnOk};
 ghost use Rattle.yl_events.specs.Outlines.{bare, missing, ended, decorated, pair_start, pair_end, node_end, ◌then◌};
-ghost use Rattle.yl_events.specs.Machine.{with_anchor, with_tag, takes, forms, items_take, closes, leaves, followed, step, finish, run, taken, Taken, Left, Stepped, Finished};
+ghost use Rattle.yl_events.specs.Machine.{with_anchor, with_tag, takes, takes_marks, forms, items_take, closes, leaves, followed, step, finish, run, taken, Taken, Left, Stepped, Finished};
 ghost use Rattle.yl_events.specs.Answer.{IsParsed, Answers};
 ghost use Rattle.yl_events.specs.declared.symbol.Where.TheVariants.{InInline};
 ghost use Rattle.yl_events.specs.declared.symbol.Goal.TheVariants.{ItemEnd, NodeEnd};
@@ -332,28 +332,6 @@ fn take_entries<A: Allocator>(
     }
 }
 
-/// More entries of an indentless sequence.
-fn take_indentless<A: Allocator>(
-    symbol: Symbol,
-    goals: &mut Vec<Goal, A>,
-    events: &mut Vec<Outline, A>,
-) -> Result<bool, AllocError>
-    ensures { IfOk result (λ taken. Taken (takes Goal.Indentless symbol) taken goals.old.items goals.new.items events.old.items events.new.items) }
-{
-    match symbol {
-        Symbol::One(kind, _) => match kind {
-            Kind::Entry => turn(
-                goals,
-                events,
-                &[Goal::Indentless, Goal::Formed(Where::InBlock(false), None)],
-                &[],
-            ),
-            _ => Ok(false),
-        },
-        _ => Ok(false),
-    }
-}
-
 /// More entries of a block mapping, or its end.
 fn take_pairs<A: Allocator>(
     symbol: Symbol,
@@ -398,107 +376,46 @@ fn take_pairs<A: Allocator>(
     }
 }
 
-/// The Value of a Key's entry.
-fn take_value<A: Allocator>(
-    place: Where,
-    symbol: Symbol,
+/// Takes a lexeme for a goal that takes no mark.
+fn take_lexeme<A: Allocator>(
+    goal: Goal,
+    kind: Kind,
     goals: &mut Vec<Goal, A>,
     events: &mut Vec<Outline, A>,
 ) -> Result<bool, AllocError>
-    ensures { IfOk result (λ taken. Taken (takes (Goal.ValueOf place) symbol) taken goals.old.items goals.new.items events.old.items events.new.items) }
+    requires { takes_marks goal ≡ false }
+    ensures { IfOk result (λ taken. (i : ℕ) → Taken (takes goal (Symbol.One kind i)) taken goals.old.items goals.new.items events.old.items events.new.items) }
 {
-    match symbol {
-        Symbol::One(kind, _) => match kind {
+    match goal {
+        Goal::Prefix | Goal::Directives => match kind {
+            Kind::Directive => turn(goals, events, &[Goal::Directives], &[]),
+            Kind::DocStart => turn(goals, events, &[], &[]),
+            _ => Ok(false),
+        },
+        Goal::Ending => match kind {
+            Kind::DocEnd => turn(goals, events, &[], &[]),
+            _ => Ok(false),
+        },
+        Goal::Indentless => match kind {
+            Kind::Entry => turn(
+                goals,
+                events,
+                &[Goal::Indentless, Goal::Formed(Where::InBlock(false), None)],
+                &[],
+            ),
+            _ => Ok(false),
+        },
+        Goal::ValueOf(place) => match kind {
             Kind::Value => turn(goals, events, &[Goal::Formed(place, None)], &[]),
             _ => Ok(false),
         },
-        _ => Ok(false),
-    }
-}
-
-/// The Value behind a key.
-fn take_colon<A: Allocator>(
-    symbol: Symbol,
-    goals: &mut Vec<Goal, A>,
-    events: &mut Vec<Outline, A>,
-) -> Result<bool, AllocError>
-    ensures { IfOk result (λ taken. Taken (takes Goal.Colon symbol) taken goals.old.items goals.new.items events.old.items events.new.items) }
-{
-    match symbol {
-        Symbol::One(kind, _) => match kind {
+        Goal::Colon => match kind {
             Kind::Value => turn(goals, events, &[], &[]),
             _ => Ok(false),
         },
-        _ => Ok(false),
-    }
-}
-
-/// What comes behind an item.
-fn take_item_end<A: Allocator>(
-    bracket: Bracket,
-    symbol: Symbol,
-    goals: &mut Vec<Goal, A>,
-    events: &mut Vec<Outline, A>,
-) -> Result<bool, AllocError>
-    ensures { IfOk result (λ taken. Taken (takes (Goal.ItemEnd bracket) symbol) taken goals.old.items goals.new.items events.old.items events.new.items) }
-{
-    match symbol {
-        Symbol::One(kind, _) => match kind {
+        Goal::ItemEnd(bracket) => match kind {
             Kind::Comma => turn(goals, events, &[Goal::Items(bracket)], &[]),
             _ => closes(bracket, kind, goals, events),
-        },
-        _ => Ok(false),
-    }
-}
-
-/// Directives and the document's start, if they are there.
-fn take_prefix<A: Allocator>(
-    symbol: Symbol,
-    goals: &mut Vec<Goal, A>,
-    events: &mut Vec<Outline, A>,
-) -> Result<bool, AllocError>
-    ensures { IfOk result (λ taken. Taken (takes Goal.Prefix symbol) taken goals.old.items goals.new.items events.old.items events.new.items) }
-{
-    match symbol {
-        Symbol::One(kind, _) => match kind {
-            Kind::Directive => turn(goals, events, &[Goal::Directives], &[]),
-            Kind::DocStart => turn(goals, events, &[], &[]),
-            _ => Ok(false),
-        },
-        _ => Ok(false),
-    }
-}
-
-/// More directives, or the document's start.
-fn take_directives<A: Allocator>(
-    symbol: Symbol,
-    goals: &mut Vec<Goal, A>,
-    events: &mut Vec<Outline, A>,
-) -> Result<bool, AllocError>
-    ensures { IfOk result (λ taken. Taken (takes Goal.Directives symbol) taken goals.old.items goals.new.items events.old.items events.new.items) }
-{
-    match symbol {
-        Symbol::One(kind, _) => match kind {
-            Kind::Directive => turn(goals, events, &[Goal::Directives], &[]),
-            Kind::DocStart => turn(goals, events, &[], &[]),
-            _ => Ok(false),
-        },
-        _ => Ok(false),
-    }
-}
-
-/// The document's end, if it is there.
-fn take_ending<A: Allocator>(
-    symbol: Symbol,
-    goals: &mut Vec<Goal, A>,
-    events: &mut Vec<Outline, A>,
-) -> Result<bool, AllocError>
-    ensures { IfOk result (λ taken. Taken (takes Goal.Ending symbol) taken goals.old.items goals.new.items events.old.items events.new.items) }
-{
-    match symbol {
-        Symbol::One(kind, _) => match kind {
-            Kind::DocEnd => turn(goals, events, &[], &[]),
-            _ => Ok(false),
         },
         _ => Ok(false),
     }
@@ -514,19 +431,14 @@ fn take<A: Allocator>(
     ensures { IfOk result (λ taken. Taken (takes goal symbol) taken goals.old.items goals.new.items events.old.items events.new.items) }
 {
     match goal {
-        Goal::Prefix => take_prefix(symbol, goals, events),
-        Goal::Directives => take_directives(symbol, goals, events),
-        Goal::Ending => take_ending(symbol, goals, events),
         Goal::Formed(place, properties) => forms(place, properties, symbol, goals, events),
         Goal::Entries => take_entries(symbol, goals, events),
-        Goal::Indentless => take_indentless(symbol, goals, events),
         Goal::Pairs => take_pairs(symbol, goals, events),
-        Goal::ValueOf(place) => take_value(place, symbol, goals, events),
-        Goal::Colon => take_colon(symbol, goals, events),
         Goal::Items(bracket) => items_take(bracket, symbol, goals, events),
-        Goal::ItemEnd(bracket) => take_item_end(bracket, symbol, goals, events),
-        Goal::PairEnd(_) => Ok(false),
-        Goal::NodeEnd(_) => Ok(false),
+        _ => match symbol {
+            Symbol::One(kind, _) => take_lexeme(goal, kind, goals, events),
+            _ => Ok(false),
+        },
     }
 }
 

@@ -4,7 +4,7 @@ ghost use Rattle.std.specs.Prelude.{◌≡◌, ◌∷◌, [], ◌++◌, ◌<◌,
 ghost use Rattle.yl_events.specs.Keys.{placed, pieces};
 ghost use Rattle.yl_events.specs.Marks.{is_in_mapping, continues, closes, left_open, closings, opened, with_opened, opening, is_at, begins_key, key_mark, marks, column_at, as_marked, marked_lexemes};
 
-use crate::keys::{is_document_marker, pieces};
+use crate::keys::pieces;
 use crate::symbol::{Collection, Marked, Marking, OpenBlock, Piece, Symbol};
 use std::alloc::{AllocError, Allocator};
 use yl_lexeme::{At, Kind};
@@ -31,7 +31,7 @@ fn closes(m: Marking, c: OpenBlock) -> bool
     ensures { result ≡ closes m c }
 {
     let column = m.piece.start.col;
-    is_document_marker(m.piece.kind)
+    m.piece.kind.is_document_marker()
         || (m.piece.depth == 0
             && m.piece.is_first
             && (column < c.column || (c.column == column && !continues(m, c))))
@@ -46,10 +46,9 @@ fn close<A: Allocator>(
     ensures left { OnOk result (reverse collections.new.items ≡ left_open m (reverse collections.old.items)) }
     ensures closed { OnOk result (symbols.new.items ≡ symbols.old.items ++ closings m (reverse collections.old.items)) }
 {
-    while let Some(c) = collections.last().copied() {
-        if !closes(m, c) {
-            break;
-        }
+    while let Some(c) = collections.last().copied()
+        && closes(m, c)
+    {
         let _ = collections.pop();
         symbols.push(Symbol::Close)?;
     }
@@ -68,19 +67,13 @@ fn open<A: Allocator>(
     ensures opened { OnOk result (let new = opened m (reverse collections.old.items) in
         symbols.new.items ≡ symbols.old.items ++ opening new i) }
 {
-    if m.piece.depth > 0 || is_document_marker(m.piece.kind) {
+    if m.piece.depth > 0 || m.piece.kind.is_document_marker() {
         return Ok(());
     }
     let column = m.piece.start.col;
     let innermost = collections.last().copied();
-    let here = match innermost {
-        None => false,
-        Some(c) => c.column == column,
-    };
-    let in_mapping = match innermost {
-        None => false,
-        Some(c) => c.column == column && c.is_mapping,
-    };
+    let here = innermost.is_some_and(|c| c.column == column);
+    let in_mapping = innermost.is_some_and(|c| c.column == column && c.is_mapping);
     if is_in_mapping(m) && !in_mapping {
         collections.push(OpenBlock {
             is_mapping: true,

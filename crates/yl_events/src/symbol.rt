@@ -82,6 +82,13 @@ pub enum Block {
     InMapping(bool),
 }
 
+/// Where a key may begin: how many lexemes stand before it, and its column.
+#[derive(Clone, Copy)]
+pub struct KeyStart {
+    pub index: usize,
+    pub column: u32,
+}
+
 /// A lexeme without its value, and what the lexemes before it say of its place.
 #[derive(Clone, Copy)]
 pub struct Piece {

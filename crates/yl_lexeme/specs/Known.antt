@@ -1,8 +1,9 @@
 -- What a scanner keeps of the lexemes that it has read: stacks, and within a row the unit that may become a key.
 use Rattle.std.specs.Prelude.{ℕ, Bool, false, not, ◌&&◌, if◌then◌else◌, List, [], ◌∷◌, Option, Some, None}
 use Rattle.yl_lexeme.specs.declared.lexeme.Kind.{Kind}
-use Rattle.yl_lexeme.specs.Lexeme.{is_document_marker, is_opening, is_closing, is_property, is_anchor, is_leaf}
-use Rattle.yl_lexeme.specs.Past.{Past, Around, open_brackets, levels, last_kind, is_flow, opens_item, is_asking, cut, levels_with}
+use Rattle.yl_lexeme.specs.Lexeme.{is_document_marker, is_opening, is_closing}
+use Rattle.yl_lexeme.specs.Kept.{Kept, popped, kept_behind}
+use Rattle.yl_lexeme.specs.Past.{Past, Around, spot, open_brackets, levels, last_kind, is_flow, opens_item, is_asking, cut, levels_with}
 
 -- levels: one more than each column, the greatest first. brackets: the open ones, the innermost first. asks: the latest lexeme is
 -- an Entry, a Key or a Value without key. unit: where the unit that the latest lexemes make begins, if a key may begin there.
@@ -52,52 +53,23 @@ nothing_known = row_start [] [] None
 
 -- ---- behind one more lexeme
 
-abbrev pub popped : {A : Type 0} → List A → List A
-popped [] = []
-popped (x ∷ xs) = xs
-
-abbrev pub first : {A : Type 0} → List A → Option A
-first [] = None
-first (x ∷ xs) = Some x
-
-abbrev pub joined : Option (Option ℕ) → Option ℕ
-joined None = None
-joined (Some x) = x
-
 -- its own column, if a key may begin at it
 abbrev pub own : Past → Option ℕ
-own x = if x.begins then Some x.column else None
+own x = (spot x).start
 
 abbrev pub brackets_with : Kind → List Kind → List Kind
 brackets_with kind brackets =
     if is_document_marker kind then [] else if is_closing kind then popped brackets else if is_opening kind then kind ∷ brackets else brackets
 
--- where the unit begins that this content ends
-abbrev pub content_start : Option ℕ → Option ℕ → Option (Bool × Option ℕ) → Option ℕ
-content_start own unit None = own
-content_start own unit (Some property) = unit
-
--- where the properties begin that this one ends: one of the other kind may stand before it
-abbrev pub property_start : Bool → Option ℕ → Option (Bool × Option ℕ) → Option ℕ
-property_start anchor own None = own
-property_start anchor own (Some property) = if (if anchor then not property.0 else property.0) then property.1 else own
-
--- closing: where the unit of the bracket begins that a closing one closes
-abbrev pub unit_behind : Kind → Option ℕ → Option ℕ → Option (Bool × Option ℕ) → Option ℕ → Option ℕ
-unit_behind kind own unit property closing =
-    if is_closing kind then closing
-    else if is_leaf kind then content_start own unit property
-    else if is_property kind then property_start (is_anchor kind) own property
-    else None
+-- what is kept of the row's unit
+abbrev pub row_kept : Known → Kept ℕ
+row_kept k = record { unit = k.unit; outer = k.outer; property = k.property }
 
 abbrev pub unit_with : Past → Known → Option ℕ
-unit_with x k = unit_behind x.kind (own x) k.unit k.property (joined (first k.outer))
-
-abbrev pub outer_behind : Kind → Option ℕ → List (Option ℕ) → List (Option ℕ)
-outer_behind kind start outer = if is_closing kind then popped outer else if is_opening kind then start ∷ outer else outer
+unit_with x k = (kept_behind x.kind (own x) (row_kept k)).unit
 
 abbrev pub outer_with : Past → Known → List (Option ℕ)
-outer_with x k = outer_behind x.kind (content_start (own x) k.unit k.property) k.outer
+outer_with x k = (kept_behind x.kind (own x) (row_kept k)).outer
 
 abbrev pub pass : Past → Known → Known
 pass x k = record {
@@ -107,7 +79,7 @@ pass x k = record {
   asks = is_asking x;
   unit = unit_with x k;
   outer = outer_with x k;
-  property = if is_property x.kind then Some (is_anchor x.kind, own x) else None;
+  property = (kept_behind x.kind (own x) (row_kept k)).property;
 }
 
 -- what is kept behind the lexemes of a row, and those before

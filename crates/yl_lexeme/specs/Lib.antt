@@ -1,3 +1,5 @@
+pub mod Kept
+pub mod Keys
 pub mod Known
 pub mod Laws
 pub mod Lexeme

@@ -1,8 +1,9 @@
 -- What the earlier lexemes say of a place: YAML 1.2.2, chapters 6 to 8. They are listed with the latest first: here, those that
 -- begin in this line, and older, those before.
-use Rattle.std.specs.Prelude.{ℕ, Bool, true, false, not, ◌&&◌, ◌||◌, ◌==◌, nat_lt, nat_le, if◌then◌else◌, List, [], ◌∷◌, ◌++◌, ◌+◌, ◌-◌, Option, Some, None, is_some}
+use Rattle.std.specs.Prelude.{ℕ, Bool, true, false, not, ◌&&◌, ◌||◌, ◌==◌, nat_lt, nat_le, if◌then◌else◌, List, [], ◌∷◌, ◌++◌, map, ◌+◌, ◌-◌, Option, Some, None, is_some}
 use Rattle.yl_lexeme.specs.declared.lexeme.Kind.{Kind}
-use Rattle.yl_lexeme.specs.Lexeme.{is_document_marker, is_opening, is_closing, is_property, is_anchor, is_entry, is_key, is_value, is_comma, is_leaf}
+use Rattle.yl_lexeme.specs.Lexeme.{is_document_marker, is_opening, is_closing, is_entry, is_key, is_value, is_comma}
+use Rattle.yl_lexeme.specs.Keys.{Spot, key_start}
 
 -- first: nothing but white space stands before it in its line. flow: it stands in brackets. begins: a key may begin at it.
 -- key: of a Value, the column of its key's first lexeme, if it has a key
@@ -27,59 +28,18 @@ open_brackets skip (x ∷ xs) =
 
 -- ---- keys (implicit keys: 7.4.2, 8.2.2)
 
--- from the partner of a closing bracket on
-abbrev pub from_partner : ℕ → List Past → List Past
-from_partner depth [] = []
-from_partner depth (x ∷ xs) =
-    if is_closing x.kind then from_partner (depth + 1) xs
-    else if is_opening x.kind then (if depth == 1 then x ∷ xs else from_partner (depth - 1) xs)
-    else from_partner depth xs
+-- a lexeme with its column, if a key may begin at it
+abbrev pub spot : Past → Spot ℕ
+spot x = record { kind = x.kind; start = if x.begins then Some x.column else None }
 
--- the latest lexemes that are one content (an alias, a scalar or matched brackets): from its first lexeme on
-abbrev pub from_content : List Past → List Past
-from_content [] = []
-from_content (x ∷ xs) = if is_closing x.kind then from_partner 1 xs else if is_leaf x.kind then x ∷ xs else []
+-- no more than 1024 characters before this column
+abbrev pub is_near : ℕ → ℕ → Bool
+is_near column start = nat_le column (start + 1024)
 
--- two properties of one node: an anchor and a tag
-abbrev pub are_both : Kind → Kind → Bool
-are_both k other = is_property other && (if is_anchor k then not (is_anchor other) else is_anchor other)
-
--- the first lexeme of the properties that the list begins with, and all before it: at most one anchor and one tag
-abbrev pub from_properties : List Past → List Past
-from_properties [] = []
-from_properties (x ∷ []) = if is_property x.kind then x ∷ [] else []
-from_properties (x ∷ y ∷ xs) =
-    if not (is_property x.kind) then [] else if are_both x.kind y.kind then y ∷ xs else x ∷ y ∷ xs
-
-abbrev pub tail : List Past → List Past
-tail [] = []
-tail (x ∷ xs) = xs
-
-abbrev pub or_from : List Past → List Past → List Past
-or_from [] ys = ys
-or_from (x ∷ xs) ys = x ∷ xs
-
-abbrev pub unit_from : List Past → List Past → List Past
-unit_from [] properties = properties
-unit_from (x ∷ xs) properties = or_from (from_properties xs) (x ∷ xs)
-
--- the latest lexemes that are one unit (a content with its properties, or properties alone), from its first lexeme on
-abbrev pub from_unit : List Past → List Past
-from_unit xs = unit_from (from_content xs) (from_properties xs)
-
--- where the unit begins, if a key may begin there
-abbrev pub key_start : List Past → Option ℕ
-key_start [] = None
-key_start (x ∷ xs) = if x.begins then Some x.column else None
-
--- before this column, and no more than 1024 characters
+-- the column of the key of a Value at this column, by where the unit directly before it begins
 abbrev pub near : ℕ → Option ℕ → Option ℕ
 near column None = None
-near column (Some start) = if nat_le start column && nat_le column (start + 1024) then Some start else None
-
--- the column of the key of a Value at this column: the unit before it, all of it in this line
-abbrev pub key_of : ℕ → List Past → Option ℕ
-key_of column here = near column (key_start (from_unit here))
+near column (Some start) = if nat_le start column && is_near column start then Some start else None
 
 abbrev pub opens_item : Option Kind → Bool
 opens_item None = false
@@ -166,7 +126,7 @@ look here older =
       brackets = brackets;
       last = last_kind (here ++ older);
       behind = if is_flow brackets then opens_item (last_kind (here ++ older)) else asks_for_node here;
-      start = key_start (from_unit here);
+      start = key_start (map spot here);
     }
 
 abbrev pub may_begin : Bool → Around → Bool

@@ -14,12 +14,14 @@ pub enum Style {
     Folded,
 }
 
-/// What a lexeme is: the indicators and markers of YAML 1.2.2, chapters 6 to 9, and its scalars.
-#[derive(Clone, Copy, Debug, PartialEq, Eq)]
+/// What a lexeme is: the indicators and markers of YAML 1.2.2, chapters 6 to 9, and its scalars. The default is what a
+/// `SmallVec` fills its unused room with, and says nothing.
+#[derive(Clone, Copy, Debug, Default, PartialEq, Eq)]
 pub enum Kind {
     /// A directive: `%` and what follows.
     Directive,
     /// The marker `---`.
+    #[default]
     DocStart,
     /// The marker `...`.
     DocEnd,
@@ -46,6 +48,51 @@ pub enum Kind {
     /// A tag: `!` and what follows.
     Tag,
     Scalar(Style),
+}
+
+impl Kind {
+    ghost use Rattle.std.specs.Prelude.{◌≡◌, Some};
+    ghost use Rattle.yl_lexeme.specs.Lexeme.{is_document_marker, is_opening, is_closing};
+    ghost use Rattle.yl_lexeme.specs.Past.{opens_item, asks_behind};
+
+    /// Whether it is `---` or `...`.
+    pub fn is_document_marker(self) -> bool
+        ensures { result ≡ is_document_marker self }
+    {
+        matches!(self, Kind::DocStart | Kind::DocEnd)
+    }
+
+    /// Whether it is `[` or `{`.
+    pub fn is_opening(self) -> bool
+        ensures { result ≡ is_opening self }
+    {
+        matches!(self, Kind::SeqOpen | Kind::MapOpen)
+    }
+
+    /// Whether it is `]` or `}`.
+    pub fn is_closing(self) -> bool
+        ensures { result ≡ is_closing self }
+    {
+        matches!(self, Kind::SeqClose | Kind::MapClose)
+    }
+
+    /// Whether an item of a flow collection may begin behind it: it is `[`, `{` or `,`.
+    pub fn opens_item(self) -> bool
+        ensures { result ≡ opens_item (Some self) }
+    {
+        self.is_opening() || matches!(self, Kind::Comma)
+    }
+
+    /// Whether it asks for a node of a block collection: it is an entry, a key, or a value without key.
+    pub fn asks(self, key: Option<usize>) -> bool
+        ensures { result ≡ asks_behind self key }
+    {
+        match self {
+            Kind::Entry | Kind::Key => true,
+            Kind::Value => key.is_none(),
+            _ => false,
+        }
+    }
 }
 
 /// A lexeme. Its lines count from the line in which it begins, its columns from 0 in characters; its end is
@@ -157,4 +204,18 @@ impl<A: Allocator> Comment<A> {
 pub struct At<'a, A: Allocator> {
     pub line: u32,
     pub lexeme: &'a Lexeme<A>,
+}
+
+impl<'a, A: Allocator> At<'a, A> {
+    ghost use Rattle.std.specs.Prelude.{◌≡◌};
+
+    /// Where it begins in the text.
+    pub fn start(&self) -> Pos
+        ensures { result ≡ record { line = self.now.line; col = self.now.lexeme.now.start.col } }
+    {
+        Pos {
+            line: self.line,
+            col: self.lexeme.start().col,
+        }
+    }
 }

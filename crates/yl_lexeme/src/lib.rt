@@ -1,22 +1,33 @@
 //! Lexemes, and what the earlier lexemes say of a place: the columns of the open block collections, the open brackets, and where a
 //! key may begin (YAML 1.2.2, 6.1, 7.4 and 8.2).
 //!
-//! The definition, `specs/Past.antt`, looks back over all lexemes before a place. The code keeps `Surroundings` instead.
+//! The definition, `specs/Past.antt`, looks back over all lexemes before a place. The code keeps `Surroundings` instead. Within a line,
+//! `specs/Keys.antt` says which of the latest lexemes may be a key; `KeyUnit` keeps that, for the scanner and for a document's marks.
 #![tactic(auto)]
 
-ghost use Rattle.yl_lexeme.specs.Laws.{KeptSuffices};
+ghost use Rattle.yl_lexeme.specs.Laws.{KeptSuffices, UnitSuffices};
 
+mod brackets;
+mod levels;
 mod lexeme;
 mod meter;
 mod stack;
 mod surroundings;
+mod unit;
 
+pub use brackets::Brackets;
+pub use levels::Levels;
 pub use lexeme::{At, Comment, Kind, Lexeme, Style};
 pub use meter::Meter;
-pub use stack::Stack;
-pub use surroundings::{Property, Surroundings, near};
+pub use surroundings::{Surroundings, is_near, near};
+pub use unit::KeyUnit;
 
 /// A law: what `Surroundings` keep of the lexemes before a place is what looking back over them finds.
 pub fn surroundings_suffice()
     ensures { KeptSuffices }
+{}
+
+/// A law: where `KeyUnit` keeps that a key begins is where looking back over the line finds it.
+pub fn unit_suffices<T: Copy>()
+    ensures { UnitSuffices T }
 {}

@@ -1,7 +1,7 @@
 //! Stacks.
 
-ghost use Rattle.std.specs.Prelude.{◌≡◌, [], ◌∷◌, IfOk, reverse};
-ghost use Rattle.yl_lexeme.specs.Known.{popped, first};
+ghost use Rattle.std.specs.Prelude.{◌≡◌, [], ◌∷◌, IfOk};
+ghost use Rattle.yl_lexeme.specs.Kept.{popped, first};
 
 use std::alloc::{AllocError, Allocator};
 use std::marker::Model;
@@ -57,12 +57,5 @@ impl<T: Copy, A: Allocator + Copy> Stack<T, A> {
         ensures { self.new ≡ [] }
     {
         self.items.clear();
-    }
-
-    /// The items, from the bottom up.
-    pub fn as_slice(&self) -> &[T]
-        ensures { reverse result.now ≡ self.now }
-    {
-        self.items.as_slice()
     }
 }

@@ -1,108 +1,53 @@
 //! What the earlier lexemes say of a place.
 
-ghost use Rattle.std.specs.Prelude.{◌≡◌, ◌≤◌, ◌<◌, ◌+◌, ◌^◌, [], IfOk, Some, None, if◌then◌else◌};
-ghost use Rattle.yl_lexeme.specs.Lexeme.{is_document_marker, is_opening, is_closing, is_property, is_anchor};
+ghost use Rattle.std.specs.Prelude.{◌≡◌, ◌≤◌, ◌<◌, ◌+◌, ◌^◌, [], IfOk, None};
 ghost use Rattle.std.specs.Option.{ForSome};
-ghost use Rattle.yl_lexeme.specs.Past.{up_to, with_column, near, level, in_flow, may_begin, opens_item, levels_behind, asks_behind};
-ghost use Rattle.yl_lexeme.specs.Known.{around, new_row, reach, pass, row_start, brackets_with, unit_behind, outer_behind, content_start, property_start};
+ghost use Rattle.yl_lexeme.specs.Past.{up_to, with_column, is_near, near, level, in_flow, may_begin, levels_behind};
+ghost use Rattle.yl_lexeme.specs.Known.{around, new_row, reach, pass, row_start, brackets_with};
 ghost use Rattle.yl_lexeme.specs.Past.{past_of};
-ghost use Rattle.yl_lexeme.specs.Surroundings.{known, property_pair};
+ghost use Rattle.yl_lexeme.specs.Surroundings.{known};
 
+use crate::brackets::Brackets;
+use crate::levels::Levels;
 use crate::lexeme::Kind;
-use crate::stack::Stack;
+use crate::unit::KeyUnit;
 use std::alloc::{AllocError, Allocator};
-
-/// A latest lexeme that is a property.
-#[derive(Clone, Copy, Debug, PartialEq, Eq)]
-pub struct Property {
-    pub anchor: bool,
-    /// Its column, if a key may begin there.
-    pub start: Option<usize>,
-}
 
 /// What the earlier lexemes say of a place.
 #[derive(Drop)]
-pub struct Surroundings<A: Allocator + Copy> {
+pub struct Surroundings<'a, A: Allocator + Copy> {
     /// One more than each column of an open block collection.
-    pub levels: Stack<u32, A>,
+    pub levels: Levels<'a, A>,
     /// The open brackets.
-    pub brackets: Stack<Kind, A>,
+    pub brackets: Brackets<'a, A>,
     /// The kind of the last lexeme.
     pub last: Option<Kind>,
     /// The last lexeme of the row is an entry, a key, or a value without key.
     pub asks: bool,
-    /// Where the unit that the last lexemes of the row make begins, if a key may begin there.
-    pub unit: Option<usize>,
-    /// The same for each bracket of the row that is open.
-    pub outer: Stack<Option<usize>, A>,
-    /// The last lexeme of the row, if it is a property.
-    pub property: Option<Property>,
+    /// Where the unit begins that the last lexemes of the row make: its column.
+    pub unit: KeyUnit<usize, A>,
 }
 
-pub fn is_opening(kind: Kind) -> bool
-    ensures { result ≡ is_opening kind }
+/// Whether a key that begins in a column is not too far before this one: at most 1024 characters.
+pub fn is_near(column: usize, start: usize) -> bool
+    ensures { result ≡ is_near column start }
 {
-    matches!(kind, Kind::SeqOpen | Kind::MapOpen)
+    column.saturating_sub(start) <= 1024
 }
 
-pub fn is_closing(kind: Kind) -> bool
-    ensures { result ≡ is_closing kind }
-{
-    matches!(kind, Kind::SeqClose | Kind::MapClose)
-}
-
-fn is_document_marker(kind: Kind) -> bool
-    ensures { result ≡ is_document_marker kind }
-{
-    matches!(kind, Kind::DocStart | Kind::DocEnd)
-}
-
-fn opens_item(last: Option<Kind>) -> bool
-    ensures { result ≡ opens_item last }
-{
-    match last {
-        Some(Kind::SeqOpen | Kind::MapOpen | Kind::Comma) => true,
-        _ => false,
-    }
-}
-
-/// The start of a key that is not too far before this column.
+/// The start of a key, if it is before this column and not too far.
 pub fn near(column: usize, start: Option<usize>) -> Option<usize>
     ensures key { result ≡ near column start }
     ensures before { ForSome result (λ key. key ≤ column) }
 {
     match start {
-        Some(start) if start <= column && column - start <= 1024 => Some(start),
+        Some(start) if start <= column && is_near(column, start) => Some(start),
         _ => None,
     }
 }
 
-/// Where the unit begins that a content ends.
-fn content_start(
-    own: Option<usize>,
-    unit: Option<usize>,
-    property: Option<Property>,
-) -> Option<usize>
-    ensures { result ≡ content_start own unit (property_pair property) }
-{
-    match property {
-        None => own,
-        Some(_) => unit,
-    }
-}
-
-/// Where the properties begin that one ends.
-fn property_start(anchor: bool, own: Option<usize>, property: Option<Property>) -> Option<usize>
-    ensures { result ≡ property_start anchor own (property_pair property) }
-{
-    match property {
-        Some(before) if before.anchor != anchor => before.start,
-        _ => own,
-    }
-}
-
 /// Drops the columns greater than this one.
-fn cut<A: Allocator + Copy>(levels: &mut Stack<u32, A>, column: usize)
+fn cut<A: Allocator + Copy>(levels: &mut Levels<'_, A>, column: usize)
     requires { column < 2 ^ 31 }
     ensures { levels.new ≡ up_to column levels.old }
 {
@@ -115,7 +60,7 @@ fn cut<A: Allocator + Copy>(levels: &mut Stack<u32, A>, column: usize)
 
 /// Adds a column, if it is greater than all.
 fn add_column<A: Allocator + Copy>(
-    levels: &mut Stack<u32, A>,
+    levels: &mut Levels<'_, A>,
     column: usize,
 ) -> Result<(), AllocError>
     requires { column < 2 ^ 31 }
@@ -128,19 +73,17 @@ fn add_column<A: Allocator + Copy>(
     Ok(())
 }
 
-impl<A: Allocator + Copy> Surroundings<A> {
+impl<'a, A: Allocator + Copy> Surroundings<'a, A> {
     /// Nothing has been read.
-    pub fn new(alloc: A) -> Surroundings<A>
+    pub fn new(alloc: &'a A) -> Surroundings<'a, A>
         ensures { known result ≡ row_start [] [] None }
     {
         Surroundings {
-            levels: Stack::new(alloc),
-            brackets: Stack::new(alloc),
+            levels: Levels::new(alloc),
+            brackets: Brackets::new(alloc),
             last: None,
             asks: false,
-            unit: None,
-            outer: Stack::new(alloc),
-            property: None,
+            unit: KeyUnit::new(*alloc),
         }
     }
 
@@ -149,9 +92,7 @@ impl<A: Allocator + Copy> Surroundings<A> {
         ensures { known self.new ≡ new_row (known self.old) }
     {
         self.asks = false;
-        self.unit = None;
-        self.outer.clear();
-        self.property = None;
+        self.unit.new_line();
     }
 
     pub fn in_flow(&self) -> bool
@@ -165,7 +106,7 @@ impl<A: Allocator + Copy> Surroundings<A> {
         ensures { result ≡ may_begin first (around (known self.now)) }
     {
         if self.in_flow() {
-            opens_item(self.last)
+            self.last.is_some_and(Kind::opens_item)
         } else {
             first || self.asks
         }
@@ -200,68 +141,18 @@ impl<A: Allocator + Copy> Surroundings<A> {
         } else {
             None
         };
-        let key = near(at, self.unit);
-        let start = content_start(own, self.unit, self.property);
-        let closing = self.outer.top().flatten();
-        let unit = unit_behind(kind, own, self.unit, self.property, closing);
+        let key = near(at, self.unit.start());
         pass_levels(&mut self.levels, kind, flow, first, at, key)?;
         pass_brackets(&mut self.brackets, kind)?;
-        pass_outer(&mut self.outer, kind, start)?;
+        self.unit.pass(kind, own)?;
         self.last = Some(kind);
-        self.asks = asks_behind(kind, key);
-        self.unit = unit;
-        self.property = property_behind(kind, own);
+        self.asks = kind.asks(key);
         Ok(())
     }
 }
 
-fn asks_behind(kind: Kind, key: Option<usize>) -> bool
-    ensures { result ≡ asks_behind kind key }
-{
-    match kind {
-        Kind::Entry | Kind::Key => true,
-        Kind::Value => key.is_none(),
-        _ => false,
-    }
-}
-
-fn property_behind(kind: Kind, own: Option<usize>) -> Option<Property>
-    ensures { property_pair result ≡ (if is_property kind then Some (is_anchor kind, own) else None) }
-{
-    match kind {
-        Kind::Anchor => Some(Property {
-            anchor: true,
-            start: own,
-        }),
-        Kind::Tag => Some(Property {
-            anchor: false,
-            start: own,
-        }),
-        _ => None,
-    }
-}
-
-/// Where the unit begins that the lexemes up to one of this kind make.
-fn unit_behind(
-    kind: Kind,
-    own: Option<usize>,
-    unit: Option<usize>,
-    property: Option<Property>,
-    closing: Option<usize>,
-) -> Option<usize>
-    ensures { result ≡ unit_behind kind own unit (property_pair property) closing }
-{
-    match kind {
-        Kind::SeqClose | Kind::MapClose => closing,
-        Kind::Scalar(_) | Kind::Alias => content_start(own, unit, property),
-        Kind::Anchor => property_start(true, own, property),
-        Kind::Tag => property_start(false, own, property),
-        _ => None,
-    }
-}
-
 fn pass_levels<A: Allocator + Copy>(
-    levels: &mut Stack<u32, A>,
+    levels: &mut Levels<'_, A>,
     kind: Kind,
     flow: bool,
     first: bool,
@@ -272,7 +163,7 @@ fn pass_levels<A: Allocator + Copy>(
     requires key { ForSome key (λ key. key ≤ at) }
     ensures { IfOk result (λ _. levels.new ≡ levels_behind kind flow first at key levels.old) }
 {
-    if is_document_marker(kind) {
+    if kind.is_document_marker() {
         levels.clear();
         return Ok(());
     }
@@ -290,38 +181,21 @@ fn pass_levels<A: Allocator + Copy>(
 }
 
 fn pass_brackets<A: Allocator + Copy>(
-    brackets: &mut Stack<Kind, A>,
+    brackets: &mut Brackets<'_, A>,
     kind: Kind,
 ) -> Result<(), AllocError>
     ensures { IfOk result (λ _. brackets.new ≡ brackets_with kind brackets.old) }
 {
-    if is_document_marker(kind) {
+    if kind.is_document_marker() {
         brackets.clear();
         return Ok(());
     }
-    if is_closing(kind) {
+    if kind.is_closing() {
         brackets.pop();
         return Ok(());
     }
-    if is_opening(kind) {
+    if kind.is_opening() {
         brackets.push(kind)?;
-    }
-    Ok(())
-}
-
-fn pass_outer<A: Allocator + Copy>(
-    outer: &mut Stack<Option<usize>, A>,
-    kind: Kind,
-    start: Option<usize>,
-) -> Result<(), AllocError>
-    ensures { IfOk result (λ _. outer.new ≡ outer_behind kind start outer.old) }
-{
-    if is_closing(kind) {
-        outer.pop();
-        return Ok(());
-    }
-    if is_opening(kind) {
-        outer.push(start)?;
     }
     Ok(())
 }

@@ -91,7 +91,7 @@ fn tab_before(tab: Option<usize>, column: usize) -> Option<Faulted>
 }
 
 fn in_block<A: Allocator + Copy>(
-    surroundings: &Surroundings<A>,
+    surroundings: &Surroundings<'_, A>,
     fault: Option<Faulted>,
 ) -> Option<Faulted>
     ensures { result ≡ in_block (around (known surroundings.now)) fault }
@@ -101,7 +101,7 @@ fn in_block<A: Allocator + Copy>(
 
 /// A tab before a place that is first in its row, out of brackets.
 pub fn place_fault<A: Allocator + Copy>(
-    surroundings: &Surroundings<A>,
+    surroundings: &Surroundings<'_, A>,
     tab: Option<usize>,
     first: bool,
     at: usize,
@@ -163,7 +163,7 @@ fn is_quoted_or_closing(last: Option<Kind>) -> bool
 /// A document marker or a directive at a row's start.
 fn document_at<A: Allocator + Copy>(
     alloc: A,
-    surroundings: &Surroundings<A>,
+    surroundings: &Surroundings<'_, A>,
     c: char,
     rest: &[char],
     text: &[char],
@@ -334,7 +334,7 @@ fn plain_found<A: Allocator + Copy>(
 fn scalar_at<A: Allocator + Copy>(
     alloc: A,
     at: usize,
-    surroundings: &Surroundings<A>,
+    surroundings: &Surroundings<'_, A>,
     c: char,
     rest: &[char],
     text: &[char],
@@ -366,7 +366,7 @@ fn scalar_at<A: Allocator + Copy>(
 fn word_at<A: Allocator + Copy>(
     alloc: A,
     at: usize,
-    surroundings: &Surroundings<A>,
+    surroundings: &Surroundings<'_, A>,
     c: char,
     rest: &[char],
     text: &[char],
@@ -390,7 +390,7 @@ fn word_at<A: Allocator + Copy>(
 }
 
 /// Whether the innermost bracket is of this kind.
-fn closes<A: Allocator + Copy>(sequence: bool, surroundings: &Surroundings<A>) -> bool
+fn closes<A: Allocator + Copy>(sequence: bool, surroundings: &Surroundings<'_, A>) -> bool
     ensures { result ≡ closes sequence (around (known surroundings.now)).brackets }
 {
     match surroundings.brackets.top() {
@@ -404,7 +404,7 @@ fn closes<A: Allocator + Copy>(sequence: bool, surroundings: &Surroundings<A>) -
 fn flow_at<A: Allocator + Copy>(
     alloc: A,
     at: usize,
-    surroundings: &Surroundings<A>,
+    surroundings: &Surroundings<'_, A>,
     c: char,
     rest: &[char],
     text: &[char],
@@ -450,12 +450,12 @@ fn value_found<A: Allocator + Copy>(
     tab: Option<usize>,
     first: bool,
     at: usize,
-    surroundings: &Surroundings<A>,
+    surroundings: &Surroundings<'_, A>,
 ) -> Found<A>
     requires fits { at < 2 ^ 31 }
     ensures { found_of result ≡ value_found tab first at (around (known surroundings.now)) (near at (around (known surroundings.now)).start) }
 {
-    let fault = match near(at, surroundings.unit) {
+    let fault = match near(at, surroundings.unit.start()) {
         Some(key) => tab_before(tab, key),
         None => {
             let refused = when(
@@ -480,7 +480,7 @@ fn block_at<A: Allocator + Copy>(
     tab: Option<usize>,
     first: bool,
     at: usize,
-    surroundings: &Surroundings<A>,
+    surroundings: &Surroundings<'_, A>,
     c: char,
     rest: &[char],
     text: &[char],
@@ -523,7 +523,7 @@ pub fn found_at<A: Allocator + Copy>(
     tab: Option<usize>,
     first: bool,
     at: usize,
-    surroundings: &Surroundings<A>,
+    surroundings: &Surroundings<'_, A>,
     c: char,
     rest: &[char],
     text: &[char],

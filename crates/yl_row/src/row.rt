@@ -76,7 +76,7 @@ fn lexeme_of<A: Allocator>(at: usize, found: Found<A>) -> Lexeme<A>
 /// Passes a scalar that may go on below, unless there is a fault before it.
 #[tactic(auto, using(crate::proofs::Took::open_goes, crate::proofs::Took::open_stops))]
 fn open_lexeme<A: Allocator + Copy>(
-    surroundings: &mut Surroundings<A>,
+    surroundings: &mut Surroundings<'_, A>,
     before: Option<Faulted>,
     first: bool,
     at: usize,
@@ -101,7 +101,7 @@ fn open_lexeme<A: Allocator + Copy>(
 /// Passes a lexeme that ends in its row, unless there is a fault before it or in it.
 #[tactic(auto, using(crate::proofs::Took::ended_goes, crate::proofs::Took::ended_stops, crate::proofs::Took::ended_document))]
 fn ended_lexeme<A: Allocator + Copy>(
-    surroundings: &mut Surroundings<A>,
+    surroundings: &mut Surroundings<'_, A>,
     lexemes: &mut Vec<Lexeme<A>, A>,
     before: Option<Faulted>,
     first: bool,
@@ -147,7 +147,7 @@ fn ends_document(kind: Kind) -> bool
 /// Reads the lexeme at a column, which is the character `c` with `rest` behind it, `text` together.
 fn lexeme<A: Allocator + Copy>(
     alloc: A,
-    surroundings: &mut Surroundings<A>,
+    surroundings: &mut Surroundings<'_, A>,
     lexemes: &mut Vec<Lexeme<A>, A>,
     tab: Option<usize>,
     first: bool,
@@ -193,7 +193,7 @@ fn comment<A: Allocator + Copy>(alloc: A, at: usize, text: &[char]) -> Result<En
 /// Reads a row: it begins behind `skip` characters of a lexeme, or at its start.
 pub fn read_row<A: Allocator + Copy>(
     alloc: A,
-    surroundings: &mut Surroundings<A>,
+    surroundings: &mut Surroundings<'_, A>,
     lexemes: &mut Vec<Lexeme<A>, A>,
     tab: Option<usize>,
     skip: usize,

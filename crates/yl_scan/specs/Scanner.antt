@@ -1,5 +1,6 @@
 -- What a scanner shows before a row, and what its steps say.
-use Rattle.std.specs.Prelude.{◌≡◌, ◌<◌, ℕ, ◌+◌, ◌-◌, ◌^◌, Bool, true, false, List, [], map, Option, Some, None, option_map, option_to_list}
+use Rattle.std.specs.Prelude.{◌≡◌, ◌≤◌, ◌<◌, ℕ, ◌+◌, ◌-◌, ◌^◌, Bool, true, false, List, [], map, Option, Some, None, option_map, option_to_list}
+use Rattle.std.specs.Option.{ForSome}
 use Rattle.std.specs.Str.{chars}
 use Rattle.yl_text.specs.Lines.{Piece}
 use Rattle.yl_scalar.specs.declared.answer.Place.{Place}
@@ -42,6 +43,20 @@ told_of line s = record {
   sound = s.is_sound;
   fault = option_map (failed_at line) s.failed;
 }
+
+-- what a step tells of the rows above this line began in one of them, and a fault there or in the row itself
+abbrev pub IsAbove : {A : Type 0} → ℕ → Ended A → Type 0
+IsAbove line e = (0 < e.ago) × (e.ago ≤ line)
+
+abbrev pub IsNotBelow : ℕ → Failed → Type 0
+IsNotBelow line f = f.ago ≤ line
+
+abbrev pub BeginsInText : {A : Type 0} → ℕ → Step A → Type 0
+BeginsInText line s = ForSome s.ended (IsAbove line) × ForSome s.failed (IsNotBelow line)
+
+-- a fault of the row itself, if there is one
+abbrev pub FailsHere : {A : Type 0} → Step A → Type 0
+FailsHere s = ForSome s.failed (λ f. f.ago ≡ 0)
 
 -- what is told at the text's end, of no row
 abbrev pub at_end : Told → Out

@@ -14,7 +14,7 @@ ghost use Rattle.yl_row.specs.Reader.{mode_of, value_of};
 ghost use Rattle.yl_row.specs.Run.{read, run};
 ghost use Rattle.yl_row.specs.Rows.{EndRests, gave, ended};
 ghost use Rattle.yl_scan.specs.Left.{Within, given, left, row_told, told};
-ghost use Rattle.yl_scan.specs.Scanner.{IsInStep, IsUnderWay, at_end, scalar_lexeme, stand_of, told_of};
+ghost use Rattle.yl_scan.specs.Scanner.{BeginsInText, FailsHere, IsInStep, IsUnderWay, at_end, scalar_lexeme, stand_of, told_of};
 
 use crate::resting::{Reach, Resting};
 use crate::step::{Ended, Failed, Step};
@@ -72,7 +72,9 @@ fn reach_of(fault: Faulted) -> Reach
 
 /// A row that tells nothing but whether it is sound.
 fn silent<A: Allocator>(alloc: A, is_sound: bool) -> Step<A>
-    ensures { (line : ℕ) → told_of line result ≡ record { above = None; lexemes = []; comment = None; sound = is_sound; fault = None } }
+    ensures told { (line : ℕ) → told_of line result ≡ record { above = None; lexemes = []; comment = None; sound = is_sound; fault = None } }
+    ensures fresh { result.ended ≡ None }
+    ensures whole { result.failed ≡ None }
 {
     Step {
         ended: None,
@@ -95,6 +97,7 @@ fn row_end<A: Allocator + Copy>(
         ≡ given line (told_of line result.0) (left (line + 1) (stand_of false (new_row k) result.1) rows) }
     ensures in_step { (row : List ℕ) → length row < 2 ^ 31 → EndRests row end → IsInStep (line + 1) result.1 }
     ensures fresh { result.0.ended ≡ None }
+    ensures here { FailsHere result.0 }
 {
     let mut step = Step {
         ended: None,
@@ -141,7 +144,7 @@ fn is_sound_behind(reach: Reach, row: &[char]) -> bool
 /// Reads a row from a column on, at its start or behind a lexeme that began above.
 fn read_on<A: Allocator + Copy>(
     alloc: A,
-    surroundings: &mut Surroundings<A>,
+    surroundings: &mut Surroundings<'_, A>,
     line: u32,
     skip: usize,
     fresh: bool,
@@ -154,6 +157,7 @@ fn read_on<A: Allocator + Copy>(
         ≡ given line (told_of line r.0) (left (line + 1) (stand_of false (new_row (known surroundings.new)) r.1) rows)) }
     ensures in_step { IfOk result (λ r. IsInStep (line + 1) r.1) }
     ensures fresh { IfOk result (λ r. r.0.ended ≡ None) }
+    ensures here { IfOk result (λ r. FailsHere r.0) }
 {
     surroundings.new_row();
     let tab = tab_of(fresh, row);
@@ -165,7 +169,7 @@ fn read_on<A: Allocator + Copy>(
 /// Reads a row that begins inside no lexeme.
 fn fresh_row<A: Allocator + Copy>(
     alloc: A,
-    surroundings: &mut Surroundings<A>,
+    surroundings: &mut Surroundings<'_, A>,
     line: u32,
     row: &[char],
 ) -> Result<(Step<A>, Resting<A>), AllocError>
@@ -175,6 +179,7 @@ fn fresh_row<A: Allocator + Copy>(
         ≡ given line (told_of line r.0) (left (line + 1) (stand_of false (new_row (known surroundings.new)) r.1) rows)) }
     ensures in_step { IfOk result (λ r. IsInStep (line + 1) r.1) }
     ensures fresh { IfOk result (λ r. r.0.ended ≡ None) }
+    ensures here { IfOk result (λ r. FailsHere r.0) }
 {
     let is_sound = is_sound_start(line, row);
     let (step, resting) = read_on(alloc, surroundings, line, 0, true, is_sound, row)?;
@@ -221,7 +226,7 @@ fn scalar_failed(ago: u32, fault: ScalarFault, place: Place) -> Failed
 /// Reads a row that begins inside a scalar, or directly behind it.
 fn within_row<A: Allocator + Copy>(
     alloc: A,
-    surroundings: &mut Surroundings<A>,
+    surroundings: &mut Surroundings<'_, A>,
     line: u32,
     begun: u32,
     scalar: Open<A>,
@@ -233,6 +238,7 @@ fn within_row<A: Allocator + Copy>(
         left line (Within begun scalar.style scalar.at (mode_of scalar.reader) (new_row (known surroundings.old))) (row.now ∷ rows)
         ≡ given line (told_of line r.0) (left (line + 1) (stand_of false (new_row (known surroundings.new)) r.1) rows)) }
     ensures in_step { IfOk result (λ r. IsInStep (line + 1) r.1) }
+    ensures in_text { IfOk result (λ r. BeginsInText line r.0) }
 {
     let Open { style, at, reader } = scalar;
     let (reader, answer) = reader.read(row)?;
@@ -282,6 +288,7 @@ fn halted_row<A: Allocator + Copy>(alloc: A, reach: Reach, row: &[char]) -> (Ste
         told line (stopped_rows reach.to_end reach.down (row.now ∷ rows))
         ≡ given line (told_of line result.0) (left (line + 1) (stand_of false k result.1) rows) }
     ensures in_step { (line : ℕ) → IsInStep line result.1 }
+    ensures in_text { (line : ℕ) → BeginsInText line result.0 }
 {
     let step = silent(alloc, is_sound_behind(reach, row));
     let reach = Reach {
@@ -294,7 +301,7 @@ fn halted_row<A: Allocator + Copy>(alloc: A, reach: Reach, row: &[char]) -> (Ste
 /// Reads a row.
 pub fn fed_row<A: Allocator + Copy>(
     alloc: A,
-    surroundings: &mut Surroundings<A>,
+    surroundings: &mut Surroundings<'_, A>,
     line: u32,
     resting: Resting<A>,
     row: &[char],
@@ -305,6 +312,7 @@ pub fn fed_row<A: Allocator + Copy>(
         left line (stand_of (line == 0) (new_row (known surroundings.old)) resting) (row.now ∷ rows)
         ≡ given line (told_of line r.0) (left (line + 1) (stand_of false (new_row (known surroundings.new)) r.1) rows)) }
     ensures in_step { IfOk result (λ r. IsInStep (line + 1) r.1) }
+    ensures in_text { IfOk result (λ r. BeginsInText line r.0) }
 {
     match resting {
         Resting::Between => {
@@ -319,6 +327,33 @@ pub fn fed_row<A: Allocator + Copy>(
     }
 }
 
+/// What the text's end tells of a scalar in progress, behind so many rows.
+fn ended_scalar<A: Allocator + Copy>(
+    alloc: A,
+    line: u32,
+    begun: u32,
+    scalar: Open<A>,
+) -> Result<Step<A>, AllocError>
+    requires { IsUnderWay line begun scalar.at (mode_of scalar.reader) }
+    ensures told { IfOk result (λ step. (k : Known) → left line (Within begun scalar.style scalar.at (mode_of scalar.reader) k) [] ≡ at_end (told_of line step)) }
+    ensures in_text { IfOk result (λ step. BeginsInText line step) }
+{
+    let mut step = silent(alloc, false);
+    let Open { style, at, reader } = scalar;
+    let ago = line - begun;
+    match reader.finish() {
+        Outcome::Whole(place) => {
+            let lexeme = scalar_lexeme(alloc, style, at, &reader, place)?;
+            step.ended = Some(Ended { ago, lexeme });
+            Ok(step)
+        }
+        Outcome::Refused(fault, place) => {
+            step.failed = Some(scalar_failed(ago, fault, place));
+            Ok(step)
+        }
+    }
+}
+
 /// What the text's end tells, behind so many rows.
 pub fn ended_text<A: Allocator + Copy>(
     alloc: A,
@@ -326,19 +361,14 @@ pub fn ended_text<A: Allocator + Copy>(
     resting: Resting<A>,
 ) -> Result<Step<A>, AllocError>
     requires { IsInStep line resting }
-    ensures { IfOk result (λ step. (start : Bool) (k : Known) → left line (stand_of start k resting) [] ≡ at_end (told_of line step)) }
+    ensures told { IfOk result (λ step. (start : Bool) (k : Known) → left line (stand_of start k resting) [] ≡ at_end (told_of line step)) }
+    ensures in_text { IfOk result (λ step. BeginsInText line step) }
 {
-    let mut step = silent(alloc, false);
-    if let Resting::Within(begun, scalar) = resting {
-        let Open { style, at, reader } = scalar;
-        let ago = line - begun;
-        match reader.finish() {
-            Outcome::Whole(place) => {
-                let lexeme = scalar_lexeme(alloc, style, at, &reader, place)?;
-                step.ended = Some(Ended { ago, lexeme });
-            }
-            Outcome::Refused(fault, place) => step.failed = Some(scalar_failed(ago, fault, place)),
+    match resting {
+        Resting::Within(begun, scalar) => {
+            let step = ended_scalar(alloc, line, begun, scalar)?;
+            Ok(step)
         }
+        Resting::Between | Resting::Halted(_) => Ok(silent(alloc, false)),
     }
-    Ok(step)
 }

@@ -10,9 +10,11 @@ mod feeding;
 mod resting;
 mod scanner;
 mod step;
+mod whole;
 
 pub use scanner::Scanner;
 pub use step::{Ended, Failed, Step};
+pub use whole::{CommentAt, FaultAt, LexemeAt, Scanned, scan};
 pub use yl_row::{Faulted, ScanFault};
 
 /// A law: a scalar that is carried from row to row gives what it gives when it is read whole.

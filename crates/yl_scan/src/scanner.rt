@@ -5,7 +5,7 @@ ghost use Rattle.std.specs.Option.{ForSome};
 ghost use Rattle.std.specs.Str.{chars};
 ghost use Rattle.yl_lexeme.specs.Known.{nothing_known};
 ghost use Rattle.yl_scan.specs.Left.{Fresh, given, left};
-ghost use Rattle.yl_scan.specs.Scanner.{at_end, is_halted, known_in, told_of};
+ghost use Rattle.yl_scan.specs.Scanner.{BeginsInText, at_end, is_halted, known_in, told_of};
 
 use crate::feeding::{ended_text, fed_row};
 use crate::resting::Resting;
@@ -18,9 +18,9 @@ use yl_text::{Row, characters};
 
 /// A scanner. It is fed a text's rows from the first on, and tells what each row tells.
 #[derive(Drop)]
-pub struct Scanner<A: Allocator + Copy> {
+pub struct Scanner<'a, A: Allocator + Copy> {
     alloc: A,
-    surroundings: Surroundings<A>,
+    surroundings: Surroundings<'a, A>,
     /// The characters of the row.
     characters: Vec<char, A>,
     resting: Resting<A>,
@@ -30,7 +30,7 @@ pub struct Scanner<A: Allocator + Copy> {
     refused: bool,
 }
 
-impl<A: Allocator + Copy> Model for Scanner<A> {
+impl<'a, A: Allocator + Copy> Model for Scanner<'a, A> {
     ghost use Rattle.std.specs.Prelude.{◌==◌};
     ghost use Rattle.yl_lexeme.specs.Known.{new_row};
     ghost use Rattle.yl_lexeme.specs.Surroundings.{known};
@@ -43,15 +43,15 @@ impl<A: Allocator + Copy> Model for Scanner<A> {
     ghost invariant = { λ s. IsInStep s.line s.resting };
 }
 
-impl<A: Allocator + Copy> Scanner<A> {
+impl<'a, A: Allocator + Copy> Scanner<'a, A> {
     /// A scanner at a text's start.
-    pub fn start(alloc: A) -> Scanner<A>
+    pub fn start(alloc: &'a A) -> Scanner<'a, A>
         ensures { result ≡ record { line = 0; stand = Fresh true nothing_known; refused = false } }
     {
         Scanner {
-            alloc,
+            alloc: *alloc,
             surroundings: Surroundings::new(alloc),
-            characters: Vec::new(alloc),
+            characters: Vec::new(*alloc),
             resting: Resting::Between,
             line: 0,
             refused: false,
@@ -64,6 +64,7 @@ impl<A: Allocator + Copy> Scanner<A> {
         ensures told { IfOk result (λ step. (rows : List (List ℕ)) →
             left self.old.line self.old.stand (chars row.now.text ∷ rows)
             ≡ given self.old.line (told_of self.old.line step) (left self.new.line self.new.stand rows)) }
+        ensures in_text { IfOk result (λ step. BeginsInText self.old.line step) }
         ensures line { OnOk result (self.new.line ≡ self.old.line + 1) }
         ensures refused { self.new.refused ≡ self.old.refused }
     {
@@ -89,6 +90,7 @@ impl<A: Allocator + Copy> Scanner<A> {
         ensures told { IfOk result (λ step. (rows : List (List ℕ)) →
             left self.old.line self.old.stand (chars row.now.text ∷ rows)
             ≡ given self.old.line (told_of self.old.line step) (left self.new.line self.new.stand rows)) }
+        ensures in_text { IfOk result (λ step. BeginsInText self.old.line step) }
         ensures line { OnOk result (self.new.line ≡ self.old.line + 1) }
         ensures meter { meter.new ≡ record { lines = meter.old.lines + 1; documents = meter.old.documents } }
         ensures goes_on { OnOk result (self.new.refused ≡ false) }
@@ -103,6 +105,13 @@ impl<A: Allocator + Copy> Scanner<A> {
         let step = self.read(row)?;
         self.refused = false;
         Ok(step)
+    }
+
+    /// How many rows were fed.
+    pub fn line(&self) -> u32
+        ensures { result ≡ self.now.line }
+    {
+        self.line
     }
 
     /// Whether a fault has come before.
@@ -138,8 +147,9 @@ impl<A: Allocator + Copy> Scanner<A> {
 
     /// What the text's end tells.
     pub fn finish(self) -> Result<Step<A>, AllocError>
-        ensures told { IfOk result (λ step. left self.line self.stand [] ≡ at_end (told_of self.line step)) }
-        ensures stays { self.refused ≡ true → IsErr result }
+        ensures told { IfOk result (λ step. left self.entry.line self.entry.stand [] ≡ at_end (told_of self.entry.line step)) }
+        ensures in_text { IfOk result (λ step. BeginsInText self.entry.line step) }
+        ensures stays { self.entry.refused ≡ true → IsErr result }
     {
         if self.refused {
             return Err(AllocError);

@@ -16,7 +16,7 @@ fn read<A: Allocator + Copy>(
     if row.len() > 2_000_000 {
         return Err(AllocError);
     }
-    let mut surroundings = Surroundings::new(alloc);
+    let mut surroundings = Surroundings::new(&alloc);
     let mut lexemes = Vec::new(alloc);
     let tab = first_tab(&row);
     let end = read_row(alloc, &mut surroundings, &mut lexemes, tab, 0, true, &row)?;

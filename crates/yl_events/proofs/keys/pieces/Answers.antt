@@ -1,22 +1,23 @@
-use Rattle.std.proofs.Common.{rules, ◌≡◌, ◌+◌, map, length, reverse, arith}
-use Rattle.yl_events.specs.Keys.{placed, openings}
-use Rattle.yl_events.proofs.Back.{content_within, content_back, openings_step, content_step, pieces_step, mapped_at}
+use Rattle.std.proofs.Common.{rules, ◌≡◌, ◌+◌, reverse, arith}
+use Rattle.yl_lexeme.specs.Kept.{kept_of}
+use Rattle.yl_events.specs.Keys.{placed, here, piece}
+use Rattle.yl_events.proofs.Back.{reached, piece_there, line_there, unit_step, latest_step, depth_step, pieces_step, mapped_at}
 use Rattle.yl_events.proofs.keys.pieces.Goals as goal
-
-pub piece-next-requires-clause-within : goal.piece-next-requires-clause-within
-piece-next-requires-clause-within g c = rw c.deref.ensures.value (content_within c.loop-at.pieces.items c.loop-at.content c.loop-at.invariant.content)
-
-pub piece-next-requires-clause-content : goal.piece-next-requires-clause-content
-piece-next-requires-clause-content g c = rw c.deref.ensures.value (content_back c.loop-at.pieces.items c.loop-at.content c.loop-at.invariant.content)
 
 pub loop-at-preserved : goal.loop-at-preserved
 loop-at-preserved g c =
+    let inv = c.loop-at.invariant in
+    let before = reverse c.loop-at.pieces.items in
+    let x = c.piece_at-next.result in
+    let y = placed c.at-item.result.line c.at-item.result.lexeme.now in
     let more = c.in_ok-push.ensures.items in
-    let here = mapped_at (λ x. placed x.line x.lexeme.now) c.args.lexemes.now c.loop-at.at-index (c.loop-at.at-index + 1) c.at-item.result (omega arith) c.loop-at-test.true c.at-item.is in
-    let count : c.len-in-loop-at.result ≡ length c.push.new.self.items = search rules in
-    let before : reverse c.loop-at.openings.items ≡ map length (openings (reverse c.loop-at.pieces.items)) = c.loop-at.invariant.openings in
+    let there = mapped_at (λ x. placed x.line x.lexeme.now) c.args.lexemes.now c.loop-at.at-index (c.loop-at.at-index + 1) c.at-item.result (omega arith) c.loop-at-test.true c.at-item.is in
+    let unit : c.reach_line.new.unit ≡ kept_of (here y.start.line before) = reached _ before _ _ _ inv.latest inv.unit c.reach_line.ensures in
+    let is : x ≡ piece y before = piece_there y before x _ _ _ _ inv.depth inv.latest unit c.start.ensures c.piece_at-next.ensures in
     record {
-      pieces = pieces_step c.loop-at.pieces.items c.push.new.self.items c.piece-next.result _ _ _ _ here c.loop-at.invariant.pieces (rw c.deref.ensures.value at c.piece-next.ensures) more;
-      openings = openings_step c.loop-at.pieces.items c.push.new.self.items c.piece-next.result c.len-in-loop-at.result _ _ more count before c.in_ok-content.ensures.openings;
-      content = content_step c.loop-at.pieces.items c.push.new.self.items c.piece-next.result c.len-in-loop-at.result _ c.in_ok-content.content more count before c.in_ok-content.ensures.content;
+      pieces = pieces_step c.loop-at.pieces.items c.push.new.self.items x y _ _ _ there inv.pieces is more;
+      latest = latest_step c.loop-at.pieces.items c.push.new.self.items x more;
+      depth = depth_step c.loop-at.pieces.items c.push.new.self.items x c.loop-at.depth c.depth_behind-depth.result more inv.depth c.depth_behind-depth.ensures.one;
+      most = omega (arith, inv.most, c.depth_behind-depth.ensures.most);
+      unit = unit_step y.start.line c.loop-at.pieces.items c.push.new.self.items x c.reach_line.new.unit _ c.len.result c.place_of.result (line_there y x _ _ _ c.piece_at-next.ensures) more unit (search rules) c.place_of.ensures c.in_ok-pass.ensures;
     }

@@ -26,7 +26,7 @@ returns-in-GoesOn-clause-told g c = λ rows.
     let way = c.requires.under_way in
     carry_on c.args.line c.args.begun s.style s.at k c.args.row.now rows refl way.above (mode_of s.reader) (mode_of c.in_ok-reader.reader) way.rows way.spaces
     (sym c.in_ok-reader.ensures.line ∙ ap (λ l. said_by l c.in_ok-reader.reader) c.in-GoesOn.is)
-    ∙ ap (λ t. given c.args.line t (left (c.args.line + 1) (Within c.args.begun s.style s.at (mode_of c.in_ok-reader.reader) k) rows)) (sym (c.silent.ensures c.args.line))
+    ∙ ap (λ t. given c.args.line t (left (c.args.line + 1) (Within c.args.begun s.style s.at (mode_of c.in_ok-reader.reader) k) rows)) (sym (c.silent.ensures.told c.args.line))
 
 pub returns-in-GoesOn-clause-in_step : goal.returns-in-GoesOn-clause-in_step
 returns-in-GoesOn-clause-in_step g c =
@@ -66,5 +66,5 @@ returns-in-Fails-clause-told g c = λ rows.
     let way = c.requires.under_way in
     carry_fails c.args.line c.args.begun s.style s.at k c.args.row.now rows way.above (mode_of s.reader) c.in-Fails.fault c.in-Fails.place.down c.in-Fails.place.column way.rows way.spaces
     (sym c.in_ok-reader.ensures.line ∙ ap (λ l. said_by l c.in_ok-reader.reader) c.in-Fails.is)
-    ∙ with_failed c.args.line c.args.begun (omega (arith, way.above)) c.silent-step.result c.scalar_failed.result _ _ (left (c.args.line + 1) (Halted false 0) rows) (c.silent-step.ensures c.args.line)
+    ∙ with_failed c.args.line c.args.begun (omega (arith, way.above)) c.silent-step.result c.scalar_failed.result _ _ (left (c.args.line + 1) (Halted false 0) rows) (c.silent-step.ensures.told c.args.line)
     (ap (λ f. f.ago) c.scalar_failed.ensures) (ap (λ f. f.fault) c.scalar_failed.ensures)

@@ -1,10 +1,10 @@
 use Rattle.std.proofs.Common.{◌≡◌, ◌≤◌, length, reverse, take}
-use Rattle.yl_events.specs.Faults.{has_anchor}
-use Rattle.yl_events.proofs.fault_kind.has_anchor.Given as goal
+use Rattle.yl_events.specs.Faults.{has}
+use Rattle.yl_events.proofs.fault_kind.has.Given as goal
 
 abbrev pub invariant-loop-n : goal.invariant-loop-n
 invariant-loop-n l = record {
-  same : has_anchor (reverse (take l.n l.before)) ≡ has_anchor (reverse l.before);
+  same : has l.anchor (reverse (take l.n l.before)) ≡ has l.anchor (reverse l.before);
   within : l.n ≤ length l.before;
 }
 

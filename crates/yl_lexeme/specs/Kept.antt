@@ -1,0 +1,71 @@
+-- What is kept of the lexemes of a line that have been read: the unit that may become a key.
+use Rattle.std.specs.Prelude.{Bool, not, if◌then◌else◌, List, [], ◌∷◌, Option, Some, None}
+use Rattle.yl_lexeme.specs.declared.lexeme.Kind.{Kind}
+use Rattle.yl_lexeme.specs.declared.unit.Property.{Property}
+use Rattle.yl_lexeme.specs.Lexeme.{is_opening, is_closing, is_property, is_anchor, is_leaf}
+use Rattle.yl_lexeme.specs.Keys.{Spot}
+
+-- unit: where the unit that the latest lexemes make begins, if a key may begin there. outer: the same for each open bracket of the
+-- line, the innermost first. property: of a latest lexeme that is a property, whether it is an anchor, and its place, if a key may
+-- begin there
+pub record Kept (T : Type 0) : Type 0 where
+  pub unit : Option T
+  pub outer : List (Option T)
+  pub property : Option (Bool × Option T)
+
+-- at the start of a line
+abbrev pub nothing_kept : {T : Type 0} → Kept T
+nothing_kept = record { unit = None; outer = []; property = None }
+
+abbrev pub property_pair : {T : Type 0} → Option (Property T) → Option (Bool × Option T)
+property_pair None = None
+property_pair (Some p) = Some (p.is_anchor, p.start)
+
+abbrev pub popped : {A : Type 0} → List A → List A
+popped [] = []
+popped (x ∷ xs) = xs
+
+abbrev pub first : {A : Type 0} → List A → Option A
+first [] = None
+first (x ∷ xs) = Some x
+
+abbrev pub joined : {A : Type 0} → Option (Option A) → Option A
+joined None = None
+joined (Some x) = x
+
+-- where the unit begins that this content ends
+abbrev pub content_start : {T : Type 0} → Option T → Option T → Option (Bool × Option T) → Option T
+content_start own unit None = own
+content_start own unit (Some property) = unit
+
+-- where the properties begin that this one ends: one of the other kind may stand before it
+abbrev pub property_start : {T : Type 0} → Bool → Option T → Option (Bool × Option T) → Option T
+property_start anchor own None = own
+property_start anchor own (Some property) = if (if anchor then not property.0 else property.0) then property.1 else own
+
+-- closing: where the unit of the bracket begins that a closing one closes
+abbrev pub unit_behind : {T : Type 0} → Kind → Option T → Option T → Option (Bool × Option T) → Option T → Option T
+unit_behind kind own unit property closing =
+    if is_closing kind then closing
+    else if is_leaf kind then content_start own unit property
+    else if is_property kind then property_start (is_anchor kind) own property
+    else None
+
+abbrev pub outer_behind : {T : Type 0} → Kind → Option T → List (Option T) → List (Option T)
+outer_behind kind start outer = if is_closing kind then popped outer else if is_opening kind then start ∷ outer else outer
+
+abbrev pub property_behind : {T : Type 0} → Kind → Option T → Option (Bool × Option T)
+property_behind kind own = if is_property kind then Some (is_anchor kind, own) else None
+
+-- behind one more lexeme
+abbrev pub kept_behind : {T : Type 0} → Kind → Option T → Kept T → Kept T
+kept_behind kind own k = record {
+  unit = unit_behind kind own k.unit k.property (joined (first k.outer));
+  outer = outer_behind kind (content_start own k.unit k.property) k.outer;
+  property = property_behind kind own;
+}
+
+-- behind the lexemes of a line
+abbrev pub kept_of : {T : Type 0} → List (Spot T) → Kept T
+kept_of [] = nothing_kept
+kept_of (x ∷ xs) = kept_behind x.kind x.start (kept_of xs)

@@ -1,0 +1,154 @@
+//! The unit that the latest lexemes of a line make, which may become a key (YAML 1.2.2, 7.4.2 and 8.2.2).
+
+ghost use Rattle.std.specs.Prelude.{◌≡◌, IfOk};
+ghost use Rattle.yl_lexeme.specs.Kept.{nothing_kept, property_pair, content_start, property_start, property_behind, unit_behind, outer_behind, kept_behind};
+
+use crate::lexeme::Kind;
+use crate::stack::Stack;
+use std::alloc::{AllocError, Allocator};
+use std::marker::Model;
+
+/// A latest lexeme that is a property, and its place, if a key may begin there.
+#[derive(Clone, Copy)]
+struct Property<T: Copy> {
+    is_anchor: bool,
+    start: Option<T>,
+}
+
+/// What the lexemes of a line that have been read say of a key: where the unit begins that the latest ones make, a content with its
+/// properties or properties alone. A `T` stands for a place. What is kept is what looking back over the line finds (`unit_suffices`).
+#[derive(Drop)]
+pub struct KeyUnit<T: Copy, A: Allocator + Copy> {
+    /// Where that unit begins, if a key may begin there.
+    unit: Option<T>,
+    /// The same for each open bracket of the line.
+    outer: Stack<Option<T>, A>,
+    /// The latest lexeme, if it is a property.
+    property: Option<Property<T>>,
+}
+
+impl<T: Copy, A: Allocator + Copy> Model for KeyUnit<T, A> {
+    ghost use Rattle.yl_lexeme.specs.Kept.{Kept, property_pair};
+
+    ghost Value = { Kept T };
+
+    ghost view = { λ u. record { unit = u.unit; outer = u.outer; property = property_pair u.property } };
+}
+
+impl<T: Copy, A: Allocator + Copy> KeyUnit<T, A> {
+    /// At the start of a line.
+    pub fn new(alloc: A) -> KeyUnit<T, A>
+        ensures { result ≡ nothing_kept }
+    {
+        KeyUnit {
+            unit: None,
+            outer: Stack::new(alloc),
+            property: None,
+        }
+    }
+
+    /// A new line begins: what was read says no more of a key.
+    pub fn new_line(&mut self)
+        ensures { self.new ≡ nothing_kept }
+    {
+        self.unit = None;
+        self.outer.clear();
+        self.property = None;
+    }
+
+    /// Where a key begins that ends with the latest lexeme.
+    pub fn start(&self) -> Option<T>
+        ensures { result ≡ self.now.unit }
+    {
+        self.unit
+    }
+
+    /// One more lexeme of the line has been read; `own` is its place, if a key may begin at it. The only error is memory.
+    pub fn pass(&mut self, kind: Kind, own: Option<T>) -> Result<(), AllocError>
+        ensures { IfOk result (λ _. self.new ≡ kept_behind kind own self.old) }
+    {
+        let start = content_start(own, self.unit, self.property);
+        let closing = self.outer.top().flatten();
+        let unit = unit_behind(kind, own, self.unit, self.property, closing);
+        pass_outer(&mut self.outer, kind, start)?;
+        self.unit = unit;
+        self.property = property_behind(kind, own);
+        Ok(())
+    }
+}
+
+/// Where the unit begins that a content ends.
+fn content_start<T: Copy>(
+    own: Option<T>,
+    unit: Option<T>,
+    property: Option<Property<T>>,
+) -> Option<T>
+    ensures { result ≡ content_start own unit (property_pair property) }
+{
+    match property {
+        None => own,
+        Some(_) => unit,
+    }
+}
+
+/// Where the properties begin that one ends.
+fn property_start<T: Copy>(
+    is_anchor: bool,
+    own: Option<T>,
+    property: Option<Property<T>>,
+) -> Option<T>
+    ensures { result ≡ property_start is_anchor own (property_pair property) }
+{
+    match property {
+        Some(before) if before.is_anchor != is_anchor => before.start,
+        _ => own,
+    }
+}
+
+fn property_behind<T: Copy>(kind: Kind, own: Option<T>) -> Option<Property<T>>
+    ensures { property_pair result ≡ property_behind kind own }
+{
+    match kind {
+        Kind::Anchor | Kind::Tag => Some(Property {
+            is_anchor: kind == Kind::Anchor,
+            start: own,
+        }),
+        _ => None,
+    }
+}
+
+/// Where the unit begins that the lexemes up to one of this kind make.
+fn unit_behind<T: Copy>(
+    kind: Kind,
+    own: Option<T>,
+    unit: Option<T>,
+    property: Option<Property<T>>,
+    closing: Option<T>,
+) -> Option<T>
+    ensures { result ≡ unit_behind kind own unit (property_pair property) closing }
+{
+    match kind {
+        Kind::SeqClose | Kind::MapClose => closing,
+        Kind::Scalar(_) | Kind::Alias => content_start(own, unit, property),
+        Kind::Anchor => property_start(true, own, property),
+        Kind::Tag => property_start(false, own, property),
+        _ => None,
+    }
+}
+
+fn pass_outer<T: Copy, A: Allocator + Copy>(
+    outer: &mut Stack<Option<T>, A>,
+    kind: Kind,
+    start: Option<T>,
+) -> Result<(), AllocError>
+    ensures { IfOk result (λ _. outer.new ≡ outer_behind kind start outer.old) }
+{
+    if kind.is_closing() {
+        outer.pop();
+        return Ok(());
+    }
+    if kind.is_opening() {
+        outer.push(start)?;
+    }
+    Ok(())
+}
