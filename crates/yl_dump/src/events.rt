@@ -96,7 +96,7 @@ fn print_documents<A: Allocator + Copy, W: Write>(
     requires { Fits rows.now }
 {
     let mut document = Vec::new(alloc);
-    let mut scanner = Scanner::start(alloc);
+    let mut scanner = Scanner::start(&alloc);
     let mut meter = Meter::new();
     let mut fault = None;
     let mut line = 0;

@@ -105,7 +105,7 @@ fn print_lexemes<A: Allocator + Copy, W: Write>(
 ) -> Result<(), DumpFault>
     requires { Fits rows.now }
 {
-    let mut scanner = Scanner::start(alloc);
+    let mut scanner = Scanner::start(&alloc);
     let mut meter = Meter::new();
     let mut line = 0;
     for row in rows {

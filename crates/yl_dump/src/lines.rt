@@ -44,7 +44,7 @@ fn lines_of<A: Allocator + Copy>(alloc: A, rows: &[Row<A>]) -> Result<Vec<Line, 
     ensures { IfOk result (λ lines. vec_len lines ≡ length rows.now) }
 {
     let mut lines = Vec::new(alloc);
-    let mut scanner = Scanner::start(alloc);
+    let mut scanner = Scanner::start(&alloc);
     let mut meter = Meter::new();
     for row in rows {
         let was_stopped = scanner.is_stopped();
@@ -81,7 +81,7 @@ fn print_brackets<W: Write>(printer: &mut Printer<W>, brackets: &[Kind]) -> Resu
 // Prints what a scanner knows before a row.
 fn print_state<A: Allocator + Copy, W: Write>(
     printer: &mut Printer<W>,
-    scanner: &Scanner<A>,
+    scanner: &Scanner<'_, A>,
 ) -> Result<(), DumpFault> {
     printer.text(" sound ")?;
     print_columns(printer, scanner.levels())?;
@@ -99,7 +99,7 @@ fn print_line<A: Allocator + Copy, W: Write>(
     printer: &mut Printer<W>,
     number: u64,
     line: Line,
-    scanner: &Scanner<A>,
+    scanner: &Scanner<'_, A>,
 ) -> Result<(), DumpFault> {
     printer.number(number)?;
     match line {
@@ -119,7 +119,7 @@ fn print_lines<A: Allocator + Copy, W: Write>(
     requires { Fits rows.now }
 {
     let lines = lines_of(alloc, rows)?;
-    let mut scanner = Scanner::start(alloc);
+    let mut scanner = Scanner::start(&alloc);
     let mut meter = Meter::new();
     for (i, row) in rows.iter().enumerate() {
         print_line(printer, i as u64 + 1, lines[i], &scanner)?;
