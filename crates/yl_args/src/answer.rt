@@ -8,6 +8,7 @@ use std::alloc::{AllocError, AllocFailed};
 #[derive(Clone, Copy, Debug, PartialEq, Eq)]
 pub enum Program {
     Yamllint,
+    Yldump,
 }
 
 /// How a run prints and counts.
@@ -25,6 +26,24 @@ pub struct Flags {
 pub struct Asked {
     pub files: Vec<String>,
     pub flags: Flags,
+}
+
+/// What `yldump` shows of a text.
+#[derive(Clone, Copy, Debug, PartialEq, Eq)]
+pub enum View {
+    /// Its lexemes and its comments.
+    Lexemes,
+    /// The events of its documents.
+    Events,
+    /// Its lines, with what a scanner knows where one begins.
+    Lines,
+}
+
+/// A run of `yldump`: the name of its file, where `-` is standard input, and what is shown of it.
+#[derive(Debug, Drop)]
+pub struct AskedDump {
+    pub file: String,
+    pub view: View,
 }
 
 /// Why nothing is run.

@@ -1,6 +1,6 @@
 use std::alloc::{AllocError, Global};
 use std::test::Fail;
-use yl_args::{Asked, Program, Stop, asked};
+use yl_args::{Asked, Stop, View, asked, asked_dump};
 
 fn words(alloc: Global, texts: &[&str]) -> Result<Vec<String>, AllocError> {
     let mut words = Vec::new(alloc);
@@ -29,7 +29,7 @@ fn shown(alloc: Global, asked: &Asked) -> Result<String, AllocError> {
 // The answer as a line.
 fn answer(alloc: Global, texts: &[&str]) -> Result<String, AllocError> {
     let words = words(alloc, texts)?;
-    match asked(alloc, Program::Yamllint, words.as_slice()) {
+    match asked(alloc, words.as_slice()) {
         Ok(asked) => shown(alloc, &asked),
         Err(Stop::Help(text)) => Ok(text),
         Err(Stop::Use) => String::from_str(alloc, "use"),
@@ -114,5 +114,81 @@ fn helps_unless_a_fault_comes_first(rt: HostRuntime) -> Result<(), Fail> {
     for given in refused {
         assert_eq!(rt; answer(alloc, given)?.as_str(), "use");
     }
+    Ok(())
+}
+
+fn view_name(view: View) -> &'static str {
+    match view {
+        View::Lexemes => "lexemes",
+        View::Events => "events",
+        View::Lines => "lines",
+    }
+}
+
+// The answer to words of `yldump` as a line.
+fn dump_answer(alloc: Global, texts: &[&str]) -> Result<String, AllocError> {
+    let words = words(alloc, texts)?;
+    match asked_dump(alloc, words.as_slice()) {
+        Ok(asked) => {
+            let view = view_name(asked.view);
+            format!(in alloc; "{view} of {}", asked.file)
+        }
+        Err(Stop::Help(text)) => Ok(text),
+        Err(Stop::Use) => String::from_str(alloc, "use"),
+        Err(Stop::Memory) => String::from_str(alloc, "memory"),
+    }
+}
+
+#[test]
+fn reads_words_of_yldump(rt: HostRuntime) -> Result<(), Fail> {
+    let alloc = rt.alloc();
+    let rows: [(&[&str], &str); 7] = [
+        (&["a.yaml"], "events of a.yaml"),
+        (&["--events", "-"], "events of -"),
+        (&["--lexemes", "a"], "lexemes of a"),
+        (&["a", "--lines"], "lines of a"),
+        (&["--", "--lines"], "events of --lines"),
+        (&["--lines", "--", "-h"], "lines of -h"),
+        (&[""], "events of "),
+    ];
+    for (given, want) in rows {
+        assert_eq!(rt; dump_answer(alloc, given)?.as_str(), want);
+    }
+    Ok(())
+}
+
+#[test]
+fn refuses_words_of_yldump(rt: HostRuntime) -> Result<(), Fail> {
+    let alloc = rt.alloc();
+    let rows: [&[&str]; 11] = [
+        &[],
+        &["--lines"],
+        &["a", "b"],
+        &["--lexemes", "--events", "a"],
+        &["--lines", "a", "--lexemes"],
+        &["--events", "--lines", "a"],
+        &["--lines", "--lines", "a"],
+        &["--lines=yes", "a"],
+        &["-l", "a"],
+        &["-s", "a"],
+        &["--version"],
+    ];
+    for given in rows {
+        assert_eq!(rt; dump_answer(alloc, given)?.as_str(), "use");
+    }
+    Ok(())
+}
+
+const DUMP_HELP: &str =
+    "Usage: yldump [OPTIONS] <FILE>\n\nArguments:\n  <FILE>  file to show, `-` for standard input\n\nOptions:\n      --lexemes  show lexemes and comments\n      --events   show events, as without a flag\n      --lines    show what is known where a line begins\n  -h, --help     Print help\n";
+
+#[test]
+fn helps_with_yldump(rt: HostRuntime) -> Result<(), Fail> {
+    let alloc = rt.alloc();
+    let helped: [&[&str]; 3] = [&["-h"], &["a", "--help"], &["--lines", "-h", "-q"]];
+    for given in helped {
+        assert_eq!(rt; dump_answer(alloc, given)?.as_str(), DUMP_HELP);
+    }
+    assert_eq!(rt; dump_answer(alloc, &["-q", "-h"])?.as_str(), "use");
     Ok(())
 }

@@ -1,7 +1,7 @@
 -- The line of a fault on standard error.
 use Rattle.std.specs.Prelude.{ℕ, List, ◌++◌, codes, decimal}
 use Rattle.yl_args.specs.declared.answer.Program.{Program}
-use Rattle.yl_args.specs.declared.answer.Program.TheVariants.{Yamllint}
+use Rattle.yl_args.specs.declared.answer.Program.TheVariants.{Yamllint, Yldump}
 use Rattle.yl_cli.specs.declared.fault.BadText.TheVariants.{NotUtf8, TooLarge}
 use Rattle.yl_cli.specs.declared.fault.RunFault.{RunFault}
 use Rattle.yl_cli.specs.declared.fault.RunFault.TheVariants.{Read, Text, Write, Memory}
@@ -10,6 +10,7 @@ use Rattle.yl_cli.specs.declared.fault.Fault.TheVariants as fault
 
 abbrev pub program_name : Program → List ℕ
 program_name Yamllint = codes "yamllint"
+program_name Yldump = codes "yldump"
 
 -- what is said of a run over this file
 abbrev pub run_words : List ℕ → RunFault → List ℕ

@@ -10,4 +10,4 @@ pub use fault::{BadText, Fault, RunFault};
 pub use input::{MOST_READ, read_text, text_of};
 pub use run::{joined, lint};
 pub use saying::say;
-pub use yl_args::{Asked, Flags, Program, Stop, asked};
+pub use yl_args::{Asked, AskedDump, Flags, Program, Stop, View, asked, asked_dump};

@@ -18,6 +18,7 @@ fn name_of(program: Program) -> &'static str
 {
     match program {
         Program::Yamllint => "yamllint",
+        Program::Yldump => "yldump",
     }
 }
 

@@ -1,0 +1,20 @@
+//! What the scanner and the parser see of a text, as printed lines.
+//!
+//! Places count from 1, columns in characters; the end of a lexeme is the place behind its last character. A value stands in
+//! double quotes, with `\\` and `\"` for a backslash and a quote, and `\u{HEX}` for a character that is not printable ASCII.
+#![tactic(auto)]
+
+mod document;
+mod events;
+mod fault;
+mod lexemes;
+mod lines;
+mod names;
+mod printer;
+mod quoting;
+mod rows;
+
+pub use events::write_events;
+pub use fault::DumpFault;
+pub use lexemes::write_lexemes;
+pub use lines::write_lines;

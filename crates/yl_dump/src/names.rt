@@ -1,0 +1,53 @@
+//! Names of kinds.
+ghost use Rattle.std.specs.Prelude.{◌≡◌};
+ghost use Rattle.yl_dump.specs.Names.{kind_name as name_of, scalar_name as scalar_name_of, style_sign as sign_of};
+
+use yl_lexeme::{Kind, Style};
+
+/// The name of a lexeme's kind.
+pub fn kind_name(kind: Kind) -> &'static str
+    ensures { result.now ≡ name_of kind }
+{
+    match kind {
+        Kind::Directive => "Directive",
+        Kind::DocStart => "DocStart",
+        Kind::DocEnd => "DocEnd",
+        Kind::Entry => "Entry",
+        Kind::Key => "Key",
+        Kind::Value => "Value",
+        Kind::Comma => "Comma",
+        Kind::SeqOpen => "SeqOpen",
+        Kind::SeqClose => "SeqClose",
+        Kind::MapOpen => "MapOpen",
+        Kind::MapClose => "MapClose",
+        Kind::Alias => "Alias",
+        Kind::Anchor => "Anchor",
+        Kind::Tag => "Tag",
+        Kind::Scalar(style) => scalar_name(style),
+    }
+}
+
+fn scalar_name(style: Style) -> &'static str
+    ensures { result.now ≡ scalar_name_of style }
+{
+    match style {
+        Style::Plain => "Scalar(Plain)",
+        Style::Single => "Scalar(Single)",
+        Style::Double => "Scalar(Double)",
+        Style::Literal => "Scalar(Literal)",
+        Style::Folded => "Scalar(Folded)",
+    }
+}
+
+/// The sign before a scalar's value in an event stream.
+pub fn style_sign(style: Style) -> &'static str
+    ensures { result.now ≡ sign_of style }
+{
+    match style {
+        Style::Plain => ":",
+        Style::Single => "'",
+        Style::Double => "\"",
+        Style::Literal => "|",
+        Style::Folded => ">",
+    }
+}

@@ -1,0 +1,39 @@
+//! A view of a text as one text.
+use std::alloc::{Allocator, Global};
+use std::io::Write;
+use yl_dump::{DumpFault, write_events, write_lexemes, write_lines};
+use yl_text::MAX_BYTES;
+
+/// What is shown of a text.
+#[derive(Clone, Copy)]
+pub enum View {
+    Lexemes,
+    Events,
+    Lines,
+}
+
+pub fn write_view<A: Allocator + Copy, W: Write + Drop>(
+    alloc: A,
+    view: View,
+    text: &str,
+    out: W,
+) -> Result<(), DumpFault> {
+    if text.len() > MAX_BYTES {
+        return Err(DumpFault::Memory);
+    }
+    match view {
+        View::Lexemes => write_lexemes(alloc, text, out),
+        View::Events => write_events(alloc, text, out),
+        View::Lines => write_lines(alloc, text, out),
+    }
+}
+
+/// The printed lines.
+pub fn shown(alloc: Global, view: View, text: &str) -> Result<String, DumpFault> {
+    let mut bytes = Vec::new(alloc);
+    write_view(alloc, view, text, &mut bytes)?;
+    match String::from_utf8(bytes) {
+        Ok(text) => Ok(text),
+        Err(_) => Err(DumpFault::Write),
+    }
+}
