@@ -5,7 +5,8 @@ MODEL is the folder of the model (machine.py, texts.py); FOLDER is the specs/ of
 of lemmas by `refl`, one a text: that `entries` gives for each row the state, the lexemes, the comment and the fault that the
 model gives. The model tells the row that a fault stands in. Where the faulty lexeme may have begun above that row, a text has two
 lemmas: of the rows without their faults, and of the fault with the row that it stands in.
-A check of that library then makes the comparison."""
+A check of that library then makes the comparison. Some texts from about 17 characters on take more steps than antt gives one
+lemma: it then says so, and that text is not compared."""
 
 import json
 import os
