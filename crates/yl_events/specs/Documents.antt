@@ -1,4 +1,4 @@
--- The cuts between documents: YAML 1.2.2, 9.2 to 9.5. A document begins with the text's first lexeme, with a marker `---`
+-- The cuts between documents: YAML 1.2.2, 9.1 and 9.2. A document begins with the text's first lexeme, with a marker `---`
 -- or the first of the directives directly before it, and behind a marker `...`.
 use Rattle.std.specs.Prelude.{ℕ, suc, Bool, true, false, not, ◌&&◌, ◌||◌, List, [], ◌∷◌, if◌then◌else◌}
 use Rattle.yl_lexeme.specs.declared.lexeme.Kind.{Kind}

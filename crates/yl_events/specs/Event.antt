@@ -1,4 +1,4 @@
--- Events: YAML 1.2.2, 3.1.1. Names and values in UTF-8.
+-- Events: YAML 1.2.2, 3.1.2. Names and values in UTF-8.
 use Rattle.std.specs.Prelude.{ℕ, ◌≡◌, Bool, List, [], map, Option, Some, None, slice_get}
 use Rattle.yl_text.specs.declared.position.Pos.{Pos}
 use Rattle.yl_lexeme.specs.declared.lexeme.Style.{Style}

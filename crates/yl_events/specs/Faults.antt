@@ -1,5 +1,5 @@
 -- Which parse fault a document has: by the lexeme before, by the properties directly before, and by the innermost collection that is
--- open behind the closings before its place (YAML 1.2.2, 9.2; 6.9 and 7.1; 7.4 and 8.2).
+-- open behind the closings before its place (YAML 1.2.2, 9.1; 6.9 and 7.1; 7.4 and 8.2).
 use Rattle.std.specs.Prelude.{ℕ, Bool, true, false, not, ◌||◌, ◌==◌, ◌-◌, if◌then◌else◌, List, [], ◌∷◌, ◌+◌, reverse, take, drop, codes}
 use Rattle.yl_lexeme.specs.declared.lexeme.Kind.{Kind}
 use Rattle.yl_events.specs.declared.symbol.Symbol.{Symbol}

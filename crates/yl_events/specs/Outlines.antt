@@ -1,4 +1,4 @@
--- The events of a derivation (YAML 1.2.2, 3.1.1), behind those before it. Their contents and anchors go by the indices of lexemes.
+-- The events of a derivation (YAML 1.2.2, 3.1.2), behind those before it. Their contents and anchors go by the indices of lexemes.
 use Rattle.std.specs.Prelude.{ℕ, true, false, List, [], ◌∷◌, ◌++◌, Option, Some, None}
 use Rattle.yl_events.specs.declared.symbol.Properties.{Properties}
 use Rattle.yl_events.specs.declared.symbol.Properties.TheVariants.{Anchored, Tagged, AnchoredTagged, TaggedAnchored}

@@ -1,4 +1,4 @@
-//! Events: YAML 1.2.2, 3.1.1.
+//! Events: YAML 1.2.2, 3.1.2.
 
 use crate::fault::Fault;
 use std::alloc::Allocator;
