@@ -4,7 +4,7 @@ use refusing::Refusing;
 use std::alloc::{AllocError, Global};
 use std::test::Fail;
 use yl_lexeme::Meter;
-use yl_scan::Scanner;
+use yl_scan::{Scanned, Scanner};
 use yl_text::{Row, split};
 
 type Heap<'a> = &'a Refusing<Global>;
@@ -17,23 +17,48 @@ const SHOWN: &str =
                      SeqOpen 1:4 +0:5 \nScalar(Plain) 1:5 +0:6 e\nSeqClose 1:6 +0:7 \nMapClose 1:7 +0:8 \nEntry 2:0 +0:1 \n\
                      Scalar(Single) 2:2 +1:4 g h\nEntry 4:0 +0:1 \nScalar(Literal) 4:2 +1:3 \nComment 1:9 # f\n";
 
+/// Ten open block collections, and then ten open brackets.
+const NESTED: &[u8] = b"- - - - - - - - - - [[[[[[[[[[\n";
+
+/// The first scan that meets no refusal, and how many growths it asks for. Each scan before it has to be refused.
+fn whole<'a>(
+    global: Global,
+    heap: Heap<'a>,
+    rows: &[Row<Heap<'a>>],
+) -> Result<(u64, Scanned<Heap<'a>>), AllocError> {
+    for n in 0..u64::MAX {
+        let mut meter = Meter::new();
+        heap.refuse(n + 1);
+        let answer = scan_rows(global, heap, rows, &mut meter);
+        if heap.is_armed() {
+            heap.refuse(0);
+            return Ok((n, answer?));
+        }
+        if answer.is_ok() {
+            return Err(AllocError);
+        }
+    }
+    Err(AllocError)
+}
+
 #[test]
 fn each_growth_of_a_scan(rt: HostRuntime) -> Result<(), Fail> {
     let heap = Refusing::new(rt.alloc());
     let rows: Vec<Row<Heap<'_>>, Heap<'_>> = split(&heap, TEXT)?;
-    for n in 1..u64::MAX {
-        let mut meter = Meter::new();
-        heap.refuse(n);
-        let answer = scan_rows(rt.alloc(), &heap, &rows, &mut meter);
-        if heap.is_armed() {
-            heap.refuse(0);
-            assert_eq!(rt; shown(rt.alloc(), &answer?)?.as_str(), SHOWN);
-            assert_eq!(rt; meter.lines, 7);
-            assert!(rt; n > 20, "{n} growths");
-            return Ok(());
-        }
-        assert!(rt; answer.is_err(), "the {n}th growth");
-    }
+    let (growths, scanned) = whole(rt.alloc(), &heap, &rows)?;
+    assert_eq!(rt; shown(rt.alloc(), &scanned)?.as_str(), SHOWN);
+    assert!(rt; growths > 20, "{growths} growths");
+    Ok(())
+}
+
+#[test]
+fn each_growth_of_a_nested_scan(rt: HostRuntime) -> Result<(), Fail> {
+    let heap = Refusing::new(rt.alloc());
+    let rows: Vec<Row<Heap<'_>>, Heap<'_>> = split(&heap, NESTED)?;
+    let (growths, scanned) = whole(rt.alloc(), &heap, &rows)?;
+    assert_eq!(rt; scanned.lexemes.len(), 20);
+    assert!(rt; scanned.fault.is_none());
+    assert!(rt; growths > 4, "{growths} growths");
     Ok(())
 }
 
