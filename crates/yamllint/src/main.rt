@@ -78,7 +78,7 @@ fn answered(rt: &HostRuntime) -> u8 {
         },
         Err(_) => return stopped(rt, &Fault::Use),
     };
-    match asked(rt.alloc(), words.as_slice()) {
+    match asked(rt.alloc(), Program::Yamllint, words.as_slice()) {
         Ok(asked) => linted_all(rt, &asked),
         Err(Stop::Help(text)) => match rt.print(text) {
             Ok(()) => 0,

@@ -1,5 +1,5 @@
 //! Words read by `clap`.
-use crate::answer::{Asked, AskedDump, Flags, Stop, View};
+use crate::answer::{Asked, AskedDump, Flags, Program, Stop, View};
 use clap::error::ErrorKind;
 use clap::{Arg, ArgAction, ArgGroup, ArgMatches, Command, Error};
 use std::alloc::{AllocError, Global};
@@ -30,8 +30,12 @@ fn files<'a>(alloc: Global) -> Arg<'a> {
         .help("files to lint, `-` for standard input")
 }
 
-fn lint_command<'a>(alloc: Global) -> Result<Command<'a>, AllocError> {
-    Command::new(alloc, "yamllint")
+fn lint_command<'a>(alloc: Global, program: Program) -> Result<Command<'a>, AllocError> {
+    let name = match program {
+        Program::Yamllint => "yamllint",
+        Program::Yldump => "yldump",
+    };
+    Command::new(alloc, name)
         .no_binary_name(true)
         .arg(format_option(alloc))?
         .arg(flag(alloc, "strict", "give status 2 for warnings").short('s'))?
@@ -85,11 +89,11 @@ fn files_of(alloc: Global, matches: &ArgMatches<'_>) -> Result<Vec<String>, Stop
     Ok(files)
 }
 
-/// What the words behind the name `yamllint` ask for. They are looked at from left to right: whichever
+/// What the words behind the name of a program that lints ask for. They are looked at from left to right: whichever
 /// of `-h` and a word that does not fit comes first answers. An option that is given twice, a value
 /// that is none of those that the option takes, and a want of files are `Use`.
-pub fn asked(alloc: Global, words: &[String]) -> Result<Asked, Stop> {
-    let command = lint_command(alloc)?;
+pub fn asked(alloc: Global, program: Program, words: &[String]) -> Result<Asked, Stop> {
+    let command = lint_command(alloc, program)?;
     let matches = match command.try_get_matches_from(words) {
         Ok(matches) => matches,
         Err(error) => return Err(stop_of(alloc, error)),

@@ -1,6 +1,6 @@
 use std::alloc::{AllocError, Global};
 use std::test::Fail;
-use yl_args::{Asked, Stop, View, asked, asked_dump};
+use yl_args::{Asked, Program, Stop, View, asked, asked_dump};
 
 fn words(alloc: Global, texts: &[&str]) -> Result<Vec<String>, AllocError> {
     let mut words = Vec::new(alloc);
@@ -29,7 +29,7 @@ fn shown(alloc: Global, asked: &Asked) -> Result<String, AllocError> {
 // The answer as a line.
 fn answer(alloc: Global, texts: &[&str]) -> Result<String, AllocError> {
     let words = words(alloc, texts)?;
-    match asked(alloc, words.as_slice()) {
+    match asked(alloc, Program::Yamllint, words.as_slice()) {
         Ok(asked) => shown(alloc, &asked),
         Err(Stop::Help(text)) => Ok(text),
         Err(Stop::Use) => String::from_str(alloc, "use"),
