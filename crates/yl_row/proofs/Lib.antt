@@ -5,5 +5,6 @@ pub mod Columns
 pub mod Encodes
 pub mod Modes
 pub mod RowSteps
+pub mod Signs
 pub mod Took
 pub mod Wholes

@@ -6,6 +6,7 @@ pub mod Mode
 pub mod Reader
 pub mod Rows
 pub mod Run
+pub mod Sign
 pub mod Standing
 pub mod Step
 pub mod Try

@@ -1,11 +1,12 @@
 -- What the reading of a row and its answers say.
-use Rattle.std.specs.Prelude.{◌≡◌, ◌<◌, ℕ, ◌+◌, false, List, ◌++◌, drop, length, Option, Some, None}
+use Rattle.std.specs.Prelude.{◌≡◌, ◌<◌, ℕ, ◌+◌, ◌-◌, false, List, ◌++◌, drop, length, Option, Some, None}
 use Rattle.yl_lexeme.specs.declared.lexeme.Style.{Style}
 use Rattle.yl_row.specs.declared.row.Next.{Next}
-use Rattle.yl_row.specs.declared.row.Next.TheVariants.{Skip, Opens, Stops}
+use Rattle.yl_row.specs.declared.row.Next.TheVariants.{Behind, Opens, Stops}
 use Rattle.yl_row.specs.declared.row.End.{End}
 use Rattle.yl_row.specs.declared.row.End.TheVariants.{Read, Opens as EndOpens, Stops as EndStops}
 use Rattle.yl_lexeme.specs.Lexeme.{LexemeValue, CommentValue}
+use Rattle.yl_row.specs.declared.fault.Faulted.{Faulted}
 use Rattle.yl_row.specs.Step.{bad_in}
 use Rattle.yl_row.specs.Mode.{Mode, open_found}
 use Rattle.yl_row.specs.Reader.{mode_of}
@@ -25,9 +26,14 @@ opened rows style at m k more =
     chosen (lexeme_of at f) nothing_known (after_lexeme at f (new_row k) more f.down) f.fault
 
 abbrev pub next : {A : Type 0} → List (List ℕ) → ℕ → Known → (ℕ → Known → Reading Known) → Next A → Reading Known
-next rows at k more (Skip n) = more n k
+next rows at k more (Behind column) = more (column - at - 1) k
 next rows at k more (Opens style r) = opened rows style at (mode_of r) k (λ skip. more skip k)
 next rows at k more (Stops f) = failed f nothing_known
+
+-- what comes behind a lexeme of one character, or its fault; more: what its row holds behind it
+abbrev pub behind_sign : Known → (ℕ → Known → Reading Known) → Option Faulted → Reading Known
+behind_sign k more None = more 0 k
+behind_sign k more (Some f) = failed f nothing_known
 
 -- what comes behind a comment, or none
 abbrev pub comment_end : Known → Option CommentValue → Reading Known
@@ -46,7 +52,7 @@ noted at text end = (rows : List (List ℕ)) (tab : Option ℕ) (row : List ℕ)
 
 -- a scalar that may go on below begins at this column, with this text from there on: so it stands behind its first row
 abbrev pub NextRests : {A : Type 0} → ℕ → List ℕ → Next A → Type 0
-NextRests at text (Skip n) = Unit {0}
+NextRests at text (Behind column) = Unit {0}
 NextRests at text (Opens style r) = Rests at text (mode_of r)
 NextRests at text (Stops f) = Unit {0}
 

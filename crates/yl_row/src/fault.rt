@@ -1,7 +1,7 @@
 //! Scan faults: why a text is cut into lexemes no further.
 
 ghost use Rattle.std.specs.Prelude.{◌≡◌};
-ghost use Rattle.yl_row.specs.Fault.{fault_text, of_scalar};
+ghost use Rattle.yl_row.specs.Fault.{fault_text, of_scalar, or_else, when};
 
 use yl_scalar::ScalarFault;
 
@@ -83,4 +83,29 @@ pub struct Faulted {
     pub fault: ScanFault,
     pub down: usize,
     pub column: usize,
+}
+
+/// A fault of the row in which the lexeme begins, if it is so.
+pub fn when(holds: bool, fault: ScanFault, column: usize) -> Option<Faulted>
+    ensures { result ≡ when holds fault column }
+{
+    if holds {
+        Some(Faulted {
+            fault,
+            down: 0,
+            column,
+        })
+    } else {
+        None
+    }
+}
+
+/// The first fault that there is.
+pub fn or_else(fault: Option<Faulted>, other: Option<Faulted>) -> Option<Faulted>
+    ensures { result ≡ or_else fault other }
+{
+    match fault {
+        None => other,
+        Some(fault) => Some(fault),
+    }
 }

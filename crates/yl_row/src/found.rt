@@ -1,6 +1,6 @@
 //! The lexeme that stands at a place of a row.
 
-ghost use Rattle.std.specs.Prelude.{◌≡◌, ◌≤◌, ◌<◌, ◌+◌, ◌-◌, ◌^◌, ◌∷◌, [], not, IfOk, Some, None, List, ℕ, length, drop, string_bytes};
+ghost use Rattle.std.specs.Prelude.{◌≡◌, ◌≤◌, ◌<◌, ◌+◌, ◌-◌, ◌^◌, ◌∷◌, [], IfOk, Some, None, Option, Bool, List, ℕ, length, drop, string_bytes};
 ghost use Rattle.std.specs.Str.{encode_utf8_all};
 ghost use Rattle.yl_scalar.specs.Reading.{read, settled};
 ghost use Rattle.yl_scalar.specs.PlainSteps.{plain};
@@ -15,9 +15,10 @@ ghost use Rattle.yl_lexeme.specs.Surroundings.{known};
 ghost use Rattle.yl_row.specs.Mode.{mode_step, mode_finish};
 ghost use Rattle.yl_row.specs.Reader.{said_by};
 ghost use Rattle.yl_row.specs.Step.{upto, bad_in, tab_before, in_block, place_fault, behind_end, closes, is_value_at, is_directive_place, is_quoted_or_closing, scalar_found, plain_found, value_found, name_found, tag_found, tag_len, document_at, block_at, flow_at, word_at, scalar_at, found_at};
+ghost use Rattle.yl_row.specs.Sign.{sign_at};
 ghost use Rattle.yl_row.specs.Standing.{found_of, standing, found_option, EndsHere, StandingRests};
 
-use crate::fault::{Faulted, ScanFault, of_scalar};
+use crate::fault::{Faulted, ScanFault, of_scalar, or_else, when};
 use crate::reader::Reader;
 use crate::text::text_of;
 use crate::word::{
@@ -47,29 +48,6 @@ pub enum Standing<A: Allocator + Copy> {
     Open(Style, Reader<A>),
 }
 
-fn when(holds: bool, fault: ScanFault, column: usize) -> Option<Faulted>
-    ensures { result ≡ when holds fault column }
-{
-    if holds {
-        Some(Faulted {
-            fault,
-            down: 0,
-            column,
-        })
-    } else {
-        None
-    }
-}
-
-pub fn or_else(fault: Option<Faulted>, other: Option<Faulted>) -> Option<Faulted>
-    ensures { result ≡ or_else fault other }
-{
-    match fault {
-        None => other,
-        Some(fault) => Some(fault),
-    }
-}
-
 /// The first character that is not allowed in what begins at a column.
 pub fn bad_in(column: usize, text: &[char]) -> Option<Faulted>
     requires { column + length text.now < 2 ^ 63 }
@@ -78,41 +56,6 @@ pub fn bad_in(column: usize, text: &[char]) -> Option<Faulted>
     match first_bad(text) {
         None => None,
         Some(place) => when(true, ScanFault::NotAllowed, column + place),
-    }
-}
-
-/// The row's first tab, if it stands before a column.
-fn tab_before(tab: Option<usize>, column: usize) -> Option<Faulted>
-    ensures { result ≡ tab_before tab column }
-{
-    match tab {
-        None => None,
-        Some(tab) => when(tab < column, ScanFault::TabInIndentation, tab),
-    }
-}
-
-fn in_block<A: Allocator + Copy>(
-    surroundings: &Surroundings<'_, A>,
-    fault: Option<Faulted>,
-) -> Option<Faulted>
-    ensures { result ≡ in_block (around (known surroundings.now)) fault }
-{
-    if surroundings.in_flow() { None } else { fault }
-}
-
-/// A tab before a place that is first in its row, out of brackets.
-pub fn place_fault<A: Allocator + Copy>(
-    surroundings: &Surroundings<'_, A>,
-    tab: Option<usize>,
-    first: bool,
-    at: usize,
-) -> Option<Faulted>
-    ensures { result ≡ place_fault tab first at (around (known surroundings.now)) }
-{
-    if first {
-        in_block(surroundings, tab_before(tab, at))
-    } else {
-        None
     }
 }
 
@@ -149,15 +92,6 @@ fn is_directive_place(last: Option<Kind>) -> bool
     match last {
         None | Some(Kind::DocEnd | Kind::Directive) => true,
         Some(_) => false,
-    }
-}
-
-fn is_quoted_or_closing(last: Option<Kind>) -> bool
-    ensures { result ≡ is_quoted_or_closing last }
-{
-    match last {
-        Some(Kind::Scalar(Style::Single | Style::Double) | Kind::SeqClose | Kind::MapClose) => true,
-        _ => false,
     }
 }
 
@@ -390,139 +324,11 @@ fn word_at<A: Allocator + Copy>(
     scalar_at(alloc, at, surroundings, c, rest, text)
 }
 
-/// Whether the innermost bracket is of this kind.
-fn closes<A: Allocator + Copy>(sequence: bool, surroundings: &Surroundings<'_, A>) -> bool
-    ensures { result ≡ closes sequence (around (known surroundings.now)).brackets }
-{
-    match surroundings.brackets.top() {
-        None => false,
-        Some(Kind::SeqOpen) => sequence,
-        Some(_) => !sequence,
-    }
-}
-
-/// A closing bracket that is not of the innermost bracket's kind.
-fn unpaired<A: Allocator + Copy>(
-    sequence: bool,
-    at: usize,
-    surroundings: &Surroundings<'_, A>,
-) -> Option<Faulted>
-    ensures { result ≡ when (not (closes sequence (around (known surroundings.now)).brackets)) BracketWithoutPartner at }
-{
-    when(
-        !closes(sequence, surroundings),
-        ScanFault::BracketWithoutPartner,
-        at,
-    )
-}
-
-/// An indicator of flow collections, or what else may stand there.
-fn flow_at<A: Allocator + Copy>(
-    alloc: A,
-    at: usize,
-    surroundings: &Surroundings<'_, A>,
-    c: char,
-    rest: &[char],
-    text: &[char],
-) -> Result<Standing<A>, AllocError>
-    requires fits { at + length text.now < 2 ^ 31 }
-    requires text { text.now ≡ c ∷ rest.now }
-    ensures found { IfOk result (λ s. (rows : List (List ℕ)) →
-        flow_at rows at (around (known surroundings.now)) c rest.now ≡ standing at rows s) }
-    ensures rests { IfOk result (λ s. StandingRests at text.now s) }
-{
-    let (kind, fault) = match c {
-        '[' => (Kind::SeqOpen, None),
-        '{' => (Kind::MapOpen, None),
-        ']' => (Kind::SeqClose, unpaired(true, at, surroundings)),
-        '}' => (Kind::MapClose, unpaired(false, at, surroundings)),
-        ',' => (
-            Kind::Comma,
-            when(!surroundings.in_flow(), ScanFault::NotAllowed, at),
-        ),
-        _ => return word_at(alloc, at, surroundings, c, rest, text),
-    };
-    Ok(Standing::Ended(sign(alloc, kind, at as u32 + 1, fault)))
-}
-
-/// A value's indicator.
-fn value_found<A: Allocator + Copy>(
-    alloc: A,
-    tab: Option<usize>,
-    first: bool,
-    at: usize,
-    surroundings: &Surroundings<'_, A>,
-) -> Found<A>
-    requires fits { at < 2 ^ 31 }
-    ensures { found_of result ≡ value_found tab first at (around (known surroundings.now)) (near at (around (known surroundings.now)).start) }
-{
-    let fault = match near(at, surroundings.unit.start()) {
-        Some(key) => tab_before(tab, key),
-        None => {
-            let refused = when(
-                !surroundings.may_begin(first),
-                ScanFault::ValueNotAllowed,
-                at,
-            );
-            or_else(tab_before(tab, at), refused)
-        }
-    };
-    sign(
-        alloc,
-        Kind::Value,
-        at as u32 + 1,
-        in_block(surroundings, fault),
-    )
-}
-
-/// An indicator of block collections, or what else may stand there.
-fn block_at<A: Allocator + Copy>(
-    alloc: A,
-    tab: Option<usize>,
-    first: bool,
-    at: usize,
-    surroundings: &Surroundings<'_, A>,
-    c: char,
-    rest: &[char],
-    text: &[char],
-) -> Result<Standing<A>, AllocError>
-    requires fits { at + length text.now < 2 ^ 31 }
-    requires text { text.now ≡ c ∷ rest.now }
-    ensures found { IfOk result (λ s. (rows : List (List ℕ)) →
-        block_at rows tab first at (around (known surroundings.now)) c rest.now ≡ standing at rows s) }
-    ensures rests { IfOk result (λ s. StandingRests at text.now s) }
-{
-    let flow = surroundings.in_flow();
-    if c == '-' && is_space_next(rest) {
-        let refused = flow || !surroundings.may_begin(first);
-        let refused = when(refused, ScanFault::EntryNotAllowed, at);
-        let fault = or_else(in_block(surroundings, tab_before(tab, at)), refused);
-        return Ok(Standing::Ended(sign(alloc, Kind::Entry, at as u32 + 1, fault)));
-    }
-    if c == '?' && is_space_next(rest) {
-        let refused = when(!surroundings.may_begin(first), ScanFault::KeyNotAllowed, at);
-        let fault = in_block(surroundings, or_else(tab_before(tab, at), refused));
-        return Ok(Standing::Ended(sign(alloc, Kind::Key, at as u32 + 1, fault)));
-    }
-    if c == ':' && is_value_at(flow, surroundings.last, rest) {
-        return Ok(Standing::Ended(value_found(alloc, tab, first, at, surroundings)));
-    }
-    flow_at(alloc, at, surroundings, c, rest, text)
-}
-
-/// A value's colon, by what follows it.
-fn is_value_at(flow: bool, last: Option<Kind>, rest: &[char]) -> bool
-    ensures { result ≡ is_value_at flow last rest.now }
-{
-    is_space_next(rest) || (flow && (is_flow_indicator_next(rest) || is_quoted_or_closing(last)))
-}
-
-/// The lexeme at a column of a row, which is the character `c` with `rest` behind it, `text` together.
+/// The lexeme at a column of a row that is no indicator of a collection. It is the character `c` with `rest` behind it, `text`
+/// together.
 #[tactic(auto, unfolding(crate::specs::Step::found_at))]
 pub fn found_at<A: Allocator + Copy>(
     alloc: A,
-    tab: Option<usize>,
-    first: bool,
     at: usize,
     surroundings: &Surroundings<'_, A>,
     c: char,
@@ -531,7 +337,8 @@ pub fn found_at<A: Allocator + Copy>(
 ) -> Result<Standing<A>, AllocError>
     requires fits { at + length text.now < 2 ^ 31 }
     requires text { text.now ≡ c ∷ rest.now }
-    ensures found { IfOk result (λ s. (rows : List (List ℕ)) →
+    requires word { sign_at (around (known surroundings.now)) c rest.now ≡ None }
+    ensures found { IfOk result (λ s. (rows : List (List ℕ)) (tab : Option ℕ) (first : Bool) →
         found_at rows tab first at (around (known surroundings.now)) c rest.now ≡ standing at rows s) }
     ensures rests { IfOk result (λ s. StandingRests at text.now s) }
 {
@@ -540,5 +347,5 @@ pub fn found_at<A: Allocator + Copy>(
     {
         return Ok(Standing::Ended(found));
     }
-    block_at(alloc, tab, first, at, surroundings, c, rest, text)
+    word_at(alloc, at, surroundings, c, rest, text)
 }

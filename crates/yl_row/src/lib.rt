@@ -11,6 +11,7 @@ mod fault;
 mod found;
 mod reader;
 mod row;
+mod sign;
 mod text;
 mod word;
 

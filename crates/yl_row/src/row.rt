@@ -1,20 +1,22 @@
 //! The lexemes of a row.
 
-ghost use Rattle.std.specs.Prelude.{◌≡◌, ◌≤◌, ◌<◌, ◌+◌, ◌-◌, ◌++◌, ◌^◌, ◌∷◌, [], IfOk, List, Option, ℕ, length};
+ghost use Rattle.std.specs.Prelude.{◌≡◌, ◌≤◌, ◌<◌, ◌+◌, ◌-◌, ◌++◌, ◌^◌, ◌∷◌, [], false, IfOk, List, Option, Some, None, ℕ, length};
 ghost use Rattle.yl_lexeme.specs.Known.{Known, around, reach};
 ghost use Rattle.yl_lexeme.specs.Surroundings.{known};
 ghost use Rattle.yl_row.specs.Mode.{open_found};
 ghost use Rattle.yl_row.specs.Begins.{Rests};
 ghost use Rattle.yl_row.specs.Reader.{mode_of};
-ghost use Rattle.yl_row.specs.Step.{found_at, place_fault};
+ghost use Rattle.yl_row.specs.Sign.{sign_at, sign_found};
+ghost use Rattle.yl_row.specs.Step.{found_at, place_fault, upto};
 ghost use Rattle.yl_row.specs.Entries.{Reading, lexeme_of, ends_document};
 ghost use Rattle.yl_row.specs.Run.{took, read};
 ghost use Rattle.yl_row.specs.Standing.{found_of};
-ghost use Rattle.yl_row.specs.Rows.{gave, next, ended, noted, NextRests, EndRests};
+ghost use Rattle.yl_row.specs.Rows.{behind_sign, gave, next, ended, noted, NextRests, EndRests};
 
-use crate::fault::Faulted;
-use crate::found::{Found, Standing, bad_in, found_at, or_else, place_fault};
+use crate::fault::{Faulted, or_else};
+use crate::found::{Found, Standing, bad_in, found_at};
 use crate::reader::Reader;
+use crate::sign::{place_fault, sign_at, sign_fault};
 use crate::text::text_of;
 use crate::word::begins_comment;
 use std::alloc::{AllocError, Allocator};
@@ -33,8 +35,8 @@ pub struct Open<A: Allocator + Copy> {
 /// What comes behind a lexeme.
 #[derive(Drop)]
 pub enum Next<A: Allocator + Copy> {
-    /// So many more characters of it.
-    Skip(usize),
+    /// It ends before this column.
+    Behind(usize),
     /// A scalar that may go on in the row below.
     Opens(Style, Reader<A>),
     /// None: there is a fault.
@@ -72,6 +74,22 @@ fn lexeme_of<A: Allocator>(at: usize, found: Found<A>) -> Lexeme<A>
         col: column,
     };
     Lexeme::new(kind, start, end, value)
+}
+
+/// The lexeme of one character at a column.
+fn sign<A: Allocator>(alloc: A, kind: Kind, at: usize) -> Lexeme<A>
+    requires { at < 2 ^ 31 }
+    ensures { result ≡ lexeme_of at (upto kind (at + 1) [] None) }
+{
+    let start = Pos {
+        line: 0,
+        col: at as u32,
+    };
+    let end = Pos {
+        line: 0,
+        col: at as u32 + 1,
+    };
+    Lexeme::new(kind, start, end, String::new(alloc))
 }
 
 /// Passes a scalar that may go on below, unless there is a fault before it.
@@ -131,7 +149,7 @@ fn ended_lexeme<A: Allocator + Copy>(
         None => {
             surroundings.pass(kind, first, at)?;
             lexemes.push(lexeme)?;
-            Ok(Next::Skip(column.saturating_sub(at).saturating_sub(1)))
+            Ok(Next::Behind(column))
         }
     }
 }
@@ -145,7 +163,35 @@ fn ends_document(kind: Kind) -> bool
     }
 }
 
-/// Reads the lexeme at a column, which is the character `c` with `rest` behind it, `text` together.
+/// Passes a lexeme of one character, of this kind, or answers the first fault before it and in it.
+#[tactic(auto, using(crate::proofs::Took::ended_goes, crate::proofs::Took::ended_stops))]
+fn take_sign<A: Allocator + Copy>(
+    alloc: A,
+    surroundings: &mut Surroundings<'_, A>,
+    lexemes: &mut Vec<Lexeme<A>, A>,
+    tab: Option<usize>,
+    first: bool,
+    at: usize,
+    kind: Kind,
+) -> Result<Option<Faulted>, AllocError>
+    requires column { at < 2 ^ 31 }
+    requires inside { ends_document kind ≡ false }
+    ensures { IfOk result (λ fault. (more : ℕ → Known → Reading Known) →
+        gave lexemes.old.items (took tab first at (known surroundings.old) more (sign_found tab first at (around (known surroundings.old)) kind))
+        ≡ gave lexemes.new.items (behind_sign (known surroundings.new) more fault)) }
+{
+    let before = place_fault(surroundings, tab, first, at);
+    match or_else(before, sign_fault(surroundings, tab, first, at, kind)) {
+        Some(fault) => Ok(Some(fault)),
+        None => {
+            surroundings.pass(kind, first, at)?;
+            lexemes.push(sign(alloc, kind, at))?;
+            Ok(None)
+        }
+    }
+}
+
+/// Reads the lexeme at a column, if it is none of one character. It is the character `c` with `rest` behind it, `text` together.
 fn lexeme<A: Allocator + Copy>(
     alloc: A,
     surroundings: &mut Surroundings<'_, A>,
@@ -159,15 +205,14 @@ fn lexeme<A: Allocator + Copy>(
 ) -> Result<Next<A>, AllocError>
     requires fits { at + length text.now < 2 ^ 31 }
     requires text { text.now ≡ c ∷ rest.now }
+    requires word { sign_at (around (known surroundings.old)) c rest.now ≡ None }
     ensures read { IfOk result (λ r. (rows : List (List ℕ)) (more : ℕ → Known → Reading Known) →
-        gave lexemes.old.items (took tab first at (reach first at (known surroundings.old)) more
-        (found_at rows tab first at (around (reach first at (known surroundings.old))) c rest.now))
+        gave lexemes.old.items (took tab first at (known surroundings.old) more (found_at rows tab first at (around (known surroundings.old)) c rest.now))
         ≡ gave lexemes.new.items (next rows at (known surroundings.new) more r)) }
     ensures rests { IfOk result (λ r. NextRests at text.now r) }
 {
-    surroundings.reach(first, at);
     let before = place_fault(surroundings, tab, first, at);
-    match found_at(alloc, tab, first, at, surroundings, c, rest, text)? {
+    match found_at(alloc, at, surroundings, c, rest, text)? {
         Standing::Open(style, reader) => {
             let opened = open_lexeme(surroundings, before, first, at, style, reader)?;
             Ok(opened)
@@ -207,46 +252,47 @@ pub fn read_row<A: Allocator + Copy>(
         ≡ gave lexemes.new.items (ended rows tab row.now (known surroundings.new) end)) }
     ensures rests { IfOk result (λ end. EndRests row.now end) }
 {
-    let mut skip = skip;
-    let mut behind_space = fresh;
+    let mut at = skip;
+    let mut behind_space = fresh && skip == 0;
     let mut first = fresh;
-    for (i, c) in row.iter().enumerate() {
-        if skip > 0 {
-            skip -= 1;
-            behind_space = false;
-            continue;
-        }
-        if is_white(*c) {
+    while at < row.len() {
+        let c = row[at];
+        if is_white(c) {
             behind_space = true;
+            at += 1;
             continue;
         }
-        if begins_comment(*c, behind_space) {
-            let end = comment(alloc, i, &row[i..])?;
+        if begins_comment(c, behind_space) {
+            let end = comment(alloc, at, &row[at..])?;
             return Ok(end);
+        }
+        let rest = &row[at + 1..];
+        let is_first = first;
+        first = false;
+        behind_space = false;
+        surroundings.reach(is_first, at);
+        if let Some(kind) = sign_at(surroundings, c, rest) {
+            if let Some(fault) = take_sign(alloc, surroundings, lexemes, tab, is_first, at, kind)? {
+                return Ok(End::Stops(fault));
+            }
+            at += 1;
+            continue;
         }
         match lexeme(
             alloc,
             surroundings,
             lexemes,
             tab,
-            first,
-            i,
-            *c,
-            &row[i + 1..],
-            &row[i..],
+            is_first,
+            at,
+            c,
+            rest,
+            &row[at..],
         )? {
-            Next::Skip(more) => skip = more,
-            Next::Opens(style, reader) => {
-                return Ok(End::Opens(Open {
-                    style,
-                    at: i,
-                    reader,
-                }));
-            }
+            Next::Behind(column) => at = column.max(at + 1),
+            Next::Opens(style, reader) => return Ok(End::Opens(Open { style, at, reader })),
             Next::Stops(fault) => return Ok(End::Stops(fault)),
         }
-        behind_space = false;
-        first = false;
     }
     Ok(End::Read(None))
 }

@@ -1,0 +1,166 @@
+//! Lexemes of one character: the indicators of block collections (YAML 1.2.2, 8.2) and of flow collections (7.4).
+
+ghost use Rattle.std.specs.Prelude.{◌≡◌, not, IfSome, Some, None, false};
+ghost use Rattle.yl_row.specs.declared.fault.ScanFault.TheVariants.{BracketWithoutPartner};
+ghost use Rattle.yl_row.specs.Entries.{ends_document};
+ghost use Rattle.yl_row.specs.Fault.{when};
+ghost use Rattle.yl_lexeme.specs.Known.{around};
+ghost use Rattle.yl_lexeme.specs.Past.{near};
+ghost use Rattle.yl_lexeme.specs.Surroundings.{known};
+ghost use Rattle.yl_row.specs.Sign.{sign_at, sign_fault, value_fault};
+ghost use Rattle.yl_row.specs.Step.{tab_before, in_block, place_fault, closes, is_value_at, is_quoted_or_closing};
+
+use crate::fault::{Faulted, ScanFault, or_else, when};
+use crate::word::{is_flow_indicator_next, is_space_next};
+use std::alloc::Allocator;
+use yl_lexeme::{Kind, Style, Surroundings, near};
+
+/// The row's first tab, if it stands before a column.
+fn tab_before(tab: Option<usize>, column: usize) -> Option<Faulted>
+    ensures { result ≡ tab_before tab column }
+{
+    match tab {
+        None => None,
+        Some(tab) => when(tab < column, ScanFault::TabInIndentation, tab),
+    }
+}
+
+fn in_block<A: Allocator + Copy>(
+    surroundings: &Surroundings<'_, A>,
+    fault: Option<Faulted>,
+) -> Option<Faulted>
+    ensures { result ≡ in_block (around (known surroundings.now)) fault }
+{
+    if surroundings.in_flow() { None } else { fault }
+}
+
+/// A tab before a place that is first in its row, out of brackets.
+pub fn place_fault<A: Allocator + Copy>(
+    surroundings: &Surroundings<'_, A>,
+    tab: Option<usize>,
+    first: bool,
+    at: usize,
+) -> Option<Faulted>
+    ensures { result ≡ place_fault tab first at (around (known surroundings.now)) }
+{
+    if first {
+        in_block(surroundings, tab_before(tab, at))
+    } else {
+        None
+    }
+}
+
+/// Whether the innermost bracket is of this kind.
+fn closes<A: Allocator + Copy>(sequence: bool, surroundings: &Surroundings<'_, A>) -> bool
+    ensures { result ≡ closes sequence (around (known surroundings.now)).brackets }
+{
+    match surroundings.brackets.top() {
+        None => false,
+        Some(Kind::SeqOpen) => sequence,
+        Some(_) => !sequence,
+    }
+}
+
+/// A closing bracket that is not of the innermost bracket's kind.
+fn unpaired<A: Allocator + Copy>(
+    sequence: bool,
+    at: usize,
+    surroundings: &Surroundings<'_, A>,
+) -> Option<Faulted>
+    ensures { result ≡ when (not (closes sequence (around (known surroundings.now)).brackets)) BracketWithoutPartner at }
+{
+    when(
+        !closes(sequence, surroundings),
+        ScanFault::BracketWithoutPartner,
+        at,
+    )
+}
+
+fn is_quoted_or_closing(last: Option<Kind>) -> bool
+    ensures { result ≡ is_quoted_or_closing last }
+{
+    match last {
+        Some(Kind::Scalar(Style::Single | Style::Double) | Kind::SeqClose | Kind::MapClose) => true,
+        _ => false,
+    }
+}
+
+/// A value's colon, by what follows it.
+fn is_value_at(flow: bool, last: Option<Kind>, rest: &[char]) -> bool
+    ensures { result ≡ is_value_at flow last rest.now }
+{
+    is_space_next(rest) || (flow && (is_flow_indicator_next(rest) || is_quoted_or_closing(last)))
+}
+
+/// The kind of the lexeme of one character that stands at a place, if one does: the character is `c`, with `rest` behind it.
+pub fn sign_at<A: Allocator + Copy>(
+    surroundings: &Surroundings<'_, A>,
+    c: char,
+    rest: &[char],
+) -> Option<Kind>
+    ensures kind { result ≡ sign_at (around (known surroundings.now)) c rest.now }
+    ensures inside { IfSome result (λ kind. ends_document kind ≡ false) }
+{
+    match c {
+        '-' if is_space_next(rest) => Some(Kind::Entry),
+        '?' if is_space_next(rest) => Some(Kind::Key),
+        ':' if is_value_at(surroundings.in_flow(), surroundings.last, rest) => Some(Kind::Value),
+        '[' => Some(Kind::SeqOpen),
+        '{' => Some(Kind::MapOpen),
+        ']' => Some(Kind::SeqClose),
+        '}' => Some(Kind::MapClose),
+        ',' => Some(Kind::Comma),
+        _ => None,
+    }
+}
+
+/// The fault in a value at a column, out of brackets.
+fn value_fault<A: Allocator + Copy>(
+    surroundings: &Surroundings<'_, A>,
+    tab: Option<usize>,
+    first: bool,
+    at: usize,
+) -> Option<Faulted>
+    ensures { result ≡ value_fault tab first at (around (known surroundings.now)) (near at (around (known surroundings.now)).start) }
+{
+    match near(at, surroundings.unit.start()) {
+        Some(key) => tab_before(tab, key),
+        None => {
+            let refused = when(
+                !surroundings.may_begin(first),
+                ScanFault::ValueNotAllowed,
+                at,
+            );
+            or_else(tab_before(tab, at), refused)
+        }
+    }
+}
+
+/// The fault in a lexeme of one character, of this kind and at this column.
+pub fn sign_fault<A: Allocator + Copy>(
+    surroundings: &Surroundings<'_, A>,
+    tab: Option<usize>,
+    first: bool,
+    at: usize,
+    kind: Kind,
+) -> Option<Faulted>
+    ensures { result ≡ sign_fault tab first at (around (known surroundings.now)) kind }
+{
+    let flow = surroundings.in_flow();
+    match kind {
+        Kind::Entry => {
+            let refused = flow || !surroundings.may_begin(first);
+            let refused = when(refused, ScanFault::EntryNotAllowed, at);
+            or_else(in_block(surroundings, tab_before(tab, at)), refused)
+        }
+        Kind::Key => {
+            let refused = when(!surroundings.may_begin(first), ScanFault::KeyNotAllowed, at);
+            in_block(surroundings, or_else(tab_before(tab, at), refused))
+        }
+        Kind::Value => in_block(surroundings, value_fault(surroundings, tab, first, at)),
+        Kind::SeqClose => unpaired(true, at, surroundings),
+        Kind::MapClose => unpaired(false, at, surroundings),
+        Kind::Comma => when(!flow, ScanFault::NotAllowed, at),
+        _ => None,
+    }
+}
