@@ -2,7 +2,7 @@
 
 ghost use Rattle.std.specs.Prelude.{◌≡◌, ◌≤◌, ◌<◌, ◌+◌, ◌^◌, [], IfOk, None};
 ghost use Rattle.std.specs.Option.{ForSome};
-ghost use Rattle.yl_lexeme.specs.Past.{up_to, with_column, is_near, near, level, in_flow, may_begin, levels_behind};
+ghost use Rattle.yl_lexeme.specs.Past.{up_to, with_column, is_near, near, level, in_flow, may_begin, levels_behind, asks_behind};
 ghost use Rattle.yl_lexeme.specs.Known.{around, new_row, reach, pass, row_start, brackets_with};
 ghost use Rattle.yl_lexeme.specs.Past.{past_of};
 ghost use Rattle.yl_lexeme.specs.Surroundings.{known};
@@ -141,27 +141,37 @@ impl<'a, A: Allocator + Copy> Surroundings<'a, A> {
         } else {
             None
         };
-        let key = near(at, self.unit.start());
-        pass_levels(&mut self.levels, kind, flow, first, at, key)?;
+        let start = self.unit.start();
+        pass_levels(&mut self.levels, kind, flow, first, at, start)?;
         pass_brackets(&mut self.brackets, kind)?;
         self.unit.pass(kind, own)?;
         self.last = Some(kind);
-        self.asks = kind.asks(key);
+        self.asks = asks_behind(kind, at, start);
         Ok(())
     }
 }
 
+/// Whether a lexeme at a column asks for a node of a block collection, where the unit before it begins at `start`.
+fn asks_behind(kind: Kind, at: usize, start: Option<usize>) -> bool
+    ensures { result ≡ asks_behind kind (near at start) }
+{
+    match kind {
+        Kind::Value => kind.asks(near(at, start)),
+        _ => kind.asks(None),
+    }
+}
+
+/// A lexeme at a column, where the unit before it begins at `start`.
 fn pass_levels<A: Allocator + Copy>(
     levels: &mut Levels<'_, A>,
     kind: Kind,
     flow: bool,
     first: bool,
     at: usize,
-    key: Option<usize>,
+    start: Option<usize>,
 ) -> Result<(), AllocError>
-    requires at { at < 2 ^ 31 }
-    requires key { ForSome key (λ key. key ≤ at) }
-    ensures { IfOk result (λ _. levels.new ≡ levels_behind kind flow first at key levels.old) }
+    requires { at < 2 ^ 31 }
+    ensures { IfOk result (λ _. levels.new ≡ levels_behind kind flow first at (near at start) levels.old) }
 {
     if kind.is_document_marker() {
         levels.clear();
@@ -175,7 +185,7 @@ fn pass_levels<A: Allocator + Copy>(
     }
     match kind {
         Kind::Entry | Kind::Key => add_column(levels, at),
-        Kind::Value => add_column(levels, key.unwrap_or(at)),
+        Kind::Value => add_column(levels, near(at, start).unwrap_or(at)),
         _ => Ok(()),
     }
 }
@@ -186,16 +196,16 @@ fn pass_brackets<A: Allocator + Copy>(
 ) -> Result<(), AllocError>
     ensures { IfOk result (λ _. brackets.new ≡ brackets_with kind brackets.old) }
 {
-    if kind.is_document_marker() {
-        brackets.clear();
-        return Ok(());
+    match kind {
+        Kind::DocStart | Kind::DocEnd => {
+            brackets.clear();
+            Ok(())
+        }
+        Kind::SeqOpen | Kind::MapOpen => brackets.push(kind),
+        Kind::SeqClose | Kind::MapClose => {
+            brackets.pop();
+            Ok(())
+        }
+        _ => Ok(()),
     }
-    if kind.is_closing() {
-        brackets.pop();
-        return Ok(());
-    }
-    if kind.is_opening() {
-        brackets.push(kind)?;
-    }
-    Ok(())
 }

@@ -1,7 +1,7 @@
 //! The unit that the latest lexemes of a line make, which may become a key (YAML 1.2.2, 7.4.2 and 8.2.2).
 
-ghost use Rattle.std.specs.Prelude.{◌≡◌, IfOk};
-ghost use Rattle.yl_lexeme.specs.Kept.{nothing_kept, property_pair, content_start, property_start, property_behind, unit_behind, outer_behind, kept_behind};
+ghost use Rattle.std.specs.Prelude.{◌≡◌, Some, IfOk};
+ghost use Rattle.yl_lexeme.specs.Kept.{nothing_kept, property_pair, content_start, property_start, kept_behind};
 
 use crate::lexeme::Kind;
 use crate::stack::Stack;
@@ -67,13 +67,51 @@ impl<T: Copy, A: Allocator + Copy> KeyUnit<T, A> {
     pub fn pass(&mut self, kind: Kind, own: Option<T>) -> Result<(), AllocError>
         ensures { IfOk result (λ _. self.new ≡ kept_behind kind own self.old) }
     {
-        let start = content_start(own, self.unit, self.property);
-        let closing = self.outer.top().flatten();
-        let unit = unit_behind(kind, own, self.unit, self.property, closing);
-        pass_outer(&mut self.outer, kind, start)?;
-        self.unit = unit;
-        self.property = property_behind(kind, own);
-        Ok(())
+        let unit = self.unit.take();
+        let property = self.property.take();
+        let start = content_start(own, unit, property);
+        match kind {
+            Kind::Scalar(_) | Kind::Alias => {
+                self.unit = start;
+                Ok(())
+            }
+            Kind::SeqOpen | Kind::MapOpen => self.outer.push(start),
+            Kind::SeqClose | Kind::MapClose => {
+                self.unit = self.outer.top().flatten();
+                self.outer.pop();
+                Ok(())
+            }
+            Kind::Anchor => {
+                self.pass_property(true, own, property);
+                Ok(())
+            }
+            Kind::Tag => {
+                self.pass_property(false, own, property);
+                Ok(())
+            }
+            Kind::Directive
+            | Kind::DocStart
+            | Kind::DocEnd
+            | Kind::Entry
+            | Kind::Key
+            | Kind::Value
+            | Kind::Comma => Ok(()),
+        }
+    }
+
+    /// One more property of the line has been read, behind a property or none.
+    fn pass_property(&mut self, is_anchor: bool, own: Option<T>, property: Option<Property<T>>)
+        ensures { self.new ≡ record {
+          unit = property_start is_anchor own (property_pair property);
+          outer = self.old.outer;
+          property = Some (is_anchor, own);
+        } }
+    {
+        self.unit = property_start(is_anchor, own, property);
+        self.property = Some(Property {
+            is_anchor,
+            start: own,
+        });
     }
 }
 
@@ -103,52 +141,4 @@ fn property_start<T: Copy>(
         Some(before) if before.is_anchor != is_anchor => before.start,
         _ => own,
     }
-}
-
-fn property_behind<T: Copy>(kind: Kind, own: Option<T>) -> Option<Property<T>>
-    ensures { property_pair result ≡ property_behind kind own }
-{
-    match kind {
-        Kind::Anchor | Kind::Tag => Some(Property {
-            is_anchor: kind == Kind::Anchor,
-            start: own,
-        }),
-        _ => None,
-    }
-}
-
-/// Where the unit begins that the lexemes up to one of this kind make.
-fn unit_behind<T: Copy>(
-    kind: Kind,
-    own: Option<T>,
-    unit: Option<T>,
-    property: Option<Property<T>>,
-    closing: Option<T>,
-) -> Option<T>
-    ensures { result ≡ unit_behind kind own unit (property_pair property) closing }
-{
-    match kind {
-        Kind::SeqClose | Kind::MapClose => closing,
-        Kind::Scalar(_) | Kind::Alias => content_start(own, unit, property),
-        Kind::Anchor => property_start(true, own, property),
-        Kind::Tag => property_start(false, own, property),
-        _ => None,
-    }
-}
-
-fn pass_outer<T: Copy, A: Allocator + Copy>(
-    outer: &mut Stack<Option<T>, A>,
-    kind: Kind,
-    start: Option<T>,
-) -> Result<(), AllocError>
-    ensures { IfOk result (λ _. outer.new ≡ outer_behind kind start outer.old) }
-{
-    if kind.is_closing() {
-        outer.pop();
-        return Ok(());
-    }
-    if kind.is_opening() {
-        outer.push(start)?;
-    }
-    Ok(())
 }
