@@ -6,5 +6,6 @@ pub mod Encodes
 pub mod Modes
 pub mod RowSteps
 pub mod Signs
+pub mod Tabs
 pub mod Took
 pub mod Wholes

@@ -175,6 +175,7 @@ fn tag_found<A: Allocator + Copy>(alloc: A, at: usize, text: &[char]) -> Found<A
 }
 
 /// A scalar whose first row has been read.
+#[inline(always)]
 fn begun<A: Allocator + Copy>(
     alloc: A,
     style: Style,
@@ -210,6 +211,7 @@ fn begun<A: Allocator + Copy>(
 }
 
 #[tactic(auto, using(crate::proofs::Modes::said_by_style, crate::proofs::Modes::quoted_alike, crate::proofs::Modes::quoted_ends, crate::proofs::Modes::ends_by))]
+#[inline(always)]
 fn quoted_found<A: Allocator + Copy>(
     alloc: A,
     style: Style,
@@ -243,6 +245,7 @@ fn block_found<A: Allocator + Copy>(
 }
 
 #[tactic(auto, using(crate::proofs::Modes::said_by_style, crate::proofs::Modes::plain_alike, crate::proofs::Modes::plain_ends, crate::proofs::Modes::ends_by))]
+#[inline(always)]
 fn plain_found<A: Allocator + Copy>(
     alloc: A,
     flow: bool,
@@ -266,6 +269,7 @@ fn plain_found<A: Allocator + Copy>(
 }
 
 /// A scalar.
+#[inline(always)]
 fn scalar_at<A: Allocator + Copy>(
     alloc: A,
     at: usize,
@@ -298,6 +302,7 @@ fn scalar_at<A: Allocator + Copy>(
 }
 
 /// An anchor, an alias, a tag or a scalar.
+#[inline(always)]
 fn word_at<A: Allocator + Copy>(
     alloc: A,
     at: usize,

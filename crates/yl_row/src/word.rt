@@ -1,7 +1,7 @@
 //! Words in a row: names, tags, directives, markers, and what may follow them.
 
 ghost use Rattle.std.specs.Prelude.{◌≡◌, ◌≤◌, ◌==◌, ◌&&◌, ◌+◌, ◌<◌, ◌^◌, IfSome, length, false};
-ghost use Rattle.std.specs.List.{position};
+ghost use Rattle.std.specs.List.{list_any, position};
 ghost use Rattle.std.specs.Option.{ForSome};
 ghost use Rattle.yl_text.specs.Character.{is_marker_of};
 ghost use Rattle.yl_scalar.specs.Header.{next};
@@ -175,8 +175,23 @@ pub fn is_plain_start(flow: bool, c: char, text: &[char]) -> bool
 }
 
 /// The place of the first tab.
+#[tactic(auto, using(crate::proofs::Tabs::no_tab))]
 pub fn first_tab(row: &[char]) -> Option<usize>
     ensures { result ≡ position is_tab row.now }
 {
-    row.iter().position(|c| *c == '\t')
+    if has_tab(row) {
+        return row.iter().position(|c| *c == '\t');
+    }
+    None
+}
+
+/// Whether the row has a tab. All of it is looked at, several characters at once.
+fn has_tab(row: &[char]) -> bool
+    ensures { result ≡ list_any is_tab row.now }
+{
+    let mut found = false;
+    for c in row {
+        found |= *c == '\t';
+    }
+    found
 }
