@@ -15,7 +15,15 @@ pub fn characters<A: Allocator, B: Allocator>(
     ensures ok { OnOk result (buffer.new.items ≡ chars row.now.text) }
     ensures err { OnErr result (buffer.new.items ≡ []) }
 {
-    let text = row.as_str();
+    characters_of(row.as_str(), buffer)
+}
+
+/// Decodes the characters (code points) of a text into the buffer in place of what it holds, as
+/// `characters` does for a line.
+pub fn characters_of<B: Allocator>(text: &str, buffer: &mut Vec<char, B>) -> Result<(), AllocError>
+    ensures ok { OnOk result (buffer.new.items ≡ chars text.now) }
+    ensures err { OnErr result (buffer.new.items ≡ []) }
+{
     buffer.clear();
     buffer.try_reserve(text.len())?;
     for c in text.chars() {
