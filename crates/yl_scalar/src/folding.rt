@@ -1,6 +1,6 @@
 //! What breaks stand for, and values as text.
-ghost use Rattle.std.specs.Prelude.{◌≡◌, ◌++◌, IfOk, string_bytes};
-ghost use Rattle.std.specs.Str.{encode_utf8_all};
+ghost use Rattle.std.specs.Prelude.{◌≡◌, ◌++◌, ◌↔◌, IfOk, IsTrue, length, string_bytes};
+ghost use Rattle.std.specs.Str.{encode_utf8_all, IsAscii};
 ghost use Rattle.yl_scalar.specs.Folding.{break_of, joint};
 
 use std::alloc::{AllocError, Allocator};
@@ -38,14 +38,59 @@ pub fn push_joint<A: Allocator>(
     }
 }
 
-/// The text of these characters.
+/// The text of these characters, in UTF-8. It fails for want of memory alone, and takes one allocation of the text's size where
+/// all characters are ASCII.
 #[tactic(auto, using(crate::proofs::Encodes::encodes_push, std::proofs::lemmas::Grind::common_steps))]
 pub fn text_of<A: Allocator>(alloc: A, characters: &[char]) -> Result<String<A>, AllocError>
     ensures { IfOk result (λ text. string_bytes text ≡ encode_utf8_all characters.now) }
 {
-    let mut text = String::new(alloc);
+    if is_ascii(characters) {
+        return ascii_text(alloc, characters);
+    }
+    let mut text = String::with_capacity(alloc, characters.len())?;
     for c in characters {
         text.push(*c)?;
     }
     Ok(text)
+}
+
+/// Whether all characters are ASCII.
+fn is_ascii(characters: &[char]) -> bool
+    ensures { IsTrue result ↔ IsAscii characters.now }
+{
+    let mut greatest = 0;
+    for c in characters {
+        greatest = greatest.max(u32::from(*c));
+    }
+    greatest < 128
+}
+
+/// The text of ASCII characters.
+fn ascii_text<A: Allocator>(alloc: A, characters: &[char]) -> Result<String<A>, AllocError>
+    requires { IsAscii characters.now }
+    ensures { IfOk result (λ text. string_bytes text ≡ characters.now) }
+{
+    let mut bytes = Vec::with_capacity(alloc, characters.len())?;
+    bytes.resize(characters.len(), 0)?;
+    narrow(characters, &mut bytes);
+    Ok(text_of_ascii(bytes))
+}
+
+/// The text of ASCII bytes.
+fn text_of_ascii<A: Allocator>(bytes: Vec<u8, A>) -> String<A>
+    requires { IsAscii bytes.items }
+    ensures { string_bytes result ≡ bytes.items }
+{
+    String::from_utf8(bytes).unwrap()
+}
+
+/// ASCII characters, each for a byte, in place of the bytes.
+fn narrow(characters: &[char], bytes: &mut [u8])
+    requires same { length bytes.old ≡ length characters.now }
+    requires ascii { IsAscii characters.now }
+    ensures { bytes.new ≡ characters.now }
+{
+    for (i, c) in characters.iter().enumerate() {
+        bytes[i] = *c as u8;
+    }
 }

@@ -43,6 +43,10 @@ fn stop(flow: bool, behind_space: bool, text: &[char]) -> usize
 {
     let mut behind_space = behind_space;
     for (i, c) in text.iter().enumerate() {
+        if c.is_ascii_lowercase() {
+            behind_space = false;
+            continue;
+        }
         if *c == ':' && !is_safe_next(flow, &text[i + 1..]) {
             return i;
         }
@@ -117,10 +121,13 @@ impl<A: Allocator + Copy> Plain<A> {
             self.blanks += 1;
             return Ok(Line::GoesOn);
         }
+        if is_marker(row) || !(self.flow || self.least <= indentation(row)) {
+            return Ok(Line::EndedAbove(self.finish()));
+        }
         let white = leading_white(row);
         let text = &row[white..];
         let taken = stop(self.flow, true, text);
-        if is_marker(row) || !(self.flow || self.least <= indentation(row)) || taken == 0 {
+        if taken == 0 {
             return Ok(Line::EndedAbove(self.finish()));
         }
         let part = without_end(&text[..taken]);
