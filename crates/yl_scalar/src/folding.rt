@@ -71,26 +71,10 @@ fn ascii_text<A: Allocator>(alloc: A, characters: &[char]) -> Result<String<A>, 
     ensures { IfOk result (λ text. string_bytes text ≡ characters.now) }
 {
     let mut bytes = Vec::with_capacity(alloc, characters.len())?;
-    bytes.resize(characters.len(), 0)?;
-    narrow(characters, &mut bytes);
-    Ok(text_of_ascii(bytes))
-}
-
-/// The text of ASCII bytes.
-fn text_of_ascii<A: Allocator>(bytes: Vec<u8, A>) -> String<A>
-    requires { IsAscii bytes.items }
-    ensures { string_bytes result ≡ bytes.items }
-{
-    String::from_utf8(bytes).unwrap()
-}
-
-/// ASCII characters, each for a byte, in place of the bytes.
-fn narrow(characters: &[char], bytes: &mut [u8])
-    requires same { length bytes.old ≡ length characters.now }
-    requires ascii { IsAscii characters.now }
-    ensures { bytes.new ≡ characters.now }
-{
-    for (i, c) in characters.iter().enumerate() {
-        bytes[i] = *c as u8;
+    for c in characters {
+        bytes.push_reserved(*c as u8);
     }
+    // ASCII is UTF-8.
+    let text = unsafe { String::from_utf8_unchecked(bytes) };
+    Ok(text)
 }
