@@ -194,7 +194,7 @@ fn begun<A: Allocator + Copy>(
         Line::EndsIn(place) | Line::EndedAbove(place) => Ok(Standing::Ended(Found {
             kind: Kind::Scalar(style),
             column: place.column as u32,
-            value: reader.to_value(alloc)?,
+            value: reader.into_value(alloc)?,
             fault: None,
         })),
         Line::Fails(fault, place) => Ok(Standing::Ended(Found {

@@ -56,12 +56,12 @@ impl<A: Allocator + Copy> Reader<A> {
         }
     }
 
-    /// The scalar's value so far; a block scalar's is not read.
-    pub fn to_value(&self, alloc: A) -> Result<String<A>, AllocError>
-        ensures { IfOk result (λ text. string_bytes text ≡ encode_utf8_all (value_of self.now)) }
+    /// The scalar's value so far, in UTF-8; a block scalar's is not read.
+    pub fn into_value(self, alloc: A) -> Result<String<A>, AllocError>
+        ensures { IfOk result (λ text. string_bytes text ≡ encode_utf8_all (value_of self)) }
     {
         match self {
-            Reader::Plain(reader) => reader.to_value(alloc),
+            Reader::Plain(reader) => Ok(reader.into_value()),
             Reader::Quoted(reader) => reader.to_value(alloc),
             Reader::Block(_) => Ok(String::new(alloc)),
         }

@@ -4,3 +4,4 @@ pub mod Front
 pub mod PlainRead
 pub mod QuotedRead
 pub mod Trim
+pub mod Printable

@@ -1,5 +1,6 @@
 -- What the readers of scalars and their answers say.
-use Rattle.std.specs.Prelude.{ℕ, ◌+◌, Bool, List}
+use Rattle.std.specs.Prelude.{ℕ, ◌+◌, Bool, List, string_bytes}
+use Rattle.std.specs.Str.{chars}
 use Rattle.yl_scalar.specs.Reading.{Extent, Reading, Whole, Refused, Stepped, GoesOn, EndsIn, EndedAbove, Fails}
 use Rattle.yl_scalar.specs.PlainSteps.{PlainState}
 use Rattle.yl_scalar.specs.QuotedSteps.{QuotedState}
@@ -29,7 +30,7 @@ outcome (OutcomeWhole place) value = Whole (extent_at place value)
 outcome (OutcomeRefused fault place) value = Refused fault place.down place.column
 
 abbrev pub plain_state : {A : Type 0} → Plain A → PlainState
-plain_state r = record { flow = r.flow; least = r.least; down = r.down; column = r.column; blanks = r.blanks; value = r.value.items }
+plain_state r = record { flow = r.flow; least = r.least; down = r.down; column = r.column; blanks = r.blanks; value = chars (string_bytes r.value) }
 
 -- how many lines below the first one it has read
 abbrev pub plain_rows : {A : Type 0} → Plain A → ℕ

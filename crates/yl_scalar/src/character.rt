@@ -1,7 +1,8 @@
 //! Classes of characters, and what a row begins and ends with: YAML 1.2.2, chapters 5 and 6.
 ghost use Rattle.std.specs.Prelude.{◌≡◌, ◌≤◌, ◌<◌, ◌+◌, IfSome, length, drop};
-ghost use Rattle.std.specs.List.{prefix_len};
+ghost use Rattle.std.specs.List.{list_all, prefix_len};
 ghost use Rattle.yl_text.specs.Character.{is_white, is_flow_indicator, is_plain_safe, is_blank, is_marker, is_marker_of, indentation, without_end, without_front};
+ghost use Rattle.yl_text.specs.Special.{is_printable_ascii};
 ghost use Rattle.yl_scalar.specs.Allowed.{is_allowed, is_quoted_character, first_bad};
 
 /// A space or a tab.
@@ -49,7 +50,21 @@ pub fn first_bad(text: &[char]) -> Option<usize>
     ensures place { result ≡ first_bad text.now }
     ensures within { IfSome result (λ at. at < length text.now) }
 {
+    if is_printable_ascii(text) {
+        return None;
+    }
     text.iter().position(|c| !is_allowed(*c))
+}
+
+/// Whether all characters are printable ASCII, each of which is allowed.
+fn is_printable_ascii(text: &[char]) -> bool
+    ensures { result ≡ list_all is_printable_ascii text.now }
+{
+    let mut special = false;
+    for c in text {
+        special |= *c < ' ' || *c > '~';
+    }
+    !special
 }
 
 /// Whether the row has white space only.

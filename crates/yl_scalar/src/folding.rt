@@ -1,6 +1,6 @@
 //! What breaks stand for, and values as text.
-ghost use Rattle.std.specs.Prelude.{◌≡◌, ◌++◌, IfOk, string_bytes};
-ghost use Rattle.std.specs.Str.{encode_utf8_all};
+ghost use Rattle.std.specs.Prelude.{◌≡◌, ◌++◌, ◌↔◌, ◌∷◌, [], IfOk, IsTrue, length, string_bytes};
+ghost use Rattle.std.specs.Str.{chars, encode_utf8_all, IsAscii};
 ghost use Rattle.yl_scalar.specs.Folding.{break_of, joint};
 
 use std::alloc::{AllocError, Allocator};
@@ -38,14 +38,78 @@ pub fn push_joint<A: Allocator>(
     }
 }
 
-/// The text of these characters.
-#[tactic(auto, using(crate::proofs::Encodes::encodes_push, std::proofs::lemmas::Grind::common_steps))]
-pub fn text_of<A: Allocator>(alloc: A, characters: &[char]) -> Result<String<A>, AllocError>
-    ensures { IfOk result (λ text. string_bytes text ≡ encode_utf8_all characters.now) }
+/// Adds what a break with this many blank rows behind it stands for to a value that is kept as text.
+pub fn add_break<A: Allocator>(value: &mut String<A>, blanks: usize) -> Result<(), AllocError>
+    ensures { IfOk result (λ _. chars (string_bytes value.new) ≡ chars (string_bytes value.old) ++ break_of blanks) }
 {
-    let mut text = String::new(alloc);
-    for c in characters {
-        text.push(*c)?;
+    if blanks == 0 {
+        add(value, ' ')?;
+        return Ok(());
     }
+    for _i in 0..blanks {
+        add(value, '\n')?;
+    }
+    Ok(())
+}
+
+/// Adds a character to a value that is kept as text.
+fn add<A: Allocator>(value: &mut String<A>, c: char) -> Result<(), AllocError>
+    ensures { IfOk result (λ _. chars (string_bytes value.new) ≡ chars (string_bytes value.old) ++ c ∷ []) }
+{
+    value.push(c)?;
+    Ok(())
+}
+
+/// Adds characters to a value that is kept as text.
+pub fn add_characters<A: Allocator>(
+    value: &mut String<A>,
+    characters: &[char],
+) -> Result<(), AllocError>
+    ensures { IfOk result (λ _. chars (string_bytes value.new) ≡ chars (string_bytes value.old) ++ characters.now) }
+{
+    value.try_reserve(characters.len())?;
+    for c in characters {
+        add(value, *c)?;
+    }
+    Ok(())
+}
+
+/// The text of these characters, in UTF-8. It fails for want of memory alone, and takes one allocation of the text's size where
+/// all characters are ASCII.
+pub fn text_of<A: Allocator>(alloc: A, characters: &[char]) -> Result<String<A>, AllocError>
+    ensures bytes { IfOk result (λ text. string_bytes text ≡ encode_utf8_all characters.now) }
+    ensures characters { IfOk result (λ text. chars (string_bytes text) ≡ characters.now) }
+{
+    if is_ascii(characters) {
+        let text = ascii_text(alloc, characters)?;
+        return Ok(text);
+    }
+    let mut text = String::new(alloc);
+    add_characters(&mut text, characters)?;
+    Ok(text)
+}
+
+/// Whether all characters are ASCII.
+fn is_ascii(characters: &[char]) -> bool
+    ensures { IsTrue result ↔ IsAscii characters.now }
+{
+    let mut greatest = 0;
+    for c in characters {
+        greatest = greatest.max(u32::from(*c));
+    }
+    greatest < 128
+}
+
+/// The text of ASCII characters.
+fn ascii_text<A: Allocator>(alloc: A, characters: &[char]) -> Result<String<A>, AllocError>
+    requires { IsAscii characters.now }
+    ensures { IfOk result (λ text. string_bytes text ≡ characters.now) }
+{
+    let mut bytes = Vec::with_capacity(alloc, characters.len())?;
+    for c in characters {
+        bytes.push_reserved(*c as u8);
+    }
+    // ASCII is UTF-8.
+    let text = unsafe { String::from_utf8_unchecked(bytes) };
     Ok(text)
 }

@@ -11,7 +11,7 @@ use crate::character::{
     first_bad, indentation, is_blank, is_flow_indicator, is_marker, is_plain_safe, is_white,
     leading_white, without_end,
 };
-use crate::folding::{push_break, text_of};
+use crate::folding::{add_break, add_characters, text_of};
 use std::alloc::{AllocError, Allocator};
 
 /// A plain scalar that may go on below the rows that were read.
@@ -22,7 +22,7 @@ pub struct Plain<A: Allocator> {
     down: usize,
     column: usize,
     blanks: usize,
-    value: Vec<char, A>,
+    value: String<A>,
     failed: bool,
 }
 
@@ -43,6 +43,10 @@ fn stop(flow: bool, behind_space: bool, text: &[char]) -> usize
 {
     let mut behind_space = behind_space;
     for (i, c) in text.iter().enumerate() {
+        if c.is_ascii_lowercase() {
+            behind_space = false;
+            continue;
+        }
         if *c == ':' && !is_safe_next(flow, &text[i + 1..]) {
             return i;
         }
@@ -75,8 +79,7 @@ impl<A: Allocator + Copy> Plain<A> {
     {
         let taken = stop(flow, false, text);
         let part = without_end(&text[..taken]);
-        let mut value = Vec::new(alloc);
-        value.extend_from_slice(part)?;
+        let value = text_of(alloc, part)?;
         let column = at + part.len();
         let reader = Plain {
             flow,
@@ -117,10 +120,13 @@ impl<A: Allocator + Copy> Plain<A> {
             self.blanks += 1;
             return Ok(Line::GoesOn);
         }
+        if is_marker(row) || !(self.flow || self.least <= indentation(row)) {
+            return Ok(Line::EndedAbove(self.finish()));
+        }
         let white = leading_white(row);
         let text = &row[white..];
         let taken = stop(self.flow, true, text);
-        if is_marker(row) || !(self.flow || self.least <= indentation(row)) || taken == 0 {
+        if taken == 0 {
             return Ok(Line::EndedAbove(self.finish()));
         }
         let part = without_end(&text[..taken]);
@@ -130,8 +136,8 @@ impl<A: Allocator + Copy> Plain<A> {
             return Ok(Line::Fails(ScalarFault::NotAllowed, Place { down, column }));
         }
         self.failed = true;
-        push_break(&mut self.value, self.blanks)?;
-        self.value.extend_from_slice(part)?;
+        add_break(&mut self.value, self.blanks)?;
+        add_characters(&mut self.value, part)?;
         self.failed = false;
         self.down = down;
         self.column = white + part.len();
@@ -153,10 +159,10 @@ impl<A: Allocator + Copy> Plain<A> {
         }
     }
 
-    /// The scalar's value so far; the whole value once it has ended.
-    pub fn to_value(&self, alloc: A) -> Result<String<A>, AllocError>
-        ensures { IfOk result (λ text. string_bytes text ≡ encode_utf8_all (plain_state self.now).value) }
+    /// The scalar's value so far, in UTF-8; the whole value once it has ended.
+    pub fn into_value(self) -> String<A>
+        ensures { string_bytes result ≡ encode_utf8_all (plain_state self).value }
     {
-        text_of(alloc, &self.value)
+        self.value
     }
 }

@@ -191,12 +191,12 @@ fn scalar_lexeme<A: Allocator + Copy>(
     alloc: A,
     style: Style,
     at: usize,
-    reader: &Reader<A>,
+    reader: Reader<A>,
     place: Place,
 ) -> Result<Lexeme<A>, AllocError>
     requires at { at < 2 ^ 31 }
     requires place { (place.down < 2 ^ 32) × (place.column ≤ 2 ^ 31) }
-    ensures { IfOk result (λ lexeme. lexeme ≡ scalar_lexeme style at place (value_of reader.now)) }
+    ensures { IfOk result (λ lexeme. lexeme ≡ scalar_lexeme style at place (value_of reader)) }
 {
     let start = Pos {
         line: 0,
@@ -206,7 +206,7 @@ fn scalar_lexeme<A: Allocator + Copy>(
         line: place.down as u32,
         col: place.column as u32,
     };
-    Ok(Lexeme::new(Kind::Scalar(style), start, end, reader.to_value(alloc)?))
+    Ok(Lexeme::new(Kind::Scalar(style), start, end, reader.into_value(alloc)?))
 }
 
 /// A scalar's fault.
@@ -249,7 +249,7 @@ fn within_row<A: Allocator + Copy>(
             Ok((silent(alloc, false), Resting::Within(begun, scalar)))
         }
         Line::EndsIn(place) => {
-            let lexeme = scalar_lexeme(alloc, style, at, &reader, place)?;
+            let lexeme = scalar_lexeme(alloc, style, at, reader, place)?;
             let (mut step, resting) = read_on(
                 alloc,
                 surroundings,
@@ -263,7 +263,7 @@ fn within_row<A: Allocator + Copy>(
             Ok((step, resting))
         }
         Line::EndedAbove(place) => {
-            let lexeme = scalar_lexeme(alloc, style, at, &reader, place)?;
+            let lexeme = scalar_lexeme(alloc, style, at, reader, place)?;
             let (mut step, resting) = fresh_row(alloc, surroundings, line, row)?;
             step.ended = Some(Ended { ago, lexeme });
             Ok((step, resting))
@@ -343,7 +343,7 @@ fn ended_scalar<A: Allocator + Copy>(
     let ago = line - begun;
     match reader.finish() {
         Outcome::Whole(place) => {
-            let lexeme = scalar_lexeme(alloc, style, at, &reader, place)?;
+            let lexeme = scalar_lexeme(alloc, style, at, reader, place)?;
             step.ended = Some(Ended { ago, lexeme });
             Ok(step)
         }

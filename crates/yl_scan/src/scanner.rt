@@ -14,7 +14,7 @@ use std::alloc::{AllocError, Allocator};
 use std::marker::Model;
 use std::mem;
 use yl_lexeme::{Kind, Meter, Surroundings};
-use yl_text::{Row, characters};
+use yl_text::{Row, characters_of};
 
 /// A scanner. It is fed a text's rows from the first on, and tells what each row tells.
 #[derive(Drop)]
@@ -58,17 +58,17 @@ impl<'a, A: Allocator + Copy> Scanner<'a, A> {
         }
     }
 
-    fn read(&mut self, row: &Row<A>) -> Result<Step<A>, AllocError>
-        requires fits { length (chars row.now.text) < 2 ^ 31 }
+    fn read(&mut self, text: &str) -> Result<Step<A>, AllocError>
+        requires fits { length (chars text.now) < 2 ^ 31 }
         requires few { self.old.line < 2 ^ 32 - 1 }
         ensures told { IfOk result (λ step. (rows : List (List ℕ)) →
-            left self.old.line self.old.stand (chars row.now.text ∷ rows)
+            left self.old.line self.old.stand (chars text.now ∷ rows)
             ≡ given self.old.line (told_of self.old.line step) (left self.new.line self.new.stand rows)) }
         ensures in_text { IfOk result (λ step. BeginsInText self.old.line step) }
         ensures line { OnOk result (self.new.line ≡ self.old.line + 1) }
         ensures refused { self.new.refused ≡ self.old.refused }
     {
-        characters(row, &mut self.characters)?;
+        characters_of(text, &mut self.characters)?;
         let resting = mem::replace(&mut self.resting, Resting::Between);
         let (step, resting) = fed_row(
             self.alloc,
@@ -97,12 +97,30 @@ impl<'a, A: Allocator + Copy> Scanner<'a, A> {
         ensures refused { OnErr result (self.new.refused ≡ true) }
         ensures stays { self.old.refused ≡ true → IsErr result }
     {
+        self.feed_text(row.as_str(), meter)
+    }
+
+    /// Reads the next row, given as its text without its break, and counts it.
+    pub fn feed_text(&mut self, text: &str, meter: &mut Meter) -> Result<Step<A>, AllocError>
+        requires fits { length (chars text.now) < 2 ^ 31 }
+        requires few { self.old.line < 2 ^ 32 - 1 }
+        requires meter { meter.old.lines < 2 ^ 32 - 1 }
+        ensures told { IfOk result (λ step. (rows : List (List ℕ)) →
+            left self.old.line self.old.stand (chars text.now ∷ rows)
+            ≡ given self.old.line (told_of self.old.line step) (left self.new.line self.new.stand rows)) }
+        ensures in_text { IfOk result (λ step. BeginsInText self.old.line step) }
+        ensures line { OnOk result (self.new.line ≡ self.old.line + 1) }
+        ensures meter { meter.new ≡ record { lines = meter.old.lines + 1; documents = meter.old.documents } }
+        ensures goes_on { OnOk result (self.new.refused ≡ false) }
+        ensures refused { OnErr result (self.new.refused ≡ true) }
+        ensures stays { self.old.refused ≡ true → IsErr result }
+    {
         meter.lines += 1;
         if self.refused {
             return Err(AllocError);
         }
         self.refused = true;
-        let step = self.read(row)?;
+        let step = self.read(text)?;
         self.refused = false;
         Ok(step)
     }

@@ -1,5 +1,5 @@
 //! The characters of a line.
-ghost use Rattle.std.specs.Prelude.{◌≡◌, [], IfOk, OnOk, OnErr};
+ghost use Rattle.std.specs.Prelude.{◌≡◌, [], IfOk, OnOk, OnErr, length};
 ghost use Rattle.std.specs.Str.{chars};
 
 use crate::Row;
@@ -15,11 +15,45 @@ pub fn characters<A: Allocator, B: Allocator>(
     ensures ok { OnOk result (buffer.new.items ≡ chars row.now.text) }
     ensures err { OnErr result (buffer.new.items ≡ []) }
 {
-    let text = row.as_str();
+    characters_of(row.as_str(), buffer)
+}
+
+/// Decodes the characters (code points) of a text into the buffer in place of what it holds, as
+/// `characters` does for a line.
+pub fn characters_of<B: Allocator>(text: &str, buffer: &mut Vec<char, B>) -> Result<(), AllocError>
+    ensures ok { OnOk result (buffer.new.items ≡ chars text.now) }
+    ensures err { OnErr result (buffer.new.items ≡ []) }
+{
+    if text.is_ascii() {
+        return widened(text.as_bytes(), buffer);
+    }
     buffer.clear();
     buffer.try_reserve(text.len())?;
     for c in text.chars() {
         buffer.push_reserved(c);
     }
     Ok(())
+}
+
+/// The bytes, each taken for a character, in place of what the buffer holds.
+fn widened<B: Allocator>(bytes: &[u8], buffer: &mut Vec<char, B>) -> Result<(), AllocError>
+    ensures ok { OnOk result (buffer.new.items ≡ bytes.now) }
+    ensures err { OnErr result (buffer.new.items ≡ []) }
+{
+    if buffer.resize(bytes.len(), '\0').is_err() {
+        buffer.clear();
+        return Err(AllocError);
+    }
+    widen(bytes, buffer);
+    Ok(())
+}
+
+/// Each byte for a character, in place of the characters.
+fn widen(bytes: &[u8], characters: &mut [char])
+    requires { length characters.old ≡ length bytes.now }
+    ensures { characters.new ≡ bytes.now }
+{
+    for (i, byte) in bytes.iter().enumerate() {
+        characters[i] = char::from(*byte);
+    }
 }

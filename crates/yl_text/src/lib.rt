@@ -17,7 +17,7 @@ mod special;
 mod splitting;
 mod store;
 
-pub use decode::characters;
+pub use decode::{characters, characters_of};
 pub use device::Watched;
 pub use fault::TextFault;
 pub use found::{Found, RuleId};

@@ -1,0 +1,14 @@
+-- Printable ASCII is allowed.
+use Rattle.std.proofs.Common.{◌≡◌, ℕ, List, [], ◌∷◌, None, true, arith, refl}
+use Rattle.std.proofs.lemmas.Grind.{common_steps}
+use Rattle.std.proofs.lemmas.Bool.Decides.{nat_tests}
+use Rattle.std.specs.List.{list_all}
+use Rattle.yl_text.specs.Special.{is_printable_ascii}
+use Rattle.yl_scalar.specs.Allowed.{is_allowed, first_bad}
+
+printable_allowed : (c : ℕ) → is_printable_ascii c ≡ true → is_allowed c ≡ true
+printable_allowed c h = grind (arith, nat_tests)
+
+pub printable_none_bad : (cs : List ℕ) → list_all is_printable_ascii cs ≡ true → first_bad cs ≡ None
+printable_none_bad [] h = refl
+printable_none_bad (c ∷ cs) h = grind (arith, common_steps, printable_allowed, printable_none_bad cs)

@@ -1,0 +1,7 @@
+use Rattle.std.proofs.Common.{sym, ◌∙◌}
+use Rattle.yl_scalar.proofs.Printable.{printable_none_bad}
+use Rattle.yl_scalar.proofs.character.first_bad.Goals as goal
+
+pub returns-then-is_printable_ascii-clause-place : goal.returns-then-is_printable_ascii-clause-place
+returns-then-is_printable_ascii-clause-place c =
+    sym (printable_none_bad c.args.text.now (sym c.is_printable_ascii.ensures ∙ c.if-is_printable_ascii.true))
