@@ -2,7 +2,6 @@ pub mod Agree
 pub mod Beginnings
 pub mod Carry
 pub mod Columns
-pub mod Encodes
 pub mod Modes
 pub mod RowSteps
 pub mod Signs

@@ -20,14 +20,13 @@ ghost use Rattle.yl_row.specs.Standing.{found_of, standing, found_option, EndsHe
 
 use crate::fault::{Faulted, ScanFault, of_scalar, or_else, when};
 use crate::reader::Reader;
-use crate::text::text_of;
 use crate::word::{
     directive, is_comment_next, is_flow_indicator_next, is_marker_of, is_plain_start,
     is_space_next, name_len, tag_len,
 };
 use std::alloc::{AllocError, Allocator};
 use yl_lexeme::{Kind, Style, Surroundings, near};
-use yl_scalar::{Block, Line, Plain, Quoted, first_bad, is_blank, leading_white};
+use yl_scalar::{Block, Line, Plain, Quoted, first_bad, is_blank, leading_white, text_of};
 
 /// A lexeme that ends in its row, before a column.
 #[derive(Drop)]

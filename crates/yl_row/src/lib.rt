@@ -12,7 +12,6 @@ mod found;
 mod reader;
 mod row;
 mod sign;
-mod text;
 mod word;
 
 pub use fault::{Faulted, ScanFault, of_scalar};

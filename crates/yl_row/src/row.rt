@@ -17,11 +17,10 @@ use crate::fault::{Faulted, or_else};
 use crate::found::{Found, Standing, bad_in, found_at};
 use crate::reader::Reader;
 use crate::sign::{place_fault, sign_at, sign_fault};
-use crate::text::text_of;
 use crate::word::begins_comment;
 use std::alloc::{AllocError, Allocator};
 use yl_lexeme::{Comment, Kind, Lexeme, Style, Surroundings};
-use yl_scalar::is_white;
+use yl_scalar::{is_white, text_of};
 use yl_text::Pos;
 
 /// A scalar that may go on in the row below, and where it begins.
