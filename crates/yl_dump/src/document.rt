@@ -1,12 +1,11 @@
 //! The events of one document.
 
-use crate::fault::{DumpFault, Place, TextFault};
-use crate::names::style_sign;
-use crate::printer::Printer;
+use crate::event::print_event;
+use crate::fault::{Place, TextFault};
+use crate::page::Page;
 use crate::quoting::print_quoted;
-use std::alloc::Allocator;
-use std::io::Write;
-use yl_events::{Event, EventKind, Fault, parse_document};
+use std::alloc::{AllocError, Allocator};
+use yl_events::{Fault, parse_document};
 use yl_lexeme::{At, Lexeme, Meter};
 
 /// A lexeme, and the line of the text in which it begins, counted from 0.
@@ -34,62 +33,12 @@ pub enum Behind {
     Stop(TextFault),
 }
 
-fn print_fault<W: Write>(printer: &mut Printer<W>, fault: TextFault) -> Result<(), DumpFault> {
-    printer.text("!DOC ")?;
-    printer.place(fault.place)?;
-    printer.text(" ")?;
-    print_quoted(printer, fault.text)?;
-    printer.text("\n")
-}
-
-fn kind_sign(kind: EventKind<'_>) -> &'static str {
-    match kind {
-        EventKind::DocumentStart => "+DOC",
-        EventKind::DocumentEnd => "-DOC",
-        EventKind::SequenceStart => "+SEQ",
-        EventKind::SequenceEnd => "-SEQ",
-        EventKind::MappingStart => "+MAP",
-        EventKind::MappingEnd => "-MAP",
-        EventKind::Alias(_) => "=ALI",
-        EventKind::Scalar(_, _) | EventKind::Empty => "=VAL",
-    }
-}
-
-// Prints an alias's name or a scalar's value.
-fn print_value<W: Write>(printer: &mut Printer<W>, kind: EventKind<'_>) -> Result<(), DumpFault> {
-    match kind {
-        EventKind::Alias(name) => {
-            printer.text(" *")?;
-            printer.text(name)
-        }
-        EventKind::Scalar(style, value) => {
-            printer.text(" ")?;
-            printer.text(style_sign(style))?;
-            print_quoted(printer, value)
-        }
-        EventKind::Empty => printer.text(" :\"\""),
-        _ => Ok(()),
-    }
-}
-
-fn print_event<W: Write>(printer: &mut Printer<W>, event: &Event<'_>) -> Result<(), DumpFault> {
-    printer.text(kind_sign(event.kind))?;
-    if let Some(anchor) = event.anchor {
-        printer.text(" &")?;
-        printer.text(anchor.name)?;
-    }
-    if event.is_tagged {
-        printer.text(" <>")?;
-    }
-    print_value(printer, event.kind)?;
-    if let Some(place) = event.place {
-        printer.text(" @")?;
-        printer.place(Place {
-            line: u64::from(place.line),
-            column: u64::from(place.col),
-        })?;
-    }
-    printer.text("\n")
+fn print_fault<A: Allocator>(page: &mut Page<A>, fault: TextFault) -> Result<(), AllocError> {
+    page.text("!DOC ")?;
+    page.place(fault.place)?;
+    page.text(" ")?;
+    print_quoted(page, fault.text)?;
+    page.text("\n")
 }
 
 // Where a document's parse fault stands. Behind all its lexemes it stands only where no scan fault does.
@@ -119,12 +68,12 @@ fn earlier(parse: Option<TextFault>, behind: Behind) -> Option<TextFault> {
 }
 
 /// Prints the events of a document, or its fault.
-pub fn print_document<A: Allocator + Copy, W: Write>(
+pub fn print_document<A: Allocator + Copy>(
     alloc: A,
-    printer: &mut Printer<W>,
+    page: &mut Page<A>,
     document: &[Placed<A>],
     behind: Behind,
-) -> Result<(), DumpFault> {
+) -> Result<(), AllocError> {
     let mut lexemes = Vec::with_capacity(alloc, document.len())?;
     for placed in document {
         lexemes.push(At {
@@ -138,10 +87,10 @@ pub fn print_document<A: Allocator + Copy, W: Write>(
         None => None,
     };
     if let Some(fault) = earlier(parse, behind) {
-        return print_fault(printer, fault);
+        return print_fault(page, fault);
     }
     for event in &built.events {
-        print_event(printer, event)?;
+        print_event(page, event)?;
     }
     Ok(())
 }

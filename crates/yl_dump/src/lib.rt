@@ -5,14 +5,15 @@
 #![tactic(auto)]
 
 mod document;
+mod event;
 mod events;
 mod fault;
 mod lexemes;
 mod lines;
 mod names;
-mod printer;
+mod page;
 mod quoting;
-mod rows;
+mod text_scanner;
 
 pub use events::write_events;
 pub use fault::DumpFault;
