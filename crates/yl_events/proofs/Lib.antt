@@ -5,3 +5,4 @@ pub mod Counts
 pub mod Pushes
 pub mod Back
 pub mod Cutting
+pub mod Trails

@@ -7,6 +7,7 @@ pub mod Machine
 pub mod Derives
 pub mod Answer
 pub mod Faults
+pub mod Trail
 pub mod Event
 pub mod Built
 pub mod Rows
