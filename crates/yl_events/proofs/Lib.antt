@@ -3,5 +3,4 @@ pub mod Sound
 pub mod Answered
 pub mod Counts
 pub mod Pushes
-pub mod Back
 pub mod Cutting
