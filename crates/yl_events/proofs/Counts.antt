@@ -2,13 +2,13 @@
 use Rattle.std.specs.Prelude.{ℕ, suc, ◌≡◌, ◌≤◌, ◌+◌, refl, Bool, true, false, List, [], ◌∷◌, ◌++◌, length, Option, Some, None, if◌then◌else◌}
 use Rattle.std.proofs.Common.{◌∙◌, ap, arith}
 use Rattle.yl_lexeme.specs.Lexeme.{LexemeValue}
-use Rattle.yl_events.specs.declared.symbol.Symbol.{Symbol}
-use Rattle.yl_events.specs.declared.symbol.Symbol.TheVariants.{Close, One}
-use Rattle.yl_events.specs.declared.symbol.Piece.{Piece}
-use Rattle.yl_events.specs.declared.symbol.OpenBlock.{OpenBlock}
-use Rattle.yl_events.specs.declared.symbol.Marking.{Marking}
-use Rattle.yl_events.specs.Keys.{piece, pieces}
-use Rattle.yl_events.specs.Marks.{closes, left_open, closings, opened, opening, with_opened, begins_key, key_mark, all_closed, marks, marked}
+use Rattle.yl_marks.specs.declared.symbol.Symbol.{Symbol}
+use Rattle.yl_marks.specs.declared.symbol.Symbol.TheVariants.{Close, One}
+use Rattle.yl_marks.specs.declared.symbol.Piece.{Piece}
+use Rattle.yl_marks.specs.declared.symbol.OpenBlock.{OpenBlock}
+use Rattle.yl_marks.specs.declared.symbol.Marking.{Marking}
+use Rattle.yl_marks.specs.Keys.{piece, pieces}
+use Rattle.yl_marks.specs.Marks.{closes, left_open, closings, opened, opening, with_opened, begins_key, key_mark, all_closed, marks, marked}
 use Rattle.yl_events.specs.Derives.{lexeme_count, HasFaultAt}
 
 count-append : (a b : List Symbol) → lexeme_count (a ++ b) ≡ lexeme_count a + lexeme_count b

@@ -3,6 +3,5 @@ pub mod Sound
 pub mod Answered
 pub mod Counts
 pub mod Pushes
-pub mod Back
 pub mod Cutting
 pub mod Trails

@@ -1,6 +1,4 @@
 pub mod Documents
-pub mod Keys
-pub mod Marks
 pub mod Grammar
 pub mod Outlines
 pub mod Machine

@@ -4,9 +4,10 @@ ghost use Rattle.std.specs.Prelude.{◌≡◌, ◌∷◌, [], ◌++◌, ◌<◌,
 ghost use Rattle.yl_events.specs.Faults.{with_indentless, blocks_behind, depth_behind, open_behind, open_after, closed_by, has, is_twice, is_behind_directive, fault_in_blocks, fault_in, fault_between, left_behind, front_len, fault_of};
 
 use crate::fault::ParseFault;
-use crate::symbol::{Block, Symbol};
+use crate::symbol::Block;
 use std::alloc::{AllocError, Allocator};
 use yl_lexeme::Kind;
+use yl_marks::Symbol;
 
 /// An indentless sequence is open in the innermost mapping, or no longer.
 fn set_indentless<A: Allocator>(is_open: bool, blocks: &mut Vec<Block, A>) -> Result<(), AllocError>

@@ -1,4 +1,4 @@
-//! Documents, marks and events.
+//! Documents and events.
 #![tactic(auto)]
 
 mod cuts;
@@ -6,10 +6,8 @@ mod document;
 mod event;
 mod fault;
 mod fault_kind;
-mod keys;
 mod laws;
 mod machine;
-mod marks;
 mod symbol;
 
 pub use cuts::documents;
@@ -17,5 +15,4 @@ pub use document::parse_document;
 pub use event::{Anchor, Built, Event, EventKind};
 pub use fault::{Fault, ParseFault};
 pub use laws::{one_derivation, one_fault};
-pub use marks::mark;
-pub use symbol::{Collection, Marked};
+pub use yl_marks::{Collection, Marked, mark};

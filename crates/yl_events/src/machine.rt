@@ -7,9 +7,10 @@ ghost use Rattle.yl_events.specs.Answer.{IsParsed, Answers};
 ghost use Rattle.yl_events.specs.declared.symbol.Where.TheVariants.{InInline};
 ghost use Rattle.yl_events.specs.declared.symbol.Goal.TheVariants.{ItemEnd, NodeEnd};
 
-use crate::symbol::{Bracket, Goal, Outline, Properties, Shape, Symbol, Where};
+use crate::symbol::{Bracket, Goal, Outline, Properties, Shape, Where};
 use std::alloc::{AllocError, Allocator};
 use yl_lexeme::Kind;
+use yl_marks::Symbol;
 
 fn bare(kind: Shape, place: Option<usize>) -> Outline
     ensures { result ≡ bare kind place }

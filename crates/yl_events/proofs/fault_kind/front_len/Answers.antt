@@ -1,5 +1,5 @@
 use Rattle.std.proofs.Common.{◌≡◌, ℕ, List, [], ◌∷◌, drop, refl, ap, arith}
-use Rattle.yl_events.specs.declared.symbol.Symbol.{Symbol}
+use Rattle.yl_marks.specs.declared.symbol.Symbol.{Symbol}
 use Rattle.yl_events.specs.Faults.{front_len}
 use Rattle.yl_events.proofs.fault_kind.front_len.Goals as goal
 

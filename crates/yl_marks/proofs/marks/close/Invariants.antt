@@ -1,6 +1,6 @@
 use Rattle.std.proofs.Common.{◌≡◌, ◌++◌, reverse, vec_len}
-use Rattle.yl_events.specs.Marks.{left_open, closings}
-use Rattle.yl_events.proofs.marks.close.Given as goal
+use Rattle.yl_marks.specs.Marks.{left_open, closings}
+use Rattle.yl_marks.proofs.marks.close.Given as goal
 
 abbrev pub invariant-loop-c : goal.invariant-loop-c
 invariant-loop-c g l = record {

@@ -2,7 +2,7 @@
 
 ghost use Rattle.std.specs.Prelude.{◌≡◌, ◌<◌, ◌≤◌, ◌+◌, ◌-◌, ◌^◌, [], map, IfOk, if◌then◌else◌};
 ghost use Rattle.yl_lexeme.specs.Kept.{nothing_kept};
-ghost use Rattle.yl_events.specs.Keys.{placed, depth_behind, is_in, is_first, is_behind_flow, is_behind_indicator, may_begin, place_of, key_at, piece_at, pieces};
+ghost use Rattle.yl_marks.specs.Keys.{placed, depth_behind, is_in, is_first, is_behind_flow, is_behind_indicator, may_begin, place_of, key_at, piece_at, pieces};
 
 use crate::symbol::{KeyStart, Piece};
 use std::alloc::{AllocError, Allocator};

@@ -1,7 +1,7 @@
 use Rattle.std.proofs.Common.{◌≡◌, ◌<◌, ℕ, false, length, take, slice_index_or}
 use Rattle.std.specs.List.{list_any}
-use Rattle.yl_events.specs.Marks.{is_at}
-use Rattle.yl_events.proofs.marks.key_table.Given as goal
+use Rattle.yl_marks.specs.Marks.{is_at}
+use Rattle.yl_marks.proofs.marks.key_table.Given as goal
 
 abbrev pub invariant-loop-piece : goal.invariant-loop-piece
 invariant-loop-piece g l = record {

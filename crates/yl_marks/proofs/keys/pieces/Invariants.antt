@@ -1,8 +1,8 @@
 use Rattle.std.proofs.Common.{◌≡◌, ◌≤◌, ◌++◌, [], reverse, drop, map}
 use Rattle.yl_lexeme.specs.Kept.{first, kept_of}
-use Rattle.yl_events.specs.Keys.{placed, depth, pieces}
-use Rattle.yl_events.proofs.Back.{latest_line}
-use Rattle.yl_events.proofs.keys.pieces.Given as goal
+use Rattle.yl_marks.specs.Keys.{placed, depth, pieces}
+use Rattle.yl_marks.proofs.Back.{latest_line}
+use Rattle.yl_marks.proofs.keys.pieces.Given as goal
 
 abbrev pub invariant-loop-at : goal.invariant-loop-at
 invariant-loop-at g l = record {

@@ -5,8 +5,8 @@ use Rattle.yl_lexeme.specs.Lexeme.{LexemeValue, is_document_marker, is_opening, 
 use Rattle.yl_lexeme.specs.Past.{opens_item, asks_behind, is_near}
 use Rattle.yl_lexeme.specs.Keys.{Spot, key_start}
 use Rattle.yl_lexeme.specs.Kept.{first}
-use Rattle.yl_events.specs.declared.symbol.Piece.{Piece}
-use Rattle.yl_events.specs.declared.symbol.KeyStart.{KeyStart}
+use Rattle.yl_marks.specs.declared.symbol.Piece.{Piece}
+use Rattle.yl_marks.specs.declared.symbol.KeyStart.{KeyStart}
 
 -- a lexeme at a line of the text
 abbrev pub placed : ℕ → LexemeValue → LexemeValue

@@ -1,8 +1,8 @@
 //! The marks of a document.
 
 ghost use Rattle.std.specs.Prelude.{◌≡◌, ◌∷◌, [], ◌++◌, ◌<◌, ◌||◌, ℕ, List, length, take, reverse, false, map, OnOk, IfOk, vec_len, slice_index_or};
-ghost use Rattle.yl_events.specs.Keys.{placed, pieces};
-ghost use Rattle.yl_events.specs.Marks.{is_in_mapping, continues, closes, left_open, closings, opened, with_opened, opening, is_at, begins_key, key_mark, marks, column_at, as_marked, marked_lexemes};
+ghost use Rattle.yl_marks.specs.Keys.{placed, pieces};
+ghost use Rattle.yl_marks.specs.Marks.{is_in_mapping, continues, closes, left_open, closings, opened, with_opened, opening, is_at, begins_key, key_mark, marks, column_at, marked, as_marked, marked_lexemes};
 
 use crate::keys::pieces;
 use crate::symbol::{Collection, Marked, Marking, OpenBlock, Piece, Symbol};
@@ -135,11 +135,8 @@ fn mark_one<A: Allocator>(
     Ok(())
 }
 
-/// The lexemes of a document with their marks.
-pub fn symbols<A: Allocator + Copy>(
-    alloc: A,
-    pieces: &[Piece],
-) -> Result<Vec<Symbol, A>, AllocError>
+/// A document's pieces with their marks.
+fn marks<A: Allocator + Copy>(alloc: A, pieces: &[Piece]) -> Result<Vec<Symbol, A>, AllocError>
     ensures { IfOk result (λ v. v.items ≡ marks pieces.now [] 0 pieces.now) }
 {
     let keys = key_table(alloc, pieces)?;
@@ -198,6 +195,17 @@ fn as_marked<A: Allocator>(
     Ok(marked)
 }
 
+/// The lexemes of one whole document, in order, with the marks as the grammar reads them. The only error is memory.
+pub fn symbols<A: Allocator + Copy>(
+    alloc: A,
+    lexemes: &[At<'_, A>],
+) -> Result<Vec<Symbol, A>, AllocError>
+    ensures { IfOk result (λ v. v.items ≡ marked (map (λ x. placed x.line x.lexeme.now) lexemes.now)) }
+{
+    let pieces = pieces(alloc, lexemes)?;
+    marks(alloc, &pieces)
+}
+
 /// The lexemes of one whole document, in order, with the marks between them. The only error is memory.
 pub fn mark<A: Allocator + Copy>(
     alloc: A,
@@ -206,6 +214,6 @@ pub fn mark<A: Allocator + Copy>(
     ensures { IfOk result (λ v. v.items ≡ marked_lexemes (map (λ x. placed x.line x.lexeme.now) lexemes.now)) }
 {
     let pieces = pieces(alloc, lexemes)?;
-    let symbols = symbols(alloc, &pieces)?;
+    let symbols = marks(alloc, &pieces)?;
     as_marked(alloc, &pieces, &symbols)
 }

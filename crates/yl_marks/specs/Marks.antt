@@ -2,15 +2,15 @@
 use Rattle.std.specs.Prelude.{ℕ, suc, Bool, true, false, not, ◌&&◌, ◌||◌, ◌==◌, nat_lt, if◌then◌else◌, List, [], ◌∷◌, ◌++◌, Option, Some, None, is_some, slice_get}
 use Rattle.std.specs.List.{list_any}
 use Rattle.yl_lexeme.specs.Lexeme.{LexemeValue, is_document_marker, is_entry, is_key, is_value}
-use Rattle.yl_events.specs.declared.symbol.Symbol.{Symbol}
-use Rattle.yl_events.specs.declared.symbol.Symbol.TheVariants.{OpenSequence, OpenMapping, BeginKey, Close, One}
-use Rattle.yl_events.specs.declared.symbol.Piece.{Piece}
-use Rattle.yl_events.specs.declared.symbol.OpenBlock.{OpenBlock}
-use Rattle.yl_events.specs.declared.symbol.Marking.{Marking}
-use Rattle.yl_events.specs.declared.symbol.Collection.TheVariants.{Sequence, Mapping}
-use Rattle.yl_events.specs.declared.symbol.Marked.{Marked}
-use Rattle.yl_events.specs.declared.symbol.Marked.TheVariants as is
-use Rattle.yl_events.specs.Keys.{pieces}
+use Rattle.yl_marks.specs.declared.symbol.Symbol.{Symbol}
+use Rattle.yl_marks.specs.declared.symbol.Symbol.TheVariants.{OpenSequence, OpenMapping, BeginKey, Close, One}
+use Rattle.yl_marks.specs.declared.symbol.Piece.{Piece}
+use Rattle.yl_marks.specs.declared.symbol.OpenBlock.{OpenBlock}
+use Rattle.yl_marks.specs.declared.symbol.Marking.{Marking}
+use Rattle.yl_marks.specs.declared.symbol.Collection.TheVariants.{Sequence, Mapping}
+use Rattle.yl_marks.specs.declared.symbol.Marked.{Marked}
+use Rattle.yl_marks.specs.declared.symbol.Marked.TheVariants as is
+use Rattle.yl_marks.specs.Keys.{pieces}
 
 -- it stands in a mapping of its column
 abbrev pub is_in_mapping : Marking → Bool

@@ -5,9 +5,9 @@ use Rattle.yl_lexeme.specs.Lexeme.{LexemeValue}
 use Rattle.yl_lexeme.specs.Keys.{Spot}
 use Rattle.yl_lexeme.specs.Kept.{Kept, first, nothing_kept, kept_behind, kept_of}
 use Rattle.yl_lexeme.proofs.Units.{keeps}
-use Rattle.yl_events.specs.declared.symbol.Piece.{Piece}
-use Rattle.yl_events.specs.declared.symbol.KeyStart.{KeyStart}
-use Rattle.yl_events.specs.Keys.{depth, depth_behind, is_in, place_of, here, piece_at, piece, pieces}
+use Rattle.yl_marks.specs.declared.symbol.Piece.{Piece}
+use Rattle.yl_marks.specs.declared.symbol.KeyStart.{KeyStart}
+use Rattle.yl_marks.specs.Keys.{depth, depth_behind, is_in, place_of, here, piece_at, piece, pieces}
 
 -- ---- the latest lexeme's line
 

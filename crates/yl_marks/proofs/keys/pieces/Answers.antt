@@ -1,8 +1,8 @@
 use Rattle.std.proofs.Common.{rules, ◌≡◌, ◌+◌, reverse, arith}
 use Rattle.yl_lexeme.specs.Kept.{kept_of}
-use Rattle.yl_events.specs.Keys.{placed, here, piece}
-use Rattle.yl_events.proofs.Back.{reached, piece_there, line_there, unit_step, latest_step, depth_step, pieces_step, mapped_at}
-use Rattle.yl_events.proofs.keys.pieces.Goals as goal
+use Rattle.yl_marks.specs.Keys.{placed, here, piece}
+use Rattle.yl_marks.proofs.Back.{reached, piece_there, line_there, unit_step, latest_step, depth_step, pieces_step, mapped_at}
+use Rattle.yl_marks.proofs.keys.pieces.Goals as goal
 
 pub loop-at-preserved : goal.loop-at-preserved
 loop-at-preserved g c =

@@ -1,6 +1,6 @@
 use Rattle.std.proofs.Common.{◌≡◌, ◌++◌, [], reverse, drop, vec_len}
-use Rattle.yl_events.specs.Marks.{marks, all_closed}
-use Rattle.yl_events.proofs.marks.symbols.Given as goal
+use Rattle.yl_marks.specs.Marks.{marks, all_closed}
+use Rattle.yl_marks.proofs.marks.marks.Given as goal
 
 abbrev pub invariant-loop-i : goal.invariant-loop-i
 invariant-loop-i g l =
