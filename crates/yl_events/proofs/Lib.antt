@@ -5,3 +5,4 @@ pub mod Counts
 pub mod Pushes
 pub mod Cutting
 pub mod Trails
+pub mod Parts

@@ -3,8 +3,8 @@ use Rattle.std.specs.Prelude.{ℕ, ◌≡◌, ◌<◌, refl, true, false, ◌==�
 use Rattle.std.proofs.Common.{sym, ◌∙◌, ap, append_assoc, append-nil, arith}
 use Rattle.std.proofs.lemmas.List.{reverse-append}
 use Rattle.yl_lexeme.specs.declared.lexeme.Kind.{Kind}
-use Rattle.yl_events.specs.declared.symbol.Symbol.{Symbol}
-use Rattle.yl_events.specs.declared.symbol.Symbol.TheVariants.{Close, One}
+use Rattle.yl_marks.specs.declared.symbol.Symbol.{Symbol}
+use Rattle.yl_marks.specs.declared.symbol.Symbol.TheVariants.{Close, One}
 use Rattle.yl_events.specs.declared.symbol.Block.{Block}
 use Rattle.yl_events.specs.declared.fault.ParseFault.TheVariants.{DocumentStartExpected, PropertiesGivenTwice, CommaOrBracketExpected}
 use Rattle.yl_events.specs.Derives.{lexeme_count}

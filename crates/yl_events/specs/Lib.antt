@@ -6,6 +6,7 @@ pub mod Derives
 pub mod Answer
 pub mod Faults
 pub mod Trail
+pub mod Told
 pub mod Event
 pub mod Built
 pub mod Rows
