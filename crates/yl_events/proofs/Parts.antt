@@ -28,7 +28,7 @@ pub run_parts : (ws vs : List Symbol) (goals : List Goal) (out : List Outline) �
 run_parts [] vs goals out = refl
 run_parts (w ∷ ws) vs goals out =
     runs_on (step goals out w) (λ s. steps ws s.goals s.events) (λ s. run vs s.goals s.events) (λ s. run (ws ++ vs) s.goals s.events)
-      (λ s. run_parts ws vs s.goals s.events)
+    (λ s. run_parts ws vs s.goals s.events)
 
 -- how many lexemes are taken, where all of the first part are
 count_on : (w : Symbol) (ws : List Symbol) (r : Option State) (next : State → Option State) (all : State → ℕ) (s : State) (n : ℕ) →
@@ -45,7 +45,7 @@ taken_parts [] vs goals out s e =
     omega (arith, ap (λ (t : State). taken vs t.goals t.events) same)
 taken_parts (w ∷ ws) vs goals out s e =
     count_on w ws (step goals out w) (λ s. steps ws s.goals s.events) (λ s. taken (ws ++ vs) s.goals s.events) s (taken vs s.goals s.events)
-      (λ t h. taken_parts ws vs t.goals t.events s h) e
+    (λ t h. taken_parts ws vs t.goals t.events s h) e
 
 -- and where one is refused
 stop_on : (w : Symbol) (r : Option State) (next : State → Option State) (all part : State → ℕ) →
@@ -57,7 +57,7 @@ pub taken_stop : (ws vs : List Symbol) (goals : List Goal) (out : List Outline) 
 taken_stop [] vs goals out e = cc
 taken_stop (w ∷ ws) vs goals out e =
     stop_on w (step goals out w) (λ s. steps ws s.goals s.events) (λ s. taken (ws ++ vs) s.goals s.events) (λ s. taken ws s.goals s.events)
-      (λ t h. taken_stop ws vs t.goals t.events h) e
+    (λ t h. taken_stop ws vs t.goals t.events h) e
 
 -- ---- no mark stands behind the last lexeme
 
@@ -83,14 +83,14 @@ taken_less : (b : Bool) (ws : List Symbol) (goals : List Goal) (out : List Outli
 taken_less b [] goals out whole e = cc
 taken_less b (One kind i ∷ ws) goals out whole e =
     less_on (One kind i) ws (step goals out (One kind i)) (λ s. steps ws s.goals s.events) (λ s. taken ws s.goals s.events) (omega arith)
-      (λ t h. taken_less true ws t.goals t.events whole h) e
+    (λ t h. taken_less true ws t.goals t.events whole h) e
 taken_less b (w ∷ ws) goals out whole e =
     less_on w ws (step goals out w) (λ s. steps ws s.goals s.events) (λ s. taken ws s.goals s.events) (some_lexeme ws whole)
-      (λ t h. taken_less false ws t.goals t.events whole h) e
+    (λ t h. taken_less false ws t.goals t.events whole h) e
 
 -- ---- the symbols up to a lexeme
 
-none_left : (left : ℕ) (ws : List Symbol) → left ≡ 0 → front_len left ws ≡ 0
+pub none_left : (left : ℕ) (ws : List Symbol) → left ≡ 0 → front_len left ws ≡ 0
 none_left left [] e = refl
 none_left left (w ∷ ws) e = ap (λ n. front_len n (w ∷ ws)) e
 

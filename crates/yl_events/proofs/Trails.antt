@@ -1,11 +1,13 @@
 -- A document's fault is found by what is kept of the symbols before it.
-use Rattle.std.specs.Prelude.{ℕ, ◌≡◌, ◌<◌, refl, true, false, ◌==◌, if◌then◌else◌, List, [], ◌∷◌, ◌++◌, reverse, take, drop}
-use Rattle.std.proofs.Common.{sym, ◌∙◌, ap, append_assoc, append-nil, arith}
+use Rattle.std.specs.Prelude.{ℕ, zero, suc, ◌≡◌, ◌<◌, ◌≤◌, ◌+◌, ◌-◌, refl, true, false, ◌==◌, if◌then◌else◌, List, [], ◌∷◌, ◌++◌, length, reverse, take, drop}
+use Rattle.std.proofs.Common.{sym, ◌∙◌, ap, append_assoc, append-nil, get_or, add-one, arith}
 use Rattle.std.proofs.lemmas.List.{reverse-append}
 use Rattle.yl_lexeme.specs.declared.lexeme.Kind.{Kind}
 use Rattle.yl_marks.specs.declared.symbol.Symbol.{Symbol}
 use Rattle.yl_marks.specs.declared.symbol.Symbol.TheVariants.{Close, One}
 use Rattle.yl_events.specs.declared.symbol.Block.{Block}
+use Rattle.yl_events.specs.declared.symbol.Block.TheVariants.{InSequence}
+use Rattle.std.proofs.Math.Seq.{take-suc, drop-cons}
 use Rattle.yl_events.specs.declared.fault.ParseFault.TheVariants.{DocumentStartExpected, PropertiesGivenTwice, CommaOrBracketExpected}
 use Rattle.yl_events.specs.Derives.{lexeme_count}
 use Rattle.yl_events.specs.Faults.{Open, open_behind, open_after, has, is_twice, is_behind_directive, closed_by, fault_in_blocks, fault_in, fault_between, fault_of, front_len}
@@ -49,7 +51,7 @@ between : (before behind : List Symbol) → fault_behind (trail_after no_trail b
 between before behind =
     ap (λ t. fault_behind t behind) (all_more before [] nothing_open)
     ∙ ap (λ b. if is_behind_directive (reverse before) then DocumentStartExpected else if b then PropertiesGivenTwice
-      else fault_in (open_after nothing_open before) behind) (twice_by_trail (reverse before) (open_after nothing_open before) behind)
+    else fault_in (open_after nothing_open before) behind) (twice_by_trail (reverse before) (open_after nothing_open before) behind)
 
 pub fault_by_trail : (ws : List Symbol) (place : ℕ) → fault_from no_trail place ws ≡ fault_of ws place
 fault_by_trail ws place = between (take (front_len place ws) ws) (drop (front_len place ws) ws)
@@ -72,8 +74,26 @@ pub fault_there : (t : TrailValue) (us vs : List Symbol) → 0 < lexeme_count us
 fault_there t us vs h =
     ap (λ b. if t.at_directive then DocumentStartExpected else if b then PropertiesGivenTwice else fault_in t.open_ones (us ++ vs)) (twice_there t us vs h)
     ∙ ap (λ bs. if t.at_directive then DocumentStartExpected else if comes_twice t us then PropertiesGivenTwice
-      else if t.open_ones.depth == 0 then fault_in_blocks bs else CommaOrBracketExpected) (closed_there us vs t.open_ones.blocks h)
+    else if t.open_ones.depth == 0 then fault_in_blocks bs else CommaOrBracketExpected) (closed_there us vs t.open_ones.blocks h)
 
 pub trail_after-append : (t : TrailValue) (ws vs : List Symbol) → trail_after t (ws ++ vs) ≡ trail_after (trail_after t ws) vs
 trail_after-append t [] vs = refl
 trail_after-append t (w ∷ ws) vs = trail_after-append (trail_behind t w) ws vs
+
+-- ---- the blocks stand with the innermost last
+
+one_less : (blocks : List Block) (n m : ℕ) → n ≤ length blocks → m ≡ n - 1 → reverse (take m blocks) ≡ drop 1 (reverse (take n blocks))
+one_less blocks zero m h e = ap (λ k. reverse (take k blocks)) {x = m} {y = 0} (omega arith)
+one_less blocks (suc n) m h e =
+    let block = get_or blocks n InSequence in
+    ap (λ k. reverse (take k blocks)) {x = m} {y = n} (omega arith)
+    ∙ sym (ap (λ l. drop 1 (reverse l)) (take-suc blocks n InSequence (omega arith)) ∙ ap (drop 1) (reverse-append (take n blocks) (block ∷ [])))
+
+next_close : (ws : List Symbol) (i : ℕ) (w : Symbol) → i < length ws → get_or ws i w ≡ Close → drop i ws ≡ Close ∷ drop (i + 1) ws
+next_close ws i w h e = drop-cons ws i w h ∙ ap (λ x. x ∷ drop (suc i) ws) e ∙ ap (λ k. Close ∷ drop k ws) (sym (add-one i))
+
+pub closed_step : (ws : List Symbol) (i : ℕ) (w : Symbol) (blocks all : List Block) (n m : ℕ) → i < length ws → get_or ws i w ≡ Close →
+    closed_by (drop i ws) (reverse (take n blocks)) ≡ all → n ≤ length blocks → m ≡ n - 1 → closed_by (drop (i + 1) ws) (reverse (take m blocks)) ≡ all
+closed_step ws i w blocks all n m there close h within less =
+    ap (closed_by (drop (i + 1) ws)) (one_less blocks n m within less)
+    ∙ sym (ap (λ l. closed_by l (reverse (take n blocks))) (next_close ws i w there close)) ∙ h

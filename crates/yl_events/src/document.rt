@@ -9,9 +9,9 @@ ghost use Rattle.yl_events.specs.Built.{Builds, IsFaultOf};
 
 use crate::event::{Anchor, Built, Event, EventKind};
 use crate::fault::Fault;
-use crate::fault_kind::fault_kind;
 use crate::machine::parse;
 use crate::symbol::{Outline, Shape};
+use crate::trail::Trail;
 use std::alloc::{AllocError, Allocator};
 use yl_lexeme::{At, Meter};
 use yl_marks::symbols;
@@ -104,6 +104,7 @@ fn fill_all<'a, A: Allocator + Copy>(
 }
 
 /// The events of a document, or its fault.
+#[tactic(auto, using(crate::proofs::Trails::fault_by_trail))]
 fn build<'a, A: Allocator + Copy>(
     alloc: A,
     lexemes: &[At<'a, A>],
@@ -121,7 +122,8 @@ fn build<'a, A: Allocator + Copy>(
             })
         }
         Some(place) => {
-            let kind = fault_kind(alloc, &symbols, place)?;
+            let mut trail = Trail::new(alloc);
+            let kind = trail.fault_from(place, &symbols)?;
             Ok(Built {
                 events: Vec::new(alloc),
                 fault: Some(Fault { kind, place }),

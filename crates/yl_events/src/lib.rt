@@ -5,10 +5,10 @@ mod cuts;
 mod document;
 mod event;
 mod fault;
-mod fault_kind;
 mod laws;
 mod machine;
 mod symbol;
+mod trail;
 
 pub use cuts::documents;
 pub use document::parse_document;
