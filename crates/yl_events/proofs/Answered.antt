@@ -82,7 +82,7 @@ taken_on x xs next rest None = omega arith
 taken_on (One kind p) xs next rest (Some s) = omega (arith, rest s)
 taken_on x xs next rest (Some s) = rest s
 
-taken_within : (xs : List Symbol) (goals : List Goal) (out : List Outline) → taken xs goals out ≤ lexeme_count xs
+pub taken_within : (xs : List Symbol) (goals : List Goal) (out : List Outline) → taken xs goals out ≤ lexeme_count xs
 taken_within [] goals out = omega arith
 taken_within (x ∷ xs) goals out = taken_on x xs _ (λ s. taken_within xs s.goals s.events) (step goals out x)
 

@@ -6,3 +6,4 @@ pub mod Pushes
 pub mod Cutting
 pub mod Trails
 pub mod Parts
+pub mod Lines

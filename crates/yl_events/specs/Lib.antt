@@ -9,4 +9,5 @@ pub mod Trail
 pub mod Told
 pub mod Event
 pub mod Built
+pub mod Parsing
 pub mod Rows

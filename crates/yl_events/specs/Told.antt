@@ -34,7 +34,7 @@ abbrev pub steps : List Symbol → List Goal → List Outline → Option State
 steps [] goals out = Some (record { goals = goals; events = out })
 steps (w ∷ ws) goals out = onto (λ s. steps ws s.goals s.events) (step goals out w)
 
--- a walk's answer: nothing where all are taken, else how many lexemes are; and the stack, whose top stands last, and the events
+-- a walk's answer: nothing where all are taken, and the stack, whose top stands last, and the events; else how many lexemes are
 abbrev pub Walked : Option State → (taken : ℕ) → Option ℕ → List Goal → List Outline → Type 0
-Walked None taken place goals events = place ≡ Some taken
-Walked (Some s) taken place goals events = (place ≡ None) × (reverse goals ≡ s.goals) × (events ≡ s.events)
+Walked s taken None goals events = s ≡ Some (record { goals = reverse goals; events = events })
+Walked s taken (Some place) goals events = (s ≡ None) × (place ≡ taken)

@@ -7,6 +7,7 @@ mod event;
 mod fault;
 mod laws;
 mod machine;
+mod parser;
 mod symbol;
 mod trail;
 
@@ -15,4 +16,6 @@ pub use document::parse_document;
 pub use event::{Anchor, Built, Event, EventKind};
 pub use fault::{Fault, ParseFault};
 pub use laws::{one_derivation, one_fault};
-pub use yl_marks::{Collection, Marked, mark};
+pub use parser::Parser;
+pub use symbol::{Outline, Shape};
+pub use yl_marks::{Collection, Marked, Token, line_len, mark, token_of};

@@ -13,7 +13,7 @@ use std::alloc::{AllocError, Allocator};
 use yl_lexeme::Kind;
 use yl_marks::Symbol;
 
-fn bare(kind: Shape, place: Option<usize>) -> Outline
+pub fn bare(kind: Shape, place: Option<usize>) -> Outline
     ensures { result ≡ bare kind place }
 {
     Outline {
@@ -488,7 +488,7 @@ fn step<A: Allocator>(
 }
 
 /// Leaves all goals, where they may be left.
-fn finish<A: Allocator>(
+pub fn finish<A: Allocator>(
     goals: &mut Vec<Goal, A>,
     events: &mut Vec<Outline, A>,
 ) -> Result<bool, AllocError>
