@@ -1,14 +1,16 @@
 -- The marked document has the document's lexemes.
-use Rattle.std.specs.Prelude.{ℕ, suc, ◌≡◌, ◌≤◌, ◌+◌, refl, Bool, true, false, List, [], ◌∷◌, ◌++◌, length, Option, Some, None, if◌then◌else◌}
-use Rattle.std.proofs.Common.{◌∙◌, ap, arith}
+use Rattle.std.specs.Prelude.{ℕ, suc, ◌≡◌, ◌≤◌, ◌+◌, refl, Bool, true, false, List, [], ◌∷◌, ◌++◌, length, map, Option, Some, None, if◌then◌else◌}
+use Rattle.std.proofs.Common.{ap, arith}
+use Rattle.std.proofs.lemmas.List.{length-map}
 use Rattle.yl_lexeme.specs.Lexeme.{LexemeValue}
 use Rattle.yl_marks.specs.declared.symbol.Symbol.{Symbol}
 use Rattle.yl_marks.specs.declared.symbol.Symbol.TheVariants.{Close, One}
 use Rattle.yl_marks.specs.declared.symbol.Piece.{Piece}
 use Rattle.yl_marks.specs.declared.symbol.OpenBlock.{OpenBlock}
 use Rattle.yl_marks.specs.declared.symbol.Marking.{Marking}
-use Rattle.yl_marks.specs.Keys.{piece, pieces}
-use Rattle.yl_marks.specs.Marks.{closes, left_open, closings, opened, opening, with_opened, begins_key, key_mark, all_closed, marks, marked}
+use Rattle.yl_marks.specs.declared.token.Token.{Token}
+use Rattle.yl_marks.specs.Keys.{token_of, piece, pieces}
+use Rattle.yl_marks.specs.Marks.{closes, left_open, closings, opened, opening, key_mark, all_closed, marks_at, open_behind, marking, marks, open_behind_all, marked}
 use Rattle.yl_events.specs.Derives.{lexeme_count, HasFaultAt}
 
 count-append : (a b : List Symbol) → lexeme_count (a ++ b) ≡ lexeme_count a + lexeme_count b
@@ -37,29 +39,45 @@ key_count : (b : Bool) (i : ℕ) → lexeme_count (key_mark b i) ≡ 0
 key_count true i = refl
 key_count false i = refl
 
-marks_count : (all : List Piece) (cs : List OpenBlock) (i : ℕ) (xs : List Piece) → lexeme_count (marks all cs i xs) ≡ length xs
-marks_count all cs i [] = all_closed_count cs
-marks_count all cs i (x ∷ xs) =
-    let m : Marking = record { piece = x; begins_key = begins_key i all } in
-    let left = left_open m cs in
-    let new = opened m left in
+marks_at_count : (m : Marking) (i : ℕ) (cs : List OpenBlock) → lexeme_count (marks_at m i cs) ≡ 1
+marks_at_count m i cs =
+    let new = opened m (left_open m cs) in
     omega (
       arith,
-      count-append (closings m cs ++ opening new i ++ key_mark m.begins_key i) (One x.kind i ∷ marks all (with_opened new x.start.col left) (suc i) xs),
+      count-append (closings m cs ++ opening new i ++ key_mark m.begins_key i) (One m.piece.kind i ∷ []),
       count-append (closings m cs ++ opening new i) (key_mark m.begins_key i),
       count-append (closings m cs) (opening new i),
       closings_count m cs,
       opening_count new i,
       key_count m.begins_key i,
-      marks_count all (with_opened new x.start.col left) (suc i) xs,
     )
 
-pieces_count : (before : List Piece) (xs : List LexemeValue) → length (pieces before xs) ≡ length xs
+marks_count : (all : List Piece) (cs : List OpenBlock) (i : ℕ) (xs : List Piece) → lexeme_count (marks all cs i xs) ≡ length xs
+marks_count all cs i [] = refl
+marks_count all cs i (x ∷ xs) =
+    let m = marking all i x in
+    omega (
+      arith,
+      count-append (marks_at m i cs) (marks all (open_behind m cs) (suc i) xs),
+      marks_at_count m i cs,
+      marks_count all (open_behind m cs) (suc i) xs,
+    )
+
+pieces_count : (before : List Piece) (xs : List Token) → length (pieces before xs) ≡ length xs
 pieces_count before [] = refl
 pieces_count before (x ∷ xs) = ap suc (pieces_count (piece x before ∷ before) xs)
 
 marked_count : (xs : List LexemeValue) → lexeme_count (marked xs) ≡ length xs
-marked_count xs = marks_count (pieces [] xs) [] 0 (pieces [] xs) ∙ pieces_count [] xs
+marked_count xs =
+    let all = pieces [] (map token_of xs) in
+    omega (
+      arith,
+      count-append (marks all [] 0 all) (all_closed (open_behind_all all [] 0 all)),
+      marks_count all [] 0 all,
+      all_closed_count (open_behind_all all [] 0 all),
+      pieces_count [] (map token_of xs),
+      length-map xs token_of,
+    )
 
 -- a fault stands at a lexeme or behind the last one
 pub fault_inside : (xs : List LexemeValue) (i : ℕ) → HasFaultAt (marked xs) i → i ≤ length xs
