@@ -1,1 +1,5 @@
-pub mod Back
+pub mod InLine
+pub mod Within
+pub mod Runs
+pub mod ByLines
+pub mod Closed

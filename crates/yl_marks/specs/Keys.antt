@@ -5,12 +5,17 @@ use Rattle.yl_lexeme.specs.Lexeme.{LexemeValue, is_document_marker, is_opening, 
 use Rattle.yl_lexeme.specs.Past.{opens_item, asks_behind, is_near}
 use Rattle.yl_lexeme.specs.Keys.{Spot, key_start}
 use Rattle.yl_lexeme.specs.Kept.{first}
+use Rattle.yl_marks.specs.declared.token.Token.{Token}
 use Rattle.yl_marks.specs.declared.symbol.Piece.{Piece}
 use Rattle.yl_marks.specs.declared.symbol.KeyStart.{KeyStart}
 
 -- a lexeme at a line of the text
 abbrev pub placed : ℕ → LexemeValue → LexemeValue
 placed line x = record { kind = x.kind; start = record { line = line; col = x.start.col }; end = record { line = line + x.end.line; col = x.end.col }; value = x.value }
+
+-- a lexeme without its value
+abbrev pub token_of : LexemeValue → Token
+token_of x = record { kind = x.kind; start = x.start; end_line = x.end.line }
 
 -- how many brackets are open behind one more lexeme, and behind all
 abbrev pub depth_behind : Kind → ℕ → ℕ
@@ -59,11 +64,11 @@ key_at column None = None
 key_at column (Some key) = if is_near column key.column then Some key.index else None
 
 -- a lexeme in so many brackets, behind the latest lexeme, where such a key would begin
-abbrev pub piece_at : LexemeValue → ℕ → Option Piece → Option KeyStart → Piece
+abbrev pub piece_at : Token → ℕ → Option Piece → Option KeyStart → Piece
 piece_at x depth latest key = record {
   kind = x.kind;
   start = x.start;
-  end_line = x.end.line;
+  end_line = x.end_line;
   depth = depth;
   is_first = is_first x.start.line latest;
   may_begin = may_begin x.start.line depth latest;
@@ -71,10 +76,10 @@ piece_at x depth latest key = record {
 }
 
 -- a Value's key is the unit directly before it, all of it in the Value's line
-abbrev pub piece : LexemeValue → List Piece → Piece
+abbrev pub piece : Token → List Piece → Piece
 piece x before = piece_at x (depth before) (first before) (key_start (here x.start.line before))
 
 -- lexemes behind these earlier ones, each with what those say of it
-abbrev pub pieces : List Piece → List LexemeValue → List Piece
+abbrev pub pieces : List Piece → List Token → List Piece
 pieces before [] = []
 pieces before (x ∷ xs) = piece x before ∷ pieces (piece x before ∷ before) xs

@@ -1,5 +1,5 @@
 -- The marks of a document: where block collections open and close, by the columns of their lexemes (YAML 1.2.2, 8.2).
-use Rattle.std.specs.Prelude.{ℕ, suc, Bool, true, false, not, ◌&&◌, ◌||◌, ◌==◌, nat_lt, if◌then◌else◌, List, [], ◌∷◌, ◌++◌, Option, Some, None, is_some, slice_get}
+use Rattle.std.specs.Prelude.{ℕ, suc, ◌≡◌, ◌<◌, ◌+◌, Bool, true, false, not, ◌&&◌, ◌||◌, ◌==◌, nat_lt, if◌then◌else◌, List, [], ◌∷◌, ◌++◌, map, Option, Some, None, is_some, slice_get, slice_index_or, length}
 use Rattle.std.specs.List.{list_any}
 use Rattle.yl_lexeme.specs.Lexeme.{LexemeValue, is_document_marker, is_entry, is_key, is_value}
 use Rattle.yl_marks.specs.declared.symbol.Symbol.{Symbol}
@@ -10,7 +10,8 @@ use Rattle.yl_marks.specs.declared.symbol.Marking.{Marking}
 use Rattle.yl_marks.specs.declared.symbol.Collection.TheVariants.{Sequence, Mapping}
 use Rattle.yl_marks.specs.declared.symbol.Marked.{Marked}
 use Rattle.yl_marks.specs.declared.symbol.Marked.TheVariants as is
-use Rattle.yl_marks.specs.Keys.{pieces}
+use Rattle.yl_marks.specs.declared.token.Token.{Token}
+use Rattle.yl_marks.specs.Keys.{token_of, pieces}
 
 -- it stands in a mapping of its column
 abbrev pub is_in_mapping : Marking → Bool
@@ -66,6 +67,11 @@ is_at i (Some k) = k == i
 abbrev pub begins_key : ℕ → List Piece → Bool
 begins_key i xs = list_any (λ p. is_at i p.key) xs
 
+-- of each lexeme from this index on, whether a key begins there
+pub record AreBegins (begins : List Bool) (first : ℕ) (xs : List Piece) : Type 0 where
+  pub len : length begins ≡ length xs
+  pub each : (i : ℕ) → i < length xs → slice_index_or begins i false ≡ begins_key (first + i) xs
+
 abbrev pub key_mark : Bool → ℕ → List Symbol
 key_mark false i = []
 key_mark true i = BeginKey i ∷ []
@@ -74,32 +80,49 @@ abbrev pub all_closed : List OpenBlock → List Symbol
 all_closed [] = []
 all_closed (c ∷ cs) = Close ∷ all_closed cs
 
--- the lexemes from this index on with their marks, where these collections are open
+-- a lexeme of this index with the marks before it, and the collections that are open behind it
+abbrev pub marks_at : Marking → ℕ → List OpenBlock → List Symbol
+marks_at m i open_ones =
+    closings m open_ones ++ opening (opened m (left_open m open_ones)) i ++ key_mark m.begins_key i ++ One m.piece.kind i ∷ []
+
+abbrev pub open_behind : Marking → List OpenBlock → List OpenBlock
+open_behind m open_ones = let left = left_open m open_ones in with_opened (opened m left) m.piece.start.col left
+
+-- a lexeme of this index, and whether a key of these lexemes begins there
+abbrev pub marking : List Piece → ℕ → Piece → Marking
+marking all i x = record { piece = x; begins_key = begins_key i all }
+
+-- the lexemes from this index on with their marks, where these collections are open, and those that are open behind them
 abbrev pub marks : List Piece → List OpenBlock → ℕ → List Piece → List Symbol
-marks all open_ones i [] = all_closed open_ones
-marks all open_ones i (x ∷ xs) =
-    let m : Marking = record { piece = x; begins_key = begins_key i all } in
-    let left = left_open m open_ones in
-    let new = opened m left in
-    closings m open_ones ++ opening new i ++ key_mark m.begins_key i ++ One x.kind i
-    ∷ marks all (with_opened new x.start.col left) (suc i) xs
+marks all open_ones i [] = []
+marks all open_ones i (x ∷ xs) = marks_at (marking all i x) i open_ones ++ marks all (open_behind (marking all i x) open_ones) (suc i) xs
+
+abbrev pub open_behind_all : List Piece → List OpenBlock → ℕ → List Piece → List OpenBlock
+open_behind_all all open_ones i [] = open_ones
+open_behind_all all open_ones i (x ∷ xs) = open_behind_all all (open_behind (marking all i x) open_ones) (suc i) xs
+
+abbrev pub marked_pieces : List Piece → List Symbol
+marked_pieces all = marks all [] 0 all ++ all_closed (open_behind_all all [] 0 all)
 
 -- a document's lexemes with their marks
+abbrev pub marked_tokens : List Token → List Symbol
+marked_tokens xs = marked_pieces (pieces [] xs)
+
 abbrev pub marked : List LexemeValue → List Symbol
-marked xs = marks (pieces [] xs) [] 0 (pieces [] xs)
+marked xs = marked_tokens (map token_of xs)
 
 -- ---- as callers see them
 
-abbrev pub column_of : Option Piece → ℕ
+abbrev pub column_of : Option Token → ℕ
 column_of None = 0
 column_of (Some x) = x.start.col
 
 -- a collection opens in the column of the lexeme before which it opens
-abbrev pub column_at : List Piece → ℕ → ℕ
+abbrev pub column_at : List Token → ℕ → ℕ
 column_at xs i = column_of (slice_get xs i)
 
 -- the same marks; whether a key unit begins at a lexeme stands with the lexeme
-abbrev pub as_marked : List Piece → Bool → List Symbol → List Marked
+abbrev pub as_marked : List Token → Bool → List Symbol → List Marked
 as_marked xs begins [] = []
 as_marked xs begins (OpenSequence i ∷ ws) = is.Open Sequence (column_at xs i) ∷ as_marked xs begins ws
 as_marked xs begins (OpenMapping i ∷ ws) = is.Open Mapping (column_at xs i) ∷ as_marked xs begins ws
@@ -108,4 +131,4 @@ as_marked xs begins (Close ∷ ws) = is.Close ∷ as_marked xs begins ws
 as_marked xs begins (One kind i ∷ ws) = is.Lexeme i begins ∷ as_marked xs false ws
 
 abbrev pub marked_lexemes : List LexemeValue → List Marked
-marked_lexemes xs = as_marked (pieces [] xs) false (marked xs)
+marked_lexemes xs = as_marked (map token_of xs) false (marked xs)

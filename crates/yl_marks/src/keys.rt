@@ -1,12 +1,13 @@
 //! Keys, and where they may begin.
 
-ghost use Rattle.std.specs.Prelude.{◌≡◌, ◌<◌, ◌≤◌, ◌+◌, ◌-◌, ◌^◌, [], map, IfOk, if◌then◌else◌};
-ghost use Rattle.yl_lexeme.specs.Kept.{nothing_kept};
-ghost use Rattle.yl_marks.specs.Keys.{placed, depth_behind, is_in, is_first, is_behind_flow, is_behind_indicator, may_begin, place_of, key_at, piece_at, pieces};
+ghost use Rattle.std.specs.Prelude.{◌≡◌, ◌<◌, ◌≤◌, ◌+◌, ◌-◌, ◌^◌, [], length, OnOk, IfOk, if◌then◌else◌};
+ghost use Rattle.yl_marks.specs.Keys.{depth_behind, is_first, is_behind_flow, is_behind_indicator, may_begin, place_of, key_at, piece_at};
+ghost use Rattle.yl_marks.specs.ByLine.{line_pieces, IsBehind};
 
-use crate::symbol::{KeyStart, Piece};
+use crate::symbol::{Earlier, KeyStart, Piece};
+use crate::token::Token;
 use std::alloc::{AllocError, Allocator};
-use yl_lexeme::{At, KeyUnit, Kind, is_near};
+use yl_lexeme::{KeyUnit, Kind, is_near};
 
 /// How many brackets are open behind one more lexeme.
 fn depth_behind(kind: Kind, depth: usize) -> usize
@@ -83,17 +84,15 @@ fn key_at(column: u32, key: Option<KeyStart>) -> Option<usize>
     }
 }
 
-/// A lexeme in so many brackets, behind the latest one, where the key would begin of a Value in its place.
-fn piece_at<A: Allocator>(
-    at: &At<'_, A>,
-    depth: usize,
-    latest: Option<Piece>,
-    key: Option<KeyStart>,
-) -> Piece
-    ensures { result ≡ piece_at (placed at.now.line at.now.lexeme.now) depth latest key }
+/// A lexeme behind the earlier ones, where the key would begin of a Value in its place.
+fn piece_at(token: Token, earlier: Earlier, key: Option<KeyStart>) -> Piece
+    ensures { result ≡ piece_at token earlier.depth earlier.latest key }
 {
-    let kind = at.lexeme.kind();
-    let start = at.start();
+    let Token {
+        kind,
+        start,
+        end_line,
+    } = token;
     let key = match kind {
         Kind::Value => key_at(start.col, key),
         _ => None,
@@ -101,46 +100,39 @@ fn piece_at<A: Allocator>(
     Piece {
         kind,
         start,
-        end_line: u64::from(at.line) + u64::from(at.lexeme.end().line),
-        depth,
-        is_first: is_first(start.line, latest),
-        may_begin: may_begin(start.line, depth, latest),
+        end_line,
+        depth: earlier.depth,
+        is_first: is_first(start.line, earlier.latest),
+        may_begin: may_begin(start.line, earlier.depth, earlier.latest),
         key,
     }
 }
 
-/// Begins a new line, if the latest lexeme begins in another one.
-fn reach_line<A: Allocator + Copy>(
+/// Reads the lexemes of a line behind the earlier ones. Answers with what counts of all of them. What `unit` and `pieces` held is
+/// forgotten, and their room used again.
+pub fn line_pieces<A: Allocator + Copy>(
+    tokens: &[Token],
+    mut earlier: Earlier,
     unit: &mut KeyUnit<KeyStart, A>,
-    line: u32,
-    latest: Option<Piece>,
-)
-    ensures { unit.new ≡ (if is_in line latest then unit.old else nothing_kept) }
+    pieces: &mut Vec<Piece, A>,
+) -> Result<Earlier, AllocError>
+    requires count { earlier.count + length tokens.now < 2 ^ 64 }
+    requires depth { earlier.depth ≤ earlier.count }
+    ensures pieces { OnOk result (pieces.new.items ≡ line_pieces earlier.count earlier.depth earlier.latest [] tokens.now) }
+    ensures len { OnOk result (length pieces.new.items ≡ length tokens.now) }
+    ensures behind { IfOk result (λ e. IsBehind earlier tokens.now pieces.new.items e) }
 {
-    match latest {
-        Some(piece) if piece.start.line == line => {}
-        _ => unit.new_line(),
+    unit.new_line();
+    pieces.clear();
+    for token in tokens {
+        let piece = piece_at(*token, earlier, unit.start());
+        unit.pass(piece.kind, place_of(earlier.count, piece))?;
+        pieces.push(piece)?;
+        earlier = Earlier {
+            count: earlier.count + 1,
+            depth: depth_behind(piece.kind, earlier.depth),
+            latest: Some(piece),
+        };
     }
-}
-
-/// The lexemes with what those before say of each.
-pub fn pieces<A: Allocator + Copy>(
-    alloc: A,
-    lexemes: &[At<'_, A>],
-) -> Result<Vec<Piece, A>, AllocError>
-    ensures { IfOk result (λ v. v.items ≡ pieces [] (map (λ x. placed x.line x.lexeme.now) lexemes.now)) }
-{
-    let mut pieces = Vec::new(alloc);
-    let mut unit = KeyUnit::new(alloc);
-    let mut depth = 0usize;
-    let mut latest: Option<Piece> = None;
-    for at in lexemes {
-        reach_line(&mut unit, at.line, latest);
-        let next = piece_at(at, depth, latest, unit.start());
-        unit.pass(next.kind, place_of(pieces.len(), next))?;
-        pieces.push(next)?;
-        depth = depth_behind(next.kind, depth);
-        latest = Some(next);
-    }
-    Ok(pieces)
+    Ok(earlier)
 }

@@ -1,13 +1,11 @@
 //! The marks of a document.
 
-ghost use Rattle.std.specs.Prelude.{◌≡◌, ◌∷◌, [], ◌++◌, ◌<◌, ◌||◌, ℕ, List, length, take, reverse, false, map, OnOk, IfOk, vec_len, slice_index_or};
-ghost use Rattle.yl_marks.specs.Keys.{placed, pieces};
-ghost use Rattle.yl_marks.specs.Marks.{is_in_mapping, continues, closes, left_open, closings, opened, with_opened, opening, is_at, begins_key, key_mark, marks, column_at, marked, as_marked, marked_lexemes};
+ghost use Rattle.std.specs.Prelude.{◌≡◌, ◌++◌, ◌<◌, ◌+◌, ◌^◌, ◌||◌, ℕ, length, reverse, false, OnOk, slice_index_or};
+ghost use Rattle.yl_marks.specs.Marks.{is_in_mapping, continues, closes, left_open, closings, opened, with_opened, opening, is_at, AreBegins, marks_at, open_behind, marks, open_behind_all, all_closed};
 
-use crate::keys::pieces;
-use crate::symbol::{Collection, Marked, Marking, OpenBlock, Piece, Symbol};
+use crate::symbol::{Marking, OpenBlock, Piece, Symbol};
 use std::alloc::{AllocError, Allocator};
-use yl_lexeme::{At, Kind};
+use yl_lexeme::Kind;
 
 fn is_in_mapping(m: Marking) -> bool
     ensures { result ≡ is_in_mapping m }
@@ -90,27 +88,32 @@ fn open<A: Allocator>(
     Ok(())
 }
 
-/// Notes that a key begins with the lexeme of this index.
-fn note_key(begins: &mut [bool], key: Option<usize>)
-    ensures { (i : ℕ) → i < length begins.old → slice_index_or begins.new i false ≡ (slice_index_or begins.old i false || is_at i key) }
+/// Notes that a key begins with the lexeme of this index, where the flags are of the lexemes from `first` on.
+fn note_key(begins: &mut [bool], first: usize, key: Option<usize>)
+    ensures { (i : ℕ) → i < length begins.old → slice_index_or begins.new i false ≡ (slice_index_or begins.old i false || is_at (first + i) key) }
 {
-    if let Some(i) = key
-        && i < begins.len()
+    if let Some(key) = key
+        && first <= key
+        && key - first < begins.len()
     {
-        begins[i] = true;
+        begins[key - first] = true;
     }
 }
 
-/// For each lexeme, whether some Value's key begins with it.
-fn key_table<A: Allocator>(alloc: A, pieces: &[Piece]) -> Result<Vec<bool, A>, AllocError>
-    ensures len { IfOk result (λ v. length v.items ≡ length pieces.now) }
-    ensures begins { IfOk result (λ v. (i : ℕ) → i < length pieces.now → slice_index_or v.items i false ≡ begins_key i pieces.now) }
+/// For each lexeme from `first` on, whether some Value's key begins with it.
+pub fn note_keys<A: Allocator>(
+    begins: &mut Vec<bool, A>,
+    first: usize,
+    pieces: &[Piece],
+) -> Result<(), AllocError>
+    ensures { OnOk result (AreBegins begins.new.items first pieces.now) }
 {
-    let mut begins = vec![in alloc; false; pieces.len()]?;
+    begins.clear();
+    begins.resize(pieces.len(), false)?;
     for piece in pieces {
-        note_key(&mut begins, piece.key);
+        note_key(begins, first, piece.key);
     }
-    Ok(begins)
+    Ok(())
 }
 
 /// A lexeme with its marks.
@@ -120,11 +123,8 @@ fn mark_one<A: Allocator>(
     collections: &mut Vec<OpenBlock, A>,
     symbols: &mut Vec<Symbol, A>,
 ) -> Result<(), AllocError>
-    ensures left { OnOk result (let left = left_open m (reverse collections.old.items) in
-        reverse collections.new.items ≡ with_opened (opened m left) m.piece.start.col left) }
-    ensures marks { OnOk result (let left = left_open m (reverse collections.old.items) in
-        symbols.new.items ≡ symbols.old.items ++ closings m (reverse collections.old.items) ++ opening (opened m left) i
-        ++ key_mark m.begins_key i ++ Symbol.One m.piece.kind i ∷ []) }
+    ensures left { OnOk result (reverse collections.new.items ≡ open_behind m (reverse collections.old.items)) }
+    ensures marks { OnOk result (symbols.new.items ≡ symbols.old.items ++ marks_at m i (reverse collections.old.items)) }
 {
     close(m, collections, symbols)?;
     open(m, i, collections, symbols)?;
@@ -135,85 +135,38 @@ fn mark_one<A: Allocator>(
     Ok(())
 }
 
-/// A document's pieces with their marks.
-fn marks<A: Allocator + Copy>(alloc: A, pieces: &[Piece]) -> Result<Vec<Symbol, A>, AllocError>
-    ensures { IfOk result (λ v. v.items ≡ marks pieces.now [] 0 pieces.now) }
+/// The lexemes of a line, from the index `first` on, with their marks. `begins` says of each whether a key begins with it.
+pub fn marks<A: Allocator>(
+    pieces: &[Piece],
+    begins: &[bool],
+    first: usize,
+    collections: &mut Vec<OpenBlock, A>,
+    symbols: &mut Vec<Symbol, A>,
+) -> Result<(), AllocError>
+    requires count { first + length pieces.now < 2 ^ 64 }
+    requires begins { AreBegins begins.now first pieces.now }
+    ensures left { OnOk result (reverse collections.new.items ≡ open_behind_all pieces.now (reverse collections.old.items) first pieces.now) }
+    ensures marks { OnOk result (symbols.new.items ≡ symbols.old.items ++ marks pieces.now (reverse collections.old.items) first pieces.now) }
 {
-    let keys = key_table(alloc, pieces)?;
-    let mut collections: Vec<OpenBlock, A> = Vec::new(alloc);
-    let mut symbols = Vec::new(alloc);
     for (i, piece) in pieces.iter().enumerate() {
         let m = Marking {
             piece: *piece,
-            begins_key: keys[i],
+            begins_key: begins[i],
         };
-        mark_one(m, i, &mut collections, &mut symbols)?;
+        mark_one(m, first + i, collections, symbols)?;
     }
-    while let Some(_) = collections.pop() {
+    Ok(())
+}
+
+/// Closes all collections.
+pub fn close_all<A: Allocator>(
+    collections: &[OpenBlock],
+    symbols: &mut Vec<Symbol, A>,
+) -> Result<(), AllocError>
+    ensures { OnOk result (symbols.new.items ≡ symbols.old.items ++ all_closed (reverse collections.now)) }
+{
+    for _collection in collections {
         symbols.push(Symbol::Close)?;
     }
-    Ok(symbols)
-}
-
-fn column_at(pieces: &[Piece], i: usize) -> u32
-    ensures { result ≡ column_at pieces.now i }
-{
-    match pieces.get(i) {
-        None => 0,
-        Some(piece) => piece.start.col,
-    }
-}
-
-/// The same marks, where whether a key unit begins at a lexeme stands with the lexeme.
-fn as_marked<A: Allocator>(
-    alloc: A,
-    pieces: &[Piece],
-    symbols: &[Symbol],
-) -> Result<Vec<Marked, A>, AllocError>
-    ensures { IfOk result (λ v. v.items ≡ as_marked pieces.now false symbols.now) }
-{
-    let mut marked = Vec::new(alloc);
-    let mut begins_key = false;
-    for symbol in symbols {
-        match *symbol {
-            Symbol::OpenSequence(i) => marked.push(Marked::Open(
-                Collection::Sequence,
-                column_at(pieces, i),
-            ))?,
-            Symbol::OpenMapping(i) => marked.push(Marked::Open(
-                Collection::Mapping,
-                column_at(pieces, i),
-            ))?,
-            Symbol::BeginKey(_) => begins_key = true,
-            Symbol::Close => marked.push(Marked::Close)?,
-            Symbol::One(_, i) => {
-                marked.push(Marked::Lexeme(i, begins_key))?;
-                begins_key = false;
-            }
-        }
-    }
-    Ok(marked)
-}
-
-/// The lexemes of one whole document, in order, with the marks as the grammar reads them. The only error is memory.
-pub fn symbols<A: Allocator + Copy>(
-    alloc: A,
-    lexemes: &[At<'_, A>],
-) -> Result<Vec<Symbol, A>, AllocError>
-    ensures { IfOk result (λ v. v.items ≡ marked (map (λ x. placed x.line x.lexeme.now) lexemes.now)) }
-{
-    let pieces = pieces(alloc, lexemes)?;
-    marks(alloc, &pieces)
-}
-
-/// The lexemes of one whole document, in order, with the marks between them. The only error is memory.
-pub fn mark<A: Allocator + Copy>(
-    alloc: A,
-    lexemes: &[At<'_, A>],
-) -> Result<Vec<Marked, A>, AllocError>
-    ensures { IfOk result (λ v. v.items ≡ marked_lexemes (map (λ x. placed x.line x.lexeme.now) lexemes.now)) }
-{
-    let pieces = pieces(alloc, lexemes)?;
-    let symbols = marks(alloc, &pieces)?;
-    as_marked(alloc, &pieces, &symbols)
+    Ok(())
 }

@@ -38,6 +38,14 @@ pub struct Piece {
     pub key: Option<usize>,
 }
 
+/// What counts of the lexemes before a place: how many there are, how many brackets are open behind them, and the latest of them.
+#[derive(Clone, Copy)]
+pub struct Earlier {
+    pub count: usize,
+    pub depth: usize,
+    pub latest: Option<Piece>,
+}
+
 /// A lexeme, and whether a key begins there.
 #[derive(Clone, Copy)]
 pub struct Marking {
