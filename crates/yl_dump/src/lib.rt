@@ -4,10 +4,12 @@
 //! double quotes, with `\\` and `\"` for a backslash and a quote, and `\u{HEX}` for a character that is not printable ASCII.
 #![tactic(auto)]
 
-mod document;
+mod document_fault;
+mod documents;
 mod event;
 mod events;
 mod fault;
+mod group;
 mod lexemes;
 mod lines;
 mod names;
