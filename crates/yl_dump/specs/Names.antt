@@ -29,10 +29,10 @@ kind_name Anchor = codes "Anchor"
 kind_name Tag = codes "Tag"
 kind_name (Scalar style) = scalar_name style
 
--- the sign before a scalar's value in an event stream of the YAML test suite
-abbrev pub style_sign : Style → List ℕ
-style_sign Plain = codes ":"
-style_sign Single = codes "'"
-style_sign Double = codes "\""
-style_sign Literal = codes "|"
-style_sign Folded = codes ">"
+-- what stands before a scalar's value in an event stream: the sign of its style as in the YAML test suite, and a quote
+abbrev pub value_opening : Style → List ℕ
+value_opening Plain = codes " :\""
+value_opening Single = codes " '\""
+value_opening Double = codes " \"\""
+value_opening Literal = codes " |\""
+value_opening Folded = codes " >\""

@@ -4,15 +4,18 @@
 //! double quotes, with `\\` and `\"` for a backslash and a quote, and `\u{HEX}` for a character that is not printable ASCII.
 #![tactic(auto)]
 
-mod document;
+mod document_fault;
+mod documents;
+mod event;
 mod events;
 mod fault;
+mod group;
 mod lexemes;
 mod lines;
 mod names;
-mod printer;
+mod page;
 mod quoting;
-mod rows;
+mod text_scanner;
 
 pub use events::write_events;
 pub use fault::DumpFault;

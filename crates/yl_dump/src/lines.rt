@@ -1,17 +1,15 @@
 //! Lines, with what a scanner knows where one begins.
-ghost use Rattle.std.specs.Prelude.{◌≡◌, ◌≤◌, length, vec_len, IfOk};
+ghost use Rattle.std.specs.Prelude.{◌≡◌, ◌≢◌, ◌≤◌, [], drop, length, OnOk};
 ghost use Rattle.yl_text.specs.declared.TheConstants.{MAX_BYTES};
-ghost use Rattle.yl_dump.specs.Fits.{Fits};
 
 use crate::fault::DumpFault;
 use crate::names::kind_name;
-use crate::printer::Printer;
-use crate::rows::rows_of;
-use std::alloc::Allocator;
+use crate::page::Page;
+use crate::text_scanner::TextScanner;
+use std::alloc::{AllocError, Allocator};
 use std::io::Write;
-use yl_lexeme::{Kind, Meter};
-use yl_scan::{Scanner, Step};
-use yl_text::Row;
+use yl_lexeme::Kind;
+use yl_scan::Step;
 
 /// What a line is to a scanner.
 #[derive(Clone, Copy, Debug, PartialEq, Eq)]
@@ -38,39 +36,23 @@ fn line_of<A: Allocator>(was_stopped: bool, step: &Step<A>) -> Line {
     }
 }
 
-// What each line of a text is.
-fn lines_of<A: Allocator + Copy>(alloc: A, rows: &[Row<A>]) -> Result<Vec<Line, A>, DumpFault>
-    requires { Fits rows.now }
-    ensures { IfOk result (λ lines. vec_len lines ≡ length rows.now) }
-{
-    let mut lines = Vec::new(alloc);
-    let mut scanner = Scanner::start(&alloc);
-    let mut meter = Meter::new();
-    for row in rows {
-        let was_stopped = scanner.is_stopped();
-        let step = scanner.feed(row, &mut meter)?;
-        lines.push(line_of(was_stopped, &step))?;
-    }
-    Ok(lines)
-}
-
-fn print_columns<W: Write>(printer: &mut Printer<W>, columns: &[u32]) -> Result<(), DumpFault> {
-    printer.text("[")?;
+fn print_columns<A: Allocator>(page: &mut Page<A>, columns: &[u32]) -> Result<(), AllocError> {
+    page.text("[")?;
     for (i, column) in columns.iter().enumerate() {
         if i > 0 {
-            printer.text(",")?;
+            page.text(",")?;
         }
-        printer.number(u64::from(*column))?;
+        page.number(u64::from(*column))?;
     }
-    printer.text("]")
+    page.text("]")
 }
 
-fn print_brackets<W: Write>(printer: &mut Printer<W>, brackets: &[Kind]) -> Result<(), DumpFault> {
+fn print_brackets<A: Allocator>(page: &mut Page<A>, brackets: &[Kind]) -> Result<(), AllocError> {
     if brackets.is_empty() {
-        return printer.text("-");
+        return page.text("-");
     }
     for bracket in brackets {
-        printer.text(match bracket {
+        page.text(match bracket {
             Kind::MapOpen => "{",
             _ => "[",
         })?;
@@ -78,69 +60,63 @@ fn print_brackets<W: Write>(printer: &mut Printer<W>, brackets: &[Kind]) -> Resu
     Ok(())
 }
 
-// Prints what a scanner knows before a row.
-fn print_state<A: Allocator + Copy, W: Write>(
-    printer: &mut Printer<W>,
-    scanner: &Scanner<'_, A>,
-) -> Result<(), DumpFault> {
-    printer.text(" sound ")?;
-    print_columns(printer, scanner.levels())?;
-    printer.text(" ")?;
-    print_brackets(printer, scanner.brackets())?;
-    printer.text(" ")?;
-    printer.text(match scanner.last() {
+// Prints what a scanner knows before a line.
+fn print_state<A: Allocator + Copy>(
+    page: &mut Page<A>,
+    scanner: &TextScanner<'_, '_, A>,
+) -> Result<(), AllocError> {
+    page.text(" sound ")?;
+    print_columns(page, scanner.levels())?;
+    page.text(" ")?;
+    print_brackets(page, scanner.brackets())?;
+    page.text(" ")?;
+    page.text(match scanner.last_kind() {
         Some(kind) => kind_name(kind),
         None => "-",
     })
 }
 
-// Prints what a line is, before which the scanner stands.
-fn print_line<A: Allocator + Copy, W: Write>(
-    printer: &mut Printer<W>,
-    number: u64,
-    line: Line,
-    scanner: &Scanner<'_, A>,
-) -> Result<(), DumpFault> {
-    printer.number(number)?;
-    match line {
-        Line::NotSound => printer.text(" not-sound")?,
-        Line::Sound => print_state(printer, scanner)?,
-        Line::Stopped => printer.text(" stopped")?,
-    }
-    printer.text("\n")
-}
-
-// Prints the lines of a text that has these rows.
-fn print_lines<A: Allocator + Copy, W: Write>(
-    alloc: A,
-    printer: &mut Printer<W>,
-    rows: &[Row<A>],
-) -> Result<(), DumpFault>
-    requires { Fits rows.now }
+// Prints the next line of a text. Only a line that was read tells whether it is sound: else what the scanner knows before it is
+// taken back.
+fn print_line<A: Allocator + Copy>(
+    page: &mut Page<A>,
+    scanner: &mut TextScanner<'_, '_, A>,
+) -> Result<(), AllocError>
+    requires { scanner.old.rows ≢ [] }
+    ensures { OnOk result (scanner.new.rows ≡ drop 1 scanner.old.rows) }
 {
-    let lines = lines_of(alloc, rows)?;
-    let mut scanner = Scanner::start(&alloc);
-    let mut meter = Meter::new();
-    for (i, row) in rows.iter().enumerate() {
-        print_line(printer, i as u64 + 1, lines[i], &scanner)?;
-        let _step = scanner.feed(row, &mut meter)?;
+    page.number(u64::from(scanner.line()) + 1)?;
+    let before = page.len();
+    print_state(page, scanner)?;
+    let was_stopped = scanner.is_stopped();
+    let step = scanner.read_line()?;
+    let what = match line_of(was_stopped, &step) {
+        Line::NotSound => Some(" not-sound"),
+        Line::Sound => None,
+        Line::Stopped => Some(" stopped"),
+    };
+    if let Some(what) = what {
+        page.truncate(before);
+        page.text(what)?;
     }
-    Ok(())
+    page.text("\n")
 }
 
 /// Writes for each line of a text `LINE sound COLUMNS BRACKETS LAST`, with the columns of the open block collections, the open
 /// brackets and the last lexeme's kind before it, or `LINE stopped`, where a fault has come before, or `LINE not-sound`, where a
-/// lexeme or a fault's reach is in progress or the line is blank. The text is scanned twice, since only a row that was read tells
-/// whether it is sound.
+/// lexeme or a fault's reach is in progress or the line is blank.
 pub fn write_lines<A: Allocator + Copy, W: Write + Drop>(
     alloc: A,
     text: &str,
-    out: W,
+    mut out: W,
 ) -> Result<(), DumpFault>
     requires { length text.now ≤ MAX_BYTES }
 {
-    let rows = rows_of(alloc, text)?;
-    let mut printer = Printer::new(out);
-    print_lines(alloc, &mut printer, &rows)?;
-    printer.flush()
+    let mut page = Page::new(alloc);
+    let mut scanner = TextScanner::new(&alloc, text);
+    while !scanner.is_done() {
+        print_line(&mut page, &mut scanner)?;
+        page.write_large(&mut out)?;
+    }
+    page.write_to(&mut out)
 }

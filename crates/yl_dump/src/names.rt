@@ -1,6 +1,6 @@
 //! Names of kinds.
 ghost use Rattle.std.specs.Prelude.{◌≡◌};
-ghost use Rattle.yl_dump.specs.Names.{kind_name as name_of, scalar_name as scalar_name_of, style_sign as sign_of};
+ghost use Rattle.yl_dump.specs.Names.{kind_name as name_of, scalar_name as scalar_name_of, value_opening as opening_of};
 
 use yl_lexeme::{Kind, Style};
 
@@ -39,15 +39,15 @@ fn scalar_name(style: Style) -> &'static str
     }
 }
 
-/// The sign before a scalar's value in an event stream.
-pub fn style_sign(style: Style) -> &'static str
-    ensures { result.now ≡ sign_of style }
+/// What stands before a scalar's value in an event stream: a space, the sign of its style, and a quote.
+pub fn value_opening(style: Style) -> &'static str
+    ensures { result.now ≡ opening_of style }
 {
     match style {
-        Style::Plain => ":",
-        Style::Single => "'",
-        Style::Double => "\"",
-        Style::Literal => "|",
-        Style::Folded => ">",
+        Style::Plain => " :\"",
+        Style::Single => " '\"",
+        Style::Double => " \"\"",
+        Style::Literal => " |\"",
+        Style::Folded => " >\"",
     }
 }

@@ -2,8 +2,8 @@
 use Rattle.std.specs.Prelude.{ℕ, zero, suc, ◌≡◌, ◌<◌, ◌≤◌, ◌+◌, ◌-◌, refl, List, [], ◌∷◌, ◌++◌, Option, Some, None}
 use Rattle.std.proofs.Common.{sym, ◌∙◌, ap, subst, append_assoc, arith, ⊎_elim}
 use Rattle.std.proofs.lemmas.Bool.{cases_lt, cases_order}
-use Rattle.yl_events.specs.declared.symbol.Symbol.{Symbol}
-use Rattle.yl_events.specs.declared.symbol.Symbol.TheVariants.{One}
+use Rattle.yl_marks.specs.declared.symbol.Symbol.{Symbol}
+use Rattle.yl_marks.specs.declared.symbol.Symbol.TheVariants.{One}
 use Rattle.yl_events.specs.declared.symbol.Outline.{Outline}
 use Rattle.yl_events.specs.declared.symbol.Shape.TheVariants.{DocumentStart}
 use Rattle.yl_events.specs.Outlines.{bare, events}
@@ -82,7 +82,7 @@ taken_on x xs next rest None = omega arith
 taken_on (One kind p) xs next rest (Some s) = omega (arith, rest s)
 taken_on x xs next rest (Some s) = rest s
 
-taken_within : (xs : List Symbol) (goals : List Goal) (out : List Outline) → taken xs goals out ≤ lexeme_count xs
+pub taken_within : (xs : List Symbol) (goals : List Goal) (out : List Outline) → taken xs goals out ≤ lexeme_count xs
 taken_within [] goals out = omega arith
 taken_within (x ∷ xs) goals out = taken_on x xs _ (λ s. taken_within xs s.goals s.events) (step goals out x)
 

@@ -3,5 +3,7 @@ pub mod Sound
 pub mod Answered
 pub mod Counts
 pub mod Pushes
-pub mod Back
 pub mod Cutting
+pub mod Trails
+pub mod Parts
+pub mod Lines

@@ -2,8 +2,8 @@
 use Rattle.std.specs.Prelude.{ℕ, ◌≡◌, refl, true, false, List, [], ◌∷◌, ◌++◌, Option, Some, None}
 use Rattle.std.proofs.Common.{sym, ◌∙◌, ap, subst, append_assoc}
 use Rattle.yl_lexeme.specs.declared.lexeme.Kind.{Kind}
-use Rattle.yl_events.specs.declared.symbol.Symbol.{Symbol}
-use Rattle.yl_events.specs.declared.symbol.Symbol.TheVariants.{OpenSequence, OpenMapping, BeginKey, Close, One}
+use Rattle.yl_marks.specs.declared.symbol.Symbol.{Symbol}
+use Rattle.yl_marks.specs.declared.symbol.Symbol.TheVariants.{OpenSequence, OpenMapping, BeginKey, Close, One}
 use Rattle.yl_events.specs.declared.symbol.Bracket.{Bracket}
 use Rattle.yl_events.specs.declared.symbol.Bracket.TheVariants.{Square, Curly}
 use Rattle.yl_events.specs.declared.symbol.Properties.{Properties}

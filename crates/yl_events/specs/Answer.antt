@@ -1,6 +1,6 @@
 -- The parser's answer.
 use Rattle.std.specs.Prelude.{ℕ, ◌≡◌, List, Option, Some, None}
-use Rattle.yl_events.specs.declared.symbol.Symbol.{Symbol}
+use Rattle.yl_marks.specs.declared.symbol.Symbol.{Symbol}
 use Rattle.yl_events.specs.declared.symbol.Outline.{Outline}
 use Rattle.yl_events.specs.Derives.{Derives, HasFaultAt}
 use Rattle.yl_events.specs.Machine.{parse, fault_place}

@@ -5,7 +5,7 @@ use Rattle.yl_events.specs.declared.fault.Fault.{Fault}
 use Rattle.yl_events.specs.Event.{EventValue, AreEvents}
 use Rattle.yl_events.specs.Derives.{HasFaultAt}
 use Rattle.yl_events.specs.Faults.{fault_of}
-use Rattle.yl_events.specs.Marks.{marked}
+use Rattle.yl_marks.specs.Marks.{marked}
 
 -- the fault stands at the first lexeme with which no beginning of a derivation is left, or behind the document
 pub record IsFaultOf (xs : List LexemeValue) (f : Fault) : Type 0 where

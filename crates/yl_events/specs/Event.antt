@@ -11,7 +11,7 @@ use Rattle.yl_events.specs.declared.event.EventKind.TheVariants as kind
 use Rattle.yl_events.specs.declared.event.Anchor.{Anchor}
 use Rattle.yl_events.specs.declared.event.Event.{Event}
 use Rattle.yl_events.specs.Derives.{Derives}
-use Rattle.yl_events.specs.Marks.{marked}
+use Rattle.yl_marks.specs.Marks.{marked}
 
 -- what an event is
 pub data Happening : Type 0 where

@@ -2,8 +2,8 @@
 -- open behind the closings before its place (YAML 1.2.2, 9.1; 6.9 and 7.1; 7.4 and 8.2).
 use Rattle.std.specs.Prelude.{ℕ, Bool, true, false, not, ◌||◌, ◌==◌, ◌-◌, if◌then◌else◌, List, [], ◌∷◌, ◌+◌, reverse, take, drop, codes}
 use Rattle.yl_lexeme.specs.declared.lexeme.Kind.{Kind}
-use Rattle.yl_events.specs.declared.symbol.Symbol.{Symbol}
-use Rattle.yl_events.specs.declared.symbol.Symbol.TheVariants.{OpenSequence, OpenMapping, BeginKey, Close, One}
+use Rattle.yl_marks.specs.declared.symbol.Symbol.{Symbol}
+use Rattle.yl_marks.specs.declared.symbol.Symbol.TheVariants.{OpenSequence, OpenMapping, BeginKey, Close, One}
 use Rattle.yl_events.specs.declared.symbol.Block.{Block}
 use Rattle.yl_events.specs.declared.symbol.Block.TheVariants.{InSequence, InMapping}
 use Rattle.yl_events.specs.declared.fault.ParseFault.{ParseFault}

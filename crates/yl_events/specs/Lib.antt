@@ -1,12 +1,13 @@
 pub mod Documents
-pub mod Keys
-pub mod Marks
 pub mod Grammar
 pub mod Outlines
 pub mod Machine
 pub mod Derives
 pub mod Answer
 pub mod Faults
+pub mod Trail
+pub mod Told
 pub mod Event
 pub mod Built
+pub mod Parsing
 pub mod Rows

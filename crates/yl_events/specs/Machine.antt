@@ -1,8 +1,8 @@
 -- The parser: a stack of goals, the innermost first, over the marked lexemes.
 use Rattle.std.specs.Prelude.{ℕ, suc, Bool, true, false, ◌≡◌, reverse, List, [], ◌∷◌, ◌++◌, Option, Some, None, if◌then◌else◌}
 use Rattle.yl_lexeme.specs.declared.lexeme.Kind.{Kind}
-use Rattle.yl_events.specs.declared.symbol.Symbol.{Symbol}
-use Rattle.yl_events.specs.declared.symbol.Symbol.TheVariants.{OpenSequence, OpenMapping, BeginKey, Close, One}
+use Rattle.yl_marks.specs.declared.symbol.Symbol.{Symbol}
+use Rattle.yl_marks.specs.declared.symbol.Symbol.TheVariants.{OpenSequence, OpenMapping, BeginKey, Close, One}
 use Rattle.yl_events.specs.declared.symbol.Bracket.{Bracket}
 use Rattle.yl_events.specs.declared.symbol.Bracket.TheVariants.{Square, Curly}
 use Rattle.yl_events.specs.declared.symbol.Properties.{Properties}

@@ -9,7 +9,7 @@ use Rattle.yl_events.specs.declared.symbol.Shape.{Shape}
 use Rattle.yl_events.specs.declared.symbol.Shape.TheVariants as shape
 use Rattle.yl_events.specs.declared.fault.ParseFault.TheVariants.{DocumentStartExpected, PropertiesGivenTwice, KeyOrEndOfMappingExpected, EntryOrEndOfSequenceExpected}
 use Rattle.yl_events.specs.Documents.{beginnings}
-use Rattle.yl_events.specs.Marks.{marked}
+use Rattle.yl_marks.specs.Marks.{marked}
 use Rattle.yl_events.specs.Grammar.{Bare, ScalarNode, Missing, InlineNode, BlockSequence, BlockMapping, NoEntry, MoreEntries, NodeValue, Indentless, Others, NoPair, PairEntry}
 use Rattle.yl_events.specs.Outlines.{bare, missing, ended}
 use Rattle.yl_events.specs.Derives.{Derives}

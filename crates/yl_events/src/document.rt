@@ -2,20 +2,19 @@
 
 ghost use Rattle.std.specs.Prelude.{◌≡◌, ◌≤◌, ◌<◌, ◌+◌, ◌^◌, ◌-◌, ℕ, List, [], map, length, IfOk, OnOk, OnErr, IfSome};
 ghost use Rattle.yl_lexeme.specs.Lexeme.{LexemeValue};
-ghost use Rattle.yl_events.specs.declared.symbol.Symbol.{Symbol as Marks};
-ghost use Rattle.yl_events.specs.Keys.{placed};
+ghost use Rattle.yl_marks.specs.declared.symbol.Symbol.{Symbol as Marks};
+ghost use Rattle.yl_marks.specs.Keys.{placed};
 ghost use Rattle.yl_events.specs.Event.{EventValue, event_value, kind_value, value_at, start_at, content_value, kind_of, filled, AreEvents};
 ghost use Rattle.yl_events.specs.Built.{Builds, IsFaultOf};
 
 use crate::event::{Anchor, Built, Event, EventKind};
 use crate::fault::Fault;
-use crate::fault_kind::fault_kind;
-use crate::keys::pieces;
 use crate::machine::parse;
-use crate::marks::symbols;
 use crate::symbol::{Outline, Shape};
+use crate::trail::Trail;
 use std::alloc::{AllocError, Allocator};
 use yl_lexeme::{At, Meter};
+use yl_marks::symbols;
 use yl_text::Pos;
 
 /// The value of the lexeme of this index.
@@ -105,14 +104,14 @@ fn fill_all<'a, A: Allocator + Copy>(
 }
 
 /// The events of a document, or its fault.
+#[tactic(auto, using(crate::proofs::Trails::fault_by_trail))]
 fn build<'a, A: Allocator + Copy>(
     alloc: A,
     lexemes: &[At<'a, A>],
 ) -> Result<Built<'a, A>, AllocError>
     ensures { IfOk result (λ b. Builds (map (λ x. placed x.line x.lexeme.now) lexemes.now) (map event_value b.events.items) b.fault) }
 {
-    let pieces = pieces(alloc, lexemes)?;
-    let symbols = symbols(alloc, &pieces)?;
+    let symbols = symbols(alloc, lexemes)?;
     let (outlines, place) = parse(alloc, &symbols)?;
     match place {
         None => {
@@ -123,7 +122,8 @@ fn build<'a, A: Allocator + Copy>(
             })
         }
         Some(place) => {
-            let kind = fault_kind(alloc, &symbols, place)?;
+            let mut trail = Trail::new(alloc);
+            let kind = trail.fault_from(place, &symbols)?;
             Ok(Built {
                 events: Vec::new(alloc),
                 fault: Some(Fault { kind, place }),

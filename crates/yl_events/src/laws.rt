@@ -2,9 +2,9 @@
 
 ghost use Rattle.std.specs.Prelude.{◌≡◌, ◌≤◌, ℕ, List, length};
 ghost use Rattle.yl_lexeme.specs.Lexeme.{LexemeValue};
-ghost use Rattle.yl_events.specs.declared.symbol.Symbol.{Symbol};
+ghost use Rattle.yl_marks.specs.declared.symbol.Symbol.{Symbol};
 ghost use Rattle.yl_events.specs.declared.symbol.Outline.{Outline};
-ghost use Rattle.yl_events.specs.Marks.{marked};
+ghost use Rattle.yl_marks.specs.Marks.{marked};
 ghost use Rattle.yl_events.specs.Derives.{Derives, HasFaultAt};
 ghost use Rattle.yl_events.specs.Event.{EventValue, AreEvents};
 

@@ -1,21 +1,21 @@
-//! Documents, marks and events.
+//! Documents and events.
 #![tactic(auto)]
 
 mod cuts;
 mod document;
 mod event;
 mod fault;
-mod fault_kind;
-mod keys;
 mod laws;
 mod machine;
-mod marks;
+mod parser;
 mod symbol;
+mod trail;
 
 pub use cuts::documents;
 pub use document::parse_document;
 pub use event::{Anchor, Built, Event, EventKind};
 pub use fault::{Fault, ParseFault};
 pub use laws::{one_derivation, one_fault};
-pub use marks::mark;
-pub use symbol::{Collection, Marked};
+pub use parser::Parser;
+pub use symbol::{Outline, Shape};
+pub use yl_marks::{Collection, Marked, Token, line_len, mark, token_of};

@@ -3,15 +3,17 @@
 ghost use Rattle.std.specs.Prelude.{◌≡◌, ◌++◌, [], ◌∷◌, ℕ, IsSome, true, false, reverse, IfOk, OnOk};
 ghost use Rattle.yl_events.specs.Outlines.{bare, missing, ended, decorated, pair_start, pair_end, node_end, ◌then◌};
 ghost use Rattle.yl_events.specs.Machine.{with_anchor, with_tag, takes, takes_marks, forms, items_take, closes, leaves, followed, step, finish, run, taken, Taken, Left, Stepped, Finished};
+ghost use Rattle.yl_events.specs.Told.{steps, Walked};
 ghost use Rattle.yl_events.specs.Answer.{IsParsed, Answers};
 ghost use Rattle.yl_events.specs.declared.symbol.Where.TheVariants.{InInline};
 ghost use Rattle.yl_events.specs.declared.symbol.Goal.TheVariants.{ItemEnd, NodeEnd};
 
-use crate::symbol::{Bracket, Goal, Outline, Properties, Shape, Symbol, Where};
+use crate::symbol::{Bracket, Goal, Outline, Properties, Shape, Where};
 use std::alloc::{AllocError, Allocator};
 use yl_lexeme::Kind;
+use yl_marks::Symbol;
 
-fn bare(kind: Shape, place: Option<usize>) -> Outline
+pub fn bare(kind: Shape, place: Option<usize>) -> Outline
     ensures { result ≡ bare kind place }
 {
     Outline {
@@ -486,7 +488,7 @@ fn step<A: Allocator>(
 }
 
 /// Leaves all goals, where they may be left.
-fn finish<A: Allocator>(
+pub fn finish<A: Allocator>(
     goals: &mut Vec<Goal, A>,
     events: &mut Vec<Outline, A>,
 ) -> Result<bool, AllocError>
@@ -498,6 +500,27 @@ fn finish<A: Allocator>(
         }
     }
     Ok(true)
+}
+
+/// Takes these symbols, and tells their events behind those before. Answers how many lexemes of them were taken, where one is refused.
+pub fn walk<A: Allocator>(
+    symbols: &[Symbol],
+    goals: &mut Vec<Goal, A>,
+    events: &mut Vec<Outline, A>,
+) -> Result<Option<usize>, AllocError>
+    ensures { IfOk result (λ place. Walked (steps symbols.now (reverse goals.old.items) events.old.items)
+        (taken symbols.now (reverse goals.old.items) events.old.items) place goals.new.items events.new.items) }
+{
+    let mut place = 0usize;
+    for symbol in symbols {
+        if !step(*symbol, goals, events)? {
+            return Ok(Some(place));
+        }
+        if let Symbol::One(_, _) = symbol {
+            place += 1;
+        }
+    }
+    Ok(None)
 }
 
 /// The outlines of a document, and the index of the lexeme at which no derivation is left, where there is one.

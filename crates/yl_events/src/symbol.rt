@@ -1,17 +1,6 @@
 //! What the grammar reads and gives. Lexemes go by their index in the document.
 
-use yl_lexeme::{Kind, Style};
-use yl_text::Pos;
-
-/// A lexeme, or a mark between lexemes. A mark names the lexeme that it stands before.
-#[derive(Clone, Copy)]
-pub enum Symbol {
-    OpenSequence(usize),
-    OpenMapping(usize),
-    BeginKey(usize),
-    Close,
-    One(Kind, usize),
-}
+use yl_lexeme::Style;
 
 #[derive(Clone, Copy)]
 pub enum Bracket {
@@ -80,61 +69,4 @@ pub enum Goal {
 pub enum Block {
     InSequence,
     InMapping(bool),
-}
-
-/// Where a key may begin: how many lexemes stand before it, and its column.
-#[derive(Clone, Copy)]
-pub struct KeyStart {
-    pub index: usize,
-    pub column: u32,
-}
-
-/// A lexeme without its value, and what the lexemes before it say of its place.
-#[derive(Clone, Copy)]
-pub struct Piece {
-    pub kind: Kind,
-    /// Where it begins, in the text.
-    pub start: Pos,
-    /// The line of the text in which it ends.
-    pub end_line: u64,
-    /// How many brackets are open before it.
-    pub depth: usize,
-    /// No earlier lexeme ends in its line.
-    pub is_first: bool,
-    /// A key may begin with it.
-    pub may_begin: bool,
-    /// Of a Value that has a key, how many lexemes stand before that key.
-    pub key: Option<usize>,
-}
-
-/// A lexeme, and whether a key begins there.
-#[derive(Clone, Copy)]
-pub struct Marking {
-    pub piece: Piece,
-    pub begins_key: bool,
-}
-
-/// An open block collection and its column.
-#[derive(Clone, Copy)]
-pub struct OpenBlock {
-    pub is_mapping: bool,
-    pub column: u32,
-}
-
-/// What a block collection is.
-#[derive(Clone, Copy, Debug, PartialEq, Eq)]
-pub enum Collection {
-    Sequence,
-    Mapping,
-}
-
-/// A lexeme of a document, or a mark between its lexemes.
-#[derive(Clone, Copy, Debug, PartialEq, Eq)]
-pub enum Marked {
-    /// A block collection opens, in this column, counted from 0.
-    Open(Collection, u32),
-    /// The innermost open block collection closes.
-    Close,
-    /// The lexeme of this index, and whether a key unit begins with it.
-    Lexeme(usize, bool),
 }

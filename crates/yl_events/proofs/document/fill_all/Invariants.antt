@@ -1,5 +1,5 @@
 use Rattle.std.proofs.Common.{◌≡◌, map, take}
-use Rattle.yl_events.specs.Keys.{placed}
+use Rattle.yl_marks.specs.Keys.{placed}
 use Rattle.yl_events.specs.Event.{event_value, filled}
 use Rattle.yl_events.proofs.document.fill_all.Given as goal
 

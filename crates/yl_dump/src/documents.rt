@@ -1,0 +1,155 @@
+//! The documents of a text, one after another.
+ghost use Rattle.std.specs.Prelude.{◌≡◌, ◌||◌, ◌&&◌, not};
+ghost use Rattle.yl_events.specs.Documents.{is_document_end, is_document_start, is_directive};
+
+use crate::document_fault::{Behind, DocumentFault, print_fault, text_fault};
+use crate::event::print_events;
+use crate::fault::{DumpFault, Place};
+use crate::group::Group;
+use crate::page::Page;
+use std::alloc::{AllocError, Allocator};
+use std::io::Write;
+use yl_events::{Outline, Parser, Token};
+use yl_lexeme::{Kind, Lexeme};
+
+// Whether a document begins with a lexeme of this kind, behind one of the kind `last`. Directives stand only at a text's start
+// and behind a document's end, so that a document that has some begins with the first of them.
+fn begins_document(last: Kind, kind: Kind) -> bool
+    ensures { result ≡ (is_document_end last || (is_document_start kind && not (is_directive last))) }
+{
+    match (last, kind) {
+        (Kind::DocEnd, _) => true,
+        (Kind::Directive, _) => false,
+        (_, Kind::DocStart) => true,
+        _ => false,
+    }
+}
+
+/// Prints the events of a text's documents, or their faults, as it takes their lexemes. Of the document that it is in, the events of
+/// all lines before the last one are printed, and not written yet.
+#[derive(Drop)]
+pub struct Documents<A: Allocator + Copy, W: Write> {
+    out: W,
+    page: Page<A>,
+    // How many bytes of the page stand before the document.
+    before: usize,
+    // The kind of the document's last lexeme. There is none before the first document.
+    last: Option<Kind>,
+    group: Group<A>,
+    parser: Parser<A>,
+    fault: Option<DocumentFault>,
+    // Room for a line.
+    tokens: Vec<Token, A>,
+    outlines: Vec<Outline, A>,
+}
+
+impl<A: Allocator + Copy, W: Write> Documents<A, W> {
+    pub fn new(alloc: A, out: W) -> Documents<A, W> {
+        Documents {
+            out,
+            page: Page::new(alloc),
+            before: 0,
+            last: None,
+            group: Group::new(alloc),
+            parser: Parser::new(alloc),
+            fault: None,
+            tokens: Vec::new(alloc),
+            outlines: Vec::new(alloc),
+        }
+    }
+
+    /// Prints a line that belongs to no document.
+    pub fn print_line(&mut self, line: &str) -> Result<(), AllocError> {
+        self.page.text(line)?;
+        self.before = self.page.len();
+        Ok(())
+    }
+
+    /// Takes the text's next lexeme, which begins at this line, counted from 0.
+    pub fn take(&mut self, line: u32, lexeme: Lexeme<A>) -> Result<(), DumpFault> {
+        let kind = lexeme.kind();
+        match self.last {
+            None => self.begin()?,
+            Some(last) if begins_document(last, kind) => {
+                let column = u64::from(lexeme.start().col);
+                let line = u64::from(line);
+                self.end(Behind::End(Place { line, column }))?;
+                self.begin()?;
+            }
+            Some(_) if self.group.is_in(line) => {}
+            Some(_) => self.parse_line()?,
+        }
+        self.last = Some(kind);
+        if self.fault.is_none() {
+            self.group.push(line, lexeme)?;
+        }
+        Ok(())
+    }
+
+    /// Ends the document, if one has begun, and prints its fault in place of its events, if it has one.
+    pub fn end(&mut self, behind: Behind) -> Result<(), DumpFault> {
+        self.parse_line()?;
+        if self.last.is_some() && self.fault.is_none() {
+            self.finish()?;
+        }
+        if let Some(fault) = text_fault(self.fault, behind) {
+            self.page.truncate(self.before);
+            print_fault(&mut self.page, fault)?;
+        }
+        self.last = None;
+        self.fault = None;
+        self.page.write_large(&mut self.out)?;
+        self.before = self.page.len();
+        Ok(())
+    }
+
+    /// Writes what is printed.
+    pub fn write(&mut self) -> Result<(), DumpFault> {
+        self.page.write_to(&mut self.out)
+    }
+
+    // Begins a document.
+    fn begin(&mut self) -> Result<(), AllocError> {
+        self.group.clear();
+        self.outlines.clear();
+        self.parser.begin(&mut self.outlines)?;
+        print_events(&mut self.page, &self.group, &self.outlines)
+    }
+
+    // Parses the lexemes that begin in the line, and prints their events.
+    fn parse_line(&mut self) -> Result<(), AllocError> {
+        if self.group.is_empty() {
+            return Ok(());
+        }
+        self.group.fill_in(&mut self.tokens)?;
+        self.outlines.clear();
+        let fault = self.parser.feed(&self.tokens, &mut self.outlines)?;
+        match fault {
+            None => print_events(&mut self.page, &self.group, &self.outlines)?,
+            Some(fault) => {
+                self.fault = Some(DocumentFault {
+                    kind: fault.kind,
+                    place: self.group.place(fault.place),
+                });
+            }
+        }
+        self.group.pass(self.parser.count());
+        Ok(())
+    }
+
+    // Parses the document's end, and prints its last events.
+    fn finish(&mut self) -> Result<(), AllocError> {
+        self.outlines.clear();
+        let fault = self.parser.finish(&mut self.outlines)?;
+        match fault {
+            None => print_events(&mut self.page, &self.group, &self.outlines),
+            Some(fault) => {
+                self.fault = Some(DocumentFault {
+                    kind: fault.kind,
+                    place: None,
+                });
+                Ok(())
+            }
+        }
+    }
+}

@@ -1,0 +1,70 @@
+//! Printed text that waits to be written.
+
+use crate::fault::{DumpFault, Place};
+use itoa::Buffer;
+use std::alloc::{AllocError, Allocator};
+use std::io::Write;
+
+// Text of so many bytes is written, so that a write takes many of them.
+const LARGE: usize = 65_536;
+
+/// Printed text. What is printed of a document can be taken back until it is written.
+#[derive(Drop)]
+pub struct Page<A: Allocator> {
+    text: Vec<u8, A>,
+}
+
+impl<A: Allocator> Page<A> {
+    pub fn new(alloc: A) -> Page<A> {
+        Page {
+            text: Vec::new(alloc),
+        }
+    }
+
+    /// How many bytes wait.
+    pub fn len(&self) -> usize {
+        self.text.len()
+    }
+
+    /// Takes back what was printed behind so many bytes.
+    pub fn truncate(&mut self, len: usize) {
+        self.text.truncate(len);
+    }
+
+    pub fn bytes(&mut self, piece: &[u8]) -> Result<(), AllocError> {
+        self.text.extend_from_slice(piece)
+    }
+
+    pub fn text(&mut self, text: &str) -> Result<(), AllocError> {
+        self.text.extend_from_slice(text.as_bytes())
+    }
+
+    pub fn number(&mut self, n: u64) -> Result<(), AllocError> {
+        let mut buffer = Buffer::new();
+        self.text(buffer.format(n))
+    }
+
+    /// Prints a place as `LINE:COLUMN`, counted from 1.
+    pub fn place(&mut self, place: Place) -> Result<(), AllocError> {
+        self.number(place.line.saturating_add(1))?;
+        self.text(":")?;
+        self.number(place.column.saturating_add(1))
+    }
+
+    /// Writes all that waits.
+    pub fn write_to<W: Write>(&mut self, out: &mut W) -> Result<(), DumpFault> {
+        if out.write_all(self.text.as_slice()).is_err() {
+            return Err(DumpFault::Write);
+        }
+        self.text.clear();
+        Ok(())
+    }
+
+    /// Writes all that waits, if it is much.
+    pub fn write_large<W: Write>(&mut self, out: &mut W) -> Result<(), DumpFault> {
+        if self.text.len() < LARGE {
+            return Ok(());
+        }
+        self.write_to(out)
+    }
+}

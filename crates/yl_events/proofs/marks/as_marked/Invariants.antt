@@ -1,6 +1,0 @@
-use Rattle.std.proofs.Common.{◌≡◌, ◌++◌, false, drop}
-use Rattle.yl_events.specs.Marks.{as_marked}
-use Rattle.yl_events.proofs.marks.as_marked.Given as goal
-
-abbrev pub invariant-loop-symbol : goal.invariant-loop-symbol
-invariant-loop-symbol g l = l.marked.items ++ as_marked l.pieces l.begins_key (drop l.symbol-index l.symbols) ≡ as_marked l.pieces false l.symbols

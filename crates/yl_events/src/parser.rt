@@ -1,0 +1,156 @@
+//! A document is parsed line by line.
+
+ghost use Rattle.std.specs.Prelude.{◌≡◌, ◌∷◌, [], ◌++◌, ◌+◌, ◌<◌, ◌^◌, reverse, OnOk, IfOk};
+ghost use Rattle.yl_events.specs.Outlines.{bare};
+ghost use Rattle.yl_events.specs.Derives.{lexeme_count};
+ghost use Rattle.yl_events.specs.Machine.{run, Finished};
+ghost use Rattle.yl_events.specs.Parsing.{no_document, at_start, begun, told, Feeds, IsTold, Passes};
+
+use crate::fault::Fault;
+use crate::machine::{bare, finish, walk};
+use crate::symbol::{Goal, Outline, Shape, Where};
+use crate::trail::Trail;
+use std::alloc::{AllocError, Allocator};
+use std::marker::Model;
+use yl_marks::{Marker, Symbol, Token};
+
+/// Parses a document that is fed line by line, and tells its outlines: what counts of the lines that were fed. It is used for one
+/// document after another.
+#[derive(Drop)]
+pub struct Parser<A: Allocator + Copy> {
+    marker: Marker<A>,
+    /// What is still to be read, the innermost last.
+    goals: Vec<Goal, A>,
+    trail: Trail<A>,
+    /// Room for a line's lexemes with their marks.
+    symbols: Vec<Symbol, A>,
+}
+
+impl<A: Allocator + Copy> Model for Parser<A> {
+    ghost use Rattle.std.specs.Prelude.{reverse};
+    ghost use Rattle.yl_events.specs.Parsing.{Parsing};
+
+    ghost Value = { Parsing };
+
+    ghost view = { λ p. record { marks = p.marker; goals = reverse p.goals.items; trail = p.trail } };
+}
+
+impl<A: Allocator + Copy> Parser<A> {
+    /// Where no document has begun: whatever is fed is refused.
+    pub fn new(alloc: A) -> Parser<A>
+        ensures { result ≡ no_document }
+    {
+        Parser {
+            marker: Marker::new(alloc),
+            goals: Vec::new(alloc),
+            trail: Trail::new(alloc),
+            symbols: Vec::new(alloc),
+        }
+    }
+
+    /// A document begins: what was fed before is forgotten, and all room is kept. The only error is memory.
+    pub fn begin(&mut self, outlines: &mut Vec<Outline, A>) -> Result<(), AllocError>
+        ensures start { OnOk result (self.new ≡ at_start) }
+        ensures told { OnOk result (outlines.new.items ≡ outlines.old.items ++ begun) }
+    {
+        self.marker.clear();
+        self.trail.clear();
+        self.goals.clear();
+        self.goals.extend_from_slice(&[
+            Goal::Ending,
+            Goal::Formed(Where::InBlock(false), None),
+            Goal::Prefix,
+        ])?;
+        outlines.push(bare(Shape::DocumentStart, None))?;
+        Ok(())
+    }
+
+    /// How many lexemes of the document were fed.
+    pub fn count(&self) -> usize
+        ensures { result ≡ self.now.marks.count }
+    {
+        self.marker.count()
+    }
+
+    /// Takes the lexemes that begin in the document's next line, all of them, and tells their outlines behind those before; or answers
+    /// the document's fault, which it has however it goes on. The only error is memory, or more lexemes than a `usize` counts.
+    #[tactic(auto, using(crate::proofs::Lines::fed_by, crate::proofs::Counts::line_count))]
+    pub fn feed(
+        &mut self,
+        line: &[Token],
+        outlines: &mut Vec<Outline, A>,
+    ) -> Result<Option<Fault>, AllocError>
+        ensures { IfOk result (λ fault. Feeds self.old outlines.old.items line.now fault self.new outlines.new.items) }
+    {
+        self.symbols.clear();
+        self.marker.read(line, &mut self.symbols)?;
+        let first = self.marker.count() - line.len();
+        take_line(
+            first,
+            &self.symbols,
+            &mut self.goals,
+            &mut self.trail,
+            outlines,
+        )
+    }
+
+    /// The document ends: tells the last of its outlines, or answers its fault. The only error is memory.
+    #[tactic(auto, using(crate::proofs::Lines::end_fault))]
+    pub fn finish(&mut self, outlines: &mut Vec<Outline, A>) -> Result<Option<Fault>, AllocError>
+        ensures { IfOk result (λ fault. IsTold (told self.old outlines.old.items []) fault outlines.new.items) }
+    {
+        self.symbols.clear();
+        self.marker.close(&mut self.symbols)?;
+        if !take_end(&self.symbols, &mut self.goals, outlines)? {
+            return Ok(Some(Fault {
+                kind: self.trail.fault(&self.symbols),
+                place: self.marker.count(),
+            }));
+        }
+        outlines.push(bare(Shape::DocumentEnd, None))?;
+        Ok(None)
+    }
+}
+
+/// Takes a line's symbols, the first of whose lexemes has this index in the document; or answers the document's fault.
+#[tactic(auto, using(crate::proofs::Answered::taken_within))]
+fn take_line<A: Allocator>(
+    first: usize,
+    symbols: &[Symbol],
+    goals: &mut Vec<Goal, A>,
+    trail: &mut Trail<A>,
+    outlines: &mut Vec<Outline, A>,
+) -> Result<Option<Fault>, AllocError>
+    requires { first + lexeme_count symbols.now < 2 ^ 64 }
+    ensures { IfOk result (λ fault. Passes trail.old first (reverse goals.old.items) outlines.old.items symbols.now fault
+        trail.new (reverse goals.new.items) outlines.new.items) }
+{
+    match walk(symbols, goals, outlines)? {
+        None => {
+            trail.pass_all(symbols)?;
+            Ok(None)
+        }
+        Some(place) => {
+            let kind = trail.fault_from(place, symbols)?;
+            Ok(Some(Fault {
+                kind,
+                place: first + place,
+            }))
+        }
+    }
+}
+
+/// Takes a document's last symbols, and leaves what is still to be read, where it may be left.
+#[tactic(auto, using(crate::proofs::Lines::end_left, crate::proofs::Lines::end_refused))]
+fn take_end<A: Allocator>(
+    symbols: &[Symbol],
+    goals: &mut Vec<Goal, A>,
+    outlines: &mut Vec<Outline, A>,
+) -> Result<bool, AllocError>
+    ensures { IfOk result (λ whole. Finished (run symbols.now (reverse goals.old.items) outlines.old.items) whole outlines.new.items) }
+{
+    match walk(symbols, goals, outlines)? {
+        None => finish(goals, outlines),
+        Some(_) => Ok(false),
+    }
+}

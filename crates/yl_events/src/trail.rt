@@ -1,0 +1,257 @@
+//! What is kept of a document's symbols to say which fault comes behind them.
+
+ghost use Rattle.std.specs.Prelude.{◌≡◌, ◌≤◌, ℕ, length, take, reverse, OnOk, IfOk};
+ghost use Rattle.yl_events.specs.Faults.{with_indentless, blocks_behind, depth_behind, closed_by, fault_in_blocks, fault_in, left_behind, front_len};
+ghost use Rattle.yl_events.specs.Trail.{no_trail, trail_behind, trail_after, is_directive, anchor_behind, tag_behind, comes_twice, fault_behind, fault_from};
+
+use crate::fault::ParseFault;
+use crate::symbol::Block;
+use std::alloc::{AllocError, Allocator};
+use std::marker::Model;
+use yl_lexeme::Kind;
+use yl_marks::Symbol;
+
+/// What is kept of the symbols that were passed.
+#[derive(Drop)]
+pub struct Trail<A: Allocator> {
+    /// The latest is a directive.
+    at_directive: bool,
+    /// The properties that end with the latest have an anchor.
+    with_anchor: bool,
+    /// They have a tag.
+    with_tag: bool,
+    /// How many brackets are open.
+    depth: usize,
+    /// The open block collections, the innermost last.
+    blocks: Vec<Block, A>,
+}
+
+impl<A: Allocator> Model for Trail<A> {
+    ghost use Rattle.std.specs.Prelude.{reverse};
+    ghost use Rattle.yl_events.specs.Trail.{TrailValue};
+
+    ghost Value = { TrailValue };
+
+    ghost view = { λ t. record {
+      at_directive = t.at_directive;
+      with_anchor = t.with_anchor;
+      with_tag = t.with_tag;
+      open_ones = record { depth = t.depth; blocks = reverse t.blocks.items };
+    } };
+}
+
+impl<A: Allocator> Trail<A> {
+    /// Where nothing was passed.
+    pub fn new(alloc: A) -> Trail<A>
+        ensures { result ≡ no_trail }
+    {
+        Trail {
+            at_directive: false,
+            with_anchor: false,
+            with_tag: false,
+            depth: 0,
+            blocks: Vec::new(alloc),
+        }
+    }
+
+    /// Forgets what was passed, and keeps its room.
+    pub fn clear(&mut self)
+        ensures { self.new ≡ no_trail }
+    {
+        self.at_directive = false;
+        self.with_anchor = false;
+        self.with_tag = false;
+        self.depth = 0;
+        self.blocks.clear();
+    }
+
+    /// Passes a symbol. The only error is memory, or more open brackets than a `usize` counts.
+    pub fn pass(&mut self, symbol: Symbol) -> Result<(), AllocError>
+        ensures { OnOk result (self.new ≡ trail_behind self.old symbol) }
+    {
+        let depth = depth_behind(self.depth, symbol)?;
+        if matches!(symbol, Symbol::Close) || self.depth == 0 {
+            blocks_behind(symbol, &mut self.blocks)?;
+        }
+        self.depth = depth;
+        self.at_directive = matches!(symbol, Symbol::One(Kind::Directive, _));
+        self.with_anchor = anchor_behind(self.with_anchor, symbol);
+        self.with_tag = tag_behind(self.with_tag, symbol);
+        Ok(())
+    }
+
+    /// Passes all of these symbols.
+    pub fn pass_all(&mut self, symbols: &[Symbol]) -> Result<(), AllocError>
+        ensures { OnOk result (self.new ≡ trail_after self.old symbols.now) }
+    {
+        for symbol in symbols {
+            self.pass(*symbol)?;
+        }
+        Ok(())
+    }
+
+    /// The fault, where these symbols come next and the first lexeme among them, or the end, is refused.
+    pub fn fault(&self, behind: &[Symbol]) -> ParseFault
+        ensures { result ≡ fault_behind self.now behind.now }
+    {
+        if self.at_directive {
+            return ParseFault::DocumentStartExpected;
+        }
+        if self.comes_twice(behind) {
+            return ParseFault::PropertiesGivenTwice;
+        }
+        if self.depth > 0 {
+            return ParseFault::CommaOrBracketExpected;
+        }
+        let open = left_open(behind, &self.blocks);
+        fault_in_blocks(&self.blocks[..open])
+    }
+
+    /// Whether a second anchor or tag comes next, or an alias behind properties.
+    fn comes_twice(&self, behind: &[Symbol]) -> bool
+        ensures { result ≡ comes_twice self.now behind.now }
+    {
+        match behind {
+            [Symbol::One(Kind::Anchor, _), ..] => self.with_anchor,
+            [Symbol::One(Kind::Tag, _), ..] => self.with_tag,
+            [Symbol::One(Kind::Alias, _), ..] => self.with_anchor || self.with_tag,
+            _ => false,
+        }
+    }
+
+    /// The fault at the lexeme of this index among the symbols that come next. It passes those before.
+    pub fn fault_from(&mut self, place: usize, symbols: &[Symbol]) -> Result<ParseFault, AllocError>
+        ensures { IfOk result (λ f. f ≡ fault_from self.old place symbols.now) }
+    {
+        let n = front_len(place, symbols);
+        self.pass_all(&symbols[..n])?;
+        Ok(self.fault(&symbols[n..]))
+    }
+}
+
+/// Whether the properties that end with this symbol have an anchor, where those before it have one or not.
+fn anchor_behind(had: bool, symbol: Symbol) -> bool
+    ensures { result ≡ anchor_behind had symbol }
+{
+    match symbol {
+        Symbol::One(kind, _) => match kind {
+            Kind::Anchor => true,
+            Kind::Tag => had,
+            _ => false,
+        },
+        _ => false,
+    }
+}
+
+/// The same of a tag.
+fn tag_behind(had: bool, symbol: Symbol) -> bool
+    ensures { result ≡ tag_behind had symbol }
+{
+    match symbol {
+        Symbol::One(kind, _) => match kind {
+            Kind::Anchor => had,
+            Kind::Tag => true,
+            _ => false,
+        },
+        _ => false,
+    }
+}
+
+/// An indentless sequence is open in the innermost mapping, or no longer.
+fn set_indentless<A: Allocator>(is_open: bool, blocks: &mut Vec<Block, A>) -> Result<(), AllocError>
+    ensures { OnOk result (reverse blocks.new.items ≡ with_indentless is_open (reverse blocks.old.items)) }
+{
+    if let Some(block) = blocks.pop() {
+        let block = match block {
+            Block::InSequence => Block::InSequence,
+            Block::InMapping(_) => Block::InMapping(is_open),
+        };
+        blocks.push(block)?;
+    }
+    Ok(())
+}
+
+fn blocks_behind<A: Allocator>(symbol: Symbol, blocks: &mut Vec<Block, A>) -> Result<(), AllocError>
+    ensures { OnOk result (reverse blocks.new.items ≡ blocks_behind (reverse blocks.old.items) symbol) }
+{
+    match symbol {
+        Symbol::OpenSequence(_) => blocks.push(Block::InSequence)?,
+        Symbol::OpenMapping(_) => blocks.push(Block::InMapping(false))?,
+        Symbol::BeginKey(_) => set_indentless(false, blocks)?,
+        Symbol::Close => {
+            let _ = blocks.pop();
+        }
+        Symbol::One(kind, _) => match kind {
+            Kind::Entry => set_indentless(true, blocks)?,
+            Kind::Key | Kind::Value => set_indentless(false, blocks)?,
+            _ => {}
+        },
+    }
+    Ok(())
+}
+
+fn depth_behind(depth: usize, symbol: Symbol) -> Result<usize, AllocError>
+    ensures { IfOk result (λ d. d ≡ depth_behind depth symbol) }
+{
+    match symbol {
+        Symbol::One(kind, _) => match kind {
+            Kind::SeqOpen | Kind::MapOpen => match depth.checked_add(1) {
+                None => Err(AllocError),
+                Some(more) => Ok(more),
+            },
+            Kind::SeqClose | Kind::MapClose => Ok(depth.saturating_sub(1)),
+            _ => Ok(depth),
+        },
+        _ => Ok(depth),
+    }
+}
+
+/// How many of the blocks are open behind the closings that come next.
+fn left_open(behind: &[Symbol], blocks: &[Block]) -> usize
+    ensures left { reverse (take result blocks.now) ≡ closed_by behind.now (reverse blocks.now) }
+    ensures within { result ≤ length blocks.now }
+{
+    let mut open = blocks.len();
+    for symbol in behind {
+        match symbol {
+            Symbol::Close => open = open.saturating_sub(1),
+            _ => break,
+        }
+    }
+    open
+}
+
+fn fault_in_blocks(blocks: &[Block]) -> ParseFault
+    ensures { result ≡ fault_in_blocks (reverse blocks.now) }
+{
+    match blocks {
+        [] => ParseFault::SecondNode,
+        [.., Block::InMapping(false)] => ParseFault::KeyOrEndOfMappingExpected,
+        [.., _] => ParseFault::EntryOrEndOfSequenceExpected,
+    }
+}
+
+/// How many of so many lexemes are left behind a symbol.
+fn left_behind(symbol: Symbol, left: usize) -> usize
+    ensures { result ≡ left_behind symbol left }
+{
+    match symbol {
+        Symbol::One(_, _) => left.saturating_sub(1),
+        _ => left,
+    }
+}
+
+/// How many symbols there are up to and with the lexeme of this count.
+fn front_len(place: usize, symbols: &[Symbol]) -> usize
+    ensures len { result ≡ front_len place symbols.now }
+    ensures within { result ≤ length symbols.now }
+{
+    let mut left = place;
+    for (n, symbol) in symbols.iter().enumerate() {
+        if left == 0 {
+            return n;
+        }
+        left = left_behind(*symbol, left);
+    }
+    symbols.len()
+}

@@ -1,0 +1,5 @@
+pub mod InLine
+pub mod Within
+pub mod Runs
+pub mod ByLines
+pub mod Closed

@@ -1,0 +1,80 @@
+-- The marks of a document, line by line. A key and its Value begin in one line (YAML 1.2.2, 7.4.2 and 8.2.2), so whether a key
+-- begins at a lexeme shows in the lexeme's own line.
+use Rattle.std.specs.Prelude.{ℕ, suc, ◌≡◌, ◌≤◌, ◌+◌, ◌==◌, if◌then◌else◌, List, [], ◌∷◌, ◌++◌, length, Option, Some, None}
+use Rattle.yl_lexeme.specs.Keys.{Spot, key_start}
+use Rattle.yl_marks.specs.declared.token.Token.{Token}
+use Rattle.yl_marks.specs.declared.symbol.Symbol.{Symbol}
+use Rattle.yl_marks.specs.declared.symbol.Piece.{Piece}
+use Rattle.yl_marks.specs.declared.symbol.KeyStart.{KeyStart}
+use Rattle.yl_marks.specs.declared.symbol.Earlier.{Earlier}
+use Rattle.yl_marks.specs.declared.symbol.OpenBlock.{OpenBlock}
+use Rattle.yl_marks.specs.Keys.{depth_behind, place_of, piece_at}
+use Rattle.yl_marks.specs.Marks.{marks, open_behind_all, all_closed, marked_tokens}
+
+-- what counts of the lexemes of earlier lines
+pub record Before : Type 0 where
+  pub count : ℕ  -- how many there are
+  pub depth : ℕ  -- how many brackets are open behind them
+  pub latest : Option Piece  -- the latest of them
+  pub open_ones : List OpenBlock  -- the open block collections, the innermost first
+
+abbrev pub nothing_before : Before
+nothing_before = record { count = 0; depth = 0; latest = None; open_ones = [] }
+
+-- lexemes of a line behind so many lexemes, in so many brackets, behind the latest lexeme and behind these of the line, the latest first
+abbrev pub line_pieces : ℕ → ℕ → Option Piece → List (Spot KeyStart) → List Token → List Piece
+line_pieces count depth latest line [] = []
+line_pieces count depth latest line (x ∷ xs) =
+    let p = piece_at x depth latest (key_start line) in
+    p ∷ line_pieces (suc count) (depth_behind x.kind depth) (Some p) (record { kind = x.kind; start = place_of count p } ∷ line) xs
+
+abbrev pub depth_behind_all : ℕ → List Token → ℕ
+depth_behind_all depth [] = depth
+depth_behind_all depth (x ∷ xs) = depth_behind_all (depth_behind x.kind depth) xs
+
+abbrev pub latest_of : Option Piece → List Piece → Option Piece
+latest_of latest [] = latest
+latest_of latest (p ∷ ps) = latest_of (Some p) ps
+
+-- what counts of earlier lexemes and these behind them
+pub record IsBehind (earlier : Earlier) (xs : List Token) (ps : List Piece) (behind : Earlier) : Type 0 where
+  pub count : behind.count ≡ earlier.count + length xs
+  pub depth : behind.depth ≡ depth_behind_all earlier.depth xs
+  pub latest : behind.latest ≡ latest_of earlier.latest ps
+  pub most : behind.depth ≤ behind.count
+
+-- a line's lexemes behind those of earlier lines
+abbrev pub pieces_of_line : Before → List Token → List Piece
+pieces_of_line b xs = line_pieces b.count b.depth b.latest [] xs
+
+-- the lexemes of a line with their marks
+abbrev pub marks_of_line : Before → List Token → List Symbol
+marks_of_line b xs = let all = pieces_of_line b xs in marks all b.open_ones b.count all
+
+abbrev pub behind_line : Before → List Token → Before
+behind_line b xs = let all = pieces_of_line b xs in record {
+  count = b.count + length xs;
+  depth = depth_behind_all b.depth xs;
+  latest = latest_of b.latest all;
+  open_ones = open_behind_all all b.open_ones b.count all;
+}
+
+-- the lexemes of these lines with their marks, to the document's end
+abbrev pub marks_by_lines : Before → List (List Token) → List Symbol
+marks_by_lines b [] = all_closed b.open_ones
+marks_by_lines b (x ∷ xs) = marks_of_line b x ++ marks_by_lines (behind_line b x) xs
+
+-- one more lexeme before those of these lines
+abbrev pub before_lines : Token → List (List Token) → List (List Token)
+before_lines x [] = (x ∷ []) ∷ []
+before_lines x ([] ∷ ls) = (x ∷ []) ∷ ls
+before_lines x ((y ∷ ys) ∷ ls) = if x.start.line == y.start.line then (x ∷ y ∷ ys) ∷ ls else (x ∷ []) ∷ (y ∷ ys) ∷ ls
+
+-- the lexemes by the lines in which they begin
+abbrev pub by_line : List Token → List (List Token)
+by_line [] = []
+by_line (x ∷ xs) = before_lines x (by_line xs)
+
+-- a document may be marked line by line
+abbrev pub MarkedByLines : Type 0
+MarkedByLines = (xs : List Token) → marks_by_lines nothing_before (by_line xs) ≡ marked_tokens xs

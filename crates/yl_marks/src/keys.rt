@@ -1,0 +1,138 @@
+//! Keys, and where they may begin.
+
+ghost use Rattle.std.specs.Prelude.{◌≡◌, ◌<◌, ◌≤◌, ◌+◌, ◌-◌, ◌^◌, [], length, OnOk, IfOk, if◌then◌else◌};
+ghost use Rattle.yl_marks.specs.Keys.{depth_behind, is_first, is_behind_flow, is_behind_indicator, may_begin, place_of, key_at, piece_at};
+ghost use Rattle.yl_marks.specs.ByLine.{line_pieces, IsBehind};
+
+use crate::symbol::{Earlier, KeyStart, Piece};
+use crate::token::Token;
+use std::alloc::{AllocError, Allocator};
+use yl_lexeme::{KeyUnit, Kind, is_near};
+
+/// How many brackets are open behind one more lexeme.
+fn depth_behind(kind: Kind, depth: usize) -> usize
+    requires { depth < 2 ^ 64 - 1 }
+    ensures one { result ≡ depth_behind kind depth }
+    ensures most { result ≤ depth + 1 }
+{
+    if kind.is_document_marker() {
+        0
+    } else if kind.is_opening() {
+        depth + 1
+    } else if kind.is_closing() {
+        depth.saturating_sub(1)
+    } else {
+        depth
+    }
+}
+
+fn is_first(line: u32, latest: Option<Piece>) -> bool
+    ensures { result ≡ is_first line latest }
+{
+    match latest {
+        None => true,
+        Some(piece) => piece.end_line < u64::from(line),
+    }
+}
+
+fn is_behind_flow(latest: Option<Piece>) -> bool
+    ensures { result ≡ is_behind_flow latest }
+{
+    match latest {
+        None => false,
+        Some(piece) => piece.kind.opens_item(),
+    }
+}
+
+fn is_behind_indicator(line: u32, latest: Option<Piece>) -> bool
+    ensures { result ≡ is_behind_indicator line latest }
+{
+    match latest {
+        None => false,
+        Some(piece) => piece.start.line == line && piece.kind.asks(piece.key),
+    }
+}
+
+/// Whether a key may begin in a line, in so many brackets, behind the latest lexeme.
+fn may_begin(line: u32, depth: usize, latest: Option<Piece>) -> bool
+    ensures { result ≡ may_begin line depth latest }
+{
+    if depth > 0 {
+        is_behind_flow(latest)
+    } else {
+        is_first(line, latest) || is_behind_indicator(line, latest)
+    }
+}
+
+/// The place of a lexeme of this index, if a key may begin at it.
+fn place_of(index: usize, piece: Piece) -> Option<KeyStart>
+    ensures { result ≡ place_of index piece }
+{
+    piece.may_begin.then_some(KeyStart {
+        index,
+        column: piece.start.col,
+    })
+}
+
+/// How many lexemes stand before the key of a Value in this column.
+fn key_at(column: u32, key: Option<KeyStart>) -> Option<usize>
+    ensures { result ≡ key_at column key }
+{
+    match key {
+        Some(key) if is_near(column as usize, key.column as usize) => Some(key.index),
+        _ => None,
+    }
+}
+
+/// A lexeme behind the earlier ones, where the key would begin of a Value in its place.
+fn piece_at(token: Token, earlier: Earlier, key: Option<KeyStart>) -> Piece
+    ensures { result ≡ piece_at token earlier.depth earlier.latest key }
+{
+    let Token {
+        kind,
+        start,
+        end_line,
+    } = token;
+    let key = match kind {
+        Kind::Value => key_at(start.col, key),
+        _ => None,
+    };
+    Piece {
+        kind,
+        start,
+        end_line,
+        depth: earlier.depth,
+        is_first: is_first(start.line, earlier.latest),
+        may_begin: may_begin(start.line, earlier.depth, earlier.latest),
+        key,
+    }
+}
+
+/// Reads the lexemes of a line behind the earlier ones. Answers with what counts of all of them. What `unit` and `pieces` held is
+/// forgotten, and their room used again.
+pub fn line_pieces<A: Allocator + Copy>(
+    tokens: &[Token],
+    mut earlier: Earlier,
+    unit: &mut KeyUnit<KeyStart, A>,
+    pieces: &mut Vec<Piece, A>,
+) -> Result<Earlier, AllocError>
+    requires count { earlier.count + length tokens.now < 2 ^ 64 }
+    requires depth { earlier.depth ≤ earlier.count }
+    ensures pieces { OnOk result (pieces.new.items ≡ line_pieces earlier.count earlier.depth earlier.latest [] tokens.now) }
+    ensures len { OnOk result (length pieces.new.items ≡ length tokens.now) }
+    ensures behind { IfOk result (λ e. IsBehind earlier tokens.now pieces.new.items e) }
+{
+    unit.new_line();
+    pieces.clear();
+    for token in tokens {
+        let piece = piece_at(*token, earlier, unit.start());
+        unit.pass(piece.kind, place_of(earlier.count, piece))?;
+        pieces.push(piece)?;
+        earlier = Earlier {
+            count: earlier.count + 1,
+            depth: depth_behind(piece.kind, earlier.depth),
+            latest: Some(piece),
+        };
+    }
+    Ok(earlier)
+}

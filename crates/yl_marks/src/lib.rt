@@ -1,0 +1,18 @@
+//! The marks of a document: where its block collections open and close, and where its keys begin (YAML 1.2.2, 7.4.2 and 8.2).
+//!
+//! The definition, `specs/Marks.antt`, speaks of whole documents. The code reads one line of a document after another: `Marker`.
+#![tactic(auto)]
+
+mod document;
+mod keys;
+mod lines;
+mod marker;
+mod marks;
+mod symbol;
+mod token;
+
+pub use document::{mark, symbols, tokens};
+pub use lines::{line_len, marked_by_lines};
+pub use marker::Marker;
+pub use symbol::{Collection, Marked, Symbol};
+pub use token::{Token, token_of};

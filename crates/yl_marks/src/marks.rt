@@ -1,0 +1,172 @@
+//! The marks of a document.
+
+ghost use Rattle.std.specs.Prelude.{◌≡◌, ◌++◌, ◌<◌, ◌+◌, ◌^◌, ◌||◌, ℕ, length, reverse, false, OnOk, slice_index_or};
+ghost use Rattle.yl_marks.specs.Marks.{is_in_mapping, continues, closes, left_open, closings, opened, with_opened, opening, is_at, AreBegins, marks_at, open_behind, marks, open_behind_all, all_closed};
+
+use crate::symbol::{Marking, OpenBlock, Piece, Symbol};
+use std::alloc::{AllocError, Allocator};
+use yl_lexeme::Kind;
+
+fn is_in_mapping(m: Marking) -> bool
+    ensures { result ≡ is_in_mapping m }
+{
+    m.begins_key
+        || match m.piece.kind {
+            Kind::Key => true,
+            Kind::Value => m.piece.key.is_none(),
+            _ => false,
+        }
+}
+
+fn continues(m: Marking, c: OpenBlock) -> bool
+    ensures { result ≡ continues m c }
+{
+    matches!(m.piece.kind, Kind::Entry) || (c.is_mapping && is_in_mapping(m))
+}
+
+/// Whether the lexeme closes the collection.
+fn closes(m: Marking, c: OpenBlock) -> bool
+    ensures { result ≡ closes m c }
+{
+    let column = m.piece.start.col;
+    m.piece.kind.is_document_marker()
+        || (m.piece.depth == 0
+            && m.piece.is_first
+            && (column < c.column || (c.column == column && !continues(m, c))))
+}
+
+/// Closes what the lexeme closes.
+fn close<A: Allocator>(
+    m: Marking,
+    collections: &mut Vec<OpenBlock, A>,
+    symbols: &mut Vec<Symbol, A>,
+) -> Result<(), AllocError>
+    ensures left { OnOk result (reverse collections.new.items ≡ left_open m (reverse collections.old.items)) }
+    ensures closed { OnOk result (symbols.new.items ≡ symbols.old.items ++ closings m (reverse collections.old.items)) }
+{
+    while let Some(c) = collections.last().copied()
+        && closes(m, c)
+    {
+        let _ = collections.pop();
+        symbols.push(Symbol::Close)?;
+    }
+    Ok(())
+}
+
+/// Opens what the lexeme of this index opens.
+fn open<A: Allocator>(
+    m: Marking,
+    i: usize,
+    collections: &mut Vec<OpenBlock, A>,
+    symbols: &mut Vec<Symbol, A>,
+) -> Result<(), AllocError>
+    ensures left { OnOk result (let new = opened m (reverse collections.old.items) in
+        reverse collections.new.items ≡ with_opened new m.piece.start.col (reverse collections.old.items)) }
+    ensures opened { OnOk result (let new = opened m (reverse collections.old.items) in
+        symbols.new.items ≡ symbols.old.items ++ opening new i) }
+{
+    if m.piece.depth > 0 || m.piece.kind.is_document_marker() {
+        return Ok(());
+    }
+    let column = m.piece.start.col;
+    let innermost = collections.last().copied();
+    let here = innermost.is_some_and(|c| c.column == column);
+    let in_mapping = innermost.is_some_and(|c| c.column == column && c.is_mapping);
+    if is_in_mapping(m) && !in_mapping {
+        collections.push(OpenBlock {
+            is_mapping: true,
+            column,
+        })?;
+        symbols.push(Symbol::OpenMapping(i))?;
+    } else if matches!(m.piece.kind, Kind::Entry) && !here {
+        collections.push(OpenBlock {
+            is_mapping: false,
+            column,
+        })?;
+        symbols.push(Symbol::OpenSequence(i))?;
+    }
+    Ok(())
+}
+
+/// Notes that a key begins with the lexeme of this index, where the flags are of the lexemes from `first` on.
+fn note_key(begins: &mut [bool], first: usize, key: Option<usize>)
+    ensures { (i : ℕ) → i < length begins.old → slice_index_or begins.new i false ≡ (slice_index_or begins.old i false || is_at (first + i) key) }
+{
+    if let Some(key) = key
+        && first <= key
+        && key - first < begins.len()
+    {
+        begins[key - first] = true;
+    }
+}
+
+/// For each lexeme from `first` on, whether some Value's key begins with it.
+pub fn note_keys<A: Allocator>(
+    begins: &mut Vec<bool, A>,
+    first: usize,
+    pieces: &[Piece],
+) -> Result<(), AllocError>
+    ensures { OnOk result (AreBegins begins.new.items first pieces.now) }
+{
+    begins.clear();
+    begins.resize(pieces.len(), false)?;
+    for piece in pieces {
+        note_key(begins, first, piece.key);
+    }
+    Ok(())
+}
+
+/// A lexeme with its marks.
+fn mark_one<A: Allocator>(
+    m: Marking,
+    i: usize,
+    collections: &mut Vec<OpenBlock, A>,
+    symbols: &mut Vec<Symbol, A>,
+) -> Result<(), AllocError>
+    ensures left { OnOk result (reverse collections.new.items ≡ open_behind m (reverse collections.old.items)) }
+    ensures marks { OnOk result (symbols.new.items ≡ symbols.old.items ++ marks_at m i (reverse collections.old.items)) }
+{
+    close(m, collections, symbols)?;
+    open(m, i, collections, symbols)?;
+    if m.begins_key {
+        symbols.push(Symbol::BeginKey(i))?;
+    }
+    symbols.push(Symbol::One(m.piece.kind, i))?;
+    Ok(())
+}
+
+/// The lexemes of a line, from the index `first` on, with their marks. `begins` says of each whether a key begins with it.
+pub fn marks<A: Allocator>(
+    pieces: &[Piece],
+    begins: &[bool],
+    first: usize,
+    collections: &mut Vec<OpenBlock, A>,
+    symbols: &mut Vec<Symbol, A>,
+) -> Result<(), AllocError>
+    requires count { first + length pieces.now < 2 ^ 64 }
+    requires begins { AreBegins begins.now first pieces.now }
+    ensures left { OnOk result (reverse collections.new.items ≡ open_behind_all pieces.now (reverse collections.old.items) first pieces.now) }
+    ensures marks { OnOk result (symbols.new.items ≡ symbols.old.items ++ marks pieces.now (reverse collections.old.items) first pieces.now) }
+{
+    for (i, piece) in pieces.iter().enumerate() {
+        let m = Marking {
+            piece: *piece,
+            begins_key: begins[i],
+        };
+        mark_one(m, first + i, collections, symbols)?;
+    }
+    Ok(())
+}
+
+/// Closes all collections.
+pub fn close_all<A: Allocator>(
+    collections: &[OpenBlock],
+    symbols: &mut Vec<Symbol, A>,
+) -> Result<(), AllocError>
+    ensures { OnOk result (symbols.new.items ≡ symbols.old.items ++ all_closed (reverse collections.now)) }
+{
+    for _collection in collections {
+        symbols.push(Symbol::Close)?;
+    }
+    Ok(())
+}

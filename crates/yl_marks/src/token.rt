@@ -1,0 +1,29 @@
+//! Lexemes without their values.
+
+ghost use Rattle.std.specs.Prelude.{◌≡◌};
+ghost use Rattle.yl_marks.specs.Keys.{placed, token_of};
+
+use std::alloc::Allocator;
+use yl_lexeme::{At, Kind};
+use yl_text::Pos;
+
+/// A lexeme of a document without its value.
+#[derive(Clone, Copy, Debug, PartialEq, Eq)]
+pub struct Token {
+    pub kind: Kind,
+    /// Where it begins, in the text.
+    pub start: Pos,
+    /// The line of the text in which it ends.
+    pub end_line: u64,
+}
+
+/// The token of a lexeme at a line of the text.
+pub fn token_of<A: Allocator>(at: &At<'_, A>) -> Token
+    ensures { result ≡ token_of (placed at.now.line at.now.lexeme.now) }
+{
+    Token {
+        kind: at.lexeme.kind(),
+        start: at.start(),
+        end_line: u64::from(at.line) + u64::from(at.lexeme.end().line),
+    }
+}
