@@ -41,20 +41,21 @@ fn decorated(properties: Option<Properties>, kind: Shape, place: Option<usize>) 
     }
 }
 
-/// Puts goals in a goal's place, the last of them on top, and events behind those before.
-#[tactic(auto, using(crate::proofs::Pushes::then_append, crate::proofs::Pushes::on_top))]
-fn turn<A: Allocator>(
-    goals: &mut Vec<Goal, A>,
-    events: &mut Vec<Outline, A>,
-    new_goals: &[Goal],
-    new_events: &[Outline],
-) -> Result<bool, AllocError>
-    ensures goals { OnOk result (reverse goals.new.items ≡ reverse new_goals.now ++ reverse goals.old.items) }
-    ensures events { OnOk result (events.new.items ≡ events.old.items then new_events.now) }
+/// Tells an event: the goal is reached, and the goals below it are next.
+fn tell<A: Allocator>(event: Outline, events: &mut Vec<Outline, A>) -> Result<bool, AllocError>
+    ensures told { OnOk result (events.new.items ≡ events.old.items then event ∷ []) }
     ensures taken { IfOk result (λ taken. taken ≡ true) }
 {
-    goals.extend_from_slice(new_goals)?;
-    events.extend_from_slice(new_events)?;
+    events.push(event)?;
+    Ok(true)
+}
+
+/// Puts a goal on top.
+fn put<A: Allocator>(goal: Goal, goals: &mut Vec<Goal, A>) -> Result<bool, AllocError>
+    ensures goals { OnOk result (reverse goals.new.items ≡ goal ∷ reverse goals.old.items) }
+    ensures taken { IfOk result (λ taken. taken ≡ true) }
+{
+    goals.push(goal)?;
     Ok(true)
 }
 
@@ -97,21 +98,17 @@ fn forms<A: Allocator>(
     match symbol {
         Symbol::OpenSequence(i) => match place {
             Where::InInline => Ok(false),
-            Where::InBlock(_) => turn(
-                goals,
-                events,
-                &[Goal::Entries],
-                &[decorated(properties, Shape::SequenceStart, Some(i))],
-            ),
+            Where::InBlock(_) => {
+                events.push(decorated(properties, Shape::SequenceStart, Some(i)))?;
+                put(Goal::Entries, goals)
+            }
         },
         Symbol::OpenMapping(i) => match place {
             Where::InInline => Ok(false),
-            Where::InBlock(_) => turn(
-                goals,
-                events,
-                &[Goal::Pairs],
-                &[decorated(properties, Shape::MappingStart, Some(i))],
-            ),
+            Where::InBlock(_) => {
+                events.push(decorated(properties, Shape::MappingStart, Some(i)))?;
+                put(Goal::Pairs, goals)
+            }
         },
         Symbol::BeginKey(_) => Ok(false),
         Symbol::Close => Ok(false),
@@ -132,44 +129,34 @@ fn form_begins<A: Allocator>(
 {
     match kind {
         Kind::Alias => match properties {
-            None => turn(goals, events, &[], &[bare(Shape::Alias, Some(i))]),
+            None => tell(bare(Shape::Alias, Some(i)), events),
             Some(_) => Ok(false),
         },
         Kind::Anchor => match with_anchor(properties, i) {
             None => Ok(false),
-            more => turn(goals, events, &[Goal::Formed(place, more)], &[]),
+            more => put(Goal::Formed(place, more), goals),
         },
         Kind::Tag => match with_tag(properties, i) {
             None => Ok(false),
-            more => turn(goals, events, &[Goal::Formed(place, more)], &[]),
+            more => put(Goal::Formed(place, more), goals),
         },
         Kind::Scalar(style) => {
-            turn(
-                goals,
-                events,
-                &[],
-                &[decorated(properties, Shape::Scalar(style), Some(i))],
-            )
+            tell(decorated(properties, Shape::Scalar(style), Some(i)), events)
         }
-        Kind::SeqOpen => turn(
-            goals,
-            events,
-            &[Goal::Items(Bracket::Square)],
-            &[decorated(properties, Shape::SequenceStart, Some(i))],
-        ),
-        Kind::MapOpen => turn(
-            goals,
-            events,
-            &[Goal::Items(Bracket::Curly)],
-            &[decorated(properties, Shape::MappingStart, Some(i))],
-        ),
+        Kind::SeqOpen => {
+            events.push(decorated(properties, Shape::SequenceStart, Some(i)))?;
+            put(Goal::Items(Bracket::Square), goals)
+        }
+        Kind::MapOpen => {
+            events.push(decorated(properties, Shape::MappingStart, Some(i)))?;
+            put(Goal::Items(Bracket::Curly), goals)
+        }
         Kind::Entry => match place {
-            Where::InBlock(true) => turn(
-                goals,
-                events,
-                &[Goal::Indentless, Goal::Formed(Where::InBlock(false), None)],
-                &[decorated(properties, Shape::SequenceStart, Some(i))],
-            ),
+            Where::InBlock(true) => {
+                events.push(decorated(properties, Shape::SequenceStart, Some(i)))?;
+                goals.push(Goal::Indentless)?;
+                put(Goal::Formed(Where::InBlock(false), None), goals)
+            }
             Where::InBlock(false) => Ok(false),
             Where::InInline => Ok(false),
         },
@@ -195,11 +182,11 @@ fn closes<A: Allocator>(
 {
     match bracket {
         Bracket::Square => match kind {
-            Kind::SeqClose => turn(goals, events, &[], &[bare(Shape::SequenceEnd, None)]),
+            Kind::SeqClose => tell(bare(Shape::SequenceEnd, None), events),
             _ => Ok(false),
         },
         Bracket::Curly => match kind {
-            Kind::MapClose => turn(goals, events, &[], &[bare(Shape::MappingEnd, None)]),
+            Kind::MapClose => tell(bare(Shape::MappingEnd, None), events),
             _ => Ok(false),
         },
     }
@@ -249,30 +236,17 @@ fn item_begins<A: Allocator>(
     match kind {
         Kind::Key => {
             start_pair(bracket, i, events)?;
-            turn(
-                goals,
-                events,
-                &[
-                    Goal::ItemEnd(bracket),
-                    Goal::PairEnd(bracket),
-                    Goal::ValueOf(Where::InBlock(false)),
-                    Goal::Formed(Where::InBlock(false), None),
-                ],
-                &[],
-            )
+            goals.push(Goal::ItemEnd(bracket))?;
+            goals.push(Goal::PairEnd(bracket))?;
+            goals.push(Goal::ValueOf(Where::InBlock(false)))?;
+            put(Goal::Formed(Where::InBlock(false), None), goals)
         }
         Kind::Value => {
             start_pair(bracket, i, events)?;
-            turn(
-                goals,
-                events,
-                &[
-                    Goal::ItemEnd(bracket),
-                    Goal::PairEnd(bracket),
-                    Goal::Formed(Where::InBlock(false), None),
-                ],
-                &[bare(Shape::Empty, None)],
-            )
+            events.push(bare(Shape::Empty, None))?;
+            goals.push(Goal::ItemEnd(bracket))?;
+            goals.push(Goal::PairEnd(bracket))?;
+            put(Goal::Formed(Where::InBlock(false), None), goals)
         }
         Kind::SeqClose | Kind::MapClose => closes(bracket, kind, goals, events),
         Kind::Alias | Kind::Anchor | Kind::Tag | Kind::Scalar(_) | Kind::SeqOpen | Kind::MapOpen =>
@@ -292,18 +266,11 @@ fn items_take<A: Allocator>(
     match symbol {
         Symbol::BeginKey(i) => {
             start_pair(bracket, i, events)?;
-            turn(
-                goals,
-                events,
-                &[
-                    Goal::ItemEnd(bracket),
-                    Goal::PairEnd(bracket),
-                    Goal::Formed(Where::InBlock(false), None),
-                    Goal::Colon,
-                    Goal::Formed(Where::InInline, None),
-                ],
-                &[],
-            )
+            goals.push(Goal::ItemEnd(bracket))?;
+            goals.push(Goal::PairEnd(bracket))?;
+            goals.push(Goal::Formed(Where::InBlock(false), None))?;
+            goals.push(Goal::Colon)?;
+            put(Goal::Formed(Where::InInline, None), goals)
         }
         Symbol::OpenSequence(_) | Symbol::OpenMapping(_) | Symbol::Close => Ok(false),
         Symbol::One(kind, i) => item_begins(bracket, kind, i, goals, events),
@@ -320,15 +287,13 @@ fn take_entries<A: Allocator>(
 {
     match symbol {
         Symbol::One(kind, _) => match kind {
-            Kind::Entry => turn(
-                goals,
-                events,
-                &[Goal::Entries, Goal::Formed(Where::InBlock(false), None)],
-                &[],
-            ),
+            Kind::Entry => {
+                goals.push(Goal::Entries)?;
+                put(Goal::Formed(Where::InBlock(false), None), goals)
+            }
             _ => Ok(false),
         },
-        Symbol::Close => turn(goals, events, &[], &[bare(Shape::SequenceEnd, None)]),
+        Symbol::Close => tell(bare(Shape::SequenceEnd, None), events),
         _ => Ok(false),
     }
 }
@@ -342,37 +307,26 @@ fn take_pairs<A: Allocator>(
     ensures { IfOk result (λ taken. Taken (takes Goal.Pairs symbol) taken goals.old.items goals.new.items events.old.items events.new.items) }
 {
     match symbol {
-        Symbol::BeginKey(_) => turn(
-            goals,
-            events,
-            &[
-                Goal::Pairs,
-                Goal::Formed(Where::InBlock(true), None),
-                Goal::Colon,
-                Goal::Formed(Where::InInline, None),
-            ],
-            &[],
-        ),
+        Symbol::BeginKey(_) => {
+            goals.push(Goal::Pairs)?;
+            goals.push(Goal::Formed(Where::InBlock(true), None))?;
+            goals.push(Goal::Colon)?;
+            put(Goal::Formed(Where::InInline, None), goals)
+        }
         Symbol::One(kind, _) => match kind {
-            Kind::Key => turn(
-                goals,
-                events,
-                &[
-                    Goal::Pairs,
-                    Goal::ValueOf(Where::InBlock(true)),
-                    Goal::Formed(Where::InBlock(true), None),
-                ],
-                &[],
-            ),
-            Kind::Value => turn(
-                goals,
-                events,
-                &[Goal::Pairs, Goal::Formed(Where::InBlock(true), None)],
-                &[bare(Shape::Empty, None)],
-            ),
+            Kind::Key => {
+                goals.push(Goal::Pairs)?;
+                goals.push(Goal::ValueOf(Where::InBlock(true)))?;
+                put(Goal::Formed(Where::InBlock(true), None), goals)
+            }
+            Kind::Value => {
+                events.push(bare(Shape::Empty, None))?;
+                goals.push(Goal::Pairs)?;
+                put(Goal::Formed(Where::InBlock(true), None), goals)
+            }
             _ => Ok(false),
         },
-        Symbol::Close => turn(goals, events, &[], &[bare(Shape::MappingEnd, None)]),
+        Symbol::Close => tell(bare(Shape::MappingEnd, None), events),
         _ => Ok(false),
     }
 }
@@ -389,33 +343,31 @@ fn take_lexeme<A: Allocator>(
 {
     match goal {
         Goal::Prefix | Goal::Directives => match kind {
-            Kind::Directive => turn(goals, events, &[Goal::Directives], &[]),
-            Kind::DocStart => turn(goals, events, &[], &[]),
+            Kind::Directive => put(Goal::Directives, goals),
+            Kind::DocStart => Ok(true),
             _ => Ok(false),
         },
         Goal::Ending => match kind {
-            Kind::DocEnd => turn(goals, events, &[], &[]),
+            Kind::DocEnd => Ok(true),
             _ => Ok(false),
         },
         Goal::Indentless => match kind {
-            Kind::Entry => turn(
-                goals,
-                events,
-                &[Goal::Indentless, Goal::Formed(Where::InBlock(false), None)],
-                &[],
-            ),
+            Kind::Entry => {
+                goals.push(Goal::Indentless)?;
+                put(Goal::Formed(Where::InBlock(false), None), goals)
+            }
             _ => Ok(false),
         },
         Goal::ValueOf(place) => match kind {
-            Kind::Value => turn(goals, events, &[Goal::Formed(place, None)], &[]),
+            Kind::Value => put(Goal::Formed(place, None), goals),
             _ => Ok(false),
         },
         Goal::Colon => match kind {
-            Kind::Value => turn(goals, events, &[], &[]),
+            Kind::Value => Ok(true),
             _ => Ok(false),
         },
         Goal::ItemEnd(bracket) => match kind {
-            Kind::Comma => turn(goals, events, &[Goal::Items(bracket)], &[]),
+            Kind::Comma => put(Goal::Items(bracket), goals),
             _ => closes(bracket, kind, goals, events),
         },
         _ => Ok(false),
