@@ -41,12 +41,21 @@ fn decorated(properties: Option<Properties>, kind: Shape, place: Option<usize>) 
     }
 }
 
+/// Adds an event. Room is made first, so that no event is handed back.
+fn add<A: Allocator>(event: Outline, events: &mut Vec<Outline, A>) -> Result<(), AllocError>
+    ensures { OnOk result (events.new.items ≡ events.old.items then event ∷ []) }
+{
+    events.reserve(1)?;
+    events.push_reserved(event);
+    Ok(())
+}
+
 /// Tells an event: the goal is reached, and the goals below it are next.
 fn tell<A: Allocator>(event: Outline, events: &mut Vec<Outline, A>) -> Result<bool, AllocError>
     ensures told { OnOk result (events.new.items ≡ events.old.items then event ∷ []) }
     ensures taken { IfOk result (λ taken. taken ≡ true) }
 {
-    events.push(event)?;
+    add(event, events)?;
     Ok(true)
 }
 
@@ -55,7 +64,8 @@ fn put<A: Allocator>(goal: Goal, goals: &mut Vec<Goal, A>) -> Result<bool, Alloc
     ensures goals { OnOk result (reverse goals.new.items ≡ goal ∷ reverse goals.old.items) }
     ensures taken { IfOk result (λ taken. taken ≡ true) }
 {
-    goals.push(goal)?;
+    goals.reserve(1)?;
+    goals.push_reserved(goal);
     Ok(true)
 }
 
@@ -99,14 +109,14 @@ fn forms<A: Allocator>(
         Symbol::OpenSequence(i) => match place {
             Where::InInline => Ok(false),
             Where::InBlock(_) => {
-                events.push(decorated(properties, Shape::SequenceStart, Some(i)))?;
+                add(decorated(properties, Shape::SequenceStart, Some(i)), events)?;
                 put(Goal::Entries, goals)
             }
         },
         Symbol::OpenMapping(i) => match place {
             Where::InInline => Ok(false),
             Where::InBlock(_) => {
-                events.push(decorated(properties, Shape::MappingStart, Some(i)))?;
+                add(decorated(properties, Shape::MappingStart, Some(i)), events)?;
                 put(Goal::Pairs, goals)
             }
         },
@@ -144,18 +154,20 @@ fn form_begins<A: Allocator>(
             tell(decorated(properties, Shape::Scalar(style), Some(i)), events)
         }
         Kind::SeqOpen => {
-            events.push(decorated(properties, Shape::SequenceStart, Some(i)))?;
+            add(decorated(properties, Shape::SequenceStart, Some(i)), events)?;
             put(Goal::Items(Bracket::Square), goals)
         }
         Kind::MapOpen => {
-            events.push(decorated(properties, Shape::MappingStart, Some(i)))?;
+            add(decorated(properties, Shape::MappingStart, Some(i)), events)?;
             put(Goal::Items(Bracket::Curly), goals)
         }
         Kind::Entry => match place {
             Where::InBlock(true) => {
-                events.push(decorated(properties, Shape::SequenceStart, Some(i)))?;
-                goals.push(Goal::Indentless)?;
-                put(Goal::Formed(Where::InBlock(false), None), goals)
+                add(decorated(properties, Shape::SequenceStart, Some(i)), events)?;
+                goals.reserve(2)?;
+                goals.push_reserved(Goal::Indentless);
+                goals.push_reserved(Goal::Formed(Where::InBlock(false), None));
+                Ok(true)
             }
             Where::InBlock(false) => Ok(false),
             Where::InInline => Ok(false),
@@ -201,7 +213,7 @@ fn start_pair<A: Allocator>(
     ensures { OnOk result (events.new.items ≡ events.old.items then pair_start bracket i) }
 {
     match bracket {
-        Bracket::Square => events.push(bare(Shape::MappingStart, Some(i)))?,
+        Bracket::Square => add(bare(Shape::MappingStart, Some(i)), events)?,
         Bracket::Curly => {}
     }
     Ok(())
@@ -219,7 +231,9 @@ fn bare_item<A: Allocator>(
     requires { IsSome (forms InInline None (Symbol.One kind i)) }
     ensures { IfOk result (λ taken. Taken (followed (NodeEnd bracket ∷ ItemEnd bracket ∷ []) (forms InInline None (Symbol.One kind i))) taken goals.old.items goals.new.items events.old.items events.new.items) }
 {
-    goals.extend_from_slice(&[Goal::ItemEnd(bracket), Goal::NodeEnd(bracket)])?;
+    goals.reserve(2)?;
+    goals.push_reserved(Goal::ItemEnd(bracket));
+    goals.push_reserved(Goal::NodeEnd(bracket));
     form_begins(Where::InInline, None, kind, i, goals, events)
 }
 
@@ -236,17 +250,21 @@ fn item_begins<A: Allocator>(
     match kind {
         Kind::Key => {
             start_pair(bracket, i, events)?;
-            goals.push(Goal::ItemEnd(bracket))?;
-            goals.push(Goal::PairEnd(bracket))?;
-            goals.push(Goal::ValueOf(Where::InBlock(false)))?;
-            put(Goal::Formed(Where::InBlock(false), None), goals)
+            goals.reserve(4)?;
+            goals.push_reserved(Goal::ItemEnd(bracket));
+            goals.push_reserved(Goal::PairEnd(bracket));
+            goals.push_reserved(Goal::ValueOf(Where::InBlock(false)));
+            goals.push_reserved(Goal::Formed(Where::InBlock(false), None));
+            Ok(true)
         }
         Kind::Value => {
             start_pair(bracket, i, events)?;
-            events.push(bare(Shape::Empty, None))?;
-            goals.push(Goal::ItemEnd(bracket))?;
-            goals.push(Goal::PairEnd(bracket))?;
-            put(Goal::Formed(Where::InBlock(false), None), goals)
+            add(bare(Shape::Empty, None), events)?;
+            goals.reserve(3)?;
+            goals.push_reserved(Goal::ItemEnd(bracket));
+            goals.push_reserved(Goal::PairEnd(bracket));
+            goals.push_reserved(Goal::Formed(Where::InBlock(false), None));
+            Ok(true)
         }
         Kind::SeqClose | Kind::MapClose => closes(bracket, kind, goals, events),
         Kind::Alias | Kind::Anchor | Kind::Tag | Kind::Scalar(_) | Kind::SeqOpen | Kind::MapOpen =>
@@ -266,11 +284,13 @@ fn items_take<A: Allocator>(
     match symbol {
         Symbol::BeginKey(i) => {
             start_pair(bracket, i, events)?;
-            goals.push(Goal::ItemEnd(bracket))?;
-            goals.push(Goal::PairEnd(bracket))?;
-            goals.push(Goal::Formed(Where::InBlock(false), None))?;
-            goals.push(Goal::Colon)?;
-            put(Goal::Formed(Where::InInline, None), goals)
+            goals.reserve(5)?;
+            goals.push_reserved(Goal::ItemEnd(bracket));
+            goals.push_reserved(Goal::PairEnd(bracket));
+            goals.push_reserved(Goal::Formed(Where::InBlock(false), None));
+            goals.push_reserved(Goal::Colon);
+            goals.push_reserved(Goal::Formed(Where::InInline, None));
+            Ok(true)
         }
         Symbol::OpenSequence(_) | Symbol::OpenMapping(_) | Symbol::Close => Ok(false),
         Symbol::One(kind, i) => item_begins(bracket, kind, i, goals, events),
@@ -288,8 +308,10 @@ fn take_entries<A: Allocator>(
     match symbol {
         Symbol::One(kind, _) => match kind {
             Kind::Entry => {
-                goals.push(Goal::Entries)?;
-                put(Goal::Formed(Where::InBlock(false), None), goals)
+                goals.reserve(2)?;
+                goals.push_reserved(Goal::Entries);
+                goals.push_reserved(Goal::Formed(Where::InBlock(false), None));
+                Ok(true)
             }
             _ => Ok(false),
         },
@@ -308,21 +330,27 @@ fn take_pairs<A: Allocator>(
 {
     match symbol {
         Symbol::BeginKey(_) => {
-            goals.push(Goal::Pairs)?;
-            goals.push(Goal::Formed(Where::InBlock(true), None))?;
-            goals.push(Goal::Colon)?;
-            put(Goal::Formed(Where::InInline, None), goals)
+            goals.reserve(4)?;
+            goals.push_reserved(Goal::Pairs);
+            goals.push_reserved(Goal::Formed(Where::InBlock(true), None));
+            goals.push_reserved(Goal::Colon);
+            goals.push_reserved(Goal::Formed(Where::InInline, None));
+            Ok(true)
         }
         Symbol::One(kind, _) => match kind {
             Kind::Key => {
-                goals.push(Goal::Pairs)?;
-                goals.push(Goal::ValueOf(Where::InBlock(true)))?;
-                put(Goal::Formed(Where::InBlock(true), None), goals)
+                goals.reserve(3)?;
+                goals.push_reserved(Goal::Pairs);
+                goals.push_reserved(Goal::ValueOf(Where::InBlock(true)));
+                goals.push_reserved(Goal::Formed(Where::InBlock(true), None));
+                Ok(true)
             }
             Kind::Value => {
-                events.push(bare(Shape::Empty, None))?;
-                goals.push(Goal::Pairs)?;
-                put(Goal::Formed(Where::InBlock(true), None), goals)
+                add(bare(Shape::Empty, None), events)?;
+                goals.reserve(2)?;
+                goals.push_reserved(Goal::Pairs);
+                goals.push_reserved(Goal::Formed(Where::InBlock(true), None));
+                Ok(true)
             }
             _ => Ok(false),
         },
@@ -353,8 +381,10 @@ fn take_lexeme<A: Allocator>(
         },
         Goal::Indentless => match kind {
             Kind::Entry => {
-                goals.push(Goal::Indentless)?;
-                put(Goal::Formed(Where::InBlock(false), None), goals)
+                goals.reserve(2)?;
+                goals.push_reserved(Goal::Indentless);
+                goals.push_reserved(Goal::Formed(Where::InBlock(false), None));
+                Ok(true)
             }
             _ => Ok(false),
         },
@@ -402,13 +432,13 @@ fn leave<A: Allocator>(goal: Goal, events: &mut Vec<Outline, A>) -> Result<bool,
     match goal {
         Goal::Prefix | Goal::Ending => {}
         Goal::Formed(Where::InInline, None) => return Ok(false),
-        Goal::Formed(_, properties) => events.push(decorated(properties, Shape::Empty, None))?,
-        Goal::Indentless => events.push(bare(Shape::SequenceEnd, None))?,
-        Goal::ValueOf(_) => events.push(bare(Shape::Empty, None))?,
-        Goal::PairEnd(Bracket::Square) => events.push(bare(Shape::MappingEnd, None))?,
+        Goal::Formed(_, properties) => add(decorated(properties, Shape::Empty, None), events)?,
+        Goal::Indentless => add(bare(Shape::SequenceEnd, None), events)?,
+        Goal::ValueOf(_) => add(bare(Shape::Empty, None), events)?,
+        Goal::PairEnd(Bracket::Square) => add(bare(Shape::MappingEnd, None), events)?,
         Goal::PairEnd(Bracket::Curly) => {}
         Goal::NodeEnd(Bracket::Square) => {}
-        Goal::NodeEnd(Bracket::Curly) => events.push(bare(Shape::Empty, None))?,
+        Goal::NodeEnd(Bracket::Curly) => add(bare(Shape::Empty, None), events)?,
         Goal::Directives
         | Goal::Entries
         | Goal::Pairs
