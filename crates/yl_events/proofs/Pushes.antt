@@ -1,18 +1,9 @@
 -- Goals and events behind those before.
-use Rattle.std.specs.Prelude.{◌≡◌, Bool, Option, Some, None, IsSome, List, [], ◌∷◌, ◌++◌, reverse}
-use Rattle.std.proofs.Common.{sym, ◌∙◌, ap, append_assoc, append-nil}
-use Rattle.std.proofs.lemmas.List.{reverse-append}
+use Rattle.std.specs.Prelude.{◌≡◌, Bool, Option, Some, None, IsSome, List, ◌++◌, reverse}
+use Rattle.std.proofs.Common.{sym, ◌∙◌, ap, append_assoc}
 use Rattle.yl_events.specs.declared.symbol.Outline.{Outline}
 use Rattle.yl_events.specs.declared.symbol.Goal.{Goal}
-use Rattle.yl_events.specs.Outlines.{◌then◌}
 use Rattle.yl_events.specs.Machine.{Turn, Taken, followed}
-
-pub then_append : (out es : List Outline) → out then es ≡ out ++ es
-then_append out [] = sym (append-nil out)
-then_append out (e ∷ es) = then_append (out ++ e ∷ []) es ∙ append_assoc out (e ∷ []) es
-
-pub on_top : (gs new : List Goal) → reverse (gs ++ new) ≡ reverse new ++ reverse gs
-on_top gs new = reverse-append gs new
 
 -- goals that are put on top of others before a turn are as good as put there with it
 pub followed_taken : (t : Option Turn) (under old mid new : List Goal) (taken : Bool) (es fs : List Outline) →

@@ -1,5 +1,5 @@
 -- Worked rows. Lexemes go by their index.
-use Rattle.std.specs.Prelude.{ℕ, ◌≡◌, refl, List, [], ◌∷◌, ◌++◌, Some, None}
+use Rattle.std.specs.Prelude.{ℕ, ◌≡◌, refl, List, [], ◌∷◌, ◌++◌, map, Some, None}
 use Rattle.yl_lexeme.specs.declared.lexeme.Kind.{Kind}
 use Rattle.yl_lexeme.specs.declared.lexeme.Kind.TheVariants.{DocStart, DocEnd, Directive, Entry, Value, Anchor, Scalar}
 use Rattle.yl_lexeme.specs.declared.lexeme.Style.TheVariants.{Plain, Double}
@@ -14,6 +14,10 @@ use Rattle.yl_events.specs.Grammar.{Bare, ScalarNode, Missing, InlineNode, Block
 use Rattle.yl_events.specs.Outlines.{bare, missing, ended}
 use Rattle.yl_events.specs.Derives.{Derives}
 use Rattle.yl_events.specs.Faults.{fault_of}
+use Rattle.yl_events.specs.Told.{Events, Fails}
+use Rattle.yl_events.specs.Parsing.{at_start, begun, told}
+use Rattle.yl_marks.specs.Keys.{token_of}
+use Rattle.yl_marks.specs.ByLine.{by_line}
 
 -- a lexeme in a line, from a column to another
 abbrev lexeme : ℕ → Kind → ℕ → ℕ → LexemeValue
@@ -73,6 +77,16 @@ mixed_row = refl
 -- `a:`, `- "1"`, ` "b"`
 pub behind_entry_row : fault_of (marked (lexeme 0 (Scalar Plain) 0 1 ∷ lexeme 0 Value 1 2 ∷ lexeme 1 Entry 0 1 ∷ lexeme 1 (Scalar Double) 2 5 ∷ lexeme 2 (Scalar Double) 1 4 ∷ [])) 4 ≡ EntryOrEndOfSequenceExpected
 behind_entry_row = refl
+
+-- the first of these documents and the latest, line by line
+pub told_row : told at_start begun (by_line (map token_of entries)) ≡
+    Events (within (at shape.SequenceStart 0 ∷ plain 1 ∷ missing ∷ ended shape.SequenceEnd ∷ []))
+told_row = refl
+
+pub refused_row : told at_start begun
+    (by_line (map token_of (lexeme 0 (Scalar Plain) 0 1 ∷ lexeme 0 Value 1 2 ∷ lexeme 1 Entry 0 1 ∷ lexeme 1 (Scalar Double) 2 5 ∷ lexeme 2 (Scalar Double) 1 4 ∷ []))) ≡
+    Fails (record { kind = EntryOrEndOfSequenceExpected; place = 4 })
+refused_row = refl
 
 -- `a`, `---`, `b`, `...`, a directive, `---`, `...`, `...`
 pub documents_row : beginnings (Scalar Plain ∷ DocStart ∷ Scalar Plain ∷ DocEnd ∷ Directive ∷ DocStart ∷ DocEnd ∷ DocEnd ∷ []) ≡ 0 ∷ 1 ∷ 4 ∷ 7 ∷ []

@@ -1,4 +1,4 @@
--- What is kept of a document's symbols to say which fault comes behind them.
+-- What is kept of a document's symbols to say which fault comes behind them (YAML 1.2.2, 9.1; 6.9 and 7.1; 7.4 and 8.2).
 use Rattle.std.specs.Prelude.{ℕ, Bool, true, false, ◌||◌, if◌then◌else◌, List, [], ◌∷◌, take, drop}
 use Rattle.yl_lexeme.specs.declared.lexeme.Kind.{Kind}
 use Rattle.yl_marks.specs.declared.symbol.Symbol.{Symbol}

@@ -4,7 +4,6 @@ ghost use Rattle.std.specs.Prelude.{◌≡◌, ◌++◌, [], ◌∷◌, ℕ, IsS
 ghost use Rattle.yl_events.specs.Outlines.{bare, missing, ended, decorated, pair_start, pair_end, node_end, ◌then◌};
 ghost use Rattle.yl_events.specs.Machine.{with_anchor, with_tag, takes, takes_marks, forms, items_take, closes, leaves, followed, step, finish, run, taken, Taken, Left, Stepped, Finished};
 ghost use Rattle.yl_events.specs.Told.{steps, Walked};
-ghost use Rattle.yl_events.specs.Answer.{IsParsed, Answers};
 ghost use Rattle.yl_events.specs.declared.symbol.Where.TheVariants.{InInline};
 ghost use Rattle.yl_events.specs.declared.symbol.Goal.TheVariants.{ItemEnd, NodeEnd};
 
@@ -42,20 +41,31 @@ fn decorated(properties: Option<Properties>, kind: Shape, place: Option<usize>) 
     }
 }
 
-/// Puts goals in a goal's place, the last of them on top, and events behind those before.
-#[tactic(auto, using(crate::proofs::Pushes::then_append, crate::proofs::Pushes::on_top))]
-fn turn<A: Allocator>(
-    goals: &mut Vec<Goal, A>,
-    events: &mut Vec<Outline, A>,
-    new_goals: &[Goal],
-    new_events: &[Outline],
-) -> Result<bool, AllocError>
-    ensures goals { OnOk result (reverse goals.new.items ≡ reverse new_goals.now ++ reverse goals.old.items) }
-    ensures events { OnOk result (events.new.items ≡ events.old.items then new_events.now) }
+/// Adds an event. Room is made first, so that no event is handed back.
+fn add<A: Allocator>(event: Outline, events: &mut Vec<Outline, A>) -> Result<(), AllocError>
+    ensures { OnOk result (events.new.items ≡ events.old.items then event ∷ []) }
+{
+    events.reserve(1)?;
+    events.push_reserved(event);
+    Ok(())
+}
+
+/// Tells an event: the goal is reached, and the goals below it are next.
+fn tell<A: Allocator>(event: Outline, events: &mut Vec<Outline, A>) -> Result<bool, AllocError>
+    ensures told { OnOk result (events.new.items ≡ events.old.items then event ∷ []) }
     ensures taken { IfOk result (λ taken. taken ≡ true) }
 {
-    goals.extend_from_slice(new_goals)?;
-    events.extend_from_slice(new_events)?;
+    add(event, events)?;
+    Ok(true)
+}
+
+/// Puts a goal on top.
+fn put<A: Allocator>(goal: Goal, goals: &mut Vec<Goal, A>) -> Result<bool, AllocError>
+    ensures goals { OnOk result (reverse goals.new.items ≡ goal ∷ reverse goals.old.items) }
+    ensures taken { IfOk result (λ taken. taken ≡ true) }
+{
+    goals.reserve(1)?;
+    goals.push_reserved(goal);
     Ok(true)
 }
 
@@ -98,21 +108,17 @@ fn forms<A: Allocator>(
     match symbol {
         Symbol::OpenSequence(i) => match place {
             Where::InInline => Ok(false),
-            Where::InBlock(_) => turn(
-                goals,
-                events,
-                &[Goal::Entries],
-                &[decorated(properties, Shape::SequenceStart, Some(i))],
-            ),
+            Where::InBlock(_) => {
+                add(decorated(properties, Shape::SequenceStart, Some(i)), events)?;
+                put(Goal::Entries, goals)
+            }
         },
         Symbol::OpenMapping(i) => match place {
             Where::InInline => Ok(false),
-            Where::InBlock(_) => turn(
-                goals,
-                events,
-                &[Goal::Pairs],
-                &[decorated(properties, Shape::MappingStart, Some(i))],
-            ),
+            Where::InBlock(_) => {
+                add(decorated(properties, Shape::MappingStart, Some(i)), events)?;
+                put(Goal::Pairs, goals)
+            }
         },
         Symbol::BeginKey(_) => Ok(false),
         Symbol::Close => Ok(false),
@@ -133,44 +139,36 @@ fn form_begins<A: Allocator>(
 {
     match kind {
         Kind::Alias => match properties {
-            None => turn(goals, events, &[], &[bare(Shape::Alias, Some(i))]),
+            None => tell(bare(Shape::Alias, Some(i)), events),
             Some(_) => Ok(false),
         },
         Kind::Anchor => match with_anchor(properties, i) {
             None => Ok(false),
-            more => turn(goals, events, &[Goal::Formed(place, more)], &[]),
+            more => put(Goal::Formed(place, more), goals),
         },
         Kind::Tag => match with_tag(properties, i) {
             None => Ok(false),
-            more => turn(goals, events, &[Goal::Formed(place, more)], &[]),
+            more => put(Goal::Formed(place, more), goals),
         },
         Kind::Scalar(style) => {
-            turn(
-                goals,
-                events,
-                &[],
-                &[decorated(properties, Shape::Scalar(style), Some(i))],
-            )
+            tell(decorated(properties, Shape::Scalar(style), Some(i)), events)
         }
-        Kind::SeqOpen => turn(
-            goals,
-            events,
-            &[Goal::Items(Bracket::Square)],
-            &[decorated(properties, Shape::SequenceStart, Some(i))],
-        ),
-        Kind::MapOpen => turn(
-            goals,
-            events,
-            &[Goal::Items(Bracket::Curly)],
-            &[decorated(properties, Shape::MappingStart, Some(i))],
-        ),
+        Kind::SeqOpen => {
+            add(decorated(properties, Shape::SequenceStart, Some(i)), events)?;
+            put(Goal::Items(Bracket::Square), goals)
+        }
+        Kind::MapOpen => {
+            add(decorated(properties, Shape::MappingStart, Some(i)), events)?;
+            put(Goal::Items(Bracket::Curly), goals)
+        }
         Kind::Entry => match place {
-            Where::InBlock(true) => turn(
-                goals,
-                events,
-                &[Goal::Indentless, Goal::Formed(Where::InBlock(false), None)],
-                &[decorated(properties, Shape::SequenceStart, Some(i))],
-            ),
+            Where::InBlock(true) => {
+                add(decorated(properties, Shape::SequenceStart, Some(i)), events)?;
+                goals.reserve(2)?;
+                goals.push_reserved(Goal::Indentless);
+                goals.push_reserved(Goal::Formed(Where::InBlock(false), None));
+                Ok(true)
+            }
             Where::InBlock(false) => Ok(false),
             Where::InInline => Ok(false),
         },
@@ -196,11 +194,11 @@ fn closes<A: Allocator>(
 {
     match bracket {
         Bracket::Square => match kind {
-            Kind::SeqClose => turn(goals, events, &[], &[bare(Shape::SequenceEnd, None)]),
+            Kind::SeqClose => tell(bare(Shape::SequenceEnd, None), events),
             _ => Ok(false),
         },
         Bracket::Curly => match kind {
-            Kind::MapClose => turn(goals, events, &[], &[bare(Shape::MappingEnd, None)]),
+            Kind::MapClose => tell(bare(Shape::MappingEnd, None), events),
             _ => Ok(false),
         },
     }
@@ -215,7 +213,7 @@ fn start_pair<A: Allocator>(
     ensures { OnOk result (events.new.items ≡ events.old.items then pair_start bracket i) }
 {
     match bracket {
-        Bracket::Square => events.push(bare(Shape::MappingStart, Some(i)))?,
+        Bracket::Square => add(bare(Shape::MappingStart, Some(i)), events)?,
         Bracket::Curly => {}
     }
     Ok(())
@@ -233,7 +231,9 @@ fn bare_item<A: Allocator>(
     requires { IsSome (forms InInline None (Symbol.One kind i)) }
     ensures { IfOk result (λ taken. Taken (followed (NodeEnd bracket ∷ ItemEnd bracket ∷ []) (forms InInline None (Symbol.One kind i))) taken goals.old.items goals.new.items events.old.items events.new.items) }
 {
-    goals.extend_from_slice(&[Goal::ItemEnd(bracket), Goal::NodeEnd(bracket)])?;
+    goals.reserve(2)?;
+    goals.push_reserved(Goal::ItemEnd(bracket));
+    goals.push_reserved(Goal::NodeEnd(bracket));
     form_begins(Where::InInline, None, kind, i, goals, events)
 }
 
@@ -250,30 +250,21 @@ fn item_begins<A: Allocator>(
     match kind {
         Kind::Key => {
             start_pair(bracket, i, events)?;
-            turn(
-                goals,
-                events,
-                &[
-                    Goal::ItemEnd(bracket),
-                    Goal::PairEnd(bracket),
-                    Goal::ValueOf(Where::InBlock(false)),
-                    Goal::Formed(Where::InBlock(false), None),
-                ],
-                &[],
-            )
+            goals.reserve(4)?;
+            goals.push_reserved(Goal::ItemEnd(bracket));
+            goals.push_reserved(Goal::PairEnd(bracket));
+            goals.push_reserved(Goal::ValueOf(Where::InBlock(false)));
+            goals.push_reserved(Goal::Formed(Where::InBlock(false), None));
+            Ok(true)
         }
         Kind::Value => {
             start_pair(bracket, i, events)?;
-            turn(
-                goals,
-                events,
-                &[
-                    Goal::ItemEnd(bracket),
-                    Goal::PairEnd(bracket),
-                    Goal::Formed(Where::InBlock(false), None),
-                ],
-                &[bare(Shape::Empty, None)],
-            )
+            add(bare(Shape::Empty, None), events)?;
+            goals.reserve(3)?;
+            goals.push_reserved(Goal::ItemEnd(bracket));
+            goals.push_reserved(Goal::PairEnd(bracket));
+            goals.push_reserved(Goal::Formed(Where::InBlock(false), None));
+            Ok(true)
         }
         Kind::SeqClose | Kind::MapClose => closes(bracket, kind, goals, events),
         Kind::Alias | Kind::Anchor | Kind::Tag | Kind::Scalar(_) | Kind::SeqOpen | Kind::MapOpen =>
@@ -293,18 +284,13 @@ fn items_take<A: Allocator>(
     match symbol {
         Symbol::BeginKey(i) => {
             start_pair(bracket, i, events)?;
-            turn(
-                goals,
-                events,
-                &[
-                    Goal::ItemEnd(bracket),
-                    Goal::PairEnd(bracket),
-                    Goal::Formed(Where::InBlock(false), None),
-                    Goal::Colon,
-                    Goal::Formed(Where::InInline, None),
-                ],
-                &[],
-            )
+            goals.reserve(5)?;
+            goals.push_reserved(Goal::ItemEnd(bracket));
+            goals.push_reserved(Goal::PairEnd(bracket));
+            goals.push_reserved(Goal::Formed(Where::InBlock(false), None));
+            goals.push_reserved(Goal::Colon);
+            goals.push_reserved(Goal::Formed(Where::InInline, None));
+            Ok(true)
         }
         Symbol::OpenSequence(_) | Symbol::OpenMapping(_) | Symbol::Close => Ok(false),
         Symbol::One(kind, i) => item_begins(bracket, kind, i, goals, events),
@@ -321,15 +307,15 @@ fn take_entries<A: Allocator>(
 {
     match symbol {
         Symbol::One(kind, _) => match kind {
-            Kind::Entry => turn(
-                goals,
-                events,
-                &[Goal::Entries, Goal::Formed(Where::InBlock(false), None)],
-                &[],
-            ),
+            Kind::Entry => {
+                goals.reserve(2)?;
+                goals.push_reserved(Goal::Entries);
+                goals.push_reserved(Goal::Formed(Where::InBlock(false), None));
+                Ok(true)
+            }
             _ => Ok(false),
         },
-        Symbol::Close => turn(goals, events, &[], &[bare(Shape::SequenceEnd, None)]),
+        Symbol::Close => tell(bare(Shape::SequenceEnd, None), events),
         _ => Ok(false),
     }
 }
@@ -343,37 +329,32 @@ fn take_pairs<A: Allocator>(
     ensures { IfOk result (λ taken. Taken (takes Goal.Pairs symbol) taken goals.old.items goals.new.items events.old.items events.new.items) }
 {
     match symbol {
-        Symbol::BeginKey(_) => turn(
-            goals,
-            events,
-            &[
-                Goal::Pairs,
-                Goal::Formed(Where::InBlock(true), None),
-                Goal::Colon,
-                Goal::Formed(Where::InInline, None),
-            ],
-            &[],
-        ),
+        Symbol::BeginKey(_) => {
+            goals.reserve(4)?;
+            goals.push_reserved(Goal::Pairs);
+            goals.push_reserved(Goal::Formed(Where::InBlock(true), None));
+            goals.push_reserved(Goal::Colon);
+            goals.push_reserved(Goal::Formed(Where::InInline, None));
+            Ok(true)
+        }
         Symbol::One(kind, _) => match kind {
-            Kind::Key => turn(
-                goals,
-                events,
-                &[
-                    Goal::Pairs,
-                    Goal::ValueOf(Where::InBlock(true)),
-                    Goal::Formed(Where::InBlock(true), None),
-                ],
-                &[],
-            ),
-            Kind::Value => turn(
-                goals,
-                events,
-                &[Goal::Pairs, Goal::Formed(Where::InBlock(true), None)],
-                &[bare(Shape::Empty, None)],
-            ),
+            Kind::Key => {
+                goals.reserve(3)?;
+                goals.push_reserved(Goal::Pairs);
+                goals.push_reserved(Goal::ValueOf(Where::InBlock(true)));
+                goals.push_reserved(Goal::Formed(Where::InBlock(true), None));
+                Ok(true)
+            }
+            Kind::Value => {
+                add(bare(Shape::Empty, None), events)?;
+                goals.reserve(2)?;
+                goals.push_reserved(Goal::Pairs);
+                goals.push_reserved(Goal::Formed(Where::InBlock(true), None));
+                Ok(true)
+            }
             _ => Ok(false),
         },
-        Symbol::Close => turn(goals, events, &[], &[bare(Shape::MappingEnd, None)]),
+        Symbol::Close => tell(bare(Shape::MappingEnd, None), events),
         _ => Ok(false),
     }
 }
@@ -390,33 +371,33 @@ fn take_lexeme<A: Allocator>(
 {
     match goal {
         Goal::Prefix | Goal::Directives => match kind {
-            Kind::Directive => turn(goals, events, &[Goal::Directives], &[]),
-            Kind::DocStart => turn(goals, events, &[], &[]),
+            Kind::Directive => put(Goal::Directives, goals),
+            Kind::DocStart => Ok(true),
             _ => Ok(false),
         },
         Goal::Ending => match kind {
-            Kind::DocEnd => turn(goals, events, &[], &[]),
+            Kind::DocEnd => Ok(true),
             _ => Ok(false),
         },
         Goal::Indentless => match kind {
-            Kind::Entry => turn(
-                goals,
-                events,
-                &[Goal::Indentless, Goal::Formed(Where::InBlock(false), None)],
-                &[],
-            ),
+            Kind::Entry => {
+                goals.reserve(2)?;
+                goals.push_reserved(Goal::Indentless);
+                goals.push_reserved(Goal::Formed(Where::InBlock(false), None));
+                Ok(true)
+            }
             _ => Ok(false),
         },
         Goal::ValueOf(place) => match kind {
-            Kind::Value => turn(goals, events, &[Goal::Formed(place, None)], &[]),
+            Kind::Value => put(Goal::Formed(place, None), goals),
             _ => Ok(false),
         },
         Goal::Colon => match kind {
-            Kind::Value => turn(goals, events, &[], &[]),
+            Kind::Value => Ok(true),
             _ => Ok(false),
         },
         Goal::ItemEnd(bracket) => match kind {
-            Kind::Comma => turn(goals, events, &[Goal::Items(bracket)], &[]),
+            Kind::Comma => put(Goal::Items(bracket), goals),
             _ => closes(bracket, kind, goals, events),
         },
         _ => Ok(false),
@@ -451,13 +432,13 @@ fn leave<A: Allocator>(goal: Goal, events: &mut Vec<Outline, A>) -> Result<bool,
     match goal {
         Goal::Prefix | Goal::Ending => {}
         Goal::Formed(Where::InInline, None) => return Ok(false),
-        Goal::Formed(_, properties) => events.push(decorated(properties, Shape::Empty, None))?,
-        Goal::Indentless => events.push(bare(Shape::SequenceEnd, None))?,
-        Goal::ValueOf(_) => events.push(bare(Shape::Empty, None))?,
-        Goal::PairEnd(Bracket::Square) => events.push(bare(Shape::MappingEnd, None))?,
+        Goal::Formed(_, properties) => add(decorated(properties, Shape::Empty, None), events)?,
+        Goal::Indentless => add(bare(Shape::SequenceEnd, None), events)?,
+        Goal::ValueOf(_) => add(bare(Shape::Empty, None), events)?,
+        Goal::PairEnd(Bracket::Square) => add(bare(Shape::MappingEnd, None), events)?,
         Goal::PairEnd(Bracket::Curly) => {}
         Goal::NodeEnd(Bracket::Square) => {}
-        Goal::NodeEnd(Bracket::Curly) => events.push(bare(Shape::Empty, None))?,
+        Goal::NodeEnd(Bracket::Curly) => add(bare(Shape::Empty, None), events)?,
         Goal::Directives
         | Goal::Entries
         | Goal::Pairs
@@ -521,44 +502,4 @@ pub fn walk<A: Allocator>(
         }
     }
     Ok(None)
-}
-
-/// The outlines of a document, and the index of the lexeme at which no derivation is left, where there is one.
-fn run<A: Allocator + Copy>(
-    alloc: A,
-    symbols: &[Symbol],
-) -> Result<(Vec<Outline, A>, Option<usize>), AllocError>
-    ensures { IfOk result (λ r. IsParsed symbols.now r.0.items r.1) }
-{
-    let mut goals = vec![in alloc;
-        Goal::Ending,
-        Goal::Formed(Where::InBlock(false), None),
-        Goal::Prefix,
-    ]?;
-    let mut events = vec![in alloc; bare(Shape::DocumentStart, None)]?;
-    let mut place = 0usize;
-    for symbol in symbols {
-        if !step(*symbol, &mut goals, &mut events)? {
-            return Ok((events, Some(place)));
-        }
-        if let Symbol::One(_, _) = symbol {
-            place += 1;
-        }
-    }
-    if !finish(&mut goals, &mut events)? {
-        return Ok((events, Some(place)));
-    }
-    events.push(bare(Shape::DocumentEnd, None))?;
-    Ok((events, None))
-}
-
-/// The outlines of a document's marked lexemes, or the place of the fault.
-#[tactic(auto, using(crate::proofs::Answered::answered))]
-pub fn parse<A: Allocator + Copy>(
-    alloc: A,
-    symbols: &[Symbol],
-) -> Result<(Vec<Outline, A>, Option<usize>), AllocError>
-    ensures { IfOk result (λ r. Answers symbols.now r.0.items r.1) }
-{
-    run(alloc, symbols)
 }

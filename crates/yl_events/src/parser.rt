@@ -73,7 +73,8 @@ impl<A: Allocator + Copy> Parser<A> {
     }
 
     /// Takes the lexemes that begin in the document's next line, all of them, and tells their outlines behind those before; or answers
-    /// the document's fault, which it has however it goes on. The only error is memory, or more lexemes than a `usize` counts.
+    /// the document's fault, which it has however it goes on. The only error is memory, or more lexemes than a `usize` counts. Behind
+    /// a fault or an error only `begin` makes the parser fit for use.
     #[tactic(auto, using(crate::proofs::Lines::fed_by, crate::proofs::Counts::line_count))]
     pub fn feed(
         &mut self,
@@ -94,7 +95,7 @@ impl<A: Allocator + Copy> Parser<A> {
         )
     }
 
-    /// The document ends: tells the last of its outlines, or answers its fault. The only error is memory.
+    /// The document ends: tells the last of its outlines, or answers its fault. The only error is memory. Behind it `begin` is next.
     #[tactic(auto, using(crate::proofs::Lines::end_fault))]
     pub fn finish(&mut self, outlines: &mut Vec<Outline, A>) -> Result<Option<Fault>, AllocError>
         ensures { IfOk result (λ fault. IsTold (told self.old outlines.old.items []) fault outlines.new.items) }

@@ -75,6 +75,6 @@ abbrev pub by_line : List Token → List (List Token)
 by_line [] = []
 by_line (x ∷ xs) = before_lines x (by_line xs)
 
--- a document may be marked line by line
+-- the marks of a document are the marks of its lines, one after another
 abbrev pub MarkedByLines : Type 0
 MarkedByLines = (xs : List Token) → marks_by_lines nothing_before (by_line xs) ≡ marked_tokens xs

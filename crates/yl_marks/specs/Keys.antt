@@ -26,11 +26,6 @@ abbrev pub depth : List Piece → ℕ
 depth [] = 0
 depth (x ∷ xs) = depth_behind x.kind (depth xs)
 
--- of the latest lexeme: it begins in this line
-abbrev pub is_in : ℕ → Option Piece → Bool
-is_in line None = false
-is_in line (Some x) = x.start.line == line
-
 -- of the latest lexeme: neither it nor an earlier one ends in this line
 abbrev pub is_first : ℕ → Option Piece → Bool
 is_first line None = true

@@ -101,12 +101,9 @@ abbrev pub open_behind_all : List Piece → List OpenBlock → ℕ → List Piec
 open_behind_all all open_ones i [] = open_ones
 open_behind_all all open_ones i (x ∷ xs) = open_behind_all all (open_behind (marking all i x) open_ones) (suc i) xs
 
-abbrev pub marked_pieces : List Piece → List Symbol
-marked_pieces all = marks all [] 0 all ++ all_closed (open_behind_all all [] 0 all)
-
 -- a document's lexemes with their marks
 abbrev pub marked_tokens : List Token → List Symbol
-marked_tokens xs = marked_pieces (pieces [] xs)
+marked_tokens xs = let all = pieces [] xs in marks all [] 0 all ++ all_closed (open_behind_all all [] 0 all)
 
 abbrev pub marked : List LexemeValue → List Symbol
 marked xs = marked_tokens (map token_of xs)

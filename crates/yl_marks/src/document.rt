@@ -2,7 +2,7 @@
 
 ghost use Rattle.std.specs.Prelude.{◌≡◌, false, map, IfOk};
 ghost use Rattle.yl_marks.specs.Keys.{placed, token_of};
-ghost use Rattle.yl_marks.specs.Marks.{marked_tokens, marked, column_at, as_marked, marked_lexemes};
+ghost use Rattle.yl_marks.specs.Marks.{marked_tokens, column_at, as_marked, marked_lexemes};
 
 use crate::lines::line_len;
 use crate::marker::Marker;
@@ -82,17 +82,6 @@ fn mark_tokens<A: Allocator + Copy>(
     }
     marker.close(&mut symbols)?;
     Ok(symbols)
-}
-
-/// The lexemes of one whole document, in order, with the marks as the grammar reads them. The only error is memory.
-pub fn symbols<A: Allocator + Copy>(
-    alloc: A,
-    lexemes: &[At<'_, A>],
-) -> Result<Vec<Symbol, A>, AllocError>
-    ensures { IfOk result (λ v. v.items ≡ marked (map (λ x. placed x.line x.lexeme.now) lexemes.now)) }
-{
-    let tokens = tokens(alloc, lexemes)?;
-    mark_tokens(alloc, &tokens)
 }
 
 /// The lexemes of one whole document, in order, with the marks between them. The only error is memory.

@@ -1,6 +1,9 @@
 //! Keys, and where they may begin.
 
-ghost use Rattle.std.specs.Prelude.{◌≡◌, ◌<◌, ◌≤◌, ◌+◌, ◌-◌, ◌^◌, [], length, OnOk, IfOk, if◌then◌else◌};
+ghost use Rattle.std.specs.Prelude.{◌≡◌, ◌<◌, ◌≤◌, ◌+◌, ◌-◌, ◌^◌, [], length, drop, false, OnOk, IfOk, if◌then◌else◌};
+ghost use Rattle.std.specs.List.{list_any};
+ghost use Rattle.yl_lexeme.specs.Lexeme.{is_value};
+ghost use Rattle.yl_lexeme.specs.Kept.{kept_behind};
 ghost use Rattle.yl_marks.specs.Keys.{depth_behind, is_first, is_behind_flow, is_behind_indicator, may_begin, place_of, key_at, piece_at};
 ghost use Rattle.yl_marks.specs.ByLine.{line_pieces, IsBehind};
 
@@ -108,6 +111,33 @@ fn piece_at(token: Token, earlier: Earlier, key: Option<KeyStart>) -> Piece
     }
 }
 
+/// The index of the last Value of a line, the latest that asks where a key begins; 0, if there is none.
+fn last_value(tokens: &[Token]) -> usize
+    ensures { list_any (λ x. is_value x.kind) (drop (result + 1) tokens.now) ≡ false }
+{
+    for i in (0..tokens.len()).rev() {
+        if matches!(tokens[i].kind, Kind::Value) {
+            return i;
+        }
+    }
+    0
+}
+
+/// Passes a lexeme, if a Value behind it is still to ask where a key begins.
+fn pass_if_asked<A: Allocator + Copy>(
+    is_asked: bool,
+    unit: &mut KeyUnit<KeyStart, A>,
+    index: usize,
+    piece: Piece,
+) -> Result<(), AllocError>
+    ensures { OnOk result (unit.new ≡ (if is_asked then kept_behind piece.kind (place_of index piece) unit.old else unit.old)) }
+{
+    if is_asked {
+        unit.pass(piece.kind, place_of(index, piece))?;
+    }
+    Ok(())
+}
+
 /// Reads the lexemes of a line behind the earlier ones. Answers with what counts of all of them. What `unit` and `pieces` held is
 /// forgotten, and their room used again.
 pub fn line_pieces<A: Allocator + Copy>(
@@ -124,9 +154,10 @@ pub fn line_pieces<A: Allocator + Copy>(
 {
     unit.new_line();
     pieces.clear();
-    for token in tokens {
+    let last = last_value(tokens);
+    for (i, token) in tokens.iter().enumerate() {
         let piece = piece_at(*token, earlier, unit.start());
-        unit.pass(piece.kind, place_of(earlier.count, piece))?;
+        pass_if_asked(i < last, unit, earlier.count, piece)?;
         pieces.push(piece)?;
         earlier = Earlier {
             count: earlier.count + 1,

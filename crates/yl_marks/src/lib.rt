@@ -11,7 +11,7 @@ mod marks;
 mod symbol;
 mod token;
 
-pub use document::{mark, symbols, tokens};
+pub use document::{mark, tokens};
 pub use lines::{line_len, marked_by_lines};
 pub use marker::Marker;
 pub use symbol::{Collection, Marked, Symbol};

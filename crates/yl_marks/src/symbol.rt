@@ -23,19 +23,19 @@ pub struct KeyStart {
 /// A lexeme without its value, and what the lexemes before it say of its place.
 #[derive(Clone, Copy)]
 pub struct Piece {
-    pub kind: Kind,
-    /// Where it begins, in the text.
-    pub start: Pos,
     /// The line of the text in which it ends.
     pub end_line: u64,
     /// How many brackets are open before it.
     pub depth: usize,
+    /// Of a Value that has a key, how many lexemes stand before that key.
+    pub key: Option<usize>,
+    /// Where it begins, in the text.
+    pub start: Pos,
+    pub kind: Kind,
     /// No earlier lexeme ends in its line.
     pub is_first: bool,
     /// A key may begin with it.
     pub may_begin: bool,
-    /// Of a Value that has a key, how many lexemes stand before that key.
-    pub key: Option<usize>,
 }
 
 /// What counts of the lexemes before a place: how many there are, how many brackets are open behind them, and the latest of them.
