@@ -179,8 +179,8 @@ fn take_sign<A: Allocator + Copy>(
         gave lexemes.old.items (took tab first at (known surroundings.old) more (sign_found tab first at (around (known surroundings.old)) kind))
         ≡ gave lexemes.new.items (behind_sign (known surroundings.new) more fault)) }
 {
-    let before = place_fault(surroundings, tab, first, at);
-    match or_else(before, sign_fault(surroundings, tab, first, at, kind)) {
+    let own = sign_fault(surroundings, tab, first, at, kind);
+    match or_else(place_fault(surroundings, tab, first, at), own) {
         Some(fault) => Ok(Some(fault)),
         None => {
             surroundings.pass(kind, first, at)?;
