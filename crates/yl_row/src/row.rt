@@ -75,6 +75,17 @@ fn lexeme_of<A: Allocator>(at: usize, found: Found<A>) -> Lexeme<A>
     Lexeme::new(kind, start, end, value)
 }
 
+/// Adds a lexeme of the row. Room for sixteen is made at once.
+fn add<A: Allocator>(lexemes: &mut Vec<Lexeme<A>, A>, lexeme: Lexeme<A>) -> Result<(), AllocError>
+    ensures { IfOk result (λ _. lexemes.new.items ≡ lexemes.old.items ++ lexeme ∷ []) }
+{
+    if lexemes.is_empty() {
+        lexemes.reserve(16)?;
+    }
+    lexemes.push(lexeme)?;
+    Ok(())
+}
+
 /// The lexeme of one character at a column.
 fn sign<A: Allocator>(alloc: A, kind: Kind, at: usize) -> Lexeme<A>
     requires { at < 2 ^ 31 }
@@ -147,7 +158,7 @@ fn ended_lexeme<A: Allocator + Copy>(
         }
         None => {
             surroundings.pass(kind, first, at)?;
-            lexemes.push(lexeme)?;
+            add(lexemes, lexeme)?;
             Ok(Next::Behind(column))
         }
     }
@@ -184,7 +195,7 @@ fn take_sign<A: Allocator + Copy>(
         Some(fault) => Ok(Some(fault)),
         None => {
             surroundings.pass(kind, first, at)?;
-            lexemes.push(sign(alloc, kind, at))?;
+            add(lexemes, sign(alloc, kind, at))?;
             Ok(None)
         }
     }
