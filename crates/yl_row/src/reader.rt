@@ -17,16 +17,28 @@ pub enum Reader<A: Allocator + Copy> {
 }
 
 impl<A: Allocator + Copy> Reader<A> {
-    /// Reads the next row, and answers what it was to the scalar.
-    pub fn read(&mut self, row: &[char]) -> Result<Line, AllocError>
-        requires { rows_of self.old + 1 < 2 ^ 64 }
-        ensures line { IfOk result (λ line. said_by line self.new ≡ mode_step (mode_of self.old) row.now) }
-        ensures count { IfOk result (λ line. rows_of self.new ≤ rows_of self.old + 1) }
+    /// Reads the next row: the reader behind it, and what the row was to the scalar.
+    pub fn read(self, row: &[char]) -> Result<(Reader<A>, Line), AllocError>
+        requires { rows_of self + 1 < 2 ^ 64 }
+        ensures line { IfOk result (λ r. said_by r.1 r.0 ≡ mode_step (mode_of self) row.now) }
+        ensures count { IfOk result (λ r. rows_of r.0 ≤ rows_of self + 1) }
     {
         match self {
-            Reader::Plain(reader) => reader.read(row),
-            Reader::Quoted(reader) => reader.read(row),
-            Reader::Block(reader) => reader.read(row),
+            Reader::Plain(reader) => {
+                let mut reader = reader;
+                let line = reader.read(row)?;
+                Ok((Reader::Plain(reader), line))
+            }
+            Reader::Quoted(reader) => {
+                let mut reader = reader;
+                let line = reader.read(row)?;
+                Ok((Reader::Quoted(reader), line))
+            }
+            Reader::Block(reader) => {
+                let mut reader = reader;
+                let line = reader.read(row)?;
+                Ok((Reader::Block(reader), line))
+            }
         }
     }
 

@@ -239,12 +239,8 @@ fn within_row<A: Allocator + Copy>(
     ensures in_step { IfOk result (λ r. IsInStep (line + 1) r.1) }
     ensures in_text { IfOk result (λ r. BeginsInText line r.0) }
 {
-    let Open {
-        style,
-        at,
-        mut reader,
-    } = scalar;
-    let answer = reader.read(row)?;
+    let Open { style, at, reader } = scalar;
+    let (reader, answer) = reader.read(row)?;
     let ago = line - begun;
     match answer {
         Line::GoesOn => {
