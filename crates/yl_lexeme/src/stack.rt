@@ -36,21 +36,12 @@ impl<T: Copy, A: Allocator + Copy> Stack<T, A> {
         Ok(())
     }
 
-    /// Removes the top item, if there is one.
-    pub fn pop(&mut self)
-        ensures { self.new ≡ popped self.old }
+    /// Takes the top item off, if there is one.
+    pub fn pop(&mut self) -> Option<T>
+        ensures top { result ≡ first self.old }
+        ensures rest { self.new ≡ popped self.old }
     {
-        let _ = self.items.pop();
-    }
-
-    /// The top item, if there is one.
-    pub fn top(&self) -> Option<T>
-        ensures { result ≡ first self.now }
-    {
-        match self.items.as_slice() {
-            [] => None,
-            [.., item] => Some(*item),
-        }
+        self.items.pop()
     }
 
     pub fn clear(&mut self)

@@ -131,6 +131,7 @@ impl<'a, A: Allocator + Copy> Surroundings<'a, A> {
     }
 
     /// One more lexeme has been read, at this column.
+    #[inline(always)]
     pub fn pass(&mut self, kind: Kind, first: bool, at: usize) -> Result<(), AllocError>
         requires { at < 2 ^ 31 }
         ensures { IfOk result (λ _. known self.new ≡ pass (past_of at first (around (known self.old)) kind) (known self.old)) }
@@ -162,6 +163,7 @@ fn asks_behind(kind: Kind, at: usize, start: Option<usize>) -> bool
 }
 
 /// A lexeme at a column, where the unit before it begins at `start`.
+#[inline(always)]
 fn pass_levels<A: Allocator + Copy>(
     levels: &mut Levels<'_, A>,
     kind: Kind,
@@ -190,6 +192,7 @@ fn pass_levels<A: Allocator + Copy>(
     }
 }
 
+#[inline(always)]
 fn pass_brackets<A: Allocator + Copy>(
     brackets: &mut Brackets<'_, A>,
     kind: Kind,

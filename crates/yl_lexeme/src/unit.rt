@@ -64,6 +64,7 @@ impl<T: Copy, A: Allocator + Copy> KeyUnit<T, A> {
     }
 
     /// One more lexeme of the line has been read; `own` is its place, if a key may begin at it. The only error is memory.
+    #[inline(always)]
     pub fn pass(&mut self, kind: Kind, own: Option<T>) -> Result<(), AllocError>
         ensures { IfOk result (λ _. self.new ≡ kept_behind kind own self.old) }
     {
@@ -77,8 +78,7 @@ impl<T: Copy, A: Allocator + Copy> KeyUnit<T, A> {
             }
             Kind::SeqOpen | Kind::MapOpen => self.outer.push(start),
             Kind::SeqClose | Kind::MapClose => {
-                self.unit = self.outer.top().flatten();
-                self.outer.pop();
+                self.unit = self.outer.pop().flatten();
                 Ok(())
             }
             Kind::Anchor => {

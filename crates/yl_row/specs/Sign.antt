@@ -1,12 +1,13 @@
--- Lexemes of one character: the indicators of block collections (YAML 1.2.2, 8.2) and of flow collections (7.4).
+-- Lexemes by their first character: the indicators of block collections (YAML 1.2.2, 8.2) and of flow collections (7.4), and
+-- properties and aliases (6.9 and 7.1).
 use Rattle.std.specs.Prelude.{ℕ, Bool, not, ◌&&◌, true, false, ◌||◌, ◌==◌, if◌then◌else◌, List, [], ◌+◌, Option, Some, None}
 use Rattle.yl_lexeme.specs.declared.lexeme.Kind.{Kind}
-use Rattle.yl_lexeme.specs.declared.lexeme.Kind.TheVariants.{Entry, Key, Value, Comma, SeqOpen, SeqClose, MapOpen, MapClose}
+use Rattle.yl_lexeme.specs.declared.lexeme.Kind.TheVariants.{Entry, Key, Value, Comma, SeqOpen, SeqClose, MapOpen, MapClose, Alias, Anchor}
 use Rattle.yl_lexeme.specs.Past.{Around, in_flow, may_begin, near}
 use Rattle.yl_row.specs.declared.fault.ScanFault.TheVariants.{NotAllowed, EntryNotAllowed, KeyNotAllowed, ValueNotAllowed, BracketWithoutPartner}
 use Rattle.yl_row.specs.declared.fault.Faulted.{Faulted}
 use Rattle.yl_row.specs.Fault.{when, or_else}
-use Rattle.yl_row.specs.Step.{Found, upto, is_space_next, is_value_at, closes, tab_before, in_block}
+use Rattle.yl_row.specs.Step.{Found, upto, is_space_next, is_value_at, closes, tab_before, in_block, name_found, tag_found, tag_len}
 
 -- what a character is at a place, before that text
 abbrev pub sign_at : Around → ℕ → List ℕ → Option Kind
@@ -39,3 +40,7 @@ sign_fault tab first at a _ = None
 -- the lexeme of this kind at a column
 abbrev pub sign_found : Option ℕ → Bool → ℕ → Around → Kind → Found
 sign_found tab first at a kind = upto kind (at + 1) [] (sign_fault tab first at a kind)
+
+-- an alias, an anchor or a tag, by its indicator and the text behind it
+abbrev pub named_at : ℕ → ℕ → List ℕ → Found
+named_at at c cs = if c == 0x26 then name_found Anchor at cs else if c == 0x2A then name_found Alias at cs else tag_found at cs (tag_len cs)

@@ -15,7 +15,7 @@ ghost use Rattle.yl_lexeme.specs.Surroundings.{known};
 ghost use Rattle.yl_row.specs.Mode.{mode_step, mode_finish};
 ghost use Rattle.yl_row.specs.Reader.{said_by};
 ghost use Rattle.yl_row.specs.Step.{upto, bad_in, tab_before, in_block, place_fault, behind_end, closes, is_value_at, is_directive_place, is_quoted_or_closing, scalar_found, plain_found, value_found, name_found, tag_found, tag_len, document_at, block_at, flow_at, word_at, scalar_at, found_at};
-ghost use Rattle.yl_row.specs.Sign.{sign_at};
+ghost use Rattle.yl_row.specs.Sign.{named_at, sign_at};
 ghost use Rattle.yl_row.specs.Standing.{found_of, standing, found_option, EndsHere, StandingRests};
 
 use crate::fault::{Faulted, ScanFault, of_scalar, or_else, when};
@@ -173,6 +173,26 @@ fn tag_found<A: Allocator + Copy>(alloc: A, at: usize, text: &[char]) -> Found<A
     }
 }
 
+/// An anchor, an alias or a tag, by its indicator and the text behind it.
+#[inline(never)]
+fn named_at<A: Allocator + Copy>(
+    alloc: A,
+    at: usize,
+    c: char,
+    rest: &[char],
+) -> Result<Found<A>, AllocError>
+    requires fits { at + length rest.now < 2 ^ 31 }
+    ensures { IfOk result (λ found. found_of found ≡ named_at at c rest.now) }
+{
+    if c == '&' {
+        return name_found(alloc, Kind::Anchor, at, rest);
+    }
+    if c == '*' {
+        return name_found(alloc, Kind::Alias, at, rest);
+    }
+    Ok(tag_found(alloc, at, rest))
+}
+
 /// A scalar whose first row has been read.
 #[inline(always)]
 fn begun<A: Allocator + Copy>(
@@ -316,14 +336,8 @@ fn word_at<A: Allocator + Copy>(
         word_at rows at (around (known surroundings.now)) c rest.now ≡ standing at rows s) }
     ensures rests { IfOk result (λ s. StandingRests at text.now s) }
 {
-    if c == '&' {
-        return Ok(Standing::Ended(name_found(alloc, Kind::Anchor, at, rest)?));
-    }
-    if c == '*' {
-        return Ok(Standing::Ended(name_found(alloc, Kind::Alias, at, rest)?));
-    }
-    if c == '!' {
-        return Ok(Standing::Ended(tag_found(alloc, at, rest)));
+    if matches!(c, '&' | '*' | '!') {
+        return Ok(Standing::Ended(named_at(alloc, at, c, rest)?));
     }
     scalar_at(alloc, at, surroundings, c, rest, text)
 }

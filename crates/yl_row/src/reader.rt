@@ -57,6 +57,7 @@ impl<A: Allocator + Copy> Reader<A> {
     }
 
     /// The scalar's value so far, in UTF-8; a block scalar's is not read.
+    #[inline(always)]
     pub fn into_value(self, alloc: A) -> Result<String<A>, AllocError>
         ensures { IfOk result (λ text. string_bytes text ≡ encode_utf8_all (value_of self)) }
     {

@@ -75,6 +75,17 @@ fn lexeme_of<A: Allocator>(at: usize, found: Found<A>) -> Lexeme<A>
     Lexeme::new(kind, start, end, value)
 }
 
+/// Adds a lexeme of the row. Room for sixteen is made at once.
+fn add<A: Allocator>(lexemes: &mut Vec<Lexeme<A>, A>, lexeme: Lexeme<A>) -> Result<(), AllocError>
+    ensures { IfOk result (λ _. lexemes.new.items ≡ lexemes.old.items ++ lexeme ∷ []) }
+{
+    if lexemes.is_empty() {
+        lexemes.reserve(16)?;
+    }
+    lexemes.push(lexeme)?;
+    Ok(())
+}
+
 /// The lexeme of one character at a column.
 fn sign<A: Allocator>(alloc: A, kind: Kind, at: usize) -> Lexeme<A>
     requires { at < 2 ^ 31 }
@@ -147,7 +158,7 @@ fn ended_lexeme<A: Allocator + Copy>(
         }
         None => {
             surroundings.pass(kind, first, at)?;
-            lexemes.push(lexeme)?;
+            add(lexemes, lexeme)?;
             Ok(Next::Behind(column))
         }
     }
@@ -179,12 +190,12 @@ fn take_sign<A: Allocator + Copy>(
         gave lexemes.old.items (took tab first at (known surroundings.old) more (sign_found tab first at (around (known surroundings.old)) kind))
         ≡ gave lexemes.new.items (behind_sign (known surroundings.new) more fault)) }
 {
-    let before = place_fault(surroundings, tab, first, at);
-    match or_else(before, sign_fault(surroundings, tab, first, at, kind)) {
+    let own = sign_fault(surroundings, tab, first, at, kind);
+    match or_else(place_fault(surroundings, tab, first, at), own) {
         Some(fault) => Ok(Some(fault)),
         None => {
             surroundings.pass(kind, first, at)?;
-            lexemes.push(sign(alloc, kind, at))?;
+            add(lexemes, sign(alloc, kind, at))?;
             Ok(None)
         }
     }

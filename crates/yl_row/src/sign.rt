@@ -146,9 +146,9 @@ pub fn sign_fault<A: Allocator + Copy>(
 ) -> Option<Faulted>
     ensures { result ≡ sign_fault tab first at (around (known surroundings.now)) kind }
 {
-    let flow = surroundings.in_flow();
     match kind {
         Kind::Entry => {
+            let flow = surroundings.in_flow();
             let refused = flow || !surroundings.may_begin(first);
             let refused = when(refused, ScanFault::EntryNotAllowed, at);
             or_else(in_block(surroundings, tab_before(tab, at)), refused)
@@ -160,7 +160,7 @@ pub fn sign_fault<A: Allocator + Copy>(
         Kind::Value => in_block(surroundings, value_fault(surroundings, tab, first, at)),
         Kind::SeqClose => unpaired(true, at, surroundings),
         Kind::MapClose => unpaired(false, at, surroundings),
-        Kind::Comma => when(!flow, ScanFault::NotAllowed, at),
+        Kind::Comma => when(!surroundings.in_flow(), ScanFault::NotAllowed, at),
         _ => None,
     }
 }

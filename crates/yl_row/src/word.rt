@@ -148,6 +148,7 @@ pub fn is_marker_of(c: char, row: &[char]) -> bool
 }
 
 /// A plain scalar may begin with this character, before that text.
+#[inline(always)]
 pub fn is_plain_start(flow: bool, c: char, text: &[char]) -> bool
     ensures { result ≡ is_plain_start flow c text.now }
 {

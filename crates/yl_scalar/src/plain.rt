@@ -41,22 +41,18 @@ fn stop(flow: bool, behind_space: bool, text: &[char]) -> usize
     ensures count { result ≡ stop flow behind_space text.now }
     ensures within { result ≤ length text.now }
 {
-    let mut behind_space = behind_space;
+    let mut previous = if behind_space { ' ' } else { '-' };
     for (i, c) in text.iter().enumerate() {
-        if c.is_ascii_lowercase() {
-            behind_space = false;
-            continue;
-        }
         if *c == ':' && !is_safe_next(flow, &text[i + 1..]) {
             return i;
         }
-        if *c == '#' && behind_space {
+        if *c == '#' && is_white(previous) {
             return i;
         }
         if flow && is_flow_indicator(*c) {
             return i;
         }
-        behind_space = is_white(*c);
+        previous = *c;
     }
     text.len()
 }

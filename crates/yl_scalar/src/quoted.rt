@@ -1,8 +1,8 @@
 //! Quoted scalars: YAML 1.2.2, 7.3.1 and 7.3.2.
-ghost use Rattle.std.specs.Prelude.{◌≡◌, ◌≤◌, ◌<◌, ◌+◌, ◌^◌, IfOk, OnErr, OnOk, IsErr, true, false, length, string_bytes};
+ghost use Rattle.std.specs.Prelude.{◌≡◌, ◌≤◌, ◌<◌, ◌+◌, ◌^◌, ◌++◌, ◌&&◌, ◌==◌, not, ℕ, List, IfOk, IfSome, OnErr, OnOk, IsErr, true, false, length, string_bytes};
 ghost use Rattle.std.specs.Str.{encode_utf8_all};
 ghost use Rattle.yl_scalar.specs.Reading.{Refused};
-ghost use Rattle.yl_scalar.specs.Quoted.{stretch, quote, begins_with};
+ghost use Rattle.yl_scalar.specs.Quoted.{Closes, stretch, quote, begins_with};
 ghost use Rattle.yl_scalar.specs.QuotedSteps.{quoted_begin, quoted_step, quoted_finish, took};
 ghost use Rattle.yl_scalar.specs.Reader.{said, quoted_state, quoted_rows, quoted_failed};
 ghost use Rattle.yl_scalar.specs.Part.{gives, IsWithin, FitsBehind};
@@ -51,6 +51,42 @@ fn begins_with(q: char, text: &[char]) -> bool
     }
 }
 
+/// Whether a quote with this behind it stands for itself.
+fn is_doubled(double: bool, after: &[char]) -> bool
+    ensures { result ≡ (not double && begins_with 0x27 after.now) }
+{
+    !double && begins_with('\'', after)
+}
+
+/// Whether an escape begins with this character.
+fn begins_escape(double: bool, c: char) -> bool
+    ensures { result ≡ (double && c == 0x5C) }
+{
+    double && c == '\\'
+}
+
+/// The scalar's part of a row that closes it, if each character of the part stands for itself.
+fn simple_part(double: bool, text: &[char]) -> Option<&[char]>
+    ensures part { IfSome result (λ part. (value : List ℕ) → stretch double 0 value (length value) 0 text.now ≡ Closes (value ++ part.now) (length part.now + 1)) }
+    ensures within { IfSome result (λ part. length part.now < length text.now) }
+{
+    for (i, c) in text.iter().enumerate() {
+        if *c == quote(double) {
+            if is_doubled(double, &text[i + 1..]) {
+                return None;
+            }
+            return Some(&text[..i]);
+        }
+        if begins_escape(double, *c) {
+            return None;
+        }
+        if !is_quoted_character(*c) {
+            return None;
+        }
+    }
+    None
+}
+
 /// Reads a row, behind a value that is kept whole.
 fn stretch<A: Allocator>(
     double: bool,
@@ -61,6 +97,10 @@ fn stretch<A: Allocator>(
         ≡ stretch double 0 value.old.items (length value.old.items) 0 text.now) }
     ensures within { IfOk result (IsWithin (length text.now)) }
 {
+    if let Some(part) = simple_part(double, text) {
+        value.extend_from_slice(part)?;
+        return Ok(Part::Closed(part.len() + 1));
+    }
     let mut kept = value.len();
     let mut skip = 0;
     for (i, c) in text.iter().enumerate() {
@@ -70,7 +110,7 @@ fn stretch<A: Allocator>(
         }
         let after = &text[i + 1..];
         if *c == quote(double) {
-            if double || !begins_with('\'', after) {
+            if !is_doubled(double, after) {
                 return Ok(Part::Closed(i + 1));
             }
             value.push(*c)?;
@@ -78,7 +118,7 @@ fn stretch<A: Allocator>(
             skip = 1;
             continue;
         }
-        if double && *c == '\\' {
+        if begins_escape(double, *c) {
             if after.is_empty() {
                 return Ok(Part::Open(Some(i)));
             }

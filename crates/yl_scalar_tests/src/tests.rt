@@ -68,7 +68,7 @@ fn a_plain_scalar_over_four_rows(rt: HostRuntime) -> Result<(), Fail> {
     let below = views(rt.alloc(), &below)?;
     let (reader, outcome) = read_plain(rt.alloc(), false, 1, 2, &text, &below)?;
     assert!(rt; outcome == Outcome::Whole(Place { down: 3, column: 3 }));
-    let value = reader.to_value(rt.alloc())?;
+    let value = reader.into_value();
     assert_eq!(rt; value.as_str(), "a b\nc");
     Ok(())
 }
@@ -81,7 +81,7 @@ fn a_plain_scalar_of_one_row(rt: HostRuntime) -> Result<(), Fail> {
     let below = views(rt.alloc(), &below)?;
     let (reader, outcome) = read_plain(rt.alloc(), false, 0, 0, &text, &below)?;
     assert!(rt; outcome == Outcome::Whole(Place { down: 0, column: 1 }));
-    let value = reader.to_value(rt.alloc())?;
+    let value = reader.into_value();
     assert_eq!(rt; value.as_str(), "a");
     let text = characters(rt.alloc(), "a\u{1}: b")?;
     let (_, outcome) = read_plain(rt.alloc(), false, 0, 2, &text, &below)?;
@@ -163,7 +163,7 @@ fn block_scalars(rt: HostRuntime) -> Result<(), Fail> {
     Ok(())
 }
 
-// Each growth of a whole reading and of its value is refused in turn.
+// Each growth of a whole reading is refused in turn.
 #[test]
 fn each_growth_of_a_plain_scalar_is_refused(rt: HostRuntime) -> Result<(), Fail> {
     let text = characters(rt.alloc(), "a plain scalar")?;
@@ -176,16 +176,13 @@ fn each_growth_of_a_plain_scalar_is_refused(rt: HostRuntime) -> Result<(), Fail>
         let Ok((reader, outcome)) = answer else {
             continue;
         };
-        let value = reader.to_value(&heap);
-        if heap.is_armed() {
-            heap.refuse(0);
-            assert!(rt; outcome == Outcome::Whole(Place { down: 3, column: 8 }));
-            let value = value?;
-            assert_eq!(rt; value.as_str(), "a plain scalar over more than\none row");
-            assert!(rt; n > 3, "{n} growths");
-            return Ok(());
-        }
-        assert!(rt; value.is_err(), "the {n}th growth");
+        assert!(rt; heap.is_armed(), "the {n}th growth");
+        heap.refuse(0);
+        assert!(rt; outcome == Outcome::Whole(Place { down: 3, column: 8 }));
+        let value = reader.into_value();
+        assert_eq!(rt; value.as_str(), "a plain scalar over more than\none row");
+        assert!(rt; n > 3, "{n} growths");
+        return Ok(());
     }
     Ok(())
 }

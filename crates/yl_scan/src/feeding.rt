@@ -182,8 +182,7 @@ fn fresh_row<A: Allocator + Copy>(
     ensures here { IfOk result (λ r. FailsHere r.0) }
 {
     let is_sound = is_sound_start(line, row);
-    let (step, resting) = read_on(alloc, surroundings, line, 0, true, is_sound, row)?;
-    Ok((step, resting))
+    read_on(alloc, surroundings, line, 0, true, is_sound, row)
 }
 
 /// A scalar that ends before this place, which began at this column.
@@ -315,13 +314,9 @@ pub fn fed_row<A: Allocator + Copy>(
     ensures in_text { IfOk result (λ r. BeginsInText line r.0) }
 {
     match resting {
-        Resting::Between => {
-            let fed = fresh_row(alloc, surroundings, line, row)?;
-            Ok(fed)
-        }
+        Resting::Between => fresh_row(alloc, surroundings, line, row),
         Resting::Within(begun, scalar) => {
-            let fed = within_row(alloc, surroundings, line, begun, scalar, row)?;
-            Ok(fed)
+            within_row(alloc, surroundings, line, begun, scalar, row)
         }
         Resting::Halted(reach) => Ok(halted_row(alloc, reach, row)),
     }

@@ -120,9 +120,9 @@ impl<'a, A: Allocator + Copy> Scanner<'a, A> {
             return Err(AllocError);
         }
         self.refused = true;
-        let step = self.read(text)?;
-        self.refused = false;
-        Ok(step)
+        let step = self.read(text);
+        self.refused = step.is_err();
+        step
     }
 
     /// How many rows were fed.

@@ -95,7 +95,7 @@ fn a_refusal_stays(rt: HostRuntime) -> Result<(), Fail> {
         if heap.is_armed() {
             heap.refuse(0);
             assert!(rt; !refused);
-            assert!(rt; n > 20, "{n} growths");
+            assert!(rt; n > 10, "{n} growths");
             return Ok(());
         }
         assert!(rt; refused, "the {n}th growth");
