@@ -109,7 +109,13 @@ fn ascii_text<A: Allocator>(alloc: A, characters: &[char]) -> Result<String<A>, 
     for c in characters {
         bytes.push_reserved(*c as u8);
     }
-    // ASCII is UTF-8.
-    let text = unsafe { String::from_utf8_unchecked(bytes) };
-    Ok(text)
+    Ok(text_of_ascii(bytes))
+}
+
+/// The text of ASCII bytes, which are always UTF-8.
+fn text_of_ascii<A: Allocator>(bytes: Vec<u8, A>) -> String<A>
+    requires { IsAscii bytes.items }
+    ensures { string_bytes result ≡ bytes.items }
+{
+    String::from_utf8(bytes).unwrap()
 }
