@@ -11,7 +11,6 @@ use Rattle.yl_events.specs.Derives.{Derives, BeginsDerivation, HasFaultAt, front
 use Rattle.yl_events.specs.Machine as m
 use Rattle.yl_events.specs.declared.symbol.Goal.{Goal}
 use Rattle.yl_events.specs.Machine.{State, step, finish, run, parse, taken, fault_place}
-use Rattle.yl_events.specs.Answer.{IsParsed, Answers}
 use Rattle.yl_events.proofs.Complete.{parsed, one_derivation}
 use Rattle.yl_events.specs.Event.{EventValue, AreEvents, filled}
 use Rattle.yl_lexeme.specs.Lexeme.{LexemeValue}
@@ -133,11 +132,6 @@ one_fault ws i j a b = ⊎_elim (λ e. e) (λ h. ⊎_elim (λ g. absurd (earlier
 -- and none where it is derived
 pub no_fault : (ws : List Symbol) (es : List Outline) (i : ℕ) → Derives ws es → HasFaultAt ws i → ⊥
 no_fault ws es i d a = ⊎_elim (λ h. let r = front_of (suc i) ws in a.within h (record { tree = d.tree; rest = r.0; spelled = d.spelled ∙ r.1 })) (λ h. a.at_end (let inside : i ≤ lexeme_count ws = a.inside in omega arith) es d) (cases_lt i (lexeme_count ws))
-
--- the machine's answer is the grammar's
-pub answered : (ws : List Symbol) (es : List Outline) (p : Option ℕ) → IsParsed ws es p → Answers ws es p
-answered ws es None e = sound ws es e
-answered ws es (Some place) e = subst (HasFaultAt ws) (sym e.1) (fault ws e.0)
 
 -- a document has one list of events
 pub one_list : (xs : List LexemeValue) (es fs : List EventValue) → AreEvents xs es → AreEvents xs fs → es ≡ fs

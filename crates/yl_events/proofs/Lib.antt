@@ -7,3 +7,4 @@ pub mod Cutting
 pub mod Trails
 pub mod Parts
 pub mod Lines
+pub mod Giving

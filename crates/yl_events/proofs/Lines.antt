@@ -1,5 +1,5 @@
 -- A document is parsed line by line.
-use Rattle.std.specs.Prelude.{ℕ, zero, ◌≡◌, ◌+◌, refl, Bool, true, false, List, [], ◌∷◌, ◌++◌, take, drop, length, Option, Some, None}
+use Rattle.std.specs.Prelude.{ℕ, ◌≡◌, ◌+◌, refl, Bool, true, false, List, [], take, drop, Option, Some, None}
 use Rattle.std.proofs.Common.{sym, ◌∙◌, ap, subst, append-nil, arith}
 use Rattle.yl_marks.specs.declared.token.Token.{Token}
 use Rattle.yl_marks.specs.declared.symbol.Symbol.{Symbol}
@@ -10,11 +10,10 @@ use Rattle.yl_events.specs.declared.fault.ParseFault.{ParseFault}
 use Rattle.yl_events.specs.declared.symbol.Goal.{Goal}
 use Rattle.yl_events.specs.declared.symbol.Outline.{Outline}
 use Rattle.yl_events.specs.Derives.{lexeme_count}
-use Rattle.yl_events.specs.Faults.{front_len}
 use Rattle.yl_events.specs.Machine as m
 use Rattle.yl_events.specs.Machine.{State, run, taken, finish, Finished}
 use Rattle.yl_events.specs.Trail.{TrailValue, trail_after, fault_behind, fault_from}
-use Rattle.yl_events.specs.Told.{Told, Fails, answer, told_by, steps}
+use Rattle.yl_events.specs.Told.{Fails, answer, told_by, steps}
 use Rattle.yl_events.specs.Parsing.{Parsing, told, Feeds, Passes}
 use Rattle.yl_events.proofs.Answered.{taken_within}
 use Rattle.yl_events.proofs.Counts.{all_closed_count, line_count, line_whole}

@@ -3,7 +3,6 @@ pub mod Grammar
 pub mod Outlines
 pub mod Machine
 pub mod Derives
-pub mod Answer
 pub mod Faults
 pub mod Trail
 pub mod Told

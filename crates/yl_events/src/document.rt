@@ -6,15 +6,16 @@ ghost use Rattle.yl_marks.specs.declared.symbol.Symbol.{Symbol as Marks};
 ghost use Rattle.yl_marks.specs.Keys.{placed};
 ghost use Rattle.yl_events.specs.Event.{EventValue, event_value, kind_value, value_at, start_at, content_value, kind_of, filled, AreEvents};
 ghost use Rattle.yl_events.specs.Built.{Builds, IsFaultOf};
+ghost use Rattle.yl_events.specs.Parsing.{at_start, begun, told, IsTold};
+ghost use Rattle.yl_marks.specs.ByLine.{by_line};
 
 use crate::event::{Anchor, Built, Event, EventKind};
 use crate::fault::Fault;
-use crate::machine::parse;
+use crate::parser::Parser;
 use crate::symbol::{Outline, Shape};
-use crate::trail::Trail;
 use std::alloc::{AllocError, Allocator};
 use yl_lexeme::{At, Meter};
-use yl_marks::symbols;
+use yl_marks::{Token, line_len, tokens};
 use yl_text::Pos;
 
 /// The value of the lexeme of this index.
@@ -103,17 +104,39 @@ fn fill_all<'a, A: Allocator + Copy>(
     Ok(events)
 }
 
+/// The outlines of a document's lexemes, or its fault.
+fn parse<A: Allocator + Copy>(
+    alloc: A,
+    tokens: &[Token],
+) -> Result<(Vec<Outline, A>, Option<Fault>), AllocError>
+    ensures { IfOk result (λ r. IsTold (told at_start begun (by_line tokens.now)) r.1 r.0.items) }
+{
+    let mut parser = Parser::new(alloc);
+    let mut outlines = Vec::new(alloc);
+    parser.begin(&mut outlines)?;
+    let mut rest = tokens;
+    while !rest.is_empty() {
+        let (line, below) = rest.split_at(line_len(rest));
+        if let Some(fault) = parser.feed(line, &mut outlines)? {
+            return Ok((outlines, Some(fault)));
+        }
+        rest = below;
+    }
+    let fault = parser.finish(&mut outlines)?;
+    Ok((outlines, fault))
+}
+
 /// The events of a document, or its fault.
-#[tactic(auto, using(crate::proofs::Trails::fault_by_trail))]
+#[tactic(auto, using(crate::proofs::Giving::told_events))]
 fn build<'a, A: Allocator + Copy>(
     alloc: A,
     lexemes: &[At<'a, A>],
 ) -> Result<Built<'a, A>, AllocError>
     ensures { IfOk result (λ b. Builds (map (λ x. placed x.line x.lexeme.now) lexemes.now) (map event_value b.events.items) b.fault) }
 {
-    let symbols = symbols(alloc, lexemes)?;
-    let (outlines, place) = parse(alloc, &symbols)?;
-    match place {
+    let tokens = tokens(alloc, lexemes)?;
+    let (outlines, fault) = parse(alloc, &tokens)?;
+    match fault {
         None => {
             let events = fill_all(alloc, lexemes, &outlines)?;
             Ok(Built {
@@ -121,14 +144,10 @@ fn build<'a, A: Allocator + Copy>(
                 fault: None,
             })
         }
-        Some(place) => {
-            let mut trail = Trail::new(alloc);
-            let kind = trail.fault_from(place, &symbols)?;
-            Ok(Built {
-                events: Vec::new(alloc),
-                fault: Some(Fault { kind, place }),
-            })
-        }
+        Some(fault) => Ok(Built {
+            events: Vec::new(alloc),
+            fault: Some(fault),
+        }),
     }
 }
 

@@ -1,12 +1,15 @@
 //! What the definitions say of each document. No function here calls anything.
 
-ghost use Rattle.std.specs.Prelude.{◌≡◌, ◌≤◌, ℕ, List, length};
+ghost use Rattle.std.specs.Prelude.{◌≡◌, ◌≤◌, ℕ, List, length, map};
 ghost use Rattle.yl_lexeme.specs.Lexeme.{LexemeValue};
 ghost use Rattle.yl_marks.specs.declared.symbol.Symbol.{Symbol};
 ghost use Rattle.yl_events.specs.declared.symbol.Outline.{Outline};
+ghost use Rattle.yl_marks.specs.Keys.{token_of};
 ghost use Rattle.yl_marks.specs.Marks.{marked};
+ghost use Rattle.yl_marks.specs.ByLine.{by_line};
 ghost use Rattle.yl_events.specs.Derives.{Derives, HasFaultAt};
 ghost use Rattle.yl_events.specs.Event.{EventValue, AreEvents};
+ghost use Rattle.yl_events.specs.Parsing.{at_start, begun, told, Gives};
 
 /// A document has at most one list of events, by its marked lexemes and by its lexemes.
 pub fn one_derivation()
@@ -19,4 +22,9 @@ pub fn one_fault()
     ensures one { (ws : List Symbol) (i j : ℕ) → HasFaultAt ws i → HasFaultAt ws j → i ≡ j }
     ensures none { (ws : List Symbol) (es : List Outline) (i : ℕ) → Derives ws es → HasFaultAt ws i → ⊥ }
     ensures inside { (xs : List LexemeValue) (i : ℕ) → HasFaultAt (marked xs) i → i ≤ length xs }
+{}
+
+/// What the lines of a document's lexemes tell are the events of its derivation, or its fault.
+pub fn told_documents()
+    ensures { (xs : List LexemeValue) → Gives xs (told at_start begun (by_line (map token_of xs))) }
 {}

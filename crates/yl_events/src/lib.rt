@@ -15,7 +15,7 @@ pub use cuts::documents;
 pub use document::parse_document;
 pub use event::{Anchor, Built, Event, EventKind};
 pub use fault::{Fault, ParseFault};
-pub use laws::{one_derivation, one_fault};
+pub use laws::{one_derivation, one_fault, told_documents};
 pub use parser::Parser;
 pub use symbol::{Outline, Shape};
 pub use yl_marks::{Collection, Marked, Token, line_len, mark, token_of};

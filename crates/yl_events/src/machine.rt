@@ -4,7 +4,6 @@ ghost use Rattle.std.specs.Prelude.{◌≡◌, ◌++◌, [], ◌∷◌, ℕ, IsS
 ghost use Rattle.yl_events.specs.Outlines.{bare, missing, ended, decorated, pair_start, pair_end, node_end, ◌then◌};
 ghost use Rattle.yl_events.specs.Machine.{with_anchor, with_tag, takes, takes_marks, forms, items_take, closes, leaves, followed, step, finish, run, taken, Taken, Left, Stepped, Finished};
 ghost use Rattle.yl_events.specs.Told.{steps, Walked};
-ghost use Rattle.yl_events.specs.Answer.{IsParsed, Answers};
 ghost use Rattle.yl_events.specs.declared.symbol.Where.TheVariants.{InInline};
 ghost use Rattle.yl_events.specs.declared.symbol.Goal.TheVariants.{ItemEnd, NodeEnd};
 
@@ -521,44 +520,4 @@ pub fn walk<A: Allocator>(
         }
     }
     Ok(None)
-}
-
-/// The outlines of a document, and the index of the lexeme at which no derivation is left, where there is one.
-fn run<A: Allocator + Copy>(
-    alloc: A,
-    symbols: &[Symbol],
-) -> Result<(Vec<Outline, A>, Option<usize>), AllocError>
-    ensures { IfOk result (λ r. IsParsed symbols.now r.0.items r.1) }
-{
-    let mut goals = vec![in alloc;
-        Goal::Ending,
-        Goal::Formed(Where::InBlock(false), None),
-        Goal::Prefix,
-    ]?;
-    let mut events = vec![in alloc; bare(Shape::DocumentStart, None)]?;
-    let mut place = 0usize;
-    for symbol in symbols {
-        if !step(*symbol, &mut goals, &mut events)? {
-            return Ok((events, Some(place)));
-        }
-        if let Symbol::One(_, _) = symbol {
-            place += 1;
-        }
-    }
-    if !finish(&mut goals, &mut events)? {
-        return Ok((events, Some(place)));
-    }
-    events.push(bare(Shape::DocumentEnd, None))?;
-    Ok((events, None))
-}
-
-/// The outlines of a document's marked lexemes, or the place of the fault.
-#[tactic(auto, using(crate::proofs::Answered::answered))]
-pub fn parse<A: Allocator + Copy>(
-    alloc: A,
-    symbols: &[Symbol],
-) -> Result<(Vec<Outline, A>, Option<usize>), AllocError>
-    ensures { IfOk result (λ r. Answers symbols.now r.0.items r.1) }
-{
-    run(alloc, symbols)
 }

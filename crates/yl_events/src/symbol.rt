@@ -17,7 +17,8 @@ pub enum Properties {
     TaggedAnchored(usize, usize),
 }
 
-#[derive(Clone, Copy)]
+/// What an event is, without its contents.
+#[derive(Clone, Copy, Debug, PartialEq, Eq)]
 pub enum Shape {
     DocumentStart,
     DocumentEnd,
@@ -27,14 +28,17 @@ pub enum Shape {
     MappingEnd,
     Alias,
     Scalar(Style),
+    /// A missing node, or one of properties alone.
     Empty,
 }
 
-/// An event, by the lexemes where its content and its anchor stand.
-#[derive(Clone, Copy)]
+/// An event by its lexemes, which go by their index in the document.
+#[derive(Clone, Copy, Debug, PartialEq, Eq)]
 pub struct Outline {
     pub kind: Shape,
+    /// The lexeme with which its content begins, behind properties: of a scalar, an alias and a start of a collection.
     pub place: Option<usize>,
+    /// The lexeme that is its anchor.
     pub anchor: Option<usize>,
     pub is_tagged: bool,
 }

@@ -3,8 +3,8 @@ use std::alloc::{AllocError, Allocator, Global};
 use std::process::Abort;
 use std::test::Fail;
 use yl_events::{
-    Built, Collection, EventKind, Marked, ParseFault, documents, mark, one_derivation, one_fault,
-    parse_document,
+    Built, Collection, EventKind, Fault, Marked, Outline, ParseFault, Parser, Shape, documents,
+    mark, one_derivation, one_fault, parse_document, token_of, told_documents,
 };
 use yl_lexeme::{At, Kind, Lexeme, Meter, Style};
 use yl_text::Pos;
@@ -486,6 +486,7 @@ fn each_growth_of_a_fault_is_refused(rt: HostRuntime) -> Result<(), Fail> {
 fn deep(rt: HostRuntime) -> Result<(), Fail> {
     one_derivation();
     one_fault();
+    told_documents();
     let mut brackets = Vec::new(rt.alloc());
     for col in 0..200_000u32 {
         let kind = if col < 100_000 {
@@ -508,5 +509,139 @@ fn deep(rt: HostRuntime) -> Result<(), Fail> {
     let built = parse_document(rt.alloc(), &placed, &mut meter)?;
     assert!(rt; built.fault.is_none());
     assert_eq!(rt; built.events.len(), 200_002);
+    Ok(())
+}
+
+// The outlines of these lexemes, or their fault, by a parser that is fed their lines from 0 to 9.
+fn feed_lines<'a>(
+    heap: Heap<'a>,
+    parser: &mut Parser<Heap<'a>>,
+    lexemes: &[At<'_, Heap<'a>>],
+    outlines: &mut Vec<Outline, Heap<'a>>,
+) -> Result<Option<Fault>, AllocError> {
+    outlines.clear();
+    parser.begin(outlines)?;
+    let mut line = Vec::new(heap);
+    for number in 0..10u32 {
+        line.clear();
+        for at in lexemes {
+            if at.line == number {
+                line.push(token_of(at))?;
+            }
+        }
+        if let Some(fault) = parser.feed(&line, outlines)? {
+            return Ok(Some(fault));
+        }
+    }
+    parser.finish(outlines)
+}
+
+// A parser that is fed the lines has the document's outlines or its fault, as each growth is refused in turn.
+fn expect_lines(rt: &impl Abort, heap: Heap<'_>, tokens: &[Spot]) -> Result<(), AllocError> {
+    let lexemes = lexemes(heap, tokens)?;
+    let placed = placed(heap, tokens, &lexemes)?;
+    let mut meter = Meter::new();
+    let built = parse_document(heap, &placed, &mut meter)?;
+    for n in 1..u64::MAX {
+        let mut parser = Parser::new(heap);
+        let mut outlines = Vec::new(heap);
+        heap.refuse(n);
+        let answer = feed_lines(heap, &mut parser, &placed, &mut outlines);
+        if heap.is_armed() {
+            heap.refuse(0);
+            assert_eq!(rt; answer?, built.fault);
+            assert!(rt; n > 6);
+            if built.fault.is_some() {
+                return Ok(());
+            }
+            assert_eq!(rt; parser.count(), tokens.len());
+            assert_eq!(rt; outlines.len(), built.events.len());
+            for (outline, event) in outlines.iter().zip(&built.events) {
+                let place = match outline.place {
+                    None => None,
+                    Some(i) => placed.get(i).map(|at| at.start()),
+                };
+                assert_eq!(rt; place, event.place);
+                assert_eq!(rt; outline.anchor.is_some(), event.anchor.is_some());
+                assert_eq!(rt; outline.is_tagged, event.is_tagged);
+            }
+            return Ok(());
+        }
+        assert!(rt; answer.is_err(), "the {n}th growth");
+    }
+    Ok(())
+}
+
+#[test]
+fn a_document_line_by_line(rt: HostRuntime) -> Result<(), Fail> {
+    let heap = Refusing::new(rt.alloc());
+    expect_lines(&rt, &heap, &indentless())?;
+    Ok(())
+}
+
+#[test]
+fn a_fault_line_by_line(rt: HostRuntime) -> Result<(), Fail> {
+    let heap = Refusing::new(rt.alloc());
+    expect_lines(&rt, &heap, &entry_behind_a_pair())?;
+    Ok(())
+}
+
+// Properties stand in the line before their node, and a directive in the line before another lexeme than a marker.
+#[test]
+fn properties_and_directives_of_an_earlier_line(rt: HostRuntime) -> Result<(), Fail> {
+    let heap = Refusing::new(rt.alloc());
+    let anchored = [
+        token(0, Kind::Anchor, 0, 2, "x"),
+        token(1, Kind::Tag, 0, 2, ""),
+        token(2, Kind::Entry, 2, 3, ""),
+        token(2, PLAIN, 4, 5, "a"),
+    ];
+    expect_lines(&rt, &heap, &anchored)?;
+    let twice = [
+        token(0, Kind::Anchor, 0, 2, "x"),
+        token(1, Kind::Anchor, 0, 2, "y"),
+    ];
+    expect_lines(&rt, &heap, &twice)?;
+    let directive = [
+        token(0, Kind::Directive, 0, 9, "%YAML 1.2"),
+        token(1, PLAIN, 0, 1, "a"),
+    ];
+    expect_lines(&rt, &heap, &directive)?;
+    Ok(())
+}
+
+// [
+// a
+#[test]
+fn a_document_behind_a_fault(rt: HostRuntime) -> Result<(), Fail> {
+    let heap = Refusing::new(rt.alloc());
+    let open = [
+        token(0, Kind::SeqOpen, 0, 1, ""),
+        token(1, PLAIN, 0, 1, "a"),
+    ];
+    let open_lexemes = lexemes(&heap, &open)?;
+    let open_placed = placed(&heap, &open, &open_lexemes)?;
+    let tokens = [token(3, PLAIN, 0, 1, "b")];
+    let lexemes = lexemes(&heap, &tokens)?;
+    let placed = placed(&heap, &tokens, &lexemes)?;
+    let mut parser = Parser::new(&heap);
+    let mut outlines = Vec::new(&heap);
+    let fault = Fault {
+        kind: ParseFault::CommaOrBracketExpected,
+        place: 2,
+    };
+    assert_eq!(rt;
+        feed_lines(&heap, &mut parser, &open_placed, &mut outlines)?,
+        Some(fault)
+    );
+    assert_eq!(rt;
+        feed_lines(&heap, &mut parser, &placed, &mut outlines)?,
+        None
+    );
+    assert_eq!(rt; outlines.len(), 3);
+    assert_eq!(rt; outlines[0].kind, Shape::DocumentStart);
+    assert_eq!(rt; outlines[1].kind, Shape::Scalar(Style::Plain));
+    assert_eq!(rt; outlines[1].place, Some(0));
+    assert_eq!(rt; outlines[2].kind, Shape::DocumentEnd);
     Ok(())
 }
