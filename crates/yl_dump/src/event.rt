@@ -21,7 +21,7 @@ fn shape_sign(shape: Shape) -> &'static str {
 }
 
 // The value of the lexeme of this index, if it is at hand.
-fn value_at<A: Allocator>(group: &Group<A>, index: Option<usize>) -> &str {
+fn value_at<A: Allocator + Copy>(group: &Group<A>, index: Option<usize>) -> &str {
     match index {
         Some(index) => match group.lexeme(index) {
             Some(lexeme) => lexeme.value(),
@@ -32,7 +32,7 @@ fn value_at<A: Allocator>(group: &Group<A>, index: Option<usize>) -> &str {
 }
 
 // Prints an alias's name or a scalar's value.
-fn print_value<A: Allocator>(
+fn print_value<A: Allocator + Copy>(
     page: &mut Page<A>,
     group: &Group<A>,
     outline: &Outline,
@@ -53,7 +53,7 @@ fn print_value<A: Allocator>(
 }
 
 // Prints a node's properties.
-fn print_properties<A: Allocator>(
+fn print_properties<A: Allocator + Copy>(
     page: &mut Page<A>,
     group: &Group<A>,
     outline: &Outline,
@@ -70,7 +70,7 @@ fn print_properties<A: Allocator>(
 
 /// Prints an event as a line in the notation of the YAML test suite, and the place of its content behind it. The group has the lexeme
 /// of its content.
-fn print_event<A: Allocator>(
+fn print_event<A: Allocator + Copy>(
     page: &mut Page<A>,
     group: &Group<A>,
     outline: &Outline,
@@ -78,17 +78,14 @@ fn print_event<A: Allocator>(
     page.text(shape_sign(outline.kind))?;
     print_properties(page, group, outline)?;
     print_value(page, group, outline)?;
-    if let Some(index) = outline.place
-        && let Some(place) = group.place(index)
-    {
-        page.text(" @")?;
-        page.place(place)?;
+    if let Some(index) = outline.place {
+        group.print_place(page, index)?;
     }
     page.text("\n")
 }
 
 /// Prints events whose lexemes the group has.
-pub fn print_events<A: Allocator>(
+pub fn print_events<A: Allocator + Copy>(
     page: &mut Page<A>,
     group: &Group<A>,
     outlines: &[Outline],

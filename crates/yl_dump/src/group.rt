@@ -1,6 +1,7 @@
 //! The lexemes of a document that begin in one line.
 
 use crate::fault::Place;
+use crate::page::Page;
 use std::alloc::{AllocError, Allocator};
 use yl_events::{Token, token_of};
 use yl_lexeme::{At, Kind, Lexeme};
@@ -15,24 +16,24 @@ struct Indexed<A: Allocator> {
 /// The lexemes of a document that begin in one line, as far as they were read. Of the lines before, the last anchor is kept, since the
 /// node that it belongs to may begin in a later line.
 #[derive(Drop)]
-pub struct Group<A: Allocator> {
+pub struct Group<A: Allocator + Copy> {
     /// The line in the text, counted from 0.
     line: u32,
+    /// What is printed of a place in it before the column.
+    place_opening: Page<A>,
     /// The index of the first lexeme in the document.
     first: usize,
     lexemes: Vec<Lexeme<A>, A>,
-    /// Which of them is the last anchor.
-    own_anchor: Option<usize>,
     earlier_anchor: Option<Indexed<A>>,
 }
 
-impl<A: Allocator> Group<A> {
+impl<A: Allocator + Copy> Group<A> {
     pub fn new(alloc: A) -> Group<A> {
         Group {
             line: 0,
+            place_opening: Page::new(alloc),
             first: 0,
             lexemes: Vec::new(alloc),
-            own_anchor: None,
             earlier_anchor: None,
         }
     }
@@ -45,15 +46,31 @@ impl<A: Allocator> Group<A> {
     /// Takes in a lexeme that begins at this line, that of the others, if there are some.
     pub fn push(&mut self, line: u32, lexeme: Lexeme<A>) -> Result<(), AllocError> {
         self.line = line;
-        if lexeme.kind() == Kind::Anchor {
-            self.own_anchor = Some(self.lexemes.len());
-        }
         self.lexemes.push(lexeme)?;
         Ok(())
     }
 
-    /// Fills in the lexemes without their values.
-    pub fn fill_in(&self, tokens: &mut Vec<Token, A>) -> Result<(), AllocError> {
+    /// Takes in lexemes that begin at this line, that of the others, if there are some.
+    pub fn append(&mut self, line: u32, mut lexemes: Vec<Lexeme<A>, A>) -> Result<(), AllocError> {
+        self.line = line;
+        if self.lexemes.is_empty() {
+            self.lexemes = lexemes;
+            return Ok(());
+        }
+        self.lexemes.append(&mut lexemes)
+    }
+
+    // Prints what is printed of a place in the line before the column.
+    fn print_opening(&mut self) -> Result<(), AllocError> {
+        self.place_opening.truncate(0);
+        self.place_opening.text(" @")?;
+        self.place_opening.number(u64::from(self.line) + 1)?;
+        self.place_opening.text(":")
+    }
+
+    /// The line is whole: fills in its lexemes without their values.
+    pub fn fill_in(&mut self, tokens: &mut Vec<Token, A>) -> Result<(), AllocError> {
+        self.print_opening()?;
         tokens.clear();
         for lexeme in &self.lexemes {
             tokens.push(token_of(&At {
@@ -75,6 +92,18 @@ impl<A: Allocator> Group<A> {
         }
     }
 
+    /// Prints where the group's lexeme of this index in the document begins in the text, ` @LINE:COLUMN`.
+    pub fn print_place(&self, page: &mut Page<A>, index: usize) -> Result<(), AllocError> {
+        if index < self.first {
+            return Ok(());
+        }
+        let Some(lexeme) = self.lexemes.get(index - self.first) else {
+            return Ok(());
+        };
+        page.bytes(self.place_opening.as_bytes())?;
+        page.number(u64::from(lexeme.start().col) + 1)
+    }
+
     /// Where the group's lexeme of this index in the document begins in the text.
     pub fn place(&self, index: usize) -> Option<Place> {
         if index < self.first {
@@ -89,16 +118,16 @@ impl<A: Allocator> Group<A> {
 
     /// The line was parsed: the next lexeme, whose index is this, begins in another one.
     pub fn pass(&mut self, first: usize) {
-        if let Some(i) = self.own_anchor {
-            self.lexemes.truncate(i.saturating_add(1));
-            self.earlier_anchor = match self.lexemes.pop() {
-                Some(lexeme) => Some(Indexed {
-                    index: self.first.saturating_add(i),
-                    lexeme,
-                }),
-                None => None,
-            };
-            self.own_anchor = None;
+        let anchor = self
+            .lexemes
+            .iter()
+            .rposition(|lexeme| lexeme.kind() == Kind::Anchor);
+        if let Some(i) = anchor {
+            self.lexemes.truncate(i + 1);
+            if let Some(lexeme) = self.lexemes.pop() {
+                let index = self.first.saturating_add(i);
+                self.earlier_anchor = Some(Indexed { index, lexeme });
+            }
         }
         self.lexemes.clear();
         self.first = first;
@@ -107,7 +136,6 @@ impl<A: Allocator> Group<A> {
     /// A document begins.
     pub fn clear(&mut self) {
         self.lexemes.clear();
-        self.own_anchor = None;
         self.earlier_anchor = None;
         self.first = 0;
     }

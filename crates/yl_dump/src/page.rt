@@ -21,6 +21,10 @@ impl<A: Allocator> Page<A> {
         }
     }
 
+    pub fn as_bytes(&self) -> &[u8] {
+        self.text.as_slice()
+    }
+
     /// How many bytes wait.
     pub fn len(&self) -> usize {
         self.text.len()
@@ -39,7 +43,14 @@ impl<A: Allocator> Page<A> {
         self.text.extend_from_slice(text.as_bytes())
     }
 
+    /// Prints a number in decimal digits. Most have one or two.
     pub fn number(&mut self, n: u64) -> Result<(), AllocError> {
+        if n < 10 {
+            return self.bytes(&[b'0' + n as u8]);
+        }
+        if n < 100 {
+            return self.bytes(&[b'0' + (n / 10) as u8, b'0' + (n % 10) as u8]);
+        }
         let mut buffer = Buffer::new();
         self.text(buffer.format(n))
     }
