@@ -1,2 +1,4 @@
 pub mod Names
+pub mod Place
+pub mod Quoting
 pub mod TextScan
