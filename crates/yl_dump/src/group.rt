@@ -1,8 +1,11 @@
 //! The lexemes of a document that begin in one line.
+ghost use Rattle.std.specs.Prelude.{◌≡◌, ◌++◌, Some, OnOk};
+ghost use Rattle.yl_dump.specs.EventLine.{lexeme_at, opening_of, place_of, value_of};
 
 use crate::fault::Place;
 use crate::page::Page;
 use std::alloc::{AllocError, Allocator};
+use std::marker::Model;
 use yl_events::{Token, token_of};
 use yl_lexeme::{At, Kind, Lexeme};
 
@@ -25,6 +28,15 @@ pub struct Group<A: Allocator + Copy> {
     first: usize,
     lexemes: Vec<Lexeme<A>, A>,
     earlier_anchor: Option<Indexed<A>>,
+}
+
+impl<A: Allocator + Copy> Model for Group<A> {
+    ghost use Rattle.yl_dump.specs.EventLine.{AtHand};
+    ghost use Rattle.yl_dump.specs.Earlier.{earlier_of};
+
+    ghost Value = { AtHand };
+
+    ghost view = { λ g. record { line = g.line; opening = g.place_opening; first = g.first; lexemes = g.lexemes.items; earlier = earlier_of g.earlier_anchor } };
 }
 
 impl<A: Allocator + Copy> Group<A> {
@@ -61,7 +73,9 @@ impl<A: Allocator + Copy> Group<A> {
     }
 
     // Prints what is printed of a place in the line before the column.
-    fn print_opening(&mut self) -> Result<(), AllocError> {
+    fn print_opening(&mut self) -> Result<(), AllocError>
+        ensures { OnOk result (self.new ≡ record self.old { opening = opening_of self.old.line }) }
+    {
         self.place_opening.truncate(0);
         self.place_opening.text(" @")?;
         self.place_opening.number(u64::from(self.line) + 1)?;
@@ -69,7 +83,9 @@ impl<A: Allocator + Copy> Group<A> {
     }
 
     /// The line is whole: fills in its lexemes without their values.
-    pub fn fill_in(&mut self, tokens: &mut Vec<Token, A>) -> Result<(), AllocError> {
+    pub fn fill_in(&mut self, tokens: &mut Vec<Token, A>) -> Result<(), AllocError>
+        ensures { OnOk result (self.new ≡ record self.old { opening = opening_of self.old.line }) }
+    {
         self.print_opening()?;
         tokens.clear();
         for lexeme in &self.lexemes {
@@ -81,19 +97,26 @@ impl<A: Allocator + Copy> Group<A> {
         Ok(())
     }
 
-    /// The lexeme of this index in the document, if it is at hand.
-    pub fn lexeme(&self, index: usize) -> Option<&Lexeme<A>> {
+    /// The value of the lexeme of this index in the document, if it is at hand; else an empty one.
+    pub fn value(&self, index: usize) -> &str
+        ensures { result.now ≡ value_of (lexeme_at self.now index) }
+    {
         if index >= self.first {
-            return self.lexemes.get(index - self.first);
+            return match self.lexemes.get(index - self.first) {
+                Some(lexeme) => lexeme.value(),
+                None => "",
+            };
         }
         match &self.earlier_anchor {
-            Some(anchor) if anchor.index == index => Some(&anchor.lexeme),
-            _ => None,
+            Some(anchor) if anchor.index == index => anchor.lexeme.value(),
+            _ => "",
         }
     }
 
     /// Prints where the group's lexeme of this index in the document begins in the text, ` @LINE:COLUMN`.
-    pub fn print_place(&self, page: &mut Page<A>, index: usize) -> Result<(), AllocError> {
+    pub fn print_place(&self, page: &mut Page<A>, index: usize) -> Result<(), AllocError>
+        ensures { OnOk result (page.new ≡ page.old ++ place_of self.now (Some index)) }
+    {
         if index < self.first {
             return Ok(());
         }

@@ -1,8 +1,10 @@
 //! Lexemes and comments.
-ghost use Rattle.std.specs.Prelude.{◌≤◌, length};
+ghost use Rattle.std.specs.Prelude.{◌≡◌, ◌≤◌, ◌++◌, length, OnOk};
 ghost use Rattle.yl_text.specs.declared.TheConstants.{MAX_BYTES};
+ghost use Rattle.yl_dump.specs.LexemeLine.{extent_line, lexeme_line, comment_line, fault_line};
 
-use crate::fault::{DumpFault, Place, scan_fault};
+use crate::characters::character_count;
+use crate::fault::{DumpFault, Place, TextFault, scan_fault};
 use crate::names::kind_name;
 use crate::page::Page;
 use crate::quoting::print_quoted;
@@ -19,7 +21,9 @@ fn print_line<A: Allocator>(
     end: Place,
     name: &str,
     text: &str,
-) -> Result<(), AllocError> {
+) -> Result<(), AllocError>
+    ensures { OnOk result (page.new ≡ page.old ++ extent_line start end name.now text.now) }
+{
     page.place(start)?;
     page.text("-")?;
     page.place(end)?;
@@ -35,7 +39,9 @@ fn print_lexeme<A: Allocator>(
     page: &mut Page<A>,
     line: u32,
     lexeme: &Lexeme<A>,
-) -> Result<(), AllocError> {
+) -> Result<(), AllocError>
+    ensures { OnOk result (page.new ≡ page.old ++ lexeme_line line lexeme.now) }
+{
     let start = Place {
         line: u64::from(line),
         column: u64::from(lexeme.start().col),
@@ -52,16 +58,28 @@ fn print_comment<A: Allocator>(
     page: &mut Page<A>,
     line: u32,
     comment: &Comment<A>,
-) -> Result<(), AllocError> {
+) -> Result<(), AllocError>
+    ensures { OnOk result (page.new ≡ page.old ++ comment_line line comment.now) }
+{
     let line = u64::from(line);
     let text = comment.text();
     let column = u64::from(comment.col());
     let start = Place { line, column };
     let end = Place {
         line,
-        column: column.saturating_add(text.chars().count() as u64),
+        column: column.saturating_add(character_count(text)),
     };
     print_line(page, start, end, "Comment", text)
+}
+
+// Prints a scan fault.
+fn print_fault<A: Allocator>(page: &mut Page<A>, fault: TextFault) -> Result<(), AllocError>
+    ensures { OnOk result (page.new ≡ page.old ++ fault_line fault.place fault.text.now) }
+{
+    page.place(fault.place)?;
+    page.text(" fault ")?;
+    print_quoted(page, fault.text)?;
+    page.text("\n")
 }
 
 // Prints what was told at this line, counted from 0.
@@ -80,11 +98,7 @@ fn print_step<A: Allocator>(
         print_comment(page, line, comment)?;
     }
     if let Some(failed) = step.failed {
-        let fault = scan_fault(line, failed);
-        page.place(fault.place)?;
-        page.text(" fault ")?;
-        print_quoted(page, fault.text)?;
-        page.text("\n")?;
+        print_fault(page, scan_fault(line, failed))?;
     }
     Ok(())
 }

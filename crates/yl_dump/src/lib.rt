@@ -4,6 +4,7 @@
 //! double quotes, with `\\` and `\"` for a backslash and a quote, and `\u{HEX}` for a character that is not printable ASCII.
 #![tactic(auto)]
 
+mod characters;
 mod document_fault;
 mod documents;
 mod event;
