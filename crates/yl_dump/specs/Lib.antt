@@ -6,4 +6,5 @@ pub mod Names
 pub mod Place
 pub mod Quoting
 pub mod StateLine
+pub mod StepLines
 pub mod TextScan

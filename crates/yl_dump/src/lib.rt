@@ -11,6 +11,7 @@ mod event;
 mod events;
 mod fault;
 mod group;
+mod lexeme_line;
 mod lexemes;
 mod lines;
 mod names;
