@@ -1,7 +1,6 @@
 //! The documents of a text, one after another.
-ghost use Rattle.std.specs.Prelude.{◌≡◌, ◌||◌, ◌&&◌, not};
-ghost use Rattle.yl_events.specs.Documents.{is_document_end, is_document_start, is_directive};
 
+use crate::begins::{begins_document, begins_inside};
 use crate::document_fault::{Behind, DocumentFault, print_fault, text_fault};
 use crate::event::print_events;
 use crate::fault::{DumpFault, Place};
@@ -11,26 +10,6 @@ use std::alloc::{AllocError, Allocator};
 use std::io::Write;
 use yl_events::{Outline, Parser, Token};
 use yl_lexeme::{Kind, Lexeme};
-
-// Whether a document begins with a lexeme of this kind, behind one of the kind `last`. Directives stand only at a text's start
-// and behind a document's end, so that a document that has some begins with the first of them.
-fn begins_document(last: Kind, kind: Kind) -> bool
-    ensures { result ≡ (is_document_end last || (is_document_start kind && not (is_directive last))) }
-{
-    match (last, kind) {
-        (Kind::DocEnd, _) => true,
-        (Kind::Directive, _) => false,
-        (_, Kind::DocStart) => true,
-        _ => false,
-    }
-}
-
-// Whether a document begins with a lexeme behind the first of these.
-fn begins_inside<A: Allocator>(lexemes: &[Lexeme<A>]) -> bool {
-    lexemes.windows(2).any(
-        |pair| matches!(pair, [last, lexeme] if begins_document(last.kind(), lexeme.kind())),
-    )
-}
 
 /// Prints the events of a text's documents, or their faults, as it takes their lexemes. Of the document that it is in, the events of
 /// all lines before the last one are printed, and not written yet.

@@ -4,6 +4,7 @@
 //! double quotes, with `\\` and `\"` for a backslash and a quote, and `\u{HEX}` for a character that is not printable ASCII.
 #![tactic(auto)]
 
+mod begins;
 mod characters;
 mod document_fault;
 mod documents;
@@ -17,6 +18,7 @@ mod lines;
 mod names;
 mod page;
 mod quoting;
+mod state;
 mod text_scanner;
 
 pub use events::write_events;
