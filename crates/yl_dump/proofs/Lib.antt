@@ -1,2 +1,5 @@
+pub mod Appended
 pub mod Bounds
+pub mod Numbers
+pub mod Plain
 pub mod Rows

@@ -1,2 +1,10 @@
+pub mod DocumentLine
+pub mod Earlier
+pub mod EventLine
+pub mod LexemeLine
 pub mod Names
+pub mod Place
+pub mod Quoting
+pub mod StateLine
+pub mod StepLines
 pub mod TextScan

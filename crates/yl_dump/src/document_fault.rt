@@ -1,4 +1,6 @@
 //! Faults of documents.
+ghost use Rattle.std.specs.Prelude.{◌≡◌, ◌++◌, OnOk};
+ghost use Rattle.yl_dump.specs.DocumentLine.{refused_line};
 
 use crate::fault::{Place, TextFault};
 use crate::page::Page;
@@ -45,7 +47,9 @@ pub fn text_fault(fault: Option<DocumentFault>, behind: Behind) -> Option<TextFa
 }
 
 /// Prints a document's fault as a line.
-pub fn print_fault<A: Allocator>(page: &mut Page<A>, fault: TextFault) -> Result<(), AllocError> {
+pub fn print_fault<A: Allocator>(page: &mut Page<A>, fault: TextFault) -> Result<(), AllocError>
+    ensures { OnOk result (page.new ≡ page.old ++ refused_line fault.place fault.text.now) }
+{
     page.text("!DOC ")?;
     page.place(fault.place)?;
     page.text(" ")?;

@@ -1,7 +1,6 @@
 //! The documents of a text, one after another.
-ghost use Rattle.std.specs.Prelude.{◌≡◌, ◌||◌, ◌&&◌, not};
-ghost use Rattle.yl_events.specs.Documents.{is_document_end, is_document_start, is_directive};
 
+use crate::begins::{begins_document, begins_inside};
 use crate::document_fault::{Behind, DocumentFault, print_fault, text_fault};
 use crate::event::print_events;
 use crate::fault::{DumpFault, Place};
@@ -11,19 +10,6 @@ use std::alloc::{AllocError, Allocator};
 use std::io::Write;
 use yl_events::{Outline, Parser, Token};
 use yl_lexeme::{Kind, Lexeme};
-
-// Whether a document begins with a lexeme of this kind, behind one of the kind `last`. Directives stand only at a text's start
-// and behind a document's end, so that a document that has some begins with the first of them.
-fn begins_document(last: Kind, kind: Kind) -> bool
-    ensures { result ≡ (is_document_end last || (is_document_start kind && not (is_directive last))) }
-{
-    match (last, kind) {
-        (Kind::DocEnd, _) => true,
-        (Kind::Directive, _) => false,
-        (_, Kind::DocStart) => true,
-        _ => false,
-    }
-}
 
 /// Prints the events of a text's documents, or their faults, as it takes their lexemes. Of the document that it is in, the events of
 /// all lines before the last one are printed, and not written yet.
@@ -65,12 +51,46 @@ impl<A: Allocator + Copy, W: Write> Documents<A, W> {
         Ok(())
     }
 
+    /// Takes the text's next lexemes, which begin at this line, counted from 0. A document begins with the first of them or with none.
+    fn take_all(&mut self, line: u32, lexemes: Vec<Lexeme<A>, A>) -> Result<(), DumpFault> {
+        let (Some(first), Some(last)) = (lexemes.first(), lexemes.last()) else {
+            return Ok(());
+        };
+        let last = last.kind();
+        self.enter(line, first)?;
+        self.last = Some(last);
+        if self.fault.is_none() {
+            self.group.append(line, lexemes)?;
+        }
+        Ok(())
+    }
+
     /// Takes the text's next lexeme, which begins at this line, counted from 0.
     pub fn take(&mut self, line: u32, lexeme: Lexeme<A>) -> Result<(), DumpFault> {
-        let kind = lexeme.kind();
+        self.enter(line, &lexeme)?;
+        self.last = Some(lexeme.kind());
+        if self.fault.is_none() {
+            self.group.push(line, lexeme)?;
+        }
+        Ok(())
+    }
+
+    /// Takes the lexemes of a row, which begin at this line, counted from 0.
+    pub fn take_row(&mut self, line: u32, lexemes: Vec<Lexeme<A>, A>) -> Result<(), DumpFault> {
+        if !begins_inside(&lexemes) {
+            return self.take_all(line, lexemes);
+        }
+        for lexeme in lexemes {
+            self.take(line, lexeme)?;
+        }
+        Ok(())
+    }
+
+    // Comes to a lexeme that begins at this line: parses the line before it, and ends the document before it.
+    fn enter(&mut self, line: u32, lexeme: &Lexeme<A>) -> Result<(), DumpFault> {
         match self.last {
             None => self.begin()?,
-            Some(last) if begins_document(last, kind) => {
+            Some(last) if begins_document(last, lexeme.kind()) => {
                 let column = u64::from(lexeme.start().col);
                 let line = u64::from(line);
                 self.end(Behind::End(Place { line, column }))?;
@@ -78,10 +98,6 @@ impl<A: Allocator + Copy, W: Write> Documents<A, W> {
             }
             Some(_) if self.group.is_in(line) => {}
             Some(_) => self.parse_line()?,
-        }
-        self.last = Some(kind);
-        if self.fault.is_none() {
-            self.group.push(line, lexeme)?;
         }
         Ok(())
     }

@@ -1,4 +1,7 @@
 //! Events.
+ghost use Rattle.std.specs.Prelude.{◌≡◌, ◌++◌, OnOk};
+ghost use Rattle.std.specs.List.{flat_map};
+ghost use Rattle.yl_dump.specs.EventLine.{sign_of, content_text, anchor_text, tag_text, place_of, event_line};
 
 use crate::group::Group;
 use crate::names::value_opening;
@@ -7,7 +10,9 @@ use crate::quoting::print_escaped;
 use std::alloc::{AllocError, Allocator};
 use yl_events::{Outline, Shape};
 
-fn shape_sign(shape: Shape) -> &'static str {
+fn shape_sign(shape: Shape) -> &'static str
+    ensures { result.now ≡ sign_of shape }
+{
     match shape {
         Shape::DocumentStart => "+DOC",
         Shape::DocumentEnd => "-DOC",
@@ -20,79 +25,97 @@ fn shape_sign(shape: Shape) -> &'static str {
     }
 }
 
-// The value of the lexeme of this index, if it is at hand.
-fn value_at<A: Allocator>(group: &Group<A>, index: Option<usize>) -> &str {
-    match index {
-        Some(index) => match group.lexeme(index) {
-            Some(lexeme) => lexeme.value(),
-            None => "",
-        },
-        None => "",
-    }
-}
-
-// Prints an alias's name or a scalar's value.
-fn print_value<A: Allocator>(
+// Prints what stands between an event's properties and its place: an alias's name, or a scalar's value.
+fn print_content<A: Allocator + Copy>(
     page: &mut Page<A>,
     group: &Group<A>,
     outline: &Outline,
-) -> Result<(), AllocError> {
+) -> Result<(), AllocError>
+    ensures { OnOk result (page.new ≡ page.old ++ content_text group.now outline.now.kind outline.now.place) }
+{
+    let value = match outline.place {
+        Some(index) => group.value(index),
+        None => "",
+    };
     match outline.kind {
         Shape::Alias => {
             page.text(" *")?;
-            page.text(value_at(group, outline.place))
+            page.text(value)?;
         }
         Shape::Scalar(style) => {
             page.text(value_opening(style))?;
-            print_escaped(page, value_at(group, outline.place))?;
-            page.text("\"")
+            print_escaped(page, value)?;
+            page.text("\"")?;
         }
-        Shape::Empty => page.text(" :\"\""),
-        _ => Ok(()),
+        Shape::Empty => page.text(" :\"\"")?,
+        _ => {}
     }
+    Ok(())
 }
 
-// Prints a node's properties.
-fn print_properties<A: Allocator>(
+// Prints a node's anchor, if it has one.
+fn print_anchor<A: Allocator + Copy>(
     page: &mut Page<A>,
     group: &Group<A>,
-    outline: &Outline,
-) -> Result<(), AllocError> {
-    if outline.anchor.is_some() {
+    anchor: Option<usize>,
+) -> Result<(), AllocError>
+    ensures { OnOk result (page.new ≡ page.old ++ anchor_text group.now anchor) }
+{
+    if let Some(index) = anchor {
         page.text(" &")?;
-        page.text(value_at(group, outline.anchor))?;
+        page.text(group.value(index))?;
     }
-    if outline.is_tagged {
+    Ok(())
+}
+
+// Prints the sign of a tag, if there is one.
+fn print_tag<A: Allocator + Copy>(page: &mut Page<A>, is_tagged: bool) -> Result<(), AllocError>
+    ensures { OnOk result (page.new ≡ page.old ++ tag_text is_tagged) }
+{
+    if is_tagged {
         page.text(" <>")?;
     }
     Ok(())
 }
 
-/// Prints an event as a line in the notation of the YAML test suite, and the place of its content behind it. The group has the lexeme
-/// of its content.
-fn print_event<A: Allocator>(
+// Prints the place of a node's content, if it has one.
+fn print_place<A: Allocator + Copy>(
+    page: &mut Page<A>,
+    group: &Group<A>,
+    place: Option<usize>,
+) -> Result<(), AllocError>
+    ensures { OnOk result (page.new ≡ page.old ++ place_of group.now place) }
+{
+    match place {
+        Some(index) => group.print_place(page, index),
+        None => Ok(()),
+    }
+}
+
+// Prints an event as a line in the notation of the YAML test suite, and the place of its content behind it.
+fn print_event<A: Allocator + Copy>(
     page: &mut Page<A>,
     group: &Group<A>,
     outline: &Outline,
-) -> Result<(), AllocError> {
+) -> Result<(), AllocError>
+    ensures { OnOk result (page.new ≡ page.old ++ event_line group.now outline.now) }
+{
     page.text(shape_sign(outline.kind))?;
-    print_properties(page, group, outline)?;
-    print_value(page, group, outline)?;
-    if let Some(index) = outline.place
-        && let Some(place) = group.place(index)
-    {
-        page.text(" @")?;
-        page.place(place)?;
-    }
+    print_anchor(page, group, outline.anchor)?;
+    print_tag(page, outline.is_tagged)?;
+    print_content(page, group, outline)?;
+    print_place(page, group, outline.place)?;
     page.text("\n")
 }
 
 /// Prints events whose lexemes the group has.
-pub fn print_events<A: Allocator>(
+pub fn print_events<A: Allocator + Copy>(
     page: &mut Page<A>,
     group: &Group<A>,
     outlines: &[Outline],
-) -> Result<(), AllocError> {
+) -> Result<(), AllocError>
+    ensures { OnOk result (page.new ≡ page.old ++ flat_map (event_line group.now) outlines.now) }
+{
     for outline in outlines {
         print_event(page, group, outline)?;
     }

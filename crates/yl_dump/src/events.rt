@@ -25,9 +25,7 @@ fn take_step<A: Allocator + Copy, W: Write>(
     if let Some(ended) = ended {
         documents.take(line.saturating_sub(ended.ago), ended.lexeme)?;
     }
-    for lexeme in lexemes {
-        documents.take(line, lexeme)?;
-    }
+    documents.take_row(line, lexemes)?;
     match failed {
         Some(failed) => Ok(Some(scan_fault(line, failed))),
         None => Ok(None),

@@ -1,5 +1,6 @@
 //! Why a text is not shown to its end, and faults in a text.
 ghost use Rattle.std.specs.Prelude.{◌≡◌, ◌+◌, ◌-◌, ◌^◌, min};
+ghost use Rattle.yl_row.specs.Fault.{fault_text};
 ghost use Rattle.yl_dump.specs.declared.fault.DumpFault.TheVariants.{Memory};
 
 use std::alloc::{AllocError, AllocFailed};
@@ -50,6 +51,7 @@ pub struct TextFault {
 pub fn scan_fault(line: u32, failed: Failed) -> TextFault
     ensures line { result.place.line ≡ min (line - failed.ago + failed.fault.down) (2 ^ 64 - 1) }
     ensures column { result.place.column ≡ failed.fault.column }
+    ensures text { result.text.now ≡ fault_text failed.fault.fault }
 {
     let begun = u64::from(line).saturating_sub(u64::from(failed.ago));
     let place = Place {

@@ -1,7 +1,11 @@
 //! The lexemes of a document that begin in one line.
+ghost use Rattle.std.specs.Prelude.{◌≡◌, ◌++◌, Some, OnOk};
+ghost use Rattle.yl_dump.specs.EventLine.{lexeme_at, opening_of, place_of, value_of};
 
 use crate::fault::Place;
+use crate::page::Page;
 use std::alloc::{AllocError, Allocator};
+use std::marker::Model;
 use yl_events::{Token, token_of};
 use yl_lexeme::{At, Kind, Lexeme};
 
@@ -15,24 +19,33 @@ struct Indexed<A: Allocator> {
 /// The lexemes of a document that begin in one line, as far as they were read. Of the lines before, the last anchor is kept, since the
 /// node that it belongs to may begin in a later line.
 #[derive(Drop)]
-pub struct Group<A: Allocator> {
+pub struct Group<A: Allocator + Copy> {
     /// The line in the text, counted from 0.
     line: u32,
+    /// What is printed of a place in it before the column.
+    place_opening: Page<A>,
     /// The index of the first lexeme in the document.
     first: usize,
     lexemes: Vec<Lexeme<A>, A>,
-    /// Which of them is the last anchor.
-    own_anchor: Option<usize>,
     earlier_anchor: Option<Indexed<A>>,
 }
 
-impl<A: Allocator> Group<A> {
+impl<A: Allocator + Copy> Model for Group<A> {
+    ghost use Rattle.yl_dump.specs.EventLine.{AtHand};
+    ghost use Rattle.yl_dump.specs.Earlier.{earlier_of};
+
+    ghost Value = { AtHand };
+
+    ghost view = { λ g. record { line = g.line; opening = g.place_opening; first = g.first; lexemes = g.lexemes.items; earlier = earlier_of g.earlier_anchor } };
+}
+
+impl<A: Allocator + Copy> Group<A> {
     pub fn new(alloc: A) -> Group<A> {
         Group {
             line: 0,
+            place_opening: Page::new(alloc),
             first: 0,
             lexemes: Vec::new(alloc),
-            own_anchor: None,
             earlier_anchor: None,
         }
     }
@@ -45,15 +58,35 @@ impl<A: Allocator> Group<A> {
     /// Takes in a lexeme that begins at this line, that of the others, if there are some.
     pub fn push(&mut self, line: u32, lexeme: Lexeme<A>) -> Result<(), AllocError> {
         self.line = line;
-        if lexeme.kind() == Kind::Anchor {
-            self.own_anchor = Some(self.lexemes.len());
-        }
         self.lexemes.push(lexeme)?;
         Ok(())
     }
 
-    /// Fills in the lexemes without their values.
-    pub fn fill_in(&self, tokens: &mut Vec<Token, A>) -> Result<(), AllocError> {
+    /// Takes in lexemes that begin at this line, that of the others, if there are some.
+    pub fn append(&mut self, line: u32, mut lexemes: Vec<Lexeme<A>, A>) -> Result<(), AllocError> {
+        self.line = line;
+        if self.lexemes.is_empty() {
+            self.lexemes = lexemes;
+            return Ok(());
+        }
+        self.lexemes.append(&mut lexemes)
+    }
+
+    // Prints what is printed of a place in the line before the column.
+    fn print_opening(&mut self) -> Result<(), AllocError>
+        ensures { OnOk result (self.new ≡ record self.old { opening = opening_of self.old.line }) }
+    {
+        self.place_opening.truncate(0);
+        self.place_opening.text(" @")?;
+        self.place_opening.number(u64::from(self.line) + 1)?;
+        self.place_opening.text(":")
+    }
+
+    /// The line is whole: fills in its lexemes without their values.
+    pub fn fill_in(&mut self, tokens: &mut Vec<Token, A>) -> Result<(), AllocError>
+        ensures { OnOk result (self.new ≡ record self.old { opening = opening_of self.old.line }) }
+    {
+        self.print_opening()?;
         tokens.clear();
         for lexeme in &self.lexemes {
             tokens.push(token_of(&At {
@@ -64,15 +97,34 @@ impl<A: Allocator> Group<A> {
         Ok(())
     }
 
-    /// The lexeme of this index in the document, if it is at hand.
-    pub fn lexeme(&self, index: usize) -> Option<&Lexeme<A>> {
+    /// The value of the lexeme of this index in the document, if it is at hand; else an empty one.
+    pub fn value(&self, index: usize) -> &str
+        ensures { result.now ≡ value_of (lexeme_at self.now index) }
+    {
         if index >= self.first {
-            return self.lexemes.get(index - self.first);
+            return match self.lexemes.get(index - self.first) {
+                Some(lexeme) => lexeme.value(),
+                None => "",
+            };
         }
         match &self.earlier_anchor {
-            Some(anchor) if anchor.index == index => Some(&anchor.lexeme),
-            _ => None,
+            Some(anchor) if anchor.index == index => anchor.lexeme.value(),
+            _ => "",
         }
+    }
+
+    /// Prints where the group's lexeme of this index in the document begins in the text, ` @LINE:COLUMN`.
+    pub fn print_place(&self, page: &mut Page<A>, index: usize) -> Result<(), AllocError>
+        ensures { OnOk result (page.new ≡ page.old ++ place_of self.now (Some index)) }
+    {
+        if index < self.first {
+            return Ok(());
+        }
+        let Some(lexeme) = self.lexemes.get(index - self.first) else {
+            return Ok(());
+        };
+        page.bytes(self.place_opening.as_bytes())?;
+        page.number(u64::from(lexeme.start().col) + 1)
     }
 
     /// Where the group's lexeme of this index in the document begins in the text.
@@ -89,16 +141,16 @@ impl<A: Allocator> Group<A> {
 
     /// The line was parsed: the next lexeme, whose index is this, begins in another one.
     pub fn pass(&mut self, first: usize) {
-        if let Some(i) = self.own_anchor {
-            self.lexemes.truncate(i.saturating_add(1));
-            self.earlier_anchor = match self.lexemes.pop() {
-                Some(lexeme) => Some(Indexed {
-                    index: self.first.saturating_add(i),
-                    lexeme,
-                }),
-                None => None,
-            };
-            self.own_anchor = None;
+        let anchor = self
+            .lexemes
+            .iter()
+            .rposition(|lexeme| lexeme.kind() == Kind::Anchor);
+        if let Some(i) = anchor {
+            self.lexemes.truncate(i + 1);
+            if let Some(lexeme) = self.lexemes.pop() {
+                let index = self.first.saturating_add(i);
+                self.earlier_anchor = Some(Indexed { index, lexeme });
+            }
         }
         self.lexemes.clear();
         self.first = first;
@@ -107,7 +159,6 @@ impl<A: Allocator> Group<A> {
     /// A document begins.
     pub fn clear(&mut self) {
         self.lexemes.clear();
-        self.own_anchor = None;
         self.earlier_anchor = None;
         self.first = 0;
     }

@@ -1,92 +1,85 @@
 //! Lexemes and comments.
-ghost use Rattle.std.specs.Prelude.{◌≤◌, length};
+ghost use Rattle.std.specs.Prelude.{◌≡◌, ◌≤◌, ◌++◌, length, OnOk};
 ghost use Rattle.yl_text.specs.declared.TheConstants.{MAX_BYTES};
+ghost use Rattle.std.specs.List.{flat_map};
+ghost use Rattle.std.specs.Option.{option_map};
+ghost use Rattle.yl_scan.specs.Scanner.{ended_at, failed_at, told_of};
+ghost use Rattle.yl_dump.specs.StepLines.{above_lines, comment_lines, failed_lines, step_lines};
+ghost use Rattle.yl_dump.specs.LexemeLine.{lexeme_line};
 
-use crate::fault::{DumpFault, Place, scan_fault};
-use crate::names::kind_name;
+use crate::fault::{DumpFault, scan_fault};
+use crate::lexeme_line::{print_comment, print_fault, print_lexeme};
 use crate::page::Page;
-use crate::quoting::print_quoted;
 use crate::text_scanner::TextScanner;
 use std::alloc::{AllocError, Allocator};
 use std::io::Write;
 use yl_lexeme::{Comment, Lexeme};
-use yl_scan::Step;
+use yl_scan::{Ended, Failed, Step};
 
-// Prints two places, a name and a quoted text.
-fn print_line<A: Allocator>(
-    page: &mut Page<A>,
-    start: Place,
-    end: Place,
-    name: &str,
-    text: &str,
-) -> Result<(), AllocError> {
-    page.place(start)?;
-    page.text("-")?;
-    page.place(end)?;
-    page.text(" ")?;
-    page.text(name)?;
-    page.text(" ")?;
-    print_quoted(page, text)?;
-    page.text("\n")
-}
-
-// Prints a lexeme that begins at this line, counted from 0.
-fn print_lexeme<A: Allocator>(
+// Prints a lexeme that began above this line, counted from 0, if there is one.
+fn print_ended<A: Allocator>(
     page: &mut Page<A>,
     line: u32,
-    lexeme: &Lexeme<A>,
-) -> Result<(), AllocError> {
-    let start = Place {
-        line: u64::from(line),
-        column: u64::from(lexeme.start().col),
-    };
-    let end = Place {
-        line: u64::from(line) + u64::from(lexeme.end().line),
-        column: u64::from(lexeme.end().col),
-    };
-    print_line(page, start, end, kind_name(lexeme.kind()), lexeme.value())
+    ended: &Option<Ended<A>>,
+) -> Result<(), AllocError>
+    ensures { OnOk result (page.new ≡ page.old ++ above_lines (option_map (ended_at line) ended.now)) }
+{
+    match ended {
+        Some(ended) => print_lexeme(page, line.saturating_sub(ended.ago), &ended.lexeme),
+        None => Ok(()),
+    }
 }
 
-// Prints a comment in this line, counted from 0.
-fn print_comment<A: Allocator>(
+// Prints the lexemes of this line, counted from 0.
+fn print_lexemes<A: Allocator>(
     page: &mut Page<A>,
     line: u32,
-    comment: &Comment<A>,
-) -> Result<(), AllocError> {
-    let line = u64::from(line);
-    let text = comment.text();
-    let column = u64::from(comment.col());
-    let start = Place { line, column };
-    let end = Place {
-        line,
-        column: column.saturating_add(text.chars().count() as u64),
-    };
-    print_line(page, start, end, "Comment", text)
+    lexemes: &[Lexeme<A>],
+) -> Result<(), AllocError>
+    ensures { OnOk result (page.new ≡ page.old ++ flat_map (lexeme_line line) lexemes.now) }
+{
+    for lexeme in lexemes {
+        print_lexeme(page, line, lexeme)?;
+    }
+    Ok(())
+}
+
+// Prints the comment of this line, counted from 0, if there is one.
+fn print_own_comment<A: Allocator>(
+    page: &mut Page<A>,
+    line: u32,
+    comment: &Option<Comment<A>>,
+) -> Result<(), AllocError>
+    ensures { OnOk result (page.new ≡ page.old ++ comment_lines line comment.now) }
+{
+    match comment {
+        Some(comment) => print_comment(page, line, comment),
+        None => Ok(()),
+    }
+}
+
+// Prints the scan fault that was told at this line, counted from 0, if one was.
+fn print_failed<A: Allocator>(
+    page: &mut Page<A>,
+    line: u32,
+    failed: Option<Failed>,
+) -> Result<(), AllocError>
+    ensures { OnOk result (page.new ≡ page.old ++ failed_lines (option_map (failed_at line) failed)) }
+{
+    match failed {
+        Some(failed) => print_fault(page, scan_fault(line, failed)),
+        None => Ok(()),
+    }
 }
 
 // Prints what was told at this line, counted from 0.
-fn print_step<A: Allocator>(
-    page: &mut Page<A>,
-    line: u32,
-    step: &Step<A>,
-) -> Result<(), AllocError> {
-    if let Some(ended) = &step.ended {
-        print_lexeme(page, line.saturating_sub(ended.ago), &ended.lexeme)?;
-    }
-    for lexeme in &step.lexemes {
-        print_lexeme(page, line, lexeme)?;
-    }
-    if let Some(comment) = &step.comment {
-        print_comment(page, line, comment)?;
-    }
-    if let Some(failed) = step.failed {
-        let fault = scan_fault(line, failed);
-        page.place(fault.place)?;
-        page.text(" fault ")?;
-        print_quoted(page, fault.text)?;
-        page.text("\n")?;
-    }
-    Ok(())
+fn print_step<A: Allocator>(page: &mut Page<A>, line: u32, step: &Step<A>) -> Result<(), AllocError>
+    ensures { OnOk result (page.new ≡ page.old ++ step_lines line (told_of line step.now)) }
+{
+    print_ended(page, line, &step.ended)?;
+    print_lexemes(page, line, &step.lexemes)?;
+    print_own_comment(page, line, &step.comment)?;
+    print_failed(page, line, step.failed)
 }
 
 /// Writes a line for each lexeme and each comment of a text in order, `LINE:COLUMN-LINE:COLUMN KIND "VALUE"`, and behind them

@@ -4,17 +4,21 @@
 //! double quotes, with `\\` and `\"` for a backslash and a quote, and `\u{HEX}` for a character that is not printable ASCII.
 #![tactic(auto)]
 
+mod begins;
+mod characters;
 mod document_fault;
 mod documents;
 mod event;
 mod events;
 mod fault;
 mod group;
+mod lexeme_line;
 mod lexemes;
 mod lines;
 mod names;
 mod page;
 mod quoting;
+mod state;
 mod text_scanner;
 
 pub use events::write_events;

@@ -3,12 +3,11 @@ ghost use Rattle.std.specs.Prelude.{◌≡◌, ◌≢◌, ◌≤◌, [], drop, l
 ghost use Rattle.yl_text.specs.declared.TheConstants.{MAX_BYTES};
 
 use crate::fault::DumpFault;
-use crate::names::kind_name;
 use crate::page::Page;
+use crate::state::print_state;
 use crate::text_scanner::TextScanner;
 use std::alloc::{AllocError, Allocator};
 use std::io::Write;
-use yl_lexeme::Kind;
 use yl_scan::Step;
 
 /// What a line is to a scanner.
@@ -34,46 +33,6 @@ fn line_of<A: Allocator>(was_stopped: bool, step: &Step<A>) -> Line {
     } else {
         Line::Sound
     }
-}
-
-fn print_columns<A: Allocator>(page: &mut Page<A>, columns: &[u32]) -> Result<(), AllocError> {
-    page.text("[")?;
-    for (i, column) in columns.iter().enumerate() {
-        if i > 0 {
-            page.text(",")?;
-        }
-        page.number(u64::from(*column))?;
-    }
-    page.text("]")
-}
-
-fn print_brackets<A: Allocator>(page: &mut Page<A>, brackets: &[Kind]) -> Result<(), AllocError> {
-    if brackets.is_empty() {
-        return page.text("-");
-    }
-    for bracket in brackets {
-        page.text(match bracket {
-            Kind::MapOpen => "{",
-            _ => "[",
-        })?;
-    }
-    Ok(())
-}
-
-// Prints what a scanner knows before a line.
-fn print_state<A: Allocator + Copy>(
-    page: &mut Page<A>,
-    scanner: &TextScanner<'_, '_, A>,
-) -> Result<(), AllocError> {
-    page.text(" sound ")?;
-    print_columns(page, scanner.levels())?;
-    page.text(" ")?;
-    print_brackets(page, scanner.brackets())?;
-    page.text(" ")?;
-    page.text(match scanner.last_kind() {
-        Some(kind) => kind_name(kind),
-        None => "-",
-    })
 }
 
 // Prints the next line of a text. Only a line that was read tells whether it is sound: else what the scanner knows before it is

@@ -1,9 +1,13 @@
 //! Printed text that waits to be written.
+ghost use Rattle.std.specs.Prelude.{◌≡◌, [], ◌++◌, length, take, decimal, OnOk};
+ghost use Rattle.std.specs.Io.KnownBytes.{Appends};
+ghost use Rattle.yl_dump.specs.Place.{place_text};
 
 use crate::fault::{DumpFault, Place};
 use itoa::Buffer;
 use std::alloc::{AllocError, Allocator};
 use std::io::Write;
+use std::marker::Model;
 
 // Text of so many bytes is written, so that a write takes many of them.
 const LARGE: usize = 65_536;
@@ -14,45 +18,83 @@ pub struct Page<A: Allocator> {
     text: Vec<u8, A>,
 }
 
+impl<A: Allocator> Model for Page<A> {
+    ghost use Rattle.std.specs.Prelude.{ℕ, List};
+
+    ghost Value = { List ℕ };
+
+    ghost view = { λ p. p.text.items };
+}
+
 impl<A: Allocator> Page<A> {
-    pub fn new(alloc: A) -> Page<A> {
+    pub fn new(alloc: A) -> Page<A>
+        ensures { result ≡ [] }
+    {
         Page {
             text: Vec::new(alloc),
         }
     }
 
+    pub fn as_bytes(&self) -> &[u8]
+        ensures { result.now ≡ self.now }
+    {
+        self.text.as_slice()
+    }
+
     /// How many bytes wait.
-    pub fn len(&self) -> usize {
+    pub fn len(&self) -> usize
+        ensures { result ≡ length self.now }
+    {
         self.text.len()
     }
 
     /// Takes back what was printed behind so many bytes.
-    pub fn truncate(&mut self, len: usize) {
+    pub fn truncate(&mut self, len: usize)
+        ensures { self.new ≡ take len self.old }
+    {
         self.text.truncate(len);
     }
 
-    pub fn bytes(&mut self, piece: &[u8]) -> Result<(), AllocError> {
+    pub fn bytes(&mut self, piece: &[u8]) -> Result<(), AllocError>
+        ensures { OnOk result (self.new ≡ self.old ++ piece.now) }
+    {
         self.text.extend_from_slice(piece)
     }
 
-    pub fn text(&mut self, text: &str) -> Result<(), AllocError> {
+    pub fn text(&mut self, text: &str) -> Result<(), AllocError>
+        ensures { OnOk result (self.new ≡ self.old ++ text.now) }
+    {
         self.text.extend_from_slice(text.as_bytes())
     }
 
-    pub fn number(&mut self, n: u64) -> Result<(), AllocError> {
+    /// Prints a number in decimal digits. Most have one or two.
+    pub fn number(&mut self, n: u64) -> Result<(), AllocError>
+        ensures { OnOk result (self.new ≡ self.old ++ decimal n) }
+    {
+        if n < 10 {
+            return self.bytes(&[b'0' + n as u8]);
+        }
+        if n < 100 {
+            return self.bytes(&[b'0' + (n / 10) as u8, b'0' + (n % 10) as u8]);
+        }
         let mut buffer = Buffer::new();
         self.text(buffer.format(n))
     }
 
     /// Prints a place as `LINE:COLUMN`, counted from 1.
-    pub fn place(&mut self, place: Place) -> Result<(), AllocError> {
+    pub fn place(&mut self, place: Place) -> Result<(), AllocError>
+        ensures { OnOk result (self.new ≡ self.old ++ place_text place) }
+    {
         self.number(place.line.saturating_add(1))?;
         self.text(":")?;
         self.number(place.column.saturating_add(1))
     }
 
     /// Writes all that waits.
-    pub fn write_to<W: Write>(&mut self, out: &mut W) -> Result<(), DumpFault> {
+    pub fn write_to<W: Write>(&mut self, out: &mut W) -> Result<(), DumpFault>
+        ensures written { OnOk result (Appends (W.contents out.old) (W.contents out.new) self.old) }
+        ensures none_waits { OnOk result (self.new ≡ []) }
+    {
         if out.write_all(self.text.as_slice()).is_err() {
             return Err(DumpFault::Write);
         }

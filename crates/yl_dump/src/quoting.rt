@@ -1,46 +1,84 @@
 //! Text in double quotes.
+ghost use Rattle.std.specs.Prelude.{◌≡◌, ◌≤◌, ◌<◌, ◌++◌, drop, length, true, OnOk};
+ghost use Rattle.std.specs.List.{list_all};
+ghost use Rattle.std.specs.Fmt.{digits, digit_glyph};
+ghost use Rattle.yl_dump.specs.Quoting.{is_plain, escaped, escaped_text, quoted};
 
 use crate::page::Page;
 use std::alloc::{AllocError, Allocator};
 
-const DIGITS: [u8; 16] = *b"0123456789ABCDEF";
-
 // Whether a byte stands for itself between quotes.
-fn is_plain(byte: u8) -> bool {
-    matches!(byte, b' '..=b'~') && byte != b'"' && byte != b'\\'
+fn is_plain(byte: u8) -> bool
+    ensures { result ≡ is_plain byte }
+{
+    byte >= b' ' && byte <= b'~' && byte != b'"' && byte != b'\\'
+}
+
+// A capital hexadecimal digit.
+fn digit(n: u32) -> u8
+    requires { n < 16 }
+    ensures { result ≡ digit_glyph true n }
+{
+    if n < 10 { 48 + n as u8 } else { 55 + n as u8 }
+}
+
+// Writes a number in capital hexadecimal digits, without leading zeros, at the end of the room. Answers where they begin.
+fn write_hex(n: u32, room: &mut [u8; 64]) -> usize
+    ensures within { result ≤ 64 }
+    ensures written { drop result room.new ≡ digits 16 true n }
+{
+    let mut at = 64;
+    let mut rest = n;
+    while at > 0 {
+        at -= 1;
+        room[at] = digit(rest % 16);
+        if rest < 16 {
+            return at;
+        }
+        rest /= 16;
+    }
+    0
 }
 
 // Prints a number in capital hexadecimal digits, without leading zeros.
-fn print_hex<A: Allocator>(page: &mut Page<A>, n: u32) -> Result<(), AllocError> {
-    let mut is_begun = false;
-    for shift in [28, 24, 20, 16, 12, 8, 4, 0] {
-        let digit = (n >> shift) & 0xF;
-        is_begun = is_begun || digit != 0 || shift == 0;
-        if is_begun {
-            page.bytes(&[DIGITS[digit as usize]])?;
+fn print_hex<A: Allocator>(page: &mut Page<A>, n: u32) -> Result<(), AllocError>
+    ensures { OnOk result (page.new ≡ page.old ++ digits 16 true n) }
+{
+    let mut room = [0; 64];
+    let start = write_hex(n, &mut room);
+    page.bytes(&room[start..])
+}
+
+// Prints a character as it stands between quotes.
+fn print_character<A: Allocator>(page: &mut Page<A>, c: char) -> Result<(), AllocError>
+    ensures { OnOk result (page.new ≡ page.old ++ escaped c) }
+{
+    match c {
+        '"' => page.text("\\\"")?,
+        '\\' => page.text("\\\\")?,
+        ' '..='~' => page.bytes(&[c as u8])?,
+        _ => {
+            page.text("\\u{")?;
+            print_hex(page, c as u32)?;
+            page.text("}")?;
         }
     }
     Ok(())
 }
 
-// Prints a character as it stands between quotes.
-fn print_character<A: Allocator>(page: &mut Page<A>, c: char) -> Result<(), AllocError> {
-    match c {
-        '"' => page.text("\\\""),
-        '\\' => page.text("\\\\"),
-        ' '..='~' => page.bytes(&[c as u8]),
-        _ => {
-            page.text("\\u{")?;
-            print_hex(page, c as u32)?;
-            page.text("}")
-        }
-    }
+// Whether each byte stands for itself between quotes.
+fn is_plain_text(text: &str) -> bool
+    ensures { result ≡ list_all is_plain text.now }
+{
+    text.as_bytes().iter().all(|byte| is_plain(*byte))
 }
 
 /// Prints a text as it stands between double quotes: `\\` for a backslash, `\"` for a quote, and `\u{HEX}` for a character that is
 /// not printable ASCII.
-pub fn print_escaped<A: Allocator>(page: &mut Page<A>, text: &str) -> Result<(), AllocError> {
-    if text.as_bytes().iter().all(|byte| is_plain(*byte)) {
+pub fn print_escaped<A: Allocator>(page: &mut Page<A>, text: &str) -> Result<(), AllocError>
+    ensures { OnOk result (page.new ≡ page.old ++ escaped_text text.now) }
+{
+    if is_plain_text(text) {
         return page.text(text);
     }
     for c in text.chars() {
@@ -50,7 +88,9 @@ pub fn print_escaped<A: Allocator>(page: &mut Page<A>, text: &str) -> Result<(),
 }
 
 /// Prints a text in double quotes.
-pub fn print_quoted<A: Allocator>(page: &mut Page<A>, text: &str) -> Result<(), AllocError> {
+pub fn print_quoted<A: Allocator>(page: &mut Page<A>, text: &str) -> Result<(), AllocError>
+    ensures { OnOk result (page.new ≡ page.old ++ quoted text.now) }
+{
     page.text("\"")?;
     print_escaped(page, text)?;
     page.text("\"")

@@ -1,12 +1,14 @@
 //! A scanner that is fed a text's lines.
-ghost use Rattle.std.specs.Prelude.{◌≡◌, ◌≢◌, ◌≤◌, ◌↔◌, [], drop, length, true, IsTrue, IfOk, OnErr, OnOk};
+ghost use Rattle.std.specs.Prelude.{◌≡◌, ◌≢◌, ◌≤◌, ◌↔◌, [], drop, length, reverse, true, IsTrue, IfOk, OnErr, OnOk};
+ghost use Rattle.std.specs.Option.{ForSome};
 ghost use Rattle.yl_text.specs.declared.TheConstants.{MAX_BYTES};
 ghost use Rattle.yl_text.specs.Lines.{lines_of};
 ghost use Rattle.yl_scan.specs.Left.{Fresh, given, left};
-ghost use Rattle.yl_scan.specs.Scanner.{is_halted, told_of};
+ghost use Rattle.yl_scan.specs.Scanner.{is_halted, known_in, told_of};
 ghost use Rattle.yl_lexeme.specs.Known.{nothing_known};
 ghost use Rattle.yl_dump.specs.TextScan.{characters_of};
 
+use crate::characters::character_count;
 use crate::fault::Place;
 use std::alloc::{AllocError, Allocator};
 use std::marker::Model;
@@ -93,17 +95,23 @@ impl<'t, 'a, A: Allocator + Copy> TextScanner<'t, 'a, A> {
     }
 
     /// One more than the column of each open block collection, counted from 0 in characters, the outermost first.
-    pub fn levels(&self) -> &[u32] {
+    pub fn levels(&self) -> &[u32]
+        ensures { ForSome (known_in self.now.stand) (λ known. reverse result.now ≡ known.levels) }
+    {
         self.scanner.levels()
     }
 
     /// The open brackets, the outermost first.
-    pub fn brackets(&self) -> &[Kind] {
+    pub fn brackets(&self) -> &[Kind]
+        ensures { ForSome (known_in self.now.stand) (λ known. reverse result.now ≡ known.brackets) }
+    {
         self.scanner.brackets()
     }
 
     /// The kind of the last lexeme.
-    pub fn last_kind(&self) -> Option<Kind> {
+    pub fn last_kind(&self) -> Option<Kind>
+        ensures { ForSome (known_in self.now.stand) (λ known. result ≡ known.last) }
+    {
         self.scanner.last()
     }
 
@@ -111,7 +119,7 @@ impl<'t, 'a, A: Allocator + Copy> TextScanner<'t, 'a, A> {
     pub fn end(&self) -> Place {
         Place {
             line: u64::from(self.scanner.line()).saturating_sub(1),
-            column: self.last.chars().count() as u64,
+            column: character_count(self.last),
         }
     }
 

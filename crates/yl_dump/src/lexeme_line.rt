@@ -1,0 +1,79 @@
+//! The lines of lexemes, of comments and of the scan fault.
+ghost use Rattle.std.specs.Prelude.{◌≡◌, ◌++◌, OnOk};
+ghost use Rattle.yl_dump.specs.LexemeLine.{extent_line, lexeme_line, comment_line, fault_line};
+
+use crate::characters::character_count;
+use crate::fault::{Place, TextFault};
+use crate::names::kind_name;
+use crate::page::Page;
+use crate::quoting::print_quoted;
+use std::alloc::{AllocError, Allocator};
+use yl_lexeme::{Comment, Lexeme};
+
+// Prints two places, a name and a quoted text.
+fn print_line<A: Allocator>(
+    page: &mut Page<A>,
+    start: Place,
+    end: Place,
+    name: &str,
+    text: &str,
+) -> Result<(), AllocError>
+    ensures { OnOk result (page.new ≡ page.old ++ extent_line start end name.now text.now) }
+{
+    page.place(start)?;
+    page.text("-")?;
+    page.place(end)?;
+    page.text(" ")?;
+    page.text(name)?;
+    page.text(" ")?;
+    print_quoted(page, text)?;
+    page.text("\n")
+}
+
+/// Prints a lexeme that begins at this line, counted from 0.
+pub fn print_lexeme<A: Allocator>(
+    page: &mut Page<A>,
+    line: u32,
+    lexeme: &Lexeme<A>,
+) -> Result<(), AllocError>
+    ensures { OnOk result (page.new ≡ page.old ++ lexeme_line line lexeme.now) }
+{
+    let start = Place {
+        line: u64::from(line),
+        column: u64::from(lexeme.start().col),
+    };
+    let end = Place {
+        line: u64::from(line) + u64::from(lexeme.end().line),
+        column: u64::from(lexeme.end().col),
+    };
+    print_line(page, start, end, kind_name(lexeme.kind()), lexeme.value())
+}
+
+/// Prints a comment in this line, counted from 0.
+pub fn print_comment<A: Allocator>(
+    page: &mut Page<A>,
+    line: u32,
+    comment: &Comment<A>,
+) -> Result<(), AllocError>
+    ensures { OnOk result (page.new ≡ page.old ++ comment_line line comment.now) }
+{
+    let line = u64::from(line);
+    let text = comment.text();
+    let column = u64::from(comment.col());
+    let start = Place { line, column };
+    let end = Place {
+        line,
+        column: column.saturating_add(character_count(text)),
+    };
+    print_line(page, start, end, "Comment", text)
+}
+
+/// Prints a scan fault.
+pub fn print_fault<A: Allocator>(page: &mut Page<A>, fault: TextFault) -> Result<(), AllocError>
+    ensures { OnOk result (page.new ≡ page.old ++ fault_line fault.place fault.text.now) }
+{
+    page.place(fault.place)?;
+    page.text(" fault ")?;
+    print_quoted(page, fault.text)?;
+    page.text("\n")
+}
