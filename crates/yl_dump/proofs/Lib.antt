@@ -1,4 +1,3 @@
-pub mod Appended
 pub mod Bounds
 pub mod Numbers
 pub mod Plain
