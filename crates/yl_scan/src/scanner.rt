@@ -119,7 +119,6 @@ impl<'a, A: Allocator + Copy> Scanner<'a, A> {
         if self.refused {
             return Err(AllocError);
         }
-        self.refused = true;
         let step = self.read(text);
         self.refused = step.is_err();
         step
