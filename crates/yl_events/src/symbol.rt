@@ -32,7 +32,7 @@ pub enum Shape {
     Empty,
 }
 
-/// An event by its lexemes, which go by their index in the document.
+/// An event by its lexemes, which go by their index in the document, from 0.
 #[derive(Clone, Copy, Debug, PartialEq, Eq)]
 pub struct Outline {
     pub kind: Shape,

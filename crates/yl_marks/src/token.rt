@@ -11,9 +11,9 @@ use yl_text::Pos;
 #[derive(Clone, Copy, Debug, PartialEq, Eq)]
 pub struct Token {
     pub kind: Kind,
-    /// Where it begins, in the text.
+    /// Where it begins in the text: line and column from 0, the column in characters.
     pub start: Pos,
-    /// The line of the text in which it ends.
+    /// The line of the text in which it ends, from 0.
     pub end_line: u64,
 }
 

@@ -82,7 +82,7 @@ impl<'a, A: Allocator + Copy> Scanner<'a, A> {
         Ok(step)
     }
 
-    /// Reads the next row, and counts it.
+    /// Reads the next row, and counts it. The only error is memory, and each later call answers it too.
     pub fn feed(&mut self, row: &Row<A>, meter: &mut Meter) -> Result<Step<A>, AllocError>
         requires fits { length (chars row.now.text) < 2 ^ 31 }
         requires few { self.old.line < 2 ^ 32 - 1 }
@@ -100,7 +100,8 @@ impl<'a, A: Allocator + Copy> Scanner<'a, A> {
         self.feed_text(row.as_str(), meter)
     }
 
-    /// Reads the next row, given as its text without its break, and counts it.
+    /// Reads the next row, given as its text without its break, and counts it. The only error is memory, and each later call answers
+    /// it too.
     pub fn feed_text(&mut self, text: &str, meter: &mut Meter) -> Result<Step<A>, AllocError>
         requires fits { length (chars text.now) < 2 ^ 31 }
         requires few { self.old.line < 2 ^ 32 - 1 }
@@ -162,7 +163,7 @@ impl<'a, A: Allocator + Copy> Scanner<'a, A> {
         self.surroundings.last
     }
 
-    /// What the text's end tells.
+    /// What the text's end tells. The only error is memory, also where a call before was refused it.
     pub fn finish(self) -> Result<Step<A>, AllocError>
         ensures told { IfOk result (λ step. left self.entry.line self.entry.stand [] ≡ at_end (told_of self.entry.line step)) }
         ensures in_text { IfOk result (λ step. BeginsInText self.entry.line step) }
