@@ -41,33 +41,33 @@ HEAD = """use Rattle.std.specs.Prelude.{ℕ, ◌≡◌, refl, List, [], ◌∷�
 use Rattle.yl_lexeme.specs.declared.lexeme.Style.TheVariants.{Plain, Single, Double, Literal, Folded}
 use Rattle.yl_lexeme.specs.declared.lexeme.Kind.{Kind}
 use Rattle.yl_lexeme.specs.declared.lexeme.Kind.TheVariants.{Directive, DocStart, DocEnd, Entry as EntryKind, Key, Value, Comma, SeqOpen, SeqClose, MapOpen, MapClose, Alias, Anchor, Tag, Scalar}
-use Rattle.yl_row.specs.declared.fault.Faulted.{Faulted}
+use Rattle.yl_row.specs.declared.fault.PlacedScanFault.{PlacedScanFault}
 use Rattle.yl_row.specs.declared.fault.ScanFault.{ScanFault}
 use Rattle.yl_row.specs.declared.fault.ScanFault.TheVariants as fault
 use Rattle.yl_lexeme.specs.Lexeme.{LexemeValue, CommentValue}
 use Rattle.yl_row.specs.Step.{found_at}
-use Rattle.yl_row.specs.Entries.{entries, place, Entry, State, Stopped, Stands}
+use Rattle.yl_row.specs.Entries.{entries, pos_at, RowEntry, LineStateValue, Stopped, Stands}
 
 abbrev lexeme : Kind → ℕ → ℕ → ℕ → List ℕ → LexemeValue
-lexeme kind at down column value = record { kind = kind; start = place 0 at; end = place down column; value = value }
+lexeme kind at down column value = record { kind = kind; start = pos_at 0 at; end = pos_at down column; value = value }
 
-abbrev fails : ScanFault → ℕ → ℕ → Option Faulted
+abbrev fails : ScanFault → ℕ → ℕ → Option PlacedScanFault
 fails f down column = Some (record { fault = f; down = down; column = column })
 
 abbrev comment : ℕ → List ℕ → Option CommentValue
 comment column text = Some (record { column = column; text = text })
 
-abbrev row : Option State → List LexemeValue → Option CommentValue → Option Faulted → Entry
+abbrev row : Option LineStateValue → List LexemeValue → Option CommentValue → Option PlacedScanFault → RowEntry
 row state xs c f = record { state = state; lexemes = xs; comment = c; fault = f }
 
-abbrev without_fault : Entry → Entry
+abbrev without_fault : RowEntry → RowEntry
 without_fault e = row e.state e.lexemes e.comment None
 
-abbrev with_fault : ℕ → Option Faulted → List Faulted → List Faulted
+abbrev with_fault : ℕ → Option PlacedScanFault → List PlacedScanFault → List PlacedScanFault
 with_fault line None fs = fs
 with_fault line (Some f) fs = record { fault = f.fault; down = line + f.down; column = f.column } ∷ fs
 
-abbrev faults_from : ℕ → List Entry → List Faulted
+abbrev faults_from : ℕ → List RowEntry → List PlacedScanFault
 faults_from line [] = []
 faults_from line (e ∷ es) = with_fault line e.fault (faults_from (line + 1) es)
 """

@@ -8,6 +8,7 @@ use std::alloc::{AllocError, AllocFailed};
 #[derive(Clone, Copy, Debug, PartialEq, Eq)]
 pub enum Program {
     Yamllint,
+    Yledit,
     Yldump,
 }
 
@@ -18,12 +19,26 @@ pub struct Flags {
     pub strict: bool,
     /// Warnings are not printed; they count all the same.
     pub no_warnings: bool,
+    /// How many lines an edit scanned is printed after its report's status.
+    pub work: bool,
 }
 
-/// A run: the names of its files in order, of which there is at least one, and its flags. The name
-/// `-` is standard input.
+/// Where the configuration of a run is read from.
+#[derive(Debug, Drop)]
+pub enum Source {
+    /// Nowhere: it is the default configuration.
+    Standard,
+    /// The file of this name; `-` names a file as any other word does.
+    File(String),
+    /// This text.
+    Data(String),
+}
+
+/// A run: its configuration, the names of its files in order, of which there is at least one, and
+/// its flags. The name `-` is standard input.
 #[derive(Debug, Drop)]
 pub struct Asked {
+    pub config: Source,
     pub files: Vec<String>,
     pub flags: Flags,
 }

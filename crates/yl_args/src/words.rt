@@ -1,5 +1,5 @@
 //! Words read by `clap`.
-use crate::answer::{Asked, AskedDump, Flags, Program, Stop, View};
+use crate::answer::{Asked, AskedDump, Flags, Program, Source, Stop, View};
 use clap::error::ErrorKind;
 use clap::{Arg, ArgAction, ArgGroup, ArgMatches, Command, Error};
 use std::alloc::{AllocError, Global};
@@ -30,13 +30,36 @@ fn files<'a>(alloc: Global) -> Arg<'a> {
         .help("files to lint, `-` for standard input")
 }
 
-fn lint_command<'a>(alloc: Global, program: Program) -> Result<Command<'a>, AllocError> {
-    let name = match program {
-        Program::Yamllint => "yamllint",
-        Program::Yldump => "yldump",
-    };
-    Command::new(alloc, name)
+fn config_file<'a>(alloc: Global) -> Arg<'a> {
+    Arg::new(alloc, "config-file")
+        .short('c')
+        .action(ArgAction::Set)
+        .value_name("FILE")
+        .help("read the configuration from a file")
+}
+
+fn config_data<'a>(alloc: Global) -> Arg<'a> {
+    Arg::new(alloc, "config-data")
+        .short('d')
+        .action(ArgAction::Set)
+        .value_name("DATA")
+        .help("read the configuration from this text, such as default")
+}
+
+// At most one of the options that give a configuration.
+fn configurations<'a>(alloc: Global) -> Result<ArgGroup<'a>, AllocError> {
+    ArgGroup::new(alloc, "configuration")
+        .arg("config-file")?
+        .arg("config-data")
+}
+
+fn lint_command<'a>(alloc: Global) -> Result<Command<'a>, AllocError> {
+    Command::new(alloc, "yamllint")
         .no_binary_name(true)
+        .after_help("Example: yamllint -d \"rules: {line-length: {max: 100}}\" a.yaml b.yaml")
+        .arg(config_file(alloc))?
+        .arg(config_data(alloc))?
+        .group(configurations(alloc)?)?
         .arg(format_option(alloc))?
         .arg(flag(alloc, "strict", "give status 2 for warnings").short('s'))?
         .arg(flag(alloc, "no-warnings", "print errors alone"))?
@@ -48,6 +71,30 @@ fn shown_file<'a>(alloc: Global) -> Arg<'a> {
         .required(true)
         .action(ArgAction::Set)
         .help("file to show, `-` for standard input")
+}
+
+fn edited_file<'a>(alloc: Global) -> Arg<'a> {
+    Arg::new(alloc, "FILE")
+        .required(true)
+        .action(ArgAction::Set)
+        .help("file to edit by the commands on standard input")
+}
+
+fn edit_command<'a>(alloc: Global) -> Result<Command<'a>, AllocError> {
+    let strict = Arg::new(alloc, "strict")
+        .short('s')
+        .action(ArgAction::SetTrue)
+        .help("give status 2 for warnings");
+    Command::new(alloc, "yledit")
+        .no_binary_name(true)
+        .after_help("Example: printf 'replace 0 0 4\\n---\\n' | yledit a.yaml")
+        .arg(config_file(alloc))?
+        .arg(config_data(alloc))?
+        .group(configurations(alloc)?)?
+        .arg(strict)?
+        .arg(flag(alloc, "no-warnings", "print errors alone"))?
+        .arg(flag(alloc, "work", "print how many lines an edit scanned"))?
+        .arg(edited_file(alloc))
 }
 
 // At most one of the flags that say what is shown.
@@ -89,20 +136,67 @@ fn files_of(alloc: Global, matches: &ArgMatches<'_>) -> Result<Vec<String>, Stop
     Ok(files)
 }
 
-/// What the words behind the name of a program that lints ask for. They are looked at from left to right: whichever
+// The configuration's text: a word that is not empty and has no colon names what is extended.
+fn config_text(alloc: Global, data: &str) -> Result<String, AllocError> {
+    if data.is_empty() || data.contains(':') {
+        return String::from_str(alloc, data);
+    }
+    let mut text = String::from_str(alloc, "extends: ")?;
+    text.push_str(data)?;
+    Ok(text)
+}
+
+fn source_of(alloc: Global, matches: &ArgMatches<'_>) -> Result<Source, AllocError> {
+    if let Some(name) = matches.get_str("config-file") {
+        return Ok(Source::File(String::from_str(alloc, name)?));
+    }
+    match matches.get_str("config-data") {
+        Some(data) => Ok(Source::Data(config_text(alloc, data)?)),
+        None => Ok(Source::Standard),
+    }
+}
+
+// What the words after the name `yledit` ask for. Standard input has the commands, so it is no file.
+fn asked_edit(alloc: Global, words: &[String]) -> Result<Asked, Stop> {
+    let command = edit_command(alloc)?;
+    let matches = match command.try_get_matches_from(words) {
+        Ok(matches) => matches,
+        Err(error) => return Err(stop_of(alloc, error)),
+    };
+    let files = files_of(alloc, &matches)?;
+    if files.iter().any(|file| file.as_str() == "-") {
+        return Err(Stop::Use);
+    }
+    Ok(Asked {
+        config: source_of(alloc, &matches)?,
+        files,
+        flags: Flags {
+            strict: matches.get_flag("strict"),
+            no_warnings: matches.get_flag("no-warnings"),
+            work: matches.get_flag("work"),
+        },
+    })
+}
+
+/// What the words after the name of `yamllint` or `yledit` ask for. They are looked at from left to right: whichever
 /// of `-h` and a word that does not fit comes first answers. An option that is given twice, a value
 /// that is none of those that the option takes, and a want of files are `Use`.
 pub fn asked(alloc: Global, program: Program, words: &[String]) -> Result<Asked, Stop> {
-    let command = lint_command(alloc, program)?;
+    if program == Program::Yledit {
+        return asked_edit(alloc, words);
+    }
+    let command = lint_command(alloc)?;
     let matches = match command.try_get_matches_from(words) {
         Ok(matches) => matches,
         Err(error) => return Err(stop_of(alloc, error)),
     };
     Ok(Asked {
+        config: source_of(alloc, &matches)?,
         files: files_of(alloc, &matches)?,
         flags: Flags {
             strict: matches.get_flag("strict"),
             no_warnings: matches.get_flag("no-warnings"),
+            work: false,
         },
     })
 }

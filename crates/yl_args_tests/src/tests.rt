@@ -1,6 +1,6 @@
 use std::alloc::{AllocError, Global};
 use std::test::Fail;
-use yl_args::{Asked, Program, Stop, View, asked, asked_dump};
+use yl_args::{Asked, Program, Source, Stop, View, asked, asked_dump};
 
 fn words(alloc: Global, texts: &[&str]) -> Result<Vec<String>, AllocError> {
     let mut words = Vec::new(alloc);
@@ -10,9 +10,13 @@ fn words(alloc: Global, texts: &[&str]) -> Result<Vec<String>, AllocError> {
     Ok(words)
 }
 
-// The files that are asked for, and the flags.
+// The configuration, the files that are asked for, and the flags.
 fn shown(alloc: Global, asked: &Asked) -> Result<String, AllocError> {
-    let mut line = String::from_str(alloc, "files")?;
+    let mut line = match &asked.config {
+        Source::Standard => String::from_str(alloc, "files")?,
+        Source::File(name) => format!(in alloc; "config of {name}, files")?,
+        Source::Data(text) => format!(in alloc; "config {text:?}, files")?,
+    };
     for file in &asked.files {
         line.push_str(" ")?;
         line.push_str(file.as_str())?;
@@ -23,13 +27,20 @@ fn shown(alloc: Global, asked: &Asked) -> Result<String, AllocError> {
     if asked.flags.no_warnings {
         line.push_str(", no warnings")?;
     }
+    if asked.flags.work {
+        line.push_str(", work")?;
+    }
     Ok(line)
 }
 
 // The answer as a line.
 fn answer(alloc: Global, texts: &[&str]) -> Result<String, AllocError> {
+    answer_of(alloc, Program::Yamllint, texts)
+}
+
+fn answer_of(alloc: Global, program: Program, texts: &[&str]) -> Result<String, AllocError> {
     let words = words(alloc, texts)?;
-    match asked(alloc, Program::Yamllint, words.as_slice()) {
+    match asked(alloc, program, words.as_slice()) {
         Ok(asked) => shown(alloc, &asked),
         Err(Stop::Help(text)) => Ok(text),
         Err(Stop::Use) => String::from_str(alloc, "use"),
@@ -64,6 +75,43 @@ fn reads_words(rt: HostRuntime) -> Result<(), Fail> {
 }
 
 #[test]
+fn reads_configurations(rt: HostRuntime) -> Result<(), Fail> {
+    let alloc = rt.alloc();
+    let rows: [(&[&str], &str); 16] = [
+        (&["-c", "b", "a"], "config of b, files a"),
+        (&["a", "-cb"], "config of b, files a"),
+        (&["-c=b", "a"], "config of b, files a"),
+        (&["-c", "-", "a"], "config of -, files a"),
+        (&["-c", "", "a"], "config of , files a"),
+        (
+            &["-d", "default", "a"],
+            "config \"extends: default\", files a",
+        ),
+        (&["-d", "rules: {}", "a"], "config \"rules: {}\", files a"),
+        (&["-d", "", "a"], "config \"\", files a"),
+        (
+            &["-sdrelaxed", "a"],
+            "config \"extends: relaxed\", files a, strict",
+        ),
+        (&["-c", "b", "-d", "default", "a"], "use"),
+        (&["-d", "default", "-c", "b", "a"], "use"),
+        (&["-c", "b", "-c", "b", "a"], "use"),
+        (&["-d", "a:", "-d", "a:", "a"], "use"),
+        (&["-c", "-s", "a"], "use"),
+        (&["a", "-d"], "use"),
+        (&["-c", "b"], "use"),
+    ];
+    for (given, want) in rows {
+        assert_eq!(rt; answer(alloc, given)?.as_str(), want);
+        if given.len() > 2 {
+            let got = answer_of(alloc, Program::Yledit, given)?;
+            assert_eq!(rt; got.as_str(), want);
+        }
+    }
+    Ok(())
+}
+
+#[test]
 fn refuses_words(rt: HostRuntime) -> Result<(), Fail> {
     let alloc = rt.alloc();
     let rows: [&[&str]; 14] = [
@@ -89,7 +137,7 @@ fn refuses_words(rt: HostRuntime) -> Result<(), Fail> {
 }
 
 const HELP: &str =
-    "Usage: yamllint [OPTIONS] <FILE>...\n\nArguments:\n  <FILE>...  files to lint, `-` for standard input\n\nOptions:\n  -f <FORMAT>        how problems are printed [possible values: parsable]\n  -s, --strict       give status 2 for warnings\n      --no-warnings  print errors alone\n  -h, --help         Print help\n";
+    "Usage: yamllint [OPTIONS] <FILE>...\n\nArguments:\n  <FILE>...  files to lint, `-` for standard input\n\nOptions:\n  -c <FILE>          read the configuration from a file\n  -d <DATA>          read the configuration from this text, such as default\n  -f <FORMAT>        how problems are printed [possible values: parsable]\n  -s, --strict       give status 2 for warnings\n      --no-warnings  print errors alone\n  -h, --help         Print help\n\nExample: yamllint -d \"rules: {line-length: {max: 100}}\" a.yaml b.yaml\n";
 
 #[test]
 fn helps_unless_a_fault_comes_first(rt: HostRuntime) -> Result<(), Fail> {
@@ -190,5 +238,46 @@ fn helps_with_yldump(rt: HostRuntime) -> Result<(), Fail> {
         assert_eq!(rt; dump_answer(alloc, given)?.as_str(), DUMP_HELP);
     }
     assert_eq!(rt; dump_answer(alloc, &["-q", "-h"])?.as_str(), "use");
+    Ok(())
+}
+
+const EDIT_HELP: &str =
+    "Usage: yledit [OPTIONS] <FILE>\n\nArguments:\n  <FILE>  file to edit by the commands on standard input\n\nOptions:\n  -c <FILE>          read the configuration from a file\n  -d <DATA>          read the configuration from this text, such as default\n  -s                 give status 2 for warnings\n      --no-warnings  print errors alone\n      --work         print how many lines an edit scanned\n  -h, --help         Print help\n\nExample: printf 'replace 0 0 4\\n---\\n' | yledit a.yaml\n";
+
+#[test]
+fn helps_with_yledit(rt: HostRuntime) -> Result<(), Fail> {
+    let alloc = rt.alloc();
+    let helped: [&[&str]; 3] = [&["-h"], &["a", "--help"], &["--work", "-h", "-q"]];
+    for given in helped {
+        let got = answer_of(alloc, Program::Yledit, given)?;
+        assert_eq!(rt; got.as_str(), EDIT_HELP);
+    }
+    Ok(())
+}
+
+#[test]
+fn reads_words_of_yledit(rt: HostRuntime) -> Result<(), Fail> {
+    let alloc = rt.alloc();
+    let rows: [(&[&str], &str); 12] = [
+        (&["a.yaml"], "files a.yaml"),
+        (&["-s", "a"], "files a, strict"),
+        (&["--no-warnings", "a"], "files a, no warnings"),
+        (&["a", "--work"], "files a, work"),
+        (
+            &["-s", "--no-warnings", "--work", "--", "a"],
+            "files a, strict, no warnings, work",
+        ),
+        (&["--strict", "a"], "use"),
+        (&["-f", "parsable", "a"], "use"),
+        (&["-"], "use"),
+        (&["--", "-"], "use"),
+        (&["a", "b"], "use"),
+        (&["-s", "-s", "a"], "use"),
+        (&[], "use"),
+    ];
+    for (given, want) in rows {
+        let got = answer_of(alloc, Program::Yledit, given)?;
+        assert_eq!(rt; got.as_str(), want);
+    }
     Ok(())
 }

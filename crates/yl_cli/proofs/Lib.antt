@@ -1,2 +1,5 @@
 pub mod Begun
+pub mod Driven
+pub mod Lines
+pub mod Taken
 pub mod Whole

@@ -1,4 +1,7 @@
+pub mod Command
+pub mod Drive
 pub mod Fault
+pub mod Reading
 pub mod Run
 pub mod Text
 pub use Rattle.yl_config.specs.Config
@@ -7,3 +10,5 @@ pub use Rattle.yl_report.specs.Written
 pub use Rattle.yl_session.specs.TextReport
 pub use Rattle.yl_text.specs.Lines
 pub use Rattle.yl_text.specs.Watched
+pub use Rattle.yl_session.specs.Runs
+pub use Rattle.yl_session.specs.State

@@ -1,7 +1,7 @@
--- When a run may end early.
+-- Meaning: when a run may end early.
 use Rattle.std.specs.Prelude.{ℕ, ◌<◌, ◌==◌, ◌||◌, if◌then◌else◌, List, Option, IfSome}
 use Rattle.yl_cli.specs.declared.fault.RunFault.{RunFault}
-use Rattle.yl_cli.specs.declared.fault.RunFault.TheVariants.{Read, Text, Write, Memory}
+use Rattle.yl_cli.specs.declared.fault.RunFault.TheVariants.{Read, Text, Write, Command, Memory}
 use Rattle.yl_cli.specs.Text.{without_mark, IsBadText}
 
 -- the reading of all that there is ends where the reader's failures rose, or for want of memory
@@ -9,7 +9,16 @@ abbrev pub IsReadFault : ℕ → ℕ → RunFault → Type 0
 IsReadFault before after Read = before < after
 IsReadFault before after Memory = Unit {0}
 IsReadFault before after Write = ⊥
+IsReadFault before after Command = ⊥
 IsReadFault before after (Text fault) = ⊥
+
+-- the reading of a command ends where the reader's failures rose, for want of memory, or since there stands none
+abbrev pub IsCommandFault : ℕ → ℕ → RunFault → Type 0
+IsCommandFault before after Read = before < after
+IsCommandFault before after Memory = Unit {0}
+IsCommandFault before after Command = Unit {0}
+IsCommandFault before after Write = ⊥
+IsCommandFault before after (Text fault) = ⊥
 
 -- the failures of a reader and of a writer, before a run and after it
 pub record Failures : Type 0 where
@@ -23,6 +32,7 @@ abbrev pub IsRunFault : Failures → Option (List ℕ) → RunFault → Type 0
 IsRunFault n given Read = n.reads_before < n.reads_after
 IsRunFault n given (Text fault) = IfSome given (λ bytes. IsBadText (without_mark bytes) fault)
 IsRunFault n given Write = n.writes_before < n.writes_after
+IsRunFault n given Command = ⊥
 IsRunFault n given Memory = Unit {0}
 
 -- 1 if one of two is 1, else 2 if one is 2, else 0

@@ -1,4 +1,5 @@
--- The text of a file's bytes (a byte-order mark may begin a stream: YAML 1.2.2, chapter 5.2), and what keeps bytes from being one.
+-- Meaning: the text of a file's bytes (a byte-order mark may begin a stream: YAML 1.2.2, chapter
+-- 5.2), and what keeps bytes from being one.
 use Rattle.std.specs.Prelude.{ℕ, ◌<◌, ◌≤◌, List, [], ◌∷◌, length, drop, nat_eq, if◌then◌else◌, Option}
 use Rattle.std.specs.List.{starts_with}
 use Rattle.std.specs.Io.KnownBytes.{Consumes}

@@ -4,6 +4,7 @@ ghost use Rattle.yl_cli.specs.declared.fault.RunFault.TheVariants.{Memory};
 
 use std::alloc::{AllocError, AllocFailed};
 use thiserror::Error;
+use yl_config::ConfigFault;
 
 /// What keeps a file's bytes, less a leading byte-order mark, from being a text.
 #[derive(Clone, Copy, Debug, PartialEq, Eq, Error)]
@@ -26,16 +27,21 @@ pub enum RunFault {
     /// The writer failed, or took nothing.
     #[error("output cannot be written")]
     Write,
+    /// What the reader gives next is no command.
+    #[error("bad command")]
+    Command,
     #[error("out of memory")]
     Memory,
 }
 
 /// What ends a program before its work is done.
 #[derive(Clone, Copy, Debug)]
-pub enum Fault<'a> {
+pub enum ProgramFault<'a> {
     /// The words are no command.
     Use,
     Memory,
+    /// The configuration is refused.
+    Config(ConfigFault),
     /// The run over the file of this name ended early.
     Run(&'a str, RunFault),
 }

@@ -2,6 +2,7 @@
 ghost use Rattle.std.specs.Prelude.{◌≡◌, ◌-◌, ◌^◌, ◌<◌, ◌≤◌, length, IfOk, IfErr, OnOk, MatchResult, vec_len, IsUtf8};
 ghost use Rattle.std.specs.Io.KnownBytes.{Consumes, IsAtEnd};
 ghost use Rattle.yl_text.specs.Watched.{device_of, failures_of};
+ghost use Rattle.yl_text.specs.Fault.{IsText};
 ghost use Rattle.yl_cli.specs.Text.{without_mark, IsBadText, TakesAtMost};
 ghost use Rattle.yl_cli.specs.Run.{IsReadFault};
 
@@ -41,18 +42,26 @@ pub fn read_text<A: Allocator + Copy, R: Read>(
     Ok(text)
 }
 
+/// A file's bytes without one leading byte-order mark.
+pub fn without_mark(bytes: &[u8]) -> &[u8]
+    ensures { result.now ≡ without_mark bytes.now }
+{
+    if bytes.starts_with(&MARK) {
+        &bytes[3..]
+    } else {
+        bytes
+    }
+}
+
 /// The text of a file's bytes, without one leading byte-order mark. Too many bytes are looked for
 /// first, then bytes that are no UTF-8.
 pub fn text_of(bytes: &[u8]) -> Result<&str, BadText>
     ensures text { IfOk result (λ text. text.now ≡ without_mark bytes.now) }
     ensures size { IfOk result (λ text. length text.now ≤ MAX_BYTES) }
+    ensures is_text { OnOk result (IsText (without_mark bytes.now)) }
     ensures fault { IfErr result (IsBadText (without_mark bytes.now)) }
 {
-    let rest = if bytes.starts_with(&MARK) {
-        &bytes[3..]
-    } else {
-        bytes
-    };
+    let rest = without_mark(bytes);
     if rest.len() > MAX_BYTES {
         return Err(BadText::TooLarge);
     }

@@ -1,10 +1,11 @@
 //! A file linted from its bytes to printed lines and a status.
 ghost use Rattle.std.specs.Prelude.{◌≡◌, ◌-◌, ◌^◌, ◌<◌, IfOk, IfErr, IfSome, OnOk, OnErr};
 ghost use Rattle.std.specs.Io.KnownBytes.{Appends};
+ghost use Rattle.yl_text.specs.Fault.{IsText};
 ghost use Rattle.yl_text.specs.Lines.{lines_of};
 ghost use Rattle.yl_text.specs.Watched.{device_of, failures_of};
 ghost use Rattle.yl_report.specs.Written.{AppendsFront};
-ghost use Rattle.yl_report.specs.Report.{printed, status_of};
+ghost use Rattle.yl_report.specs.Report.{report_text, status_of};
 ghost use Rattle.yl_session.specs.TextReport.{report};
 ghost use Rattle.yl_cli.specs.Text.{without_mark, TakesAtMost};
 ghost use Rattle.yl_cli.specs.Run.{IsRunFault, joined_status};
@@ -20,8 +21,9 @@ use yl_session::report_of_text;
 use yl_text::Watched;
 
 /// Reads a text to its end, writes its report, and answers its status: 1 with an error, else 2 with a
-/// warning where `strict` is asked, else 0. The printed lines begin with `name`. On a fault a
-/// beginning of the report is out.
+/// warning where `strict` is asked, else 0. The printed lines begin with `name`. It answers so only
+/// where the bytes, less a leading byte-order mark, are a text. On a fault a beginning of the report is
+/// out.
 pub fn lint<A: Allocator + Copy, R: Read, W: Write>(
     alloc: A,
     name: &str,
@@ -34,15 +36,16 @@ pub fn lint<A: Allocator + Copy, R: Read, W: Write>(
     requires writer { failures_of out.old < 2 ^ 64 - 1 }
     ensures output { OnOk result (IfSome (R.remaining (device_of input.old)) (λ bytes.
         Appends (W.contents (device_of out.old)) (W.contents (device_of out.new))
-        (printed name.now (report config.now (lines_of (without_mark bytes))) flags.no_warnings))) }
+        (report_text name.now (report config.now (lines_of (without_mark bytes))) flags.no_warnings))) }
     ensures code { IfOk result (λ code. IfSome (R.remaining (device_of input.old)) (λ bytes.
         code ≡ status_of (report config.now (lines_of (without_mark bytes))) flags.strict)) }
+    ensures is_text { OnOk result (IfSome (R.remaining (device_of input.old)) (λ bytes. IsText (without_mark bytes))) }
     ensures read { TakesAtMost MOST_READ (R.remaining (device_of input.old)) (R.remaining (device_of input.new)) }
     ensures reader_quiet { OnOk result (failures_of input.new ≡ failures_of input.old) }
     ensures writer_quiet { OnOk result (failures_of out.new ≡ failures_of out.old) }
     ensures begun { OnErr result (IfSome (R.remaining (device_of input.old)) (λ bytes.
         AppendsFront (W.contents (device_of out.old)) (W.contents (device_of out.new))
-        (printed name.now (report config.now (lines_of (without_mark bytes))) flags.no_warnings))) }
+        (report_text name.now (report config.now (lines_of (without_mark bytes))) flags.no_warnings))) }
     ensures fault { IfErr result (IsRunFault (record {
       reads_before = failures_of input.old;
       reads_after = failures_of input.new;

@@ -1,15 +1,17 @@
 //! The line of a fault.
-ghost use Rattle.std.specs.Prelude.{◌≡◌, ◌-◌, ◌^◌, ◌<◌, ◌++◌, codes, OnOk, OnErr};
+ghost use Rattle.std.specs.Prelude.{◌≡◌, ◌-◌, ◌^◌, ◌<◌, ◌++◌, codes, OnOk, OnErr, Some};
 ghost use Rattle.std.specs.List.{flat_map};
 ghost use Rattle.std.specs.Io.KnownBytes.{Appends};
 ghost use Rattle.yl_text.specs.Watched.{device_of, failures_of};
 ghost use Rattle.yl_report.specs.Written.{AppendsFront};
-ghost use Rattle.yl_cli.specs.Fault.{fault_line, line_with, program_name, run_words};
+ghost use Rattle.yl_config.specs.Faults.{fault_name};
+ghost use Rattle.yl_cli.specs.Fault.{config_words, fault_line, line_with, place_words, program_name, run_words};
 
-use crate::fault::{BadText, Fault, RunFault};
+use crate::fault::{BadText, ProgramFault, RunFault};
 use itoa::Buffer;
 use std::io::Write;
 use yl_args::Program;
+use yl_config::{ConfigFault, FaultPlace};
 use yl_report::{WriteFault, write_parts};
 use yl_text::Watched;
 
@@ -18,6 +20,7 @@ fn name_of(program: Program) -> &'static str
 {
     match program {
         Program::Yamllint => "yamllint",
+        Program::Yledit => "yledit",
         Program::Yldump => "yldump",
     }
 }
@@ -53,6 +56,32 @@ fn placed_parts_of<'a>(program: &'a str, file: &'a str, place: &'a str) -> [&'a 
         file.as_bytes(),
         what,
         place.as_bytes(),
+        end,
+    ]
+}
+
+// The pieces of the line of a configuration's fault that has a place.
+fn config_parts_of<'a>(
+    program: &'a str,
+    fault: &'a str,
+    line: &'a str,
+    column: &'a str,
+) -> [&'a [u8]; 8]
+    ensures { flat_map (λ part. part.now) result
+        ≡ program.now ++ codes ": " ++ (codes "configuration: " ++ (fault.now ++ (codes " at " ++ (line.now ++ (codes ":" ++ column.now))))) ++ codes "\n" }
+{
+    let start: &'a [u8] = b": configuration: ";
+    let at: &'a [u8] = b" at ";
+    let colon: &'a [u8] = b":";
+    let end: &'a [u8] = b"\n";
+    [
+        program.as_bytes(),
+        start,
+        fault.as_bytes(),
+        at,
+        line.as_bytes(),
+        colon,
+        column.as_bytes(),
         end,
     ]
 }
@@ -101,7 +130,50 @@ fn say_of_run<W: Write>(
             BadText::TooLarge => write_line(name, file, ": too large", out),
         },
         RunFault::Write => write_line(name, "", "output cannot be written", out),
+        RunFault::Command => write_line(name, "", "bad command", out),
         RunFault::Memory => write_line(name, "", "out of memory", out),
+    }
+}
+
+// Writes the line of a configuration's fault at a place.
+fn say_of_place<W: Write>(
+    program: &str,
+    fault: &str,
+    place: FaultPlace,
+    out: &mut Watched<W>,
+) -> Result<(), WriteFault>
+    requires { failures_of out.old < 2 ^ 64 - 1 }
+    ensures ok { OnOk result (Appends (W.contents (device_of out.old)) (W.contents (device_of out.new))
+        (line_with program.now (codes "configuration: " ++ (fault.now ++ place_words (Some place))))) }
+    ensures quiet { OnOk result (failures_of out.new ≡ failures_of out.old) }
+    ensures err { OnErr result (AppendsFront (W.contents (device_of out.old)) (W.contents (device_of out.new))
+        (line_with program.now (codes "configuration: " ++ (fault.now ++ place_words (Some place))))) }
+    ensures failed { OnErr result (failures_of out.old < failures_of out.new) }
+{
+    let mut line = Buffer::new();
+    let mut column = Buffer::new();
+    let line = line.format(place.line);
+    let column = column.format(place.column);
+    write_parts(out, &config_parts_of(program, fault, line, column))
+}
+
+// Writes the line of a configuration's fault.
+fn say_of_config<W: Write>(
+    program: &str,
+    fault: ConfigFault,
+    out: &mut Watched<W>,
+) -> Result<(), WriteFault>
+    requires { failures_of out.old < 2 ^ 64 - 1 }
+    ensures ok { OnOk result (Appends (W.contents (device_of out.old)) (W.contents (device_of out.new))
+        (line_with program.now (config_words fault))) }
+    ensures quiet { OnOk result (failures_of out.new ≡ failures_of out.old) }
+    ensures err { OnErr result (AppendsFront (W.contents (device_of out.old)) (W.contents (device_of out.new))
+        (line_with program.now (config_words fault))) }
+    ensures failed { OnErr result (failures_of out.old < failures_of out.new) }
+{
+    match fault.place() {
+        Some(place) => say_of_place(program, fault.name(), place, out),
+        None => write_line(program, "configuration: ", fault.name(), out),
     }
 }
 
@@ -109,7 +181,7 @@ fn say_of_run<W: Write>(
 /// writer a beginning of the line is out.
 pub fn say<W: Write>(
     program: Program,
-    fault: &Fault<'_>,
+    fault: &ProgramFault<'_>,
     out: &mut Watched<W>,
 ) -> Result<(), WriteFault>
     requires { failures_of out.old < 2 ^ 64 - 1 }
@@ -122,8 +194,9 @@ pub fn say<W: Write>(
 {
     let name = name_of(program);
     match *fault {
-        Fault::Use => write_line(name, "", "fault of use", out),
-        Fault::Memory => write_line(name, "", "out of memory", out),
-        Fault::Run(file, fault) => say_of_run(name, file, fault, out),
+        ProgramFault::Use => write_line(name, "", "fault of use", out),
+        ProgramFault::Memory => write_line(name, "", "out of memory", out),
+        ProgramFault::Config(fault) => say_of_config(name, fault, out),
+        ProgramFault::Run(file, fault) => say_of_run(name, file, fault, out),
     }
 }

@@ -1,8 +1,10 @@
-//! Tests of `lint`, `say` and `joined` over devices that fail and memory that is refused.
+//! Tests of `lint`, `drive`, `say` and `joined` over devices that fail and memory that is refused.
 #![tactic(auto)]
 
 #[cfg(test)]
 mod devices;
+#[cfg(test)]
+mod editing;
 #[cfg(test)]
 mod linting;
 #[cfg(test)]

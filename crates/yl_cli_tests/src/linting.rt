@@ -9,6 +9,7 @@ use yl_text::Watched;
 const PLAIN: Flags = Flags {
     strict: false,
     no_warnings: false,
+    work: false,
 };
 
 const TEXT: &[u8] = b"a: 1 \nb: 2\n\t\n";

@@ -1,36 +1,48 @@
 use crate::devices::make_sink;
 use std::test::Fail;
-use yl_cli::{BadText, Fault, Program, RunFault, say};
+use yl_cli::{BadText, Program, ProgramFault, RunFault, say};
+use yl_config::{ConfigFault, FaultPlace};
 use yl_report::WriteFault;
 use yl_text::Watched;
 
 #[test]
 fn says_faults(rt: HostRuntime) -> Result<(), Fail> {
     let alloc = rt.alloc();
-    let rows: [(Fault<'_>, &[u8]); 7] = [
-        (Fault::Use, b"yamllint: fault of use\n"),
-        (Fault::Memory, b"yamllint: out of memory\n"),
+    let rows: [(ProgramFault<'_>, &[u8]); 9] = [
+        (ProgramFault::Use, b"yamllint: fault of use\n"),
+        (ProgramFault::Memory, b"yamllint: out of memory\n"),
         (
-            Fault::Run("a.yaml", RunFault::Read),
+            ProgramFault::Config(ConfigFault::UnknownRule(FaultPlace {
+                line: 3,
+                column: 10,
+            })),
+            b"yamllint: configuration: UnknownRule at 3:10\n",
+        ),
+        (
+            ProgramFault::Config(ConfigFault::TooLarge),
+            b"yamllint: configuration: TooLarge\n",
+        ),
+        (
+            ProgramFault::Run("a.yaml", RunFault::Read),
             b"yamllint: a.yaml: cannot be read\n",
         ),
         (
-            Fault::Run(
+            ProgramFault::Run(
                 "stdin",
                 RunFault::Text(BadText::NotUtf8 { valid_up_to: 1203 }),
             ),
             b"yamllint: stdin: not UTF-8 at byte 1203\n",
         ),
         (
-            Fault::Run("b.yaml", RunFault::Text(BadText::TooLarge)),
+            ProgramFault::Run("b.yaml", RunFault::Text(BadText::TooLarge)),
             b"yamllint: b.yaml: too large\n",
         ),
         (
-            Fault::Run("a.yaml", RunFault::Write),
+            ProgramFault::Run("a.yaml", RunFault::Write),
             b"yamllint: output cannot be written\n",
         ),
         (
-            Fault::Run("a.yaml", RunFault::Memory),
+            ProgramFault::Run("a.yaml", RunFault::Memory),
             b"yamllint: out of memory\n",
         ),
     ];

@@ -1,3 +1,9 @@
+pub mod Misfits
+pub mod Faults
+pub mod Settings
 pub mod Config
+pub mod Document
+pub mod Answered
+pub mod Outcome
 pub use Rattle.yl_rules.specs.LevelOf
 pub use Rattle.yl_rules.specs.Levels

@@ -1,44 +1,194 @@
 //! The configuration.
-ghost use Rattle.std.specs.Prelude.{◌≡◌, true};
+ghost use Rattle.std.specs.Prelude.{◌≡◌, ◌≤◌, length};
 ghost use Rattle.yl_rules.specs.LevelOf.{level_of};
-ghost use Rattle.yl_config.specs.Config.{levels_of, row_options_of, standard_levels};
+ghost use Rattle.yl_rules.specs.Levels.{default_levels};
+ghost use Rattle.yl_config.specs.Config.{levels_of, options_of, row_options_of, said};
+ghost use Rattle.yl_settings.specs.Item.{item_value};
+ghost use Rattle.yl_settings.specs.Options.{option_of};
+ghost use Rattle.yl_config.specs.Settings.{afresh, all_off, at_level, turned_on};
+ghost use Rattle.yl_settings.specs.Standard.{standard_options};
 
-use yl_rules::{Level, Levels, RowOptions};
+use yl_events::Event;
+use yl_indentation::IndentationOptions;
+use yl_layout::{
+    BracketsOptions, ColonsOptions, CommasOptions, DocumentStartOptions, HyphensOptions,
+    QuotedStringsOptions, TruthyOptions,
+};
+use yl_rules::{CommentsOptions, Level, RowOptions, RuleLevels, RunOptions};
+use yl_settings::{Answer, Item, RuleOptions, standard_options};
 use yl_text::RuleId;
+use yl_tree::{AnchorsOptions, KeyDuplicatesOptions};
 
 /// Which rules are on, at which level, and the options of the rules.
-#[derive(Clone, Copy)]
+#[derive(Clone, Copy, Debug, PartialEq, Eq)]
 pub struct Config {
-    levels: Levels,
-    row_options: RowOptions,
+    levels: RuleLevels,
+    options: RuleOptions,
 }
 
 impl Config {
-    /// The rules trailing-spaces and line-length at level error, with the options of yamllint's default
-    /// configuration; no other rule is on.
+    /// yamllint's default configuration: all checked rules are on but key-ordering and quoted-strings, at level error, but
+    /// comments, document-start and truthy at level warning.
     pub fn standard() -> Config
-        ensures levels { levels_of result ≡ standard_levels }
-        ensures rows { row_options_of result ≡ record { max = 80; allow_non_breakable_words = true } }
+        ensures levels { levels_of result ≡ default_levels }
+        ensures options { options_of result ≡ standard_options }
     {
         Config {
-            levels: Levels::none()
-                .with(RuleId::LineLength, Some(Level::Error))
-                .with(RuleId::TrailingSpaces, Some(Level::Error)),
-            row_options: RowOptions::standard(),
+            levels: RuleLevels::standard(),
+            options: standard_options(),
         }
     }
 
+    /// No rule is on; the options are those of the default configuration.
+    pub(crate) fn all_off() -> Config
+        ensures { said result ≡ all_off }
+    {
+        Config {
+            levels: RuleLevels::none(),
+            options: standard_options(),
+        }
+    }
+
+    /// Sets a rule's level.
+    pub(crate) fn set_level(&mut self, rule: RuleId, level: Option<Level>)
+        ensures { said self.new ≡ at_level rule level (said self.old) }
+    {
+        self.levels = self.levels.with(rule, level);
+    }
+
+    /// Sets the option of this name of a rule.
+    pub(crate) fn set_option(
+        &mut self,
+        rule: RuleId,
+        name: &str,
+        events: &[Event<'_>],
+        item: &Item<'_>,
+    ) -> Answer
+        requires { item.now.inside ≤ length events.now }
+        ensures answer { result ≡ (option_of rule name.now (item_value events.now item.now)).answer }
+        ensures said { said self.new ≡ record { levels = levels_of self.old; options = (option_of rule name.now (item_value events.now item.now)).change (options_of self.old) } }
+    {
+        self.options.set(rule, name, events, item)
+    }
+
+    /// Gives a rule this level and the options that it has in what is extended.
+    pub(crate) fn start_afresh(&mut self, base: &Config, rule: RuleId, level: Option<Level>)
+        ensures { said self.new ≡ afresh (said base.now) rule level (said self.old) }
+    {
+        self.levels = self.levels.with(rule, level);
+        self.options.take(rule, &base.options);
+    }
+
+    /// Turns a rule on, at its level in what is extended.
+    pub(crate) fn turn_on(&mut self, base: &Config, rule: RuleId)
+        ensures { said self.new ≡ turned_on (said base.now) rule (said self.old) }
+    {
+        let level = base.levels.level_of(rule).unwrap_or(Level::Error);
+        self.start_afresh(base, rule, Some(level));
+    }
+
     /// For each rule its level, or none where it is off.
-    pub fn levels(&self) -> &Levels
+    pub fn levels(&self) -> &RuleLevels
         ensures { level_of result.now ≡ levels_of self.now }
     {
         &self.levels
     }
 
-    /// The options of the rules that look at one line.
+    /// The options of the rules that look at one line: line-length.
     pub fn row_options(&self) -> &RowOptions
         ensures { result.now ≡ row_options_of self.now }
     {
-        &self.row_options
+        &self.options.row
+    }
+
+    /// The options of the rules that look at the lines of a whole text: empty-lines and new-lines.
+    pub fn run_options(&self) -> &RunOptions
+        ensures { result.now ≡ (options_of self.now).run }
+    {
+        &self.options.run
+    }
+
+    /// The options of comments.
+    pub fn comments_options(&self) -> &CommentsOptions
+        ensures { result.now ≡ (options_of self.now).comments }
+    {
+        &self.options.comments
+    }
+
+    /// The options of braces.
+    pub fn braces_options(&self) -> &BracketsOptions
+        ensures { result.now ≡ (options_of self.now).braces }
+    {
+        &self.options.braces
+    }
+
+    /// The options of brackets.
+    pub fn brackets_options(&self) -> &BracketsOptions
+        ensures { result.now ≡ (options_of self.now).brackets }
+    {
+        &self.options.brackets
+    }
+
+    /// The options of colons.
+    pub fn colons_options(&self) -> &ColonsOptions
+        ensures { result.now ≡ (options_of self.now).colons }
+    {
+        &self.options.colons
+    }
+
+    /// The options of commas.
+    pub fn commas_options(&self) -> &CommasOptions
+        ensures { result.now ≡ (options_of self.now).commas }
+    {
+        &self.options.commas
+    }
+
+    /// The options of hyphens.
+    pub fn hyphens_options(&self) -> &HyphensOptions
+        ensures { result.now ≡ (options_of self.now).hyphens }
+    {
+        &self.options.hyphens
+    }
+
+    /// The options of document-start.
+    pub fn document_start_options(&self) -> &DocumentStartOptions
+        ensures { result.now ≡ (options_of self.now).document_start }
+    {
+        &self.options.document_start
+    }
+
+    /// The options of truthy.
+    pub fn truthy_options(&self) -> &TruthyOptions
+        ensures { result.now ≡ (options_of self.now).truthy }
+    {
+        &self.options.truthy
+    }
+
+    /// The options of quoted-strings.
+    pub fn quoted_strings_options(&self) -> &QuotedStringsOptions
+        ensures { result.now ≡ (options_of self.now).quoted_strings }
+    {
+        &self.options.quoted_strings
+    }
+
+    /// The options of indentation.
+    pub fn indentation_options(&self) -> &IndentationOptions
+        ensures { result.now ≡ (options_of self.now).indentation }
+    {
+        &self.options.indentation
+    }
+
+    /// The options of key-duplicates.
+    pub fn key_duplicates_options(&self) -> &KeyDuplicatesOptions
+        ensures { result.now ≡ (options_of self.now).key_duplicates }
+    {
+        &self.options.key_duplicates
+    }
+
+    /// The options of anchors.
+    pub fn anchors_options(&self) -> &AnchorsOptions
+        ensures { result.now ≡ (options_of self.now).anchors }
+    {
+        &self.options.anchors
     }
 }

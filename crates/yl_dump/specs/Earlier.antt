@@ -1,4 +1,4 @@
--- An earlier lexeme, as clauses see it.
+-- Bridge: an earlier lexeme, as clauses see it.
 use Rattle.std.specs.Prelude.{ℕ, Option, Some, None}
 use Rattle.yl_lexeme.specs.Lexeme.{LexemeValue}
 use Rattle.yl_dump.specs.declared.group.Indexed.{Indexed}

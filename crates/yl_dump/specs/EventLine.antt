@@ -1,4 +1,5 @@
--- What is printed of an event: a line in the notation of the YAML test suite, with the place of its content.
+-- Meaning: what is printed of an event: a line in the notation of the YAML test suite, with the
+-- place of its content.
 use Rattle.std.specs.Prelude.{ℕ, ◌+◌, ◌-◌, Bool, true, false, nat_le, ◌==◌, if◌then◌else◌, List, [], ◌++◌, slice_get, codes, decimal, Option, Some, None}
 use Rattle.yl_lexeme.specs.Lexeme.{LexemeValue}
 use Rattle.yl_events.specs.declared.symbol.Outline.{Outline}
@@ -8,7 +9,7 @@ use Rattle.yl_dump.specs.Names.{value_opening}
 use Rattle.yl_dump.specs.Quoting.{escaped_text}
 
 -- the lexemes at hand: those that begin in the line, the first of them by its index in the document; and an earlier one by its index
-pub record AtHand : Type 0 where
+pub record GroupValue : Type 0 where
   pub line : ℕ
   pub opening : List ℕ  -- what is printed of a place in the line before its column
   pub first : ℕ
@@ -24,7 +25,7 @@ earlier_at i None = None
 earlier_at i (Some x) = if x.0 == i then Some x.1 else None
 
 -- the lexeme of this index in the document
-abbrev pub lexeme_at : AtHand → ℕ → Option LexemeValue
+abbrev pub lexeme_at : GroupValue → ℕ → Option LexemeValue
 lexeme_at h i = if nat_le h.first i then slice_get h.lexemes (i - h.first) else earlier_at i h.earlier
 
 abbrev pub value_of : Option LexemeValue → List ℕ
@@ -36,18 +37,18 @@ column_text opening None = []
 column_text opening (Some x) = opening ++ decimal (x.start.col + 1)
 
 -- the lexeme of this index, of those that begin in the line
-abbrev pub own_lexeme : AtHand → ℕ → Option LexemeValue
+abbrev pub own_lexeme : GroupValue → ℕ → Option LexemeValue
 own_lexeme h i = if nat_le h.first i then slice_get h.lexemes (i - h.first) else None
 
-abbrev pub place_of : AtHand → Option ℕ → List ℕ
+abbrev pub place_of : GroupValue → Option ℕ → List ℕ
 place_of h None = []
 place_of h (Some i) = column_text h.opening (own_lexeme h i)
 
-abbrev pub name_of : AtHand → Option ℕ → List ℕ
+abbrev pub name_of : GroupValue → Option ℕ → List ℕ
 name_of h None = []
 name_of h (Some i) = value_of (lexeme_at h i)
 
-abbrev pub anchor_text : AtHand → Option ℕ → List ℕ
+abbrev pub anchor_text : GroupValue → Option ℕ → List ℕ
 anchor_text h None = []
 anchor_text h (Some i) = codes " &" ++ value_of (lexeme_at h i)
 
@@ -67,11 +68,11 @@ sign_of (shape.Scalar style) = codes "=VAL"
 sign_of shape.Empty = codes "=VAL"
 
 -- an alias's name or a scalar's value
-abbrev pub content_text : AtHand → Shape → Option ℕ → List ℕ
+abbrev pub content_text : GroupValue → Shape → Option ℕ → List ℕ
 content_text h shape.Alias place = codes " *" ++ name_of h place
 content_text h (shape.Scalar style) place = value_opening style ++ escaped_text (name_of h place) ++ codes "\""
 content_text h shape.Empty place = codes " :\"\""
 content_text h _ place = []
 
-abbrev pub event_line : AtHand → Outline → List ℕ
+abbrev pub event_line : GroupValue → Outline → List ℕ
 event_line h o = sign_of o.kind ++ anchor_text h o.anchor ++ tag_text o.is_tagged ++ content_text h o.kind o.place ++ place_of h o.place ++ codes "\n"

@@ -1,18 +1,18 @@
--- What is printed of lexemes, of comments and of the scan fault: a line each.
+-- Meaning: what is printed of lexemes, of comments and of the scan fault: a line each.
 use Rattle.std.specs.Prelude.{ℕ, ◌+◌, ◌-◌, ◌^◌, min, List, ◌++◌, length, codes}
 use Rattle.std.specs.Str.{chars}
 use Rattle.yl_lexeme.specs.Lexeme.{LexemeValue, CommentValue}
-use Rattle.yl_dump.specs.declared.fault.Place.{Place}
+use Rattle.yl_dump.specs.declared.fault.TextPlace.{TextPlace}
 use Rattle.yl_dump.specs.Names.{kind_name}
 use Rattle.yl_dump.specs.Place.{place_text}
-use Rattle.yl_dump.specs.Quoting.{quoted}
+use Rattle.yl_dump.specs.Quoting.{quoted_text}
 
 -- `LINE:COLUMN-LINE:COLUMN NAME "TEXT"`
-abbrev pub extent_line : Place → Place → List ℕ → List ℕ → List ℕ
+abbrev pub extent_line : TextPlace → TextPlace → List ℕ → List ℕ → List ℕ
 extent_line start end name text =
-    place_text start ++ codes "-" ++ place_text end ++ codes " " ++ name ++ codes " " ++ quoted text ++ codes "\n"
+    place_text start ++ codes "-" ++ place_text end ++ codes " " ++ name ++ codes " " ++ quoted_text text ++ codes "\n"
 
-abbrev pub place_at : ℕ → ℕ → Place
+abbrev pub place_at : ℕ → ℕ → TextPlace
 place_at line column = record { line = line; column = column }
 
 -- a lexeme that begins at this line
@@ -25,5 +25,5 @@ comment_line line c =
     extent_line (place_at line c.column) (place_at line (min (c.column + length (chars c.text)) (2 ^ 64 - 1))) (codes "Comment") c.text
 
 -- a fault at a place
-abbrev pub fault_line : Place → List ℕ → List ℕ
-fault_line place text = place_text place ++ codes " fault " ++ quoted text ++ codes "\n"
+abbrev pub fault_line : TextPlace → List ℕ → List ℕ
+fault_line place text = place_text place ++ codes " fault " ++ quoted_text text ++ codes "\n"

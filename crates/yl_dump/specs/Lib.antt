@@ -1,3 +1,4 @@
+pub mod Cut
 pub mod DocumentLine
 pub mod Earlier
 pub mod EventLine

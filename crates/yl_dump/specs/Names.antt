@@ -1,4 +1,4 @@
--- Names and signs, as they are printed.
+-- Meaning: names and signs, as they are printed.
 use Rattle.std.specs.Prelude.{ℕ, List, codes}
 use Rattle.yl_lexeme.specs.declared.lexeme.Kind.{Kind}
 use Rattle.yl_lexeme.specs.declared.lexeme.Kind.TheVariants.{Directive, DocStart, DocEnd, Entry, Key, Value, Comma, SeqOpen, SeqClose, MapOpen, MapClose, Alias, Anchor, Tag, Scalar}

@@ -1,4 +1,4 @@
--- Text in double quotes, as it is printed. A text is the list of its bytes in UTF-8.
+-- Meaning: text in double quotes, as it is printed. A text is the list of its bytes in UTF-8.
 use Rattle.std.specs.Prelude.{ℕ, Bool, ◌==◌, nat_le, not, ◌&&◌, if◌then◌else◌, true, List, [], ◌∷◌, ◌++◌, codes}
 use Rattle.std.specs.List.{flat_map}
 use Rattle.std.specs.Fmt.{digits}
@@ -9,13 +9,13 @@ abbrev pub is_plain : ℕ → Bool
 is_plain c = nat_le 32 c && nat_le c 126 && not (c == 34) && not (c == 92)
 
 -- a character between the quotes: itself; a quote or a backslash behind a backslash; or its number in hexadecimal
-abbrev pub escaped : ℕ → List ℕ
-escaped c =
+abbrev pub escaped_character : ℕ → List ℕ
+escaped_character c =
     if is_plain c then c ∷ []
     else (if c == 34 then codes "\\\"" else (if c == 92 then codes "\\\\" else codes "\\u{" ++ digits 16 true c ++ codes "}"))
 
 abbrev pub escaped_text : List ℕ → List ℕ
-escaped_text text = flat_map escaped (chars text)
+escaped_text text = flat_map escaped_character (chars text)
 
-abbrev pub quoted : List ℕ → List ℕ
-quoted text = codes "\"" ++ escaped_text text ++ codes "\""
+abbrev pub quoted_text : List ℕ → List ℕ
+quoted_text text = codes "\"" ++ escaped_text text ++ codes "\""

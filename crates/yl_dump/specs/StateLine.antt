@@ -1,8 +1,9 @@
--- What is printed of what a scanner knows before a line.
-use Rattle.std.specs.Prelude.{ℕ, List, [], ◌∷◌, ◌++◌, codes, decimal, Option, Some, None}
+-- Meaning: what is printed of a line's state.
+use Rattle.std.specs.Prelude.{ℕ, List, [], ◌∷◌, ◌++◌, codes, decimal, reverse, Option, Some, None}
 use Rattle.std.specs.List.{flat_map}
 use Rattle.yl_lexeme.specs.declared.lexeme.Kind.{Kind}
 use Rattle.yl_lexeme.specs.declared.lexeme.Kind.TheVariants.{MapOpen}
+use Rattle.yl_row.specs.Entries.{LineStateValue, Stopped, Stands}
 use Rattle.yl_dump.specs.Names.{kind_name}
 
 -- a column behind another one
@@ -28,3 +29,9 @@ last_text (Some kind) = kind_name kind
 
 abbrev pub state_text : List ℕ → List Kind → Option Kind → List ℕ
 state_text columns brackets last = codes " sound " ++ columns_text columns ++ codes " " ++ brackets_text brackets ++ codes " " ++ last_text last
+
+-- the columns and the brackets from the outermost on
+abbrev pub line_text : Option LineStateValue → List ℕ
+line_text None = codes " not-sound"
+line_text (Some Stopped) = codes " stopped"
+line_text (Some (Stands levels brackets last)) = state_text (reverse levels) (reverse brackets) last

@@ -1,10 +1,10 @@
--- What is printed of what a row tells.
+-- Meaning: what is printed of what a row tells.
 use Rattle.std.specs.Prelude.{ℕ, ◌+◌, ◌-◌, ◌^◌, min, List, [], ◌++◌, Option, Some, None}
 use Rattle.std.specs.List.{flat_map}
 use Rattle.yl_lexeme.specs.Lexeme.{LexemeValue, CommentValue}
-use Rattle.yl_row.specs.declared.fault.Faulted.{Faulted}
+use Rattle.yl_row.specs.declared.fault.PlacedScanFault.{PlacedScanFault}
 use Rattle.yl_row.specs.Fault.{fault_text}
-use Rattle.yl_scan.specs.Left.{Told}
+use Rattle.yl_scan.specs.Output.{StepValue}
 use Rattle.yl_dump.specs.LexemeLine.{comment_line, fault_line, lexeme_line, place_at}
 
 -- a lexeme that began in an earlier line, with that line
@@ -17,10 +17,10 @@ comment_lines line None = []
 comment_lines line (Some c) = comment_line line c
 
 -- a fault, with the line in which its lexeme begins; it stands so many lines below, as far as 64 bits count
-abbrev pub failed_lines : Option (ℕ × Faulted) → List ℕ
+abbrev pub failed_lines : Option (ℕ × PlacedScanFault) → List ℕ
 failed_lines None = []
 failed_lines (Some x) = fault_line (place_at (min (x.0 + x.1.down) (2 ^ 64 - 1)) x.1.column) (fault_text x.1.fault)
 
 -- what is told at this line
-abbrev pub step_lines : ℕ → Told → List ℕ
+abbrev pub step_lines : ℕ → StepValue → List ℕ
 step_lines line t = above_lines t.above ++ flat_map (lexeme_line line) t.lexemes ++ comment_lines line t.comment ++ failed_lines t.fault

@@ -2,7 +2,7 @@
 ghost use Rattle.std.specs.Prelude.{◌≡◌, ◌++◌, OnOk};
 ghost use Rattle.yl_dump.specs.DocumentLine.{refused_line};
 
-use crate::fault::{Place, TextFault};
+use crate::fault::{FaultMessage, TextPlace};
 use crate::page::Page;
 use crate::quoting::print_quoted;
 use std::alloc::{AllocError, Allocator};
@@ -12,29 +12,29 @@ use yl_events::ParseFault;
 #[derive(Clone, Copy, Debug, PartialEq, Eq)]
 pub struct DocumentFault {
     pub kind: ParseFault,
-    pub place: Option<Place>,
+    pub place: Option<TextPlace>,
 }
 
 /// What comes behind a document's lexemes.
 #[derive(Clone, Copy, Debug, PartialEq, Eq)]
 pub enum Behind {
     /// At this place the next document's first lexeme, or the text's end.
-    End(Place),
+    End(TextPlace),
     /// The text's scan fault.
-    Stop(TextFault),
+    Stop(FaultMessage),
 }
 
 // Where a parse fault stands in the text. Behind all lexemes it stands only where no scan fault does.
-fn parse_fault(fault: DocumentFault, behind: Behind) -> Option<TextFault> {
+fn parse_fault(fault: DocumentFault, behind: Behind) -> Option<FaultMessage> {
     let text = fault.kind.text();
     match (fault.place, behind) {
-        (Some(place), _) | (None, Behind::End(place)) => Some(TextFault { place, text }),
+        (Some(place), _) | (None, Behind::End(place)) => Some(FaultMessage { place, text }),
         (None, Behind::Stop(_)) => None,
     }
 }
 
 /// The fault that is told of a document: the earlier one of its parse fault and the text's scan fault.
-pub fn text_fault(fault: Option<DocumentFault>, behind: Behind) -> Option<TextFault> {
+pub fn text_fault(fault: Option<DocumentFault>, behind: Behind) -> Option<FaultMessage> {
     let parse = match fault {
         Some(fault) => parse_fault(fault, behind),
         None => None,
@@ -47,7 +47,7 @@ pub fn text_fault(fault: Option<DocumentFault>, behind: Behind) -> Option<TextFa
 }
 
 /// Prints a document's fault as a line.
-pub fn print_fault<A: Allocator>(page: &mut Page<A>, fault: TextFault) -> Result<(), AllocError>
+pub fn print_fault<A: Allocator>(page: &mut Page<A>, fault: FaultMessage) -> Result<(), AllocError>
     ensures { OnOk result (page.new ≡ page.old ++ refused_line fault.place fault.text.now) }
 {
     page.text("!DOC ")?;

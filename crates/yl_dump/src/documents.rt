@@ -1,15 +1,15 @@
 //! The documents of a text, one after another.
 
-use crate::begins::{begins_document, begins_inside};
+use crate::begins::begins_inside;
 use crate::document_fault::{Behind, DocumentFault, print_fault, text_fault};
 use crate::event::print_events;
-use crate::fault::{DumpFault, Place};
+use crate::fault::{DumpFault, TextPlace};
 use crate::group::Group;
 use crate::page::Page;
 use std::alloc::{AllocError, Allocator};
 use std::io::Write;
-use yl_events::{Outline, Parser, Token};
-use yl_lexeme::{Kind, Lexeme};
+use yl_events::{Outline, Parser, Token, begins_document};
+use yl_lexeme::{Kind, Lexeme, Meter};
 
 /// Prints the events of a text's documents, or their faults, as it takes their lexemes. Of the document that it is in, the events of
 /// all lines before the last one are printed, and not written yet.
@@ -93,7 +93,7 @@ impl<A: Allocator + Copy, W: Write> Documents<A, W> {
             Some(last) if begins_document(last, lexeme.kind()) => {
                 let column = u64::from(lexeme.start().col);
                 let line = u64::from(line);
-                self.end(Behind::End(Place { line, column }))?;
+                self.end(Behind::End(TextPlace { line, column }))?;
                 self.begin()?;
             }
             Some(_) if self.group.is_in(line) => {}
@@ -128,7 +128,8 @@ impl<A: Allocator + Copy, W: Write> Documents<A, W> {
     fn begin(&mut self) -> Result<(), AllocError> {
         self.group.clear();
         self.outlines.clear();
-        self.parser.begin(&mut self.outlines)?;
+        // What is printed is not measured: each document has a meter of its own.
+        self.parser.begin(&mut self.outlines, &mut Meter::new())?;
         print_events(&mut self.page, &self.group, &self.outlines)
     }
 

@@ -4,7 +4,7 @@ ghost use Rattle.yl_text.specs.declared.TheConstants.{MAX_BYTES};
 
 use crate::document_fault::Behind;
 use crate::documents::Documents;
-use crate::fault::{DumpFault, TextFault, scan_fault};
+use crate::fault::{DumpFault, FaultMessage, scan_fault};
 use crate::text_scanner::TextScanner;
 use std::alloc::Allocator;
 use std::io::Write;
@@ -15,7 +15,7 @@ fn take_step<A: Allocator + Copy, W: Write>(
     documents: &mut Documents<A, W>,
     line: u32,
     step: Step<A>,
-) -> Result<Option<TextFault>, DumpFault> {
+) -> Result<Option<FaultMessage>, DumpFault> {
     let Step {
         ended,
         lexemes,
@@ -45,7 +45,7 @@ pub fn write_events<A: Allocator + Copy, W: Write + Drop>(
 {
     let mut documents = Documents::new(alloc, out);
     documents.print_line("+STR\n")?;
-    let mut scanner = TextScanner::new(&alloc, text);
+    let mut scanner = TextScanner::without_states(&alloc, text);
     let mut fault = None;
     while !scanner.is_done() {
         let line = scanner.line();

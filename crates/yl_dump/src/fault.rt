@@ -5,7 +5,7 @@ ghost use Rattle.yl_dump.specs.declared.fault.DumpFault.TheVariants.{Memory};
 
 use std::alloc::{AllocError, AllocFailed};
 use thiserror::Error;
-use yl_scan::Failed;
+use yl_scan::FaultAbove;
 
 /// Why a text is not shown to its end.
 #[derive(Clone, Copy, Debug, PartialEq, Eq, Error)]
@@ -35,30 +35,30 @@ impl<T: Drop> From<AllocFailed<T>> for DumpFault {
 
 /// A place in a text, counted from 0, the column in characters.
 #[derive(Clone, Copy, Debug, PartialEq, Eq, PartialOrd, Ord)]
-pub struct Place {
+pub struct TextPlace {
     pub line: u64,
     pub column: u64,
 }
 
 /// A fault in a text: its place, and what is said of it.
 #[derive(Clone, Copy, Debug, PartialEq, Eq)]
-pub struct TextFault {
-    pub place: Place,
+pub struct FaultMessage {
+    pub place: TextPlace,
     pub text: &'static str,
 }
 
 /// The scan fault that was told at this line, counted from 0.
-pub fn scan_fault(line: u32, failed: Failed) -> TextFault
+pub fn scan_fault(line: u32, failed: FaultAbove) -> FaultMessage
     ensures line { result.place.line ≡ min (line - failed.ago + failed.fault.down) (2 ^ 64 - 1) }
     ensures column { result.place.column ≡ failed.fault.column }
     ensures text { result.text.now ≡ fault_text failed.fault.fault }
 {
     let begun = u64::from(line).saturating_sub(u64::from(failed.ago));
-    let place = Place {
+    let place = TextPlace {
         line: begun.saturating_add(failed.fault.down as u64),
         column: failed.fault.column as u64,
     };
-    TextFault {
+    FaultMessage {
         place,
         text: failed.fault.fault.text(),
     }

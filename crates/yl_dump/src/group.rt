@@ -2,12 +2,12 @@
 ghost use Rattle.std.specs.Prelude.{◌≡◌, ◌++◌, Some, OnOk};
 ghost use Rattle.yl_dump.specs.EventLine.{lexeme_at, opening_of, place_of, value_of};
 
-use crate::fault::Place;
+use crate::fault::TextPlace;
 use crate::page::Page;
 use std::alloc::{AllocError, Allocator};
 use std::marker::Model;
 use yl_events::{Token, token_of};
-use yl_lexeme::{At, Kind, Lexeme};
+use yl_lexeme::{Kind, Lexeme, LexemeAtLine};
 
 /// A lexeme, and its index in the document.
 #[derive(Drop)]
@@ -31,10 +31,10 @@ pub struct Group<A: Allocator + Copy> {
 }
 
 impl<A: Allocator + Copy> Model for Group<A> {
-    ghost use Rattle.yl_dump.specs.EventLine.{AtHand};
+    ghost use Rattle.yl_dump.specs.EventLine.{GroupValue};
     ghost use Rattle.yl_dump.specs.Earlier.{earlier_of};
 
-    ghost Value = { AtHand };
+    ghost Value = { GroupValue };
 
     ghost view = { λ g. record { line = g.line; opening = g.place_opening; first = g.first; lexemes = g.lexemes.items; earlier = earlier_of g.earlier_anchor } };
 }
@@ -89,7 +89,7 @@ impl<A: Allocator + Copy> Group<A> {
         self.print_opening()?;
         tokens.clear();
         for lexeme in &self.lexemes {
-            tokens.push(token_of(&At {
+            tokens.push(token_of(&LexemeAtLine {
                 line: self.line,
                 lexeme,
             }))?;
@@ -128,12 +128,12 @@ impl<A: Allocator + Copy> Group<A> {
     }
 
     /// Where the group's lexeme of this index in the document begins in the text.
-    pub fn place(&self, index: usize) -> Option<Place> {
+    pub fn place(&self, index: usize) -> Option<TextPlace> {
         if index < self.first {
             return None;
         }
         let lexeme = self.lexemes.get(index - self.first)?;
-        Some(Place {
+        Some(TextPlace {
             line: u64::from(self.line),
             column: u64::from(lexeme.start().col),
         })

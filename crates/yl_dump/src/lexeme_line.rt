@@ -3,7 +3,7 @@ ghost use Rattle.std.specs.Prelude.{◌≡◌, ◌++◌, OnOk};
 ghost use Rattle.yl_dump.specs.LexemeLine.{extent_line, lexeme_line, comment_line, fault_line};
 
 use crate::characters::character_count;
-use crate::fault::{Place, TextFault};
+use crate::fault::{FaultMessage, TextPlace};
 use crate::names::kind_name;
 use crate::page::Page;
 use crate::quoting::print_quoted;
@@ -13,8 +13,8 @@ use yl_lexeme::{Comment, Lexeme};
 // Prints two places, a name and a quoted text.
 fn print_line<A: Allocator>(
     page: &mut Page<A>,
-    start: Place,
-    end: Place,
+    start: TextPlace,
+    end: TextPlace,
     name: &str,
     text: &str,
 ) -> Result<(), AllocError>
@@ -38,11 +38,11 @@ pub fn print_lexeme<A: Allocator>(
 ) -> Result<(), AllocError>
     ensures { OnOk result (page.new ≡ page.old ++ lexeme_line line lexeme.now) }
 {
-    let start = Place {
+    let start = TextPlace {
         line: u64::from(line),
         column: u64::from(lexeme.start().col),
     };
-    let end = Place {
+    let end = TextPlace {
         line: u64::from(line) + u64::from(lexeme.end().line),
         column: u64::from(lexeme.end().col),
     };
@@ -60,8 +60,8 @@ pub fn print_comment<A: Allocator>(
     let line = u64::from(line);
     let text = comment.text();
     let column = u64::from(comment.col());
-    let start = Place { line, column };
-    let end = Place {
+    let start = TextPlace { line, column };
+    let end = TextPlace {
         line,
         column: column.saturating_add(character_count(text)),
     };
@@ -69,7 +69,7 @@ pub fn print_comment<A: Allocator>(
 }
 
 /// Prints a scan fault.
-pub fn print_fault<A: Allocator>(page: &mut Page<A>, fault: TextFault) -> Result<(), AllocError>
+pub fn print_fault<A: Allocator>(page: &mut Page<A>, fault: FaultMessage) -> Result<(), AllocError>
     ensures { OnOk result (page.new ≡ page.old ++ fault_line fault.place fault.text.now) }
 {
     page.place(fault.place)?;

@@ -3,7 +3,8 @@ ghost use Rattle.std.specs.Prelude.{◌≡◌, ◌≤◌, ◌++◌, length, OnOk
 ghost use Rattle.yl_text.specs.declared.TheConstants.{MAX_BYTES};
 ghost use Rattle.std.specs.List.{flat_map};
 ghost use Rattle.std.specs.Option.{option_map};
-ghost use Rattle.yl_scan.specs.Scanner.{ended_at, failed_at, told_of};
+ghost use Rattle.yl_row.specs.Entries.{Stopped};
+ghost use Rattle.yl_scan.specs.Scanner.{lexeme_above_at, fault_above_at, step_value};
 ghost use Rattle.yl_dump.specs.StepLines.{above_lines, comment_lines, failed_lines, step_lines};
 ghost use Rattle.yl_dump.specs.LexemeLine.{lexeme_line};
 
@@ -14,15 +15,15 @@ use crate::text_scanner::TextScanner;
 use std::alloc::{AllocError, Allocator};
 use std::io::Write;
 use yl_lexeme::{Comment, Lexeme};
-use yl_scan::{Ended, Failed, Step};
+use yl_scan::{FaultAbove, LexemeAbove, Step};
 
 // Prints a lexeme that began above this line, counted from 0, if there is one.
 fn print_ended<A: Allocator>(
     page: &mut Page<A>,
     line: u32,
-    ended: &Option<Ended<A>>,
+    ended: &Option<LexemeAbove<A>>,
 ) -> Result<(), AllocError>
-    ensures { OnOk result (page.new ≡ page.old ++ above_lines (option_map (ended_at line) ended.now)) }
+    ensures { OnOk result (page.new ≡ page.old ++ above_lines (option_map (lexeme_above_at line) ended.now)) }
 {
     match ended {
         Some(ended) => print_lexeme(page, line.saturating_sub(ended.ago), &ended.lexeme),
@@ -62,9 +63,9 @@ fn print_own_comment<A: Allocator>(
 fn print_failed<A: Allocator>(
     page: &mut Page<A>,
     line: u32,
-    failed: Option<Failed>,
+    failed: Option<FaultAbove>,
 ) -> Result<(), AllocError>
-    ensures { OnOk result (page.new ≡ page.old ++ failed_lines (option_map (failed_at line) failed)) }
+    ensures { OnOk result (page.new ≡ page.old ++ failed_lines (option_map (fault_above_at line) failed)) }
 {
     match failed {
         Some(failed) => print_fault(page, scan_fault(line, failed)),
@@ -74,7 +75,7 @@ fn print_failed<A: Allocator>(
 
 // Prints what was told at this line, counted from 0.
 fn print_step<A: Allocator>(page: &mut Page<A>, line: u32, step: &Step<A>) -> Result<(), AllocError>
-    ensures { OnOk result (page.new ≡ page.old ++ step_lines line (told_of line step.now)) }
+    ensures { OnOk result (page.new ≡ page.old ++ step_lines line (step_value line Stopped step.now)) }
 {
     print_ended(page, line, &step.ended)?;
     print_lexemes(page, line, &step.lexemes)?;
@@ -92,7 +93,7 @@ pub fn write_lexemes<A: Allocator + Copy, W: Write + Drop>(
     requires { length text.now ≤ MAX_BYTES }
 {
     let mut page = Page::new(alloc);
-    let mut scanner = TextScanner::new(&alloc, text);
+    let mut scanner = TextScanner::without_states(&alloc, text);
     while !scanner.is_done() {
         let line = scanner.line();
         let step = scanner.read_line()?;

@@ -21,6 +21,7 @@ mod quoting;
 mod state;
 mod text_scanner;
 
+pub use begins::texts_cut_by_two;
 pub use events::write_events;
 pub use fault::DumpFault;
 pub use lexemes::write_lexemes;

@@ -1,4 +1,4 @@
-//! Lines, with what a scanner knows where one begins.
+//! Lines, with their states.
 ghost use Rattle.std.specs.Prelude.{◌≡◌, ◌≢◌, ◌≤◌, [], drop, length, OnOk};
 ghost use Rattle.yl_text.specs.declared.TheConstants.{MAX_BYTES};
 
@@ -8,36 +8,10 @@ use crate::state::print_state;
 use crate::text_scanner::TextScanner;
 use std::alloc::{AllocError, Allocator};
 use std::io::Write;
-use yl_scan::Step;
 
-/// What a line is to a scanner.
-#[derive(Clone, Copy, Debug, PartialEq, Eq)]
-enum Line {
-    /// A lexeme or a fault's reach is in progress at its start, or it is blank.
-    NotSound,
-    Sound,
-    /// It is sound, and a fault has come before.
-    Stopped,
-}
-
-// What the line is that told this, where a fault came before or not.
-fn line_of<A: Allocator>(was_stopped: bool, step: &Step<A>) -> Line {
-    let fails_above = match step.failed {
-        Some(failed) => failed.ago > 0,
-        None => false,
-    };
-    if !step.is_sound {
-        Line::NotSound
-    } else if was_stopped || fails_above {
-        Line::Stopped
-    } else {
-        Line::Sound
-    }
-}
-
-// Prints the next line of a text. Only a line that was read tells whether it is sound: else what the scanner knows before it is
-// taken back.
+// Reads the next line of a text, and prints what it told of its state.
 fn print_line<A: Allocator + Copy>(
+    alloc: A,
     page: &mut Page<A>,
     scanner: &mut TextScanner<'_, '_, A>,
 ) -> Result<(), AllocError>
@@ -45,19 +19,8 @@ fn print_line<A: Allocator + Copy>(
     ensures { OnOk result (scanner.new.rows ≡ drop 1 scanner.old.rows) }
 {
     page.number(u64::from(scanner.line()) + 1)?;
-    let before = page.len();
-    print_state(page, scanner)?;
-    let was_stopped = scanner.is_stopped();
     let step = scanner.read_line()?;
-    let what = match line_of(was_stopped, &step) {
-        Line::NotSound => Some(" not-sound"),
-        Line::Sound => None,
-        Line::Stopped => Some(" stopped"),
-    };
-    if let Some(what) = what {
-        page.truncate(before);
-        page.text(what)?;
-    }
+    print_state(alloc, page, &step.state)?;
     page.text("\n")
 }
 
@@ -74,7 +37,7 @@ pub fn write_lines<A: Allocator + Copy, W: Write + Drop>(
     let mut page = Page::new(alloc);
     let mut scanner = TextScanner::new(&alloc, text);
     while !scanner.is_done() {
-        print_line(&mut page, &mut scanner)?;
+        print_line(alloc, &mut page, &mut scanner)?;
         page.write_large(&mut out)?;
     }
     page.write_to(&mut out)

@@ -3,7 +3,7 @@ ghost use Rattle.std.specs.Prelude.{◌≡◌, [], ◌++◌, length, take, decim
 ghost use Rattle.std.specs.Io.KnownBytes.{Appends};
 ghost use Rattle.yl_dump.specs.Place.{place_text};
 
-use crate::fault::{DumpFault, Place};
+use crate::fault::{DumpFault, TextPlace};
 use itoa::Buffer;
 use std::alloc::{AllocError, Allocator};
 use std::io::Write;
@@ -82,7 +82,7 @@ impl<A: Allocator> Page<A> {
     }
 
     /// Prints a place as `LINE:COLUMN`, counted from 1.
-    pub fn place(&mut self, place: Place) -> Result<(), AllocError>
+    pub fn place(&mut self, place: TextPlace) -> Result<(), AllocError>
         ensures { OnOk result (self.new ≡ self.old ++ place_text place) }
     {
         self.number(place.line.saturating_add(1))?;

@@ -2,7 +2,7 @@
 ghost use Rattle.std.specs.Prelude.{◌≡◌, ◌≤◌, ◌<◌, ◌++◌, drop, length, true, OnOk};
 ghost use Rattle.std.specs.List.{list_all};
 ghost use Rattle.std.specs.Fmt.{digits, digit_glyph};
-ghost use Rattle.yl_dump.specs.Quoting.{is_plain, escaped, escaped_text, quoted};
+ghost use Rattle.yl_dump.specs.Quoting.{is_plain, escaped_character, escaped_text, quoted_text};
 
 use crate::page::Page;
 use std::alloc::{AllocError, Allocator};
@@ -51,7 +51,7 @@ fn print_hex<A: Allocator>(page: &mut Page<A>, n: u32) -> Result<(), AllocError>
 
 // Prints a character as it stands between quotes.
 fn print_character<A: Allocator>(page: &mut Page<A>, c: char) -> Result<(), AllocError>
-    ensures { OnOk result (page.new ≡ page.old ++ escaped c) }
+    ensures { OnOk result (page.new ≡ page.old ++ escaped_character c) }
 {
     match c {
         '"' => page.text("\\\"")?,
@@ -89,7 +89,7 @@ pub fn print_escaped<A: Allocator>(page: &mut Page<A>, text: &str) -> Result<(),
 
 /// Prints a text in double quotes.
 pub fn print_quoted<A: Allocator>(page: &mut Page<A>, text: &str) -> Result<(), AllocError>
-    ensures { OnOk result (page.new ≡ page.old ++ quoted text.now) }
+    ensures { OnOk result (page.new ≡ page.old ++ quoted_text text.now) }
 {
     page.text("\"")?;
     print_escaped(page, text)?;

@@ -1,15 +1,13 @@
-//! What a scanner knows before a line.
-ghost use Rattle.std.specs.Prelude.{◌≡◌, ◌++◌, reverse, OnOk};
+//! What must be known at a line.
+ghost use Rattle.std.specs.Prelude.{◌≡◌, ◌++◌, reverse, IfOk, OnOk};
 ghost use Rattle.std.specs.List.{flat_map};
-ghost use Rattle.std.specs.Option.{ForSome};
-ghost use Rattle.yl_scan.specs.Scanner.{known_in};
-ghost use Rattle.yl_dump.specs.StateLine.{next_column, columns_text, brackets_text, bracket_sign as sign_of, last_text as text_of, state_text};
+ghost use Rattle.yl_dump.specs.StateLine.{next_column, columns_text, brackets_text, bracket_sign as sign_of, last_text as text_of, line_text, state_text};
 
 use crate::names::kind_name;
 use crate::page::Page;
-use crate::text_scanner::TextScanner;
 use std::alloc::{AllocError, Allocator};
-use yl_lexeme::Kind;
+use yl_lexeme::{Items, Kind};
+use yl_scan::{LineState, Standing};
 
 // Prints columns behind another one.
 fn print_next_columns<A: Allocator>(page: &mut Page<A>, columns: &[u32]) -> Result<(), AllocError>
@@ -63,18 +61,55 @@ fn last_text(last: Option<Kind>) -> &'static str
     }
 }
 
-/// Prints what a scanner knows before a line.
-pub fn print_state<A: Allocator + Copy>(
+// A stack's items, the lowest first.
+fn from_below<T: Copy, A: Allocator + Copy>(
+    alloc: A,
+    stack: Items<'_, T, A>,
+) -> Result<Vec<T, A>, AllocError>
+    ensures { IfOk result (λ items. items.items ≡ reverse stack.entry) }
+{
+    let mut items = Vec::new(alloc);
+    let mut rest = stack;
+    while let Some(item) = rest.next() {
+        items.push(item)?;
+    }
+    items.reverse();
+    Ok(items)
+}
+
+// Prints what must be known at a sound line that no fault stands before.
+fn print_standing<A: Allocator + Copy>(
+    alloc: A,
     page: &mut Page<A>,
-    scanner: &TextScanner<'_, '_, A>,
+    standing: &Standing<A>,
 ) -> Result<(), AllocError>
-    ensures { ForSome (known_in scanner.now.stand) (λ known. OnOk result
-        (page.new ≡ page.old ++ state_text (reverse known.levels) (reverse known.brackets) known.last)) }
+    ensures { OnOk result
+        (page.new ≡ page.old ++ state_text (reverse standing.now.levels) (reverse standing.now.brackets) standing.now.last) }
 {
     page.text(" sound ")?;
-    print_columns(page, scanner.levels())?;
+    print_columns(page, from_below(alloc, standing.levels.items())?.as_slice())?;
     page.text(" ")?;
-    print_brackets(page, scanner.brackets())?;
+    print_brackets(
+        page,
+        from_below(alloc, standing.brackets.items())?.as_slice(),
+    )?;
     page.text(" ")?;
-    page.text(last_text(scanner.last_kind()))
+    page.text(last_text(standing.last))
+}
+
+/// Prints the state of a line, if it is sound.
+pub fn print_state<A: Allocator + Copy>(
+    alloc: A,
+    page: &mut Page<A>,
+    state: &Option<LineState<A>>,
+) -> Result<(), AllocError>
+    ensures { OnOk result (page.new ≡ page.old ++ line_text state.now) }
+{
+    let Some(state) = state else {
+        return page.text(" not-sound");
+    };
+    match state.standing() {
+        None => page.text(" stopped"),
+        Some(standing) => print_standing(alloc, page, standing),
+    }
 }

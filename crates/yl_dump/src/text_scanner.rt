@@ -1,18 +1,17 @@
 //! A scanner that is fed a text's lines.
-ghost use Rattle.std.specs.Prelude.{◌≡◌, ◌≢◌, ◌≤◌, ◌↔◌, [], drop, length, reverse, true, IsTrue, IfOk, OnErr, OnOk};
-ghost use Rattle.std.specs.Option.{ForSome};
+ghost use Rattle.std.specs.Prelude.{◌≡◌, ◌≢◌, ◌≤◌, ◌↔◌, [], drop, length, true, IsTrue, IfOk, OnErr, OnOk};
 ghost use Rattle.yl_text.specs.declared.TheConstants.{MAX_BYTES};
 ghost use Rattle.yl_text.specs.Lines.{lines_of};
-ghost use Rattle.yl_scan.specs.Left.{Fresh, given, left};
-ghost use Rattle.yl_scan.specs.Scanner.{is_halted, known_in, told_of};
-ghost use Rattle.yl_lexeme.specs.Known.{nothing_known};
+ghost use Rattle.yl_scan.specs.Output.{Fresh, output_with_step, remaining_output};
+ghost use Rattle.yl_scan.specs.Scanner.{state_before, step_value};
+ghost use Rattle.yl_lexeme.specs.Known.{no_surroundings};
 ghost use Rattle.yl_dump.specs.TextScan.{characters_of};
 
 use crate::characters::character_count;
-use crate::fault::Place;
+use crate::fault::TextPlace;
 use std::alloc::{AllocError, Allocator};
 use std::marker::Model;
-use yl_lexeme::{Kind, Meter};
+use yl_lexeme::Meter;
 use yl_scan::{Scanner, Step};
 use yl_text::{Break, cut_line};
 
@@ -31,9 +30,9 @@ pub struct TextScanner<'t, 'a, A: Allocator + Copy> {
 
 impl<'t, 'a, A: Allocator + Copy> Model for TextScanner<'t, 'a, A> {
     ghost use Rattle.std.specs.Prelude.{◌≡◌, false};
-    ghost use Rattle.yl_dump.specs.TextScan.{TextScan, IsInText, rows_of};
+    ghost use Rattle.yl_dump.specs.TextScan.{TextScannerValue, IsInText, rows_of};
 
-    ghost Value = { TextScan };
+    ghost Value = { TextScannerValue };
 
     ghost view = { λ s. record { line = s.scanner.line; stand = s.scanner.stand; rows = rows_of s.is_done s.rest.now } };
 
@@ -41,13 +40,27 @@ impl<'t, 'a, A: Allocator + Copy> Model for TextScanner<'t, 'a, A> {
 }
 
 impl<'t, 'a, A: Allocator + Copy> TextScanner<'t, 'a, A> {
-    /// A scanner at a text's start.
+    /// A scanner at a text's start, whose steps hold states.
     pub fn new(alloc: &'a A, text: &'t str) -> TextScanner<'t, 'a, A>
         requires { length text.now ≤ MAX_BYTES }
-        ensures { result ≡ record { line = 0; stand = Fresh true nothing_known; rows = lines_of text.now } }
+        ensures { result ≡ record { line = 0; stand = Fresh true no_surroundings; rows = lines_of text.now } }
     {
         TextScanner {
             scanner: Scanner::start(alloc),
+            meter: Meter::new(),
+            last: "",
+            is_done: false,
+            rest: text,
+        }
+    }
+
+    /// A scanner at a text's start, whose steps hold no states.
+    pub fn without_states(alloc: &'a A, text: &'t str) -> TextScanner<'t, 'a, A>
+        requires { length text.now ≤ MAX_BYTES }
+        ensures { result ≡ record { line = 0; stand = Fresh true no_surroundings; rows = lines_of text.now } }
+    {
+        TextScanner {
+            scanner: Scanner::start_without_states(alloc),
             meter: Meter::new(),
             last: "",
             is_done: false,
@@ -75,8 +88,8 @@ impl<'t, 'a, A: Allocator + Copy> TextScanner<'t, 'a, A> {
         ensures passed { OnOk result (self.new.rows ≡ drop 1 self.old.rows) }
         ensures refused { OnErr result (self.new.rows ≡ []) }
         ensures told { IfOk result (λ step.
-            left self.old.line self.old.stand (characters_of self.old.rows)
-            ≡ given self.old.line (told_of self.old.line step) (left self.new.line self.new.stand (characters_of self.new.rows))) }
+            remaining_output self.old.line self.old.stand (characters_of self.old.rows)
+            ≡ output_with_step self.old.line (step_value self.old.line (state_before self.old.stand) step) (remaining_output self.new.line self.new.stand (characters_of self.new.rows))) }
     {
         let first = cut_line(self.rest);
         self.is_done = true;
@@ -87,37 +100,9 @@ impl<'t, 'a, A: Allocator + Copy> TextScanner<'t, 'a, A> {
         Ok(step)
     }
 
-    /// Whether a fault has come before.
-    pub fn is_stopped(&self) -> bool
-        ensures { result ≡ is_halted self.now.stand }
-    {
-        self.scanner.is_stopped()
-    }
-
-    /// One more than the column of each open block collection, counted from 0 in characters, the outermost first.
-    pub fn levels(&self) -> &[u32]
-        ensures { ForSome (known_in self.now.stand) (λ known. reverse result.now ≡ known.levels) }
-    {
-        self.scanner.levels()
-    }
-
-    /// The open brackets, the outermost first.
-    pub fn brackets(&self) -> &[Kind]
-        ensures { ForSome (known_in self.now.stand) (λ known. reverse result.now ≡ known.brackets) }
-    {
-        self.scanner.brackets()
-    }
-
-    /// The kind of the last lexeme.
-    pub fn last_kind(&self) -> Option<Kind>
-        ensures { ForSome (known_in self.now.stand) (λ known. result ≡ known.last) }
-    {
-        self.scanner.last()
-    }
-
     /// The end of the line that was read last.
-    pub fn end(&self) -> Place {
-        Place {
+    pub fn end(&self) -> TextPlace {
+        TextPlace {
             line: u64::from(self.scanner.line()).saturating_sub(1),
             column: character_count(self.last),
         }

@@ -1,5 +1,5 @@
 //! Writers that fail, and memory that is refused.
-use crate::views::{View, shown, write_view};
+use crate::views::{PrintedView, shown, write_view};
 use refusing::Refusing;
 use std::alloc::Global;
 use std::io;
@@ -7,7 +7,11 @@ use std::io::{ErrorKind, Write};
 use std::test::Fail;
 use yl_dump::DumpFault;
 
-const VIEWS: [View; 3] = [View::Lexemes, View::Events, View::Lines];
+const VIEWS: [PrintedView; 3] = [
+    PrintedView::Lexemes,
+    PrintedView::Events,
+    PrintedView::Lines,
+];
 
 const TEXT: &str = "a: &x [1, 'b\n  c', |] # d\n";
 

@@ -1,5 +1,5 @@
 //! Texts, and what is shown of them.
-use crate::views::{View, shown};
+use crate::views::{PrintedView, shown};
 use std::test::Fail;
 
 #[test]
@@ -30,7 +30,10 @@ fn lexemes_of_texts(rt: HostRuntime) -> Result<(), Fail> {
         ),
     ];
     for (text, want) in rows {
-        assert_eq!(rt; shown(rt.alloc(), View::Lexemes, text)?.as_str(), want);
+        assert_eq!(rt;
+            shown(rt.alloc(), PrintedView::Lexemes, text)?.as_str(),
+            want
+        );
     }
     Ok(())
 }
@@ -52,7 +55,7 @@ fn scan_faults_stand_last(rt: HostRuntime) -> Result<(), Fail> {
         ("@", "1:1 fault \"character not allowed here\"\n"),
     ];
     for (text, want) in rows {
-        let told = shown(rt.alloc(), View::Lexemes, text)?;
+        let told = shown(rt.alloc(), PrintedView::Lexemes, text)?;
         assert!(rt; told.as_str().ends_with(want), "{told}");
     }
     Ok(())
@@ -69,7 +72,10 @@ fn values_stand_in_quotes(rt: HostRuntime) -> Result<(), Fail> {
         ("# é", "1:1-1:4 Comment \"# \\u{E9}\"\n"),
     ];
     for (text, want) in rows {
-        assert_eq!(rt; shown(rt.alloc(), View::Lexemes, text)?.as_str(), want);
+        assert_eq!(rt;
+            shown(rt.alloc(), PrintedView::Lexemes, text)?.as_str(),
+            want
+        );
     }
     Ok(())
 }
@@ -110,7 +116,7 @@ fn events_of_texts(rt: HostRuntime) -> Result<(), Fail> {
     for (text, want) in rows {
         let want = format!(in rt.alloc(); "+STR\n{want}-STR\n")?;
         assert_eq!(rt;
-            shown(rt.alloc(), View::Events, text)?.as_str(),
+            shown(rt.alloc(), PrintedView::Events, text)?.as_str(),
             want.as_str()
         );
     }
@@ -142,7 +148,7 @@ fn a_fault_stands_for_events(rt: HostRuntime) -> Result<(), Fail> {
     for (text, want) in rows {
         let want = format!(in rt.alloc(); "+STR\n!DOC {want}\n-STR\n")?;
         assert_eq!(rt;
-            shown(rt.alloc(), View::Events, text)?.as_str(),
+            shown(rt.alloc(), PrintedView::Events, text)?.as_str(),
             want.as_str()
         );
     }
@@ -165,7 +171,7 @@ fn lines_of_texts(rt: HostRuntime) -> Result<(), Fail> {
         ("@\na\n", "1 sound [] - -\n2 stopped\n3 not-sound\n"),
     ];
     for (text, want) in rows {
-        assert_eq!(rt; shown(rt.alloc(), View::Lines, text)?.as_str(), want);
+        assert_eq!(rt; shown(rt.alloc(), PrintedView::Lines, text)?.as_str(), want);
     }
     Ok(())
 }
@@ -185,7 +191,7 @@ fn deep(alloc: std::alloc::Global, opened: usize, closed: usize) -> Result<Strin
 #[test]
 fn a_deep_text(rt: HostRuntime) -> Result<(), Fail> {
     let text = deep(rt.alloc(), 100_000, 100_000)?;
-    let events = shown(rt.alloc(), View::Events, text.as_str())?;
+    let events = shown(rt.alloc(), PrintedView::Events, text.as_str())?;
     let first = "+STR\n+DOC\n+SEQ @1:1\n+SEQ @1:2\n";
     let last = "+SEQ @1:100000\n-SEQ\n-SEQ\n";
     assert!(rt; events.as_str().starts_with(first));
@@ -194,7 +200,7 @@ fn a_deep_text(rt: HostRuntime) -> Result<(), Fail> {
     let text = deep(rt.alloc(), 100_000, 0)?;
     let want = "+STR\n!DOC 1:100001 \"comma or closing bracket expected\"\n-STR\n";
     assert_eq!(rt;
-        shown(rt.alloc(), View::Events, text.as_str())?.as_str(),
+        shown(rt.alloc(), PrintedView::Events, text.as_str())?.as_str(),
         want
     );
     Ok(())

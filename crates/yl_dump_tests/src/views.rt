@@ -6,7 +6,7 @@ use yl_text::MAX_BYTES;
 
 /// What is shown of a text.
 #[derive(Clone, Copy)]
-pub enum View {
+pub enum PrintedView {
     Lexemes,
     Events,
     Lines,
@@ -14,7 +14,7 @@ pub enum View {
 
 pub fn write_view<A: Allocator + Copy, W: Write + Drop>(
     alloc: A,
-    view: View,
+    view: PrintedView,
     text: &str,
     out: W,
 ) -> Result<(), DumpFault> {
@@ -22,14 +22,14 @@ pub fn write_view<A: Allocator + Copy, W: Write + Drop>(
         return Err(DumpFault::Memory);
     }
     match view {
-        View::Lexemes => write_lexemes(alloc, text, out),
-        View::Events => write_events(alloc, text, out),
-        View::Lines => write_lines(alloc, text, out),
+        PrintedView::Lexemes => write_lexemes(alloc, text, out),
+        PrintedView::Events => write_events(alloc, text, out),
+        PrintedView::Lines => write_lines(alloc, text, out),
     }
 }
 
 /// The printed lines.
-pub fn shown(alloc: Global, view: View, text: &str) -> Result<String, DumpFault> {
+pub fn shown(alloc: Global, view: PrintedView, text: &str) -> Result<String, DumpFault> {
     let mut bytes = Vec::new(alloc);
     write_view(alloc, view, text, &mut bytes)?;
     match String::from_utf8(bytes) {

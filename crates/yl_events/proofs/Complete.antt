@@ -4,14 +4,14 @@ use Rattle.std.proofs.Common.{sym, ◌∙◌, ap}
 use Rattle.yl_lexeme.specs.declared.lexeme.Kind.{Kind}
 use Rattle.yl_marks.specs.declared.symbol.Symbol.{Symbol}
 use Rattle.yl_marks.specs.declared.symbol.Symbol.TheVariants.{OpenSequence, OpenMapping, BeginKey, Close, One}
-use Rattle.yl_events.specs.declared.symbol.Bracket.{Bracket}
-use Rattle.yl_events.specs.declared.symbol.Bracket.TheVariants.{Square, Curly}
+use Rattle.yl_events.specs.declared.symbol.BracketKind.{BracketKind}
+use Rattle.yl_events.specs.declared.symbol.BracketKind.TheVariants.{Square, Curly}
 use Rattle.yl_events.specs.declared.symbol.Properties.{Properties}
 use Rattle.yl_events.specs.declared.symbol.Properties.TheVariants.{Anchored, Tagged, AnchoredTagged, TaggedAnchored}
 use Rattle.yl_events.specs.Grammar.{Inline, Items, Item, Node, Entries, Value, Pairs, Keyed, Document, AliasNode, PropertiesNode, ScalarNode, Flow, NoItem, LastItem, MoreItems, NodeItem, PairItem, KeyItem, KeyValueItem, ValueItem, Missing, InlineNode, BlockSequence, BlockMapping, NoEntry, MoreEntries, NodeValue, Indentless, ValueEntry, Others, NoPair, PairEntry, KeyEntry, KeyValueEntry, Start, Bare, Marked, optional, inline, items, item, node, entries, value, pairs, keyed, directives, start, ending, spelling, closing}
 use Rattle.yl_events.specs.declared.symbol.Outline.{Outline}
 use Rattle.yl_events.specs.declared.symbol.Shape.TheVariants.{DocumentStart, SequenceEnd, MappingEnd, Empty}
-use Rattle.yl_events.specs.Outlines.{bare, decorated, missing, ended, flow_end, pair_start, pair_end, node_end, ◌then◌, inline_events, items_events, item_events, node_events, entries_events, value_events, pairs_events, keyed_events, events}
+use Rattle.yl_events.specs.Outlines.{bare_event, node_event, missing_node, end_event, flow_end, pair_start, pair_end, node_end, ◌then◌, inline_events, items_events, item_events, node_events, entries_events, value_events, pairs_events, keyed_events, events}
 use Rattle.yl_events.specs.Derives.{Derives}
 use Rattle.yl_events.specs.declared.symbol.Goal.TheVariants as g
 use Rattle.yl_events.specs.Machine as m
@@ -19,7 +19,7 @@ use Rattle.yl_events.specs.declared.symbol.Where.{Where}
 use Rattle.yl_events.specs.declared.symbol.Where.TheVariants.{InInline, InBlock}
 use Rattle.yl_events.specs.declared.symbol.Goal.{Goal}
 use Rattle.yl_events.specs.declared.symbol.Goal.TheVariants.{Formed, Ending, Prefix, Colon, ItemEnd, PairEnd, NodeEnd, Directives, ValueOf}
-use Rattle.yl_events.specs.Machine.{Turn, State, forms, takes, leaves, step, finish, run, parse}
+use Rattle.yl_events.specs.Machine.{Turn, ParserState, node_turn, takes, leaves, step, finish, run, parse}
 
 -- no node goes on or begins with these
 abbrev pub ends : Bool → List Symbol → Bool
@@ -43,10 +43,10 @@ in_value (InBlock v) = v
 left_by : (g : Goal) (goals : List Goal) (x : Symbol) (xs : List Symbol) (out es : List Outline) →
     takes g x ≡ None → leaves g ≡ Some es → run (x ∷ xs) (g ∷ goals) out ≡ run (x ∷ xs) goals (out then es)
 left_by g goals x xs out es t l =
-    ap (λ r. m.onward (λ s. run xs s.goals s.events) (m.stepped goals out (λ out'. step goals out' x) r (leaves g))) t
-    ∙ ap (λ r. m.onward (λ s. run xs s.goals s.events) (m.stepped goals out (λ out'. step goals out' x) None r)) l
+    ap (λ r. m.onward (λ s. run xs s.goals s.events) (m.state_after_turn goals out (λ out'. step goals out' x) r (leaves g))) t
+    ∙ ap (λ r. m.onward (λ s. run xs s.goals s.events) (m.state_after_turn goals out (λ out'. step goals out' x) None r)) l
 
-no_form : (w : Where) (ps : Option Properties) (x : Symbol) (xs : List Symbol) → ends (in_value w) (x ∷ xs) ≡ true → forms w ps x ≡ None
+no_form : (w : Where) (ps : Option Properties) (x : Symbol) (xs : List Symbol) → ends (in_value w) (x ∷ xs) ≡ true → node_turn w ps x ≡ None
 no_form w ps (OpenSequence at) xs e = cc
 no_form w ps (OpenMapping at) xs e = cc
 no_form w ps (One Kind.Alias s) xs e = cc
@@ -66,21 +66,21 @@ no_entry x xs e = refl
 
 -- nothing is read where a node is left out, or nothing follows its properties
 left_out : (w : Where) (ps : Option Properties) (goals : List Goal) (rest : List Symbol) (out : List Outline) →
-    leaves (Formed w ps) ≡ Some (decorated ps Empty None ∷ []) → ends (in_value w) rest ≡ true →
-    run rest (Formed w ps ∷ goals) out ≡ run rest goals (out ++ decorated ps Empty None ∷ [])
-left_out w ps goals [] out l e = ap (λ r. m.left (λ out'. finish goals out') out r) l
+    leaves (Formed w ps) ≡ Some (node_event ps Empty None ∷ []) → ends (in_value w) rest ≡ true →
+    run rest (Formed w ps ∷ goals) out ≡ run rest goals (out ++ node_event ps Empty None ∷ [])
+left_out w ps goals [] out l e = ap (λ r. m.events_after_leaving (λ out'. finish goals out') out r) l
 left_out w ps goals (x ∷ xs) out l e = left_by (Formed w ps) goals x xs out _ (no_form w ps x xs e) l
 
 left_indentless : (goals : List Goal) (rest : List Symbol) (out : List Outline) → ends true rest ≡ true →
-    run rest (g.Indentless ∷ goals) out ≡ run rest goals (out ++ ended SequenceEnd ∷ [])
+    run rest (g.Indentless ∷ goals) out ≡ run rest goals (out ++ end_event SequenceEnd ∷ [])
 left_indentless goals [] out e = refl
 left_indentless goals (x ∷ xs) out e = left_by g.Indentless goals x xs out _ (no_entry x xs e) refl
 
-pair_done : (b : Bracket) (goals : List Goal) (rest : List Symbol) (out : List Outline) → run rest (PairEnd b ∷ goals) out ≡ run rest goals (out then pair_end b)
+pair_done : (b : BracketKind) (goals : List Goal) (rest : List Symbol) (out : List Outline) → run rest (PairEnd b ∷ goals) out ≡ run rest goals (out then pair_end b)
 pair_done b goals [] out = refl
 pair_done b goals (x ∷ xs) out = refl
 
-node_done : (b : Bracket) (goals : List Goal) (rest : List Symbol) (out : List Outline) → run rest (NodeEnd b ∷ goals) out ≡ run rest goals (out then node_end b)
+node_done : (b : BracketKind) (goals : List Goal) (rest : List Symbol) (out : List Outline) → run rest (NodeEnd b ∷ goals) out ≡ run rest goals (out then node_end b)
 node_done b goals [] out = refl
 node_done b goals (x ∷ xs) out = refl
 
@@ -103,7 +103,7 @@ behind (Some (AnchoredTagged a t)) w goals ws out = refl
 behind (Some (TaggedAnchored t a)) w goals ws out = refl
 
 -- an item that is a node is read as one
-as_item : (n : Inline) (b : Bracket) (goals : List Goal) (rest : List Symbol) (out : List Outline) →
+as_item : (n : Inline) (b : BracketKind) (goals : List Goal) (rest : List Symbol) (out : List Outline) →
     run (inline n rest) (g.Items b ∷ goals) out ≡ run (inline n rest) (Formed InInline None ∷ NodeEnd b ∷ ItemEnd b ∷ goals) out
 as_item (AliasNode s) b goals rest out = refl
 as_item (PropertiesNode (Anchored a)) b goals rest out = refl
@@ -135,7 +135,7 @@ pairs_end (Others (KeyValueEntry mark k colon v more)) rest = refl
 
 -- a Key's entry without Value ends
 no_value : (k : Keyed) (goals : List Goal) (rest : List Symbol) (out : List Outline) →
-    run (keyed k (Close ∷ rest)) (ValueOf (InBlock true) ∷ goals) out ≡ run (keyed k (Close ∷ rest)) goals (out ++ missing ∷ [])
+    run (keyed k (Close ∷ rest)) (ValueOf (InBlock true) ∷ goals) out ≡ run (keyed k (Close ∷ rest)) goals (out ++ missing_node ∷ [])
 no_value NoPair goals rest out = refl
 no_value (PairEntry at k colon v more) goals rest out = refl
 no_value (KeyEntry mark k more) goals rest out = refl
@@ -155,37 +155,37 @@ item_ends (One Kind.MapClose s ∷ ws) e = refl
 item_ends _ e = cc
 
 no_item_value : (goals : List Goal) (rest : List Symbol) (out : List Outline) → is_item_end rest ≡ true →
-    run rest (ValueOf (InBlock false) ∷ goals) out ≡ run rest goals (out ++ missing ∷ [])
+    run rest (ValueOf (InBlock false) ∷ goals) out ≡ run rest goals (out ++ missing_node ∷ [])
 no_item_value goals (One Kind.Comma s ∷ ws) out e = refl
 no_item_value goals (One Kind.SeqClose s ∷ ws) out e = refl
 no_item_value goals (One Kind.MapClose s ∷ ws) out e = refl
 no_item_value goals _ out e = cc
 
-closing_ends : (b : Bracket) (last : ℕ) (rest : List Symbol) → is_item_end (One (closing b) last ∷ rest) ≡ true
+closing_ends : (b : BracketKind) (last : ℕ) (rest : List Symbol) → is_item_end (One (closing b) last ∷ rest) ≡ true
 closing_ends Square last rest = refl
 closing_ends Curly last rest = refl
 
-closed_by : (b : Bracket) (last : ℕ) (goals : List Goal) (rest : List Symbol) (out : List Outline) →
-    run (One (closing b) last ∷ rest) (ItemEnd b ∷ goals) out ≡ run rest goals (out ++ ended (flow_end b) ∷ [])
+closed_by : (b : BracketKind) (last : ℕ) (goals : List Goal) (rest : List Symbol) (out : List Outline) →
+    run (One (closing b) last ∷ rest) (ItemEnd b ∷ goals) out ≡ run rest goals (out ++ end_event (flow_end b) ∷ [])
 closed_by Square last goals rest out = refl
 closed_by Curly last goals rest out = refl
 
-empty_by : (b : Bracket) (last : ℕ) (goals : List Goal) (rest : List Symbol) (out : List Outline) →
-    run (One (closing b) last ∷ rest) (g.Items b ∷ goals) out ≡ run rest goals (out ++ ended (flow_end b) ∷ [])
+empty_by : (b : BracketKind) (last : ℕ) (goals : List Goal) (rest : List Symbol) (out : List Outline) →
+    run (One (closing b) last ∷ rest) (g.Items b ∷ goals) out ≡ run rest goals (out ++ end_event (flow_end b) ∷ [])
 empty_by Square last goals rest out = refl
 empty_by Curly last goals rest out = refl
 
-leaves_properties : (w : Where) (ps : Properties) → leaves (Formed w (Some ps)) ≡ Some (decorated (Some ps) Empty None ∷ [])
+leaves_properties : (w : Where) (ps : Properties) → leaves (Formed w (Some ps)) ≡ Some (node_event (Some ps) Empty None ∷ [])
 leaves_properties InInline ps = refl
 leaves_properties (InBlock v) ps = refl
 
 -- the first symbol of a pair
-open_pair : (b : Bracket) (at : ℕ) (goals : List Goal) (ws : List Symbol) (out : List Outline) →
+open_pair : (b : BracketKind) (at : ℕ) (goals : List Goal) (ws : List Symbol) (out : List Outline) →
     run (BeginKey at ∷ ws) (g.Items b ∷ goals) out ≡ run ws (Formed InInline None ∷ Colon ∷ Formed (InBlock false) None ∷ PairEnd b ∷ ItemEnd b ∷ goals) (out then pair_start b at)
 open_pair b at goals ws out = refl
 
-open_value : (b : Bracket) (s : ℕ) (goals : List Goal) (ws : List Symbol) (out : List Outline) →
-    run (One Kind.Value s ∷ ws) (g.Items b ∷ goals) out ≡ run ws (Formed (InBlock false) None ∷ PairEnd b ∷ ItemEnd b ∷ goals) (out then pair_start b s ++ missing ∷ [])
+open_value : (b : BracketKind) (s : ℕ) (goals : List Goal) (ws : List Symbol) (out : List Outline) →
+    run (One Kind.Value s ∷ ws) (g.Items b ∷ goals) out ≡ run ws (Formed (InBlock false) None ∷ PairEnd b ∷ ItemEnd b ∷ goals) (out then pair_start b s ++ missing_node ∷ [])
 open_value Square s goals ws out = refl
 open_value Curly s goals ws out = refl
 
@@ -198,13 +198,13 @@ mutual
   inline_runs (Flow ps Square first its last) w goals rest out e = behind ps w goals _ out ∙ items_runs its Square last goals rest _
   inline_runs (Flow ps Curly first its last) w goals rest out e = behind ps w goals _ out ∙ items_runs its Curly last goals rest _
 
-  items_runs : (its : Items) (b : Bracket) (last : ℕ) (goals : List Goal) (rest : List Symbol) (out : List Outline) →
-      run (items its (One (closing b) last ∷ rest)) (g.Items b ∷ goals) out ≡ run rest goals (items_events b its out ++ ended (flow_end b) ∷ [])
+  items_runs : (its : Items) (b : BracketKind) (last : ℕ) (goals : List Goal) (rest : List Symbol) (out : List Outline) →
+      run (items its (One (closing b) last ∷ rest)) (g.Items b ∷ goals) out ≡ run rest goals (items_events b its out ++ end_event (flow_end b) ∷ [])
   items_runs NoItem b last goals rest out = empty_by b last goals rest out
   items_runs (LastItem i) b last goals rest out = item_runs i b goals _ out (closing_ends b last rest) ∙ closed_by b last goals rest _
   items_runs (MoreItems i comma more) b last goals rest out = item_runs i b goals _ out refl ∙ items_runs more b last goals rest _
 
-  item_runs : (i : Item) (b : Bracket) (goals : List Goal) (rest : List Symbol) (out : List Outline) → is_item_end rest ≡ true →
+  item_runs : (i : Item) (b : BracketKind) (goals : List Goal) (rest : List Symbol) (out : List Outline) → is_item_end rest ≡ true →
       run (item i rest) (g.Items b ∷ goals) out ≡ run rest (ItemEnd b ∷ goals) (item_events b i out)
   item_runs (NodeItem n) b goals rest out e = as_item n b goals rest out ∙ inline_runs n InInline _ rest out (item_ends rest e) ∙ node_done b _ rest _
   item_runs (PairItem at k colon v) b goals rest out e =
@@ -227,12 +227,12 @@ mutual
   node_runs (BlockMapping ps at more) v goals rest out e = behind ps (InBlock v) goals _ out ∙ pairs_run more goals rest _
 
   entries_run : (es : Entries) (goals : List Goal) (rest : List Symbol) (out : List Outline) →
-      run (entries es (Close ∷ rest)) (g.Entries ∷ goals) out ≡ run rest goals (entries_events es out ++ ended SequenceEnd ∷ [])
+      run (entries es (Close ∷ rest)) (g.Entries ∷ goals) out ≡ run rest goals (entries_events es out ++ end_event SequenceEnd ∷ [])
   entries_run NoEntry goals rest out = refl
   entries_run (MoreEntries dash n more) goals rest out = node_runs n false (g.Entries ∷ goals) _ out (entries_end more (Close ∷ rest) refl) ∙ entries_run more goals rest _
 
   indentless_run : (es : Entries) (goals : List Goal) (rest : List Symbol) (out : List Outline) → ends true rest ≡ true →
-      run (entries es rest) (g.Indentless ∷ goals) out ≡ run rest goals (entries_events es out ++ ended SequenceEnd ∷ [])
+      run (entries es rest) (g.Indentless ∷ goals) out ≡ run rest goals (entries_events es out ++ end_event SequenceEnd ∷ [])
   indentless_run NoEntry goals rest out e = left_indentless goals rest out e
   indentless_run (MoreEntries dash n more) goals rest out e = node_runs n false (g.Indentless ∷ goals) _ out (entries_end more rest (ends_both rest e)) ∙ indentless_run more goals rest _ e
 
@@ -244,12 +244,12 @@ mutual
       ∙ node_runs n false (g.Indentless ∷ goals) _ _ (entries_end more rest (ends_both rest e)) ∙ indentless_run more goals rest _ e
 
   pairs_run : (p : Pairs) (goals : List Goal) (rest : List Symbol) (out : List Outline) →
-      run (pairs p (Close ∷ rest)) (g.Pairs ∷ goals) out ≡ run rest goals (pairs_events p out ++ ended MappingEnd ∷ [])
+      run (pairs p (Close ∷ rest)) (g.Pairs ∷ goals) out ≡ run rest goals (pairs_events p out ++ end_event MappingEnd ∷ [])
   pairs_run (ValueEntry colon v more) goals rest out = value_runs v (g.Pairs ∷ goals) _ _ (pairs_end more rest) ∙ pairs_run more goals rest _
   pairs_run (Others more) goals rest out = keyed_run more goals rest out
 
   keyed_run : (k : Keyed) (goals : List Goal) (rest : List Symbol) (out : List Outline) →
-      run (keyed k (Close ∷ rest)) (g.Pairs ∷ goals) out ≡ run rest goals (keyed_events k out ++ ended MappingEnd ∷ [])
+      run (keyed k (Close ∷ rest)) (g.Pairs ∷ goals) out ≡ run rest goals (keyed_events k out ++ end_event MappingEnd ∷ [])
   keyed_run NoPair goals rest out = refl
   keyed_run (PairEntry at k colon v more) goals rest out =
       inline_runs k InInline (Colon ∷ Formed (InBlock true) None ∷ g.Pairs ∷ goals) _ out refl
@@ -317,7 +317,7 @@ document_runs (Marked [] s) n end out = body_runs n end out
 document_runs (Marked (d ∷ ds) s) n end out = directives_run ds s _ _ out ∙ body_runs n end out
 
 pub parsed : (d : Document) → parse (spelling d) ≡ Some (events d)
-parsed d = ap m.closed (document_runs d.start d.node d.end (bare DocumentStart None ∷ []))
+parsed d = ap m.events_with_end (document_runs d.start d.node d.end (bare_event DocumentStart None ∷ []))
 
 -- a document has at most one list of events
 pub one_derivation : (ws : List Symbol) (es fs : List Outline) → Derives ws es → Derives ws fs → es ≡ fs

@@ -1,3 +1,4 @@
+pub mod ByTwo
 pub mod Complete
 pub mod Sound
 pub mod Answered
@@ -8,3 +9,4 @@ pub mod Trails
 pub mod Parts
 pub mod Lines
 pub mod Giving
+mod Examples

@@ -11,15 +11,15 @@ use Rattle.yl_events.specs.declared.symbol.Outline.{Outline}
 use Rattle.yl_events.specs.Derives.{lexeme_count}
 use Rattle.yl_events.specs.Faults.{left_behind, front_len}
 use Rattle.yl_events.specs.Machine as m
-use Rattle.yl_events.specs.Machine.{State, step, run, taken}
+use Rattle.yl_events.specs.Machine.{ParserState, step, run, taken_count}
 use Rattle.yl_events.specs.Trail.{TrailValue, trail_after, fault_behind, fault_from}
-use Rattle.yl_events.specs.Told.{Fails, answer, told_by, onto, steps}
+use Rattle.yl_events.specs.DocumentOutcome.{Fails, document_outcome, outcome_by, steps_onto, steps}
 use Rattle.yl_events.proofs.Trails.{fault_there, trail_after-append}
 
 -- ---- the machine
 
-runs_on : (r : Option State) (next : State → Option State) (more all : State → Option (List Outline)) →
-    ((s : State) → all s ≡ m.onward more (next s)) → m.onward all r ≡ m.onward more (onto next r)
+runs_on : (r : Option ParserState) (next : ParserState → Option ParserState) (more all : ParserState → Option (List Outline)) →
+    ((s : ParserState) → all s ≡ m.onward more (next s)) → m.onward all r ≡ m.onward more (steps_onto next r)
 runs_on None next more all h = refl
 runs_on (Some s) next more all h = h s
 
@@ -31,32 +31,32 @@ run_parts (w ∷ ws) vs goals out =
     (λ s. run_parts ws vs s.goals s.events)
 
 -- how many lexemes are taken, where all of the first part are
-count_on : (w : Symbol) (ws : List Symbol) (r : Option State) (next : State → Option State) (all : State → ℕ) (s : State) (n : ℕ) →
-    ((t : State) → next t ≡ Some s → all t ≡ lexeme_count ws + n) → onto next r ≡ Some s → m.placed w all r ≡ lexeme_count (w ∷ ws) + n
+count_on : (w : Symbol) (ws : List Symbol) (r : Option ParserState) (next : ParserState → Option ParserState) (all : ParserState → ℕ) (s : ParserState) (n : ℕ) →
+    ((t : ParserState) → next t ≡ Some s → all t ≡ lexeme_count ws + n) → steps_onto next r ≡ Some s → m.count_then w all r ≡ lexeme_count (w ∷ ws) + n
 count_on w ws None next all s n h e = cc
 count_on (One kind i) ws (Some t) next all s n h e = omega (arith, h t e)
 count_on w ws (Some t) next all s n h e = h t e
 
-pub taken_parts : (ws vs : List Symbol) (goals : List Goal) (out : List Outline) (s : State) → steps ws goals out ≡ Some s →
-    taken (ws ++ vs) goals out ≡ lexeme_count ws + taken vs s.goals s.events
+pub taken_parts : (ws vs : List Symbol) (goals : List Goal) (out : List Outline) (s : ParserState) → steps ws goals out ≡ Some s →
+    taken_count (ws ++ vs) goals out ≡ lexeme_count ws + taken_count vs s.goals s.events
 taken_parts [] vs goals out s e =
-    let here : State = record { goals = goals; events = out } in
+    let here : ParserState = record { goals = goals; events = out } in
     let same : here ≡ s = cc in
-    omega (arith, ap (λ (t : State). taken vs t.goals t.events) same)
+    omega (arith, ap (λ (t : ParserState). taken_count vs t.goals t.events) same)
 taken_parts (w ∷ ws) vs goals out s e =
-    count_on w ws (step goals out w) (λ s. steps ws s.goals s.events) (λ s. taken (ws ++ vs) s.goals s.events) s (taken vs s.goals s.events)
+    count_on w ws (step goals out w) (λ s. steps ws s.goals s.events) (λ s. taken_count (ws ++ vs) s.goals s.events) s (taken_count vs s.goals s.events)
     (λ t h. taken_parts ws vs t.goals t.events s h) e
 
 -- and where one is refused
-stop_on : (w : Symbol) (r : Option State) (next : State → Option State) (all part : State → ℕ) →
-    ((t : State) → next t ≡ None → all t ≡ part t) → onto next r ≡ None → m.placed w all r ≡ m.placed w part r
+stop_on : (w : Symbol) (r : Option ParserState) (next : ParserState → Option ParserState) (all part : ParserState → ℕ) →
+    ((t : ParserState) → next t ≡ None → all t ≡ part t) → steps_onto next r ≡ None → m.count_then w all r ≡ m.count_then w part r
 stop_on w None next all part h e = refl
-stop_on w (Some t) next all part h e = ap (m.counted w) (h t e)
+stop_on w (Some t) next all part h e = ap (m.count_with w) (h t e)
 
-pub taken_stop : (ws vs : List Symbol) (goals : List Goal) (out : List Outline) → steps ws goals out ≡ None → taken (ws ++ vs) goals out ≡ taken ws goals out
+pub taken_stop : (ws vs : List Symbol) (goals : List Goal) (out : List Outline) → steps ws goals out ≡ None → taken_count (ws ++ vs) goals out ≡ taken_count ws goals out
 taken_stop [] vs goals out e = cc
 taken_stop (w ∷ ws) vs goals out e =
-    stop_on w (step goals out w) (λ s. steps ws s.goals s.events) (λ s. taken (ws ++ vs) s.goals s.events) (λ s. taken ws s.goals s.events)
+    stop_on w (step goals out w) (λ s. steps ws s.goals s.events) (λ s. taken_count (ws ++ vs) s.goals s.events) (λ s. taken_count ws s.goals s.events)
     (λ t h. taken_stop ws vs t.goals t.events h) e
 
 -- ---- no mark stands behind the last lexeme
@@ -72,20 +72,20 @@ some_lexeme [] e = cc
 some_lexeme (One kind i ∷ ws) e = omega arith
 some_lexeme (w ∷ ws) e = some_lexeme ws e
 
-less_on : (w : Symbol) (ws : List Symbol) (r : Option State) (next : State → Option State) (part : State → ℕ) → 0 < lexeme_count (w ∷ ws) →
-    ((t : State) → next t ≡ None → part t < lexeme_count ws) → onto next r ≡ None → m.placed w part r < lexeme_count (w ∷ ws)
+less_on : (w : Symbol) (ws : List Symbol) (r : Option ParserState) (next : ParserState → Option ParserState) (part : ParserState → ℕ) → 0 < lexeme_count (w ∷ ws) →
+    ((t : ParserState) → next t ≡ None → part t < lexeme_count ws) → steps_onto next r ≡ None → m.count_then w part r < lexeme_count (w ∷ ws)
 less_on w ws None next part some h e = some
 less_on (One kind i) ws (Some t) next part some h e = omega (arith, h t e)
 less_on w ws (Some t) next part some h e = h t e
 
 taken_less : (b : Bool) (ws : List Symbol) (goals : List Goal) (out : List Outline) → is_whole b ws ≡ true → steps ws goals out ≡ None →
-    taken ws goals out < lexeme_count ws
+    taken_count ws goals out < lexeme_count ws
 taken_less b [] goals out whole e = cc
 taken_less b (One kind i ∷ ws) goals out whole e =
-    less_on (One kind i) ws (step goals out (One kind i)) (λ s. steps ws s.goals s.events) (λ s. taken ws s.goals s.events) (omega arith)
+    less_on (One kind i) ws (step goals out (One kind i)) (λ s. steps ws s.goals s.events) (λ s. taken_count ws s.goals s.events) (omega arith)
     (λ t h. taken_less true ws t.goals t.events whole h) e
 taken_less b (w ∷ ws) goals out whole e =
-    less_on w ws (step goals out w) (λ s. steps ws s.goals s.events) (λ s. taken ws s.goals s.events) (some_lexeme ws whole)
+    less_on w ws (step goals out w) (λ s. steps ws s.goals s.events) (λ s. taken_count ws s.goals s.events) (some_lexeme ws whole)
     (λ t h. taken_less false ws t.goals t.events whole h) e
 
 -- ---- the symbols up to a lexeme
@@ -156,7 +156,7 @@ fault_part t ws vs n h =
 -- ---- what is told
 
 answer_on : (t : TrailValue) (n : ℕ) (ws vs : List Symbol) (k j : ℕ) (r : Option (List Outline)) → is_whole true ws ≡ true → j ≡ lexeme_count ws + k →
-    answer t n j (ws ++ vs) r ≡ answer (trail_after t ws) (n + lexeme_count ws) k vs r
+    document_outcome t n j (ws ++ vs) r ≡ document_outcome (trail_after t ws) (n + lexeme_count ws) k vs r
 answer_on t n ws vs k j (Some es) whole e = refl
 answer_on t n ws vs k j None whole e =
     ap (λ j. Fails (record { kind = fault_from t j (ws ++ vs); place = n + j })) e
@@ -164,18 +164,18 @@ answer_on t n ws vs k j None whole e =
     ∙ ap (λ p. Fails (record { kind = fault_from (trail_after t ws) k vs; place = p })) {x = n + (lexeme_count ws + k)} {y = n + lexeme_count ws + k} (omega arith)
 
 -- all of a whole part is taken
-pub told_on : (t : TrailValue) (n : ℕ) (goals : List Goal) (out : List Outline) (ws vs : List Symbol) (s : State) →
+pub told_on : (t : TrailValue) (n : ℕ) (goals : List Goal) (out : List Outline) (ws vs : List Symbol) (s : ParserState) →
     is_whole true ws ≡ true → steps ws goals out ≡ Some s →
-    told_by t n goals out (ws ++ vs) ≡ told_by (trail_after t ws) (n + lexeme_count ws) s.goals s.events vs
+    outcome_by t n goals out (ws ++ vs) ≡ outcome_by (trail_after t ws) (n + lexeme_count ws) s.goals s.events vs
 told_on t n goals out ws vs s whole e =
-    ap (λ r. answer t n (taken (ws ++ vs) goals out) (ws ++ vs) r) (run_parts ws vs goals out ∙ ap (m.onward (λ s. run vs s.goals s.events)) e)
-    ∙ answer_on t n ws vs (taken vs s.goals s.events) (taken (ws ++ vs) goals out) (run vs s.goals s.events) whole (taken_parts ws vs goals out s e)
+    ap (λ r. document_outcome t n (taken_count (ws ++ vs) goals out) (ws ++ vs) r) (run_parts ws vs goals out ∙ ap (m.onward (λ s. run vs s.goals s.events)) e)
+    ∙ answer_on t n ws vs (taken_count vs s.goals s.events) (taken_count (ws ++ vs) goals out) (run vs s.goals s.events) whole (taken_parts ws vs goals out s e)
 
 -- a symbol of a whole part is refused
 pub told_stop : (t : TrailValue) (n : ℕ) (goals : List Goal) (out : List Outline) (ws vs : List Symbol) →
     is_whole true ws ≡ true → steps ws goals out ≡ None →
-    told_by t n goals out (ws ++ vs) ≡ Fails (record { kind = fault_from t (taken ws goals out) ws; place = n + taken ws goals out })
+    outcome_by t n goals out (ws ++ vs) ≡ Fails (record { kind = fault_from t (taken_count ws goals out) ws; place = n + taken_count ws goals out })
 told_stop t n goals out ws vs whole e =
-    ap (λ r. answer t n (taken (ws ++ vs) goals out) (ws ++ vs) r) (run_parts ws vs goals out ∙ ap (m.onward (λ s. run vs s.goals s.events)) e)
+    ap (λ r. document_outcome t n (taken_count (ws ++ vs) goals out) (ws ++ vs) r) (run_parts ws vs goals out ∙ ap (m.onward (λ s. run vs s.goals s.events)) e)
     ∙ ap (λ j. Fails (record { kind = fault_from t j (ws ++ vs); place = n + j })) (taken_stop ws vs goals out e)
-    ∙ ap (λ f. Fails (record { kind = f; place = n + taken ws goals out })) (fault_part t ws vs (taken ws goals out) (taken_less true ws goals out whole e))
+    ∙ ap (λ f. Fails (record { kind = f; place = n + taken_count ws goals out })) (fault_part t ws vs (taken_count ws goals out) (taken_less true ws goals out whole e))

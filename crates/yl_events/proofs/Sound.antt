@@ -4,8 +4,8 @@ use Rattle.std.proofs.Common.{sym, ◌∙◌, ap, subst, append_assoc}
 use Rattle.yl_lexeme.specs.declared.lexeme.Kind.{Kind}
 use Rattle.yl_marks.specs.declared.symbol.Symbol.{Symbol}
 use Rattle.yl_marks.specs.declared.symbol.Symbol.TheVariants.{OpenSequence, OpenMapping, BeginKey, Close, One}
-use Rattle.yl_events.specs.declared.symbol.Bracket.{Bracket}
-use Rattle.yl_events.specs.declared.symbol.Bracket.TheVariants.{Square, Curly}
+use Rattle.yl_events.specs.declared.symbol.BracketKind.{BracketKind}
+use Rattle.yl_events.specs.declared.symbol.BracketKind.TheVariants.{Square, Curly}
 use Rattle.yl_events.specs.declared.symbol.Properties.{Properties}
 use Rattle.yl_events.specs.declared.symbol.Properties.TheVariants.{Anchored, Tagged, AnchoredTagged, TaggedAnchored}
 use Rattle.yl_events.specs.Grammar.{Inline, Items, Item, Node, Entries, Value, Pairs, Document, AliasNode, PropertiesNode, ScalarNode, Flow, NoItem, LastItem, MoreItems, NodeItem, PairItem, KeyItem, KeyValueItem, ValueItem, Missing, InlineNode, BlockSequence, BlockMapping, NoEntry, MoreEntries, NodeValue, Indentless, ValueEntry, Others, NoPair, PairEntry, KeyEntry, KeyValueEntry, Start, Bare, Marked, optional, inline, items, item, node, entries, value, pairs, directives, start, ending, spelling, closing}
@@ -17,7 +17,7 @@ use Rattle.yl_events.specs.declared.symbol.Where.{Where}
 use Rattle.yl_events.specs.declared.symbol.Where.TheVariants.{InInline, InBlock}
 use Rattle.yl_events.specs.declared.symbol.Goal.{Goal}
 use Rattle.yl_events.specs.declared.symbol.Goal.TheVariants.{Formed, Ending, Prefix, Colon, ItemEnd, PairEnd, NodeEnd, Directives, ValueOf}
-use Rattle.yl_events.specs.Machine.{Turn, State, forms, takes, leaves, step, finish, run, parse}
+use Rattle.yl_events.specs.Machine.{Turn, ParserState, node_turn, takes, leaves, step, finish, run, parse}
 
 -- ---- what fills a goal
 
@@ -60,7 +60,7 @@ Tree (ItemEnd b) = ItemsLeft
 Tree (PairEnd b) = Unit {0}
 Tree (NodeEnd b) = Unit {0}
 
-abbrev pub items_left : Bracket → ItemsLeft → List Symbol → List Symbol
+abbrev pub items_left : BracketKind → ItemsLeft → List Symbol → List Symbol
 items_left b (no_more last) rest = One (closing b) last ∷ rest
 items_left b (comma s its last) rest = One Kind.Comma s ∷ items its (One (closing b) last ∷ rest)
 
@@ -117,7 +117,7 @@ made_spelled InInline ps n rest = refl
 made_spelled (InBlock false) ps n rest = refl
 made_spelled (InBlock true) ps n rest = refl
 
-forms_back : (w : Where) (ps : Option Properties) (x : Symbol) → Back (Formed w ps) x (forms w ps x)
+forms_back : (w : Where) (ps : Option Properties) (x : Symbol) → Back (Formed w ps) x (node_turn w ps x)
 forms_back w None (One Kind.Alias s) = λ goals f. record { tree = record { whole = made w None (AliasNode s); tail = λ rest. One Kind.Alias s ∷ rest; spelled = made_spelled w None (AliasNode s) }; others = f; spelled = refl }
 forms_back w (Some ps) (One Kind.Alias s) = tt
 forms_back w None (One Kind.Anchor s) = λ goals f. record { tree = record { whole = f.0.whole; tail = λ rest. One Kind.Anchor s ∷ f.0.tail rest; spelled = f.0.spelled }; others = f.1; spelled = refl }
@@ -149,7 +149,7 @@ with_item : Item → ItemsLeft → Items × ℕ
 with_item i (no_more last) = (LastItem i, last)
 with_item i (comma s its last) = (MoreItems i s its, last)
 
-with_item_spelled : (b : Bracket) (i : Item) (l : ItemsLeft) (rest : List Symbol) →
+with_item_spelled : (b : BracketKind) (i : Item) (l : ItemsLeft) (rest : List Symbol) →
     items (with_item i l).0 (One (closing b) (with_item i l).1 ∷ rest) ≡ item i (items_left b l rest)
 unfolding with_item
 with_item_spelled b i (no_more last) rest = refl
@@ -166,14 +166,14 @@ key_item_spelled mark k no_value rest = refl
 key_item_spelled mark k (valued colon v) rest = refl
 
 -- an item stands first
-as_items : (b : Bracket) (x : Symbol) (goals : List Goal) (ws : List Symbol) (i : Item) (l : ItemsLeft) (others : Forest goals) →
+as_items : (b : BracketKind) (x : Symbol) (goals : List Goal) (ws : List Symbol) (i : Item) (l : ItemsLeft) (others : Forest goals) →
     item i (items_left b l (forest goals others)) ≡ x ∷ ws → Grown (g.Items b) x goals ws
 as_items b x goals ws i l others e = record { tree = with_item i l; others = others; spelled = with_item_spelled b i l (forest goals others) ∙ e }
 
 along : (gs hs : List Goal) → gs ≡ hs → (f : Forest gs) → (f' : Forest hs) × (forest hs f' ≡ forest gs f)
 along gs hs e f = subst (λ ks. (f' : Forest ks) × (forest ks f' ≡ forest gs f)) e (f, refl)
 
-followed_back : (b : Bracket) (x : Symbol) (r : Option Turn) → Back (Formed InInline None) x r → Back (g.Items b) x (m.followed (NodeEnd b ∷ ItemEnd b ∷ []) r)
+followed_back : (b : BracketKind) (x : Symbol) (r : Option Turn) → Back (Formed InInline None) x r → Back (g.Items b) x (m.turn_before (NodeEnd b ∷ ItemEnd b ∷ []) r)
 followed_back b x None back = tt
 followed_back b x (Some t) back = λ goals f.
     let moved = along _ (t.goals ++ (NodeEnd b ∷ ItemEnd b ∷ goals)) (append_assoc t.goals (NodeEnd b ∷ ItemEnd b ∷ []) goals) f in
@@ -181,7 +181,7 @@ followed_back b x (Some t) back = λ goals f.
     as_items b x goals _ (NodeItem g.tree.whole) g.others.1.0 g.others.1.1
     (g.tree.spelled _ ∙ g.spelled ∙ ap (λ l. x ∷ l) moved.1)
 
-items_back : (b : Bracket) (x : Symbol) → Back (g.Items b) x (m.items_take b x)
+items_back : (b : BracketKind) (x : Symbol) → Back (g.Items b) x (m.items_take b x)
 items_back b (BeginKey at) = λ goals f.
     as_items b (BeginKey at) goals _ (PairItem at f.0.whole f.1.0 f.1.1.0.whole) f.1.1.1.1.0 f.1.1.1.1.1
     (ap (λ l. BeginKey at ∷ l) (f.0.spelled _ ∙ ap (λ l. f.0.tail (One Kind.Value f.1.0 ∷ l)) (f.1.1.0.spelled _)))
@@ -194,7 +194,7 @@ items_back Square (One Kind.SeqClose s) = λ goals f. record { tree = (NoItem, s
 items_back Curly (One Kind.SeqClose s) = tt
 items_back Square (One Kind.MapClose s) = tt
 items_back Curly (One Kind.MapClose s) = λ goals f. record { tree = (NoItem, s); others = f; spelled = refl }
-items_back b x = followed_back b x (forms InInline None x) (forms_back InInline None x)
+items_back b x = followed_back b x (node_turn InInline None x) (forms_back InInline None x)
 
 -- a value and what follows it
 with_value : (mark : ℕ) (k : Value) (v : ValueLeft (InBlock true)) (p : Pairs) → Pairs
@@ -209,7 +209,7 @@ with_value_spelled mark k no_value (ValueEntry colon v more) rest = refl
 with_value_spelled mark k no_value (Others more) rest = refl
 with_value_spelled mark k (valued colon v) p rest = refl
 
-closes_back : (b : Bracket) (kind : Kind) (s : ℕ) → Back (ItemEnd b) (One kind s) (m.closes b kind)
+closes_back : (b : BracketKind) (kind : Kind) (s : ℕ) → Back (ItemEnd b) (One kind s) (m.closing_turn b kind)
 closes_back Square Kind.SeqClose s = λ goals f. record { tree = no_more s; others = f; spelled = refl }
 closes_back Curly Kind.MapClose s = λ goals f. record { tree = no_more s; others = f; spelled = refl }
 closes_back _ _ s = tt
@@ -275,19 +275,19 @@ leaves_back _ = tt
 abbrev pub Fills : List Goal → List Symbol → Type 0
 Fills goals ws = (f : Forest goals) × (forest goals f ≡ ws)
 
-abbrev pub Stepped : List Goal → Symbol → Option State → Type 0
+abbrev pub Stepped : List Goal → Symbol → Option ParserState → Type 0
 Stepped goals x None = Unit {0}
 Stepped goals x (Some s) = (f : Forest s.goals) → Fills goals (x ∷ forest s.goals f)
 
 one_more : (g : Goal) (goals : List Goal) (x : Symbol) (t : Tree g) → ((rest : List Symbol) → spelled_by g t rest ≡ rest) →
-    (r : Option State) → Stepped goals x r → Stepped (g ∷ goals) x r
+    (r : Option ParserState) → Stepped goals x r → Stepped (g ∷ goals) x r
 one_more g goals x t e None back = tt
 one_more g goals x t e (Some s) back = λ f. ((t, (back f).0), e _ ∙ (back f).1)
 
-stepped_back : (g : Goal) (goals : List Goal) (out : List Outline) (x : Symbol) (next : List Outline → Option State) →
+stepped_back : (g : Goal) (goals : List Goal) (out : List Outline) (x : Symbol) (next : List Outline → Option ParserState) →
     ((out' : List Outline) → Stepped goals x (next out')) →
     (taken : Option Turn) → Back g x taken → (left : Option (List Outline)) → Left g left →
-    Stepped (g ∷ goals) x (m.stepped goals out next taken left)
+    Stepped (g ∷ goals) x (m.state_after_turn goals out next taken left)
 stepped_back g goals out x next rest (Some t) back left l = λ f. let n = back goals f in ((n.tree, n.others), n.spelled)
 stepped_back g goals out x next rest None back (Some es) l = one_more g goals x l.0 l.1 (next (out then es)) (rest _)
 stepped_back g goals out x next rest None back None l = tt
@@ -331,7 +331,7 @@ Finished goals None = Unit {0}
 Finished goals (Some es) = Fills goals []
 
 finished_on : (g : Goal) (goals : List Goal) (next : List Outline → Option (List Outline)) (out : List Outline) → ((out' : List Outline) → Finished goals (next out')) →
-    (left : Option (List Outline)) → Left g left → (r : Option (List Outline)) → r ≡ m.left next out left → Finished (g ∷ goals) r
+    (left : Option (List Outline)) → Left g left → (r : Option (List Outline)) → r ≡ m.events_after_leaving next out left → Finished (g ∷ goals) r
 finished_on g goals next out rest left l None e = tt
 finished_on g goals next out rest None l (Some es) e = cc
 finished_on g goals next out rest (Some here) l (Some es) e =
@@ -345,8 +345,8 @@ abbrev pub Ran : List Goal → List Symbol → Option (List Outline) → Type 0
 Ran goals ws None = Unit {0}
 Ran goals ws (Some es) = Fills goals ws
 
-ran_on : (goals : List Goal) (x : Symbol) (xs : List Symbol) (next : State → Option (List Outline)) → ((s : State) → Ran s.goals xs (next s)) →
-    (r : Option State) → Stepped goals x r → (all : Option (List Outline)) → all ≡ m.onward next r → Ran goals (x ∷ xs) all
+ran_on : (goals : List Goal) (x : Symbol) (xs : List Symbol) (next : ParserState → Option (List Outline)) → ((s : ParserState) → Ran s.goals xs (next s)) →
+    (r : Option ParserState) → Stepped goals x r → (all : Option (List Outline)) → all ≡ m.onward next r → Ran goals (x ∷ xs) all
 ran_on goals x xs next rest r back None e = tt
 ran_on goals x xs next rest None back (Some es) e = cc
 ran_on goals x xs next rest (Some s) back (Some es) e =

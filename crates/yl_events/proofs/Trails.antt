@@ -5,35 +5,35 @@ use Rattle.std.proofs.lemmas.List.{reverse-append}
 use Rattle.yl_lexeme.specs.declared.lexeme.Kind.{Kind}
 use Rattle.yl_marks.specs.declared.symbol.Symbol.{Symbol}
 use Rattle.yl_marks.specs.declared.symbol.Symbol.TheVariants.{Close, One}
-use Rattle.yl_events.specs.declared.symbol.Block.{Block}
-use Rattle.yl_events.specs.declared.symbol.Block.TheVariants.{InSequence}
+use Rattle.yl_events.specs.declared.symbol.OpenCollection.{OpenCollection}
+use Rattle.yl_events.specs.declared.symbol.OpenCollection.TheVariants.{InSequence}
 use Rattle.std.proofs.Math.Seq.{take-suc, drop-cons}
 use Rattle.yl_events.specs.declared.fault.ParseFault.TheVariants.{DocumentStartExpected, PropertiesGivenTwice, CommaOrBracketExpected}
 use Rattle.yl_events.specs.Derives.{lexeme_count}
-use Rattle.yl_events.specs.Faults.{Open, open_behind, open_after, has, is_twice, is_behind_directive, closed_by, fault_in_blocks, fault_in, fault_between, fault_of, front_len}
+use Rattle.yl_events.specs.Faults.{OpenCollections, open_behind, open_after, has_property, is_twice, is_behind_directive, without_closed, fault_in_blocks, fault_in, fault_between, fault_of, front_len}
 use Rattle.yl_events.specs.Trail.{TrailValue, no_trail, trail_behind, trail_after, comes_twice, fault_behind, fault_from}
 
 -- ---- the trail says what looking back finds
 
-abbrev nothing_open : Open
+abbrev nothing_open : OpenCollections
 nothing_open = record { depth = 0; blocks = [] }
 
 -- the trail of the latest symbols, where these are open
-abbrev trail_of : List Symbol → Open → TrailValue
+abbrev trail_of : List Symbol → OpenCollections → TrailValue
 trail_of latest o = record {
   at_directive = is_behind_directive latest;
-  with_anchor = has true latest;
-  with_tag = has false latest;
+  with_anchor = has_property true latest;
+  with_tag = has_property false latest;
   open_ones = o;
 }
 
-one_more : (w : Symbol) (latest : List Symbol) (o : Open) → trail_behind (trail_of latest o) w ≡ trail_of (w ∷ latest) (open_behind o w)
+one_more : (w : Symbol) (latest : List Symbol) (o : OpenCollections) → trail_behind (trail_of latest o) w ≡ trail_of (w ∷ latest) (open_behind o w)
 one_more (One Kind.Directive i) latest o = refl
 one_more (One Kind.Anchor i) latest o = refl
 one_more (One Kind.Tag i) latest o = refl
 one_more w latest o = refl
 
-all_more : (ws latest : List Symbol) (o : Open) → trail_after (trail_of (reverse latest) o) ws ≡ trail_of (reverse (latest ++ ws)) (open_after o ws)
+all_more : (ws latest : List Symbol) (o : OpenCollections) → trail_after (trail_of (reverse latest) o) ws ≡ trail_of (reverse (latest ++ ws)) (open_after o ws)
 all_more [] latest o = ap (λ l. trail_of (reverse l) o) (sym (append-nil latest))
 all_more (w ∷ ws) latest o =
     ap (λ t. trail_after t ws) (one_more w (reverse latest) o)
@@ -41,7 +41,7 @@ all_more (w ∷ ws) latest o =
     ∙ all_more ws (latest ++ w ∷ []) (open_behind o w)
     ∙ ap (λ l. trail_of (reverse l) (open_after o (w ∷ ws))) (append_assoc latest (w ∷ []) ws)
 
-twice_by_trail : (latest : List Symbol) (o : Open) (behind : List Symbol) → comes_twice (trail_of latest o) behind ≡ is_twice latest behind
+twice_by_trail : (latest : List Symbol) (o : OpenCollections) (behind : List Symbol) → comes_twice (trail_of latest o) behind ≡ is_twice latest behind
 twice_by_trail latest o (One Kind.Anchor i ∷ ws) = refl
 twice_by_trail latest o (One Kind.Tag i ∷ ws) = refl
 twice_by_trail latest o (One Kind.Alias i ∷ ws) = refl
@@ -65,7 +65,7 @@ twice_there t (One Kind.Tag i ∷ us) vs h = refl
 twice_there t (One Kind.Alias i ∷ us) vs h = refl
 twice_there t (w ∷ us) vs h = refl
 
-closed_there : (us vs : List Symbol) (blocks : List Block) → 0 < lexeme_count us → closed_by (us ++ vs) blocks ≡ closed_by us blocks
+closed_there : (us vs : List Symbol) (blocks : List OpenCollection) → 0 < lexeme_count us → without_closed (us ++ vs) blocks ≡ without_closed us blocks
 closed_there [] vs blocks h = absurd (omega arith)
 closed_there (Close ∷ us) vs blocks h = closed_there us vs (drop 1 blocks) h
 closed_there (w ∷ us) vs blocks h = refl
@@ -82,7 +82,7 @@ trail_after-append t (w ∷ ws) vs = trail_after-append (trail_behind t w) ws vs
 
 -- ---- the blocks stand with the innermost last
 
-one_less : (blocks : List Block) (n m : ℕ) → n ≤ length blocks → m ≡ n - 1 → reverse (take m blocks) ≡ drop 1 (reverse (take n blocks))
+one_less : (blocks : List OpenCollection) (n m : ℕ) → n ≤ length blocks → m ≡ n - 1 → reverse (take m blocks) ≡ drop 1 (reverse (take n blocks))
 one_less blocks zero m h e = ap (λ k. reverse (take k blocks)) {x = m} {y = 0} (omega arith)
 one_less blocks (suc n) m h e =
     let block = get_or blocks n InSequence in
@@ -92,8 +92,8 @@ one_less blocks (suc n) m h e =
 next_close : (ws : List Symbol) (i : ℕ) (w : Symbol) → i < length ws → get_or ws i w ≡ Close → drop i ws ≡ Close ∷ drop (i + 1) ws
 next_close ws i w h e = drop-cons ws i w h ∙ ap (λ x. x ∷ drop (suc i) ws) e ∙ ap (λ k. Close ∷ drop k ws) (sym (add-one i))
 
-pub closed_step : (ws : List Symbol) (i : ℕ) (w : Symbol) (blocks all : List Block) (n m : ℕ) → i < length ws → get_or ws i w ≡ Close →
-    closed_by (drop i ws) (reverse (take n blocks)) ≡ all → n ≤ length blocks → m ≡ n - 1 → closed_by (drop (i + 1) ws) (reverse (take m blocks)) ≡ all
+pub closed_step : (ws : List Symbol) (i : ℕ) (w : Symbol) (blocks all : List OpenCollection) (n m : ℕ) → i < length ws → get_or ws i w ≡ Close →
+    without_closed (drop i ws) (reverse (take n blocks)) ≡ all → n ≤ length blocks → m ≡ n - 1 → without_closed (drop (i + 1) ws) (reverse (take m blocks)) ≡ all
 closed_step ws i w blocks all n m there close h within less =
-    ap (closed_by (drop (i + 1) ws)) (one_less blocks n m within less)
-    ∙ sym (ap (λ l. closed_by l (reverse (take n blocks))) (next_close ws i w there close)) ∙ h
+    ap (without_closed (drop (i + 1) ws)) (one_less blocks n m within less)
+    ∙ sym (ap (λ l. without_closed l (reverse (take n blocks))) (next_close ws i w there close)) ∙ h

@@ -1,18 +1,18 @@
--- What a document gives: its events, or its parse fault.
+-- Meaning: what a document gives: its events, or its parse fault.
 use Rattle.std.specs.Prelude.{◌≡◌, List, [], Option, Some, None}
 use Rattle.yl_lexeme.specs.Lexeme.{LexemeValue}
-use Rattle.yl_events.specs.declared.fault.Fault.{Fault}
+use Rattle.yl_events.specs.declared.fault.PlacedParseFault.{PlacedParseFault}
 use Rattle.yl_events.specs.Event.{EventValue, AreEvents}
 use Rattle.yl_events.specs.Derives.{HasFaultAt}
 use Rattle.yl_events.specs.Faults.{fault_of}
-use Rattle.yl_marks.specs.Marks.{marked}
+use Rattle.yl_marks.specs.Marks.{symbols_of_lexemes}
 
 -- the fault stands at the first lexeme with which no beginning of a derivation is left, or behind the document
-pub record IsFaultOf (xs : List LexemeValue) (f : Fault) : Type 0 where
-  pub place : HasFaultAt (marked xs) f.place
-  pub kind : f.kind ≡ fault_of (marked xs) f.place
+pub record IsFaultOf (xs : List LexemeValue) (f : PlacedParseFault) : Type 0 where
+  pub place : HasFaultAt (symbols_of_lexemes xs) f.place
+  pub kind : f.kind ≡ fault_of (symbols_of_lexemes xs) f.place
 
 -- the events of the derivation and no fault, or the fault and no events
-abbrev pub Builds : List LexemeValue → List EventValue → Option Fault → Type 0
+abbrev pub Builds : List LexemeValue → List EventValue → Option PlacedParseFault → Type 0
 Builds xs es None = AreEvents xs es
 Builds xs es (Some f) = IsFaultOf xs f × (es ≡ [])

@@ -1,4 +1,4 @@
--- What a document derives by the grammar, and where its parse fault stands.
+-- Meaning: what a document derives by the grammar, and where its parse fault stands.
 use Rattle.std.specs.Prelude.{ℕ, zero, suc, ◌≡◌, ◌<◌, ◌≤◌, List, [], ◌∷◌, ◌++◌}
 use Rattle.yl_marks.specs.declared.symbol.Symbol.{Symbol}
 use Rattle.yl_marks.specs.declared.symbol.Symbol.TheVariants.{One}

@@ -1,11 +1,9 @@
--- The cuts between documents: YAML 1.2.2, 9.1 and 9.2. A document begins with the text's first lexeme, with a marker `---`
--- or the first of the directives directly before it, and behind a marker `...`.
+-- Meaning: the cuts between documents: YAML 1.2.2, 9.1 and 9.2. A document begins with the text's
+-- first lexeme, with a marker `---` or the first of the directives directly before it, and behind a
+-- marker `...`.
 use Rattle.std.specs.Prelude.{ℕ, suc, Bool, true, false, not, ◌&&◌, ◌||◌, List, [], ◌∷◌, if◌then◌else◌}
 use Rattle.yl_lexeme.specs.declared.lexeme.Kind.{Kind}
-
-abbrev pub is_directive : Kind → Bool
-is_directive Kind.Directive = true
-is_directive _ = false
+pub use Rattle.yl_lexeme.specs.Directives.{is_directive}
 
 abbrev pub is_document_start : Kind → Bool
 is_document_start Kind.DocStart = true

@@ -1,4 +1,4 @@
--- Events: YAML 1.2.2, 3.1.2. Names and values in UTF-8.
+-- Meaning: events: YAML 1.2.2, 3.1.2. Names and values in UTF-8.
 use Rattle.std.specs.Prelude.{ℕ, ◌≡◌, Bool, List, [], map, Option, Some, None, slice_get}
 use Rattle.yl_text.specs.declared.position.Pos.{Pos}
 use Rattle.yl_lexeme.specs.declared.lexeme.Style.{Style}
@@ -8,37 +8,37 @@ use Rattle.yl_events.specs.declared.symbol.Shape.{Shape}
 use Rattle.yl_events.specs.declared.symbol.Shape.TheVariants as shape
 use Rattle.yl_events.specs.declared.event.EventKind.{EventKind}
 use Rattle.yl_events.specs.declared.event.EventKind.TheVariants as kind
-use Rattle.yl_events.specs.declared.event.Anchor.{Anchor}
+use Rattle.yl_events.specs.declared.event.EventAnchor.{EventAnchor}
 use Rattle.yl_events.specs.declared.event.Event.{Event}
 use Rattle.yl_events.specs.Derives.{Derives}
-use Rattle.yl_marks.specs.Marks.{marked}
+use Rattle.yl_marks.specs.Marks.{symbols_of_lexemes}
 
 -- what an event is
-pub data Happening : Type 0 where
-  DocumentStart : Happening
-  DocumentEnd : Happening
-  SequenceStart : Happening
-  SequenceEnd : Happening
-  MappingStart : Happening
-  MappingEnd : Happening
-  AliasOf : (name : List ℕ) → Happening
-  ScalarOf : (style : Style) (value : List ℕ) → Happening
-  Empty : Happening
+pub data EventKindValue : Type 0 where
+  DocumentStart : EventKindValue
+  DocumentEnd : EventKindValue
+  SequenceStart : EventKindValue
+  SequenceEnd : EventKindValue
+  MappingStart : EventKindValue
+  MappingEnd : EventKindValue
+  AliasOf : (name : List ℕ) → EventKindValue
+  ScalarOf : (style : Style) (value : List ℕ) → EventKindValue
+  Empty : EventKindValue
 
-pub record AnchorValue : Type 0 where
+pub record EventAnchorValue : Type 0 where
   pub name : List ℕ
   pub place : Pos
 
 -- an event: the place is that of its content, behind properties
 pub record EventValue : Type 0 where
-  pub kind : Happening
+  pub kind : EventKindValue
   pub place : Option Pos
-  pub anchor : Option AnchorValue
+  pub anchor : Option EventAnchorValue
   pub is_tagged : Bool
 
 -- ---- as the code has them
 
-abbrev pub kind_value : EventKind → Happening
+abbrev pub kind_value : EventKind → EventKindValue
 kind_value kind.DocumentStart = DocumentStart
 kind_value kind.DocumentEnd = DocumentEnd
 kind_value kind.SequenceStart = SequenceStart
@@ -49,7 +49,7 @@ kind_value (kind.Alias name) = AliasOf name.now
 kind_value (kind.Scalar style value) = ScalarOf style value.now
 kind_value kind.Empty = Empty
 
-abbrev pub anchor_value : Option Anchor → Option AnchorValue
+abbrev pub anchor_value : Option EventAnchor → Option EventAnchorValue
 anchor_value None = None
 anchor_value (Some a) = Some (record { name = a.name.now; place = a.place })
 
@@ -77,7 +77,7 @@ abbrev pub content_value : List LexemeValue → Option ℕ → List ℕ
 content_value xs None = []
 content_value xs (Some i) = value_at xs i
 
-abbrev pub kind_of : List LexemeValue → Shape → Option ℕ → Happening
+abbrev pub kind_of : List LexemeValue → Shape → Option ℕ → EventKindValue
 kind_of xs shape.DocumentStart place = DocumentStart
 kind_of xs shape.DocumentEnd place = DocumentEnd
 kind_of xs shape.SequenceStart place = SequenceStart
@@ -92,16 +92,16 @@ abbrev pub place_of : List LexemeValue → Option ℕ → Option Pos
 place_of xs None = None
 place_of xs (Some i) = Some (start_at xs i)
 
-abbrev pub anchor_of : List LexemeValue → Option ℕ → Option AnchorValue
+abbrev pub anchor_of : List LexemeValue → Option ℕ → Option EventAnchorValue
 anchor_of xs None = None
 anchor_of xs (Some i) = Some (record { name = value_at xs i; place = start_at xs i })
 
 -- an event of the document of these lexemes
-abbrev pub filled : List LexemeValue → Outline → EventValue
-filled xs o = record { kind = kind_of xs o.kind o.place; place = place_of xs o.place; anchor = anchor_of xs o.anchor; is_tagged = o.is_tagged }
+abbrev pub event_of_outline : List LexemeValue → Outline → EventValue
+event_of_outline xs o = record { kind = kind_of xs o.kind o.place; place = place_of xs o.place; anchor = anchor_of xs o.anchor; is_tagged = o.is_tagged }
 
 -- these are the events of the derivation of the document of these lexemes
 pub record AreEvents (xs : List LexemeValue) (es : List EventValue) : Type 0 where
   pub outlines : List Outline
-  pub derived : Derives (marked xs) outlines
-  pub filled : es ≡ map (filled xs) outlines
+  pub derived : Derives (symbols_of_lexemes xs) outlines
+  pub filled : es ≡ map (event_of_outline xs) outlines

@@ -1,11 +1,12 @@
--- Which parse fault a document has: by the lexeme before, by the properties directly before, and by the innermost collection that is
--- open behind the closings before its place (YAML 1.2.2, 9.1; 6.9 and 7.1; 7.4 and 8.2).
+-- Meaning: which parse fault a document has: by the lexeme before, by the properties directly
+-- before, and by the innermost collection that is open behind the closings before its place (YAML
+-- 1.2.2, 9.1; 6.9 and 7.1; 7.4 and 8.2).
 use Rattle.std.specs.Prelude.{ℕ, Bool, true, false, not, ◌||◌, ◌==◌, ◌-◌, if◌then◌else◌, List, [], ◌∷◌, ◌+◌, reverse, take, drop, codes}
 use Rattle.yl_lexeme.specs.declared.lexeme.Kind.{Kind}
 use Rattle.yl_marks.specs.declared.symbol.Symbol.{Symbol}
 use Rattle.yl_marks.specs.declared.symbol.Symbol.TheVariants.{OpenSequence, OpenMapping, BeginKey, Close, One}
-use Rattle.yl_events.specs.declared.symbol.Block.{Block}
-use Rattle.yl_events.specs.declared.symbol.Block.TheVariants.{InSequence, InMapping}
+use Rattle.yl_events.specs.declared.symbol.OpenCollection.{OpenCollection}
+use Rattle.yl_events.specs.declared.symbol.OpenCollection.TheVariants.{InSequence, InMapping}
 use Rattle.yl_events.specs.declared.fault.ParseFault.{ParseFault}
 use Rattle.yl_events.specs.declared.fault.ParseFault.TheVariants.{DocumentStartExpected, PropertiesGivenTwice, CommaOrBracketExpected, KeyOrEndOfMappingExpected, EntryOrEndOfSequenceExpected, SecondNode}
 
@@ -20,16 +21,16 @@ fault_text SecondNode = codes "second node"
 -- ---- what is open
 
 -- how many brackets are open, and the open block collections, the innermost first
-pub record Open : Type 0 where
+pub record OpenCollections : Type 0 where
   pub depth : ℕ
-  pub blocks : List Block
+  pub blocks : List OpenCollection
 
 -- an indentless sequence is open in the innermost mapping, or no longer
-abbrev pub with_indentless : Bool → List Block → List Block
+abbrev pub with_indentless : Bool → List OpenCollection → List OpenCollection
 with_indentless is_open (InMapping _ ∷ blocks) = InMapping is_open ∷ blocks
 with_indentless is_open blocks = blocks
 
-abbrev pub blocks_behind : List Block → Symbol → List Block
+abbrev pub blocks_behind : List OpenCollection → Symbol → List OpenCollection
 blocks_behind blocks (OpenSequence i) = InSequence ∷ blocks
 blocks_behind blocks (OpenMapping i) = InMapping false ∷ blocks
 blocks_behind blocks (BeginKey i) = with_indentless false blocks
@@ -51,31 +52,31 @@ is_close Close = true
 is_close _ = false
 
 -- in brackets nothing is said of blocks, but for the closings of a marker or the end
-abbrev pub open_behind : Open → Symbol → Open
+abbrev pub open_behind : OpenCollections → Symbol → OpenCollections
 open_behind o w = record { depth = depth_behind o.depth w; blocks = if is_close w || o.depth == 0 then blocks_behind o.blocks w else o.blocks }
 
-abbrev pub open_after : Open → List Symbol → Open
+abbrev pub open_after : OpenCollections → List Symbol → OpenCollections
 open_after o [] = o
 open_after o (w ∷ ws) = open_after (open_behind o w) ws
 
 -- without the closings that come next
-abbrev pub closed_by : List Symbol → List Block → List Block
-closed_by (Close ∷ ws) blocks = closed_by ws (drop 1 blocks)
-closed_by _ blocks = blocks
+abbrev pub without_closed : List Symbol → List OpenCollection → List OpenCollection
+without_closed (Close ∷ ws) blocks = without_closed ws (drop 1 blocks)
+without_closed _ blocks = blocks
 
 -- ---- properties directly before, of the latest symbols
 
 -- an anchor, or a tag
-abbrev pub has : Bool → List Symbol → Bool
-has anchor (One Kind.Anchor i ∷ ws) = anchor || has anchor ws
-has anchor (One Kind.Tag i ∷ ws) = not anchor || has anchor ws
-has anchor _ = false
+abbrev pub has_property : Bool → List Symbol → Bool
+has_property anchor (One Kind.Anchor i ∷ ws) = anchor || has_property anchor ws
+has_property anchor (One Kind.Tag i ∷ ws) = not anchor || has_property anchor ws
+has_property anchor _ = false
 
 -- a second anchor or tag, or an alias behind properties
 abbrev pub is_twice : List Symbol → List Symbol → Bool
-is_twice before (One Kind.Anchor i ∷ ws) = has true before
-is_twice before (One Kind.Tag i ∷ ws) = has false before
-is_twice before (One Kind.Alias i ∷ ws) = has true before || has false before
+is_twice before (One Kind.Anchor i ∷ ws) = has_property true before
+is_twice before (One Kind.Tag i ∷ ws) = has_property false before
+is_twice before (One Kind.Alias i ∷ ws) = has_property true before || has_property false before
 is_twice before _ = false
 
 abbrev pub is_behind_directive : List Symbol → Bool
@@ -84,14 +85,14 @@ is_behind_directive _ = false
 
 -- ---- which one it is
 
-abbrev pub fault_in_blocks : List Block → ParseFault
+abbrev pub fault_in_blocks : List OpenCollection → ParseFault
 fault_in_blocks [] = SecondNode
 fault_in_blocks (InMapping false ∷ blocks) = KeyOrEndOfMappingExpected
 fault_in_blocks (_ ∷ blocks) = EntryOrEndOfSequenceExpected
 
 -- by the innermost open collection, behind the closings that come next
-abbrev pub fault_in : Open → List Symbol → ParseFault
-fault_in o behind = if o.depth == 0 then fault_in_blocks (closed_by behind o.blocks) else CommaOrBracketExpected
+abbrev pub fault_in : OpenCollections → List Symbol → ParseFault
+fault_in o behind = if o.depth == 0 then fault_in_blocks (without_closed behind o.blocks) else CommaOrBracketExpected
 
 -- by what stands before its place and behind it; the first that fits
 abbrev pub fault_between : List Symbol → List Symbol → ParseFault

@@ -1,13 +1,14 @@
--- The grammar of a document over its marked lexemes: YAML 1.2.2, 7.4 and 7.5 (nodes, flow collections), 8.2 (block collections),
--- 9.1 and 9.2 (documents). A tree for each derivation, and its spelling before what follows it. A Value without key belongs to the
--- Key before it if that has none yet: `Keyed`.
+-- Meaning: the grammar of a document over its marked lexemes: YAML 1.2.2, 7.4 and 7.5 (nodes, flow
+-- collections), 8.2 (block collections), 9.1 and 9.2 (documents). A tree for each derivation, and
+-- its spelling before what follows it. A Value without key belongs to the Key before it if that has
+-- none yet: `Keyed`.
 use Rattle.std.specs.Prelude.{ℕ, List, [], ◌∷◌, Option, Some, None}
 use Rattle.yl_lexeme.specs.declared.lexeme.Kind.{Kind}
 use Rattle.yl_lexeme.specs.declared.lexeme.Style.{Style}
 use Rattle.yl_marks.specs.declared.symbol.Symbol.{Symbol}
 use Rattle.yl_marks.specs.declared.symbol.Symbol.TheVariants.{OpenSequence, OpenMapping, BeginKey, Close, One}
-use Rattle.yl_events.specs.declared.symbol.Bracket.{Bracket}
-use Rattle.yl_events.specs.declared.symbol.Bracket.TheVariants.{Square, Curly}
+use Rattle.yl_events.specs.declared.symbol.BracketKind.{BracketKind}
+use Rattle.yl_events.specs.declared.symbol.BracketKind.TheVariants.{Square, Curly}
 use Rattle.yl_events.specs.declared.symbol.Properties.{Properties}
 use Rattle.yl_events.specs.declared.symbol.Properties.TheVariants.{Anchored, Tagged, AnchoredTagged, TaggedAnchored}
 
@@ -17,7 +18,7 @@ mutual
     AliasNode : (spot : ℕ) → Inline
     PropertiesNode : (ps : Properties) → Inline
     ScalarNode : (ps : Option Properties) (style : Style) (spot : ℕ) → Inline
-    Flow : (ps : Option Properties) (b : Bracket) (first : ℕ) (items : Items) (last : ℕ) → Inline
+    Flow : (ps : Option Properties) (b : BracketKind) (first : ℕ) (items : Items) (last : ℕ) → Inline
 
   -- [item, (Comma item)*, [Comma]]
   pub data Items : Type 0 where
@@ -83,11 +84,11 @@ abbrev pub optional : Option Properties → List Symbol → List Symbol
 optional None rest = rest
 optional (Some ps) rest = properties ps rest
 
-abbrev pub opening : Bracket → Kind
+abbrev pub opening : BracketKind → Kind
 opening Square = Kind.SeqOpen
 opening Curly = Kind.MapOpen
 
-abbrev pub closing : Bracket → Kind
+abbrev pub closing : BracketKind → Kind
 closing Square = Kind.SeqClose
 closing Curly = Kind.MapClose
 

@@ -2,11 +2,11 @@ pub mod Documents
 pub mod Grammar
 pub mod Outlines
 pub mod Machine
+pub mod Cut
 pub mod Derives
 pub mod Faults
 pub mod Trail
-pub mod Told
+pub mod DocumentOutcome
 pub mod Event
 pub mod Built
 pub mod Parsing
-pub mod Rows

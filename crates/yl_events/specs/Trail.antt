@@ -1,18 +1,19 @@
--- What is kept of a document's symbols to say which fault comes behind them (YAML 1.2.2, 9.1; 6.9 and 7.1; 7.4 and 8.2).
+-- Bridge: what is kept of a document's symbols to say which fault comes behind them (YAML 1.2.2,
+-- 9.1; 6.9 and 7.1; 7.4 and 8.2).
 use Rattle.std.specs.Prelude.{ℕ, Bool, true, false, ◌||◌, if◌then◌else◌, List, [], ◌∷◌, take, drop}
 use Rattle.yl_lexeme.specs.declared.lexeme.Kind.{Kind}
 use Rattle.yl_marks.specs.declared.symbol.Symbol.{Symbol}
 use Rattle.yl_marks.specs.declared.symbol.Symbol.TheVariants.{One}
 use Rattle.yl_events.specs.declared.fault.ParseFault.{ParseFault}
 use Rattle.yl_events.specs.declared.fault.ParseFault.TheVariants.{DocumentStartExpected, PropertiesGivenTwice}
-use Rattle.yl_events.specs.Faults.{Open, open_behind, fault_in, front_len}
+use Rattle.yl_events.specs.Faults.{OpenCollections, open_behind, fault_in, front_len}
 
 -- whether the latest symbol is a directive, whether the properties that end with it have an anchor or a tag, and what is open
 pub record TrailValue : Type 0 where
   pub at_directive : Bool
   pub with_anchor : Bool
   pub with_tag : Bool
-  pub open_ones : Open
+  pub open_ones : OpenCollections
 
 abbrev pub no_trail : TrailValue
 no_trail = record { at_directive = false; with_anchor = false; with_tag = false; open_ones = record { depth = 0; blocks = [] } }

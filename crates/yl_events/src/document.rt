@@ -1,26 +1,26 @@
 //! The events of a document, or its parse fault.
 
-ghost use Rattle.std.specs.Prelude.{◌≡◌, ◌≤◌, ◌<◌, ◌+◌, ◌^◌, ◌-◌, ℕ, List, [], map, length, IfOk, OnOk, OnErr, IfSome};
+ghost use Rattle.std.specs.Prelude.{◌≡◌, ◌≤◌, ◌<◌, ◌+◌, ◌^◌, ◌-◌, ℕ, List, [], map, length, IfOk, IfSome};
 ghost use Rattle.yl_lexeme.specs.Lexeme.{LexemeValue};
 ghost use Rattle.yl_marks.specs.declared.symbol.Symbol.{Symbol as Marks};
-ghost use Rattle.yl_marks.specs.Keys.{placed};
-ghost use Rattle.yl_events.specs.Event.{EventValue, event_value, kind_value, value_at, start_at, content_value, kind_of, filled, AreEvents};
+ghost use Rattle.yl_marks.specs.Keys.{lexeme_at_line};
+ghost use Rattle.yl_events.specs.Event.{EventValue, event_value, kind_value, value_at, start_at, content_value, kind_of, event_of_outline, AreEvents};
 ghost use Rattle.yl_events.specs.Built.{Builds, IsFaultOf};
-ghost use Rattle.yl_events.specs.Parsing.{at_start, begun, told, IsTold};
+ghost use Rattle.yl_events.specs.Parsing.{parser_at_start, start_events, document_outcome_of_lines, IsOutcome};
 ghost use Rattle.yl_marks.specs.ByLine.{by_line};
 
-use crate::event::{Anchor, Built, Event, EventKind};
-use crate::fault::Fault;
+use crate::event::{Built, Event, EventAnchor, EventKind};
+use crate::fault::PlacedParseFault;
 use crate::parser::Parser;
 use crate::symbol::{Outline, Shape};
 use std::alloc::{AllocError, Allocator};
-use yl_lexeme::{At, Meter};
+use yl_lexeme::{LexemeAtLine, Meter};
 use yl_marks::{Token, line_len, tokens};
 use yl_text::Pos;
 
 /// The value of the lexeme of this index.
-fn value_at<'a, A: Allocator>(lexemes: &[At<'a, A>], i: usize) -> &'a str
-    ensures { result.now ≡ value_at (map (λ x. placed x.line x.lexeme.now) lexemes.now) i }
+fn value_at<'a, A: Allocator>(lexemes: &[LexemeAtLine<'a, A>], i: usize) -> &'a str
+    ensures { result.now ≡ value_at (map (λ x. lexeme_at_line x.line x.lexeme.now) lexemes.now) i }
 {
     match lexemes.get(i) {
         None => "",
@@ -29,8 +29,8 @@ fn value_at<'a, A: Allocator>(lexemes: &[At<'a, A>], i: usize) -> &'a str
 }
 
 /// Where the lexeme of this index begins in the text.
-fn start_at<A: Allocator>(lexemes: &[At<'_, A>], i: usize) -> Pos
-    ensures { result ≡ start_at (map (λ x. placed x.line x.lexeme.now) lexemes.now) i }
+fn start_at<A: Allocator>(lexemes: &[LexemeAtLine<'_, A>], i: usize) -> Pos
+    ensures { result ≡ start_at (map (λ x. lexeme_at_line x.line x.lexeme.now) lexemes.now) i }
 {
     match lexemes.get(i) {
         None => Pos { line: 0, col: 0 },
@@ -38,8 +38,8 @@ fn start_at<A: Allocator>(lexemes: &[At<'_, A>], i: usize) -> Pos
     }
 }
 
-fn content_value<'a, A: Allocator>(lexemes: &[At<'a, A>], place: Option<usize>) -> &'a str
-    ensures { result.now ≡ content_value (map (λ x. placed x.line x.lexeme.now) lexemes.now) place }
+fn content_value<'a, A: Allocator>(lexemes: &[LexemeAtLine<'a, A>], place: Option<usize>) -> &'a str
+    ensures { result.now ≡ content_value (map (λ x. lexeme_at_line x.line x.lexeme.now) lexemes.now) place }
 {
     match place {
         None => "",
@@ -48,11 +48,11 @@ fn content_value<'a, A: Allocator>(lexemes: &[At<'a, A>], place: Option<usize>) 
 }
 
 fn kind_of<'a, A: Allocator>(
-    lexemes: &[At<'a, A>],
+    lexemes: &[LexemeAtLine<'a, A>],
     shape: Shape,
     place: Option<usize>,
 ) -> EventKind<'a>
-    ensures { kind_value result ≡ kind_of (map (λ x. placed x.line x.lexeme.now) lexemes.now) shape place }
+    ensures { kind_value result ≡ kind_of (map (λ x. lexeme_at_line x.line x.lexeme.now) lexemes.now) shape place }
 {
     match shape {
         Shape::DocumentStart => EventKind::DocumentStart,
@@ -68,8 +68,8 @@ fn kind_of<'a, A: Allocator>(
 }
 
 /// The event of an outline.
-fn fill<'a, A: Allocator>(lexemes: &[At<'a, A>], outline: &Outline) -> Event<'a>
-    ensures { event_value result ≡ filled (map (λ x. placed x.line x.lexeme.now) lexemes.now) outline.now }
+fn fill<'a, A: Allocator>(lexemes: &[LexemeAtLine<'a, A>], outline: &Outline) -> Event<'a>
+    ensures { event_value result ≡ event_of_outline (map (λ x. lexeme_at_line x.line x.lexeme.now) lexemes.now) outline.now }
 {
     let place = match outline.place {
         None => None,
@@ -77,7 +77,7 @@ fn fill<'a, A: Allocator>(lexemes: &[At<'a, A>], outline: &Outline) -> Event<'a>
     };
     let anchor = match outline.anchor {
         None => None,
-        Some(i) => Some(Anchor {
+        Some(i) => Some(EventAnchor {
             name: value_at(lexemes, i),
             place: start_at(lexemes, i),
         }),
@@ -92,10 +92,10 @@ fn fill<'a, A: Allocator>(lexemes: &[At<'a, A>], outline: &Outline) -> Event<'a>
 
 fn fill_all<'a, A: Allocator + Copy>(
     alloc: A,
-    lexemes: &[At<'a, A>],
+    lexemes: &[LexemeAtLine<'a, A>],
     outlines: &[Outline],
 ) -> Result<Vec<Event<'a>, A>, AllocError>
-    ensures { IfOk result (λ v. map event_value v.items ≡ map (filled (map (λ x. placed x.line x.lexeme.now) lexemes.now)) outlines.now) }
+    ensures { IfOk result (λ v. map event_value v.items ≡ map (event_of_outline (map (λ x. lexeme_at_line x.line x.lexeme.now) lexemes.now)) outlines.now) }
 {
     let mut events = Vec::new(alloc);
     for outline in outlines {
@@ -108,12 +108,12 @@ fn fill_all<'a, A: Allocator + Copy>(
 fn parse<A: Allocator + Copy>(
     alloc: A,
     tokens: &[Token],
-) -> Result<(Vec<Outline, A>, Option<Fault>), AllocError>
-    ensures { IfOk result (λ r. IsTold (told at_start begun (by_line tokens.now)) r.1 r.0.items) }
+) -> Result<(Vec<Outline, A>, Option<PlacedParseFault>), AllocError>
+    ensures { IfOk result (λ r. IsOutcome (document_outcome_of_lines parser_at_start start_events (by_line tokens.now)) r.1 r.0.items) }
 {
     let mut parser = Parser::new(alloc);
     let mut outlines = Vec::new(alloc);
-    parser.begin(&mut outlines)?;
+    parser.start(&mut outlines)?;
     let mut rest = tokens;
     while !rest.is_empty() {
         let (line, below) = rest.split_at(line_len(rest));
@@ -130,9 +130,9 @@ fn parse<A: Allocator + Copy>(
 #[tactic(auto, using(crate::proofs::Giving::told_events))]
 fn build<'a, A: Allocator + Copy>(
     alloc: A,
-    lexemes: &[At<'a, A>],
+    lexemes: &[LexemeAtLine<'a, A>],
 ) -> Result<Built<'a, A>, AllocError>
-    ensures { IfOk result (λ b. Builds (map (λ x. placed x.line x.lexeme.now) lexemes.now) (map event_value b.events.items) b.fault) }
+    ensures { IfOk result (λ b. Builds (map (λ x. lexeme_at_line x.line x.lexeme.now) lexemes.now) (map event_value b.events.items) b.fault) }
 {
     let tokens = tokens(alloc, lexemes)?;
     let (outlines, fault) = parse(alloc, &tokens)?;
@@ -151,19 +151,17 @@ fn build<'a, A: Allocator + Copy>(
     }
 }
 
-/// The events of one whole document's lexemes, or its parse fault and no events. Counts the document in the meter. The
-/// only error is memory, and nothing is counted then.
+/// The events of one whole document's lexemes, or its parse fault and no events. Counts the document in the meter, also where
+/// memory is refused. The only error is memory.
 pub fn parse_document<'a, A: Allocator + Copy>(
     alloc: A,
-    lexemes: &[At<'a, A>],
+    lexemes: &[LexemeAtLine<'a, A>],
     meter: &mut Meter,
 ) -> Result<Built<'a, A>, AllocError>
     requires { meter.old.documents < 2 ^ 32 - 1 }
-    ensures built { IfOk result (λ b. Builds (map (λ x. placed x.line x.lexeme.now) lexemes.now) (map event_value b.events.items) b.fault) }
-    ensures counted { OnOk result (meter.new ≡ record meter.old { documents = meter.old.documents + 1 }) }
-    ensures uncounted { OnErr result (meter.new ≡ meter.old) }
+    ensures built { IfOk result (λ b. Builds (map (λ x. lexeme_at_line x.line x.lexeme.now) lexemes.now) (map event_value b.events.items) b.fault) }
+    ensures counted { meter.new ≡ record meter.old { documents = meter.old.documents + 1 } }
 {
-    let built = build(alloc, lexemes)?;
     meter.documents += 1;
-    Ok(built)
+    build(alloc, lexemes)
 }

@@ -1,6 +1,6 @@
 //! Events: YAML 1.2.2, 3.1.2.
 
-use crate::fault::Fault;
+use crate::fault::PlacedParseFault;
 use std::alloc::Allocator;
 use yl_lexeme::Style;
 use yl_text::Pos;
@@ -22,7 +22,7 @@ pub enum EventKind<'a> {
 
 /// An anchor: its name, and its place in the text.
 #[derive(Clone, Copy, Debug, PartialEq, Eq)]
-pub struct Anchor<'a> {
+pub struct EventAnchor<'a> {
     pub name: &'a str,
     pub place: Pos,
 }
@@ -33,7 +33,7 @@ pub struct Event<'a> {
     pub kind: EventKind<'a>,
     /// Where its content begins, behind properties: of a scalar, an alias and a start of a collection.
     pub place: Option<Pos>,
-    pub anchor: Option<Anchor<'a>>,
+    pub anchor: Option<EventAnchor<'a>>,
     pub is_tagged: bool,
 }
 
@@ -41,5 +41,5 @@ pub struct Event<'a> {
 #[derive(Drop)]
 pub struct Built<'a, A: Allocator> {
     pub events: Vec<Event<'a>, A>,
-    pub fault: Option<Fault>,
+    pub fault: Option<PlacedParseFault>,
 }

@@ -5,11 +5,12 @@ ghost use Rattle.yl_lexeme.specs.Lexeme.{LexemeValue};
 ghost use Rattle.yl_marks.specs.declared.symbol.Symbol.{Symbol};
 ghost use Rattle.yl_events.specs.declared.symbol.Outline.{Outline};
 ghost use Rattle.yl_marks.specs.Keys.{token_of};
-ghost use Rattle.yl_marks.specs.Marks.{marked};
+ghost use Rattle.yl_marks.specs.Marks.{symbols_of_lexemes};
 ghost use Rattle.yl_marks.specs.ByLine.{by_line};
+ghost use Rattle.yl_events.specs.Cut.{CutsByTwo};
 ghost use Rattle.yl_events.specs.Derives.{Derives, HasFaultAt};
 ghost use Rattle.yl_events.specs.Event.{EventValue, AreEvents};
-ghost use Rattle.yl_events.specs.Parsing.{at_start, begun, told, Gives};
+ghost use Rattle.yl_events.specs.Parsing.{parser_at_start, start_events, document_outcome_of_lines, Gives};
 
 /// A document has at most one list of events, by its marked lexemes and by its lexemes.
 pub fn one_derivation()
@@ -21,10 +22,15 @@ pub fn one_derivation()
 pub fn one_fault()
     ensures one { (ws : List Symbol) (i j : ℕ) → HasFaultAt ws i → HasFaultAt ws j → i ≡ j }
     ensures none { (ws : List Symbol) (es : List Outline) (i : ℕ) → Derives ws es → HasFaultAt ws i → ⊥ }
-    ensures inside { (xs : List LexemeValue) (i : ℕ) → HasFaultAt (marked xs) i → i ≤ length xs }
+    ensures inside { (xs : List LexemeValue) (i : ℕ) → HasFaultAt (symbols_of_lexemes xs) i → i ≤ length xs }
 {}
 
 /// What the lines of a document's lexemes tell are the events of its derivation, or its fault.
 pub fn told_documents()
-    ensures { (xs : List LexemeValue) → Gives xs (told at_start begun (by_line (map token_of xs))) }
+    ensures { (xs : List LexemeValue) → Gives xs (document_outcome_of_lines parser_at_start start_events (by_line (map token_of xs))) }
+{}
+
+/// Where directives stand in their places, each two lexemes say whether a document begins between them.
+pub fn documents_cut_by_two()
+    ensures { CutsByTwo }
 {}

@@ -11,11 +11,11 @@ mod parser;
 mod symbol;
 mod trail;
 
-pub use cuts::documents;
+pub use cuts::{begins_document, documents};
 pub use document::parse_document;
-pub use event::{Anchor, Built, Event, EventKind};
-pub use fault::{Fault, ParseFault};
-pub use laws::{one_derivation, one_fault, told_documents};
+pub use event::{Built, Event, EventAnchor, EventKind};
+pub use fault::{ParseFault, PlacedParseFault};
+pub use laws::{documents_cut_by_two, one_derivation, one_fault, told_documents};
 pub use parser::Parser;
 pub use symbol::{Outline, Shape};
 pub use yl_marks::{Collection, Marked, Token, line_len, mark, token_of};

@@ -1,19 +1,19 @@
 //! The parser: a stack of goals over the marked lexemes.
 
 ghost use Rattle.std.specs.Prelude.{◌≡◌, ◌++◌, [], ◌∷◌, ℕ, IsSome, true, false, reverse, IfOk, OnOk};
-ghost use Rattle.yl_events.specs.Outlines.{bare, missing, ended, decorated, pair_start, pair_end, node_end, ◌then◌};
-ghost use Rattle.yl_events.specs.Machine.{with_anchor, with_tag, takes, takes_marks, forms, items_take, closes, leaves, followed, step, finish, run, taken, Taken, Left, Stepped, Finished};
-ghost use Rattle.yl_events.specs.Told.{steps, Walked};
+ghost use Rattle.yl_events.specs.Outlines.{bare_event, missing_node, end_event, node_event, pair_start, pair_end, node_end, ◌then◌};
+ghost use Rattle.yl_events.specs.Machine.{with_anchor, with_tag, takes, takes_marks, node_turn, items_take, closing_turn, leaves, turn_before, step, finish, run, taken_count, AnswersTaking, AnswersLeaving, AnswersStep, AnswersFinish};
+ghost use Rattle.yl_events.specs.DocumentOutcome.{steps, Walked};
 ghost use Rattle.yl_events.specs.declared.symbol.Where.TheVariants.{InInline};
 ghost use Rattle.yl_events.specs.declared.symbol.Goal.TheVariants.{ItemEnd, NodeEnd};
 
-use crate::symbol::{Bracket, Goal, Outline, Properties, Shape, Where};
+use crate::symbol::{BracketKind, Goal, Outline, Properties, Shape, Where};
 use std::alloc::{AllocError, Allocator};
 use yl_lexeme::Kind;
 use yl_marks::Symbol;
 
 pub fn bare(kind: Shape, place: Option<usize>) -> Outline
-    ensures { result ≡ bare kind place }
+    ensures { result ≡ bare_event kind place }
 {
     Outline {
         kind,
@@ -24,7 +24,7 @@ pub fn bare(kind: Shape, place: Option<usize>) -> Outline
 }
 
 fn decorated(properties: Option<Properties>, kind: Shape, place: Option<usize>) -> Outline
-    ensures { result ≡ decorated properties kind place }
+    ensures { result ≡ node_event properties kind place }
 {
     let (anchor, is_tagged) = match properties {
         None => (None, false),
@@ -103,7 +103,7 @@ fn forms<A: Allocator>(
     goals: &mut Vec<Goal, A>,
     events: &mut Vec<Outline, A>,
 ) -> Result<bool, AllocError>
-    ensures { IfOk result (λ taken. Taken (forms place properties symbol) taken goals.old.items goals.new.items events.old.items events.new.items) }
+    ensures { IfOk result (λ taken. AnswersTaking (node_turn place properties symbol) taken goals.old.items goals.new.items events.old.items events.new.items) }
 {
     match symbol {
         Symbol::OpenSequence(i) => match place {
@@ -135,7 +135,7 @@ fn form_begins<A: Allocator>(
     goals: &mut Vec<Goal, A>,
     events: &mut Vec<Outline, A>,
 ) -> Result<bool, AllocError>
-    ensures { IfOk result (λ taken. Taken (forms place properties (Symbol.One kind i)) taken goals.old.items goals.new.items events.old.items events.new.items) }
+    ensures { IfOk result (λ taken. AnswersTaking (node_turn place properties (Symbol.One kind i)) taken goals.old.items goals.new.items events.old.items events.new.items) }
 {
     match kind {
         Kind::Alias => match properties {
@@ -155,11 +155,11 @@ fn form_begins<A: Allocator>(
         }
         Kind::SeqOpen => {
             add(decorated(properties, Shape::SequenceStart, Some(i)), events)?;
-            put(Goal::Items(Bracket::Square), goals)
+            put(Goal::Items(BracketKind::Square), goals)
         }
         Kind::MapOpen => {
             add(decorated(properties, Shape::MappingStart, Some(i)), events)?;
-            put(Goal::Items(Bracket::Curly), goals)
+            put(Goal::Items(BracketKind::Curly), goals)
         }
         Kind::Entry => match place {
             Where::InBlock(true) => {
@@ -185,19 +185,19 @@ fn form_begins<A: Allocator>(
 
 /// The end of a flow collection.
 fn closes<A: Allocator>(
-    bracket: Bracket,
+    bracket: BracketKind,
     kind: Kind,
     goals: &mut Vec<Goal, A>,
     events: &mut Vec<Outline, A>,
 ) -> Result<bool, AllocError>
-    ensures { IfOk result (λ taken. Taken (closes bracket kind) taken goals.old.items goals.new.items events.old.items events.new.items) }
+    ensures { IfOk result (λ taken. AnswersTaking (closing_turn bracket kind) taken goals.old.items goals.new.items events.old.items events.new.items) }
 {
     match bracket {
-        Bracket::Square => match kind {
+        BracketKind::Square => match kind {
             Kind::SeqClose => tell(bare(Shape::SequenceEnd, None), events),
             _ => Ok(false),
         },
-        Bracket::Curly => match kind {
+        BracketKind::Curly => match kind {
             Kind::MapClose => tell(bare(Shape::MappingEnd, None), events),
             _ => Ok(false),
         },
@@ -206,15 +206,15 @@ fn closes<A: Allocator>(
 
 /// The beginning of a pair in a flow collection.
 fn start_pair<A: Allocator>(
-    bracket: Bracket,
+    bracket: BracketKind,
     i: usize,
     events: &mut Vec<Outline, A>,
 ) -> Result<(), AllocError>
     ensures { OnOk result (events.new.items ≡ events.old.items then pair_start bracket i) }
 {
     match bracket {
-        Bracket::Square => add(bare(Shape::MappingStart, Some(i)), events)?,
-        Bracket::Curly => {}
+        BracketKind::Square => add(bare(Shape::MappingStart, Some(i)), events)?,
+        BracketKind::Curly => {}
     }
     Ok(())
 }
@@ -222,14 +222,14 @@ fn start_pair<A: Allocator>(
 /// An item that is a node.
 #[tactic(auto, using(crate::proofs::Pushes::followed_taken))]
 fn bare_item<A: Allocator>(
-    bracket: Bracket,
+    bracket: BracketKind,
     kind: Kind,
     i: usize,
     goals: &mut Vec<Goal, A>,
     events: &mut Vec<Outline, A>,
 ) -> Result<bool, AllocError>
-    requires { IsSome (forms InInline None (Symbol.One kind i)) }
-    ensures { IfOk result (λ taken. Taken (followed (NodeEnd bracket ∷ ItemEnd bracket ∷ []) (forms InInline None (Symbol.One kind i))) taken goals.old.items goals.new.items events.old.items events.new.items) }
+    requires { IsSome (node_turn InInline None (Symbol.One kind i)) }
+    ensures { IfOk result (λ taken. AnswersTaking (turn_before (NodeEnd bracket ∷ ItemEnd bracket ∷ []) (node_turn InInline None (Symbol.One kind i))) taken goals.old.items goals.new.items events.old.items events.new.items) }
 {
     goals.reserve(2)?;
     goals.push_reserved(Goal::ItemEnd(bracket));
@@ -239,13 +239,13 @@ fn bare_item<A: Allocator>(
 
 /// An item, or the end of a flow collection, at a lexeme.
 fn item_begins<A: Allocator>(
-    bracket: Bracket,
+    bracket: BracketKind,
     kind: Kind,
     i: usize,
     goals: &mut Vec<Goal, A>,
     events: &mut Vec<Outline, A>,
 ) -> Result<bool, AllocError>
-    ensures { IfOk result (λ taken. Taken (items_take bracket (Symbol.One kind i)) taken goals.old.items goals.new.items events.old.items events.new.items) }
+    ensures { IfOk result (λ taken. AnswersTaking (items_take bracket (Symbol.One kind i)) taken goals.old.items goals.new.items events.old.items events.new.items) }
 {
     match kind {
         Kind::Key => {
@@ -274,12 +274,12 @@ fn item_begins<A: Allocator>(
 }
 
 fn items_take<A: Allocator>(
-    bracket: Bracket,
+    bracket: BracketKind,
     symbol: Symbol,
     goals: &mut Vec<Goal, A>,
     events: &mut Vec<Outline, A>,
 ) -> Result<bool, AllocError>
-    ensures { IfOk result (λ taken. Taken (items_take bracket symbol) taken goals.old.items goals.new.items events.old.items events.new.items) }
+    ensures { IfOk result (λ taken. AnswersTaking (items_take bracket symbol) taken goals.old.items goals.new.items events.old.items events.new.items) }
 {
     match symbol {
         Symbol::BeginKey(i) => {
@@ -303,7 +303,7 @@ fn take_entries<A: Allocator>(
     goals: &mut Vec<Goal, A>,
     events: &mut Vec<Outline, A>,
 ) -> Result<bool, AllocError>
-    ensures { IfOk result (λ taken. Taken (takes Goal.Entries symbol) taken goals.old.items goals.new.items events.old.items events.new.items) }
+    ensures { IfOk result (λ taken. AnswersTaking (takes Goal.Entries symbol) taken goals.old.items goals.new.items events.old.items events.new.items) }
 {
     match symbol {
         Symbol::One(kind, _) => match kind {
@@ -326,7 +326,7 @@ fn take_pairs<A: Allocator>(
     goals: &mut Vec<Goal, A>,
     events: &mut Vec<Outline, A>,
 ) -> Result<bool, AllocError>
-    ensures { IfOk result (λ taken. Taken (takes Goal.Pairs symbol) taken goals.old.items goals.new.items events.old.items events.new.items) }
+    ensures { IfOk result (λ taken. AnswersTaking (takes Goal.Pairs symbol) taken goals.old.items goals.new.items events.old.items events.new.items) }
 {
     match symbol {
         Symbol::BeginKey(_) => {
@@ -367,7 +367,7 @@ fn take_lexeme<A: Allocator>(
     events: &mut Vec<Outline, A>,
 ) -> Result<bool, AllocError>
     requires { takes_marks goal ≡ false }
-    ensures { IfOk result (λ taken. (i : ℕ) → Taken (takes goal (Symbol.One kind i)) taken goals.old.items goals.new.items events.old.items events.new.items) }
+    ensures { IfOk result (λ taken. (i : ℕ) → AnswersTaking (takes goal (Symbol.One kind i)) taken goals.old.items goals.new.items events.old.items events.new.items) }
 {
     match goal {
         Goal::Prefix | Goal::Directives => match kind {
@@ -411,7 +411,7 @@ fn take<A: Allocator>(
     goals: &mut Vec<Goal, A>,
     events: &mut Vec<Outline, A>,
 ) -> Result<bool, AllocError>
-    ensures { IfOk result (λ taken. Taken (takes goal symbol) taken goals.old.items goals.new.items events.old.items events.new.items) }
+    ensures { IfOk result (λ taken. AnswersTaking (takes goal symbol) taken goals.old.items goals.new.items events.old.items events.new.items) }
 {
     match goal {
         Goal::Formed(place, properties) => forms(place, properties, symbol, goals, events),
@@ -427,7 +427,7 @@ fn take<A: Allocator>(
 
 /// Leaves a goal that nothing comes for, where it may be left.
 fn leave<A: Allocator>(goal: Goal, events: &mut Vec<Outline, A>) -> Result<bool, AllocError>
-    ensures { IfOk result (λ is_left. Left (leaves goal) is_left events.old.items events.new.items) }
+    ensures { IfOk result (λ is_left. AnswersLeaving (leaves goal) is_left events.old.items events.new.items) }
 {
     match goal {
         Goal::Prefix | Goal::Ending => {}
@@ -435,10 +435,10 @@ fn leave<A: Allocator>(goal: Goal, events: &mut Vec<Outline, A>) -> Result<bool,
         Goal::Formed(_, properties) => add(decorated(properties, Shape::Empty, None), events)?,
         Goal::Indentless => add(bare(Shape::SequenceEnd, None), events)?,
         Goal::ValueOf(_) => add(bare(Shape::Empty, None), events)?,
-        Goal::PairEnd(Bracket::Square) => add(bare(Shape::MappingEnd, None), events)?,
-        Goal::PairEnd(Bracket::Curly) => {}
-        Goal::NodeEnd(Bracket::Square) => {}
-        Goal::NodeEnd(Bracket::Curly) => add(bare(Shape::Empty, None), events)?,
+        Goal::PairEnd(BracketKind::Square) => add(bare(Shape::MappingEnd, None), events)?,
+        Goal::PairEnd(BracketKind::Curly) => {}
+        Goal::NodeEnd(BracketKind::Square) => {}
+        Goal::NodeEnd(BracketKind::Curly) => add(bare(Shape::Empty, None), events)?,
         Goal::Directives
         | Goal::Entries
         | Goal::Pairs
@@ -455,7 +455,7 @@ fn step<A: Allocator>(
     goals: &mut Vec<Goal, A>,
     events: &mut Vec<Outline, A>,
 ) -> Result<bool, AllocError>
-    ensures { IfOk result (λ taken. Stepped (step (reverse goals.old.items) events.old.items symbol) taken goals.new.items events.new.items) }
+    ensures { IfOk result (λ taken. AnswersStep (step (reverse goals.old.items) events.old.items symbol) taken goals.new.items events.new.items) }
 {
     while let Some(goal) = goals.pop() {
         if take(goal, symbol, goals, events)? {
@@ -473,7 +473,7 @@ pub fn finish<A: Allocator>(
     goals: &mut Vec<Goal, A>,
     events: &mut Vec<Outline, A>,
 ) -> Result<bool, AllocError>
-    ensures { IfOk result (λ whole. Finished (finish (reverse goals.old.items) events.old.items) whole events.new.items) }
+    ensures { IfOk result (λ whole. AnswersFinish (finish (reverse goals.old.items) events.old.items) whole events.new.items) }
 {
     while let Some(goal) = goals.pop() {
         if !leave(goal, events)? {
@@ -490,7 +490,7 @@ pub fn walk<A: Allocator>(
     events: &mut Vec<Outline, A>,
 ) -> Result<Option<usize>, AllocError>
     ensures { IfOk result (λ place. Walked (steps symbols.now (reverse goals.old.items) events.old.items)
-        (taken symbols.now (reverse goals.old.items) events.old.items) place goals.new.items events.new.items) }
+        (taken_count symbols.now (reverse goals.old.items) events.old.items) place goals.new.items events.new.items) }
 {
     let mut place = 0usize;
     for symbol in symbols {

@@ -1,17 +1,18 @@
 //! A document is parsed line by line.
 
-ghost use Rattle.std.specs.Prelude.{◌≡◌, ◌∷◌, [], ◌++◌, ◌+◌, ◌<◌, ◌^◌, reverse, OnOk, IfOk};
-ghost use Rattle.yl_events.specs.Outlines.{bare};
+ghost use Rattle.std.specs.Prelude.{◌≡◌, ◌∷◌, [], ◌++◌, ◌+◌, ◌<◌, ◌-◌, ◌^◌, reverse, OnOk, IfOk};
+ghost use Rattle.yl_events.specs.Outlines.{bare_event};
 ghost use Rattle.yl_events.specs.Derives.{lexeme_count};
-ghost use Rattle.yl_events.specs.Machine.{run, Finished};
-ghost use Rattle.yl_events.specs.Parsing.{no_document, at_start, begun, told, Feeds, IsTold, Passes};
+ghost use Rattle.yl_events.specs.Machine.{run, AnswersFinish};
+ghost use Rattle.yl_events.specs.Parsing.{no_document, parser_at_start, start_events, document_outcome_of_lines, Feeds, IsOutcome, Passes};
 
-use crate::fault::Fault;
+use crate::fault::PlacedParseFault;
 use crate::machine::{bare, finish, walk};
 use crate::symbol::{Goal, Outline, Shape, Where};
 use crate::trail::Trail;
 use std::alloc::{AllocError, Allocator};
 use std::marker::Model;
+use yl_lexeme::Meter;
 use yl_marks::{Marker, Symbol, Token};
 
 /// Parses a document that is fed line by line, and tells its outlines: what counts of the lines that were fed. It is used for one
@@ -28,9 +29,9 @@ pub struct Parser<A: Allocator + Copy> {
 
 impl<A: Allocator + Copy> Model for Parser<A> {
     ghost use Rattle.std.specs.Prelude.{reverse};
-    ghost use Rattle.yl_events.specs.Parsing.{Parsing};
+    ghost use Rattle.yl_events.specs.Parsing.{ParserValue};
 
-    ghost Value = { Parsing };
+    ghost Value = { ParserValue };
 
     ghost view = { λ p. record { marks = p.marker; goals = reverse p.goals.items; trail = p.trail } };
 }
@@ -48,10 +49,26 @@ impl<A: Allocator + Copy> Parser<A> {
         }
     }
 
-    /// A document begins: what was fed before is forgotten, and all room is kept. The only error is memory.
-    pub fn begin(&mut self, outlines: &mut Vec<Outline, A>) -> Result<(), AllocError>
-        ensures start { OnOk result (self.new ≡ at_start) }
-        ensures told { OnOk result (outlines.new.items ≡ outlines.old.items ++ begun) }
+    /// A document begins, and is counted: what was fed before is forgotten, and all room is kept. The only error is memory; the
+    /// document is counted then too.
+    pub fn begin(
+        &mut self,
+        outlines: &mut Vec<Outline, A>,
+        meter: &mut Meter,
+    ) -> Result<(), AllocError>
+        requires { meter.old.documents < 2 ^ 32 - 1 }
+        ensures start { OnOk result (self.new ≡ parser_at_start) }
+        ensures told { OnOk result (outlines.new.items ≡ outlines.old.items ++ start_events) }
+        ensures counted { meter.new ≡ record meter.old { documents = meter.old.documents + 1 } }
+    {
+        meter.documents += 1;
+        self.start(outlines)
+    }
+
+    /// Stands at the start of a document, which its caller has counted.
+    pub(crate) fn start(&mut self, outlines: &mut Vec<Outline, A>) -> Result<(), AllocError>
+        ensures start { OnOk result (self.new ≡ parser_at_start) }
+        ensures told { OnOk result (outlines.new.items ≡ outlines.old.items ++ start_events) }
     {
         self.marker.clear();
         self.trail.clear();
@@ -80,7 +97,7 @@ impl<A: Allocator + Copy> Parser<A> {
         &mut self,
         line: &[Token],
         outlines: &mut Vec<Outline, A>,
-    ) -> Result<Option<Fault>, AllocError>
+    ) -> Result<Option<PlacedParseFault>, AllocError>
         ensures { IfOk result (λ fault. Feeds self.old outlines.old.items line.now fault self.new outlines.new.items) }
     {
         self.symbols.clear();
@@ -97,13 +114,16 @@ impl<A: Allocator + Copy> Parser<A> {
 
     /// The document ends: tells the last of its outlines, or answers its fault. The only error is memory. Behind it `begin` is next.
     #[tactic(auto, using(crate::proofs::Lines::end_fault))]
-    pub fn finish(&mut self, outlines: &mut Vec<Outline, A>) -> Result<Option<Fault>, AllocError>
-        ensures { IfOk result (λ fault. IsTold (told self.old outlines.old.items []) fault outlines.new.items) }
+    pub fn finish(
+        &mut self,
+        outlines: &mut Vec<Outline, A>,
+    ) -> Result<Option<PlacedParseFault>, AllocError>
+        ensures { IfOk result (λ fault. IsOutcome (document_outcome_of_lines self.old outlines.old.items []) fault outlines.new.items) }
     {
         self.symbols.clear();
         self.marker.close(&mut self.symbols)?;
         if !take_end(&self.symbols, &mut self.goals, outlines)? {
-            return Ok(Some(Fault {
+            return Ok(Some(PlacedParseFault {
                 kind: self.trail.fault(&self.symbols),
                 place: self.marker.count(),
             }));
@@ -121,7 +141,7 @@ fn take_line<A: Allocator>(
     goals: &mut Vec<Goal, A>,
     trail: &mut Trail<A>,
     outlines: &mut Vec<Outline, A>,
-) -> Result<Option<Fault>, AllocError>
+) -> Result<Option<PlacedParseFault>, AllocError>
     requires { first + lexeme_count symbols.now < 2 ^ 64 }
     ensures { IfOk result (λ fault. Passes trail.old first (reverse goals.old.items) outlines.old.items symbols.now fault
         trail.new (reverse goals.new.items) outlines.new.items) }
@@ -133,7 +153,7 @@ fn take_line<A: Allocator>(
         }
         Some(place) => {
             let kind = trail.fault_from(place, symbols)?;
-            Ok(Some(Fault {
+            Ok(Some(PlacedParseFault {
                 kind,
                 place: first + place,
             }))
@@ -148,7 +168,7 @@ fn take_end<A: Allocator>(
     goals: &mut Vec<Goal, A>,
     outlines: &mut Vec<Outline, A>,
 ) -> Result<bool, AllocError>
-    ensures { IfOk result (λ whole. Finished (run symbols.now (reverse goals.old.items) outlines.old.items) whole outlines.new.items) }
+    ensures { IfOk result (λ whole. AnswersFinish (run symbols.now (reverse goals.old.items) outlines.old.items) whole outlines.new.items) }
 {
     match walk(symbols, goals, outlines)? {
         None => finish(goals, outlines),

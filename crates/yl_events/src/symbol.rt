@@ -3,7 +3,7 @@
 use yl_lexeme::Style;
 
 #[derive(Clone, Copy)]
-pub enum Bracket {
+pub enum BracketKind {
     Square,
     Curly,
 }
@@ -62,15 +62,15 @@ pub enum Goal {
     Pairs,
     ValueOf(Where),
     Colon,
-    Items(Bracket),
-    ItemEnd(Bracket),
-    PairEnd(Bracket),
-    NodeEnd(Bracket),
+    Items(BracketKind),
+    ItemEnd(BracketKind),
+    PairEnd(BracketKind),
+    NodeEnd(BracketKind),
 }
 
 /// An open block collection; of a mapping, whether an indentless sequence is open in it.
 #[derive(Clone, Copy)]
-pub enum Block {
+pub enum OpenCollection {
     InSequence,
     InMapping(bool),
 }

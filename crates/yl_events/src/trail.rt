@@ -1,11 +1,11 @@
 //! What is kept of a document's symbols to say which fault comes behind them.
 
 ghost use Rattle.std.specs.Prelude.{◌≡◌, ◌≤◌, ℕ, length, take, reverse, OnOk, IfOk};
-ghost use Rattle.yl_events.specs.Faults.{with_indentless, blocks_behind, depth_behind, closed_by, fault_in_blocks, fault_in, left_behind, front_len};
+ghost use Rattle.yl_events.specs.Faults.{with_indentless, blocks_behind, depth_behind, without_closed, fault_in_blocks, fault_in, left_behind, front_len};
 ghost use Rattle.yl_events.specs.Trail.{no_trail, trail_behind, trail_after, is_directive, anchor_behind, tag_behind, comes_twice, fault_behind, fault_from};
 
 use crate::fault::ParseFault;
-use crate::symbol::Block;
+use crate::symbol::OpenCollection;
 use std::alloc::{AllocError, Allocator};
 use std::marker::Model;
 use yl_lexeme::Kind;
@@ -23,7 +23,7 @@ pub struct Trail<A: Allocator> {
     /// How many brackets are open.
     depth: usize,
     /// The open block collections, the innermost last.
-    blocks: Vec<Block, A>,
+    blocks: Vec<OpenCollection, A>,
 }
 
 impl<A: Allocator> Model for Trail<A> {
@@ -158,25 +158,31 @@ fn tag_behind(had: bool, symbol: Symbol) -> bool
 }
 
 /// An indentless sequence is open in the innermost mapping, or no longer.
-fn set_indentless<A: Allocator>(is_open: bool, blocks: &mut Vec<Block, A>) -> Result<(), AllocError>
+fn set_indentless<A: Allocator>(
+    is_open: bool,
+    blocks: &mut Vec<OpenCollection, A>,
+) -> Result<(), AllocError>
     ensures { OnOk result (reverse blocks.new.items ≡ with_indentless is_open (reverse blocks.old.items)) }
 {
     if let Some(block) = blocks.pop() {
         let block = match block {
-            Block::InSequence => Block::InSequence,
-            Block::InMapping(_) => Block::InMapping(is_open),
+            OpenCollection::InSequence => OpenCollection::InSequence,
+            OpenCollection::InMapping(_) => OpenCollection::InMapping(is_open),
         };
         blocks.push(block)?;
     }
     Ok(())
 }
 
-fn blocks_behind<A: Allocator>(symbol: Symbol, blocks: &mut Vec<Block, A>) -> Result<(), AllocError>
+fn blocks_behind<A: Allocator>(
+    symbol: Symbol,
+    blocks: &mut Vec<OpenCollection, A>,
+) -> Result<(), AllocError>
     ensures { OnOk result (reverse blocks.new.items ≡ blocks_behind (reverse blocks.old.items) symbol) }
 {
     match symbol {
-        Symbol::OpenSequence(_) => blocks.push(Block::InSequence)?,
-        Symbol::OpenMapping(_) => blocks.push(Block::InMapping(false))?,
+        Symbol::OpenSequence(_) => blocks.push(OpenCollection::InSequence)?,
+        Symbol::OpenMapping(_) => blocks.push(OpenCollection::InMapping(false))?,
         Symbol::BeginKey(_) => set_indentless(false, blocks)?,
         Symbol::Close => {
             let _ = blocks.pop();
@@ -207,8 +213,8 @@ fn depth_behind(depth: usize, symbol: Symbol) -> Result<usize, AllocError>
 }
 
 /// How many of the blocks are open behind the closings that come next.
-fn left_open(behind: &[Symbol], blocks: &[Block]) -> usize
-    ensures left { reverse (take result blocks.now) ≡ closed_by behind.now (reverse blocks.now) }
+fn left_open(behind: &[Symbol], blocks: &[OpenCollection]) -> usize
+    ensures left { reverse (take result blocks.now) ≡ without_closed behind.now (reverse blocks.now) }
     ensures within { result ≤ length blocks.now }
 {
     let mut open = blocks.len();
@@ -221,12 +227,12 @@ fn left_open(behind: &[Symbol], blocks: &[Block]) -> usize
     open
 }
 
-fn fault_in_blocks(blocks: &[Block]) -> ParseFault
+fn fault_in_blocks(blocks: &[OpenCollection]) -> ParseFault
     ensures { result ≡ fault_in_blocks (reverse blocks.now) }
 {
     match blocks {
         [] => ParseFault::SecondNode,
-        [.., Block::InMapping(false)] => ParseFault::KeyOrEndOfMappingExpected,
+        [.., OpenCollection::InMapping(false)] => ParseFault::KeyOrEndOfMappingExpected,
         [.., _] => ParseFault::EntryOrEndOfSequenceExpected,
     }
 }

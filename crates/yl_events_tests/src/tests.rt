@@ -3,10 +3,10 @@ use std::alloc::{AllocError, Allocator, Global};
 use std::process::Abort;
 use std::test::Fail;
 use yl_events::{
-    Built, Collection, EventKind, Fault, Marked, Outline, ParseFault, Parser, Shape, documents,
-    mark, one_derivation, one_fault, parse_document, token_of, told_documents,
+    Built, Collection, EventKind, Marked, Outline, ParseFault, Parser, PlacedParseFault, Shape,
+    documents, mark, one_derivation, one_fault, parse_document, token_of, told_documents,
 };
-use yl_lexeme::{At, Kind, Lexeme, Meter, Style};
+use yl_lexeme::{Kind, Lexeme, LexemeAtLine, Meter, Style};
 use yl_text::Pos;
 
 type Heap<'a> = &'a Refusing<Global>;
@@ -59,10 +59,10 @@ fn placed<'a, A: Allocator + Copy>(
     alloc: A,
     tokens: &[Spot],
     lexemes: &'a [Lexeme<A>],
-) -> Result<Vec<At<'a, A>, A>, AllocError> {
+) -> Result<Vec<LexemeAtLine<'a, A>, A>, AllocError> {
     let mut placed = Vec::new(alloc);
     for (token, lexeme) in tokens.iter().zip(lexemes) {
-        placed.push(At {
+        placed.push(LexemeAtLine {
             line: token.line,
             lexeme,
         })?;
@@ -446,7 +446,7 @@ fn marks(rt: HostRuntime) -> Result<(), Fail> {
     Ok(())
 }
 
-// Each growth of `parse_document` is refused in turn: nothing is counted then.
+// Each growth of `parse_document` is refused in turn: the document is counted all the same.
 fn refuse_each(rt: &impl Abort, heap: Heap<'_>, tokens: &[Spot]) -> Result<(), AllocError> {
     let lexemes = lexemes(heap, tokens)?;
     let placed = placed(heap, tokens, &lexemes)?;
@@ -462,7 +462,7 @@ fn refuse_each(rt: &impl Abort, heap: Heap<'_>, tokens: &[Spot]) -> Result<(), A
             return Ok(());
         }
         assert!(rt; answer.is_err(), "the {n}th growth");
-        assert_eq!(rt; meter.documents, 0);
+        assert_eq!(rt; meter.documents, 1);
     }
     Ok(())
 }
@@ -503,7 +503,7 @@ fn deep(rt: HostRuntime) -> Result<(), Fail> {
     }
     let mut placed = Vec::new(rt.alloc());
     for lexeme in &brackets {
-        placed.push(At { line: 0, lexeme })?;
+        placed.push(LexemeAtLine { line: 0, lexeme })?;
     }
     let mut meter = Meter::new();
     let built = parse_document(rt.alloc(), &placed, &mut meter)?;
@@ -516,11 +516,15 @@ fn deep(rt: HostRuntime) -> Result<(), Fail> {
 fn feed_lines<'a>(
     heap: Heap<'a>,
     parser: &mut Parser<Heap<'a>>,
-    lexemes: &[At<'_, Heap<'a>>],
+    lexemes: &[LexemeAtLine<'_, Heap<'a>>],
     outlines: &mut Vec<Outline, Heap<'a>>,
-) -> Result<Option<Fault>, AllocError> {
+) -> Result<Option<PlacedParseFault>, AllocError> {
     outlines.clear();
-    parser.begin(outlines)?;
+    let mut meter = Meter::new();
+    parser.begin(outlines, &mut meter)?;
+    if meter.documents != 1 {
+        return Err(AllocError);
+    }
     let mut line = Vec::new(heap);
     for number in 0..10u32 {
         line.clear();
@@ -626,7 +630,7 @@ fn a_document_behind_a_fault(rt: HostRuntime) -> Result<(), Fail> {
     let placed = placed(&heap, &tokens, &lexemes)?;
     let mut parser = Parser::new(&heap);
     let mut outlines = Vec::new(&heap);
-    let fault = Fault {
+    let fault = PlacedParseFault {
         kind: ParseFault::CommaOrBracketExpected,
         place: 2,
     };

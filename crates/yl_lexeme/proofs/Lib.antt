@@ -1,3 +1,5 @@
+mod Examples
 pub mod Looks
+pub mod Opened
 pub mod Stacks
 pub mod Units

@@ -5,7 +5,7 @@ use Rattle.yl_lexeme.specs.declared.lexeme.Kind.{Kind}
 use Rattle.yl_lexeme.specs.declared.lexeme.Kind.TheVariants.{Anchor, Tag}
 use Rattle.yl_lexeme.specs.Lexeme.{is_opening, is_closing, is_property, is_anchor, is_leaf}
 use Rattle.yl_lexeme.specs.Keys.{Spot, from_partner, from_properties, unit_from, or_from, are_both, start_of, key_start}
-use Rattle.yl_lexeme.specs.Kept.{Kept, popped, first, joined, content_start, property_start, kept_behind, kept_of}
+use Rattle.yl_lexeme.specs.Kept.{KeyUnitValue, all_but_first, first_of, flattened_option, content_start, property_start, key_unit_behind, key_unit_of}
 
 -- without so many
 abbrev pub without : {A : Type 0} → ℕ → List A → List A
@@ -13,7 +13,7 @@ without zero xs = xs
 without (suc n) [] = []
 without (suc n) (x ∷ xs) = without n xs
 
-pub without-popped : {A : Type 0} (n : ℕ) (xs : List A) → without n (popped xs) ≡ without (suc n) xs
+pub without-popped : {A : Type 0} (n : ℕ) (xs : List A) → without n (all_but_first xs) ≡ without (suc n) xs
 without-popped zero [] = refl
 without-popped (suc n) [] = refl
 without-popped n (x ∷ xs) = refl
@@ -78,26 +78,26 @@ content_same x (y ∷ z ∷ zs) = by_case (is_property y.kind) (is_closing y.kin
     by_case true c l false h = let e = h refl in rw (e.0, e.1)
 
 -- what is kept of a line's lexemes: the unit, a last property, and the brackets' units
-record Keeps (T : Type 0) (k : Kept T) (here : List (Spot T)) : Type 0 where
+record Keeps (T : Type 0) (k : KeyUnitValue T) (here : List (Spot T)) : Type 0 where
   unit : k.unit ≡ key_start here
   property : k.property ≡ property_of here
-  partner : (n : ℕ) → whole_start (from_partner (suc n) here) ≡ joined (first (without n k.outer))
+  partner : (n : ℕ) → whole_start (from_partner (suc n) here) ≡ flattened_option (first_of (without n k.outer))
 
 unit_alone : {T : Type 0} (xs : List (Spot T)) → start_of (unit_from xs []) ≡ whole_start xs
 unit_alone [] = refl
 unit_alone (x ∷ xs) = refl
 
-module _ (T : Type 0) (k : Kept T) (x : Spot T) (here : List (Spot T)) (ih : Keeps T k here) where
+module _ (T : Type 0) (k : KeyUnitValue T) (x : Spot T) (here : List (Spot T)) (ih : Keeps T k here) where
   starts : content_start x.start k.unit k.property ≡ whole_start (x ∷ here)
   starts = rw (ih.unit, ih.property) (sym (content_same x here))
 
-  unit_kept : (kept_behind x.kind x.start k).unit ≡ key_start (x ∷ here)
+  unit_kept : (key_unit_behind x.kind x.start k).unit ≡ key_start (x ∷ here)
   unit_kept = by_case (is_closing x.kind) (is_leaf x.kind) (is_property x.kind) (property_alone x.kind) (no_properties x here) (properties_same x here) starts ih.property (ih.partner 0)
     where
       by_case : (c l p : Bool) → (p ≡ true → (c ≡ false) × (l ≡ false)) → (p ≡ false → from_properties (x ∷ here) ≡ [])
           → (p ≡ true → start_of (from_properties (x ∷ here)) ≡ property_start (is_anchor x.kind) x.start (property_of here))
-          → content_start x.start k.unit k.property ≡ whole_start (x ∷ here) → k.property ≡ property_of here → whole_start (from_partner 1 here) ≡ joined (first k.outer) →
-          cond c (joined (first k.outer)) (cond l (content_start x.start k.unit k.property) (cond p (property_start (is_anchor x.kind) x.start k.property) None))
+          → content_start x.start k.unit k.property ≡ whole_start (x ∷ here) → k.property ≡ property_of here → whole_start (from_partner 1 here) ≡ flattened_option (first_of k.outer) →
+          cond c (flattened_option (first_of k.outer)) (cond l (content_start x.start k.unit k.property) (cond p (property_start (is_anchor x.kind) x.start k.property) None))
           ≡ start_of (unit_from (cond c (from_partner 1 here) (cond l (x ∷ here) [])) (from_properties (x ∷ here)))
       by_case true l true alone none some s pr pa = let e = alone refl in cc
       by_case true l false alone none some s pr pa = rw (none refl) (sym (unit_alone (from_partner 1 here) ∙ pa))
@@ -105,22 +105,22 @@ module _ (T : Type 0) (k : Kept T) (x : Spot T) (here : List (Spot T)) (ih : Kee
       by_case false false true alone none some s pr pa = rw pr (sym (some refl))
       by_case false false false alone none some s pr pa = sym (ap start_of (none refl))
 
-  partner_kept : (n : ℕ) → whole_start (from_partner (suc n) (x ∷ here)) ≡ joined (first (without n (kept_behind x.kind x.start k).outer))
+  partner_kept : (n : ℕ) → whole_start (from_partner (suc n) (x ∷ here)) ≡ flattened_option (first_of (without n (key_unit_behind x.kind x.start k).outer))
   partner_kept n = by_case (is_closing x.kind) (is_opening x.kind) n starts ih.partner
     where
-      by_case : (c o : Bool) (n : ℕ) → content_start x.start k.unit k.property ≡ whole_start (x ∷ here) → ((n : ℕ) → whole_start (from_partner (suc n) here) ≡ joined (first (without n k.outer))) →
+      by_case : (c o : Bool) (n : ℕ) → content_start x.start k.unit k.property ≡ whole_start (x ∷ here) → ((n : ℕ) → whole_start (from_partner (suc n) here) ≡ flattened_option (first_of (without n k.outer))) →
           whole_start (cond c (from_partner (suc n + 1) here) (cond o (cond (eqb (suc n) 1) (x ∷ here) (from_partner (suc n - 1) here)) (from_partner (suc n) here)))
-          ≡ joined (first (without n (cond c (popped k.outer) (cond o (content_start x.start k.unit k.property ∷ k.outer) k.outer))))
+          ≡ flattened_option (first_of (without n (cond c (all_but_first k.outer) (cond o (content_start x.start k.unit k.property ∷ k.outer) k.outer))))
       by_case true o n s pa = rw (add-one, without-popped) (pa (suc n))
       by_case false true zero s pa = sym s
       by_case false true (suc n) s pa = rw (eqb-suc-suc, eqb-suc-zero, sub-one) (pa n)
       by_case false false n s pa = pa n
 
-keeps_all : {T : Type 0} (here : List (Spot T)) → Keeps T (kept_of here) here
-keeps_all [] = record { unit = refl; property = refl; partner = λ n. sym (ap (λ xs. joined (first xs)) (without-none n)) }
+keeps_all : {T : Type 0} (here : List (Spot T)) → Keeps T (key_unit_of here) here
+keeps_all [] = record { unit = refl; property = refl; partner = λ n. sym (ap (λ xs. flattened_option (first_of xs)) (without-none n)) }
 keeps_all {T = T} (x ∷ here) =
     let ih = keeps_all here in
-    record { unit = unit_kept T (kept_of here) x here ih; property = refl; partner = partner_kept T (kept_of here) x here ih }
+    record { unit = unit_kept T (key_unit_of here) x here ih; property = refl; partner = partner_kept T (key_unit_of here) x here ih }
 
-pub keeps : {T : Type 0} (here : List (Spot T)) → (kept_of here).unit ≡ key_start here
+pub keeps : {T : Type 0} (here : List (Spot T)) → (key_unit_of here).unit ≡ key_start here
 keeps here = (keeps_all here).unit

@@ -1,4 +1,5 @@
--- What is kept of the lexemes of a line that have been read: the unit that may become a key.
+-- Bridge: what is kept of the lexemes of a line that have been read: the unit that may become a
+-- key.
 use Rattle.std.specs.Prelude.{Bool, not, if◌then◌else◌, List, [], ◌∷◌, Option, Some, None}
 use Rattle.yl_lexeme.specs.declared.lexeme.Kind.{Kind}
 use Rattle.yl_lexeme.specs.declared.unit.Property.{Property}
@@ -8,30 +9,30 @@ use Rattle.yl_lexeme.specs.Keys.{Spot}
 -- unit: where the unit that the latest lexemes make begins, if a key may begin there. outer: the same for each open bracket of the
 -- line, the innermost first. property: of a latest lexeme that is a property, whether it is an anchor, and its place, if a key may
 -- begin there
-pub record Kept (T : Type 0) : Type 0 where
+pub record KeyUnitValue (T : Type 0) : Type 0 where
   pub unit : Option T
   pub outer : List (Option T)
   pub property : Option (Bool × Option T)
 
 -- at the start of a line
-abbrev pub nothing_kept : {T : Type 0} → Kept T
-nothing_kept = record { unit = None; outer = []; property = None }
+abbrev pub no_key_unit : {T : Type 0} → KeyUnitValue T
+no_key_unit = record { unit = None; outer = []; property = None }
 
 abbrev pub property_pair : {T : Type 0} → Option (Property T) → Option (Bool × Option T)
 property_pair None = None
 property_pair (Some p) = Some (p.is_anchor, p.start)
 
-abbrev pub popped : {A : Type 0} → List A → List A
-popped [] = []
-popped (x ∷ xs) = xs
+abbrev pub all_but_first : {A : Type 0} → List A → List A
+all_but_first [] = []
+all_but_first (x ∷ xs) = xs
 
-abbrev pub first : {A : Type 0} → List A → Option A
-first [] = None
-first (x ∷ xs) = Some x
+abbrev pub first_of : {A : Type 0} → List A → Option A
+first_of [] = None
+first_of (x ∷ xs) = Some x
 
-abbrev pub joined : {A : Type 0} → Option (Option A) → Option A
-joined None = None
-joined (Some x) = x
+abbrev pub flattened_option : {A : Type 0} → Option (Option A) → Option A
+flattened_option None = None
+flattened_option (Some x) = x
 
 -- where the unit begins that this content ends
 abbrev pub content_start : {T : Type 0} → Option T → Option T → Option (Bool × Option T) → Option T
@@ -52,20 +53,20 @@ unit_behind kind own unit property closing =
     else None
 
 abbrev pub outer_behind : {T : Type 0} → Kind → Option T → List (Option T) → List (Option T)
-outer_behind kind start outer = if is_closing kind then popped outer else if is_opening kind then start ∷ outer else outer
+outer_behind kind start outer = if is_closing kind then all_but_first outer else if is_opening kind then start ∷ outer else outer
 
 abbrev pub property_behind : {T : Type 0} → Kind → Option T → Option (Bool × Option T)
 property_behind kind own = if is_property kind then Some (is_anchor kind, own) else None
 
 -- behind one more lexeme
-abbrev pub kept_behind : {T : Type 0} → Kind → Option T → Kept T → Kept T
-kept_behind kind own k = record {
-  unit = unit_behind kind own k.unit k.property (joined (first k.outer));
+abbrev pub key_unit_behind : {T : Type 0} → Kind → Option T → KeyUnitValue T → KeyUnitValue T
+key_unit_behind kind own k = record {
+  unit = unit_behind kind own k.unit k.property (flattened_option (first_of k.outer));
   outer = outer_behind kind (content_start own k.unit k.property) k.outer;
   property = property_behind kind own;
 }
 
 -- behind the lexemes of a line
-abbrev pub kept_of : {T : Type 0} → List (Spot T) → Kept T
-kept_of [] = nothing_kept
-kept_of (x ∷ xs) = kept_behind x.kind x.start (kept_of xs)
+abbrev pub key_unit_of : {T : Type 0} → List (Spot T) → KeyUnitValue T
+key_unit_of [] = no_key_unit
+key_unit_of (x ∷ xs) = key_unit_behind x.kind x.start (key_unit_of xs)

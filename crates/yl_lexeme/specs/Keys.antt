@@ -1,5 +1,5 @@
--- The latest lexemes of a line that are one unit, which may be a key: YAML 1.2.2, 7.4.2 and 8.2.2. They are listed with the latest
--- first.
+-- Meaning: the latest lexemes of a line that are one unit, which may be a key: YAML 1.2.2, 7.4.2
+-- and 8.2.2. They are listed with the latest first.
 use Rattle.std.specs.Prelude.{ℕ, Bool, not, ◌&&◌, ◌==◌, if◌then◌else◌, List, [], ◌∷◌, ◌+◌, ◌-◌, Option, None}
 use Rattle.yl_lexeme.specs.declared.lexeme.Kind.{Kind}
 use Rattle.yl_lexeme.specs.Lexeme.{is_opening, is_closing, is_property, is_anchor, is_leaf}

@@ -1,15 +1,16 @@
--- What a scanner keeps of the lexemes that it has read: stacks, and within a row the unit that may become a key.
+-- Bridge: what a scanner keeps of the lexemes that it has read: stacks, and within a row the unit
+-- that may become a key.
 use Rattle.std.specs.Prelude.{ℕ, Bool, false, not, ◌&&◌, if◌then◌else◌, List, [], ◌∷◌, Option, Some, None}
 use Rattle.yl_lexeme.specs.declared.lexeme.Kind.{Kind}
 use Rattle.yl_lexeme.specs.Lexeme.{is_document_marker, is_opening, is_closing}
-use Rattle.yl_lexeme.specs.Kept.{Kept, popped, kept_behind}
-use Rattle.yl_lexeme.specs.Past.{Past, Around, spot, open_brackets, levels, last_kind, is_flow, opens_item, is_asking, cut, levels_with}
+use Rattle.yl_lexeme.specs.Kept.{KeyUnitValue, all_but_first, key_unit_behind}
+use Rattle.yl_lexeme.specs.Past.{PastLexeme, Context, spot, open_brackets, levels, last_kind, is_flow, opens_item, is_asking, cut, levels_with}
 
 -- levels: one more than each column, the greatest first. brackets: the open ones, the innermost first. asks: the latest lexeme is
 -- an Entry, a Key or a Value without key. unit: where the unit that the latest lexemes make begins, if a key may begin there.
 -- outer: the same for each bracket of this row that is open, the innermost first. property: of a latest lexeme that is a property,
 -- whether it is an anchor, and its column, if a key may begin there
-pub record Known : Type 0 where
+pub record SurroundingsValue : Type 0 where
   pub levels : List ℕ
   pub brackets : List Kind
   pub last : Option Kind
@@ -18,8 +19,8 @@ pub record Known : Type 0 where
   pub outer : List (Option ℕ)
   pub property : Option (Bool × Option ℕ)
 
-abbrev pub around : Known → Around
-around k = record {
+abbrev pub context_of : SurroundingsValue → Context
+context_of k = record {
   levels = k.levels;
   brackets = k.brackets;
   last = k.last;
@@ -28,16 +29,16 @@ around k = record {
 }
 
 -- at the start of a row
-abbrev pub row_start : List ℕ → List Kind → Option Kind → Known
+abbrev pub row_start : List ℕ → List Kind → Option Kind → SurroundingsValue
 row_start levels brackets last =
     record { levels = levels; brackets = brackets; last = last; asks = false; unit = None; outer = []; property = None }
 
-abbrev pub new_row : Known → Known
+abbrev pub new_row : SurroundingsValue → SurroundingsValue
 new_row k = row_start k.levels k.brackets k.last
 
 -- at a place, which removes the columns that are greater if it is first in its row, out of brackets
-abbrev pub reach : Bool → ℕ → Known → Known
-reach first column k = record {
+abbrev pub surroundings_at : Bool → ℕ → SurroundingsValue → SurroundingsValue
+surroundings_at first column k = record {
   levels = cut (first && not (is_flow k.brackets)) column k.levels;
   brackets = k.brackets;
   last = k.last;
@@ -48,41 +49,41 @@ reach first column k = record {
 }
 
 -- before any lexeme
-abbrev pub nothing_known : Known
-nothing_known = row_start [] [] None
+abbrev pub no_surroundings : SurroundingsValue
+no_surroundings = row_start [] [] None
 
 -- ---- behind one more lexeme
 
 -- its own column, if a key may begin at it
-abbrev pub own : Past → Option ℕ
-own x = (spot x).start
+abbrev pub own_column : PastLexeme → Option ℕ
+own_column x = (spot x).start
 
 abbrev pub brackets_with : Kind → List Kind → List Kind
 brackets_with kind brackets =
-    if is_document_marker kind then [] else if is_closing kind then popped brackets else if is_opening kind then kind ∷ brackets else brackets
+    if is_document_marker kind then [] else if is_closing kind then all_but_first brackets else if is_opening kind then kind ∷ brackets else brackets
 
 -- what is kept of the row's unit
-abbrev pub row_kept : Known → Kept ℕ
-row_kept k = record { unit = k.unit; outer = k.outer; property = k.property }
+abbrev pub row_unit : SurroundingsValue → KeyUnitValue ℕ
+row_unit k = record { unit = k.unit; outer = k.outer; property = k.property }
 
-abbrev pub unit_with : Past → Known → Option ℕ
-unit_with x k = (kept_behind x.kind (own x) (row_kept k)).unit
+abbrev pub unit_with : PastLexeme → SurroundingsValue → Option ℕ
+unit_with x k = (key_unit_behind x.kind (own_column x) (row_unit k)).unit
 
-abbrev pub outer_with : Past → Known → List (Option ℕ)
-outer_with x k = (kept_behind x.kind (own x) (row_kept k)).outer
+abbrev pub outer_with : PastLexeme → SurroundingsValue → List (Option ℕ)
+outer_with x k = (key_unit_behind x.kind (own_column x) (row_unit k)).outer
 
-abbrev pub pass : Past → Known → Known
-pass x k = record {
+abbrev pub surroundings_behind : PastLexeme → SurroundingsValue → SurroundingsValue
+surroundings_behind x k = record {
   levels = levels_with x k.levels;
   brackets = brackets_with x.kind k.brackets;
   last = Some x.kind;
   asks = is_asking x;
   unit = unit_with x k;
   outer = outer_with x k;
-  property = (kept_behind x.kind (own x) (row_kept k)).property;
+  property = (key_unit_behind x.kind (own_column x) (row_unit k)).property;
 }
 
 -- what is kept behind the lexemes of a row, and those before
-abbrev pub known_of : List Past → List Past → Known
-known_of [] older = row_start (levels older) (open_brackets 0 older) (last_kind older)
-known_of (x ∷ here) older = pass x (known_of here older)
+abbrev pub surroundings_of : List PastLexeme → List PastLexeme → SurroundingsValue
+surroundings_of [] older = row_start (levels older) (open_brackets 0 older) (last_kind older)
+surroundings_of (x ∷ here) older = surroundings_behind x (surroundings_of here older)

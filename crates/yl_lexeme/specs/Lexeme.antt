@@ -1,5 +1,5 @@
--- What clauses see of lexemes and comments.
-use Rattle.std.specs.Prelude.{ℕ, Bool, true, false, List}
+-- Meaning: what clauses see of lexemes and comments.
+use Rattle.std.specs.Prelude.{ℕ, Bool, true, false, List, Option}
 use Rattle.yl_text.specs.declared.position.Pos.{Pos}
 use Rattle.yl_lexeme.specs.declared.lexeme.Style.{Style}
 use Rattle.yl_lexeme.specs.declared.lexeme.Style.TheVariants.{Single, Double}
@@ -17,6 +17,15 @@ pub record LexemeValue : Type 0 where
 pub record CommentValue : Type 0 where
   pub column : ℕ
   pub text : List ℕ
+
+-- a comment at a place in a text, both numbers from 0; and where in its line the lexeme before it
+-- ends, if one does
+pub record PlacedCommentValue : Type 0 where
+  pub line : ℕ
+  pub column : ℕ
+  -- from its `#` to before the break, in UTF-8
+  pub text : List ℕ
+  pub behind : Option ℕ
 
 abbrev pub is_document_marker : Kind → Bool
 is_document_marker DocStart = true

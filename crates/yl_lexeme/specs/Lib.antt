@@ -1,7 +1,11 @@
+pub mod Blocks
+pub mod Columns
+pub mod Directives
 pub mod Kept
 pub mod Keys
 pub mod Known
 pub mod Laws
 pub mod Lexeme
 pub mod Past
+pub mod PlacedComments
 pub mod Surroundings

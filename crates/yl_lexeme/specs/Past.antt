@@ -1,5 +1,5 @@
--- What the earlier lexemes say of a place: YAML 1.2.2, chapters 6 to 8. They are listed with the latest first: here, those that
--- begin in this line, and older, those before.
+-- Meaning: what the earlier lexemes say of a place: YAML 1.2.2, chapters 6 to 8. They are listed
+-- with the latest first: here, those that begin in this line, and older, those before.
 use Rattle.std.specs.Prelude.{ℕ, Bool, true, false, not, ◌&&◌, ◌||◌, ◌==◌, nat_lt, nat_le, if◌then◌else◌, List, [], ◌∷◌, ◌++◌, map, ◌+◌, ◌-◌, Option, Some, None, is_some}
 use Rattle.yl_lexeme.specs.declared.lexeme.Kind.{Kind}
 use Rattle.yl_lexeme.specs.Lexeme.{is_document_marker, is_opening, is_closing, is_entry, is_key, is_value, is_comma}
@@ -7,7 +7,7 @@ use Rattle.yl_lexeme.specs.Keys.{Spot, key_start}
 
 -- first: nothing but white space stands before it in its line. flow: it stands in brackets. begins: a key may begin at it.
 -- key: of a Value, the column of its key's first lexeme, if it has a key
-pub record Past : Type 0 where
+pub record PastLexeme : Type 0 where
   pub kind : Kind
   pub column : ℕ
   pub first : Bool
@@ -18,7 +18,7 @@ pub record Past : Type 0 where
 -- ---- brackets (flow collections: 7.4)
 
 -- the open brackets, the innermost first; skip counts closing brackets that are still to meet their partners
-abbrev pub open_brackets : ℕ → List Past → List Kind
+abbrev pub open_brackets : ℕ → List PastLexeme → List Kind
 open_brackets skip [] = []
 open_brackets skip (x ∷ xs) =
     if is_document_marker x.kind then []
@@ -29,7 +29,7 @@ open_brackets skip (x ∷ xs) =
 -- ---- keys (implicit keys: 7.4.2, 8.2.2)
 
 -- a lexeme with its column, if a key may begin at it
-abbrev pub spot : Past → Spot ℕ
+abbrev pub spot : PastLexeme → Spot ℕ
 spot x = record { kind = x.kind; start = if x.begins then Some x.column else None }
 
 -- no more than 1024 characters before this column
@@ -49,10 +49,10 @@ opens_item (Some k) = is_opening k || is_comma k
 abbrev pub asks_behind : Kind → Option ℕ → Bool
 asks_behind kind key = is_entry kind || is_key kind || (is_value kind && not (is_some key))
 
-abbrev pub is_asking : Past → Bool
+abbrev pub is_asking : PastLexeme → Bool
 is_asking x = asks_behind x.kind x.key
 
-abbrev pub asks_for_node : List Past → Bool
+abbrev pub asks_for_node : List PastLexeme → Bool
 asks_for_node [] = false
 asks_for_node (x ∷ xs) = is_asking x
 
@@ -88,21 +88,21 @@ levels_behind kind flow first column key levels =
     else if is_value kind then with_column (or_own column key) (cut first column levels)
     else cut first column levels
 
-abbrev pub levels_with : Past → List ℕ → List ℕ
+abbrev pub levels_with : PastLexeme → List ℕ → List ℕ
 levels_with x levels = levels_behind x.kind x.flow x.first x.column x.key levels
 
-abbrev pub levels : List Past → List ℕ
+abbrev pub levels : List PastLexeme → List ℕ
 levels [] = []
 levels (x ∷ xs) = levels_with x (levels xs)
 
 -- ---- all of it
 
-abbrev pub last_kind : List Past → Option Kind
+abbrev pub last_kind : List PastLexeme → Option Kind
 last_kind [] = None
 last_kind (x ∷ xs) = Some x.kind
 
 -- what surrounds a place
-pub record Around : Type 0 where
+pub record Context : Type 0 where
   pub levels : List ℕ
   pub brackets : List Kind
   pub last : Option Kind
@@ -115,11 +115,11 @@ abbrev pub is_flow : List Kind → Bool
 is_flow [] = false
 is_flow (k ∷ ks) = true
 
-abbrev pub in_flow : Around → Bool
+abbrev pub in_flow : Context → Bool
 in_flow a = is_flow a.brackets
 
-abbrev pub look : List Past → List Past → Around
-look here older =
+abbrev pub context_from : List PastLexeme → List PastLexeme → Context
+context_from here older =
     let brackets = open_brackets 0 (here ++ older) in
     record {
       levels = levels (here ++ older);
@@ -129,11 +129,11 @@ look here older =
       start = key_start (map spot here);
     }
 
-abbrev pub may_begin : Bool → Around → Bool
+abbrev pub may_begin : Bool → Context → Bool
 may_begin first a = if in_flow a then a.behind else first || a.behind
 
 -- at a place, which removes the columns that are greater if it is first in its row, out of brackets
-abbrev pub at_place : Bool → ℕ → Around → Around
+abbrev pub at_place : Bool → ℕ → Context → Context
 at_place first column a = record {
   levels = cut (first && not (is_flow a.brackets)) column a.levels;
   brackets = a.brackets;
@@ -143,6 +143,6 @@ at_place first column a = record {
 }
 
 -- what is remembered of a lexeme at a column
-abbrev pub past_of : ℕ → Bool → Around → Kind → Past
-past_of at first a kind =
+abbrev pub past_lexeme : ℕ → Bool → Context → Kind → PastLexeme
+past_lexeme at first a kind =
     record { kind = kind; column = at; first = first; flow = in_flow a; begins = may_begin first a; key = near at a.start }

@@ -1,9 +1,9 @@
--- What the scanner's surroundings keep.
+-- Bridge: what the scanner's surroundings keep.
 use Rattle.yl_lexeme.specs.declared.surroundings.Surroundings.{Surroundings}
-use Rattle.yl_lexeme.specs.Known.{Known}
+use Rattle.yl_lexeme.specs.Known.{SurroundingsValue}
 
-abbrev pub known : {A : Type 0} → Surroundings A → Known
-known s = record {
+abbrev pub surroundings_value : {A : Type 0} → Surroundings A → SurroundingsValue
+surroundings_value s = record {
   levels = s.levels;
   brackets = s.brackets;
   last = s.last;

@@ -201,12 +201,12 @@ impl<A: Allocator> Comment<A> {
 
 /// A lexeme at a line of the text, counted from 0.
 #[derive(Clone, Copy)]
-pub struct At<'a, A: Allocator> {
+pub struct LexemeAtLine<'a, A: Allocator> {
     pub line: u32,
     pub lexeme: &'a Lexeme<A>,
 }
 
-impl<'a, A: Allocator> At<'a, A> {
+impl<'a, A: Allocator> LexemeAtLine<'a, A> {
     ghost use Rattle.std.specs.Prelude.{◌≡◌};
 
     /// Where it begins in the text.

@@ -7,19 +7,23 @@
 
 ghost use Rattle.yl_lexeme.specs.Laws.{KeptSuffices, UnitSuffices};
 
-mod brackets;
-mod levels;
+mod blocks;
+mod columns;
 mod lexeme;
 mod meter;
+mod placed;
+mod short_stack;
 mod stack;
 mod surroundings;
 mod unit;
 
-pub use brackets::Brackets;
-pub use levels::Levels;
-pub use lexeme::{At, Comment, Kind, Lexeme, Style};
+pub use blocks::Items;
+pub use columns::columns_are_open;
+pub use lexeme::{Comment, Kind, Lexeme, LexemeAtLine, Style};
 pub use meter::Meter;
-pub use surroundings::{Surroundings, is_near, near};
+pub use placed::PlacedComment;
+pub use short_stack::{KeptStack, ShortStack};
+pub use surroundings::{BracketStack, ColumnStack, Surroundings, is_near, near};
 pub use unit::KeyUnit;
 
 /// A law: what `Surroundings` keep of the lexemes before a place is what looking back over them finds.

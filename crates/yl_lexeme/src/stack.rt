@@ -1,7 +1,7 @@
 //! Stacks.
 
 ghost use Rattle.std.specs.Prelude.{◌≡◌, [], ◌∷◌, IfOk};
-ghost use Rattle.yl_lexeme.specs.Kept.{popped, first};
+ghost use Rattle.yl_lexeme.specs.Kept.{all_but_first, first_of};
 
 use std::alloc::{AllocError, Allocator};
 use std::marker::Model;
@@ -38,8 +38,8 @@ impl<T: Copy, A: Allocator + Copy> Stack<T, A> {
 
     /// Takes the top item off, if there is one.
     pub fn pop(&mut self) -> Option<T>
-        ensures top { result ≡ first self.old }
-        ensures rest { self.new ≡ popped self.old }
+        ensures top { result ≡ first_of self.old }
+        ensures rest { self.new ≡ all_but_first self.old }
     {
         self.items.pop()
     }

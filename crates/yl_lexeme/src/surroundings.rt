@@ -3,23 +3,29 @@
 ghost use Rattle.std.specs.Prelude.{◌≡◌, ◌≤◌, ◌<◌, ◌+◌, ◌^◌, [], IfOk, None};
 ghost use Rattle.std.specs.Option.{ForSome};
 ghost use Rattle.yl_lexeme.specs.Past.{up_to, with_column, is_near, near, level, in_flow, may_begin, levels_behind, asks_behind};
-ghost use Rattle.yl_lexeme.specs.Known.{around, new_row, reach, pass, row_start, brackets_with};
-ghost use Rattle.yl_lexeme.specs.Past.{past_of};
-ghost use Rattle.yl_lexeme.specs.Surroundings.{known};
+ghost use Rattle.yl_lexeme.specs.Known.{context_of, new_row, surroundings_at, surroundings_behind, row_start, brackets_with};
+ghost use Rattle.yl_lexeme.specs.Past.{past_lexeme};
+ghost use Rattle.yl_lexeme.specs.Surroundings.{surroundings_value};
 
-use crate::brackets::Brackets;
-use crate::levels::Levels;
 use crate::lexeme::Kind;
+use crate::short_stack::{KeptStack, ShortStack};
 use crate::unit::KeyUnit;
+use smallvec::SmallVec;
 use std::alloc::{AllocError, Allocator};
+
+/// One more than each column of an open block collection, the innermost on top.
+pub type ColumnStack<'a, A> = ShortStack<'a, u32, A>;
+
+/// The open brackets, the innermost on top.
+pub type BracketStack<'a, A> = ShortStack<'a, Kind, A>;
 
 /// What the earlier lexemes say of a place.
 #[derive(Drop)]
 pub struct Surroundings<'a, A: Allocator + Copy> {
     /// One more than each column of an open block collection.
-    pub levels: Levels<'a, A>,
+    pub levels: ColumnStack<'a, A>,
     /// The open brackets.
-    pub brackets: Brackets<'a, A>,
+    pub brackets: BracketStack<'a, A>,
     /// The kind of the last lexeme.
     pub last: Option<Kind>,
     /// The last lexeme of the row is an entry, a key, or a value without key.
@@ -47,20 +53,24 @@ pub fn near(column: usize, start: Option<usize>) -> Option<usize>
 }
 
 /// Drops the columns greater than this one.
-fn cut<A: Allocator + Copy>(levels: &mut Levels<'_, A>, column: usize)
+fn cut<A: Allocator + Copy>(
+    levels: &mut ColumnStack<'_, A>,
+    column: usize,
+) -> Result<(), AllocError>
     requires { column < 2 ^ 31 }
-    ensures { levels.new ≡ up_to column levels.old }
+    ensures { IfOk result (λ _. levels.new ≡ up_to column levels.old) }
 {
     while let Some(top) = levels.top()
         && top as usize > column + 1
     {
-        levels.pop();
+        levels.pop()?;
     }
+    Ok(())
 }
 
 /// Adds a column, if it is greater than all.
 fn add_column<A: Allocator + Copy>(
-    levels: &mut Levels<'_, A>,
+    levels: &mut ColumnStack<'_, A>,
     column: usize,
 ) -> Result<(), AllocError>
     requires { column < 2 ^ 31 }
@@ -76,34 +86,50 @@ fn add_column<A: Allocator + Copy>(
 impl<'a, A: Allocator + Copy> Surroundings<'a, A> {
     /// Nothing has been read.
     pub fn new(alloc: &'a A) -> Surroundings<'a, A>
-        ensures { known result ≡ row_start [] [] None }
+        ensures { surroundings_value result ≡ row_start [] [] None }
     {
         Surroundings {
-            levels: Levels::new(alloc),
-            brackets: Brackets::new(alloc),
+            levels: ShortStack::on(SmallVec::new(alloc)),
+            brackets: ShortStack::on(SmallVec::new(alloc)),
             last: None,
             asks: false,
             unit: KeyUnit::new(*alloc),
         }
     }
 
+    /// At the start of a row, with these columns, each one more, and brackets, and this last kind.
+    pub fn at_row_start(
+        alloc: &'a A,
+        levels: &KeptStack<u32, A>,
+        brackets: &KeptStack<Kind, A>,
+        last: Option<Kind>,
+    ) -> Result<Surroundings<'a, A>, AllocError>
+        ensures { IfOk result (λ r. surroundings_value r ≡ row_start levels.now brackets.now last) }
+    {
+        let mut surroundings = Surroundings::new(alloc);
+        surroundings.levels.resume(levels)?;
+        surroundings.brackets.resume(brackets)?;
+        surroundings.last = last;
+        Ok(surroundings)
+    }
+
     /// Forgets what counts within a row alone.
     pub fn new_row(&mut self)
-        ensures { known self.new ≡ new_row (known self.old) }
+        ensures { surroundings_value self.new ≡ new_row (surroundings_value self.old) }
     {
         self.asks = false;
         self.unit.new_line();
     }
 
     pub fn in_flow(&self) -> bool
-        ensures { result ≡ in_flow (around (known self.now)) }
+        ensures { result ≡ in_flow (context_of (surroundings_value self.now)) }
     {
         self.brackets.top().is_some()
     }
 
     /// Whether a key may begin at a place, which is first in its row or not.
     pub fn may_begin(&self, first: bool) -> bool
-        ensures { result ≡ may_begin first (around (known self.now)) }
+        ensures { result ≡ may_begin first (context_of (surroundings_value self.now)) }
     {
         if self.in_flow() {
             self.last.is_some_and(Kind::opens_item)
@@ -114,27 +140,28 @@ impl<'a, A: Allocator + Copy> Surroundings<'a, A> {
 
     /// One more than the column of the innermost block collection, or 0.
     pub fn level(&self) -> usize
-        ensures level { result ≡ level (around (known self.now)).levels }
+        ensures level { result ≡ level (context_of (surroundings_value self.now)).levels }
         ensures bound { result < 2 ^ 32 }
     {
         self.levels.top().unwrap_or(0) as usize
     }
 
     /// A lexeme begins at this column, first in its row or not.
-    pub fn reach(&mut self, first: bool, at: usize)
+    pub fn reach(&mut self, first: bool, at: usize) -> Result<(), AllocError>
         requires { at < 2 ^ 31 }
-        ensures { known self.new ≡ reach first at (known self.old) }
+        ensures { IfOk result (λ _. surroundings_value self.new ≡ surroundings_at first at (surroundings_value self.old)) }
     {
         if first && !self.in_flow() {
-            cut(&mut self.levels, at);
+            cut(&mut self.levels, at)?;
         }
+        Ok(())
     }
 
     /// One more lexeme has been read, at this column.
     #[inline(always)]
     pub fn pass(&mut self, kind: Kind, first: bool, at: usize) -> Result<(), AllocError>
         requires { at < 2 ^ 31 }
-        ensures { IfOk result (λ _. known self.new ≡ pass (past_of at first (around (known self.old)) kind) (known self.old)) }
+        ensures { IfOk result (λ _. surroundings_value self.new ≡ surroundings_behind (past_lexeme at first (context_of (surroundings_value self.old)) kind) (surroundings_value self.old)) }
     {
         let flow = self.in_flow();
         let own = if self.may_begin(first) {
@@ -165,7 +192,7 @@ fn asks_behind(kind: Kind, at: usize, start: Option<usize>) -> bool
 /// A lexeme at a column, where the unit before it begins at `start`.
 #[inline(always)]
 fn pass_levels<A: Allocator + Copy>(
-    levels: &mut Levels<'_, A>,
+    levels: &mut ColumnStack<'_, A>,
     kind: Kind,
     flow: bool,
     first: bool,
@@ -183,7 +210,7 @@ fn pass_levels<A: Allocator + Copy>(
         return Ok(());
     }
     if first {
-        cut(levels, at);
+        cut(levels, at)?;
     }
     match kind {
         Kind::Entry | Kind::Key => add_column(levels, at),
@@ -194,7 +221,7 @@ fn pass_levels<A: Allocator + Copy>(
 
 #[inline(always)]
 fn pass_brackets<A: Allocator + Copy>(
-    brackets: &mut Brackets<'_, A>,
+    brackets: &mut BracketStack<'_, A>,
     kind: Kind,
 ) -> Result<(), AllocError>
     ensures { IfOk result (λ _. brackets.new ≡ brackets_with kind brackets.old) }
@@ -205,10 +232,7 @@ fn pass_brackets<A: Allocator + Copy>(
             Ok(())
         }
         Kind::SeqOpen | Kind::MapOpen => brackets.push(kind),
-        Kind::SeqClose | Kind::MapClose => {
-            brackets.pop();
-            Ok(())
-        }
+        Kind::SeqClose | Kind::MapClose => brackets.pop(),
         _ => Ok(()),
     }
 }

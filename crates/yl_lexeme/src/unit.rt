@@ -1,7 +1,7 @@
 //! The unit that the latest lexemes of a line make, which may become a key (YAML 1.2.2, 7.4.2 and 8.2.2).
 
 ghost use Rattle.std.specs.Prelude.{◌≡◌, Some, IfOk};
-ghost use Rattle.yl_lexeme.specs.Kept.{nothing_kept, property_pair, content_start, property_start, kept_behind};
+ghost use Rattle.yl_lexeme.specs.Kept.{no_key_unit, property_pair, content_start, property_start, key_unit_behind};
 
 use crate::lexeme::Kind;
 use crate::stack::Stack;
@@ -28,9 +28,9 @@ pub struct KeyUnit<T: Copy, A: Allocator + Copy> {
 }
 
 impl<T: Copy, A: Allocator + Copy> Model for KeyUnit<T, A> {
-    ghost use Rattle.yl_lexeme.specs.Kept.{Kept, property_pair};
+    ghost use Rattle.yl_lexeme.specs.Kept.{KeyUnitValue, property_pair};
 
-    ghost Value = { Kept T };
+    ghost Value = { KeyUnitValue T };
 
     ghost view = { λ u. record { unit = u.unit; outer = u.outer; property = property_pair u.property } };
 }
@@ -38,7 +38,7 @@ impl<T: Copy, A: Allocator + Copy> Model for KeyUnit<T, A> {
 impl<T: Copy, A: Allocator + Copy> KeyUnit<T, A> {
     /// At the start of a line.
     pub fn new(alloc: A) -> KeyUnit<T, A>
-        ensures { result ≡ nothing_kept }
+        ensures { result ≡ no_key_unit }
     {
         KeyUnit {
             unit: None,
@@ -49,7 +49,7 @@ impl<T: Copy, A: Allocator + Copy> KeyUnit<T, A> {
 
     /// A new line begins: what was read says no more of a key.
     pub fn new_line(&mut self)
-        ensures { self.new ≡ nothing_kept }
+        ensures { self.new ≡ no_key_unit }
     {
         self.unit = None;
         self.outer.clear();
@@ -66,7 +66,7 @@ impl<T: Copy, A: Allocator + Copy> KeyUnit<T, A> {
     /// One more lexeme of the line has been read; `own` is its place, if a key may begin at it. The only error is memory.
     #[inline(always)]
     pub fn pass(&mut self, kind: Kind, own: Option<T>) -> Result<(), AllocError>
-        ensures { IfOk result (λ _. self.new ≡ kept_behind kind own self.old) }
+        ensures { IfOk result (λ _. self.new ≡ key_unit_behind kind own self.old) }
     {
         let unit = self.unit.take();
         let property = self.property.take();

@@ -3,3 +3,4 @@ pub mod Within
 pub mod Runs
 pub mod ByLines
 pub mod Closed
+pub mod KeptFacts

@@ -1,58 +1,58 @@
--- The marks of a document, line by line. A key and its Value begin in one line (YAML 1.2.2, 7.4.2 and 8.2.2), so whether a key
--- begins at a lexeme shows in the lexeme's own line.
+-- Bridge: the marks of a document, line by line. A key and its Value begin in one line (YAML 1.2.2,
+-- 7.4.2 and 8.2.2), so whether a key begins at a lexeme shows in the lexeme's own line.
 use Rattle.std.specs.Prelude.{ℕ, suc, ◌≡◌, ◌≤◌, ◌+◌, ◌==◌, if◌then◌else◌, List, [], ◌∷◌, ◌++◌, length, Option, Some, None}
 use Rattle.yl_lexeme.specs.Keys.{Spot, key_start}
 use Rattle.yl_marks.specs.declared.token.Token.{Token}
 use Rattle.yl_marks.specs.declared.symbol.Symbol.{Symbol}
-use Rattle.yl_marks.specs.declared.symbol.Piece.{Piece}
+use Rattle.yl_marks.specs.declared.symbol.KeyedToken.{KeyedToken}
 use Rattle.yl_marks.specs.declared.symbol.KeyStart.{KeyStart}
 use Rattle.yl_marks.specs.declared.symbol.Earlier.{Earlier}
 use Rattle.yl_marks.specs.declared.symbol.OpenBlock.{OpenBlock}
-use Rattle.yl_marks.specs.Keys.{depth_behind, place_of, piece_at}
-use Rattle.yl_marks.specs.Marks.{marks, open_behind_all, all_closed, marked_tokens}
+use Rattle.yl_marks.specs.Keys.{depth_behind, place_of, keyed_token_at}
+use Rattle.yl_marks.specs.Marks.{marks, open_behind_all, closings_of_all, symbols_of_tokens}
 
 -- what counts of the lexemes of earlier lines
-pub record Before : Type 0 where
+pub record MarkerValue : Type 0 where
   pub count : ℕ  -- how many there are
   pub depth : ℕ  -- how many brackets are open behind them
-  pub latest : Option Piece  -- the latest of them
+  pub latest : Option KeyedToken  -- the latest of them
   pub open_ones : List OpenBlock  -- the open block collections, the innermost first
 
-abbrev pub nothing_before : Before
-nothing_before = record { count = 0; depth = 0; latest = None; open_ones = [] }
+abbrev pub marker_at_start : MarkerValue
+marker_at_start = record { count = 0; depth = 0; latest = None; open_ones = [] }
 
 -- lexemes of a line behind so many lexemes, in so many brackets, behind the latest lexeme and behind these of the line, the latest first
-abbrev pub line_pieces : ℕ → ℕ → Option Piece → List (Spot KeyStart) → List Token → List Piece
+abbrev pub line_pieces : ℕ → ℕ → Option KeyedToken → List (Spot KeyStart) → List Token → List KeyedToken
 line_pieces count depth latest line [] = []
 line_pieces count depth latest line (x ∷ xs) =
-    let p = piece_at x depth latest (key_start line) in
+    let p = keyed_token_at x depth latest (key_start line) in
     p ∷ line_pieces (suc count) (depth_behind x.kind depth) (Some p) (record { kind = x.kind; start = place_of count p } ∷ line) xs
 
 abbrev pub depth_behind_all : ℕ → List Token → ℕ
 depth_behind_all depth [] = depth
 depth_behind_all depth (x ∷ xs) = depth_behind_all (depth_behind x.kind depth) xs
 
-abbrev pub latest_of : Option Piece → List Piece → Option Piece
+abbrev pub latest_of : Option KeyedToken → List KeyedToken → Option KeyedToken
 latest_of latest [] = latest
 latest_of latest (p ∷ ps) = latest_of (Some p) ps
 
 -- what counts of earlier lexemes and these behind them
-pub record IsBehind (earlier : Earlier) (xs : List Token) (ps : List Piece) (behind : Earlier) : Type 0 where
+pub record IsBehind (earlier : Earlier) (xs : List Token) (ps : List KeyedToken) (behind : Earlier) : Type 0 where
   pub count : behind.count ≡ earlier.count + length xs
   pub depth : behind.depth ≡ depth_behind_all earlier.depth xs
   pub latest : behind.latest ≡ latest_of earlier.latest ps
   pub most : behind.depth ≤ behind.count
 
 -- a line's lexemes behind those of earlier lines
-abbrev pub pieces_of_line : Before → List Token → List Piece
-pieces_of_line b xs = line_pieces b.count b.depth b.latest [] xs
+abbrev pub keyed_tokens_of_line : MarkerValue → List Token → List KeyedToken
+keyed_tokens_of_line b xs = line_pieces b.count b.depth b.latest [] xs
 
 -- the lexemes of a line with their marks
-abbrev pub marks_of_line : Before → List Token → List Symbol
-marks_of_line b xs = let all = pieces_of_line b xs in marks all b.open_ones b.count all
+abbrev pub marks_of_line : MarkerValue → List Token → List Symbol
+marks_of_line b xs = let all = keyed_tokens_of_line b xs in marks all b.open_ones b.count all
 
-abbrev pub behind_line : Before → List Token → Before
-behind_line b xs = let all = pieces_of_line b xs in record {
+abbrev pub behind_line : MarkerValue → List Token → MarkerValue
+behind_line b xs = let all = keyed_tokens_of_line b xs in record {
   count = b.count + length xs;
   depth = depth_behind_all b.depth xs;
   latest = latest_of b.latest all;
@@ -60,8 +60,8 @@ behind_line b xs = let all = pieces_of_line b xs in record {
 }
 
 -- the lexemes of these lines with their marks, to the document's end
-abbrev pub marks_by_lines : Before → List (List Token) → List Symbol
-marks_by_lines b [] = all_closed b.open_ones
+abbrev pub marks_by_lines : MarkerValue → List (List Token) → List Symbol
+marks_by_lines b [] = closings_of_all b.open_ones
 marks_by_lines b (x ∷ xs) = marks_of_line b x ++ marks_by_lines (behind_line b x) xs
 
 -- one more lexeme before those of these lines
@@ -77,4 +77,4 @@ by_line (x ∷ xs) = before_lines x (by_line xs)
 
 -- the marks of a document are the marks of its lines, one after another
 abbrev pub MarkedByLines : Type 0
-MarkedByLines = (xs : List Token) → marks_by_lines nothing_before (by_line xs) ≡ marked_tokens xs
+MarkedByLines = (xs : List Token) → marks_by_lines marker_at_start (by_line xs) ≡ symbols_of_tokens xs

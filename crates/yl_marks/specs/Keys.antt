@@ -1,17 +1,18 @@
--- Keys, and where they may begin: YAML 1.2.2, 7.4.2 and 8.2.2. Earlier lexemes are listed with the latest first.
+-- Meaning: keys, and where they may begin: YAML 1.2.2, 7.4.2 and 8.2.2. Earlier lexemes are listed
+-- with the latest first.
 use Rattle.std.specs.Prelude.{ℕ, Bool, true, false, ◌&&◌, ◌||◌, ◌==◌, nat_lt, if◌then◌else◌, List, [], ◌∷◌, ◌+◌, ◌-◌, length, Option, Some, None}
 use Rattle.yl_lexeme.specs.declared.lexeme.Kind.{Kind}
 use Rattle.yl_lexeme.specs.Lexeme.{LexemeValue, is_document_marker, is_opening, is_closing, is_value}
 use Rattle.yl_lexeme.specs.Past.{opens_item, asks_behind, is_near}
 use Rattle.yl_lexeme.specs.Keys.{Spot, key_start}
-use Rattle.yl_lexeme.specs.Kept.{first}
+use Rattle.yl_lexeme.specs.Kept.{first_of}
 use Rattle.yl_marks.specs.declared.token.Token.{Token}
-use Rattle.yl_marks.specs.declared.symbol.Piece.{Piece}
+use Rattle.yl_marks.specs.declared.symbol.KeyedToken.{KeyedToken}
 use Rattle.yl_marks.specs.declared.symbol.KeyStart.{KeyStart}
 
 -- a lexeme at a line of the text
-abbrev pub placed : ℕ → LexemeValue → LexemeValue
-placed line x = record { kind = x.kind; start = record { line = line; col = x.start.col }; end = record { line = line + x.end.line; col = x.end.col }; value = x.value }
+abbrev pub lexeme_at_line : ℕ → LexemeValue → LexemeValue
+lexeme_at_line line x = record { kind = x.kind; start = record { line = line; col = x.start.col }; end = record { line = line + x.end.line; col = x.end.col }; value = x.value }
 
 -- a lexeme without its value
 abbrev pub token_of : LexemeValue → Token
@@ -22,36 +23,36 @@ abbrev pub depth_behind : Kind → ℕ → ℕ
 depth_behind kind depth =
     if is_document_marker kind then 0 else if is_opening kind then depth + 1 else if is_closing kind then depth - 1 else depth
 
-abbrev pub depth : List Piece → ℕ
+abbrev pub depth : List KeyedToken → ℕ
 depth [] = 0
 depth (x ∷ xs) = depth_behind x.kind (depth xs)
 
 -- of the latest lexeme: neither it nor an earlier one ends in this line
-abbrev pub is_first : ℕ → Option Piece → Bool
+abbrev pub is_first : ℕ → Option KeyedToken → Bool
 is_first line None = true
 is_first line (Some x) = nat_lt x.end_line line
 
-abbrev pub is_behind_flow : Option Piece → Bool
+abbrev pub is_behind_flow : Option KeyedToken → Bool
 is_behind_flow None = false
 is_behind_flow (Some x) = opens_item (Some x.kind)
 
 -- of the latest lexeme: it is an Entry, a Key, or a Value without key in this line
-abbrev pub is_behind_indicator : ℕ → Option Piece → Bool
+abbrev pub is_behind_indicator : ℕ → Option KeyedToken → Bool
 is_behind_indicator line None = false
 is_behind_indicator line (Some x) = x.start.line == line && asks_behind x.kind x.key
 
 -- a key may begin in this line, in so many brackets, behind the latest lexeme
-abbrev pub may_begin : ℕ → ℕ → Option Piece → Bool
+abbrev pub may_begin : ℕ → ℕ → Option KeyedToken → Bool
 may_begin line depth latest = if nat_lt 0 depth then is_behind_flow latest else is_first line latest || is_behind_indicator line latest
 
 -- the place of a lexeme with so many before it, if a key may begin at it
-abbrev pub place_of : ℕ → Piece → Option KeyStart
+abbrev pub place_of : ℕ → KeyedToken → Option KeyStart
 place_of index x = if x.may_begin then Some (record { index = index; column = x.start.col }) else None
 
 -- the latest lexemes that begin in this line
-abbrev pub here : ℕ → List Piece → List (Spot KeyStart)
-here line [] = []
-here line (x ∷ xs) = if x.start.line == line then record { kind = x.kind; start = place_of (length xs) x } ∷ here line xs else []
+abbrev pub tokens_of_line : ℕ → List KeyedToken → List (Spot KeyStart)
+tokens_of_line line [] = []
+tokens_of_line line (x ∷ xs) = if x.start.line == line then record { kind = x.kind; start = place_of (length xs) x } ∷ tokens_of_line line xs else []
 
 -- of a Value in this column, how many lexemes stand before its key, which begins at most 1024 characters before it
 abbrev pub key_at : ℕ → Option KeyStart → Option ℕ
@@ -59,8 +60,8 @@ key_at column None = None
 key_at column (Some key) = if is_near column key.column then Some key.index else None
 
 -- a lexeme in so many brackets, behind the latest lexeme, where such a key would begin
-abbrev pub piece_at : Token → ℕ → Option Piece → Option KeyStart → Piece
-piece_at x depth latest key = record {
+abbrev pub keyed_token_at : Token → ℕ → Option KeyedToken → Option KeyStart → KeyedToken
+keyed_token_at x depth latest key = record {
   kind = x.kind;
   start = x.start;
   end_line = x.end_line;
@@ -71,10 +72,10 @@ piece_at x depth latest key = record {
 }
 
 -- a Value's key is the unit directly before it, all of it in the Value's line
-abbrev pub piece : Token → List Piece → Piece
-piece x before = piece_at x (depth before) (first before) (key_start (here x.start.line before))
+abbrev pub keyed_token : Token → List KeyedToken → KeyedToken
+keyed_token x before = keyed_token_at x (depth before) (first_of before) (key_start (tokens_of_line x.start.line before))
 
 -- lexemes behind these earlier ones, each with what those say of it
-abbrev pub pieces : List Piece → List Token → List Piece
-pieces before [] = []
-pieces before (x ∷ xs) = piece x before ∷ pieces (piece x before ∷ before) xs
+abbrev pub keyed_tokens : List KeyedToken → List Token → List KeyedToken
+keyed_tokens before [] = []
+keyed_tokens before (x ∷ xs) = keyed_token x before ∷ keyed_tokens (keyed_token x before ∷ before) xs

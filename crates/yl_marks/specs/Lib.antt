@@ -1,3 +1,5 @@
 pub mod Keys
 pub mod Marks
 pub mod ByLine
+pub mod Facts
+pub mod FactsByLine

@@ -1,17 +1,18 @@
--- The marks of a document: where block collections open and close, by the columns of their lexemes (YAML 1.2.2, 8.2).
+-- Meaning: the marks of a document: where block collections open and close, by the columns of their
+-- lexemes (YAML 1.2.2, 8.2).
 use Rattle.std.specs.Prelude.{ℕ, suc, ◌≡◌, ◌<◌, ◌+◌, Bool, true, false, not, ◌&&◌, ◌||◌, ◌==◌, nat_lt, if◌then◌else◌, List, [], ◌∷◌, ◌++◌, map, Option, Some, None, is_some, slice_get, slice_index_or, length}
 use Rattle.std.specs.List.{list_any}
 use Rattle.yl_lexeme.specs.Lexeme.{LexemeValue, is_document_marker, is_entry, is_key, is_value}
 use Rattle.yl_marks.specs.declared.symbol.Symbol.{Symbol}
 use Rattle.yl_marks.specs.declared.symbol.Symbol.TheVariants.{OpenSequence, OpenMapping, BeginKey, Close, One}
-use Rattle.yl_marks.specs.declared.symbol.Piece.{Piece}
+use Rattle.yl_marks.specs.declared.symbol.KeyedToken.{KeyedToken}
 use Rattle.yl_marks.specs.declared.symbol.OpenBlock.{OpenBlock}
 use Rattle.yl_marks.specs.declared.symbol.Marking.{Marking}
 use Rattle.yl_marks.specs.declared.symbol.Collection.TheVariants.{Sequence, Mapping}
 use Rattle.yl_marks.specs.declared.symbol.Marked.{Marked}
 use Rattle.yl_marks.specs.declared.symbol.Marked.TheVariants as is
 use Rattle.yl_marks.specs.declared.token.Token.{Token}
-use Rattle.yl_marks.specs.Keys.{token_of, pieces}
+use Rattle.yl_marks.specs.Keys.{token_of, keyed_tokens}
 
 -- it stands in a mapping of its column
 abbrev pub is_in_mapping : Marking → Bool
@@ -22,20 +23,20 @@ abbrev pub continues : Marking → OpenBlock → Bool
 continues m c = is_entry m.piece.kind || (c.is_mapping && is_in_mapping m)
 
 -- it closes the collection
-abbrev pub closes : Marking → OpenBlock → Bool
-closes m c =
+abbrev pub closes_collection : Marking → OpenBlock → Bool
+closes_collection m c =
     is_document_marker m.piece.kind
     || (m.piece.depth == 0 && m.piece.is_first
     && (nat_lt m.piece.start.col c.column || (c.column == m.piece.start.col && not (continues m c))))
 
 -- the collections that it leaves open, the innermost first, and a Close for each other
-abbrev pub left_open : Marking → List OpenBlock → List OpenBlock
-left_open m [] = []
-left_open m (c ∷ cs) = if closes m c then left_open m cs else c ∷ cs
+abbrev pub collections_left : Marking → List OpenBlock → List OpenBlock
+collections_left m [] = []
+collections_left m (c ∷ cs) = if closes_collection m c then collections_left m cs else c ∷ cs
 
 abbrev pub closings : Marking → List OpenBlock → List Symbol
 closings m [] = []
-closings m (c ∷ cs) = if closes m c then Close ∷ closings m cs else []
+closings m (c ∷ cs) = if closes_collection m c then Close ∷ closings m cs else []
 
 -- the innermost has this column, and is a mapping if that is asked
 abbrev pub is_in : Bool → ℕ → List OpenBlock → Bool
@@ -43,16 +44,16 @@ is_in only_mapping column [] = false
 is_in only_mapping column (c ∷ cs) = c.column == column && (c.is_mapping || not only_mapping)
 
 -- what is opened before it: nothing, or a mapping or a sequence
-abbrev pub opened : Marking → List OpenBlock → Option Bool
-opened m cs =
+abbrev pub collection_to_open : Marking → List OpenBlock → Option Bool
+collection_to_open m cs =
     if nat_lt 0 m.piece.depth || is_document_marker m.piece.kind then None
     else if is_in_mapping m && not (is_in true m.piece.start.col cs) then Some true
     else if is_entry m.piece.kind && not (is_in false m.piece.start.col cs) then Some false
     else None
 
-abbrev pub with_opened : Option Bool → ℕ → List OpenBlock → List OpenBlock
-with_opened None column cs = cs
-with_opened (Some mapping) column cs = record { is_mapping = mapping; column = column } ∷ cs
+abbrev pub with_collection : Option Bool → ℕ → List OpenBlock → List OpenBlock
+with_collection None column cs = cs
+with_collection (Some mapping) column cs = record { is_mapping = mapping; column = column } ∷ cs
 
 abbrev pub opening : Option Bool → ℕ → List Symbol
 opening None i = []
@@ -64,11 +65,11 @@ abbrev pub is_at : ℕ → Option ℕ → Bool
 is_at i None = false
 is_at i (Some k) = k == i
 
-abbrev pub begins_key : ℕ → List Piece → Bool
+abbrev pub begins_key : ℕ → List KeyedToken → Bool
 begins_key i xs = list_any (λ p. is_at i p.key) xs
 
 -- of each lexeme from this index on, whether a key begins there
-pub record AreBegins (begins : List Bool) (first : ℕ) (xs : List Piece) : Type 0 where
+pub record AreBegins (begins : List Bool) (first : ℕ) (xs : List KeyedToken) : Type 0 where
   pub len : length begins ≡ length xs
   pub each : (i : ℕ) → i < length xs → slice_index_or begins i false ≡ begins_key (first + i) xs
 
@@ -76,37 +77,37 @@ abbrev pub key_mark : Bool → ℕ → List Symbol
 key_mark false i = []
 key_mark true i = BeginKey i ∷ []
 
-abbrev pub all_closed : List OpenBlock → List Symbol
-all_closed [] = []
-all_closed (c ∷ cs) = Close ∷ all_closed cs
+abbrev pub closings_of_all : List OpenBlock → List Symbol
+closings_of_all [] = []
+closings_of_all (c ∷ cs) = Close ∷ closings_of_all cs
 
 -- a lexeme of this index with the marks before it, and the collections that are open behind it
 abbrev pub marks_at : Marking → ℕ → List OpenBlock → List Symbol
 marks_at m i open_ones =
-    closings m open_ones ++ opening (opened m (left_open m open_ones)) i ++ key_mark m.begins_key i ++ One m.piece.kind i ∷ []
+    closings m open_ones ++ opening (collection_to_open m (collections_left m open_ones)) i ++ key_mark m.begins_key i ++ One m.piece.kind i ∷ []
 
 abbrev pub open_behind : Marking → List OpenBlock → List OpenBlock
-open_behind m open_ones = let left = left_open m open_ones in with_opened (opened m left) m.piece.start.col left
+open_behind m open_ones = let left = collections_left m open_ones in with_collection (collection_to_open m left) m.piece.start.col left
 
 -- a lexeme of this index, and whether a key of these lexemes begins there
-abbrev pub marking : List Piece → ℕ → Piece → Marking
+abbrev pub marking : List KeyedToken → ℕ → KeyedToken → Marking
 marking all i x = record { piece = x; begins_key = begins_key i all }
 
 -- the lexemes from this index on with their marks, where these collections are open, and those that are open behind them
-abbrev pub marks : List Piece → List OpenBlock → ℕ → List Piece → List Symbol
+abbrev pub marks : List KeyedToken → List OpenBlock → ℕ → List KeyedToken → List Symbol
 marks all open_ones i [] = []
 marks all open_ones i (x ∷ xs) = marks_at (marking all i x) i open_ones ++ marks all (open_behind (marking all i x) open_ones) (suc i) xs
 
-abbrev pub open_behind_all : List Piece → List OpenBlock → ℕ → List Piece → List OpenBlock
+abbrev pub open_behind_all : List KeyedToken → List OpenBlock → ℕ → List KeyedToken → List OpenBlock
 open_behind_all all open_ones i [] = open_ones
 open_behind_all all open_ones i (x ∷ xs) = open_behind_all all (open_behind (marking all i x) open_ones) (suc i) xs
 
 -- a document's lexemes with their marks
-abbrev pub marked_tokens : List Token → List Symbol
-marked_tokens xs = let all = pieces [] xs in marks all [] 0 all ++ all_closed (open_behind_all all [] 0 all)
+abbrev pub symbols_of_tokens : List Token → List Symbol
+symbols_of_tokens xs = let all = keyed_tokens [] xs in marks all [] 0 all ++ closings_of_all (open_behind_all all [] 0 all)
 
-abbrev pub marked : List LexemeValue → List Symbol
-marked xs = marked_tokens (map token_of xs)
+abbrev pub symbols_of_lexemes : List LexemeValue → List Symbol
+symbols_of_lexemes xs = symbols_of_tokens (map token_of xs)
 
 -- ---- as callers see them
 
@@ -128,4 +129,4 @@ as_marked xs begins (Close ∷ ws) = is.Close ∷ as_marked xs begins ws
 as_marked xs begins (One kind i ∷ ws) = is.Lexeme i begins ∷ as_marked xs false ws
 
 abbrev pub marked_lexemes : List LexemeValue → List Marked
-marked_lexemes xs = as_marked (map token_of xs) false (marked xs)
+marked_lexemes xs = as_marked (map token_of xs) false (symbols_of_lexemes xs)

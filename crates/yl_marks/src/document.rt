@@ -1,15 +1,15 @@
 //! The marks of a whole document.
 
 ghost use Rattle.std.specs.Prelude.{◌≡◌, false, map, IfOk};
-ghost use Rattle.yl_marks.specs.Keys.{placed, token_of};
-ghost use Rattle.yl_marks.specs.Marks.{marked_tokens, column_at, as_marked, marked_lexemes};
+ghost use Rattle.yl_marks.specs.Keys.{lexeme_at_line, token_of};
+ghost use Rattle.yl_marks.specs.Marks.{symbols_of_tokens, column_at, as_marked, marked_lexemes};
 
 use crate::lines::line_len;
 use crate::marker::Marker;
 use crate::symbol::{Collection, Marked, Symbol};
 use crate::token::{Token, token_of};
 use std::alloc::{AllocError, Allocator};
-use yl_lexeme::At;
+use yl_lexeme::LexemeAtLine;
 
 fn column_at(tokens: &[Token], i: usize) -> u32
     ensures { result ≡ column_at tokens.now i }
@@ -54,9 +54,9 @@ fn as_marked<A: Allocator>(
 /// The lexemes of a document without their values. The only error is memory.
 pub fn tokens<A: Allocator + Copy>(
     alloc: A,
-    lexemes: &[At<'_, A>],
+    lexemes: &[LexemeAtLine<'_, A>],
 ) -> Result<Vec<Token, A>, AllocError>
-    ensures { IfOk result (λ v. v.items ≡ map token_of (map (λ x. placed x.line x.lexeme.now) lexemes.now)) }
+    ensures { IfOk result (λ v. v.items ≡ map token_of (map (λ x. lexeme_at_line x.line x.lexeme.now) lexemes.now)) }
 {
     let mut tokens = Vec::new(alloc);
     for at in lexemes {
@@ -70,7 +70,7 @@ fn mark_tokens<A: Allocator + Copy>(
     alloc: A,
     tokens: &[Token],
 ) -> Result<Vec<Symbol, A>, AllocError>
-    ensures { IfOk result (λ v. v.items ≡ marked_tokens tokens.now) }
+    ensures { IfOk result (λ v. v.items ≡ symbols_of_tokens tokens.now) }
 {
     let mut marker = Marker::new(alloc);
     let mut symbols = Vec::new(alloc);
@@ -87,9 +87,9 @@ fn mark_tokens<A: Allocator + Copy>(
 /// The lexemes of one whole document, in order, with the marks between them. The only error is memory.
 pub fn mark<A: Allocator + Copy>(
     alloc: A,
-    lexemes: &[At<'_, A>],
+    lexemes: &[LexemeAtLine<'_, A>],
 ) -> Result<Vec<Marked, A>, AllocError>
-    ensures { IfOk result (λ v. v.items ≡ marked_lexemes (map (λ x. placed x.line x.lexeme.now) lexemes.now)) }
+    ensures { IfOk result (λ v. v.items ≡ marked_lexemes (map (λ x. lexeme_at_line x.line x.lexeme.now) lexemes.now)) }
 {
     let tokens = tokens(alloc, lexemes)?;
     let symbols = mark_tokens(alloc, &tokens)?;

@@ -3,17 +3,17 @@
 ghost use Rattle.std.specs.Prelude.{◌≡◌, ◌<◌, ◌≤◌, ◌+◌, ◌-◌, ◌^◌, [], length, drop, false, OnOk, IfOk, if◌then◌else◌};
 ghost use Rattle.std.specs.List.{list_any};
 ghost use Rattle.yl_lexeme.specs.Lexeme.{is_value};
-ghost use Rattle.yl_lexeme.specs.Kept.{kept_behind};
-ghost use Rattle.yl_marks.specs.Keys.{depth_behind, is_first, is_behind_flow, is_behind_indicator, may_begin, place_of, key_at, piece_at};
+ghost use Rattle.yl_lexeme.specs.Kept.{key_unit_behind};
+ghost use Rattle.yl_marks.specs.Keys.{depth_behind, is_first, is_behind_flow, is_behind_indicator, may_begin, place_of, key_at, keyed_token_at};
 ghost use Rattle.yl_marks.specs.ByLine.{line_pieces, IsBehind};
 
-use crate::symbol::{Earlier, KeyStart, Piece};
+use crate::symbol::{Earlier, KeyStart, KeyedToken};
 use crate::token::Token;
 use std::alloc::{AllocError, Allocator};
 use yl_lexeme::{KeyUnit, Kind, is_near};
 
 /// How many brackets are open behind one more lexeme.
-fn depth_behind(kind: Kind, depth: usize) -> usize
+pub fn depth_behind(kind: Kind, depth: usize) -> usize
     requires { depth < 2 ^ 64 - 1 }
     ensures one { result ≡ depth_behind kind depth }
     ensures most { result ≤ depth + 1 }
@@ -29,7 +29,7 @@ fn depth_behind(kind: Kind, depth: usize) -> usize
     }
 }
 
-fn is_first(line: u32, latest: Option<Piece>) -> bool
+fn is_first(line: u32, latest: Option<KeyedToken>) -> bool
     ensures { result ≡ is_first line latest }
 {
     match latest {
@@ -38,7 +38,7 @@ fn is_first(line: u32, latest: Option<Piece>) -> bool
     }
 }
 
-fn is_behind_flow(latest: Option<Piece>) -> bool
+fn is_behind_flow(latest: Option<KeyedToken>) -> bool
     ensures { result ≡ is_behind_flow latest }
 {
     match latest {
@@ -47,7 +47,7 @@ fn is_behind_flow(latest: Option<Piece>) -> bool
     }
 }
 
-fn is_behind_indicator(line: u32, latest: Option<Piece>) -> bool
+fn is_behind_indicator(line: u32, latest: Option<KeyedToken>) -> bool
     ensures { result ≡ is_behind_indicator line latest }
 {
     match latest {
@@ -57,7 +57,7 @@ fn is_behind_indicator(line: u32, latest: Option<Piece>) -> bool
 }
 
 /// Whether a key may begin in a line, in so many brackets, behind the latest lexeme.
-fn may_begin(line: u32, depth: usize, latest: Option<Piece>) -> bool
+fn may_begin(line: u32, depth: usize, latest: Option<KeyedToken>) -> bool
     ensures { result ≡ may_begin line depth latest }
 {
     if depth > 0 {
@@ -68,7 +68,7 @@ fn may_begin(line: u32, depth: usize, latest: Option<Piece>) -> bool
 }
 
 /// The place of a lexeme of this index, if a key may begin at it.
-fn place_of(index: usize, piece: Piece) -> Option<KeyStart>
+pub fn place_of(index: usize, piece: KeyedToken) -> Option<KeyStart>
     ensures { result ≡ place_of index piece }
 {
     piece.may_begin.then_some(KeyStart {
@@ -88,8 +88,8 @@ fn key_at(column: u32, key: Option<KeyStart>) -> Option<usize>
 }
 
 /// A lexeme behind the earlier ones, where the key would begin of a Value in its place.
-fn piece_at(token: Token, earlier: Earlier, key: Option<KeyStart>) -> Piece
-    ensures { result ≡ piece_at token earlier.depth earlier.latest key }
+pub fn piece_at(token: Token, earlier: Earlier, key: Option<KeyStart>) -> KeyedToken
+    ensures { result ≡ keyed_token_at token earlier.depth earlier.latest key }
 {
     let Token {
         kind,
@@ -100,7 +100,7 @@ fn piece_at(token: Token, earlier: Earlier, key: Option<KeyStart>) -> Piece
         Kind::Value => key_at(start.col, key),
         _ => None,
     };
-    Piece {
+    KeyedToken {
         kind,
         start,
         end_line,
@@ -128,9 +128,9 @@ fn pass_if_asked<A: Allocator + Copy>(
     is_asked: bool,
     unit: &mut KeyUnit<KeyStart, A>,
     index: usize,
-    piece: Piece,
+    piece: KeyedToken,
 ) -> Result<(), AllocError>
-    ensures { OnOk result (unit.new ≡ (if is_asked then kept_behind piece.kind (place_of index piece) unit.old else unit.old)) }
+    ensures { OnOk result (unit.new ≡ (if is_asked then key_unit_behind piece.kind (place_of index piece) unit.old else unit.old)) }
 {
     if is_asked {
         unit.pass(piece.kind, place_of(index, piece))?;
@@ -144,7 +144,7 @@ pub fn line_pieces<A: Allocator + Copy>(
     tokens: &[Token],
     mut earlier: Earlier,
     unit: &mut KeyUnit<KeyStart, A>,
-    pieces: &mut Vec<Piece, A>,
+    pieces: &mut Vec<KeyedToken, A>,
 ) -> Result<Earlier, AllocError>
     requires count { earlier.count + length tokens.now < 2 ^ 64 }
     requires depth { earlier.depth ≤ earlier.count }

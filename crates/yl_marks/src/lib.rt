@@ -4,6 +4,7 @@
 #![tactic(auto)]
 
 mod document;
+mod facts;
 mod keys;
 mod lines;
 mod marker;
@@ -12,6 +13,7 @@ mod symbol;
 mod token;
 
 pub use document::{mark, tokens};
+pub use facts::{KeyFacts, key_facts};
 pub use lines::{line_len, marked_by_lines};
 pub use marker::Marker;
 pub use symbol::{Collection, Marked, Symbol};

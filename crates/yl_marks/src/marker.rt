@@ -1,12 +1,12 @@
 //! The marks of a document, line by line.
 
 ghost use Rattle.std.specs.Prelude.{◌≡◌, ◌++◌, OnOk};
-ghost use Rattle.yl_marks.specs.ByLine.{nothing_before, marks_of_line, behind_line};
-ghost use Rattle.yl_marks.specs.Marks.{all_closed};
+ghost use Rattle.yl_marks.specs.ByLine.{marker_at_start, marks_of_line, behind_line};
+ghost use Rattle.yl_marks.specs.Marks.{closings_of_all};
 
 use crate::keys::line_pieces;
 use crate::marks::{close_all, marks, note_keys};
-use crate::symbol::{Earlier, KeyStart, OpenBlock, Piece, Symbol};
+use crate::symbol::{Earlier, KeyStart, KeyedToken, OpenBlock, Symbol};
 use crate::token::Token;
 use std::alloc::{AllocError, Allocator};
 use std::marker::Model;
@@ -20,15 +20,15 @@ pub struct Marker<A: Allocator + Copy> {
     collections: Vec<OpenBlock, A>,
     /// Room for a line: the unit that may become a key, the lexemes, and whether a key begins with each.
     unit: KeyUnit<KeyStart, A>,
-    pieces: Vec<Piece, A>,
+    pieces: Vec<KeyedToken, A>,
     begins: Vec<bool, A>,
 }
 
 impl<A: Allocator + Copy> Model for Marker<A> {
     ghost use Rattle.std.specs.Prelude.{◌≤◌, reverse};
-    ghost use Rattle.yl_marks.specs.ByLine.{Before};
+    ghost use Rattle.yl_marks.specs.ByLine.{MarkerValue};
 
-    ghost Value = { Before };
+    ghost Value = { MarkerValue };
 
     ghost view = { λ m. record { count = m.earlier.count; depth = m.earlier.depth; latest = m.earlier.latest; open_ones = reverse m.collections.items } };
 
@@ -44,7 +44,7 @@ const NOTHING: Earlier = Earlier {
 impl<A: Allocator + Copy> Marker<A> {
     /// At the start of a document.
     pub fn new(alloc: A) -> Marker<A>
-        ensures { result ≡ nothing_before }
+        ensures { result ≡ marker_at_start }
     {
         Marker {
             earlier: NOTHING,
@@ -57,7 +57,7 @@ impl<A: Allocator + Copy> Marker<A> {
 
     /// A document begins: what was read before says nothing more of it. The room is kept.
     pub fn clear(&mut self)
-        ensures { self.new ≡ nothing_before }
+        ensures { self.new ≡ marker_at_start }
     {
         self.earlier = NOTHING;
         self.collections.clear();
@@ -95,7 +95,7 @@ impl<A: Allocator + Copy> Marker<A> {
 
     /// The document ends: closes the collections that are open. The only error is memory.
     pub fn close(&self, symbols: &mut Vec<Symbol, A>) -> Result<(), AllocError>
-        ensures { OnOk result (symbols.new.items ≡ symbols.old.items ++ all_closed self.now.open_ones) }
+        ensures { OnOk result (symbols.new.items ≡ symbols.old.items ++ closings_of_all self.now.open_ones) }
     {
         close_all(&self.collections, symbols)
     }

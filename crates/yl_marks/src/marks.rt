@@ -1,9 +1,9 @@
 //! The marks of a document.
 
 ghost use Rattle.std.specs.Prelude.{◌≡◌, ◌++◌, ◌<◌, ◌+◌, ◌^◌, ◌||◌, ℕ, length, reverse, false, OnOk, slice_index_or};
-ghost use Rattle.yl_marks.specs.Marks.{is_in_mapping, continues, closes, left_open, closings, opened, with_opened, opening, is_at, AreBegins, marks_at, open_behind, marks, open_behind_all, all_closed};
+ghost use Rattle.yl_marks.specs.Marks.{is_in_mapping, continues, closes_collection, collections_left, closings, collection_to_open, with_collection, opening, is_at, AreBegins, marks_at, open_behind, marks, open_behind_all, closings_of_all};
 
-use crate::symbol::{Marking, OpenBlock, Piece, Symbol};
+use crate::symbol::{KeyedToken, Marking, OpenBlock, Symbol};
 use std::alloc::{AllocError, Allocator};
 use yl_lexeme::Kind;
 
@@ -26,7 +26,7 @@ fn continues(m: Marking, c: OpenBlock) -> bool
 
 /// Whether the lexeme closes the collection.
 fn closes(m: Marking, c: OpenBlock) -> bool
-    ensures { result ≡ closes m c }
+    ensures { result ≡ closes_collection m c }
 {
     let column = m.piece.start.col;
     m.piece.kind.is_document_marker()
@@ -41,7 +41,7 @@ fn close<A: Allocator>(
     collections: &mut Vec<OpenBlock, A>,
     symbols: &mut Vec<Symbol, A>,
 ) -> Result<(), AllocError>
-    ensures left { OnOk result (reverse collections.new.items ≡ left_open m (reverse collections.old.items)) }
+    ensures left { OnOk result (reverse collections.new.items ≡ collections_left m (reverse collections.old.items)) }
     ensures closed { OnOk result (symbols.new.items ≡ symbols.old.items ++ closings m (reverse collections.old.items)) }
 {
     while let Some(c) = collections.last().copied()
@@ -60,9 +60,9 @@ fn open<A: Allocator>(
     collections: &mut Vec<OpenBlock, A>,
     symbols: &mut Vec<Symbol, A>,
 ) -> Result<(), AllocError>
-    ensures left { OnOk result (let new = opened m (reverse collections.old.items) in
-        reverse collections.new.items ≡ with_opened new m.piece.start.col (reverse collections.old.items)) }
-    ensures opened { OnOk result (let new = opened m (reverse collections.old.items) in
+    ensures left { OnOk result (let new = collection_to_open m (reverse collections.old.items) in
+        reverse collections.new.items ≡ with_collection new m.piece.start.col (reverse collections.old.items)) }
+    ensures opened { OnOk result (let new = collection_to_open m (reverse collections.old.items) in
         symbols.new.items ≡ symbols.old.items ++ opening new i) }
 {
     if m.piece.depth > 0 || m.piece.kind.is_document_marker() {
@@ -104,7 +104,7 @@ fn note_key(begins: &mut [bool], first: usize, key: Option<usize>)
 pub fn note_keys<A: Allocator>(
     begins: &mut Vec<bool, A>,
     first: usize,
-    pieces: &[Piece],
+    pieces: &[KeyedToken],
 ) -> Result<(), AllocError>
     ensures { OnOk result (AreBegins begins.new.items first pieces.now) }
 {
@@ -137,7 +137,7 @@ fn mark_one<A: Allocator>(
 
 /// The lexemes of a line, from the index `first` on, with their marks. `begins` says of each whether a key begins with it.
 pub fn marks<A: Allocator>(
-    pieces: &[Piece],
+    pieces: &[KeyedToken],
     begins: &[bool],
     first: usize,
     collections: &mut Vec<OpenBlock, A>,
@@ -163,7 +163,7 @@ pub fn close_all<A: Allocator>(
     collections: &[OpenBlock],
     symbols: &mut Vec<Symbol, A>,
 ) -> Result<(), AllocError>
-    ensures { OnOk result (symbols.new.items ≡ symbols.old.items ++ all_closed (reverse collections.now)) }
+    ensures { OnOk result (symbols.new.items ≡ symbols.old.items ++ closings_of_all (reverse collections.now)) }
 {
     for _collection in collections {
         symbols.push(Symbol::Close)?;

@@ -22,7 +22,7 @@ pub struct KeyStart {
 
 /// A lexeme without its value, and what the lexemes before it say of its place.
 #[derive(Clone, Copy)]
-pub struct Piece {
+pub struct KeyedToken {
     /// The line of the text in which it ends.
     pub end_line: u64,
     /// How many brackets are open before it.
@@ -43,13 +43,13 @@ pub struct Piece {
 pub struct Earlier {
     pub count: usize,
     pub depth: usize,
-    pub latest: Option<Piece>,
+    pub latest: Option<KeyedToken>,
 }
 
 /// A lexeme, and whether a key begins there.
 #[derive(Clone, Copy)]
 pub struct Marking {
-    pub piece: Piece,
+    pub piece: KeyedToken,
     pub begins_key: bool,
 }
 

@@ -1,10 +1,10 @@
 //! Lexemes without their values.
 
 ghost use Rattle.std.specs.Prelude.{◌≡◌};
-ghost use Rattle.yl_marks.specs.Keys.{placed, token_of};
+ghost use Rattle.yl_marks.specs.Keys.{lexeme_at_line, token_of};
 
 use std::alloc::Allocator;
-use yl_lexeme::{At, Kind};
+use yl_lexeme::{Kind, LexemeAtLine};
 use yl_text::Pos;
 
 /// A lexeme of a document without its value.
@@ -18,8 +18,8 @@ pub struct Token {
 }
 
 /// The token of a lexeme at a line of the text.
-pub fn token_of<A: Allocator>(at: &At<'_, A>) -> Token
-    ensures { result ≡ token_of (placed at.now.line at.now.lexeme.now) }
+pub fn token_of<A: Allocator>(at: &LexemeAtLine<'_, A>) -> Token
+    ensures { result ≡ token_of (lexeme_at_line at.now.line at.now.lexeme.now) }
 {
     Token {
         kind: at.lexeme.kind(),

@@ -6,7 +6,7 @@ pub mod LastSwitch
 pub mod Noted
 pub mod Order
 pub mod Places
-pub mod Rows
+mod Examples
 pub mod Unique
 pub mod With
 pub mod Writing

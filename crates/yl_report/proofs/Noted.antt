@@ -4,13 +4,14 @@ use Rattle.std.specs.Prelude.{◌==◌, codes}
 use Rattle.std.specs.List.{list_any}
 use Rattle.std.proofs.lemmas.List.{map_more}
 use Rattle.std.proofs.lemmas.List.Folds.{list_any-append}
-use Rattle.yl_text.specs.declared.found.RuleId.{RuleId}
-use Rattle.yl_report.specs.declared.comment.CommentAt.{CommentAt}
-use Rattle.yl_report.specs.CommentOf.{comment_of}
-use Rattle.yl_report.specs.Directive.{Comment, says, disables, switches, is_disabled_by, is_switched_off, own_line, disables_line}
+use Rattle.yl_text.specs.declared.finding.RuleId.{RuleId}
+use Rattle.yl_lexeme.specs.declared.placed.PlacedComment.{PlacedComment}
+use Rattle.yl_lexeme.specs.PlacedComments.{placed_comment_value}
+use Rattle.yl_lexeme.specs.Lexeme.{PlacedCommentValue}
+use Rattle.yl_report.specs.Directive.{says, disables, switches, is_disabled_by, is_switched_off, own_line, disables_line}
 use Rattle.yl_report.proofs.LastSwitch.{last_or-filter_push}
 
-module _ (rule : RuleId) (at : ℕ) (cs : List Comment) (c : Comment) where
+module _ (rule : RuleId) (at : ℕ) (cs : List PlacedCommentValue) (c : PlacedCommentValue) where
   switched_push : (b : Bool) → switches rule at c ≡ b → is_switched_off (cs ++ c ∷ []) rule at ≡ cond b (disables rule c) (is_switched_off cs rule at)
   switched_push true e = ap (is_disabled_by rule) (last_or-filter_push (switches rule at) cs c true e)
   switched_push false e = ap (is_disabled_by rule) (last_or-filter_push (switches rule at) cs c false e)
@@ -27,18 +28,18 @@ module _ (rule : RuleId) (at : ℕ) (cs : List Comment) (c : Comment) where
       or-false false = refl
 
 -- ---- the comment at an index
-module _ (rule : RuleId) (at : ℕ) (xs : List CommentAt) (i : ℕ) (x : CommentAt) (inside : i < length xs) where
-  pub switched_more : (old new : Bool) → old ≡ is_switched_off (map comment_of (take i xs)) rule at
-      → new ≡ (if switches rule at (comment_of (get_or xs i x)) then disables rule (comment_of (get_or xs i x)) else old) → new ≡ is_switched_off (map comment_of (take (i + 1) xs)) rule at
+module _ (rule : RuleId) (at : ℕ) (xs : List PlacedComment) (i : ℕ) (x : PlacedComment) (inside : i < length xs) where
+  pub switched_more : (old new : Bool) → old ≡ is_switched_off (map placed_comment_value (take i xs)) rule at
+      → new ≡ (if switches rule at (placed_comment_value (get_or xs i x)) then disables rule (placed_comment_value (get_or xs i x)) else old) → new ≡ is_switched_off (map placed_comment_value (take (i + 1) xs)) rule at
   switched_more old new h e =
-      let c = comment_of (get_or xs i x) in
-      e ∙ ap (λ o. if switches rule at c then disables rule c else o) h ∙ sym (switched_push rule at (map comment_of (take i xs)) c (switches rule at c) refl)
-      ∙ ap (λ l. is_switched_off l rule at) (sym (map_more comment_of xs i x inside))
+      let c = placed_comment_value (get_or xs i x) in
+      e ∙ ap (λ o. if switches rule at c then disables rule c else o) h ∙ sym (switched_push rule at (map placed_comment_value (take i xs)) c (switches rule at c) refl)
+      ∙ ap (λ l. is_switched_off l rule at) (sym (map_more placed_comment_value xs i x inside))
 
-  pub own_more : (old new : List ℕ) → list_any (λ own. own == at) old ≡ list_any (disables_line rule at) (map comment_of (take i xs))
-      → new ≡ old ++ (if says (codes "# yamllint disable-line") rule (comment_of (get_or xs i x)) then own_line (comment_of (get_or xs i x)) ∷ [] else [])
-      → list_any (λ own. own == at) new ≡ list_any (disables_line rule at) (map comment_of (take (i + 1) xs))
+  pub own_more : (old new : List ℕ) → list_any (λ own. own == at) old ≡ list_any (disables_line rule at) (map placed_comment_value (take i xs))
+      → new ≡ old ++ (if says (codes "# yamllint disable-line") rule (placed_comment_value (get_or xs i x)) then own_line (placed_comment_value (get_or xs i x)) ∷ [] else [])
+      → list_any (λ own. own == at) new ≡ list_any (disables_line rule at) (map placed_comment_value (take (i + 1) xs))
   own_more old new h e =
-      let c = comment_of (get_or xs i x) in
-      ap (list_any (λ own. own == at)) e ∙ own_push rule at (map comment_of (take i xs)) c old (says (codes "# yamllint disable-line") rule c) refl h
-      ∙ ap (list_any (disables_line rule at)) (sym (map_more comment_of xs i x inside))
+      let c = placed_comment_value (get_or xs i x) in
+      ap (list_any (λ own. own == at)) e ∙ own_push rule at (map placed_comment_value (take i xs)) c old (says (codes "# yamllint disable-line") rule c) refl h
+      ∙ ap (list_any (disables_line rule at)) (sym (map_more placed_comment_value xs i x inside))

@@ -1,17 +1,11 @@
--- Comments that silence rules: yamllint's documentation, "Disable with comments".
-use Rattle.std.specs.Prelude.{ℕ, Bool, true, false, ◌&&◌, ◌||◌, ◌==◌, nat_lt, nat_le, if◌then◌else◌, List, [], ◌∷◌, ◌+◌, length, drop, codes, Option, Some, None, bytes_eq}
+-- Meaning: comments that silence rules: yamllint's documentation, "Disable with comments".
+use Rattle.std.specs.Prelude.{ℕ, Bool, true, false, ◌&&◌, ◌||◌, ◌==◌, nat_lt, nat_le, if◌then◌else◌, List, [], ◌∷◌, ◌+◌, length, drop, codes, Option, Some, None, is_some, bytes_eq}
 use Rattle.std.specs.List.{list_any, list_all, filter, starts_with, last_or, slice_split}
+use Rattle.yl_text.specs.Char as char
 use Rattle.yl_text.specs.Character.{is_non_space, without_end}
-use Rattle.yl_text.specs.declared.found.RuleId.{RuleId}
+use Rattle.yl_text.specs.declared.finding.RuleId.{RuleId}
 use Rattle.yl_text.specs.Finding.{rule_name}
-
--- a comment of a text; lines count from 0
-pub record Comment : Type 0 where
-  pub line : ℕ
-  -- from its `#` to before the break, in UTF-8
-  pub text : List ℕ
-  -- a lexeme ends in its line before it
-  pub is_behind : Bool
+use Rattle.yl_lexeme.specs.Lexeme.{PlacedCommentValue}
 
 -- `rule:` and a name
 abbrev pub is_rule_word : List ℕ → Bool
@@ -24,44 +18,44 @@ is_name rule w = bytes_eq (drop 5 w) rule
 abbrev pub rest_speaks : List ℕ → List ℕ → Bool
 rest_speaks [] rule = true
 rest_speaks (c ∷ words) rule =
-    if c == 0x20 then list_all is_rule_word (slice_split (λ x. x == 0x20) words) && list_any (is_name rule) (slice_split (λ x. x == 0x20) words)
+    if c == char.space then list_all is_rule_word (slice_split (λ x. x == char.space) words) && list_any (is_name rule) (slice_split (λ x. x == char.space) words)
     else false
 
 -- the text is these words, and what follows them speaks of the rule
 abbrev pub speaks : List ℕ → List ℕ → List ℕ → Bool
 speaks text words rule = if starts_with (λ a b. a == b) text words then rest_speaks (drop (length words) text) rule else false
 
-abbrev pub says : List ℕ → RuleId → Comment → Bool
+abbrev pub says : List ℕ → RuleId → PlacedCommentValue → Bool
 says words rule c = speaks (without_end c.text) words (rule_name rule)
 
-abbrev pub disables : RuleId → Comment → Bool
+abbrev pub disables : RuleId → PlacedCommentValue → Bool
 disables = says (codes "# yamllint disable")
 
-abbrev pub enables : RuleId → Comment → Bool
+abbrev pub enables : RuleId → PlacedCommentValue → Bool
 enables = says (codes "# yamllint enable")
 
 -- the line for which a `disable-line` counts
-abbrev pub own_line : Comment → ℕ
-own_line c = if c.is_behind then c.line else c.line + 1
+abbrev pub own_line : PlacedCommentValue → ℕ
+own_line c = if is_some c.behind then c.line else c.line + 1
 
-abbrev pub disables_line : RuleId → ℕ → Comment → Bool
+abbrev pub disables_line : RuleId → ℕ → PlacedCommentValue → Bool
 disables_line rule line c = says (codes "# yamllint disable-line") rule c && own_line c == line
 
 -- the comment, if there is one, disables
-abbrev pub is_disabled_by : RuleId → Option Comment → Bool
+abbrev pub is_disabled_by : RuleId → Option PlacedCommentValue → Bool
 is_disabled_by rule None = false
 is_disabled_by rule (Some c) = disables rule c
 
 -- it switches the rule, at or before the line
-abbrev pub switches : RuleId → ℕ → Comment → Bool
+abbrev pub switches : RuleId → ℕ → PlacedCommentValue → Bool
 switches rule line c = nat_le c.line line && (disables rule c || enables rule c)
 
 -- the last comment that switches the rule disables
-abbrev pub is_switched_off : List Comment → RuleId → ℕ → Bool
+abbrev pub is_switched_off : List PlacedCommentValue → RuleId → ℕ → Bool
 is_switched_off comments rule line = is_disabled_by rule (last_or None (filter (switches rule line) comments))
 
 -- a rule says nothing at a line, counted from 0
-abbrev pub is_silenced : List Comment → RuleId → ℕ → Bool
+abbrev pub is_silenced : List PlacedCommentValue → RuleId → ℕ → Bool
 is_silenced comments rule line = is_switched_off comments rule line || list_any (disables_line rule line) comments
 
 -- the first line is the comment that silences the whole file

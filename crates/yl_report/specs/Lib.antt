@@ -1,5 +1,5 @@
+pub mod Addressed
 pub mod Arranged
-pub mod CommentOf
 pub mod Directive
 pub mod Report
 pub mod Silence

@@ -1,4 +1,4 @@
--- From which line on a rule is off and on.
+-- Bridge: from which line on a rule is off and on.
 use Rattle.std.specs.Prelude.{ℕ, Bool, false, nat_le, List, Option, Some, None}
 use Rattle.std.specs.List.{filter, last_or}
 use Rattle.yl_report.specs.declared.marks.Switch.{Switch}
@@ -8,5 +8,5 @@ is_off_by None = false
 is_off_by (Some w) = w.is_off
 
 -- the last switch at or before the line is off
-abbrev pub switched_off : List Switch → ℕ → Bool
-switched_off ws line = is_off_by (last_or None (filter (λ w. nat_le w.line line) ws))
+abbrev pub is_off_at : List Switch → ℕ → Bool
+is_off_at ws line = is_off_by (last_or None (filter (λ w. nat_le w.line line) ws))

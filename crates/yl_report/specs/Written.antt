@@ -1,4 +1,4 @@
--- What writing a text through a buffer has done.
+-- Meaning: what writing a text through a buffer has done.
 use Rattle.std.specs.Prelude.{◌≡◌, ℕ, List, ◌++◌, Option}
 use Rattle.std.specs.Io.KnownBytes.{Appends}
 

@@ -1,19 +1,20 @@
 ghost use Rattle.std.specs.Prelude.{◌≡◌, ◌++◌, IfOk, OnOk, option_to_list};
 ghost use Rattle.std.specs.List.{filter_map};
 ghost use Rattle.yl_rules.specs.LevelOf.{level_of};
-ghost use Rattle.yl_report.specs.Report.{order, order_in_line, order_in_place, sorted_once, is_reported, is_syntax as is_syntax_rule, with_level, arranged};
+ghost use Rattle.yl_report.specs.Report.{finding_order, order_in_line, order_in_place, sorted_once, is_reported, with_level, report_of};
+ghost use Rattle.yl_report.specs.Report as spec;
 ghost use Rattle.yl_report.specs.Arranged.{OneArrangement, SortedOnceArranges};
-ghost use Rattle.yl_report.specs.Silence.{file_silenced, silenced};
+ghost use Rattle.yl_report.specs.Silence.{is_file_silenced_by, is_silenced_at};
 
 use crate::problem::Problem;
 use crate::silence::Silences;
 use std::alloc::{AllocError, Allocator};
 use std::cmp::Ordering;
-use yl_rules::Levels;
-use yl_text::{Found, RuleId};
+use yl_rules::RuleLevels;
+use yl_text::{Finding, RuleId};
 
 // By rule name and message.
-fn compare_in_place<A: Allocator>(a: &Found<A>, b: &Found<A>) -> Ordering
+fn compare_in_place<A: Allocator>(a: &Finding<A>, b: &Finding<A>) -> Ordering
     ensures { result ≡ order_in_place a.now b.now }
 {
     match a.rule().name().cmp(b.rule().name()) {
@@ -23,7 +24,7 @@ fn compare_in_place<A: Allocator>(a: &Found<A>, b: &Found<A>) -> Ordering
 }
 
 // By column, rule name and message.
-fn compare_in_line<A: Allocator>(a: &Found<A>, b: &Found<A>) -> Ordering
+fn compare_in_line<A: Allocator>(a: &Finding<A>, b: &Finding<A>) -> Ordering
     ensures { result ≡ order_in_line a.now b.now }
 {
     match a.column().cmp(&b.column()) {
@@ -33,8 +34,8 @@ fn compare_in_line<A: Allocator>(a: &Found<A>, b: &Found<A>) -> Ordering
 }
 
 /// The order of a report: by line, column, rule name in ASCII order, and message.
-pub fn compare<A: Allocator>(a: &Found<A>, b: &Found<A>) -> Ordering
-    ensures { result ≡ order a.now b.now }
+pub fn compare<A: Allocator>(a: &Finding<A>, b: &Finding<A>) -> Ordering
+    ensures { result ≡ finding_order a.now b.now }
 {
     match a.line().cmp(&b.line()) {
         Ordering::Equal => compare_in_line(a, b),
@@ -49,14 +50,18 @@ pub fn one_arrangement()
 {}
 
 fn is_syntax(rule: RuleId) -> bool
-    ensures { result ≡ is_syntax_rule rule }
+    ensures { result ≡ spec.is_syntax rule }
 {
     matches!(rule, RuleId::Syntax)
 }
 
 // Whether the rule is on, and nothing silences it at its line.
-fn is_reported<A: Allocator>(levels: &Levels, silences: &Silences<A>, found: &Found<A>) -> bool
-    ensures { result ≡ is_reported (level_of levels.now) (silenced silences.now) found.now }
+fn is_reported<A: Allocator>(
+    levels: &RuleLevels,
+    silences: &Silences<A>,
+    found: &Finding<A>,
+) -> bool
+    ensures { result ≡ is_reported (level_of levels.now) (is_silenced_at silences.now) found.now }
 {
     let is_on = levels.level_of(found.rule()).is_some();
     let is_free = is_syntax(found.rule());
@@ -65,7 +70,7 @@ fn is_reported<A: Allocator>(levels: &Levels, silences: &Silences<A>, found: &Fo
 
 // Puts what was found in order, and drops what stands twice. It takes linear time where it is in
 // order already.
-fn sort_once<A: Allocator>(found: &mut Vec<Found<A>, A>)
+fn sort_once<A: Allocator>(found: &mut Vec<Finding<A>, A>)
     ensures { found.new.items ≡ sorted_once found.old.items }
 {
     found.sort_unstable_by(|a, b| compare(a, b));
@@ -75,8 +80,8 @@ fn sort_once<A: Allocator>(found: &mut Vec<Found<A>, A>)
 // Puts what was found at the end of the problems, if its rule is on.
 fn push_with_level<A: Allocator>(
     problems: &mut Vec<Problem<A>, A>,
-    found: Found<A>,
-    levels: &Levels,
+    found: Finding<A>,
+    levels: &RuleLevels,
 ) -> Result<(), AllocError>
     ensures { OnOk result (problems.new.items ≡ problems.old.items
         ++ option_to_list (with_level (level_of levels.now) found)) }
@@ -89,8 +94,8 @@ fn push_with_level<A: Allocator>(
 
 fn with_levels<A: Allocator + Copy>(
     alloc: A,
-    found: Vec<Found<A>, A>,
-    levels: &Levels,
+    found: Vec<Finding<A>, A>,
+    levels: &RuleLevels,
 ) -> Result<Vec<Problem<A>, A>, AllocError>
     ensures { IfOk result (λ v. v.items ≡ filter_map (with_level (level_of levels.now)) found.items) }
 {
@@ -105,12 +110,12 @@ fn with_levels<A: Allocator + Copy>(
 /// levels, each once, by line, column, rule name and message. It takes memory once, for its answer.
 pub fn arrange<A: Allocator + Copy>(
     alloc: A,
-    mut found: Vec<Found<A>, A>,
-    levels: &Levels,
+    mut found: Vec<Finding<A>, A>,
+    levels: &RuleLevels,
     silences: &Silences<A>,
 ) -> Result<Vec<Problem<A>, A>, AllocError>
-    ensures { IfOk result (λ v. v.items ≡ arranged (level_of levels.now)
-        (file_silenced silences.now) (silenced silences.now) found.items) }
+    ensures { IfOk result (λ v. v.items ≡ report_of (level_of levels.now)
+        (is_file_silenced_by silences.now) (is_silenced_at silences.now) found.items) }
 {
     if silences.is_file_silenced() {
         return Ok(Vec::new(alloc));

@@ -1,11 +1,13 @@
 //! The words of comments that silence rules.
 ghost use Rattle.std.specs.Prelude.{◌≡◌, ◌==◌, ◌&&◌};
 ghost use Rattle.std.specs.List.{list_all, list_any, slice_split};
-ghost use Rattle.yl_text.specs.Character.{is_white as is_white_code, is_non_space, without_end as without_end_of};
-ghost use Rattle.yl_report.specs.Directive.{is_rule_word as is_rule_word_of, is_name as is_name_of, speaks as speaks_of, rest_speaks};
+ghost use Rattle.yl_text.specs.Character.{is_non_space};
+ghost use Rattle.yl_text.specs.Character as character;
+ghost use Rattle.yl_report.specs.Directive.{rest_speaks};
+ghost use Rattle.yl_report.specs.Directive as spec;
 
 fn is_white(c: u8) -> bool
-    ensures { result ≡ is_white_code c }
+    ensures { result ≡ character.is_white c }
 {
     c == b' ' || c == b'\t'
 }
@@ -18,7 +20,7 @@ fn all_non_space(word: &[u8]) -> bool
 
 // The text without the white space at its end.
 pub fn without_end(text: &[u8]) -> &[u8]
-    ensures { result.now ≡ without_end_of text.now }
+    ensures { result.now ≡ character.without_end text.now }
 {
     let mut end = text.len();
     while end > 0 && is_white(text[end - 1]) {
@@ -28,7 +30,7 @@ pub fn without_end(text: &[u8]) -> &[u8]
 }
 
 fn is_rule_word(word: &[u8]) -> bool
-    ensures { result ≡ is_rule_word_of word.now }
+    ensures { result ≡ spec.is_rule_word word.now }
 {
     let begins = word.starts_with(b"rule:");
     let is_long = word.len() > 5;
@@ -37,7 +39,7 @@ fn is_rule_word(word: &[u8]) -> bool
 
 // Whether a word of a rule names this one.
 fn is_name(word: &[u8], rule: &[u8]) -> bool
-    ensures { result ≡ is_name_of rule.now word.now }
+    ensures { result ≡ spec.is_name rule.now word.now }
 {
     if word.len() < 5 {
         return rule.is_empty();
@@ -47,20 +49,20 @@ fn is_name(word: &[u8], rule: &[u8]) -> bool
 }
 
 fn are_rule_words(words: &[u8]) -> bool
-    ensures { result ≡ list_all is_rule_word_of (slice_split (λ x. x == 0x20) words.now) }
+    ensures { result ≡ list_all spec.is_rule_word (slice_split (λ x. x == 0x20) words.now) }
 {
     words.split(|c| *c == b' ').all(|word| is_rule_word(word))
 }
 
 fn has_name(words: &[u8], rule: &[u8]) -> bool
-    ensures { result ≡ list_any (is_name_of rule.now) (slice_split (λ x. x == 0x20) words.now) }
+    ensures { result ≡ list_any (spec.is_name rule.now) (slice_split (λ x. x == 0x20) words.now) }
 {
     words.split(|c| *c == b' ').any(|word| is_name(word, rule))
 }
 
 fn names(words: &[u8], rule: &[u8]) -> bool
-    ensures { result ≡ list_all is_rule_word_of (slice_split (λ x. x == 0x20) words.now)
-        && list_any (is_name_of rule.now) (slice_split (λ x. x == 0x20) words.now) }
+    ensures { result ≡ list_all spec.is_rule_word (slice_split (λ x. x == 0x20) words.now)
+        && list_any (spec.is_name rule.now) (slice_split (λ x. x == 0x20) words.now) }
 {
     let all = are_rule_words(words);
     let any = has_name(words, rule);
@@ -69,7 +71,7 @@ fn names(words: &[u8], rule: &[u8]) -> bool
 
 // Whether a text is these words, followed by nothing or by words of rules of which one names this one.
 pub fn speaks(text: &[u8], words: &[u8], rule: &[u8]) -> bool
-    ensures { result ≡ speaks_of text.now words.now rule.now }
+    ensures { result ≡ spec.speaks text.now words.now rule.now }
 {
     if !text.starts_with(words) {
         return false;

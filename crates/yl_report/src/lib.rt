@@ -11,7 +11,6 @@ mod problem;
 mod silence;
 
 pub use arranging::{arrange, compare, one_arrangement};
-pub use comment::CommentAt;
 pub use printing::{WriteFault, write_parts, write_report};
 pub use problem::{Problem, status};
 pub use silence::Silences;

@@ -2,7 +2,7 @@
 ghost use Rattle.std.specs.Prelude.{◌≡◌, ℕ, ◌≤◌, ◌<◌, ◌==◌, OnOk, nat_le, IsTrue, if◌then◌else◌};
 ghost use Rattle.std.specs.List.{list_any};
 ghost use Rattle.std.specs.List.Sorted.{IsNonDecreasing, IsNonDecreasingBy};
-ghost use Rattle.yl_report.specs.Switched.{switched_off};
+ghost use Rattle.yl_report.specs.Switched.{is_off_at};
 
 use std::alloc::{AllocError, Allocator};
 
@@ -21,8 +21,8 @@ pub fn push_switch<A: Allocator>(
 ) -> Result<(), AllocError>
     requires { IsNonDecreasingBy (λ w. w.line) switches.old.items }
     ensures rising { OnOk result (IsNonDecreasingBy (λ w. w.line) switches.new.items) }
-    ensures switched { OnOk result ((at : ℕ) → switched_off switches.new.items at
-        ≡ (if nat_le line at then is_off else switched_off switches.old.items at)) }
+    ensures switched { OnOk result ((at : ℕ) → is_off_at switches.new.items at
+        ≡ (if nat_le line at then is_off else is_off_at switches.old.items at)) }
 {
     while switches.last().is_some_and(|last| last.line > line) {
         let _ = switches.pop();
@@ -34,7 +34,7 @@ pub fn push_switch<A: Allocator>(
 // Whether the last switch at or before a line is off.
 fn is_switched_off(switches: &[Switch], line: u64) -> bool
     requires { IsNonDecreasingBy (λ w. w.line) switches.now }
-    ensures { result ≡ switched_off switches.now line }
+    ensures { result ≡ is_off_at switches.now line }
 {
     let behind = switches.partition_point(|switch| switch.line <= line);
     if behind == 0 {
@@ -52,7 +52,7 @@ fn has_line(lines: &[u64], line: u64) -> bool
 
 /// The lines, counted from 0, at which one rule says nothing.
 #[derive(Drop)]
-pub struct Marks<A: Allocator> {
+pub struct SilencedLines<A: Allocator> {
     // Where the rule is switched off and on, in the order of the lines.
     pub switches: Vec<Switch, A>,
     // The single lines at which it is off, in order.
@@ -61,13 +61,13 @@ pub struct Marks<A: Allocator> {
     ghost ordered: { IsNonDecreasing lines.items },
 }
 
-impl<A: Allocator> Marks<A> {
+impl<A: Allocator> SilencedLines<A> {
     ghost use Rattle.std.specs.Prelude.{◌≡◌, Some};
-    ghost use Rattle.yl_report.specs.Silence.{marked_off};
+    ghost use Rattle.yl_report.specs.Silence.{is_silenced_in};
 
     /// Whether the rule says nothing at a line, counted from 0.
     pub fn is_off(&self, line: u64) -> bool
-        ensures { result ≡ marked_off (Some self.now) line }
+        ensures { result ≡ is_silenced_in (Some self.now) line }
     {
         is_switched_off(&self.switches, line) || has_line(&self.lines, line)
     }

@@ -2,29 +2,32 @@
 ghost use Rattle.std.specs.Prelude.{◌≡◌, ◌++◌, ◌∷◌, [], ℕ, OnOk, IfOk, Some, codes, map, slice_get, if◌then◌else◌};
 ghost use Rattle.std.specs.List.{filter};
 ghost use Rattle.std.specs.List.Sorted.{IsNonDecreasingBy};
-ghost use Rattle.yl_report.specs.Switched.{switched_off};
-ghost use Rattle.yl_report.specs.CommentOf.{comment_of, is_addressed as is_addressed_of};
-ghost use Rattle.yl_report.specs.Directive.{says as says_of, switches as switches_of, disables as disables_of, own_line as own_line_of, is_silenced};
-ghost use Rattle.yl_report.specs.Silence.{marked_off};
-ghost use Rattle.yl_rules.specs.Levels.{slot};
-ghost use Rattle.yl_text.specs.declared.found.RuleId.{RuleId};
+ghost use Rattle.yl_report.specs.Switched.{is_off_at};
+ghost use Rattle.yl_lexeme.specs.PlacedComments.{placed_comment_value};
+ghost use Rattle.yl_report.specs.Addressed as addressed;
+ghost use Rattle.yl_report.specs.Directive.{is_silenced};
+ghost use Rattle.yl_report.specs.Directive as spec;
+ghost use Rattle.yl_report.specs.Silence.{is_silenced_in};
+ghost use Rattle.yl_rules.specs.Levels.{rule_number};
+ghost use Rattle.yl_text.specs.declared.finding.RuleId.{RuleId};
 
-use crate::comment::{CommentAt, disables, enables, own_line, says};
-use crate::marks::{Marks, Switch, push_switch};
+use crate::comment::{disables, enables, own_line, says};
+use crate::marks::{SilencedLines, Switch, push_switch};
 use std::alloc::{AllocError, Allocator};
+use yl_lexeme::PlacedComment;
 use yl_text::RuleId;
 
 // Notes what a comment switches of the rule.
 fn note_switch<A: Allocator>(
     switches: &mut Vec<Switch, A>,
     rule: RuleId,
-    comment: &CommentAt<'_>,
+    comment: &PlacedComment<'_>,
 ) -> Result<(), AllocError>
     requires { IsNonDecreasingBy (λ w. w.line) switches.old.items }
     ensures rising { OnOk result (IsNonDecreasingBy (λ w. w.line) switches.new.items) }
-    ensures switched { OnOk result ((at : ℕ) → switched_off switches.new.items at
-        ≡ (if switches_of rule at (comment_of comment.now) then disables_of rule (comment_of comment.now)
-        else switched_off switches.old.items at)) }
+    ensures switched { OnOk result ((at : ℕ) → is_off_at switches.new.items at
+        ≡ (if spec.switches rule at (placed_comment_value comment.now) then spec.disables rule (placed_comment_value comment.now)
+        else is_off_at switches.old.items at)) }
 {
     let is_off = disables(rule, comment);
     if is_off || enables(rule, comment) {
@@ -37,11 +40,11 @@ fn note_switch<A: Allocator>(
 fn note_line<A: Allocator>(
     lines: &mut Vec<u64, A>,
     rule: RuleId,
-    comment: &CommentAt<'_>,
+    comment: &PlacedComment<'_>,
 ) -> Result<(), AllocError>
     ensures { OnOk result (lines.new.items ≡ lines.old.items
-        ++ (if says_of (codes "# yamllint disable-line") rule (comment_of comment.now)
-        then own_line_of (comment_of comment.now) ∷ [] else [])) }
+        ++ (if spec.says (codes "# yamllint disable-line") rule (placed_comment_value comment.now)
+        then spec.own_line (placed_comment_value comment.now) ∷ [] else [])) }
 {
     if says(b"# yamllint disable-line", rule, comment) {
         lines.push(own_line(comment))?;
@@ -52,11 +55,11 @@ fn note_line<A: Allocator>(
 // What the comments say of a rule.
 fn marks_of<A: Allocator + Copy>(
     alloc: A,
-    comments: &[CommentAt<'_>],
+    comments: &[PlacedComment<'_>],
     rule: RuleId,
-) -> Result<Marks<A>, AllocError>
-    ensures { IfOk result (λ m. (line : ℕ) → marked_off (Some m) line
-        ≡ is_silenced (map comment_of comments.now) rule line) }
+) -> Result<SilencedLines<A>, AllocError>
+    ensures { IfOk result (λ m. (line : ℕ) → is_silenced_in (Some m) line
+        ≡ is_silenced (map placed_comment_value comments.now) rule line) }
 {
     let mut switches = Vec::new(alloc);
     let mut lines = Vec::new(alloc);
@@ -65,12 +68,12 @@ fn marks_of<A: Allocator + Copy>(
         note_line(&mut lines, rule, comment)?;
     }
     lines.sort_unstable();
-    Ok(Marks { switches, lines })
+    Ok(SilencedLines { switches, lines })
 }
 
 // Whether a comment begins as each does that silences a rule.
-fn is_addressed(comment: &CommentAt<'_>) -> bool
-    ensures { result ≡ is_addressed_of comment.now }
+fn is_addressed(comment: &PlacedComment<'_>) -> bool
+    ensures { result ≡ addressed.is_addressed comment.now }
 {
     comment.text.as_bytes().starts_with(b"# yamllint ")
 }
@@ -78,9 +81,9 @@ fn is_addressed(comment: &CommentAt<'_>) -> bool
 // The comments that may silence a rule.
 fn addressed<'a, A: Allocator + Copy>(
     alloc: A,
-    comments: &[CommentAt<'a>],
-) -> Result<Vec<CommentAt<'a>, A>, AllocError>
-    ensures { IfOk result (λ v. v.items ≡ filter is_addressed_of comments.now) }
+    comments: &[PlacedComment<'a>],
+) -> Result<Vec<PlacedComment<'a>, A>, AllocError>
+    ensures { IfOk result (λ v. v.items ≡ filter addressed.is_addressed comments.now) }
 {
     comments
         .iter()
@@ -114,10 +117,10 @@ const RULES: [RuleId; 19] = [
 // What the comments say of each rule, by its place.
 fn marks_of_all<A: Allocator + Copy>(
     alloc: A,
-    comments: &[CommentAt<'_>],
-) -> Result<Vec<Marks<A>, A>, AllocError>
-    ensures { IfOk result (λ v. (rule : RuleId) (line : ℕ) → marked_off (slice_get v.items (slot rule)) line
-        ≡ is_silenced (map comment_of comments.now) rule line) }
+    comments: &[PlacedComment<'_>],
+) -> Result<Vec<SilencedLines<A>, A>, AllocError>
+    ensures { IfOk result (λ v. (rule : RuleId) (line : ℕ) → is_silenced_in (slice_get v.items (rule_number rule)) line
+        ≡ is_silenced (map placed_comment_value comments.now) rule line) }
 {
     let mut all = Vec::with_capacity(alloc, RULES.len())?;
     for rule in RULES {
@@ -131,10 +134,10 @@ fn marks_of_all<A: Allocator + Copy>(
 /// silence a rule.
 pub fn marks_in<A: Allocator + Copy>(
     alloc: A,
-    comments: &[CommentAt<'_>],
-) -> Result<Vec<Marks<A>, A>, AllocError>
-    ensures { IfOk result (λ v. (rule : RuleId) (line : ℕ) → marked_off (slice_get v.items (slot rule)) line
-        ≡ is_silenced (map comment_of comments.now) rule line) }
+    comments: &[PlacedComment<'_>],
+) -> Result<Vec<SilencedLines<A>, A>, AllocError>
+    ensures { IfOk result (λ v. (rule : RuleId) (line : ℕ) → is_silenced_in (slice_get v.items (rule_number rule)) line
+        ≡ is_silenced (map placed_comment_value comments.now) rule line) }
 {
     let addressed = addressed(alloc, comments)?;
     if addressed.is_empty() {

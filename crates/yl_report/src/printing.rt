@@ -3,7 +3,7 @@ ghost use Rattle.std.specs.List.{flat_map};
 ghost use Rattle.std.specs.Io.KnownBytes.{Appends};
 ghost use Rattle.yl_text.specs.Watched.{device_of, failures_of};
 ghost use Rattle.yl_report.specs.Written.{AppendsFront, Passes};
-ghost use Rattle.yl_report.specs.Report.{printed_line, shown, printed};
+ghost use Rattle.yl_report.specs.Report.{printed_line, problem_text, report_text};
 
 use crate::problem::Problem;
 use arrayvec::ArrayVec;
@@ -186,10 +186,10 @@ fn put_problem<W: Write, A: Allocator>(
 ) -> Result<(), WriteFault>
     requires { failures_of out.old < 2 ^ 64 - 1 }
     ensures ok { OnOk result (Passes (W.contents (device_of out.old)) (W.contents (device_of out.new))
-        waiting.old.items (shown name.now no_warnings problem.now) waiting.new.items) }
+        waiting.old.items (problem_text name.now no_warnings problem.now) waiting.new.items) }
     ensures quiet { OnOk result (failures_of out.new ≡ failures_of out.old) }
     ensures err { OnErr result (AppendsFront (W.contents (device_of out.old)) (W.contents (device_of out.new))
-        (waiting.old.items ++ shown name.now no_warnings problem.now)) }
+        (waiting.old.items ++ problem_text name.now no_warnings problem.now)) }
     ensures failed { OnErr result (failures_of out.old < failures_of out.new) }
 {
     let is_hidden = no_warnings && !problem.is_error();
@@ -210,10 +210,10 @@ fn put_problems<W: Write, A: Allocator>(
 ) -> Result<(), WriteFault>
     requires { failures_of out.old < 2 ^ 64 - 1 }
     ensures ok { OnOk result (Passes (W.contents (device_of out.old)) (W.contents (device_of out.new))
-        waiting.old.items (printed name.now problems.now no_warnings) waiting.new.items) }
+        waiting.old.items (report_text name.now problems.now no_warnings) waiting.new.items) }
     ensures quiet { OnOk result (failures_of out.new ≡ failures_of out.old) }
     ensures err { OnErr result (AppendsFront (W.contents (device_of out.old)) (W.contents (device_of out.new))
-        (waiting.old.items ++ printed name.now problems.now no_warnings)) }
+        (waiting.old.items ++ report_text name.now problems.now no_warnings)) }
     ensures failed { OnErr result (failures_of out.old < failures_of out.new) }
 {
     for problem in problems {
@@ -233,10 +233,10 @@ pub fn write_report<W: Write, A: Allocator>(
 ) -> Result<(), WriteFault>
     requires { failures_of out.old < 2 ^ 64 - 1 }
     ensures ok { OnOk result (Appends (W.contents (device_of out.old)) (W.contents (device_of out.new))
-        (printed name.now problems.now no_warnings)) }
+        (report_text name.now problems.now no_warnings)) }
     ensures quiet { OnOk result (failures_of out.new ≡ failures_of out.old) }
     ensures err { OnErr result (AppendsFront (W.contents (device_of out.old)) (W.contents (device_of out.new))
-        (printed name.now problems.now no_warnings)) }
+        (report_text name.now problems.now no_warnings)) }
     ensures failed { OnErr result (failures_of out.old < failures_of out.new) }
 {
     let mut waiting = Waiting::new();

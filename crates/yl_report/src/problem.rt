@@ -1,19 +1,19 @@
 use std::alloc::Allocator;
 use std::marker::Model;
 use yl_rules::Level;
-use yl_text::{Found, RuleId};
+use yl_text::{Finding, RuleId};
 
 /// A problem of a report. Its line and its column count from 1, the column in characters.
 #[derive(Drop)]
 pub struct Problem<A: Allocator> {
-    found: Found<A>,
+    found: Finding<A>,
     level: Level,
 }
 
 impl<A: Allocator> Model for Problem<A> {
-    ghost use Rattle.yl_report.specs.Report.{Reported};
+    ghost use Rattle.yl_report.specs.Report.{ProblemValue};
 
-    ghost Value = { Reported };
+    ghost Value = { ProblemValue };
 
     ghost view = { λ p. record { line = p.found.line; column = p.found.column; level = p.level; rule = p.found.rule; message = p.found.message } };
 }
@@ -23,7 +23,7 @@ impl<A: Allocator> Problem<A> {
     ghost use Rattle.yl_report.specs.Report.{is_error};
 
     /// What was found, at a level.
-    pub fn new(found: Found<A>, level: Level) -> Problem<A>
+    pub fn new(found: Finding<A>, level: Level) -> Problem<A>
         ensures { result ≡ record { line = found.line; column = found.column; level = level; rule = found.rule; message = found.message } }
     {
         Problem { found, level }

@@ -1,16 +1,17 @@
 //! What the silencing comments of a text say.
 ghost use Rattle.std.specs.Prelude.{◌≡◌};
-ghost use Rattle.yl_rules.specs.Levels.{slot};
+ghost use Rattle.yl_rules.specs.Levels.{rule_number};
 
-use crate::comment::{CommentAt, disables_file};
-use crate::marks::Marks;
+use crate::comment::disables_file;
+use crate::marks::SilencedLines;
 use crate::noting::marks_in;
 use std::alloc::{AllocError, Allocator};
+use yl_lexeme::PlacedComment;
 use yl_text::RuleId;
 
 // A place for each rule.
 fn slot(rule: RuleId) -> usize
-    ensures { result ≡ slot rule }
+    ensures { result ≡ rule_number rule }
 {
     rule as usize
 }
@@ -20,19 +21,20 @@ fn slot(rule: RuleId) -> usize
 pub struct Silences<A: Allocator> {
     is_file_silenced: bool,
     // By rule; none if the text has no silencing comment.
-    rules: Vec<Marks<A>, A>,
+    rules: Vec<SilencedLines<A>, A>,
 }
 
 impl<A: Allocator> Silences<A> {
     ghost use Rattle.std.specs.Prelude.{◌≡◌, false, IfOk, map};
-    ghost use Rattle.yl_report.specs.CommentOf.{comment_of};
-    ghost use Rattle.yl_report.specs.Directive.{is_silenced, disables_file as disables_file_of};
-    ghost use Rattle.yl_report.specs.Silence.{file_silenced, silenced};
+    ghost use Rattle.yl_lexeme.specs.PlacedComments.{placed_comment_value};
+    ghost use Rattle.yl_report.specs.Directive.{is_silenced};
+    ghost use Rattle.yl_report.specs.Directive as spec;
+    ghost use Rattle.yl_report.specs.Silence.{is_file_silenced_by, is_silenced_at};
 
     /// Nothing is silenced.
     pub fn none(alloc: A) -> Silences<A>
-        ensures file { file_silenced result ≡ false }
-        ensures lines { silenced result ≡ (λ _ _. false) }
+        ensures file { is_file_silenced_by result ≡ false }
+        ensures lines { is_silenced_at result ≡ (λ _ _. false) }
     {
         Silences {
             is_file_silenced: false,
@@ -44,12 +46,12 @@ impl<A: Allocator> Silences<A> {
     pub fn read(
         alloc: A,
         first_row: &str,
-        comments: &[CommentAt<'_>],
+        comments: &[PlacedComment<'_>],
     ) -> Result<Silences<A>, AllocError>
     where
         A: Copy,
-        ensures file { IfOk result (λ s. file_silenced s ≡ disables_file_of first_row.now) }
-        ensures lines { IfOk result (λ s. silenced s ≡ is_silenced (map comment_of comments.now)) }
+        ensures file { IfOk result (λ s. is_file_silenced_by s ≡ spec.disables_file first_row.now) }
+        ensures lines { IfOk result (λ s. is_silenced_at s ≡ is_silenced (map placed_comment_value comments.now)) }
     {
         let rules = marks_in(alloc, comments)?;
         Ok(Silences {
@@ -60,14 +62,14 @@ impl<A: Allocator> Silences<A> {
 
     /// Whether nothing of the file is reported.
     pub fn is_file_silenced(&self) -> bool
-        ensures { result ≡ file_silenced self.now }
+        ensures { result ≡ is_file_silenced_by self.now }
     {
         self.is_file_silenced
     }
 
     /// Whether a rule says nothing at a line, counted from 0.
     pub fn is_silenced(&self, rule: RuleId, line: u64) -> bool
-        ensures { result ≡ silenced self.now rule line }
+        ensures { result ≡ is_silenced_at self.now rule line }
     {
         match self.rules.get(slot(rule)) {
             Some(marks) => marks.is_off(line),

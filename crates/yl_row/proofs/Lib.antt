@@ -3,8 +3,10 @@ pub mod Beginnings
 pub mod Carry
 pub mod Columns
 pub mod Modes
+pub mod Placed
 pub mod RowSteps
 pub mod Signs
 pub mod Tabs
 pub mod Took
 pub mod Wholes
+mod Examples

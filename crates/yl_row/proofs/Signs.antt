@@ -3,27 +3,27 @@ use Rattle.std.proofs.Common.{◌≡◌, ℕ, Bool, true, false, ◌&&◌, cond,
 use Rattle.yl_text.specs.Character.{is_white, is_blank, is_marker_of}
 use Rattle.yl_lexeme.specs.declared.lexeme.Kind.{Kind}
 use Rattle.yl_lexeme.specs.declared.lexeme.Kind.TheVariants.{Entry, Key, Value, Comma, SeqOpen, SeqClose, MapOpen, MapClose}
-use Rattle.yl_lexeme.specs.Past.{Around, in_flow, near}
-use Rattle.yl_row.specs.Step.{Found, is_space_next, is_value_at, value_found, document_at, block_at, word_at, found_or, found_at}
+use Rattle.yl_lexeme.specs.Past.{Context, in_flow, near}
+use Rattle.yl_row.specs.Step.{FoundLexemeValue, is_space_next, is_value_at, value_found, document_at, block_at, word_at, found_or, found_at}
 use Rattle.yl_row.specs.Sign.{sign_at, sign_found}
 
 -- of a kind, or else a word
-abbrev sign_or : Option ℕ → Bool → ℕ → Around → Found → Option Kind → Found
+abbrev sign_or : Option ℕ → Bool → ℕ → Context → FoundLexemeValue → Option Kind → FoundLexemeValue
 sign_or tab first at a word None = word
 sign_or tab first at a word (Some kind) = sign_found tab first at a kind
 
-value_same : (tab : Option ℕ) (first : Bool) (at : ℕ) (a : Around) (key : Option ℕ) → near at a.start ≡ key
+value_same : (tab : Option ℕ) (first : Bool) (at : ℕ) (a : Context) (key : Option ℕ) → near at a.start ≡ key
     → value_found tab first at a (near at a.start) ≡ sign_found tab first at a Value
 value_same tab first at a (Some key) h = rw h refl
 value_same tab first at a None h = rw h refl
 
-module _ (rows : List (List ℕ)) (tab : Option ℕ) (first : Bool) (at : ℕ) (a : Around) (c : ℕ) (cs : List ℕ) where
+module _ (rows : List (List ℕ)) (tab : Option ℕ) (first : Bool) (at : ℕ) (a : Context) (c : ℕ) (cs : List ℕ) where
   pub block_signs : block_at rows tab first at a c cs ≡ sign_or tab first at a (word_at rows at a c cs) (sign_at a c cs)
   block_signs =
       by_case (eqb c 45 && is_space_next cs) (eqb c 63 && is_space_next cs) (eqb c 58 && is_value_at (in_flow a) a.last cs)
       (eqb c 91) (eqb c 123) (eqb c 93) (eqb c 125) (eqb c 44) (word_at rows at a c cs)
     where
-      by_case : (entry key value seq map seq_close map_close comma : Bool) (word : Found)
+      by_case : (entry key value seq map seq_close map_close comma : Bool) (word : FoundLexemeValue)
           → cond entry (sign_found tab first at a Entry) (cond key (sign_found tab first at a Key) (cond value (value_found tab first at a (near at a.start))
           (cond seq (sign_found tab first at a SeqOpen) (cond map (sign_found tab first at a MapOpen) (cond seq_close (sign_found tab first at a SeqClose)
           (cond map_close (sign_found tab first at a MapClose) (cond comma (sign_found tab first at a Comma) word)))))))
@@ -67,10 +67,10 @@ no_dashes n (y ∷ z ∷ rest) h = rw (white_no_dash y h) (by_case (eqb n 45) (e
     by_case true d e = refl
     by_case false d e = refl
 
-no_document : (c : ℕ) (cs : List ℕ) (a : Around) → is_marker_of 45 (c ∷ cs) ≡ false → eqb c 46 ≡ false → eqb c 37 ≡ false → document_at c cs a ≡ None
+no_document : (c : ℕ) (cs : List ℕ) (a : Context) → is_marker_of 45 (c ∷ cs) ≡ false → eqb c 46 ≡ false → eqb c 37 ≡ false → document_at c cs a ≡ None
 no_document c cs a dashes dots percent = rw (dashes, no_marker 46 c cs dots, percent) refl
 
-module _ (c : ℕ) (cs : List ℕ) (a : Around) where
+module _ (c : ℕ) (cs : List ℕ) (a : Context) where
   other_character : (n : ℕ) → eqb n 45 ≡ false → eqb n 46 ≡ false → eqb n 37 ≡ false → eqb c n ≡ true → document_at c cs a ≡ None
   other_character n dash dot percent h = let is : c ≡ n = eqb-true c n h in
       ap (λ c. document_at c cs a) is ∙ no_document n cs a (no_marker 45 n cs dash) dot percent
@@ -103,14 +103,14 @@ module _ (c : ℕ) (cs : List ℕ) (a : Around) where
       by_case false false false false false false false true h1 h2 h3 h4 h5 h6 h7 h8 e = h8 refl
       by_case false false false false false false false false h1 h2 h3 h4 h5 h6 h7 h8 e = cc
 
-module _ (rows : List (List ℕ)) (tab : Option ℕ) (first : Bool) (at : ℕ) (a : Around) (c : ℕ) (cs : List ℕ) where
+module _ (rows : List (List ℕ)) (tab : Option ℕ) (first : Bool) (at : ℕ) (a : Context) (c : ℕ) (cs : List ℕ) where
   pub found_sign : (kind : Kind) → sign_at a c cs ≡ Some kind → found_at rows tab first at a c cs ≡ sign_found tab first at a kind
   unfolding found_at
   found_sign kind h =
       by_case (eqb at 0) (document_at c cs a) (sign_alone c cs a kind h)
       ∙ block_signs rows tab first at a c cs ∙ ap (sign_or tab first at a (word_at rows at a c cs)) h
     where
-      by_case : (b : Bool) (d : Option Found) → d ≡ None → found_or (cond b d None) (block_at rows tab first at a c cs) ≡ block_at rows tab first at a c cs
+      by_case : (b : Bool) (d : Option FoundLexemeValue) → d ≡ None → found_or (cond b d None) (block_at rows tab first at a c cs) ≡ block_at rows tab first at a c cs
       by_case true d e = rw e refl
       by_case false d e = refl
 
@@ -121,9 +121,9 @@ module _ (rows : List (List ℕ)) (tab : Option ℕ) (first : Bool) (at : ℕ) (
       ∙ block_signs rows tab first at a c cs ∙ ap (sign_or tab first at a (word_at rows at a c cs)) h
 
 -- no document marker and no directive stands at a later place of a row
-pub later_place : (at : ℕ) (d : Option Found) → eqb at 0 ≡ false → cond (eqb at 0) d None ≡ None
+pub later_place : (at : ℕ) (d : Option FoundLexemeValue) → eqb at 0 ≡ false → cond (eqb at 0) d None ≡ None
 later_place at d h = rw h refl
 
-pub nothing_there : (b : Bool) (d : Option Found) → d ≡ None → cond b d None ≡ None
+pub nothing_there : (b : Bool) (d : Option FoundLexemeValue) → d ≡ None → cond b d None ≡ None
 nothing_there true d h = h
 nothing_there false d h = refl

@@ -5,41 +5,41 @@ use Rattle.std.proofs.lemmas.Bool.{eqb-true}
 use Rattle.std.specs.List.{prefix_len}
 use Rattle.yl_text.specs.Character.{is_white, is_blank, is_marker, indentation, without_front}
 use Rattle.yl_scalar.specs.declared.answer.ScalarFault.TheVariants.{UnclosedQuote, MarkerInQuote, BadEscape}
-use Rattle.yl_scalar.specs.Reading.{Reading, Whole, Refused, Stepped, GoesOn, EndedAbove, Fails, settled, read, unless_bad}
+use Rattle.yl_scalar.specs.Reading.{ScalarOutcomeValue, Whole, Refused, ScalarStepValue, GoesOn, EndedAbove, Fails, outcome_of_step, outcome_of_lines, unless_bad}
 use Rattle.yl_scalar.specs.Allowed.{first_bad}
 use Rattle.yl_scalar.specs.Plain.{part, reaches_end, continues}
-use Rattle.yl_scalar.specs.PlainSteps.{PlainState, plain_extent, plain_step, plain_finish, with_line, taken}
+use Rattle.yl_scalar.specs.PlainSteps.{PlainReaderValue, plain_extent, plain_step, plain_finish, with_line, plain_step_behind}
 use Rattle.yl_scalar.specs.Quoted.{Stretch, Closes, Breaks, Faulty, stretch}
-use Rattle.yl_scalar.specs.QuotedSteps.{QuotedState, quoted_step, quoted_finish, took, with_break, cut}
-use Rattle.yl_scalar.specs.Block.{BlockState, block_extent, block_step, block_finish, text_line, deeper, begun, spaces_with}
+use Rattle.yl_scalar.specs.QuotedSteps.{QuotedReaderValue, quoted_step, quoted_finish, quoted_step_behind, with_break, unclosed_outcome}
+use Rattle.yl_scalar.specs.Block.{BlockReaderValue, block_extent, block_step, block_finish, text_line, deeper, unless_too_deep, spaces_with}
 
 -- ---- plain scalars
 
-abbrev pub PlainEnds : PlainState → Reading → Type 0
+abbrev pub PlainEnds : PlainReaderValue → ScalarOutcomeValue → Type 0
 PlainEnds s (Whole e) = ((e.down ≡ s.down) × (e.column ≡ s.column)) ⊎ (s.down + s.blanks < e.down)
 PlainEnds s (Refused fault down column) = s.down + s.blanks < down
 
-plain_blank : (s : PlainState) (r : Reading) → PlainEnds (record s { blanks = s.blanks + 1 }) r → PlainEnds s r
+plain_blank : (s : PlainReaderValue) (r : ScalarOutcomeValue) → PlainEnds (record s { blanks = s.blanks + 1 }) r → PlainEnds s r
 plain_blank s (Whole e) (inl h) = inl h
 plain_blank s (Whole e) (inr h) = inr (omega arith)
 plain_blank s (Refused fault down column) h = omega arith
 
-plain_line : (s : PlainState) (row : List ℕ) (r : Reading) → PlainEnds (with_line s row) r → PlainEnds s r
+plain_line : (s : PlainReaderValue) (row : List ℕ) (r : ScalarOutcomeValue) → PlainEnds (with_line s row) r → PlainEnds s r
 plain_line s row (Whole e) (inl h) = inr (omega (arith, h.0))
 plain_line s row (Whole e) (inr h) = inr (omega arith)
 plain_line s row (Refused fault down column) h = omega arith
 
-pub plain_ends_at : (s : PlainState) (rows : List (List ℕ)) → PlainEnds s (read plain_step plain_finish s rows)
+pub plain_ends_at : (s : PlainReaderValue) (rows : List (List ℕ)) → PlainEnds s (outcome_of_lines plain_step plain_finish s rows)
 plain_ends_at s [] = inl (refl, refl)
 plain_ends_at s (row ∷ rows) =
     by_case (is_blank row) (continues s.flow s.least row) (first_bad (part s.flow true (without_front row))) (reaches_end s.flow true (without_front row))
     (plain_blank s _ (plain_ends_at (record s { blanks = s.blanks + 1 }) rows)) (plain_line s row _ (plain_ends_at (with_line s row) rows))
   where
     by_case : (blank goes : Bool) (bad : Option ℕ) (reaches : Bool)
-        → PlainEnds s (read plain_step plain_finish (record s { blanks = s.blanks + 1 }) rows) → PlainEnds s (read plain_step plain_finish (with_line s row) rows)
-        → PlainEnds s (settled (λ s. read plain_step plain_finish s rows)
+        → PlainEnds s (outcome_of_lines plain_step plain_finish (record s { blanks = s.blanks + 1 }) rows) → PlainEnds s (outcome_of_lines plain_step plain_finish (with_line s row) rows)
+        → PlainEnds s (outcome_of_step (λ s. outcome_of_lines plain_step plain_finish s rows)
         (cond blank (GoesOn (record s { blanks = s.blanks + 1 }))
-        (cond goes (unless_bad bad (s.down + s.blanks + 1) (prefix_len is_white row) (taken reaches (with_line s row))) (EndedAbove (plain_extent s)))))
+        (cond goes (unless_bad bad (s.down + s.blanks + 1) (prefix_len is_white row) (plain_step_behind reaches (with_line s row))) (EndedAbove (plain_extent s)))))
     by_case true goes bad reaches p q = p
     by_case false false bad reaches p q = inl (refl, refl)
     by_case false true (Some i) reaches p q = omega arith
@@ -48,33 +48,33 @@ plain_ends_at s (row ∷ rows) =
 
 -- ---- quoted scalars
 
-abbrev pub QuotedEnds : QuotedState → Reading → Type 0
+abbrev pub QuotedEnds : QuotedReaderValue → ScalarOutcomeValue → Type 0
 QuotedEnds s (Whole e) = s.down + s.blanks < e.down
 QuotedEnds s (Refused fault down column) = (fault ≡ UnclosedQuote) ⊎ (s.down + s.blanks ≤ down)
 
-quoted_blank : (s : QuotedState) (r : Reading) → QuotedEnds (record s { blanks = s.blanks + 1 }) r → QuotedEnds s r
+quoted_blank : (s : QuotedReaderValue) (r : ScalarOutcomeValue) → QuotedEnds (record s { blanks = s.blanks + 1 }) r → QuotedEnds s r
 quoted_blank s (Whole e) h = omega arith
 quoted_blank s (Refused fault down column) (inl h) = inl h
 quoted_blank s (Refused fault down column) (inr h) = inr (omega arith)
 
 -- behind a line that is not blank, with this value and backslash
-abbrev pub behind : QuotedState → List ℕ → Option ℕ → QuotedState
+abbrev pub behind : QuotedReaderValue → List ℕ → Option ℕ → QuotedReaderValue
 behind s value backslash = record (with_break s) { value = value; backslash = backslash }
 
-quoted_line : (s : QuotedState) (value : List ℕ) (backslash : Option ℕ) (r : Reading) → QuotedEnds (behind s value backslash) r → QuotedEnds s r
+quoted_line : (s : QuotedReaderValue) (value : List ℕ) (backslash : Option ℕ) (r : ScalarOutcomeValue) → QuotedEnds (behind s value backslash) r → QuotedEnds s r
 quoted_line s value backslash (Whole e) h = omega arith
 quoted_line s value backslash (Refused fault down column) (inl h) = inl h
 quoted_line s value backslash (Refused fault down column) (inr h) = inr (omega arith)
 
-cut_some : (s : QuotedState) (column : ℕ) (b : Bool) → (b ≡ true → s.blanks ≡ 0) → QuotedEnds s (cond b (Refused BadEscape s.down column) (Refused UnclosedQuote 0 s.opening))
+cut_some : (s : QuotedReaderValue) (column : ℕ) (b : Bool) → (b ≡ true → s.blanks ≡ 0) → QuotedEnds s (cond b (Refused BadEscape s.down column) (Refused UnclosedQuote 0 s.opening))
 cut_some s column true h = let e = h refl in inr (omega arith)
 cut_some s column false h = inl refl
 
-cut_ends : (s : QuotedState) (backslash : Option ℕ) → QuotedEnds s (cut backslash s)
+cut_ends : (s : QuotedReaderValue) (backslash : Option ℕ) → QuotedEnds s (unclosed_outcome backslash s)
 cut_ends s None = inl refl
 cut_ends s (Some column) = cut_some s column (eqb s.blanks 0) (λ h. eqb-true s.blanks 0 h)
 
-pub quoted_ends_at : (s : QuotedState) (rows : List (List ℕ)) → QuotedEnds s (read quoted_step quoted_finish s rows)
+pub quoted_ends_at : (s : QuotedReaderValue) (rows : List (List ℕ)) → QuotedEnds s (outcome_of_lines quoted_step quoted_finish s rows)
 quoted_ends_at s [] = cut_ends s s.backslash
 quoted_ends_at s (row ∷ rows) =
     by_case (is_marker row) (is_blank row) (stretch s.double 0 (with_break s).value (length (with_break s).value) 0 (without_front row))
@@ -82,11 +82,11 @@ quoted_ends_at s (row ∷ rows) =
     (λ value backslash. quoted_line s value backslash _ (quoted_ends_at (behind s value backslash) rows))
   where
     by_case : (marker blank : Bool) (t : Stretch)
-        → QuotedEnds s (read quoted_step quoted_finish (record s { blanks = s.blanks + 1 }) rows)
-        → ((value : List ℕ) (backslash : Option ℕ) → QuotedEnds s (read quoted_step quoted_finish (behind s value backslash) rows))
-        → QuotedEnds s (settled (λ s. read quoted_step quoted_finish s rows)
+        → QuotedEnds s (outcome_of_lines quoted_step quoted_finish (record s { blanks = s.blanks + 1 }) rows)
+        → ((value : List ℕ) (backslash : Option ℕ) → QuotedEnds s (outcome_of_lines quoted_step quoted_finish (behind s value backslash) rows))
+        → QuotedEnds s (outcome_of_step (λ s. outcome_of_lines quoted_step quoted_finish s rows)
         (cond marker (Fails MarkerInQuote (s.down + s.blanks + 1) 0)
-        (cond blank (GoesOn (record s { blanks = s.blanks + 1 })) (took (with_break s) (prefix_len is_white row) t))))
+        (cond blank (GoesOn (record s { blanks = s.blanks + 1 })) (quoted_step_behind (with_break s) (prefix_len is_white row) t))))
     by_case true blank t p q = inr (omega arith)
     by_case false true t p q = p
     by_case false false (Closes text place) p q = omega arith
@@ -95,57 +95,57 @@ quoted_ends_at s (row ∷ rows) =
 
 -- ---- block scalars
 
-abbrev pub BlockEnds : BlockState → Reading → Type 0
+abbrev pub BlockEnds : BlockReaderValue → ScalarOutcomeValue → Type 0
 BlockEnds s (Whole e) = ((e.down ≡ s.down) × (e.column ≡ s.column)) ⊎ (s.down + s.blanks < e.down)
 BlockEnds s (Refused fault down column) = (s.content ≡ None) ⊎ (s.down + s.blanks < down)
 
 -- a blank line leaves a column that is known
-block_blank : (s : BlockState) (spaces : List ℕ) (r : Reading) → BlockEnds (record s { blanks = s.blanks + 1; spaces = spaces }) r → BlockEnds s r
+block_blank : (s : BlockReaderValue) (spaces : List ℕ) (r : ScalarOutcomeValue) → BlockEnds (record s { blanks = s.blanks + 1; spaces = spaces }) r → BlockEnds s r
 block_blank s spaces (Whole e) (inl h) = inl h
 block_blank s spaces (Whole e) (inr h) = inr (omega arith)
 block_blank s spaces (Refused fault down column) (inl h) = inl h
 block_blank s spaces (Refused fault down column) (inr h) = inr (omega arith)
 
-abbrev pub behind_content : BlockState → ℕ → List ℕ → BlockState
+abbrev pub behind_content : BlockReaderValue → ℕ → List ℕ → BlockReaderValue
 behind_content s content line = record { least = s.least; content = Some content; down = s.down + s.blanks + 1; column = length line; blanks = 0; spaces = s.spaces }
 
-block_content : (s : BlockState) (content : ℕ) (line : List ℕ) (r : Reading) → BlockEnds (behind_content s content line) r → BlockEnds s r
+block_content : (s : BlockReaderValue) (content : ℕ) (line : List ℕ) (r : ScalarOutcomeValue) → BlockEnds (behind_content s content line) r → BlockEnds s r
 block_content s content line (Whole e) (inl h) = inr (omega (arith, h.0))
 block_content s content line (Whole e) (inr h) = inr (omega arith)
 block_content s content line (Refused fault down column) (inl h) = cc
 block_content s content line (Refused fault down column) (inr h) = inr (omega arith)
 
-module _ (s : BlockState) (row : List ℕ) (rows : List (List ℕ)) where
-  abbrev below : Stepped BlockState → Reading
-  below t = settled (λ s. read block_step block_finish s rows) t
+module _ (s : BlockReaderValue) (row : List ℕ) (rows : List (List ℕ)) where
+  abbrev below : ScalarStepValue BlockReaderValue → ScalarOutcomeValue
+  below t = outcome_of_step (λ s. outcome_of_lines block_step block_finish s rows) t
 
-  contents : (content : ℕ) (bad : Option ℕ) → BlockEnds s (read block_step block_finish (behind_content s content row) rows)
+  contents : (content : ℕ) (bad : Option ℕ) → BlockEnds s (outcome_of_lines block_step block_finish (behind_content s content row) rows)
       → BlockEnds s (below (unless_bad bad (s.down + s.blanks + 1) 0 (GoesOn (behind_content s content row))))
   contents content None q = q
   contents content (Some i) q = inr (omega arith)
 
-  begins : (content : ℕ) (deep : Option (ℕ × ℕ)) (bad : Option ℕ) → s.content ≡ None → BlockEnds s (read block_step block_finish (behind_content s content row) rows)
-      → BlockEnds s (below (begun deep (unless_bad bad (s.down + s.blanks + 1) 0 (GoesOn (behind_content s content row)))))
+  begins : (content : ℕ) (deep : Option (ℕ × ℕ)) (bad : Option ℕ) → s.content ≡ None → BlockEnds s (outcome_of_lines block_step block_finish (behind_content s content row) rows)
+      → BlockEnds s (below (unless_too_deep deep (unless_bad bad (s.down + s.blanks + 1) 0 (GoesOn (behind_content s content row)))))
   begins content None bad e q = contents content bad q
   begins content (Some place) bad e q = inl e
 
-  either : (b : Bool) (t : Stepped BlockState) → BlockEnds s (below t) → BlockEnds s (below (cond b t (EndedAbove (block_extent s))))
+  either : (b : Bool) (t : ScalarStepValue BlockReaderValue) → BlockEnds s (below t) → BlockEnds s (below (cond b t (EndedAbove (block_extent s))))
   either true t h = h
   either false t h = inl (refl, refl)
 
-  texts : (known : Option ℕ) → s.content ≡ known → ((content : ℕ) → BlockEnds s (read block_step block_finish (behind_content s content row) rows)) → BlockEnds s (below (text_line known s row))
+  texts : (known : Option ℕ) → s.content ≡ known → ((content : ℕ) → BlockEnds s (outcome_of_lines block_step block_finish (behind_content s content row) rows)) → BlockEnds s (below (text_line known s row))
   texts None e q =
       either (leb s.least (indentation row)) _ (begins (indentation row) (deeper (indentation row) 1 s.spaces) (first_bad row) e (q (indentation row)))
   texts (Some content) e q = either (leb content (indentation row)) _ (contents content (first_bad row) (q content))
 
-  lines : (blank marker : Bool) → ((spaces : List ℕ) → BlockEnds s (read block_step block_finish (record s { blanks = s.blanks + 1; spaces = spaces }) rows))
+  lines : (blank marker : Bool) → ((spaces : List ℕ) → BlockEnds s (outcome_of_lines block_step block_finish (record s { blanks = s.blanks + 1; spaces = spaces }) rows))
       → BlockEnds s (below (text_line s.content s row))
       → BlockEnds s (below (cond blank (GoesOn (record s { blanks = s.blanks + 1; spaces = spaces_with s.content s.spaces row })) (cond marker (EndedAbove (block_extent s)) (text_line s.content s row))))
   lines true marker p q = p (spaces_with s.content s.spaces row)
   lines false true p q = inl (refl, refl)
   lines false false p q = q
 
-pub block_ends_at : (s : BlockState) (rows : List (List ℕ)) → BlockEnds s (read block_step block_finish s rows)
+pub block_ends_at : (s : BlockReaderValue) (rows : List (List ℕ)) → BlockEnds s (outcome_of_lines block_step block_finish s rows)
 block_ends_at s [] = inl (refl, refl)
 block_ends_at s (row ∷ rows) =
     lines s row rows (is_blank row) (is_marker row)

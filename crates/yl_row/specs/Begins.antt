@@ -1,25 +1,26 @@
--- The row in which a scalar begins that may go on below: it ends there so far, and behind that end the row holds nothing but white space.
+-- Bridge: the row in which a scalar begins that may go on below: it ends there so far, and behind
+-- that end the row holds nothing but white space.
 use Rattle.std.specs.Prelude.{◌≡◌, ℕ, ◌+◌, ◌-◌, Bool, true, List, ◌∷◌, drop, length}
 use Rattle.yl_text.specs.Character.{is_blank}
-use Rattle.yl_scalar.specs.Reading.{Stepped, GoesOn, EndsIn, EndedAbove, Fails}
+use Rattle.yl_scalar.specs.Reading.{ScalarStepValue, GoesOn, EndsIn, EndedAbove, Fails}
 use Rattle.yl_scalar.specs.PlainSteps.{plain_begin}
 use Rattle.yl_scalar.specs.QuotedSteps.{quoted_begin}
 use Rattle.yl_scalar.specs.Block.{block_begin}
-use Rattle.yl_row.specs.Mode.{Mode, InPlain, InQuoted, InBlock, by, rows_in, KeepsSpaces, ColumnBy}
+use Rattle.yl_row.specs.ScalarReader.{ScalarReaderValue, InPlain, InQuoted, InBlock, map_step, rows_in, KeepsSpaces, ColumnBy}
 
 -- the scalar that begins at this column, with this text from there on
-abbrev pub BlankBehind : ℕ → List ℕ → Mode → Type 0
+abbrev pub BlankBehind : ℕ → List ℕ → ScalarReaderValue → Type 0
 BlankBehind at text (InPlain s) = is_blank (drop (s.column - at) text) ≡ true
 BlankBehind at text (InQuoted s) = Unit {0}
 BlankBehind at text (InBlock s) = is_blank (drop (s.column - at) text) ≡ true
 
-pub record Rests (at : ℕ) (text : List ℕ) (m : Mode) : Type 0 where
+pub record Rests (at : ℕ) (text : List ℕ) (m : ScalarReaderValue) : Type 0 where
   pub rows : rows_in m ≡ 0
   pub spaces : KeepsSpaces m
   pub blank : BlankBehind at text m
   pub column : ColumnBy (at + length text) m
 
-abbrev pub BeginsAt : ℕ → List ℕ → Stepped Mode → Type 0
+abbrev pub BeginsAt : ℕ → List ℕ → ScalarStepValue ScalarReaderValue → Type 0
 BeginsAt at text (GoesOn m) = Rests at text m
 BeginsAt at text (EndsIn e) = Unit {0}
 BeginsAt at text (EndedAbove e) = Unit {0}
@@ -27,10 +28,10 @@ BeginsAt at text (Fails fault down column) = Unit {0}
 
 -- of each style
 abbrev pub PlainBegins : Type 0
-PlainBegins = (flow : Bool) (least at : ℕ) (text : List ℕ) → BeginsAt at text (by InPlain (plain_begin flow least at text))
+PlainBegins = (flow : Bool) (least at : ℕ) (text : List ℕ) → BeginsAt at text (map_step InPlain (plain_begin flow least at text))
 
 abbrev pub QuotedBegins : Type 0
-QuotedBegins = (double : Bool) (at : ℕ) (rest text : List ℕ) → BeginsAt at text (by InQuoted (quoted_begin double at rest))
+QuotedBegins = (double : Bool) (at : ℕ) (rest text : List ℕ) → BeginsAt at text (map_step InQuoted (quoted_begin double at rest))
 
 abbrev pub BlockBegins : Type 0
-BlockBegins = (least at c : ℕ) (header : List ℕ) → BeginsAt at (c ∷ header) (by InBlock (block_begin least at header))
+BlockBegins = (least at c : ℕ) (header : List ℕ) → BeginsAt at (c ∷ header) (map_step InBlock (block_begin least at header))

@@ -1,99 +1,101 @@
--- What a text consists of, row by row: for each row the state if it is sound, the lexemes and the comment that begin in it, with
--- places relative to it, and the scan fault of the lexeme that begins in it. YAML 1.2.2, chapters 5 to 9.
+-- Meaning: what a text consists of, row by row: for each row the state if it is sound, the lexemes
+-- and the comment that begin in it, with places relative to it, and the scan fault of the lexeme
+-- that begins in it. YAML 1.2.2, chapters 5 to 9.
 use Rattle.std.specs.Prelude.{ℕ, zero, suc, Bool, true, false, not, ◌&&◌, ◌||◌, ◌==◌, nat_lt, nat_le, if◌then◌else◌, List, [], ◌∷◌, ◌++◌, ◌+◌, ◌-◌, Option, Some, None}
 use Rattle.std.specs.List.{filter}
 use Rattle.std.specs.Str.{encode_utf8_all}
+use Rattle.yl_text.specs.Char as char
 use Rattle.yl_text.specs.declared.position.Pos.{Pos}
 use Rattle.yl_text.specs.Character.{is_white, is_blank}
 use Rattle.yl_lexeme.specs.declared.lexeme.Kind.{Kind}
 use Rattle.yl_lexeme.specs.declared.lexeme.Kind.TheVariants.{DocEnd}
 use Rattle.yl_lexeme.specs.Lexeme.{LexemeValue, CommentValue}
-use Rattle.yl_row.specs.declared.fault.Faulted.{Faulted}
+use Rattle.yl_row.specs.declared.fault.PlacedScanFault.{PlacedScanFault}
 use Rattle.yl_row.specs.Fault.{is_unclosed, is_tab}
-use Rattle.yl_lexeme.specs.Past.{Past, Around, look, at_place, past_of}
-use Rattle.yl_row.specs.Step.{Found, found_at, step_fault, bad_in, first_tab}
+use Rattle.yl_lexeme.specs.Past.{PastLexeme, Context, context_from, at_place, past_lexeme}
+use Rattle.yl_row.specs.Step.{FoundLexemeValue, found_at, step_fault, bad_in, first_tab}
 
 -- what must be known at a sound row: each open column one more (the greatest first), the open brackets (the innermost first), and
 -- the last lexeme's kind; or that a fault has come before
-pub data State : Type 0 where
-  Stopped : State
-  Stands : (levels : List ℕ) (brackets : List Kind) (last : Option Kind) → State
+pub data LineStateValue : Type 0 where
+  Stopped : LineStateValue
+  Stands : (levels : List ℕ) (brackets : List Kind) (last : Option Kind) → LineStateValue
 
-pub record Entry : Type 0 where
-  pub state : Option State
+pub record RowEntry : Type 0 where
+  pub state : Option LineStateValue
   pub lexemes : List LexemeValue
   pub comment : Option CommentValue
-  pub fault : Option Faulted
+  pub fault : Option PlacedScanFault
 
 -- what a row holds from a place on, and where the next lexeme may stand: so many rows further down, behind a column, with this
 -- known of all that came before
-pub record Reading (S : Type 0) : Type 0 where
+pub record RowReading (S : Type 0) : Type 0 where
   pub lexemes : List LexemeValue
   pub comment : Option CommentValue
-  pub fault : Option Faulted
+  pub fault : Option PlacedScanFault
   pub down : ℕ
   pub column : ℕ
   pub behind : S
 
-abbrev pub goes_down : {S : Type 0} → ℕ → ℕ → S → Reading S
-goes_down down column behind = record { lexemes = []; comment = None; fault = None; down = down; column = column; behind = behind }
+abbrev pub reading_below : {S : Type 0} → ℕ → ℕ → S → RowReading S
+reading_below down column behind = record { lexemes = []; comment = None; fault = None; down = down; column = column; behind = behind }
 
-abbrev pub commented : {S : Type 0} → CommentValue → S → Reading S
-commented c behind = record { lexemes = []; comment = Some c; fault = None; down = 0; column = 0; behind = behind }
+abbrev pub comment_reading : {S : Type 0} → CommentValue → S → RowReading S
+comment_reading c behind = record { lexemes = []; comment = Some c; fault = None; down = 0; column = 0; behind = behind }
 
-abbrev pub with_lexeme : {S : Type 0} → LexemeValue → Reading S → Reading S
+abbrev pub with_lexeme : {S : Type 0} → LexemeValue → RowReading S → RowReading S
 with_lexeme x r = record { lexemes = x ∷ r.lexemes; comment = r.comment; fault = r.fault; down = r.down; column = r.column; behind = r.behind }
 
-abbrev pub failed : {S : Type 0} → Faulted → S → Reading S
-failed f behind = record { lexemes = []; comment = None; fault = Some f; down = 0; column = 0; behind = behind }
+abbrev pub fault_reading : {S : Type 0} → PlacedScanFault → S → RowReading S
+fault_reading f behind = record { lexemes = []; comment = None; fault = Some f; down = 0; column = 0; behind = behind }
 
 abbrev pub ends_document : Kind → Bool
 ends_document DocEnd = true
 ends_document _ = false
 
-abbrev pub place : ℕ → ℕ → Pos
-place line column = record { line = line; col = column }
+abbrev pub pos_at : ℕ → ℕ → Pos
+pos_at line column = record { line = line; col = column }
 
 -- the lexeme that was found at a column
-abbrev pub lexeme_of : ℕ → Found → LexemeValue
-lexeme_of at found = record { kind = found.kind; start = place 0 at; end = place found.down found.column; value = found.value }
+abbrev pub lexeme_of : ℕ → FoundLexemeValue → LexemeValue
+lexeme_of at found = record { kind = found.kind; start = pos_at 0 at; end = pos_at found.down found.column; value = found.value }
 
 abbrev pub comment_of : ℕ → List ℕ → CommentValue
 comment_of at text = record { column = at; text = encode_utf8_all text }
 
 -- behind a lexeme that ends in this row or further down
-abbrev pub after_lexeme : {S : Type 0} → ℕ → Found → S → (ℕ → Reading S) → ℕ → Reading S
+abbrev pub after_lexeme : {S : Type 0} → ℕ → FoundLexemeValue → S → (ℕ → RowReading S) → ℕ → RowReading S
 after_lexeme at found behind more zero = more (found.column - at - 1)
-after_lexeme at found behind more (suc down) = goes_down (suc down) found.column behind
+after_lexeme at found behind more (suc down) = reading_below (suc down) found.column behind
 
 -- a fault stops the reading, so that nothing need be known behind it; a document's end is there though something stands behind it
-abbrev pub chosen : {S : Type 0} → LexemeValue → S → Reading S → Option Faulted → Reading S
-chosen x nothing more None = with_lexeme x more
-chosen x nothing more (Some f) = if ends_document x.kind then with_lexeme x (failed f nothing) else failed f nothing
+abbrev pub reading_or_fault : {S : Type 0} → LexemeValue → S → RowReading S → Option PlacedScanFault → RowReading S
+reading_or_fault x nothing more None = with_lexeme x more
+reading_or_fault x nothing more (Some f) = if ends_document x.kind then with_lexeme x (fault_reading f nothing) else fault_reading f nothing
 
-abbrev pub comment_or : {S : Type 0} → CommentValue → S → S → Option Faulted → Reading S
-comment_or c behind nothing None = commented c behind
-comment_or c behind nothing (Some f) = failed f nothing
+abbrev pub comment_or : {S : Type 0} → CommentValue → S → S → Option PlacedScanFault → RowReading S
+comment_or c behind nothing None = comment_reading c behind
+comment_or c behind nothing (Some f) = fault_reading f nothing
 
-abbrev pub took : Option ℕ → Bool → ℕ → Around → List Past → List Past → (ℕ → List Past → Reading (List Past)) → Found → Reading (List Past)
-took tab first at a here older more found =
-    let here' = past_of at first a found.kind ∷ here in
-    chosen (lexeme_of at found) [] (after_lexeme at found (here' ++ older) (λ skip. more skip here') found.down)
+abbrev pub lexeme_reading : Option ℕ → Bool → ℕ → Context → List PastLexeme → List PastLexeme → (ℕ → List PastLexeme → RowReading (List PastLexeme)) → FoundLexemeValue → RowReading (List PastLexeme)
+lexeme_reading tab first at a here older more found =
+    let here' = past_lexeme at first a found.kind ∷ here in
+    reading_or_fault (lexeme_of at found) [] (after_lexeme at found (here' ++ older) (λ skip. more skip here') found.down)
     (step_fault tab first at a found)
 
 -- the row from a column on; rows are those below. tab: the row's first tab. skip: how many characters belong to the lexeme
 -- before. behind_space: white space or the row's start stands before the place. first: nothing but white space does
-abbrev pub read : List (List ℕ) → Option ℕ → ℕ → Bool → Bool → ℕ → List Past → List Past → List ℕ → Reading (List Past)
-read rows tab skip behind_space first at here older [] = goes_down 0 0 (here ++ older)
-read rows tab skip behind_space first at here older (c ∷ cs) =
-    if nat_lt 0 skip then read rows tab (skip - 1) false first (at + 1) here older cs
-    else if is_white c then read rows tab 0 true first (at + 1) here older cs
-    else if c == 0x23 && behind_space then comment_or (comment_of at (c ∷ cs)) (here ++ older) [] (bad_in at (c ∷ cs))
-    else took tab first at (at_place first at (look here older)) here older
-    (λ skip here. read rows tab skip false false (at + 1) here older cs)
-    (found_at rows tab first at (at_place first at (look here older)) c cs)
+abbrev pub row_reading : List (List ℕ) → Option ℕ → ℕ → Bool → Bool → ℕ → List PastLexeme → List PastLexeme → List ℕ → RowReading (List PastLexeme)
+row_reading rows tab skip behind_space first at here older [] = reading_below 0 0 (here ++ older)
+row_reading rows tab skip behind_space first at here older (c ∷ cs) =
+    if nat_lt 0 skip then row_reading rows tab (skip - 1) false first (at + 1) here older cs
+    else if is_white c then row_reading rows tab 0 true first (at + 1) here older cs
+    else if c == char.hash && behind_space then comment_or (comment_of at (c ∷ cs)) (here ++ older) [] (bad_in at (c ∷ cs))
+    else lexeme_reading tab first at (at_place first at (context_from here older)) here older
+    (λ skip here. row_reading rows tab skip false false (at + 1) here older cs)
+    (found_at rows tab first at (at_place first at (context_from here older)) c cs)
 
-abbrev pub state_of : Around → State
+abbrev pub state_of : Context → LineStateValue
 state_of a = Stands a.levels a.brackets a.last
 
 abbrev pub ends_by : ℕ → LexemeValue → Bool
@@ -101,40 +103,40 @@ ends_by column x = x.end.line == 0 && nat_le x.end.col column
 
 -- a fault takes the lexemes back that end past its place: only a tab can stand before some that were read, for it may be a fault
 -- because of a key's colon
-abbrev pub kept : Option Faulted → List LexemeValue → List LexemeValue
-kept None xs = xs
-kept (Some f) xs = if is_tab f.fault then filter (ends_by f.column) xs else xs
+abbrev pub lexemes_up_to_fault : Option PlacedScanFault → List LexemeValue → List LexemeValue
+lexemes_up_to_fault None xs = xs
+lexemes_up_to_fault (Some f) xs = if is_tab f.fault then filter (ends_by f.column) xs else xs
 
 -- behind a fault: rows in its reach, then rows at which reading has stopped; an open quote reaches to the end
-abbrev pub stopped_rows : Bool → ℕ → List (List ℕ) → List Entry
+abbrev pub stopped_rows : Bool → ℕ → List (List ℕ) → List RowEntry
 stopped_rows to_end down [] = []
 stopped_rows to_end zero (row ∷ rows) =
     record { state = if is_blank row || to_end then None else Some Stopped; lexemes = []; comment = None; fault = None } ∷ stopped_rows to_end 0 rows
 stopped_rows to_end (suc down) (row ∷ rows) =
     record { state = None; lexemes = []; comment = None; fault = None } ∷ stopped_rows to_end down rows
 
-abbrev pub below : {S : Type 0} → (ℕ → ℕ → S → List Entry) → List (List ℕ) → Reading S → Option Faulted → List Entry
-below more rows r None = more r.down r.column r.behind
-below more rows r (Some f) = stopped_rows (is_unclosed f.fault) f.down rows
+abbrev pub entries_below : {S : Type 0} → (ℕ → ℕ → S → List RowEntry) → List (List ℕ) → RowReading S → Option PlacedScanFault → List RowEntry
+entries_below more rows r None = more r.down r.column r.behind
+entries_below more rows r (Some f) = stopped_rows (is_unclosed f.fault) f.down rows
 
-abbrev pub entry_of : {S : Type 0} → Option State → Reading S → Entry
-entry_of s r = record { state = s; lexemes = kept r.fault r.lexemes; comment = r.comment; fault = r.fault }
+abbrev pub entry_of : {S : Type 0} → Option LineStateValue → RowReading S → RowEntry
+entry_of s r = record { state = s; lexemes = lexemes_up_to_fault r.fault r.lexemes; comment = r.comment; fault = r.fault }
 
 -- a row is sound that begins inside no lexeme and is not blank; the text's first row always is
-abbrev pub sound_state : Bool → List ℕ → Around → Option State
+abbrev pub sound_state : Bool → List ℕ → Context → Option LineStateValue
 sound_state is_text_start row a = if is_text_start || not (is_blank row) then Some (state_of a) else None
 
 -- the rows from the one on that lies so many rows further down, behind a column if that is not the next one's start
-abbrev pub entries_from : Bool → ℕ → ℕ → List Past → List (List ℕ) → List Entry
+abbrev pub entries_from : Bool → ℕ → ℕ → List PastLexeme → List (List ℕ) → List RowEntry
 entries_from is_text_start down column older [] = []
 entries_from is_text_start (suc zero) column older (row ∷ rows) =
-    let r = read rows (first_tab true row) column false false 0 [] older row in
-    entry_of None r ∷ below (λ down column older. entries_from false down column older rows) rows r r.fault
+    let r = row_reading rows (first_tab true row) column false false 0 [] older row in
+    entry_of None r ∷ entries_below (λ down column older. entries_from false down column older rows) rows r r.fault
 entries_from is_text_start (suc (suc down)) column older (row ∷ rows) =
     record { state = None; lexemes = []; comment = None; fault = None } ∷ entries_from false (suc down) column older rows
 entries_from is_text_start zero column older (row ∷ rows) =
-    let r = read rows (first_tab false row) 0 true true 0 [] older row in
-    entry_of (sound_state is_text_start row (look [] older)) r ∷ below (λ down column older. entries_from false down column older rows) rows r r.fault
+    let r = row_reading rows (first_tab false row) 0 true true 0 [] older row in
+    entry_of (sound_state is_text_start row (context_from [] older)) r ∷ entries_below (λ down column older. entries_from false down column older rows) rows r r.fault
 
-abbrev pub entries : List (List ℕ) → List Entry
+abbrev pub entries : List (List ℕ) → List RowEntry
 entries text = entries_from true 0 0 [] text

@@ -1,9 +1,9 @@
--- Scan faults and their places.
+-- Meaning: scan faults and their places.
 use Rattle.std.specs.Prelude.{ℕ, Bool, true, false, List, Option, Some, None, codes}
 use Rattle.yl_scalar.specs.declared.answer.ScalarFault.{ScalarFault}
 use Rattle.yl_scalar.specs.declared.answer.ScalarFault.TheVariants as scalar
 use Rattle.yl_row.specs.declared.fault.ScanFault.{ScanFault}
-use Rattle.yl_row.specs.declared.fault.Faulted.{Faulted}
+use Rattle.yl_row.specs.declared.fault.PlacedScanFault.{PlacedScanFault}
 use Rattle.yl_row.specs.declared.fault.ScanFault.TheVariants.{NotAllowed, TabInIndentation, EntryNotAllowed, KeyNotAllowed, ValueNotAllowed, UnclosedQuote, MarkerInQuote, BadEscape, BadHeader, BadIndentation, BracketWithoutPartner, EmptyName, BadTag, ContentAfterDocumentEnd}
 
 abbrev pub fault_text : ScanFault → List ℕ
@@ -22,7 +22,7 @@ fault_text EmptyName = codes "empty anchor or alias name"
 fault_text BadTag = codes "bad tag"
 fault_text ContentAfterDocumentEnd = codes "content after document end"
 
-abbrev pub fault_at : ScanFault → ℕ → Faulted
+abbrev pub fault_at : ScanFault → ℕ → PlacedScanFault
 fault_at fault column = record { fault = fault; down = 0; column = column }
 
 abbrev pub of_scalar : ScalarFault → ScanFault
@@ -34,12 +34,12 @@ of_scalar scalar.BadHeader = BadHeader
 of_scalar scalar.BadIndentation = BadIndentation
 
 -- a fault, if it is so
-abbrev pub when : Bool → ScanFault → ℕ → Option Faulted
+abbrev pub when : Bool → ScanFault → ℕ → Option PlacedScanFault
 when true fault column = Some (fault_at fault column)
 when false fault column = None
 
 -- the first fault that there is
-abbrev pub or_else : Option Faulted → Option Faulted → Option Faulted
+abbrev pub or_else : Option PlacedScanFault → Option PlacedScanFault → Option PlacedScanFault
 or_else None g = g
 or_else (Some f) g = Some f
 

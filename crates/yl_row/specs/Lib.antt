@@ -1,12 +1,12 @@
 pub mod Begins
+pub mod Directives
 pub mod Entries
 pub mod Fault
 pub mod Laws
-pub mod Mode
+pub mod ScalarReader
 pub mod Reader
 pub mod Rows
 pub mod Run
 pub mod Sign
 pub mod Standing
 pub mod Step
-pub mod Try

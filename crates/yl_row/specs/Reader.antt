@@ -1,32 +1,32 @@
--- What a scalar's reader and its answers say.
+-- Bridge: what a scalar's reader and its answers say.
 use Rattle.std.specs.Prelude.{ℕ, List, []}
-use Rattle.yl_scalar.specs.declared.answer.Line.{Line}
-use Rattle.yl_scalar.specs.declared.answer.Outcome.{Outcome}
-use Rattle.yl_scalar.specs.Reading.{Reading, Stepped}
-use Rattle.yl_scalar.specs.Reader.{said, outcome, plain_state, quoted_state, block_state, plain_rows, quoted_rows, block_rows}
-use Rattle.yl_row.specs.declared.reader.Reader.{Reader}
-use Rattle.yl_row.specs.declared.reader.Reader.TheVariants.{Plain, Quoted, Block}
-use Rattle.yl_row.specs.Mode.{Mode, InPlain, InQuoted, InBlock}
+use Rattle.yl_scalar.specs.declared.answer.ScalarStep.{ScalarStep}
+use Rattle.yl_scalar.specs.declared.answer.ScalarOutcome.{ScalarOutcome}
+use Rattle.yl_scalar.specs.Reading.{ScalarOutcomeValue, ScalarStepValue}
+use Rattle.yl_scalar.specs.Reader.{step_value, outcome_value, plain_reader_value, quoted_reader_value, block_reader_value, plain_rows, quoted_rows, block_rows}
+use Rattle.yl_row.specs.declared.reader.ScalarReader.{ScalarReader}
+use Rattle.yl_row.specs.declared.reader.ScalarReader.TheVariants.{Plain, Quoted, Block}
+use Rattle.yl_row.specs.ScalarReader.{ScalarReaderValue, InPlain, InQuoted, InBlock}
 
-abbrev pub mode_of : {A : Type 0} → Reader A → Mode
-mode_of (Plain r) = InPlain (plain_state r)
-mode_of (Quoted r) = InQuoted (quoted_state r)
-mode_of (Block r) = InBlock (block_state r)
+abbrev pub scalar_reader_value : {A : Type 0} → ScalarReader A → ScalarReaderValue
+scalar_reader_value (Plain r) = InPlain (plain_reader_value r)
+scalar_reader_value (Quoted r) = InQuoted (quoted_reader_value r)
+scalar_reader_value (Block r) = InBlock (block_reader_value r)
 
 -- how many rows it has read below its first one
-abbrev pub rows_of : {A : Type 0} → Reader A → ℕ
+abbrev pub rows_of : {A : Type 0} → ScalarReader A → ℕ
 rows_of (Plain r) = plain_rows r
 rows_of (Quoted r) = quoted_rows r
 rows_of (Block r) = block_rows r
 
-abbrev pub value_of : {A : Type 0} → Reader A → List ℕ
-value_of (Plain r) = (plain_state r).value
-value_of (Quoted r) = (quoted_state r).value
+abbrev pub value_of : {A : Type 0} → ScalarReader A → List ℕ
+value_of (Plain r) = (plain_reader_value r).value
+value_of (Quoted r) = (quoted_reader_value r).value
 value_of (Block r) = []
 
 -- what an answer says of the reader that gave it
-abbrev pub said_by : {A : Type 0} → Line → Reader A → Stepped Mode
-said_by line r = said line (value_of r) (mode_of r)
+abbrev pub reader_step_value : {A : Type 0} → ScalarStep → ScalarReader A → ScalarStepValue ScalarReaderValue
+reader_step_value line r = step_value line (value_of r) (scalar_reader_value r)
 
-abbrev pub outcome_of : {A : Type 0} → Outcome → Reader A → Reading
-outcome_of o r = outcome o (value_of r)
+abbrev pub reader_outcome_value : {A : Type 0} → ScalarOutcome → ScalarReader A → ScalarOutcomeValue
+reader_outcome_value o r = outcome_value o (value_of r)

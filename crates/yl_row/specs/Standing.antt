@@ -1,28 +1,28 @@
--- What the scanner finds at a place, and what the rows below make of it.
+-- Bridge: what the scanner finds at a place, and what the rows below make of it.
 use Rattle.std.specs.Prelude.{◌≡◌, ◌<◌, ◌^◌, ℕ, List, string_bytes, Option, Some, None}
-use Rattle.yl_scalar.specs.Reading.{Stepped, GoesOn, EndsIn, EndedAbove, Fails}
-use Rattle.yl_row.specs.declared.found.Found as code
+use Rattle.yl_scalar.specs.Reading.{ScalarStepValue, GoesOn, EndsIn, EndedAbove, Fails}
+use Rattle.yl_row.specs.declared.found.FoundLexeme as code
 use Rattle.yl_row.specs.declared.found.Standing.{Standing}
 use Rattle.yl_row.specs.declared.found.Standing.TheVariants.{Ended, Open}
-use Rattle.yl_row.specs.Step.{Found, upto}
-use Rattle.yl_row.specs.Mode.{open_found}
-use Rattle.yl_row.specs.Reader.{mode_of}
+use Rattle.yl_row.specs.Step.{FoundLexemeValue, found_in_row}
+use Rattle.yl_row.specs.ScalarReader.{open_found}
+use Rattle.yl_row.specs.Reader.{scalar_reader_value}
 use Rattle.yl_row.specs.Begins.{Rests}
 
-abbrev pub found_of : {A : Type 0} → code.Found A → Found
-found_of f = upto f.kind f.column (string_bytes f.value) f.fault
+abbrev pub found_lexeme_value : {A : Type 0} → code.FoundLexeme A → FoundLexemeValue
+found_lexeme_value f = found_in_row f.kind f.column (string_bytes f.value) f.fault
 
-abbrev pub standing : {A : Type 0} → ℕ → List (List ℕ) → Standing A → Found
-standing at rows (Ended f) = found_of f
-standing at rows (Open style r) = open_found style at (mode_of r) rows
+abbrev pub standing_value : {A : Type 0} → ℕ → List (List ℕ) → Standing A → FoundLexemeValue
+standing_value at rows (Ended f) = found_lexeme_value f
+standing_value at rows (Open style r) = open_found style at (scalar_reader_value r) rows
 
 -- nothing of it is found, or that
-abbrev pub found_option : {A : Type 0} → Option (code.Found A) → Option Found
+abbrev pub found_option : {A : Type 0} → Option (code.FoundLexeme A) → Option FoundLexemeValue
 found_option None = None
-found_option (Some f) = Some (found_of f)
+found_option (Some f) = Some (found_lexeme_value f)
 
 -- if it ends, then in its first row, before a column that fits
-abbrev pub EndsHere : {S : Type 0} → Stepped S → Type 0
+abbrev pub EndsHere : {S : Type 0} → ScalarStepValue S → Type 0
 EndsHere (GoesOn s) = Unit {0}
 EndsHere (EndsIn e) = (e.down ≡ 0) × (e.column < 2 ^ 32)
 EndsHere (EndedAbove e) = (e.down ≡ 0) × (e.column < 2 ^ 32)
@@ -31,4 +31,4 @@ EndsHere (Fails fault down column) = Unit {0}
 -- a scalar that may go on below begins at this column, with this text from there on: so it stands behind its first row
 abbrev pub StandingRests : {A : Type 0} → ℕ → List ℕ → Standing A → Type 0
 StandingRests at text (Ended f) = Unit {0}
-StandingRests at text (Open style r) = Rests at text (mode_of r)
+StandingRests at text (Open style r) = Rests at text (scalar_reader_value r)

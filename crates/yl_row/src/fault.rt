@@ -79,18 +79,18 @@ pub fn of_scalar(fault: ScalarFault) -> ScanFault
 /// A scan fault and its place: so many rows below the one in which the lexeme begins that it interrupts, and the column, in
 /// characters from 0.
 #[derive(Clone, Copy, Debug, PartialEq, Eq)]
-pub struct Faulted {
+pub struct PlacedScanFault {
     pub fault: ScanFault,
     pub down: usize,
     pub column: usize,
 }
 
 /// A fault of the row in which the lexeme begins, if it is so.
-pub fn when(holds: bool, fault: ScanFault, column: usize) -> Option<Faulted>
+pub fn when(holds: bool, fault: ScanFault, column: usize) -> Option<PlacedScanFault>
     ensures { result ≡ when holds fault column }
 {
     if holds {
-        Some(Faulted {
+        Some(PlacedScanFault {
             fault,
             down: 0,
             column,
@@ -101,7 +101,10 @@ pub fn when(holds: bool, fault: ScanFault, column: usize) -> Option<Faulted>
 }
 
 /// The first fault that there is.
-pub fn or_else(fault: Option<Faulted>, other: Option<Faulted>) -> Option<Faulted>
+pub fn or_else(
+    fault: Option<PlacedScanFault>,
+    other: Option<PlacedScanFault>,
+) -> Option<PlacedScanFault>
     ensures { result ≡ or_else fault other }
 {
     match fault {

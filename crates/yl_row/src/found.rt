@@ -2,53 +2,55 @@
 
 ghost use Rattle.std.specs.Prelude.{◌≡◌, ◌≤◌, ◌<◌, ◌+◌, ◌-◌, ◌^◌, ◌∷◌, [], IfOk, Some, None, Option, Bool, List, ℕ, length, drop, string_bytes};
 ghost use Rattle.std.specs.Str.{encode_utf8_all};
-ghost use Rattle.yl_scalar.specs.Reading.{read, settled};
+ghost use Rattle.yl_scalar.specs.Reading.{outcome_of_lines, outcome_of_step};
 ghost use Rattle.yl_scalar.specs.PlainSteps.{plain};
 ghost use Rattle.yl_scalar.specs.QuotedSteps.{quoted};
 ghost use Rattle.yl_scalar.specs.Block.{block};
 ghost use Rattle.yl_row.specs.Begins.{BeginsAt};
 ghost use Rattle.yl_row.specs.declared.fault.ScanFault.TheVariants.{BracketWithoutPartner};
 ghost use Rattle.yl_row.specs.Fault.{fault_at, when, or_else};
-ghost use Rattle.yl_lexeme.specs.Known.{around};
+ghost use Rattle.yl_lexeme.specs.Known.{context_of};
 ghost use Rattle.yl_lexeme.specs.Past.{near};
-ghost use Rattle.yl_lexeme.specs.Surroundings.{known};
-ghost use Rattle.yl_row.specs.Mode.{mode_step, mode_finish};
-ghost use Rattle.yl_row.specs.Reader.{said_by};
-ghost use Rattle.yl_row.specs.Step.{upto, bad_in, tab_before, in_block, place_fault, behind_end, closes, is_value_at, is_directive_place, is_quoted_or_closing, scalar_found, plain_found, value_found, name_found, tag_found, tag_len, document_at, block_at, flow_at, word_at, scalar_at, found_at};
+ghost use Rattle.yl_lexeme.specs.Surroundings.{surroundings_value};
+ghost use Rattle.yl_row.specs.ScalarReader.{reader_step, reader_finish};
+ghost use Rattle.yl_row.specs.Reader.{reader_step_value};
+ghost use Rattle.yl_row.specs.Step.{found_in_row, bad_in, tab_before, in_block, place_fault, behind_end, closes_bracket, is_value_at, is_directive_place, is_quoted_or_closing, scalar_found, plain_found, value_found, name_found, tag_found, tag_len, document_at, block_at, flow_at, word_at, scalar_at, found_at};
 ghost use Rattle.yl_row.specs.Sign.{named_at, sign_at};
-ghost use Rattle.yl_row.specs.Standing.{found_of, standing, found_option, EndsHere, StandingRests};
+ghost use Rattle.yl_row.specs.Standing.{found_lexeme_value, standing_value, found_option, EndsHere, StandingRests};
 
-use crate::fault::{Faulted, ScanFault, of_scalar, or_else, when};
-use crate::reader::Reader;
+use crate::fault::{PlacedScanFault, ScanFault, of_scalar, or_else, when};
+use crate::reader::ScalarReader;
 use crate::word::{
     directive, is_comment_next, is_flow_indicator_next, is_marker_of, is_plain_start,
     is_space_next, name_len, tag_len,
 };
 use std::alloc::{AllocError, Allocator};
 use yl_lexeme::{Kind, Style, Surroundings, near};
-use yl_scalar::{Block, Line, Plain, Quoted, first_bad, is_blank, leading_white, text_of};
+use yl_scalar::{
+    BlockReader, PlainReader, QuotedReader, ScalarStep, first_bad, is_blank, leading_white, text_of,
+};
 
 /// A lexeme that ends in its row, before a column.
 #[derive(Drop)]
-pub struct Found<A: Allocator> {
+pub struct FoundLexeme<A: Allocator> {
     pub kind: Kind,
     pub column: u32,
     pub value: String<A>,
     /// The first fault in it.
-    pub fault: Option<Faulted>,
+    pub fault: Option<PlacedScanFault>,
 }
 
 /// What stands at a place.
 #[derive(Drop)]
 pub enum Standing<A: Allocator + Copy> {
     /// A lexeme that ends in its row.
-    Ended(Found<A>),
+    Ended(FoundLexeme<A>),
     /// A scalar that may go on in the row below.
-    Open(Style, Reader<A>),
+    Open(Style, ScalarReader<A>),
 }
 
 /// The first character that is not allowed in what begins at a column.
-pub fn bad_in(column: usize, text: &[char]) -> Option<Faulted>
+pub fn bad_in(column: usize, text: &[char]) -> Option<PlacedScanFault>
     requires { column + length text.now < 2 ^ 63 }
     ensures { result ≡ bad_in column text.now }
 {
@@ -59,7 +61,7 @@ pub fn bad_in(column: usize, text: &[char]) -> Option<Faulted>
 }
 
 /// Something behind a document's end that is no comment.
-fn behind_end(column: usize, text: &[char]) -> Option<Faulted>
+fn behind_end(column: usize, text: &[char]) -> Option<PlacedScanFault>
     requires { column + length text.now < 2 ^ 63 }
     ensures { result ≡ behind_end column text.now }
 {
@@ -73,10 +75,15 @@ fn behind_end(column: usize, text: &[char]) -> Option<Faulted>
 }
 
 /// A lexeme with no value.
-fn sign<A: Allocator>(alloc: A, kind: Kind, column: u32, fault: Option<Faulted>) -> Found<A>
-    ensures { found_of result ≡ upto kind column [] fault }
+fn sign<A: Allocator>(
+    alloc: A,
+    kind: Kind,
+    column: u32,
+    fault: Option<PlacedScanFault>,
+) -> FoundLexeme<A>
+    ensures { found_lexeme_value result ≡ found_in_row kind column [] fault }
 {
-    Found {
+    FoundLexeme {
         kind,
         column,
         value: String::new(alloc),
@@ -101,10 +108,10 @@ fn document_at<A: Allocator + Copy>(
     c: char,
     rest: &[char],
     text: &[char],
-) -> Result<Option<Found<A>>, AllocError>
+) -> Result<Option<FoundLexeme<A>>, AllocError>
     requires fits { length text.now < 2 ^ 31 }
     requires text { text.now ≡ c ∷ rest.now }
-    ensures { IfOk result (λ found. document_at c rest.now (around (known surroundings.now)) ≡ found_option found) }
+    ensures { IfOk result (λ found. document_at c rest.now (context_of (surroundings_value surroundings.now)) ≡ found_option found) }
 {
     if is_marker_of('-', text) {
         return Ok(Some(sign(alloc, Kind::DocStart, 3, None)));
@@ -119,7 +126,7 @@ fn document_at<A: Allocator + Copy>(
     }
     if c == '%' && is_directive_place(surroundings.last) {
         let directive = directive(text);
-        return Ok(Some(Found {
+        return Ok(Some(FoundLexeme {
             kind: Kind::Directive,
             column: directive.len() as u32,
             value: text_of(alloc, directive)?,
@@ -135,13 +142,13 @@ fn name_found<A: Allocator + Copy>(
     kind: Kind,
     at: usize,
     text: &[char],
-) -> Result<Found<A>, AllocError>
+) -> Result<FoundLexeme<A>, AllocError>
     requires fits { at + length text.now < 2 ^ 31 }
-    ensures { IfOk result (λ found. found_of found ≡ name_found kind at text.now) }
+    ensures { IfOk result (λ found. found_lexeme_value found ≡ name_found kind at text.now) }
 {
     let len = name_len(text);
     let name = &text[..len];
-    Ok(Found {
+    Ok(FoundLexeme {
         kind,
         column: (at + 1 + len) as u32,
         value: text_of(alloc, name)?,
@@ -153,9 +160,9 @@ fn name_found<A: Allocator + Copy>(
 }
 
 /// A tag, by the text behind its indicator.
-fn tag_found<A: Allocator + Copy>(alloc: A, at: usize, text: &[char]) -> Found<A>
+fn tag_found<A: Allocator + Copy>(alloc: A, at: usize, text: &[char]) -> FoundLexeme<A>
     requires fits { at + length text.now < 2 ^ 31 }
-    ensures { found_of result ≡ tag_found at text.now (tag_len text.now) }
+    ensures { found_lexeme_value result ≡ tag_found at text.now (tag_len text.now) }
 {
     match tag_len(text) {
         None => sign(
@@ -180,9 +187,9 @@ fn named_at<A: Allocator + Copy>(
     at: usize,
     c: char,
     rest: &[char],
-) -> Result<Found<A>, AllocError>
+) -> Result<FoundLexeme<A>, AllocError>
     requires fits { at + length rest.now < 2 ^ 31 }
-    ensures { IfOk result (λ found. found_of found ≡ named_at at c rest.now) }
+    ensures { IfOk result (λ found. found_lexeme_value found ≡ named_at at c rest.now) }
 {
     if c == '&' {
         return name_found(alloc, Kind::Anchor, at, rest);
@@ -199,28 +206,30 @@ fn begun<A: Allocator + Copy>(
     alloc: A,
     style: Style,
     at: usize,
-    reader: Reader<A>,
-    line: Line,
+    reader: ScalarReader<A>,
+    line: ScalarStep,
 ) -> Result<Standing<A>, AllocError>
     requires fits { at < 2 ^ 31 }
-    requires here { EndsHere (said_by line reader) }
+    requires here { EndsHere (reader_step_value line reader) }
     ensures found { IfOk result (λ s. (rows : List (List ℕ)) →
-        scalar_found style at (settled (λ m. read mode_step mode_finish m rows) (said_by line reader)) ≡ standing at rows s) }
-    ensures rests { IfOk result (λ s. (text : List ℕ) → BeginsAt at text (said_by line reader) → StandingRests at text s) }
+        scalar_found style at (outcome_of_step (λ m. outcome_of_lines reader_step reader_finish m rows) (reader_step_value line reader)) ≡ standing_value at rows s) }
+    ensures rests { IfOk result (λ s. (text : List ℕ) → BeginsAt at text (reader_step_value line reader) → StandingRests at text s) }
 {
     match line {
-        Line::GoesOn => Ok(Standing::Open(style, reader)),
-        Line::EndsIn(place) | Line::EndedAbove(place) => Ok(Standing::Ended(Found {
-            kind: Kind::Scalar(style),
-            column: place.column as u32,
-            value: reader.into_value(alloc)?,
-            fault: None,
-        })),
-        Line::Fails(fault, place) => Ok(Standing::Ended(Found {
+        ScalarStep::GoesOn => Ok(Standing::Open(style, reader)),
+        ScalarStep::EndsIn(place) | ScalarStep::EndedAbove(place) => Ok(Standing::Ended(
+            FoundLexeme {
+                kind: Kind::Scalar(style),
+                column: place.column as u32,
+                value: reader.into_value(alloc)?,
+                fault: None,
+            },
+        )),
+        ScalarStep::Fails(fault, place) => Ok(Standing::Ended(FoundLexeme {
             kind: Kind::Scalar(style),
             column: at as u32,
             value: String::new(alloc),
-            fault: Some(Faulted {
+            fault: Some(PlacedScanFault {
                 fault: of_scalar(fault),
                 down: place.down,
                 column: place.column,
@@ -239,11 +248,11 @@ fn quoted_found<A: Allocator + Copy>(
     rest: &[char],
 ) -> Result<Standing<A>, AllocError>
     requires fits { at + length rest.now < 2 ^ 31 }
-    ensures found { IfOk result (λ s. (rows : List (List ℕ)) → scalar_found style at (quoted double at rest.now rows) ≡ standing at rows s) }
+    ensures found { IfOk result (λ s. (rows : List (List ℕ)) → scalar_found style at (quoted double at rest.now rows) ≡ standing_value at rows s) }
     ensures rests { IfOk result (λ s. (text : List ℕ) → StandingRests at text s) }
 {
-    let (reader, line) = Quoted::begin(alloc, double, at, rest)?;
-    begun(alloc, style, at, Reader::Quoted(reader), line)
+    let (reader, line) = QuotedReader::begin(alloc, double, at, rest)?;
+    begun(alloc, style, at, ScalarReader::Quoted(reader), line)
 }
 
 #[tactic(auto, using(crate::proofs::Modes::said_by_style, crate::proofs::Modes::block_alike, crate::proofs::Modes::block_ends, crate::proofs::Modes::ends_by))]
@@ -256,11 +265,11 @@ fn block_found<A: Allocator + Copy>(
 ) -> Result<Standing<A>, AllocError>
     requires fits { at + length rest.now < 2 ^ 31 }
     requires small { least < 2 ^ 63 }
-    ensures found { IfOk result (λ s. (rows : List (List ℕ)) → scalar_found style at (block least at rest.now rows) ≡ standing at rows s) }
+    ensures found { IfOk result (λ s. (rows : List (List ℕ)) → scalar_found style at (block least at rest.now rows) ≡ standing_value at rows s) }
     ensures rests { IfOk result (λ s. (c : ℕ) → StandingRests at (c ∷ rest.now) s) }
 {
-    let (reader, line) = Block::begin(alloc, least, at, rest);
-    begun(alloc, style, at, Reader::Block(reader), line)
+    let (reader, line) = BlockReader::begin(alloc, least, at, rest);
+    begun(alloc, style, at, ScalarReader::Block(reader), line)
 }
 
 #[tactic(auto, using(crate::proofs::Modes::said_by_style, crate::proofs::Modes::plain_alike, crate::proofs::Modes::plain_ends, crate::proofs::Modes::ends_by))]
@@ -276,15 +285,15 @@ fn plain_found<A: Allocator + Copy>(
 ) -> Result<Standing<A>, AllocError>
     requires fits { at + length text.now < 2 ^ 31 }
     requires text { text.now ≡ c ∷ rest.now }
-    ensures found { IfOk result (λ s. (rows : List (List ℕ)) → plain_found flow least at c rest.now rows ≡ standing at rows s) }
+    ensures found { IfOk result (λ s. (rows : List (List ℕ)) → plain_found flow least at c rest.now rows ≡ standing_value at rows s) }
     ensures rests { IfOk result (λ s. StandingRests at text.now s) }
 {
     if !is_plain_start(flow, c, rest) {
         let fault = when(true, ScanFault::NotAllowed, at);
         return Ok(Standing::Ended(sign(alloc, Kind::Scalar(Style::Plain), at as u32, fault)));
     }
-    let (reader, line) = Plain::begin(alloc, flow, least, at, text)?;
-    begun(alloc, Style::Plain, at, Reader::Plain(reader), line)
+    let (reader, line) = PlainReader::begin(alloc, flow, least, at, text)?;
+    begun(alloc, Style::Plain, at, ScalarReader::Plain(reader), line)
 }
 
 /// A scalar.
@@ -300,7 +309,7 @@ fn scalar_at<A: Allocator + Copy>(
     requires fits { at + length text.now < 2 ^ 31 }
     requires text { text.now ≡ c ∷ rest.now }
     ensures found { IfOk result (λ s. (rows : List (List ℕ)) →
-        scalar_at rows at (around (known surroundings.now)) c rest.now ≡ standing at rows s) }
+        scalar_at rows at (context_of (surroundings_value surroundings.now)) c rest.now ≡ standing_value at rows s) }
     ensures rests { IfOk result (λ s. StandingRests at text.now s) }
 {
     if c == '\'' {
@@ -333,7 +342,7 @@ fn word_at<A: Allocator + Copy>(
     requires fits { at + length text.now < 2 ^ 31 }
     requires text { text.now ≡ c ∷ rest.now }
     ensures found { IfOk result (λ s. (rows : List (List ℕ)) →
-        word_at rows at (around (known surroundings.now)) c rest.now ≡ standing at rows s) }
+        word_at rows at (context_of (surroundings_value surroundings.now)) c rest.now ≡ standing_value at rows s) }
     ensures rests { IfOk result (λ s. StandingRests at text.now s) }
 {
     if matches!(c, '&' | '*' | '!') {
@@ -355,9 +364,9 @@ pub fn found_at<A: Allocator + Copy>(
 ) -> Result<Standing<A>, AllocError>
     requires fits { at + length text.now < 2 ^ 31 }
     requires text { text.now ≡ c ∷ rest.now }
-    requires word { sign_at (around (known surroundings.now)) c rest.now ≡ None }
+    requires word { sign_at (context_of (surroundings_value surroundings.now)) c rest.now ≡ None }
     ensures found { IfOk result (λ s. (rows : List (List ℕ)) (tab : Option ℕ) (first : Bool) →
-        found_at rows tab first at (around (known surroundings.now)) c rest.now ≡ standing at rows s) }
+        found_at rows tab first at (context_of (surroundings_value surroundings.now)) c rest.now ≡ standing_value at rows s) }
     ensures rests { IfOk result (λ s. StandingRests at text.now s) }
 {
     if at == 0

@@ -7,6 +7,7 @@
 ghost use Rattle.yl_row.specs.Begins.{BlockBegins, PlainBegins, QuotedBegins};
 ghost use Rattle.yl_row.specs.Laws.{KeptSuffices};
 
+mod directives;
 mod fault;
 mod found;
 mod reader;
@@ -14,9 +15,10 @@ mod row;
 mod sign;
 mod word;
 
-pub use fault::{Faulted, ScanFault, of_scalar};
-pub use reader::Reader;
-pub use row::{End, Open, read_row};
+pub use directives::directives_stand_in_place;
+pub use fault::{PlacedScanFault, ScanFault, of_scalar};
+pub use reader::ScalarReader;
+pub use row::{OpenScalar, RowEnd, read_row};
 pub use word::first_tab;
 
 /// A law: what `Surroundings` keep of the lexemes before a row suffices to read it as the definition does.

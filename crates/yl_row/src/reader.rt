@@ -2,57 +2,57 @@
 
 ghost use Rattle.std.specs.Prelude.{◌≡◌, ◌≤◌, ◌<◌, ◌+◌, ◌^◌, IfOk, string_bytes};
 ghost use Rattle.std.specs.Str.{encode_utf8_all};
-ghost use Rattle.yl_row.specs.Mode.{mode_step, mode_finish};
-ghost use Rattle.yl_row.specs.Reader.{mode_of, rows_of, value_of, said_by, outcome_of};
+ghost use Rattle.yl_row.specs.ScalarReader.{reader_step, reader_finish};
+ghost use Rattle.yl_row.specs.Reader.{scalar_reader_value, rows_of, value_of, reader_step_value, reader_outcome_value};
 
 use std::alloc::{AllocError, Allocator};
-use yl_scalar::{Block, Line, Outcome, Plain, Quoted};
+use yl_scalar::{BlockReader, PlainReader, QuotedReader, ScalarOutcome, ScalarStep};
 
 /// The reader of a scalar that may go on below.
 #[derive(Drop)]
-pub enum Reader<A: Allocator + Copy> {
-    Plain(Plain<A>),
-    Quoted(Quoted<A>),
-    Block(Block<A>),
+pub enum ScalarReader<A: Allocator + Copy> {
+    Plain(PlainReader<A>),
+    Quoted(QuotedReader<A>),
+    Block(BlockReader<A>),
 }
 
-impl<A: Allocator + Copy> Reader<A> {
+impl<A: Allocator + Copy> ScalarReader<A> {
     /// Reads the next row: the reader behind it, and what the row was to the scalar.
-    pub fn read(self, row: &[char]) -> Result<(Reader<A>, Line), AllocError>
+    pub fn read(self, row: &[char]) -> Result<(ScalarReader<A>, ScalarStep), AllocError>
         requires { rows_of self + 1 < 2 ^ 64 }
-        ensures line { IfOk result (λ r. said_by r.1 r.0 ≡ mode_step (mode_of self) row.now) }
+        ensures line { IfOk result (λ r. reader_step_value r.1 r.0 ≡ reader_step (scalar_reader_value self) row.now) }
         ensures count { IfOk result (λ r. rows_of r.0 ≤ rows_of self + 1) }
     {
         match self {
-            Reader::Plain(reader) => {
+            ScalarReader::Plain(reader) => {
                 let mut reader = reader;
                 let line = reader.read(row)?;
-                Ok((Reader::Plain(reader), line))
+                Ok((ScalarReader::Plain(reader), line))
             }
-            Reader::Quoted(reader) => {
+            ScalarReader::Quoted(reader) => {
                 let mut reader = reader;
                 let line = reader.read(row)?;
-                Ok((Reader::Quoted(reader), line))
+                Ok((ScalarReader::Quoted(reader), line))
             }
-            Reader::Block(reader) => {
+            ScalarReader::Block(reader) => {
                 let mut reader = reader;
                 let line = reader.read(row)?;
-                Ok((Reader::Block(reader), line))
+                Ok((ScalarReader::Block(reader), line))
             }
         }
     }
 
     /// What the end of the text makes of the scalar.
-    pub fn finish(&self) -> Outcome
-        ensures { outcome_of result self.now ≡ mode_finish (mode_of self.now) }
+    pub fn finish(&self) -> ScalarOutcome
+        ensures { reader_outcome_value result self.now ≡ reader_finish (scalar_reader_value self.now) }
     {
         match self {
-            Reader::Plain(reader) => Outcome::Whole(reader.finish()),
-            Reader::Quoted(reader) => {
+            ScalarReader::Plain(reader) => ScalarOutcome::Whole(reader.finish()),
+            ScalarReader::Quoted(reader) => {
                 let (fault, place) = reader.finish();
-                Outcome::Refused(fault, place)
+                ScalarOutcome::Refused(fault, place)
             }
-            Reader::Block(reader) => Outcome::Whole(reader.finish()),
+            ScalarReader::Block(reader) => ScalarOutcome::Whole(reader.finish()),
         }
     }
 
@@ -62,9 +62,9 @@ impl<A: Allocator + Copy> Reader<A> {
         ensures { IfOk result (λ text. string_bytes text ≡ encode_utf8_all (value_of self)) }
     {
         match self {
-            Reader::Plain(reader) => Ok(reader.into_value()),
-            Reader::Quoted(reader) => reader.to_value(alloc),
-            Reader::Block(_) => Ok(String::new(alloc)),
+            ScalarReader::Plain(reader) => Ok(reader.into_value()),
+            ScalarReader::Quoted(reader) => reader.to_value(alloc),
+            ScalarReader::Block(_) => Ok(String::new(alloc)),
         }
     }
 }

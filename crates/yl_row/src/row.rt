@@ -1,21 +1,21 @@
 //! The lexemes of a row.
 
 ghost use Rattle.std.specs.Prelude.{◌≡◌, ◌≤◌, ◌<◌, ◌+◌, ◌-◌, ◌++◌, ◌^◌, ◌∷◌, [], false, IfOk, List, Option, Some, None, ℕ, length};
-ghost use Rattle.yl_lexeme.specs.Known.{Known, around, reach};
-ghost use Rattle.yl_lexeme.specs.Surroundings.{known};
-ghost use Rattle.yl_row.specs.Mode.{open_found};
+ghost use Rattle.yl_lexeme.specs.Known.{SurroundingsValue, context_of, surroundings_at};
+ghost use Rattle.yl_lexeme.specs.Surroundings.{surroundings_value};
+ghost use Rattle.yl_row.specs.ScalarReader.{open_found};
 ghost use Rattle.yl_row.specs.Begins.{Rests};
-ghost use Rattle.yl_row.specs.Reader.{mode_of};
+ghost use Rattle.yl_row.specs.Reader.{scalar_reader_value};
 ghost use Rattle.yl_row.specs.Sign.{sign_at, sign_found};
-ghost use Rattle.yl_row.specs.Step.{found_at, place_fault, upto};
-ghost use Rattle.yl_row.specs.Entries.{Reading, lexeme_of, ends_document};
-ghost use Rattle.yl_row.specs.Run.{took, read};
-ghost use Rattle.yl_row.specs.Standing.{found_of};
-ghost use Rattle.yl_row.specs.Rows.{behind_sign, gave, next, ended, noted, NextRests, EndRests};
+ghost use Rattle.yl_row.specs.Step.{found_at, place_fault, found_in_row};
+ghost use Rattle.yl_row.specs.Entries.{RowReading, lexeme_of, ends_document};
+ghost use Rattle.yl_row.specs.Run.{lexeme_reading_by, row_reading_by};
+ghost use Rattle.yl_row.specs.Standing.{found_lexeme_value};
+ghost use Rattle.yl_row.specs.Rows.{behind_sign, reading_with_lexemes, reading_after, row_end_reading, EndsInComment, NextRests, EndRests};
 
-use crate::fault::{Faulted, or_else};
-use crate::found::{Found, Standing, bad_in, found_at};
-use crate::reader::Reader;
+use crate::fault::{PlacedScanFault, or_else};
+use crate::found::{FoundLexeme, Standing, bad_in, found_at};
+use crate::reader::ScalarReader;
 use crate::sign::{place_fault, sign_at, sign_fault};
 use crate::word::begins_comment;
 use std::alloc::{AllocError, Allocator};
@@ -25,10 +25,10 @@ use yl_text::Pos;
 
 /// A scalar that may go on in the row below, and where it begins.
 #[derive(Drop)]
-pub struct Open<A: Allocator + Copy> {
+pub struct OpenScalar<A: Allocator + Copy> {
     pub style: Style,
     pub at: usize,
-    pub reader: Reader<A>,
+    pub reader: ScalarReader<A>,
 }
 
 /// What comes behind a lexeme.
@@ -37,28 +37,28 @@ pub enum Next<A: Allocator + Copy> {
     /// It ends before this column.
     Behind(usize),
     /// A scalar that may go on in the row below.
-    Opens(Style, Reader<A>),
+    Opens(Style, ScalarReader<A>),
     /// None: there is a fault.
-    Stops(Faulted),
+    Stops(PlacedScanFault),
 }
 
 /// How a row ends.
 #[derive(Drop)]
-pub enum End<A: Allocator + Copy> {
+pub enum RowEnd<A: Allocator + Copy> {
     /// It is read, and may have a comment.
     Read(Option<Comment<A>>),
     /// A scalar may go on in the row below.
-    Opens(Open<A>),
+    Opens(OpenScalar<A>),
     /// There is a fault.
-    Stops(Faulted),
+    Stops(PlacedScanFault),
 }
 
 /// The lexeme that was found at a column.
-fn lexeme_of<A: Allocator>(at: usize, found: Found<A>) -> Lexeme<A>
+fn lexeme_of<A: Allocator>(at: usize, found: FoundLexeme<A>) -> Lexeme<A>
     requires { at < 2 ^ 32 }
-    ensures { result ≡ lexeme_of at (found_of found) }
+    ensures { result ≡ lexeme_of at (found_lexeme_value found) }
 {
-    let Found {
+    let FoundLexeme {
         kind,
         column,
         value,
@@ -89,7 +89,7 @@ fn add<A: Allocator>(lexemes: &mut Vec<Lexeme<A>, A>, lexeme: Lexeme<A>) -> Resu
 /// The lexeme of one character at a column.
 fn sign<A: Allocator>(alloc: A, kind: Kind, at: usize) -> Lexeme<A>
     requires { at < 2 ^ 31 }
-    ensures { result ≡ lexeme_of at (upto kind (at + 1) [] None) }
+    ensures { result ≡ lexeme_of at (found_in_row kind (at + 1) [] None) }
 {
     let start = Pos {
         line: 0,
@@ -106,17 +106,17 @@ fn sign<A: Allocator>(alloc: A, kind: Kind, at: usize) -> Lexeme<A>
 #[tactic(auto, using(crate::proofs::Took::open_goes, crate::proofs::Took::open_stops))]
 fn open_lexeme<A: Allocator + Copy>(
     surroundings: &mut Surroundings<'_, A>,
-    before: Option<Faulted>,
+    before: Option<PlacedScanFault>,
     first: bool,
     at: usize,
     style: Style,
-    reader: Reader<A>,
+    reader: ScalarReader<A>,
 ) -> Result<Next<A>, AllocError>
     requires { at < 2 ^ 31 }
-    ensures read { IfOk result (λ r. (rows : List (List ℕ)) (tab : Option ℕ) (more : ℕ → Known → Reading Known) →
-        before ≡ place_fault tab first at (around (known surroundings.old)) →
-        took tab first at (known surroundings.old) more (open_found style at (mode_of reader) rows) ≡ next rows at (known surroundings.new) more r) }
-    ensures rests { IfOk result (λ r. (text : List ℕ) → Rests at text (mode_of reader) → NextRests at text r) }
+    ensures read { IfOk result (λ r. (rows : List (List ℕ)) (tab : Option ℕ) (more : ℕ → SurroundingsValue → RowReading SurroundingsValue) →
+        before ≡ place_fault tab first at (context_of (surroundings_value surroundings.old)) →
+        lexeme_reading_by tab first at (surroundings_value surroundings.old) more (open_found style at (scalar_reader_value reader) rows) ≡ reading_after rows at (surroundings_value surroundings.new) more r) }
+    ensures rests { IfOk result (λ r. (text : List ℕ) → Rests at text (scalar_reader_value reader) → NextRests at text r) }
 {
     match before {
         Some(fault) => Ok(Next::Stops(fault)),
@@ -132,16 +132,16 @@ fn open_lexeme<A: Allocator + Copy>(
 fn ended_lexeme<A: Allocator + Copy>(
     surroundings: &mut Surroundings<'_, A>,
     lexemes: &mut Vec<Lexeme<A>, A>,
-    before: Option<Faulted>,
+    before: Option<PlacedScanFault>,
     first: bool,
     at: usize,
-    found: Found<A>,
+    found: FoundLexeme<A>,
 ) -> Result<Next<A>, AllocError>
     requires { at < 2 ^ 31 }
-    ensures read { IfOk result (λ r. (rows : List (List ℕ)) (tab : Option ℕ) (more : ℕ → Known → Reading Known) →
-        before ≡ place_fault tab first at (around (known surroundings.old)) →
-        gave lexemes.old.items (took tab first at (known surroundings.old) more (found_of found))
-        ≡ gave lexemes.new.items (next rows at (known surroundings.new) more r)) }
+    ensures read { IfOk result (λ r. (rows : List (List ℕ)) (tab : Option ℕ) (more : ℕ → SurroundingsValue → RowReading SurroundingsValue) →
+        before ≡ place_fault tab first at (context_of (surroundings_value surroundings.old)) →
+        reading_with_lexemes lexemes.old.items (lexeme_reading_by tab first at (surroundings_value surroundings.old) more (found_lexeme_value found))
+        ≡ reading_with_lexemes lexemes.new.items (reading_after rows at (surroundings_value surroundings.new) more r)) }
     ensures rests { IfOk result (λ r. (text : List ℕ) → NextRests at text r) }
 {
     let kind = found.kind;
@@ -183,12 +183,12 @@ fn take_sign<A: Allocator + Copy>(
     first: bool,
     at: usize,
     kind: Kind,
-) -> Result<Option<Faulted>, AllocError>
+) -> Result<Option<PlacedScanFault>, AllocError>
     requires column { at < 2 ^ 31 }
     requires inside { ends_document kind ≡ false }
-    ensures { IfOk result (λ fault. (more : ℕ → Known → Reading Known) →
-        gave lexemes.old.items (took tab first at (known surroundings.old) more (sign_found tab first at (around (known surroundings.old)) kind))
-        ≡ gave lexemes.new.items (behind_sign (known surroundings.new) more fault)) }
+    ensures { IfOk result (λ fault. (more : ℕ → SurroundingsValue → RowReading SurroundingsValue) →
+        reading_with_lexemes lexemes.old.items (lexeme_reading_by tab first at (surroundings_value surroundings.old) more (sign_found tab first at (context_of (surroundings_value surroundings.old)) kind))
+        ≡ reading_with_lexemes lexemes.new.items (behind_sign (surroundings_value surroundings.new) more fault)) }
 {
     let own = sign_fault(surroundings, tab, first, at, kind);
     match or_else(place_fault(surroundings, tab, first, at), own) {
@@ -215,10 +215,10 @@ fn lexeme<A: Allocator + Copy>(
 ) -> Result<Next<A>, AllocError>
     requires fits { at + length text.now < 2 ^ 31 }
     requires text { text.now ≡ c ∷ rest.now }
-    requires word { sign_at (around (known surroundings.old)) c rest.now ≡ None }
-    ensures read { IfOk result (λ r. (rows : List (List ℕ)) (more : ℕ → Known → Reading Known) →
-        gave lexemes.old.items (took tab first at (known surroundings.old) more (found_at rows tab first at (around (known surroundings.old)) c rest.now))
-        ≡ gave lexemes.new.items (next rows at (known surroundings.new) more r)) }
+    requires word { sign_at (context_of (surroundings_value surroundings.old)) c rest.now ≡ None }
+    ensures read { IfOk result (λ r. (rows : List (List ℕ)) (more : ℕ → SurroundingsValue → RowReading SurroundingsValue) →
+        reading_with_lexemes lexemes.old.items (lexeme_reading_by tab first at (surroundings_value surroundings.old) more (found_at rows tab first at (context_of (surroundings_value surroundings.old)) c rest.now))
+        ≡ reading_with_lexemes lexemes.new.items (reading_after rows at (surroundings_value surroundings.new) more r)) }
     ensures rests { IfOk result (λ r. NextRests at text.now r) }
 {
     let before = place_fault(surroundings, tab, first, at);
@@ -235,15 +235,15 @@ fn lexeme<A: Allocator + Copy>(
 }
 
 /// The comment that a row ends with, which begins at this column.
-fn comment<A: Allocator + Copy>(alloc: A, at: usize, text: &[char]) -> Result<End<A>, AllocError>
+fn comment<A: Allocator + Copy>(alloc: A, at: usize, text: &[char]) -> Result<RowEnd<A>, AllocError>
     requires { at + length text.now < 2 ^ 31 }
-    ensures read { IfOk result (λ end. noted at text.now end) }
+    ensures read { IfOk result (λ end. EndsInComment at text.now end) }
     ensures rests { IfOk result (λ end. (row : List ℕ) → EndRests row end) }
 {
     if let Some(fault) = bad_in(at, text) {
-        return Ok(End::Stops(fault));
+        return Ok(RowEnd::Stops(fault));
     }
-    Ok(End::Read(Some(Comment::new(at as u32, text_of(alloc, text)?))))
+    Ok(RowEnd::Read(Some(Comment::new(at as u32, text_of(alloc, text)?))))
 }
 
 /// Reads a row: it begins behind `skip` characters of a lexeme, or at its start.
@@ -255,11 +255,11 @@ pub fn read_row<A: Allocator + Copy>(
     skip: usize,
     fresh: bool,
     row: &[char],
-) -> Result<End<A>, AllocError>
+) -> Result<RowEnd<A>, AllocError>
     requires { length row.now < 2 ^ 31 }
     ensures read { IfOk result (λ end. (rows : List (List ℕ)) →
-        gave lexemes.old.items (read rows tab skip fresh fresh 0 (known surroundings.old) row.now)
-        ≡ gave lexemes.new.items (ended rows tab row.now (known surroundings.new) end)) }
+        reading_with_lexemes lexemes.old.items (row_reading_by rows tab skip fresh fresh 0 (surroundings_value surroundings.old) row.now)
+        ≡ reading_with_lexemes lexemes.new.items (row_end_reading rows tab row.now (surroundings_value surroundings.new) end)) }
     ensures rests { IfOk result (λ end. EndRests row.now end) }
 {
     let mut at = skip;
@@ -280,10 +280,10 @@ pub fn read_row<A: Allocator + Copy>(
         let is_first = first;
         first = false;
         behind_space = false;
-        surroundings.reach(is_first, at);
+        surroundings.reach(is_first, at)?;
         if let Some(kind) = sign_at(surroundings, c, rest) {
             if let Some(fault) = take_sign(alloc, surroundings, lexemes, tab, is_first, at, kind)? {
-                return Ok(End::Stops(fault));
+                return Ok(RowEnd::Stops(fault));
             }
             at += 1;
             continue;
@@ -300,9 +300,13 @@ pub fn read_row<A: Allocator + Copy>(
             &row[at..],
         )? {
             Next::Behind(column) => at = column.max(at + 1),
-            Next::Opens(style, reader) => return Ok(End::Opens(Open { style, at, reader })),
-            Next::Stops(fault) => return Ok(End::Stops(fault)),
+            Next::Opens(style, reader) => return Ok(RowEnd::Opens(OpenScalar {
+                style,
+                at,
+                reader,
+            })),
+            Next::Stops(fault) => return Ok(RowEnd::Stops(fault)),
         }
     }
-    Ok(End::Read(None))
+    Ok(RowEnd::Read(None))
 }

@@ -4,19 +4,19 @@ ghost use Rattle.std.specs.Prelude.{◌≡◌, not, IfSome, Some, None, false};
 ghost use Rattle.yl_row.specs.declared.fault.ScanFault.TheVariants.{BracketWithoutPartner};
 ghost use Rattle.yl_row.specs.Entries.{ends_document};
 ghost use Rattle.yl_row.specs.Fault.{when};
-ghost use Rattle.yl_lexeme.specs.Known.{around};
+ghost use Rattle.yl_lexeme.specs.Known.{context_of};
 ghost use Rattle.yl_lexeme.specs.Past.{near};
-ghost use Rattle.yl_lexeme.specs.Surroundings.{known};
+ghost use Rattle.yl_lexeme.specs.Surroundings.{surroundings_value};
 ghost use Rattle.yl_row.specs.Sign.{sign_at, sign_fault, value_fault};
-ghost use Rattle.yl_row.specs.Step.{tab_before, in_block, place_fault, closes, is_value_at, is_quoted_or_closing};
+ghost use Rattle.yl_row.specs.Step.{tab_before, in_block, place_fault, closes_bracket, is_value_at, is_quoted_or_closing};
 
-use crate::fault::{Faulted, ScanFault, or_else, when};
+use crate::fault::{PlacedScanFault, ScanFault, or_else, when};
 use crate::word::{is_flow_indicator_next, is_space_next};
 use std::alloc::Allocator;
 use yl_lexeme::{Kind, Style, Surroundings, near};
 
 /// The row's first tab, if it stands before a column.
-fn tab_before(tab: Option<usize>, column: usize) -> Option<Faulted>
+fn tab_before(tab: Option<usize>, column: usize) -> Option<PlacedScanFault>
     ensures { result ≡ tab_before tab column }
 {
     match tab {
@@ -27,9 +27,9 @@ fn tab_before(tab: Option<usize>, column: usize) -> Option<Faulted>
 
 fn in_block<A: Allocator + Copy>(
     surroundings: &Surroundings<'_, A>,
-    fault: Option<Faulted>,
-) -> Option<Faulted>
-    ensures { result ≡ in_block (around (known surroundings.now)) fault }
+    fault: Option<PlacedScanFault>,
+) -> Option<PlacedScanFault>
+    ensures { result ≡ in_block (context_of (surroundings_value surroundings.now)) fault }
 {
     if surroundings.in_flow() { None } else { fault }
 }
@@ -40,8 +40,8 @@ pub fn place_fault<A: Allocator + Copy>(
     tab: Option<usize>,
     first: bool,
     at: usize,
-) -> Option<Faulted>
-    ensures { result ≡ place_fault tab first at (around (known surroundings.now)) }
+) -> Option<PlacedScanFault>
+    ensures { result ≡ place_fault tab first at (context_of (surroundings_value surroundings.now)) }
 {
     if first {
         in_block(surroundings, tab_before(tab, at))
@@ -52,7 +52,7 @@ pub fn place_fault<A: Allocator + Copy>(
 
 /// Whether the innermost bracket is of this kind.
 fn closes<A: Allocator + Copy>(sequence: bool, surroundings: &Surroundings<'_, A>) -> bool
-    ensures { result ≡ closes sequence (around (known surroundings.now)).brackets }
+    ensures { result ≡ closes_bracket sequence (context_of (surroundings_value surroundings.now)).brackets }
 {
     match surroundings.brackets.top() {
         None => false,
@@ -66,8 +66,8 @@ fn unpaired<A: Allocator + Copy>(
     sequence: bool,
     at: usize,
     surroundings: &Surroundings<'_, A>,
-) -> Option<Faulted>
-    ensures { result ≡ when (not (closes sequence (around (known surroundings.now)).brackets)) BracketWithoutPartner at }
+) -> Option<PlacedScanFault>
+    ensures { result ≡ when (not (closes_bracket sequence (context_of (surroundings_value surroundings.now)).brackets)) BracketWithoutPartner at }
 {
     when(
         !closes(sequence, surroundings),
@@ -98,7 +98,7 @@ pub fn sign_at<A: Allocator + Copy>(
     c: char,
     rest: &[char],
 ) -> Option<Kind>
-    ensures kind { result ≡ sign_at (around (known surroundings.now)) c rest.now }
+    ensures kind { result ≡ sign_at (context_of (surroundings_value surroundings.now)) c rest.now }
     ensures inside { IfSome result (λ kind. ends_document kind ≡ false) }
 {
     match c {
@@ -120,8 +120,8 @@ fn value_fault<A: Allocator + Copy>(
     tab: Option<usize>,
     first: bool,
     at: usize,
-) -> Option<Faulted>
-    ensures { result ≡ value_fault tab first at (around (known surroundings.now)) (near at (around (known surroundings.now)).start) }
+) -> Option<PlacedScanFault>
+    ensures { result ≡ value_fault tab first at (context_of (surroundings_value surroundings.now)) (near at (context_of (surroundings_value surroundings.now)).start) }
 {
     match near(at, surroundings.unit.start()) {
         Some(key) => tab_before(tab, key),
@@ -143,8 +143,8 @@ pub fn sign_fault<A: Allocator + Copy>(
     first: bool,
     at: usize,
     kind: Kind,
-) -> Option<Faulted>
-    ensures { result ≡ sign_fault tab first at (around (known surroundings.now)) kind }
+) -> Option<PlacedScanFault>
+    ensures { result ≡ sign_fault tab first at (context_of (surroundings_value surroundings.now)) kind }
 {
     match kind {
         Kind::Entry => {

@@ -6,10 +6,10 @@ use Rattle.std.proofs.lemmas.Bool.{cases_lt, cond-true, cond-false}
 use Rattle.std.proofs.lemmas.Bool.Decides.{nat_tests}
 use Rattle.std.proofs.lemmas.Str.{encode_ascii, encodes-chars}
 use Rattle.yl_text.specs.Character.{is_non_space}
-use Rattle.yl_text.specs.Finding.{Finding}
-use Rattle.yl_text.specs.declared.found.RuleId.TheVariants.{Comments}
+use Rattle.yl_text.specs.Finding.{FindingValue}
+use Rattle.yl_text.specs.declared.finding.RuleId.TheVariants.{Comments}
 use Rattle.yl_rules.specs.LineLength.{is_hash}
-use Rattle.yl_rules.specs.Comments.{starts_by, hashes, past_hashes, is_no_space, is_exclamation, is_shebang, lacks_space, starting_space_in}
+use Rattle.yl_rules.specs.Comments.{starts_by, hash_count, after_hashes, is_no_space, is_exclamation, is_shebang, lacks_space, starting_space_in}
 use Rattle.yl_rules.specs.declared.comments.CommentsOptions.{CommentsOptions}
 use Rattle.yl_rules.proofs.Encoded.{IsAsciiTest, IsSameTest, prefix_len-encodes, drop-encodes, starts_by-encodes}
 use lib.Utf8.{encodes}
@@ -42,22 +42,22 @@ shebang (c ∷ cs) =
 lacks : (o : CommentsOptions) (line column : ℕ) (cs : List ℕ) → lacks_space o line column (encodes cs) ≡ lacks_space o line column cs
 lacks o line column cs = rw (starts_by-encodes is_no_space true cs no_space_same, shebang cs) refl
 
-same_hashes : (cs : List ℕ) → hashes (encodes cs) ≡ hashes cs
+same_hashes : (cs : List ℕ) → hash_count (encodes cs) ≡ hash_count cs
 same_hashes cs = prefix_len-encodes is_hash cs hash_is_ascii
 
-past : (cs : List ℕ) → past_hashes (encodes cs) ≡ encodes (past_hashes cs)
+past : (cs : List ℕ) → after_hashes (encodes cs) ≡ encodes (after_hashes cs)
 past cs = ap (λ (n : ℕ). drop n (encodes cs)) (same_hashes cs) ∙ drop-encodes is_hash cs hash_is_ascii
 
 same_finding : (o : CommentsOptions) (line column : ℕ) (cs : List ℕ) → starting_space_in o line column (encodes cs) ≡ starting_space_in o line column cs
-same_finding o line column cs = rw (past cs, lacks o line column (past_hashes cs), same_hashes cs) refl
+same_finding o line column cs = rw (past cs, lacks o line column (after_hashes cs), same_hashes cs) refl
 
 -- the rule says the same of a comment's bytes
 pub starting_space-chars : (o : CommentsOptions) (line column : ℕ) (bs : List ℕ) → IsUtf8 bs → starting_space_in o line column bs ≡ starting_space_in o line column (chars bs)
 starting_space-chars o line column bs u = ap (starting_space_in o line column) (sym (encodes-chars bs u)) ∙ same_finding o line column (chars bs)
 
-pub none_lacking : (o : CommentsOptions) (line column : ℕ) (bs : List ℕ) → IsUtf8 bs → lacks_space o line column (past_hashes bs) ≡ false → [] ≡ starting_space_in o line column (chars bs)
+pub none_lacking : (o : CommentsOptions) (line column : ℕ) (bs : List ℕ) → IsUtf8 bs → lacks_space o line column (after_hashes bs) ≡ false → [] ≡ starting_space_in o line column (chars bs)
 none_lacking o line column bs u e = sym (cond-false _ _ _ e) ∙ starting_space-chars o line column bs u
 
-pub one_lacking : (o : CommentsOptions) (line column width : ℕ) (bs message : List ℕ) (f : Finding) → IsUtf8 bs → lacks_space o line column (past_hashes bs) ≡ true → width ≡ hashes bs → message ≡ codes "missing starting space in comment"
+pub one_lacking : (o : CommentsOptions) (line column width : ℕ) (bs message : List ℕ) (f : FindingValue) → IsUtf8 bs → lacks_space o line column (after_hashes bs) ≡ true → width ≡ hash_count bs → message ≡ codes "missing starting space in comment"
     → f ≡ record { line = line + 1; column = column + width + 1; rule = Comments; message = message } → f ∷ [] ≡ starting_space_in o line column (chars bs)
 one_lacking o line column width bs message f u e w m is = rw (is, m, w) (sym (cond-true _ _ _ e)) ∙ starting_space-chars o line column bs u

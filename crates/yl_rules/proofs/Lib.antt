@@ -3,4 +3,4 @@ pub mod Encoded
 pub mod OneWord
 pub mod Steps
 pub mod Texts
-pub mod Worked
+mod Examples

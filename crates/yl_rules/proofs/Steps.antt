@@ -5,8 +5,8 @@ use Rattle.std.specs.List.{slice_get, prefix_len}
 use Rattle.std.proofs.Math.Seq.{drop-cons, take-suc}
 use Rattle.std.proofs.lemmas.List.{reverse-append, length-reverse, length-take-le}
 use Rattle.std.proofs.lemmas.Option.{slice_get_within, get_or_from_slice_get}
-use Rattle.yl_text.specs.Finding.{Finding, at_each}
-use Rattle.yl_text.specs.Lines.{Piece}
+use Rattle.yl_text.specs.Finding.{FindingValue, at_each}
+use Rattle.yl_text.specs.Lines.{RowValue}
 use Rattle.yl_rules.specs.EmptyLines.{is_break_only, at_end_of_run, empty_lines_at}
 use Rattle.yl_rules.specs.declared.empty_lines.EmptyLinesOptions.{EmptyLinesOptions}
 
@@ -26,7 +26,7 @@ at_each_more : {X Y : Type 0} (f : List X → X → List X → List Y) (xs : Lis
 at_each_more f xs i x e = rw (drop_here xs i x e, before_more xs i x e) refl
 
 -- what is found for the lines from the next one on, by what was found at this one
-pub found_more : (o : EmptyLinesOptions) (rows : List Piece) (i : ℕ) (row : Piece) (run : ℕ) (found new all : List Finding)
+pub found_more : (o : EmptyLinesOptions) (rows : List RowValue) (i : ℕ) (row : RowValue) (run : ℕ) (found new all : List FindingValue)
     → slice_get rows i ≡ Some row → run ≡ prefix_len is_break_only (reverse (take (i + 1) rows))
     → new ≡ found ++ at_end_of_run o run (i + 1) (drop (i + 1) rows)
     → found ++ at_each (empty_lines_at o) (reverse (take i rows)) (drop i rows) ≡ all
@@ -41,7 +41,7 @@ found_more o rows i row run found new all e run_is new_is all_is =
     rw (new_is, append_assoc) turn
 
 -- the run up to this line
-pub run_more : (rows : List Piece) (i : ℕ) (row : Piece) (run : ℕ) → slice_get rows i ≡ Some row → run ≡ prefix_len is_break_only (reverse (take i rows))
+pub run_more : (rows : List RowValue) (i : ℕ) (row : RowValue) (run : ℕ) → slice_get rows i ≡ Some row → run ≡ prefix_len is_break_only (reverse (take i rows))
     → (if is_break_only row then run + 1 else 0) ≡ prefix_len is_break_only (reverse (take (i + 1) rows))
 run_more rows i row run e run_is =
     rw (before_more rows i row e, run_is) (ap (λ (n : ℕ). if is_break_only row then n else 0) (add_comm (prefix_len is_break_only (reverse (take i rows))) 1))

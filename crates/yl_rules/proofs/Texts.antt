@@ -8,8 +8,8 @@ use Rattle.std.proofs.lemmas.Bool.Decides.{nat_tests}
 use Rattle.std.proofs.lemmas.List.Sums.{suffix_len-le-length, count_by-le-length}
 use Rattle.std.proofs.lemmas.Str.{encodes-chars}
 use Rattle.yl_text.specs.Character.{is_white}
-use Rattle.yl_text.specs.Finding.{Finding}
-use Rattle.yl_text.specs.declared.found.RuleId.TheVariants.{TrailingSpaces}
+use Rattle.yl_text.specs.Finding.{FindingValue}
+use Rattle.yl_text.specs.declared.finding.RuleId.TheVariants.{TrailingSpaces}
 use Rattle.yl_rules.specs.TrailingSpaces.{end_white, trailing_spaces}
 use Rattle.yl_rules.specs.LineLength.{is_non_breakable}
 use Rattle.yl_rules.specs.Rows.{line_findings}
@@ -38,7 +38,7 @@ white_within bs u = omega (arith, end_white-chars bs u, suffix_len-le-length is_
 pub no_trailing : (bs : List ℕ) (line white : ℕ) → IsUtf8 bs → white ≡ end_white bs → white ≡ 0 → [] ≡ trailing_spaces line (chars bs)
 no_trailing bs line white u e z = sym (cond-true _ _ _ (eq-eqb (end_white (chars bs)) 0 (sym (end_white-chars bs u) ∙ sym e ∙ z)))
 
-pub some_trailing : (bs message : List ℕ) (line white width : ℕ) (f : Finding) → IsUtf8 bs → white ≡ end_white bs → white ≢ 0 → width ≡ length (chars bs) → message ≡ codes "trailing spaces"
+pub some_trailing : (bs message : List ℕ) (line white width : ℕ) (f : FindingValue) → IsUtf8 bs → white ≡ end_white bs → white ≢ 0 → width ≡ length (chars bs) → message ≡ codes "trailing spaces"
     → f ≡ record { line = line; column = width - white + 1; rule = TrailingSpaces; message = message } → f ∷ [] ≡ trailing_spaces line (chars bs)
 some_trailing bs message line white width f u e z w m is =
     let same : white ≡ end_white (chars bs) = e ∙ end_white-chars bs u in

@@ -1,20 +1,14 @@
--- yamllint's rule comments. A comment is its `#` and what follows it up to the break.
+-- Meaning: yamllint's rule comments. A comment is its `#` and what follows it up to the break.
 use Rattle.std.specs.Prelude.{ℕ, Bool, false, not, ◌&&◌, ◌==◌, nat_lt, if◌then◌else◌, List, [], ◌∷◌, ◌++◌, ◌+◌, ◌-◌, drop, codes, Option, Some, None}
 use Rattle.std.specs.List.{prefix_len}
 use Rattle.std.specs.Str.{chars}
+use Rattle.yl_text.specs.Char as char
+use Rattle.yl_lexeme.specs.Lexeme.{PlacedCommentValue}
 use Rattle.yl_text.specs.Character.{is_non_space}
-use Rattle.yl_text.specs.Finding.{Finding, found}
-use Rattle.yl_text.specs.declared.found.RuleId.TheVariants.{Comments}
+use Rattle.yl_text.specs.Finding.{FindingValue, one_finding}
+use Rattle.yl_text.specs.declared.finding.RuleId.TheVariants.{Comments}
 use Rattle.yl_rules.specs.LineLength.{is_hash}
 use Rattle.yl_rules.specs.declared.comments.CommentsOptions.{CommentsOptions}
-
--- a comment at a place, both numbers from 0; and where in its line the lexeme before it ends, if one does
-pub record PlacedComment : Type 0 where
-  pub line : ℕ
-  pub column : ℕ
-  -- in UTF-8
-  pub text : List ℕ
-  pub behind : Option ℕ
 
 -- there is a first character, and it passes
 abbrev pub starts_by : (ℕ → Bool) → List ℕ → Bool
@@ -22,11 +16,11 @@ starts_by test [] = false
 starts_by test (c ∷ cs) = test c
 
 -- how many `#` it begins with, and what follows them
-abbrev pub hashes : List ℕ → ℕ
-hashes cs = prefix_len is_hash cs
+abbrev pub hash_count : List ℕ → ℕ
+hash_count cs = prefix_len is_hash cs
 
-abbrev pub past_hashes : List ℕ → List ℕ
-past_hashes cs = drop (hashes cs) cs
+abbrev pub after_hashes : List ℕ → List ℕ
+after_hashes cs = drop (hash_count cs) cs
 
 -- fewer characters than the minimum stand between what ends at the one column and what begins at the other
 abbrev pub is_too_near : Option ℕ → Option ℕ → ℕ → Bool
@@ -35,10 +29,10 @@ is_too_near (Some least) None column = false
 is_too_near (Some least) (Some end) column = nat_lt (column - end) least
 
 abbrev pub is_no_space : ℕ → Bool
-is_no_space c = not (c == 0x20)
+is_no_space c = not (c == char.space)
 
 abbrev pub is_exclamation : ℕ → Bool
-is_exclamation c = c == 0x21
+is_exclamation c = c == char.exclamation_mark
 
 -- `!` and a non-space character follow
 abbrev pub is_shebang : List ℕ → Bool
@@ -52,21 +46,21 @@ abbrev pub lacks_space : CommentsOptions → ℕ → ℕ → List ℕ → Bool
 lacks_space o line column rest = o.require_starting_space && starts_by is_no_space rest && not (is_spared o line column rest)
 
 -- at the `#`
-abbrev pub nearness : CommentsOptions → PlacedComment → List Finding
-nearness o c =
+abbrev pub near_findings : CommentsOptions → PlacedCommentValue → List FindingValue
+near_findings o c =
     if is_too_near o.min_spaces_from_content c.behind c.column
-    then found Comments (c.line + 1) (c.column + 1) (codes "too few spaces before comment")
+    then one_finding Comments (c.line + 1) (c.column + 1) (codes "too few spaces before comment")
     else []
 
 -- at the character that stands where a space should, over the characters of the comment
-abbrev pub starting_space_in : CommentsOptions → ℕ → ℕ → List ℕ → List Finding
+abbrev pub starting_space_in : CommentsOptions → ℕ → ℕ → List ℕ → List FindingValue
 starting_space_in o line column cs =
-    if lacks_space o line column (past_hashes cs)
-    then found Comments (line + 1) (column + hashes cs + 1) (codes "missing starting space in comment")
+    if lacks_space o line column (after_hashes cs)
+    then one_finding Comments (line + 1) (column + hash_count cs + 1) (codes "missing starting space in comment")
     else []
 
-abbrev pub starting_space : CommentsOptions → PlacedComment → List Finding
-starting_space o c = starting_space_in o c.line c.column (chars c.text)
+abbrev pub starting_space_findings : CommentsOptions → PlacedCommentValue → List FindingValue
+starting_space_findings o c = starting_space_in o c.line c.column (chars c.text)
 
-abbrev pub comment_findings : CommentsOptions → PlacedComment → List Finding
-comment_findings o c = nearness o c ++ starting_space o c
+abbrev pub comment_findings : CommentsOptions → PlacedCommentValue → List FindingValue
+comment_findings o c = near_findings o c ++ starting_space_findings o c

@@ -1,11 +1,11 @@
--- yamllint's rule empty-lines: runs of lines that are nothing but a break.
+-- Meaning: yamllint's rule empty-lines: runs of lines that are nothing but a break.
 use Rattle.std.specs.Prelude.{ℕ, Bool, true, false, not, ◌&&◌, ◌||◌, ◌==◌, nat_le, if◌then◌else◌, List, [], ◌∷◌, ◌++◌, ◌+◌, length, codes, decimal}
 use Rattle.std.specs.List.{prefix_len}
-use Rattle.yl_text.specs.Finding.{Finding, found, at_each}
-use Rattle.yl_text.specs.Lines.{Piece}
+use Rattle.yl_text.specs.Finding.{FindingValue, one_finding, at_each}
+use Rattle.yl_text.specs.Lines.{RowValue}
 use Rattle.yl_text.specs.declared.row.Break.{Break}
 use Rattle.yl_text.specs.declared.row.Break.TheVariants.{No}
-use Rattle.yl_text.specs.declared.found.RuleId.TheVariants.{EmptyLines}
+use Rattle.yl_text.specs.declared.finding.RuleId.TheVariants.{EmptyLines}
 use Rattle.yl_rules.specs.declared.empty_lines.EmptyLinesOptions.{EmptyLinesOptions}
 
 abbrev pub has_break : Break → Bool
@@ -13,39 +13,39 @@ has_break No = false
 has_break _ = true
 
 -- the line is nothing but a break
-abbrev pub is_break_only : Piece → Bool
+abbrev pub is_break_only : RowValue → Bool
 is_break_only row = length row.text == 0 && has_break row.end
 
 -- another such line comes next
-abbrev pub goes_on : List Piece → Bool
+abbrev pub goes_on : List RowValue → Bool
 goes_on [] = false
 goes_on (row ∷ rows) = is_break_only row
 
 -- the last line comes next, and is empty
-abbrev pub is_end : List Piece → Bool
+abbrev pub is_end : List RowValue → Bool
 is_end [] = false
 is_end (row ∷ rows) = length row.text == 0 && not (has_break row.end)
 
 -- how many such lines a run may have, where it begins the text or not, and stands at its end or not
-abbrev pub most : EmptyLinesOptions → Bool → Bool → ℕ
-most o at_start at_end = if at_end then o.max_end else if at_start then o.max_start else o.max
+abbrev pub max_run : EmptyLinesOptions → Bool → Bool → ℕ
+max_run o at_start at_end = if at_end then o.max_end else if at_start then o.max_start else o.max
 
 -- a run of so many lines, the last of which has this number
-abbrev pub too_many : ℕ → ℕ → ℕ → List Finding
+abbrev pub too_many : ℕ → ℕ → ℕ → List FindingValue
 too_many run bound line =
     if nat_le run bound then []
-    else found EmptyLines line 1 (codes "too many blank lines (" ++ (decimal run ++ (codes " > " ++ (decimal bound ++ codes ")"))))
+    else one_finding EmptyLines line 1 (codes "too many blank lines (" ++ (decimal run ++ (codes " > " ++ (decimal bound ++ codes ")"))))
 
 -- a text that is one break alone is let be
-abbrev pub judged : EmptyLinesOptions → ℕ → ℕ → Bool → List Finding
-judged o run line at_end = if line == 1 && at_end then [] else too_many run (most o (run == line) at_end) line
+abbrev pub run_findings_of : EmptyLinesOptions → ℕ → ℕ → Bool → List FindingValue
+run_findings_of o run line at_end = if line == 1 && at_end then [] else too_many run (max_run o (run == line) at_end) line
 
 -- at a line with which so many such lines end: there the run is judged, if it goes no further
-abbrev pub at_end_of_run : EmptyLinesOptions → ℕ → ℕ → List Piece → List Finding
-at_end_of_run o run line after = if run == 0 || goes_on after then [] else judged o run line (is_end after)
+abbrev pub at_end_of_run : EmptyLinesOptions → ℕ → ℕ → List RowValue → List FindingValue
+at_end_of_run o run line after = if run == 0 || goes_on after then [] else run_findings_of o run line (is_end after)
 
-abbrev pub empty_lines_at : EmptyLinesOptions → List Piece → Piece → List Piece → List Finding
+abbrev pub empty_lines_at : EmptyLinesOptions → List RowValue → RowValue → List RowValue → List FindingValue
 empty_lines_at o before row after = at_end_of_run o (prefix_len is_break_only (row ∷ before)) (length before + 1) after
 
-abbrev pub empty_lines : EmptyLinesOptions → List Piece → List Finding
+abbrev pub empty_lines : EmptyLinesOptions → List RowValue → List FindingValue
 empty_lines o rows = at_each (empty_lines_at o) [] rows

@@ -1,16 +1,16 @@
--- yamllint's rule new-line-at-end-of-file: the last line of a text is empty.
+-- Meaning: yamllint's rule new-line-at-end-of-file: the last line of a text is empty.
 use Rattle.std.specs.Prelude.{ℕ, ◌==◌, if◌then◌else◌, List, [], ◌+◌, ◌-◌, length, codes, Option, Some, None, slice_get}
 use Rattle.std.specs.Str.{chars}
-use Rattle.yl_text.specs.Finding.{Finding, found}
-use Rattle.yl_text.specs.Lines.{Piece}
-use Rattle.yl_text.specs.declared.found.RuleId.TheVariants.{NewLineAtEndOfFile}
+use Rattle.yl_text.specs.Finding.{FindingValue, one_finding}
+use Rattle.yl_text.specs.Lines.{RowValue}
+use Rattle.yl_text.specs.declared.finding.RuleId.TheVariants.{NewLineAtEndOfFile}
 
 -- behind the last character of the last line, which has this number
-abbrev pub end_of_file_at : ℕ → Option Piece → List Finding
+abbrev pub end_of_file_at : ℕ → Option RowValue → List FindingValue
 end_of_file_at line None = []
 end_of_file_at line (Some row) =
     if length row.text == 0 then []
-    else found NewLineAtEndOfFile line (length (chars row.text) + 1) (codes "no new line character at the end of file")
+    else one_finding NewLineAtEndOfFile line (length (chars row.text) + 1) (codes "no new line character at the end of file")
 
-abbrev pub end_of_file : List Piece → List Finding
+abbrev pub end_of_file : List RowValue → List FindingValue
 end_of_file rows = end_of_file_at (length rows) (slice_get rows (length rows - 1))

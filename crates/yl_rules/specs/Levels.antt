@@ -1,7 +1,8 @@
--- Which rules are on, and how grave what they find is: yamllint's option `level`, and its default configuration.
+-- Meaning: which rules are on, and how grave what they find is: yamllint's option `level`, and its
+-- default configuration.
 use Rattle.std.specs.Prelude.{ℕ, Bool, ◌==◌, if◌then◌else◌, List, Option, Some, None, codes}
-use Rattle.yl_text.specs.declared.found.RuleId.{RuleId}
-use Rattle.yl_text.specs.declared.found.RuleId.TheVariants.{Anchors, Braces, Brackets, Colons, Commas, Comments, DocumentStart, EmptyLines, Hyphens, Indentation, KeyDuplicates, KeyOrdering, LineLength, NewLineAtEndOfFile, NewLines, QuotedStrings, Syntax, TrailingSpaces, Truthy}
+use Rattle.yl_text.specs.declared.finding.RuleId.{RuleId}
+use Rattle.yl_text.specs.declared.finding.RuleId.TheVariants.{Anchors, Braces, Brackets, Colons, Commas, Comments, DocumentStart, EmptyLines, Hyphens, Indentation, KeyDuplicates, KeyOrdering, LineLength, NewLineAtEndOfFile, NewLines, QuotedStrings, Syntax, TrailingSpaces, Truthy}
 use Rattle.yl_rules.specs.declared.level.Level.{Level}
 use Rattle.yl_rules.specs.declared.level.Level.TheVariants.{Error, Warning}
 
@@ -24,39 +25,39 @@ abbrev pub none_on : LevelTable
 none_on rule = with_syntax rule None
 
 -- yamllint's default configuration
-abbrev pub standard_levels : LevelTable
-standard_levels KeyOrdering = None
-standard_levels QuotedStrings = None
-standard_levels Comments = Some Warning
-standard_levels DocumentStart = Some Warning
-standard_levels Truthy = Some Warning
-standard_levels _ = Some Error
+abbrev pub default_levels : LevelTable
+default_levels KeyOrdering = None
+default_levels QuotedStrings = None
+default_levels Comments = Some Warning
+default_levels DocumentStart = Some Warning
+default_levels Truthy = Some Warning
+default_levels _ = Some Error
 
 -- a place for each rule
-abbrev pub slot : RuleId → ℕ
-slot Anchors = 0
-slot Braces = 1
-slot Brackets = 2
-slot Colons = 3
-slot Commas = 4
-slot Comments = 5
-slot DocumentStart = 6
-slot EmptyLines = 7
-slot Hyphens = 8
-slot Indentation = 9
-slot KeyDuplicates = 10
-slot KeyOrdering = 11
-slot LineLength = 12
-slot NewLineAtEndOfFile = 13
-slot NewLines = 14
-slot QuotedStrings = 15
-slot Syntax = 16
-slot TrailingSpaces = 17
-slot Truthy = 18
+abbrev pub rule_number : RuleId → ℕ
+rule_number Anchors = 0
+rule_number Braces = 1
+rule_number Brackets = 2
+rule_number Colons = 3
+rule_number Commas = 4
+rule_number Comments = 5
+rule_number DocumentStart = 6
+rule_number EmptyLines = 7
+rule_number Hyphens = 8
+rule_number Indentation = 9
+rule_number KeyDuplicates = 10
+rule_number KeyOrdering = 11
+rule_number LineLength = 12
+rule_number NewLineAtEndOfFile = 13
+rule_number NewLines = 14
+rule_number QuotedStrings = 15
+rule_number Syntax = 16
+rule_number TrailingSpaces = 17
+rule_number Truthy = 18
 
 -- the two are one rule
 abbrev pub is_same_rule : RuleId → RuleId → Bool
-is_same_rule x y = slot x == slot y
+is_same_rule x y = rule_number x == rule_number y
 
 -- the table with one rule set
 abbrev pub set_level : LevelTable → RuleId → Option Level → LevelTable

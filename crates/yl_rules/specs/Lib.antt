@@ -5,7 +5,6 @@ pub mod LevelOf
 pub mod Levels
 pub mod LineLength
 pub mod NewLines
-pub mod PlacedComments
 pub mod Rows
 pub mod Runs
 pub mod TrailingSpaces

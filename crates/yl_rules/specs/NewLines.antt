@@ -1,11 +1,11 @@
--- yamllint's rule new-lines: how the first line of a text ends.
-use Rattle.std.specs.Prelude.{ℕ, Bool, true, false, if◌then◌else◌, List, [], ◌++◌, ◌+◌, length, codes, Option, Some, None, slice_get}
+-- Meaning: yamllint's rule new-lines: how the first line of a text ends.
+use Rattle.std.specs.Prelude.{ℕ, Bool, true, false, if◌then◌else◌, List, [], ◌+◌, length, codes, Option, Some, None, slice_get}
 use Rattle.std.specs.Str.{chars}
-use Rattle.yl_text.specs.Finding.{Finding, found}
-use Rattle.yl_text.specs.Lines.{Piece}
+use Rattle.yl_text.specs.Finding.{FindingValue, one_finding}
+use Rattle.yl_text.specs.Lines.{RowValue}
 use Rattle.yl_text.specs.declared.row.Break.{Break}
 use Rattle.yl_text.specs.declared.row.Break.TheVariants.{No, Lf, CrLf, Cr}
-use Rattle.yl_text.specs.declared.found.RuleId.TheVariants.{NewLines}
+use Rattle.yl_text.specs.declared.finding.RuleId.TheVariants.{NewLines}
 use Rattle.yl_rules.specs.declared.new_lines.NewLine.{NewLine}
 use Rattle.yl_rules.specs.declared.new_lines.NewLine.TheVariants.{Unix, Dos}
 
@@ -19,18 +19,18 @@ is_wrong Dos Lf = true
 is_wrong Dos CrLf = false
 is_wrong Dos Cr = true
 
--- in backslash letters
-abbrev pub break_name : NewLine → List ℕ
-break_name Unix = codes "\\n"
-break_name Dos = codes "\\r\\n"
+-- the break that is wanted stands in backslash letters
+abbrev pub wrong_break : NewLine → List ℕ
+wrong_break Unix = codes "wrong new line character: expected \\n"
+wrong_break Dos = codes "wrong new line character: expected \\r\\n"
 
 -- behind the last character of the first line
-abbrev pub new_lines_at : NewLine → Option Piece → List Finding
+abbrev pub new_lines_at : NewLine → Option RowValue → List FindingValue
 new_lines_at wanted None = []
 new_lines_at wanted (Some row) =
     if is_wrong wanted row.end
-    then found NewLines 1 (length (chars row.text) + 1) (codes "wrong new line character: expected " ++ break_name wanted)
+    then one_finding NewLines 1 (length (chars row.text) + 1) (wrong_break wanted)
     else []
 
-abbrev pub new_lines : NewLine → List Piece → List Finding
+abbrev pub new_lines : NewLine → List RowValue → List FindingValue
 new_lines wanted rows = new_lines_at wanted (slice_get rows 0)

@@ -4,13 +4,14 @@ ghost use Rattle.std.specs.List.{flat_map, prefix_len};
 ghost use Rattle.std.specs.Option.{option_to_list};
 ghost use Rattle.std.specs.Str.{chars};
 ghost use Rattle.yl_text.specs.Character.{is_non_space};
-ghost use Rattle.yl_rules.specs.Comments.{comment_findings, hashes, is_exclamation, is_no_space, is_shebang, is_spared, is_too_near, lacks_space, nearness, past_hashes, starting_space_in, starts_by};
-ghost use Rattle.yl_rules.specs.PlacedComments.{placed_comment};
+ghost use Rattle.yl_rules.specs.Comments.{comment_findings, hash_count, is_exclamation, is_no_space, is_shebang, is_spared, is_too_near, lacks_space, near_findings, after_hashes, starting_space_in, starts_by};
+ghost use Rattle.yl_lexeme.specs.PlacedComments.{placed_comment_value};
 
 use crate::bytes::{count_front, past};
 use crate::pushes::push_both;
 use std::alloc::{AllocError, Allocator};
-use yl_text::{Found, RuleId};
+use yl_lexeme::PlacedComment;
+use yl_text::{Finding, RuleId};
 
 /// What a comment has before it and in it.
 #[derive(Clone, Copy, Debug, PartialEq, Eq)]
@@ -35,18 +36,6 @@ impl CommentsOptions {
             min_spaces_from_content: Some(2),
         }
     }
-}
-
-/// A comment at a place, which counts from 0, the column in characters.
-#[derive(Clone, Copy)]
-pub struct CommentAt<'a> {
-    pub line: u32,
-    /// The column of its `#`.
-    pub col: u32,
-    /// Its `#` and what follows it up to the break.
-    pub text: &'a str,
-    /// The column at which the lexeme before it in its line ends, if one does.
-    pub behind: Option<u32>,
 }
 
 fn starts_with_no_space(bytes: &[u8]) -> bool
@@ -86,68 +75,73 @@ fn is_too_near(least: Option<u32>, end: Option<u32>, col: u32) -> bool
 }
 
 /// The problem of a comment that stands too near to what is before it.
-fn nearness_problem<A: Allocator + Copy>(
-    alloc: A,
-    comment: &CommentAt<'_>,
+fn nearness_problem<A: Allocator>(
+    comment: &PlacedComment<'_>,
     options: &CommentsOptions,
-) -> Result<Option<Found<A>>, AllocError>
-    ensures { IfOk result (λ o. option_to_list o ≡ nearness options.now (placed_comment comment.now)) }
+) -> Option<Finding<A>>
+    ensures { option_to_list result ≡ near_findings options.now (placed_comment_value comment.now) }
 {
     if !is_too_near(options.min_spaces_from_content, comment.behind, comment.col) {
-        return Ok(None);
+        return None;
     }
-    let message = String::from_str(alloc, "too few spaces before comment")?;
     let line = comment.line as u64 + 1;
     let column = comment.col as u64 + 1;
-    Ok(Some(Found::new(line, column, RuleId::Comments, message)))
+    Some(Finding::fixed(
+        line,
+        column,
+        RuleId::Comments,
+        "too few spaces before comment",
+    ))
 }
 
 /// The problem of a comment that begins with no space.
-fn starting_space_problem<A: Allocator + Copy>(
-    alloc: A,
+fn starting_space_problem<A: Allocator>(
     line: u32,
     col: u32,
     text: &str,
     options: &CommentsOptions,
-) -> Result<Option<Found<A>>, AllocError>
-    ensures { IfOk result (λ o. option_to_list o ≡ starting_space_in options.now line col (chars text.now)) }
+) -> Option<Finding<A>>
+    ensures { option_to_list result ≡ starting_space_in options.now line col (chars text.now) }
 {
     let bytes = text.as_bytes();
     let hashes = count_front(bytes, b'#');
     if !lacks_space(options, line, col, past(bytes, hashes)) {
-        return Ok(None);
+        return None;
     }
-    let message = String::from_str(alloc, "missing starting space in comment")?;
     let column = col as u64 + hashes as u64 + 1;
-    Ok(Some(Found::new(line as u64 + 1, column, RuleId::Comments, message)))
+    Some(Finding::fixed(
+        line as u64 + 1,
+        column,
+        RuleId::Comments,
+        "missing starting space in comment",
+    ))
 }
 
 /// Puts behind `found` what the rule comments finds in a comment. Where there is no memory nothing is added.
-pub fn push_comment_problems<A: Allocator + Copy>(
-    alloc: A,
-    comment: &CommentAt<'_>,
+pub fn push_comment_problems<A: Allocator>(
+    comment: &PlacedComment<'_>,
     options: &CommentsOptions,
-    found: &mut Vec<Found<A>, A>,
+    found: &mut Vec<Finding<A>, A>,
 ) -> Result<(), AllocError>
-    ensures ok { OnOk result (found.new.items ≡ found.old.items ++ comment_findings options.now (placed_comment comment.now)) }
+    ensures ok { OnOk result (found.new.items ≡ found.old.items ++ comment_findings options.now (placed_comment_value comment.now)) }
     ensures err { OnErr result (found.new.items ≡ found.old.items) }
 {
-    let near = nearness_problem(alloc, comment, options)?;
-    let bare = starting_space_problem(alloc, comment.line, comment.col, comment.text, options)?;
+    let near = nearness_problem(comment, options);
+    let bare = starting_space_problem(comment.line, comment.col, comment.text, options);
     push_both(found, near, bare)
 }
 
 /// What the rule comments finds in these comments.
 pub fn comment_problems<A: Allocator + Copy>(
     alloc: A,
-    comments: &[CommentAt<'_>],
+    comments: &[PlacedComment<'_>],
     options: &CommentsOptions,
-) -> Result<Vec<Found<A>, A>, AllocError>
-    ensures { IfOk result (λ v. v.items ≡ flat_map (λ c. comment_findings options.now (placed_comment c)) comments.now) }
+) -> Result<Vec<Finding<A>, A>, AllocError>
+    ensures { IfOk result (λ v. v.items ≡ flat_map (λ c. comment_findings options.now (placed_comment_value c)) comments.now) }
 {
     let mut found = Vec::new(alloc);
     for comment in comments {
-        push_comment_problems(alloc, comment, options, &mut found)?;
+        push_comment_problems(comment, options, &mut found)?;
     }
     Ok(found)
 }

@@ -1,11 +1,11 @@
 //! The rule empty-lines.
 ghost use Rattle.std.specs.Prelude.{◌≡◌, ◌+◌, ◌<◌, ◌≤◌, ◌^◌, ◌++◌, ◌∷◌, [], length, drop, if◌then◌else◌, IfOk, OnOk};
 ghost use Rattle.std.specs.Option.{option_to_list};
-ghost use Rattle.yl_rules.specs.EmptyLines.{at_end_of_run, empty_lines, goes_on, is_break_only, is_end, judged, most, too_many};
+ghost use Rattle.yl_rules.specs.EmptyLines.{at_end_of_run, empty_lines, goes_on, is_break_only, is_end, run_findings_of, max_run, too_many};
 
 use crate::pushes::push_found;
 use std::alloc::{AllocError, Allocator};
-use yl_text::{Break, Found, Lines, Row, RuleId};
+use yl_text::{Break, Finding, Lines, Row, RuleId};
 
 /// How many lines that are nothing but a break may follow each other.
 #[derive(Clone, Copy, Debug, PartialEq, Eq)]
@@ -45,7 +45,7 @@ fn is_end<L: Lines>(lines: &L, next: usize) -> bool
 }
 
 fn most(options: &EmptyLinesOptions, at_start: bool, at_end: bool) -> u32
-    ensures { result ≡ most options.now at_start at_end }
+    ensures { result ≡ max_run options.now at_start at_end }
 {
     if at_end {
         options.max_end
@@ -62,14 +62,14 @@ fn too_many<A: Allocator + Copy>(
     run: usize,
     most: u32,
     line: usize,
-) -> Result<Option<Found<A>>, AllocError>
+) -> Result<Option<Finding<A>>, AllocError>
     ensures { IfOk result (λ o. option_to_list o ≡ too_many run most line) }
 {
     if run <= most as usize {
         return Ok(None);
     }
     let message = format!(in alloc; "too many blank lines ({run} > {most})")?;
-    Ok(Some(Found::new(line as u64, 1, RuleId::EmptyLines, message)))
+    Ok(Some(Finding::new(line as u64, 1, RuleId::EmptyLines, message)))
 }
 
 /// The same, by where the run stands.
@@ -79,8 +79,8 @@ fn judge<A: Allocator + Copy>(
     run: usize,
     line: usize,
     at_end: bool,
-) -> Result<Option<Found<A>>, AllocError>
-    ensures { IfOk result (λ o. option_to_list o ≡ judged options.now run line at_end) }
+) -> Result<Option<Finding<A>>, AllocError>
+    ensures { IfOk result (λ o. option_to_list o ≡ run_findings_of options.now run line at_end) }
 {
     if line == 1 && at_end {
         return Ok(None);
@@ -104,7 +104,7 @@ fn push_run<L: Lines>(
     options: &EmptyLinesOptions,
     run: usize,
     line: usize,
-    found: &mut Vec<Found<L::Alloc>, L::Alloc>,
+    found: &mut Vec<Finding<L::Alloc>, L::Alloc>,
 ) -> Result<(), AllocError>
     ensures { OnOk result (found.new.items ≡ found.old.items ++ at_end_of_run options.now run line (drop line (L.rows lines.now))) }
 {
@@ -122,7 +122,7 @@ pub(crate) fn push_empty_lines<L: Lines>(
     alloc: L::Alloc,
     lines: &L,
     options: &EmptyLinesOptions,
-    found: &mut Vec<Found<L::Alloc>, L::Alloc>,
+    found: &mut Vec<Finding<L::Alloc>, L::Alloc>,
 ) -> Result<(), AllocError>
     ensures { OnOk result (found.new.items ≡ found.old.items ++ empty_lines options.now (L.rows lines.now)) }
 {

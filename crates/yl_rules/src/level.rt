@@ -28,27 +28,27 @@ const RULES: usize = 19;
 
 /// For each rule its level, or none where it is off. `syntax` is always an error.
 #[derive(Clone, Copy, Debug, PartialEq, Eq)]
-pub struct Levels {
+pub struct RuleLevels {
     levels: [Option<Level>; RULES],
 }
 
-impl Levels {
+impl RuleLevels {
     ghost use Rattle.std.specs.Prelude.{◌≡◌};
-    ghost use Rattle.yl_rules.specs.Levels.{none_on, set_level, standard_levels};
+    ghost use Rattle.yl_rules.specs.Levels.{none_on, set_level, default_levels};
     ghost use Rattle.yl_rules.specs.LevelOf.{level_of};
 
     /// No rule is on.
-    pub fn none() -> Levels
+    pub fn none() -> RuleLevels
         ensures { level_of result ≡ none_on }
     {
-        Levels {
+        RuleLevels {
             levels: [None; RULES],
         }
     }
 
     /// Those of yamllint's default configuration.
-    pub fn standard() -> Levels
-        ensures { level_of result ≡ standard_levels }
+    pub fn standard() -> RuleLevels
+        ensures { level_of result ≡ default_levels }
     {
         let mut levels = [Some(Level::Error); RULES];
         levels[RuleId::KeyOrdering as usize] = None;
@@ -56,16 +56,16 @@ impl Levels {
         levels[RuleId::Comments as usize] = Some(Level::Warning);
         levels[RuleId::DocumentStart as usize] = Some(Level::Warning);
         levels[RuleId::Truthy as usize] = Some(Level::Warning);
-        Levels { levels }
+        RuleLevels { levels }
     }
 
     /// The same with one rule on at a level, or off.
-    pub fn with(self, rule: RuleId, level: Option<Level>) -> Levels
+    pub fn with(self, rule: RuleId, level: Option<Level>) -> RuleLevels
         ensures { level_of result ≡ set_level (level_of self) rule level }
     {
         let mut levels = self.levels;
         levels[rule as usize] = level;
-        Levels { levels }
+        RuleLevels { levels }
     }
 
     /// The rule's level, or none where it is off.

@@ -15,10 +15,14 @@ mod runs;
 mod trailing_spaces;
 mod width;
 
-pub use comments::{CommentAt, CommentsOptions, comment_problems, push_comment_problems};
+pub use comments::{CommentsOptions, comment_problems, push_comment_problems};
 pub use empty_lines::EmptyLinesOptions;
-pub use level::{Level, Levels};
+pub use level::{Level, RuleLevels};
 pub use new_lines::NewLine;
 pub use options::{RowOptions, RunOptions};
 pub use rows::{push_line_problems, push_row_problems, row_problems};
 pub use runs::run_problems;
+pub use yl_layout::{
+    BracketsOptions, ColonsOptions, CommasOptions, DocumentStartOptions, Forbid, HyphensOptions,
+    LexemeOptions, QuoteType, QuotedStringsOptions, TruthyOptions, TruthyWords, lexeme_problems,
+};

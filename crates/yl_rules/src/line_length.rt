@@ -8,7 +8,7 @@ use crate::bytes::{count_front, past};
 use crate::options::RowOptions;
 use crate::width::width;
 use std::alloc::{AllocError, Allocator};
-use yl_text::{Found, RuleId};
+use yl_text::{Finding, RuleId};
 
 /// What follows the mark of a comment or of an entry.
 fn past_mark(bytes: &[u8]) -> &[u8]
@@ -42,7 +42,7 @@ pub(crate) fn line_length_problem<A: Allocator + Copy>(
     line: u64,
     text: &str,
     options: &RowOptions,
-) -> Result<Option<Found<A>>, AllocError>
+) -> Result<Option<Finding<A>>, AllocError>
     ensures { IfOk result (λ o. option_to_list o ≡ line_length options.now line (chars text.now)) }
 {
     let width = width(text);
@@ -51,5 +51,5 @@ pub(crate) fn line_length_problem<A: Allocator + Copy>(
         return Ok(None);
     }
     let message = format!(in alloc; "line too long ({width} > {max} characters)")?;
-    Ok(Some(Found::new(line, max as u64 + 1, RuleId::LineLength, message)))
+    Ok(Some(Finding::new(line, max as u64 + 1, RuleId::LineLength, message)))
 }

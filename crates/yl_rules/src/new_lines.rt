@@ -1,11 +1,10 @@
 //! The rule new-lines.
-ghost use Rattle.std.specs.Prelude.{◌≡◌, IfOk};
+ghost use Rattle.std.specs.Prelude.{◌≡◌};
 ghost use Rattle.std.specs.Option.{option_to_list};
-ghost use Rattle.yl_rules.specs.NewLines.{break_name, is_wrong, new_lines};
+ghost use Rattle.yl_rules.specs.NewLines.{is_wrong, new_lines, wrong_break};
 
 use crate::width::width;
-use std::alloc::AllocError;
-use yl_text::{Break, Found, Lines, RuleId};
+use yl_text::{Break, Finding, Lines, RuleId};
 
 /// How the first line of a text is to end.
 #[derive(Clone, Copy, Debug, PartialEq, Eq)]
@@ -17,13 +16,13 @@ pub enum NewLine {
 }
 
 impl NewLine {
-    /// The break in backslash letters.
-    fn name(self) -> &'static str
-        ensures { result.now ≡ break_name self }
+    /// What is said of a line that ends otherwise, with the break in backslash letters.
+    fn message(self) -> &'static str
+        ensures { result.now ≡ wrong_break self }
     {
         match self {
-            NewLine::Unix => "\\n",
-            NewLine::Dos => "\\r\\n",
+            NewLine::Unix => "wrong new line character: expected \\n",
+            NewLine::Dos => "wrong new line character: expected \\r\\n",
         }
     }
 
@@ -39,22 +38,16 @@ impl NewLine {
 }
 
 /// The problem of a text, if its first line ends in another break than the one wanted.
-pub(crate) fn new_lines_problem<L: Lines>(
-    alloc: L::Alloc,
-    lines: &L,
-    wanted: NewLine,
-) -> Result<Option<Found<L::Alloc>>, AllocError>
-    ensures { IfOk result (λ o. option_to_list o ≡ new_lines wanted (L.rows lines.now)) }
+pub(crate) fn new_lines_problem<L: Lines>(lines: &L, wanted: NewLine) -> Option<Finding<L::Alloc>>
+    ensures { option_to_list result ≡ new_lines wanted (L.rows lines.now) }
 {
     if lines.len() == 0 {
-        return Ok(None);
+        return None;
     }
     let row = lines.row(0);
     if !wanted.is_wrong(row.end()) {
-        return Ok(None);
+        return None;
     }
-    let name = wanted.name();
-    let message = format!(in alloc; "wrong new line character: expected {name}")?;
     let column = width(row.as_str()) as u64 + 1;
-    Ok(Some(Found::new(1, column, RuleId::NewLines, message)))
+    Some(Finding::fixed(1, column, RuleId::NewLines, wanted.message()))
 }

@@ -4,10 +4,10 @@ ghost use Rattle.std.specs.Option.{option_to_list};
 ghost use Rattle.std.specs.Vec.{vec_capacity};
 
 use std::alloc::{AllocError, Allocator};
-use yl_text::Found;
+use yl_text::Finding;
 
 /// Puts what was found behind the rest. There is room for it.
-fn push_reserved<A: Allocator>(found: &mut Vec<Found<A>, A>, more: Option<Found<A>>)
+fn push_reserved<A: Allocator>(found: &mut Vec<Finding<A>, A>, more: Option<Finding<A>>)
     requires { vec_len found.old < vec_capacity found.old }
     ensures items { found.new.items ≡ found.old.items ++ option_to_list more }
     ensures room { vec_capacity found.new ≡ vec_capacity found.old }
@@ -20,9 +20,9 @@ fn push_reserved<A: Allocator>(found: &mut Vec<Found<A>, A>, more: Option<Found<
 
 /// Puts both behind the rest, or neither where there is no memory.
 pub(crate) fn push_both<A: Allocator>(
-    found: &mut Vec<Found<A>, A>,
-    first: Option<Found<A>>,
-    second: Option<Found<A>>,
+    found: &mut Vec<Finding<A>, A>,
+    first: Option<Finding<A>>,
+    second: Option<Finding<A>>,
 ) -> Result<(), AllocError>
     ensures ok { OnOk result (found.new.items ≡ found.old.items ++ (option_to_list first ++ option_to_list second)) }
     ensures err { OnErr result (found.new.items ≡ found.old.items) }
@@ -38,8 +38,8 @@ pub(crate) fn push_both<A: Allocator>(
 
 /// Puts what was found behind the rest, or nothing where there is no memory.
 pub(crate) fn push_found<A: Allocator>(
-    found: &mut Vec<Found<A>, A>,
-    more: Option<Found<A>>,
+    found: &mut Vec<Finding<A>, A>,
+    more: Option<Finding<A>>,
 ) -> Result<(), AllocError>
     ensures ok { OnOk result (found.new.items ≡ found.old.items ++ option_to_list more) }
     ensures err { OnErr result (found.new.items ≡ found.old.items) }

@@ -8,7 +8,7 @@ use crate::options::RowOptions;
 use crate::pushes::push_both;
 use crate::trailing_spaces::{end_white, trailing_spaces_problem};
 use std::alloc::{AllocError, Allocator};
-use yl_text::{Found, Row};
+use yl_text::{Finding, Row};
 
 /// Whether the line needs a closer look: it ends in white space, or has more bytes than it may have characters.
 fn is_suspect(text: &str, options: &RowOptions) -> bool
@@ -24,7 +24,7 @@ pub fn push_line_problems<A: Allocator + Copy>(
     line: u64,
     text: &str,
     options: &RowOptions,
-    found: &mut Vec<Found<A>, A>,
+    found: &mut Vec<Finding<A>, A>,
 ) -> Result<(), AllocError>
     ensures ok { OnOk result (found.new.items ≡ found.old.items ++ line_findings options.now line (chars text.now)) }
     ensures err { OnErr result (found.new.items ≡ found.old.items) }
@@ -32,7 +32,7 @@ pub fn push_line_problems<A: Allocator + Copy>(
     if !is_suspect(text, options) {
         return Ok(());
     }
-    let trailing = trailing_spaces_problem(alloc, line, text)?;
+    let trailing = trailing_spaces_problem(line, text);
     let long = line_length_problem(alloc, line, text, options)?;
     push_both(found, trailing, long)
 }
@@ -44,7 +44,7 @@ pub fn push_row_problems<A: Allocator + Copy>(
     line: u64,
     row: &Row<A>,
     options: &RowOptions,
-    found: &mut Vec<Found<A>, A>,
+    found: &mut Vec<Finding<A>, A>,
 ) -> Result<(), AllocError>
     ensures ok { OnOk result (found.new.items ≡ found.old.items ++ row_findings options.now line row.now) }
     ensures err { OnErr result (found.new.items ≡ found.old.items) }
@@ -58,7 +58,7 @@ pub fn row_problems<A: Allocator + Copy>(
     line: u64,
     row: &Row<A>,
     options: &RowOptions,
-) -> Result<Vec<Found<A>, A>, AllocError>
+) -> Result<Vec<Finding<A>, A>, AllocError>
     ensures { IfOk result (λ v. v.items ≡ row_findings options.now line row.now) }
 {
     let mut found = Vec::new(alloc);

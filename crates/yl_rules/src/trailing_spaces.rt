@@ -1,13 +1,13 @@
 //! The rule trailing-spaces.
-ghost use Rattle.std.specs.Prelude.{◌≡◌, ◌==◌, ◌||◌, ◌≤◌, ◌<◌, ◌^◌, length, IfOk};
+ghost use Rattle.std.specs.Prelude.{◌≡◌, ◌==◌, ◌||◌, ◌≤◌, ◌<◌, ◌^◌, length};
 ghost use Rattle.std.specs.Option.{option_to_list};
 ghost use Rattle.std.specs.Str.{chars};
 ghost use Rattle.yl_text.specs.Character.{is_white};
 ghost use Rattle.yl_rules.specs.TrailingSpaces.{end_white, trailing_spaces};
 
 use crate::width::width;
-use std::alloc::{AllocError, Allocator};
-use yl_text::{Found, RuleId};
+use std::alloc::Allocator;
+use yl_text::{Finding, RuleId};
 
 fn is_white(byte: u8) -> bool
     ensures { result ≡ is_white byte }
@@ -27,18 +27,13 @@ pub(crate) fn end_white(bytes: &[u8]) -> usize
 }
 
 /// The problem of a line, if it ends in white space.
-pub(crate) fn trailing_spaces_problem<A: Allocator + Copy>(
-    alloc: A,
-    line: u64,
-    text: &str,
-) -> Result<Option<Found<A>>, AllocError>
-    ensures { IfOk result (λ o. option_to_list o ≡ trailing_spaces line (chars text.now)) }
+pub(crate) fn trailing_spaces_problem<A: Allocator>(line: u64, text: &str) -> Option<Finding<A>>
+    ensures { option_to_list result ≡ trailing_spaces line (chars text.now) }
 {
     let white = end_white(text.as_bytes());
     if white == 0 {
-        return Ok(None);
+        return None;
     }
-    let message = String::from_str(alloc, "trailing spaces")?;
     let column = (width(text) - white) as u64 + 1;
-    Ok(Some(Found::new(line, column, RuleId::TrailingSpaces, message)))
+    Some(Finding::fixed(line, column, RuleId::TrailingSpaces, "trailing spaces"))
 }

@@ -5,10 +5,10 @@ mod rows;
 mod runs;
 
 use std::alloc::{AllocError, Allocator, Global};
-use yl_text::{Found, LineStore, PlainStore, TextFault, split};
+use yl_text::{Finding, LineStore, PlainStore, TextFault, split};
 
 // What was found, a line each: line, column, rule, message.
-fn shown<A: Allocator>(alloc: Global, found: &[Found<A>]) -> Result<String, AllocError> {
+fn shown<A: Allocator>(alloc: Global, found: &[Finding<A>]) -> Result<String, AllocError> {
     let mut text = String::new(alloc);
     for one in found {
         let line = one.line();

@@ -4,15 +4,15 @@ use Rattle.std.specs.List.{list_all}
 use Rattle.std.proofs.lemmas.Bool.{eqb-true}
 use Rattle.std.proofs.lemmas.List.{append-nil}
 use Rattle.yl_scalar.specs.Allowed.{is_quoted_character}
-use Rattle.yl_scalar.specs.Reading.{Whole, settled, read}
+use Rattle.yl_scalar.specs.Reading.{Whole, outcome_of_step, outcome_of_lines}
 use Rattle.yl_scalar.specs.Quoted.{Closes, stretch, quote, begins_with}
-use Rattle.yl_scalar.specs.QuotedSteps.{took, opened, quoted_step, quoted_finish}
-use Rattle.yl_scalar.specs.Written.{written, QuotedLaw}
+use Rattle.yl_scalar.specs.QuotedSteps.{quoted_step_behind, quoted_start, quoted_step, quoted_finish}
+use Rattle.yl_scalar.specs.Written.{quoted_text, QuotedLaw}
 
 -- text that was read before a character, and text behind it
 abbrev ReadsBack : Bool → List ℕ → List ℕ → List ℕ → ℕ → ℕ → Type 0
 ReadsBack double after text before kept at =
-    stretch double 0 before kept at (written double text ++ quote double ∷ after) ≡ Closes (before ++ text) (at + (length (written double text) + 1))
+    stretch double 0 before kept at (quoted_text double text ++ quote double ∷ after) ≡ Closes (before ++ text) (at + (length (quoted_text double text) + 1))
 
 first_holds : (a b : Bool) → (a && b) ≡ true → a ≡ true
 first_holds true b h = refl
@@ -27,13 +27,13 @@ not_zero n = ne_eqb (suc n) 0 (λ e. cc)
 
 module _ (after : List ℕ) (cs before : List ℕ) (kept at : ℕ) where
   -- one character longer in the text, and so much longer as it is written
-  joined : (double : Bool) (c d len : ℕ) → c ≡ d → len ≡ length (written double cs) →
+  joined : (double : Bool) (c d len : ℕ) → c ≡ d → len ≡ length (quoted_text double cs) →
       Closes ((before ++ d ∷ []) ++ cs) (at + 1 + (len + 1)) ≡ Closes (before ++ c ∷ cs) (at + (suc len + 1))
   joined double c d len e l =
       let place : at + 1 + (len + 1) ≡ at + (suc len + 1) = omega arith in
       ap (λ x. Closes x (at + 1 + (len + 1))) (append_assoc before (d ∷ []) cs) ∙ ap (λ x. Closes (before ++ x ∷ cs) (at + 1 + (len + 1))) (sym e) ∙ ap (λ k. Closes (before ++ c ∷ cs) k) place
 
-  joined_two : (double : Bool) (c d len : ℕ) → c ≡ d → len ≡ length (written double cs) →
+  joined_two : (double : Bool) (c d len : ℕ) → c ≡ d → len ≡ length (quoted_text double cs) →
       Closes ((before ++ d ∷ []) ++ cs) (at + 1 + 1 + (len + 1)) ≡ Closes (before ++ c ∷ cs) (at + (suc (suc len) + 1))
   joined_two double c d len e l =
       let place : at + 1 + 1 + (len + 1) ≡ at + (suc (suc len) + 1) = omega arith in
@@ -43,22 +43,22 @@ module _ (after : List ℕ) (cs before : List ℕ) (kept at : ℕ) where
   Below double = (before : List ℕ) (kept at : ℕ) → ReadsBack double after cs before kept at
 
   double_one : (c : ℕ) → is_quoted_character c ≡ true → (x y : Bool) → eqb c 0x22 ≡ x → eqb c 0x5C ≡ y → Below true →
-      stretch true 0 before kept at ((cond x (0x5C ∷ 0x22 ∷ []) (cond y (0x5C ∷ 0x5C ∷ []) (c ∷ [])) ++ written true cs) ++ 0x22 ∷ after)
-      ≡ Closes (before ++ c ∷ cs) (at + (length (cond x (0x5C ∷ 0x22 ∷ []) (cond y (0x5C ∷ 0x5C ∷ []) (c ∷ [])) ++ written true cs) + 1))
+      stretch true 0 before kept at ((cond x (0x5C ∷ 0x22 ∷ []) (cond y (0x5C ∷ 0x5C ∷ []) (c ∷ [])) ++ quoted_text true cs) ++ 0x22 ∷ after)
+      ≡ Closes (before ++ c ∷ cs) (at + (length (cond x (0x5C ∷ 0x22 ∷ []) (cond y (0x5C ∷ 0x5C ∷ []) (c ∷ [])) ++ quoted_text true cs) + 1))
   double_one c ok true y x_is y_is ih =
-      rw (not_zero (length (written true cs ++ 0x22 ∷ after))) (ih (before ++ 0x22 ∷ []) (length before + 1) (at + 1 + 1) ∙ joined_two true c 0x22 (length (written true cs)) (eqb-true c 0x22 x_is) refl)
+      rw (not_zero (length (quoted_text true cs ++ 0x22 ∷ after))) (ih (before ++ 0x22 ∷ []) (length before + 1) (at + 1 + 1) ∙ joined_two true c 0x22 (length (quoted_text true cs)) (eqb-true c 0x22 x_is) refl)
   double_one c ok false true x_is y_is ih =
-      rw (not_zero (length (written true cs ++ 0x22 ∷ after))) (ih (before ++ 0x5C ∷ []) (length before + 1) (at + 1 + 1) ∙ joined_two true c 0x5C (length (written true cs)) (eqb-true c 0x5C y_is) refl)
+      rw (not_zero (length (quoted_text true cs ++ 0x22 ∷ after))) (ih (before ++ 0x5C ∷ []) (length before + 1) (at + 1 + 1) ∙ joined_two true c 0x5C (length (quoted_text true cs)) (eqb-true c 0x5C y_is) refl)
   double_one c ok false false x_is y_is ih =
-      rw (x_is, y_is, ok) (ih (before ++ c ∷ []) _ (at + 1) ∙ joined true c c (length (written true cs)) refl refl)
+      rw (x_is, y_is, ok) (ih (before ++ c ∷ []) _ (at + 1) ∙ joined true c c (length (quoted_text true cs)) refl refl)
 
   single_one : (c : ℕ) → is_quoted_character c ≡ true → (x : Bool) → eqb c 0x27 ≡ x → Below false →
-      stretch false 0 before kept at ((cond x (0x27 ∷ 0x27 ∷ []) (c ∷ []) ++ written false cs) ++ 0x27 ∷ after)
-      ≡ Closes (before ++ c ∷ cs) (at + (length (cond x (0x27 ∷ 0x27 ∷ []) (c ∷ []) ++ written false cs) + 1))
+      stretch false 0 before kept at ((cond x (0x27 ∷ 0x27 ∷ []) (c ∷ []) ++ quoted_text false cs) ++ 0x27 ∷ after)
+      ≡ Closes (before ++ c ∷ cs) (at + (length (cond x (0x27 ∷ 0x27 ∷ []) (c ∷ []) ++ quoted_text false cs) + 1))
   single_one c ok true x_is ih =
-      ih (before ++ 0x27 ∷ []) (length before + 1) (at + 1 + 1) ∙ joined_two false c 0x27 (length (written false cs)) (eqb-true c 0x27 x_is) refl
+      ih (before ++ 0x27 ∷ []) (length before + 1) (at + 1 + 1) ∙ joined_two false c 0x27 (length (quoted_text false cs)) (eqb-true c 0x27 x_is) refl
   single_one c ok false x_is ih =
-      rw (x_is, ok) (ih (before ++ c ∷ []) _ (at + 1) ∙ joined false c c (length (written false cs)) refl refl)
+      rw (x_is, ok) (ih (before ++ c ∷ []) _ (at + 1) ∙ joined false c c (length (quoted_text false cs)) refl refl)
 
 reads_back : (double : Bool) (after text before : List ℕ) (kept at : ℕ) → list_all is_quoted_character text ≡ true → begins_with 0x27 after ≡ false →
     ReadsBack double after text before kept at
@@ -73,5 +73,5 @@ reads_back false after (c ∷ cs) before kept at ok free =
 
 pub quoted_law : QuotedLaw
 quoted_law double opening text after lines ok free =
-    ap (λ part. settled (λ s. read quoted_step quoted_finish s lines) (took (opened double opening) (opening + 1) part)) (reads_back double after text [] 0 0 ok free)
-    ∙ ap (λ k. Whole (record { down = 0; column = opening + 1 + k; value = text })) (zero-add (length (written double text) + 1))
+    ap (λ part. outcome_of_step (λ s. outcome_of_lines quoted_step quoted_finish s lines) (quoted_step_behind (quoted_start double opening) (opening + 1) part)) (reads_back double after text [] 0 0 ok free)
+    ∙ ap (λ k. Whole (record { down = 0; column = opening + 1 + k; value = text })) (zero-add (length (quoted_text double text) + 1))

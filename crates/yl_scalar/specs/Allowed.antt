@@ -1,4 +1,5 @@
--- Which characters a text may have: YAML 1.2.2, chapter 5.1, by their code points. A line has no breaks.
+-- Meaning: which characters a text may have: YAML 1.2.2, chapter 5.1, by their code points. A line
+-- has no breaks.
 use Rattle.std.specs.Prelude.{ℕ, Bool, not, ◌&&◌, ◌||◌, ◌==◌, nat_le, List, Option}
 use Rattle.std.specs.List.{position}
 

@@ -1,14 +1,14 @@
--- Block scalars line by line: YAML 1.2.2, 8.1. The values of their lines are not read.
+-- Bridge: block scalars line by line: YAML 1.2.2, 8.1. The values of their lines are not read.
 use Rattle.std.specs.Prelude.{ℕ, nat_lt, nat_le, if◌then◌else◌, List, [], ◌∷◌, ◌++◌, ◌+◌, ◌-◌, take, length, Option, Some, None}
 use Rattle.yl_text.specs.Character.{is_blank, is_marker, indentation}
 use Rattle.yl_scalar.specs.Allowed.{first_bad}
 use Rattle.yl_scalar.specs.Header.{indicators, misfit}
-use Rattle.yl_scalar.specs.Reading.{Extent, Reading, Whole, Stepped, GoesOn, EndedAbove, Fails, settled, read, unless_bad}
+use Rattle.yl_scalar.specs.Reading.{Extent, ScalarOutcomeValue, Whole, ScalarStepValue, GoesOn, EndedAbove, Fails, outcome_of_step, outcome_of_lines, unless_bad}
 use Rattle.yl_scalar.specs.declared.answer.ScalarFault.TheVariants.{BadHeader, BadIndentation}
 
 -- a scalar that may go on: the column of its content, if that is known, which must be `least` or more; where it ends so far;
 -- how many blank lines have passed since; and how many spaces each blank line began with before the column was known
-pub record BlockState : Type 0 where
+pub record BlockReaderValue : Type 0 where
   pub least : ℕ
   pub content : Option ℕ
   pub down : ℕ
@@ -16,26 +16,26 @@ pub record BlockState : Type 0 where
   pub blanks : ℕ
   pub spaces : List ℕ
 
-abbrev pub block_extent : BlockState → Extent
+abbrev pub block_extent : BlockReaderValue → Extent
 block_extent s = record { down = s.down; column = s.column; value = [] }
 
 -- the content column that an indentation indicator gives, or 0 for none: n + digit, where `least` is n + 1
-abbrev pub content_given : ℕ → ℕ → Option ℕ
-content_given least digit = if nat_lt 0 digit then Some ((least - 1) + digit) else None
+abbrev pub explicit_content : ℕ → ℕ → Option ℕ
+explicit_content least digit = if nat_lt 0 digit then Some ((least - 1) + digit) else None
 
 -- behind a header that ends before this column
-abbrev pub header_end : ℕ → ℕ → ℕ → BlockState
-header_end least digit column = record { least = least; content = content_given least digit; down = 0; column = column; blanks = 0; spaces = [] }
+abbrev pub header_end : ℕ → ℕ → ℕ → BlockReaderValue
+header_end least digit column = record { least = least; content = explicit_content least digit; down = 0; column = column; blanks = 0; spaces = [] }
 
 -- the header, by the place of the first character that does not fit
-abbrev pub header_read : ℕ → ℕ → List ℕ → Option ℕ → Stepped BlockState
+abbrev pub header_read : ℕ → ℕ → List ℕ → Option ℕ → ScalarStepValue BlockReaderValue
 header_read least column header None =
     unless_bad (first_bad header) 0 column (GoesOn (header_end least (indicators header).0 (column + length header)))
 header_read least column header (Some place) =
     unless_bad (first_bad (take (place + 1) header)) 0 column (Fails BadHeader 0 (column + place))
 
 -- the scalar's header from behind the indicator that stands at this column. least is n + 1
-abbrev pub block_begin : ℕ → ℕ → List ℕ → Stepped BlockState
+abbrev pub block_begin : ℕ → ℕ → List ℕ → ScalarStepValue BlockReaderValue
 block_begin least at header = header_read least (at + 1) header (misfit header)
 
 -- a blank line counts for the content column until that is known
@@ -44,7 +44,7 @@ spaces_with None spaces line = spaces ++ indentation line ∷ []
 spaces_with (Some content) spaces line = spaces
 
 -- a line of content, which is indented to this column
-abbrev pub with_content : BlockState → ℕ → List ℕ → Stepped BlockState
+abbrev pub with_content : BlockReaderValue → ℕ → List ℕ → ScalarStepValue BlockReaderValue
 with_content s content line =
     unless_bad (first_bad line) (s.down + s.blanks + 1) 0
     (GoesOn (record { least = s.least; content = Some content; down = s.down + s.blanks + 1; column = length line; blanks = 0; spaces = s.spaces }))
@@ -55,29 +55,29 @@ deeper column place [] = None
 deeper column place (n ∷ ns) = if nat_lt column n then Some (place, n) else deeper column (place + 1) ns
 
 -- the first line with text gives the column, and no blank line before it may have more leading spaces
-abbrev pub begun : Option (ℕ × ℕ) → Stepped BlockState → Stepped BlockState
-begun None more = more
-begun (Some bad) more = Fails BadIndentation bad.0 bad.1
+abbrev pub unless_too_deep : Option (ℕ × ℕ) → ScalarStepValue BlockReaderValue → ScalarStepValue BlockReaderValue
+unless_too_deep None more = more
+unless_too_deep (Some bad) more = Fails BadIndentation bad.0 bad.1
 
 -- a line that is not blank and no marker
-abbrev pub text_line : Option ℕ → BlockState → List ℕ → Stepped BlockState
+abbrev pub text_line : Option ℕ → BlockReaderValue → List ℕ → ScalarStepValue BlockReaderValue
 text_line (Some content) s line =
     if nat_le content (indentation line) then with_content s content line else EndedAbove (block_extent s)
 text_line None s line =
     if nat_le s.least (indentation line)
-    then begun (deeper (indentation line) 1 s.spaces) (with_content s (indentation line) line)
+    then unless_too_deep (deeper (indentation line) 1 s.spaces) (with_content s (indentation line) line)
     else EndedAbove (block_extent s)
 
-abbrev pub block_step : BlockState → List ℕ → Stepped BlockState
+abbrev pub block_step : BlockReaderValue → List ℕ → ScalarStepValue BlockReaderValue
 block_step s line =
     if is_blank line then GoesOn (record s { blanks = s.blanks + 1; spaces = spaces_with s.content s.spaces line })
     else if is_marker line then EndedAbove (block_extent s)
     else text_line s.content s line
 
 -- a text may end behind it
-abbrev pub block_finish : BlockState → Reading
+abbrev pub block_finish : BlockReaderValue → ScalarOutcomeValue
 block_finish s = Whole (block_extent s)
 
 -- the scalar whose indicator stands at this column, from behind it on, with the lines below
-abbrev pub block : ℕ → ℕ → List ℕ → List (List ℕ) → Reading
-block least at header lines = settled (λ s. read block_step block_finish s lines) (block_begin least at header)
+abbrev pub block : ℕ → ℕ → List ℕ → List (List ℕ) → ScalarOutcomeValue
+block least at header lines = outcome_of_step (λ s. outcome_of_lines block_step block_finish s lines) (block_begin least at header)

@@ -1,20 +1,20 @@
--- A block scalar as the lines that it takes: YAML 1.2.2, 8.1.
+-- Meaning: a block scalar as the lines that it takes: YAML 1.2.2, 8.1.
 use Rattle.std.specs.Prelude.{ℕ, not, ◌&&◌, ◌==◌, nat_le, if◌then◌else◌, List, [], ◌∷◌, ◌+◌, take, drop, length, map, Option, Some, None, ◌≡◌}
 use Rattle.std.specs.List.{prefix_len}
 use Rattle.yl_text.specs.Character.{is_blank, is_marker, indentation}
 use Rattle.yl_scalar.specs.Allowed.{first_bad}
-use Rattle.yl_scalar.specs.Reading.{Reading, Whole, Refused}
+use Rattle.yl_scalar.specs.Reading.{ScalarOutcomeValue, Whole, Refused}
 use Rattle.yl_scalar.specs.Header.{indicators, misfit}
-use Rattle.yl_scalar.specs.Block.{block, deeper, content_given}
+use Rattle.yl_scalar.specs.Block.{block, deeper, explicit_content}
 use Rattle.yl_scalar.specs.PlainLines.{place_at, first_of, unless_refused}
 use Rattle.yl_scalar.specs.declared.answer.ScalarFault.TheVariants.{BadIndentation}
 
 -- how many of the lines belong to content that is indented to this column
-abbrev pub content_taken : ℕ → List (List ℕ) → ℕ
-content_taken content [] = 0
-content_taken content (line ∷ lines) =
-    if is_blank line then (if content_taken content lines == 0 then 0 else 1 + content_taken content lines)
-    else if not (is_marker line) && nat_le content (indentation line) then 1 + content_taken content lines
+abbrev pub content_line_count : ℕ → List (List ℕ) → ℕ
+content_line_count content [] = 0
+content_line_count content (line ∷ lines) =
+    if is_blank line then (if content_line_count content lines == 0 then 0 else 1 + content_line_count content lines)
+    else if not (is_marker line) && nat_le content (indentation line) then 1 + content_line_count content lines
     else 0
 
 -- where the last line with text ends, or this column
@@ -28,28 +28,28 @@ bad_content down [] = None
 bad_content down (line ∷ lines) = first_of (if is_blank line then None else place_at down 0 (first_bad line)) (bad_content (down + 1) lines)
 
 -- with so many lines of content below a header that ends before this column
-abbrev pub of_content : ℕ → ℕ → List (List ℕ) → Reading
+abbrev pub of_content : ℕ → ℕ → List (List ℕ) → ScalarOutcomeValue
 of_content column down lines = unless_refused (bad_content 1 lines) (Whole (record { down = down; column = last_end column lines; value = [] }))
 
-abbrev pub unless_deeper : Option (ℕ × ℕ) → Reading → Reading
+abbrev pub unless_deeper : Option (ℕ × ℕ) → ScalarOutcomeValue → ScalarOutcomeValue
 unless_deeper None more = more
 unless_deeper (Some p) more = Refused BadIndentation p.0 p.1
 
 -- by the first line with text and those below it, if there is one, and the leading spaces of the blank lines above it
-abbrev pub sought : ℕ → ℕ → List ℕ → (ℕ → Reading) → List (List ℕ) → Reading
-sought least column spaces more [] = Whole (record { down = 0; column = column; value = [] })
-sought least column spaces more (line ∷ lines) =
+abbrev pub content_below : ℕ → ℕ → List ℕ → (ℕ → ScalarOutcomeValue) → List (List ℕ) → ScalarOutcomeValue
+content_below least column spaces more [] = Whole (record { down = 0; column = column; value = [] })
+content_below least column spaces more (line ∷ lines) =
     if not (is_marker line) && nat_le least (indentation line) then unless_deeper (deeper (indentation line) 1 spaces) (more (indentation line))
     else Whole (record { down = 0; column = column; value = [] })
 
-abbrev pub below_header : ℕ → ℕ → List (List ℕ) → Option ℕ → Reading
-below_header least column lines (Some content) = of_content column (content_taken content lines) (take (content_taken content lines) lines)
+abbrev pub below_header : ℕ → ℕ → List (List ℕ) → Option ℕ → ScalarOutcomeValue
+below_header least column lines (Some content) = of_content column (content_line_count content lines) (take (content_line_count content lines) lines)
 below_header least column lines None =
-    sought least column (map indentation (take (prefix_len is_blank lines) lines))
-    (λ content. of_content column (content_taken content lines) (take (content_taken content lines) lines))
+    content_below least column (map indentation (take (prefix_len is_blank lines) lines))
+    (λ content. of_content column (content_line_count content lines) (take (content_line_count content lines) lines))
     (drop (prefix_len is_blank lines) lines)
 
 -- a block scalar with a header that fits is what the lines that it takes make of it
 abbrev pub BlockLaw : Type 0
 BlockLaw = (least at : ℕ) (header : List ℕ) (lines : List (List ℕ)) → misfit header ≡ None → first_bad header ≡ None →
-    block least at header lines ≡ below_header least (at + 1 + length header) lines (content_given least (indicators header).0)
+    block least at header lines ≡ below_header least (at + 1 + length header) lines (explicit_content least (indicators header).0)

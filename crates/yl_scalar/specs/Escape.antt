@@ -1,22 +1,23 @@
--- Escapes in double quotes: YAML 1.2.2, 5.7.
+-- Meaning: escapes in double quotes: YAML 1.2.2, 5.7.
 use Rattle.std.specs.Prelude.{ℕ, Bool, ◌&&◌, ◌||◌, ◌==◌, nat_lt, nat_le, if◌then◌else◌, List, [], ◌∷◌, take, length, Option, Some, None, option_map}
 use Rattle.std.specs.List.{list_all}
 use Rattle.std.specs.Char.{is_digit}
 use Rattle.std.specs.Str.Parse.{digits_value}
+use Rattle.yl_text.specs.Char as char
 
 -- what one character stands for behind a backslash (c-ns-esc-char)
 abbrev pub simple_escape : ℕ → Option ℕ
 simple_escape c =
-    if c == 0x30 then Some 0x00 else if c == 0x61 then Some 0x07 else if c == 0x62 then Some 0x08
-    else if c == 0x74 || c == 0x09 then Some 0x09 else if c == 0x6E then Some 0x0A else if c == 0x76 then Some 0x0B
-    else if c == 0x66 then Some 0x0C else if c == 0x72 then Some 0x0D else if c == 0x65 then Some 0x1B
-    else if c == 0x20 || c == 0x22 || c == 0x2F || c == 0x5C then Some c
-    else if c == 0x4E then Some 0x85 else if c == 0x5F then Some 0xA0 else if c == 0x4C then Some 0x2028
-    else if c == 0x50 then Some 0x2029 else None
+    if c == char.digit_zero then Some char.null else if c == char.lower_a then Some char.bell else if c == char.lower_b then Some char.backspace
+    else if c == char.lower_t || c == char.tab then Some char.tab else if c == char.lower_n then Some char.line_feed else if c == char.lower_v then Some char.vertical_tab
+    else if c == char.lower_f then Some char.form_feed else if c == char.lower_r then Some char.carriage_return else if c == char.lower_e then Some char.escape_control
+    else if c == char.space || c == char.double_quote || c == char.slash || c == char.backslash then Some c
+    else if c == char.upper_n then Some char.next_line else if c == char.underscore then Some char.no_break_space else if c == char.upper_l then Some char.line_separator
+    else if c == char.upper_p then Some char.paragraph_separator else None
 
 -- how many hexadecimal digits follow it (ns-esc-8-bit, ns-esc-16-bit, ns-esc-32-bit)
 abbrev pub hex_len : ℕ → ℕ
-hex_len c = if c == 0x78 then 2 else if c == 0x75 then 4 else if c == 0x55 then 8 else 0
+hex_len c = if c == char.lower_x then 2 else if c == char.lower_u then 4 else if c == char.upper_u then 8 else 0
 
 -- a character's number: no surrogate, and not past the last one
 abbrev pub is_scalar_value : ℕ → Bool

@@ -1,15 +1,16 @@
--- The header of a block scalar, from behind its `|` or `>` on: YAML 1.2.2, 8.1.1.
+-- Meaning: the header of a block scalar, from behind its `|` or `>` on: YAML 1.2.2, 8.1.1.
 use Rattle.std.specs.Prelude.{ℕ, Bool, ◌&&◌, ◌||◌, ◌==◌, nat_lt, nat_le, if◌then◌else◌, List, [], ◌∷◌, ◌+◌, ◌-◌, drop, Option, Some, None, option_map}
 use Rattle.std.specs.List.{prefix_len}
+use Rattle.yl_text.specs.Char as char
 use Rattle.yl_text.specs.Character.{is_white, is_blank, without_front}
 
 -- c-indentation-indicator
 abbrev pub is_indicator_digit : ℕ → Bool
-is_indicator_digit c = nat_le 0x31 c && nat_le c 0x39
+is_indicator_digit c = nat_le char.digit_one c && nat_le c char.digit_nine
 
 -- c-chomping-indicator
 abbrev pub is_chomping : ℕ → Bool
-is_chomping c = c == 0x2B || c == 0x2D
+is_chomping c = c == char.plus || c == char.hyphen
 
 -- the character that comes next, or 0
 abbrev pub next : List ℕ → ℕ
@@ -20,15 +21,15 @@ next (c ∷ cs) = c
 abbrev pub indicators : List ℕ → ℕ × ℕ
 indicators [] = (0, 0)
 indicators (c ∷ cs) =
-    if is_indicator_digit c then (c - 0x30, if is_chomping (next cs) then 2 else 1)
-    else if is_chomping c then (if is_indicator_digit (next cs) then (next cs - 0x30, 2) else (0, 1))
+    if is_indicator_digit c then (c - char.digit_zero, if is_chomping (next cs) then 2 else 1)
+    else if is_chomping c then (if is_indicator_digit (next cs) then (next cs - char.digit_zero, 2) else (0, 1))
     else (0, 0)
 
 -- where the text behind the indicators is no white space, or a comment behind it (s-b-comment), if there is such a place
 abbrev pub misfit_behind : List ℕ → Option ℕ
 misfit_behind cs =
     if is_blank cs then None
-    else if nat_lt 0 (prefix_len is_white cs) && next (without_front cs) == 0x23 then None
+    else if nat_lt 0 (prefix_len is_white cs) && next (without_front cs) == char.hash then None
     else Some (prefix_len is_white cs)
 
 -- the first character of the header that does not fit

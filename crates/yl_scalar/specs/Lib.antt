@@ -13,3 +13,4 @@ pub mod Part
 pub mod PlainLines
 pub mod Written
 pub mod BlockLines
+pub mod QuotedRows

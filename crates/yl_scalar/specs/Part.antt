@@ -1,4 +1,4 @@
--- What a reader of a quoted scalar has of one line.
+-- Bridge: what a reader of a quoted scalar has of one line.
 use Rattle.std.specs.Prelude.{ℕ, List, Some, None, ◌+◌, ◌≤◌, ◌<◌, ◌^◌}
 use Rattle.yl_scalar.specs.Quoted.{Stretch, Closes, Breaks, Faulty}
 use Rattle.yl_scalar.specs.declared.quoted.Part.{Part}

@@ -1,5 +1,6 @@
--- Plain scalars: YAML 1.2.2, 7.3.3.
+-- Meaning: plain scalars: YAML 1.2.2, 7.3.3.
 use Rattle.std.specs.Prelude.{ℕ, Bool, true, false, not, ◌&&◌, ◌||◌, ◌==◌, nat_lt, nat_le, if◌then◌else◌, List, [], ◌∷◌, ◌+◌, take, length}
+use Rattle.yl_text.specs.Char as char
 use Rattle.yl_text.specs.Character.{is_white, is_flow_indicator, is_plain_safe, indentation, is_marker, without_front, without_end}
 
 -- a plain-safe character comes next
@@ -13,7 +14,7 @@ is_safe_next flow (c ∷ cs) = is_plain_safe flow c
 abbrev pub stop : Bool → Bool → List ℕ → ℕ
 stop flow behind_space [] = 0
 stop flow behind_space (c ∷ cs) =
-    if (c == 0x3A && not (is_safe_next flow cs)) || (c == 0x23 && behind_space) || (flow && is_flow_indicator c)
+    if (c == char.colon && not (is_safe_next flow cs)) || (c == char.hash && behind_space) || (flow && is_flow_indicator c)
     then 0 else 1 + stop flow (is_white c) cs
 
 -- the scalar goes up to the line's end, so that a later line may go on with it

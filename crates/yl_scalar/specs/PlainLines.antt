@@ -1,32 +1,32 @@
--- A plain scalar as the lines that it takes: YAML 1.2.2, 7.3.3 and 6.5.
+-- Meaning: a plain scalar as the lines that it takes: YAML 1.2.2, 7.3.3 and 6.5.
 use Rattle.std.specs.Prelude.{ℕ, Bool, true, false, ◌==◌, if◌then◌else◌, List, [], ◌∷◌, ◌++◌, ◌+◌, take, length, Option, Some, None, option_map, ◌≡◌}
 use Rattle.std.specs.List.{prefix_len}
 use Rattle.yl_text.specs.Character.{is_white, is_blank, without_front}
 use Rattle.yl_scalar.specs.Allowed.{first_bad}
-use Rattle.yl_scalar.specs.Reading.{Reading, Whole, Refused}
+use Rattle.yl_scalar.specs.Reading.{ScalarOutcomeValue, Whole, Refused}
 use Rattle.yl_scalar.specs.Folding.{break_of}
 use Rattle.yl_scalar.specs.Plain.{part, reaches_end, continues}
 use Rattle.yl_scalar.specs.PlainSteps.{plain}
 use Rattle.yl_scalar.specs.declared.answer.ScalarFault.TheVariants.{NotAllowed}
 
 -- how many of the lines below its first one belong to the scalar, where its first reaches its end
-abbrev pub lines_taken : Bool → ℕ → List (List ℕ) → ℕ
-lines_taken flow least [] = 0
-lines_taken flow least (line ∷ lines) =
-    if is_blank line then (if lines_taken flow least lines == 0 then 0 else 1 + lines_taken flow least lines)
+abbrev pub scalar_line_count : Bool → ℕ → List (List ℕ) → ℕ
+scalar_line_count flow least [] = 0
+scalar_line_count flow least (line ∷ lines) =
+    if is_blank line then (if scalar_line_count flow least lines == 0 then 0 else 1 + scalar_line_count flow least lines)
     else if continues flow least line
-    then (if reaches_end flow true (without_front line) then 1 + lines_taken flow least lines else 1)
+    then (if reaches_end flow true (without_front line) then 1 + scalar_line_count flow least lines else 1)
     else 0
 
 abbrev pub lines_below : Bool → ℕ → List ℕ → List (List ℕ) → ℕ
-lines_below flow least first lines = if reaches_end flow false first then lines_taken flow least lines else 0
+lines_below flow least first lines = if reaches_end flow false first then scalar_line_count flow least lines else 0
 
 -- the value of lines below so many blank ones
-abbrev pub folded : Bool → ℕ → List (List ℕ) → List ℕ
-folded flow blanks [] = []
-folded flow blanks (line ∷ lines) =
-    if is_blank line then folded flow (blanks + 1) lines
-    else break_of blanks ++ part flow true (without_front line) ++ folded flow 0 lines
+abbrev pub folded_value : Bool → ℕ → List (List ℕ) → List ℕ
+folded_value flow blanks [] = []
+folded_value flow blanks (line ∷ lines) =
+    if is_blank line then folded_value flow (blanks + 1) lines
+    else break_of blanks ++ part flow true (without_front line) ++ folded_value flow 0 lines
 
 -- before which column the last line with text ends, or this one
 abbrev pub end_column : Bool → ℕ → List (List ℕ) → ℕ
@@ -48,15 +48,15 @@ bad_below flow down [] = None
 bad_below flow down (line ∷ lines) =
     first_of (place_at down (prefix_len is_white line) (first_bad (part flow true (without_front line)))) (bad_below flow (down + 1) lines)
 
-abbrev pub unless_refused : Option (ℕ × ℕ) → Reading → Reading
+abbrev pub unless_refused : Option (ℕ × ℕ) → ScalarOutcomeValue → ScalarOutcomeValue
 unless_refused None whole = whole
 unless_refused (Some p) whole = Refused NotAllowed p.0 p.1
 
 -- the scalar that begins at this column and takes so many lines below its first one
-abbrev pub of_lines : Bool → ℕ → List ℕ → ℕ → List (List ℕ) → Reading
+abbrev pub of_lines : Bool → ℕ → List ℕ → ℕ → List (List ℕ) → ScalarOutcomeValue
 of_lines flow at first down lines =
     unless_refused (first_of (place_at 0 at (first_bad (part flow false first))) (bad_below flow 1 lines))
-    (Whole (record { down = down; column = end_column flow (at + length (part flow false first)) lines; value = part flow false first ++ folded flow 0 lines }))
+    (Whole (record { down = down; column = end_column flow (at + length (part flow false first)) lines; value = part flow false first ++ folded_value flow 0 lines }))
 
 -- a plain scalar is what the lines that it takes make of it
 abbrev pub PlainLaw : Type 0

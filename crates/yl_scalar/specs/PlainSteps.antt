@@ -1,15 +1,15 @@
--- Plain scalars line by line: YAML 1.2.2, 7.3.3 and 6.5.
+-- Bridge: plain scalars line by line: YAML 1.2.2, 7.3.3 and 6.5.
 use Rattle.std.specs.Prelude.{ℕ, Bool, true, false, if◌then◌else◌, List, ◌++◌, ◌+◌, length}
 use Rattle.std.specs.List.{prefix_len}
 use Rattle.yl_text.specs.Character.{is_white, is_blank, without_front}
 use Rattle.yl_scalar.specs.Allowed.{first_bad}
-use Rattle.yl_scalar.specs.Reading.{Extent, Reading, Whole, Stepped, GoesOn, EndsIn, EndedAbove, settled, read, unless_bad}
+use Rattle.yl_scalar.specs.Reading.{Extent, ScalarOutcomeValue, Whole, ScalarStepValue, GoesOn, EndsIn, EndedAbove, outcome_of_step, outcome_of_lines, unless_bad}
 use Rattle.yl_scalar.specs.Folding.{break_of}
 use Rattle.yl_scalar.specs.Plain.{part, reaches_end, continues}
 
 -- a scalar that may go on: in a flow collection or not, the least indentation of its lines below, where it ends so far,
 -- how many blank lines have passed since, and its value so far
-pub record PlainState : Type 0 where
+pub record PlainReaderValue : Type 0 where
   pub flow : Bool
   pub least : ℕ
   pub down : ℕ
@@ -17,22 +17,22 @@ pub record PlainState : Type 0 where
   pub blanks : ℕ
   pub value : List ℕ
 
-abbrev pub plain_extent : PlainState → Extent
+abbrev pub plain_extent : PlainReaderValue → Extent
 plain_extent s = record { down = s.down; column = s.column; value = s.value }
 
 -- so it stands behind a line, which it reaches the end of or not
-abbrev pub taken : Bool → PlainState → Stepped PlainState
-taken reaches s = if reaches then GoesOn s else EndsIn (plain_extent s)
+abbrev pub plain_step_behind : Bool → PlainReaderValue → ScalarStepValue PlainReaderValue
+plain_step_behind reaches s = if reaches then GoesOn s else EndsIn (plain_extent s)
 
 -- the scalar's first line from the scalar on, which begins at this column
-abbrev pub plain_begin : Bool → ℕ → ℕ → List ℕ → Stepped PlainState
+abbrev pub plain_begin : Bool → ℕ → ℕ → List ℕ → ScalarStepValue PlainReaderValue
 plain_begin flow least at text =
     unless_bad (first_bad (part flow false text)) 0 at
-    (taken (reaches_end flow false text)
+    (plain_step_behind (reaches_end flow false text)
     (record { flow = flow; least = least; down = 0; column = at + length (part flow false text); blanks = 0; value = part flow false text }))
 
 -- with a line that goes on with it, below blank ones
-abbrev pub with_line : PlainState → List ℕ → PlainState
+abbrev pub with_line : PlainReaderValue → List ℕ → PlainReaderValue
 with_line s line = record {
   flow = s.flow;
   least = s.least;
@@ -42,18 +42,18 @@ with_line s line = record {
   value = s.value ++ break_of s.blanks ++ part s.flow true (without_front line);
 }
 
-abbrev pub plain_step : PlainState → List ℕ → Stepped PlainState
+abbrev pub plain_step : PlainReaderValue → List ℕ → ScalarStepValue PlainReaderValue
 plain_step s line =
     if is_blank line then GoesOn (record s { blanks = s.blanks + 1 })
     else if continues s.flow s.least line
     then unless_bad (first_bad (part s.flow true (without_front line))) (s.down + s.blanks + 1) (prefix_len is_white line)
-    (taken (reaches_end s.flow true (without_front line)) (with_line s line))
+    (plain_step_behind (reaches_end s.flow true (without_front line)) (with_line s line))
     else EndedAbove (plain_extent s)
 
 -- a text may end behind it
-abbrev pub plain_finish : PlainState → Reading
+abbrev pub plain_finish : PlainReaderValue → ScalarOutcomeValue
 plain_finish s = Whole (plain_extent s)
 
 -- the scalar that begins at this column, from it on, with the lines below
-abbrev pub plain : Bool → ℕ → ℕ → List ℕ → List (List ℕ) → Reading
-plain flow least at text lines = settled (λ s. read plain_step plain_finish s lines) (plain_begin flow least at text)
+abbrev pub plain : Bool → ℕ → ℕ → List ℕ → List (List ℕ) → ScalarOutcomeValue
+plain flow least at text lines = outcome_of_step (λ s. outcome_of_lines plain_step plain_finish s lines) (plain_begin flow least at text)

@@ -1,5 +1,6 @@
--- Quoted scalars in one line: YAML 1.2.2, 7.3.1 and 7.3.2.
+-- Meaning: quoted scalars in one line: YAML 1.2.2, 7.3.1 and 7.3.2.
 use Rattle.std.specs.Prelude.{ℕ, Bool, false, not, ◌&&◌, ◌==◌, nat_lt, if◌then◌else◌, List, [], ◌∷◌, ◌++◌, ◌+◌, ◌-◌, take, length, Option, Some, None}
+use Rattle.yl_text.specs.Char as char
 use Rattle.yl_text.specs.Character.{is_white}
 use Rattle.yl_scalar.specs.Allowed.{is_quoted_character}
 use Rattle.yl_scalar.specs.Escape.{escape}
@@ -23,7 +24,7 @@ begins_with q [] = false
 begins_with q (c ∷ cs) = c == q
 
 abbrev pub quote : Bool → ℕ
-quote double = if double then 0x22 else 0x27
+quote double = if double then char.double_quote else char.single_quote
 
 -- skip: how many characters belong to an escape that was read. text: what came before, of which `kept` characters stand
 -- before the white space at its end that is not escaped. at: how many characters were read
@@ -32,8 +33,8 @@ stretch double skip text kept at [] = Breaks (take kept text) None
 stretch double skip text kept at (c ∷ cs) =
     if nat_lt 0 skip then stretch double (skip - 1) text kept (at + 1) cs
     else if c == quote double then
-    (if not double && begins_with 0x27 cs then stretch double 1 (text ++ c ∷ []) (length text + 1) (at + 1) cs else Closes text (at + 1))
-    else if double && c == 0x5C then
+    (if not double && begins_with char.single_quote cs then stretch double 1 (text ++ c ∷ []) (length text + 1) (at + 1) cs else Closes text (at + 1))
+    else if double && c == char.backslash then
     (if length cs == 0 then Breaks text (Some at)
     else with_escape (escape cs) at (λ x skip. stretch double skip (text ++ x ∷ []) (length text + 1) (at + 1) cs))
     else if is_quoted_character c then stretch double 0 (text ++ c ∷ []) (if is_white c then kept else length text + 1) (at + 1) cs

@@ -1,8 +1,8 @@
--- Quoted scalars line by line: YAML 1.2.2, 7.3.1, 7.3.2 and 6.5.
+-- Meaning: quoted scalars line by line: YAML 1.2.2, 7.3.1, 7.3.2 and 6.5.
 use Rattle.std.specs.Prelude.{ℕ, Bool, ◌==◌, if◌then◌else◌, List, [], ◌++◌, ◌+◌, length, Option, Some, None, option_map}
 use Rattle.std.specs.List.{prefix_len}
 use Rattle.yl_text.specs.Character.{is_white, is_blank, is_marker, without_front}
-use Rattle.yl_scalar.specs.Reading.{Reading, Refused, Stepped, GoesOn, EndsIn, Fails, settled, read}
+use Rattle.yl_scalar.specs.Reading.{ScalarOutcomeValue, Refused, ScalarStepValue, GoesOn, EndsIn, Fails, outcome_of_step, outcome_of_lines}
 use Rattle.yl_scalar.specs.Folding.{joint}
 use Rattle.yl_scalar.specs.Quoted.{Stretch, Closes, Breaks, Faulty, stretch}
 use Rattle.yl_scalar.specs.declared.answer.ScalarFault.TheVariants.{UnclosedQuote, MarkerInQuote, BadEscape}
@@ -10,7 +10,7 @@ use Rattle.yl_scalar.specs.declared.answer.ScalarFault.TheVariants.{UnclosedQuot
 -- a scalar that goes on: in double quotes or single ones, the column of its opening quote, how far below its first line
 -- the last one stands that is not blank, how many blank lines have passed since, its value so far, and the column of the
 -- backslash before the last break that does not follow a blank line, if one stands there
-pub record QuotedState : Type 0 where
+pub record QuotedReaderValue : Type 0 where
   pub double : Bool
   pub opening : ℕ
   pub down : ℕ
@@ -19,38 +19,38 @@ pub record QuotedState : Type 0 where
   pub backslash : Option ℕ
 
 -- so it stands behind a line that was read from this column on
-abbrev pub took : QuotedState → ℕ → Stretch → Stepped QuotedState
-took s column (Closes text place) = EndsIn (record { down = s.down; column = column + place; value = text })
-took s column (Breaks text backslash) = GoesOn (record s { value = text; backslash = option_map (λ place. column + place) backslash })
-took s column (Faulty fault place) = Fails fault s.down (column + place)
+abbrev pub quoted_step_behind : QuotedReaderValue → ℕ → Stretch → ScalarStepValue QuotedReaderValue
+quoted_step_behind s column (Closes text place) = EndsIn (record { down = s.down; column = column + place; value = text })
+quoted_step_behind s column (Breaks text backslash) = GoesOn (record s { value = text; backslash = option_map (λ place. column + place) backslash })
+quoted_step_behind s column (Faulty fault place) = Fails fault s.down (column + place)
 
 -- a scalar whose quote opened at this column
-abbrev pub opened : Bool → ℕ → QuotedState
-opened double opening = record { double = double; opening = opening; down = 0; blanks = 0; value = []; backslash = None }
+abbrev pub quoted_start : Bool → ℕ → QuotedReaderValue
+quoted_start double opening = record { double = double; opening = opening; down = 0; blanks = 0; value = []; backslash = None }
 
 -- the scalar's first line, from behind the quote that opens at this column
-abbrev pub quoted_begin : Bool → ℕ → List ℕ → Stepped QuotedState
-quoted_begin double opening text = took (opened double opening) (opening + 1) (stretch double 0 [] 0 0 text)
+abbrev pub quoted_begin : Bool → ℕ → List ℕ → ScalarStepValue QuotedReaderValue
+quoted_begin double opening text = quoted_step_behind (quoted_start double opening) (opening + 1) (stretch double 0 [] 0 0 text)
 
 -- with what stands for the break above this line, and for the blank lines behind it
-abbrev pub with_break : QuotedState → QuotedState
+abbrev pub with_break : QuotedReaderValue → QuotedReaderValue
 with_break s = record s { down = s.down + s.blanks + 1; blanks = 0; value = s.value ++ joint s.backslash s.blanks }
 
-abbrev pub quoted_step : QuotedState → List ℕ → Stepped QuotedState
+abbrev pub quoted_step : QuotedReaderValue → List ℕ → ScalarStepValue QuotedReaderValue
 quoted_step s line =
     if is_marker line then Fails MarkerInQuote (s.down + s.blanks + 1) 0
     else if is_blank line then GoesOn (record s { blanks = s.blanks + 1 })
-    else took (with_break s) (prefix_len is_white line)
+    else quoted_step_behind (with_break s) (prefix_len is_white line)
     (stretch s.double 0 (with_break s).value (length (with_break s).value) 0 (without_front line))
 
 -- the text ends: behind a backslash, which is half an escape, or somewhere else
-abbrev pub cut : Option ℕ → QuotedState → Reading
-cut None s = Refused UnclosedQuote 0 s.opening
-cut (Some column) s = if s.blanks == 0 then Refused BadEscape s.down column else Refused UnclosedQuote 0 s.opening
+abbrev pub unclosed_outcome : Option ℕ → QuotedReaderValue → ScalarOutcomeValue
+unclosed_outcome None s = Refused UnclosedQuote 0 s.opening
+unclosed_outcome (Some column) s = if s.blanks == 0 then Refused BadEscape s.down column else Refused UnclosedQuote 0 s.opening
 
-abbrev pub quoted_finish : QuotedState → Reading
-quoted_finish s = cut s.backslash s
+abbrev pub quoted_finish : QuotedReaderValue → ScalarOutcomeValue
+quoted_finish s = unclosed_outcome s.backslash s
 
 -- the scalar whose quote opens at this column, from behind it on, with the lines below
-abbrev pub quoted : Bool → ℕ → List ℕ → List (List ℕ) → Reading
-quoted double opening text lines = settled (λ s. read quoted_step quoted_finish s lines) (quoted_begin double opening text)
+abbrev pub quoted : Bool → ℕ → List ℕ → List (List ℕ) → ScalarOutcomeValue
+quoted double opening text lines = outcome_of_step (λ s. outcome_of_lines quoted_step quoted_finish s lines) (quoted_begin double opening text)

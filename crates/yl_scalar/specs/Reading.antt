@@ -1,4 +1,4 @@
--- What a scalar's lines make of it, from its first line on: its extent, or a fault.
+-- Meaning: what a scalar's lines make of it, from its first line on: its extent, or a fault.
 use Rattle.std.specs.Prelude.{ℕ, ◌+◌, List, [], ◌∷◌, Option, Some, None}
 use Rattle.yl_scalar.specs.declared.answer.ScalarFault.{ScalarFault}
 use Rattle.yl_scalar.specs.declared.answer.ScalarFault.TheVariants.{NotAllowed}
@@ -10,30 +10,30 @@ pub record Extent : Type 0 where
   pub value : List ℕ
 
 -- a fault stands so many lines below the scalar's first one, at a column
-pub data Reading : Type 0 where
-  Whole : (e : Extent) → Reading
-  Refused : (fault : ScalarFault) (down column : ℕ) → Reading
+pub data ScalarOutcomeValue : Type 0 where
+  Whole : (e : Extent) → ScalarOutcomeValue
+  Refused : (fault : ScalarFault) (down column : ℕ) → ScalarOutcomeValue
 
 -- what a line makes of a scalar: it may go on below, and stands so; it ends in the line; it ended above it; there is a fault
-pub data Stepped (S : Type 0) : Type 0 where
-  GoesOn : (open_scalar : S) → Stepped S
-  EndsIn : (e : Extent) → Stepped S
-  EndedAbove : (e : Extent) → Stepped S
-  Fails : (fault : ScalarFault) (down column : ℕ) → Stepped S
+pub data ScalarStepValue (S : Type 0) : Type 0 where
+  GoesOn : (open_scalar : S) → ScalarStepValue S
+  EndsIn : (e : Extent) → ScalarStepValue S
+  EndedAbove : (e : Extent) → ScalarStepValue S
+  Fails : (fault : ScalarFault) (down column : ℕ) → ScalarStepValue S
 
 -- the reading in the end, where `below` tells what the lines below make of a scalar that may go on
-abbrev pub settled : {S : Type 0} → (S → Reading) → Stepped S → Reading
-settled below (GoesOn s) = below s
-settled below (EndsIn e) = Whole e
-settled below (EndedAbove e) = Whole e
-settled below (Fails fault down column) = Refused fault down column
+abbrev pub outcome_of_step : {S : Type 0} → (S → ScalarOutcomeValue) → ScalarStepValue S → ScalarOutcomeValue
+outcome_of_step below (GoesOn s) = below s
+outcome_of_step below (EndsIn e) = Whole e
+outcome_of_step below (EndedAbove e) = Whole e
+outcome_of_step below (Fails fault down column) = Refused fault down column
 
 -- a scalar that may go on, read line by line; `finish` tells what the text's end makes of it
-abbrev pub read : {S : Type 0} → (S → List ℕ → Stepped S) → (S → Reading) → S → List (List ℕ) → Reading
-read step finish s [] = finish s
-read step finish s (line ∷ lines) = settled (λ s. read step finish s lines) (step s line)
+abbrev pub outcome_of_lines : {S : Type 0} → (S → List ℕ → ScalarStepValue S) → (S → ScalarOutcomeValue) → S → List (List ℕ) → ScalarOutcomeValue
+outcome_of_lines step finish s [] = finish s
+outcome_of_lines step finish s (line ∷ lines) = outcome_of_step (λ s. outcome_of_lines step finish s lines) (step s line)
 
 -- a character that is not allowed, that many characters behind this column, is a fault; else it goes on so
-abbrev pub unless_bad : {S : Type 0} → Option ℕ → ℕ → ℕ → Stepped S → Stepped S
+abbrev pub unless_bad : {S : Type 0} → Option ℕ → ℕ → ℕ → ScalarStepValue S → ScalarStepValue S
 unless_bad None down column more = more
 unless_bad (Some i) down column more = Fails NotAllowed down (column + i)

@@ -19,29 +19,29 @@ pub enum ScalarFault {
 
 /// A place, so many rows below the scalar's first one, at a column in characters from 0.
 #[derive(Clone, Copy, Debug, PartialEq, Eq)]
-pub struct Place {
+pub struct ScalarPlace {
     pub down: usize,
     pub column: usize,
 }
 
 /// What a row is to a scalar.
 #[derive(Clone, Copy, Debug, PartialEq, Eq)]
-pub enum Line {
+pub enum ScalarStep {
     /// It belongs to the scalar or is blank, and a later row may go on with it.
     GoesOn,
     /// The scalar ends in it, before this place.
-    EndsIn(Place),
+    EndsIn(ScalarPlace),
     /// The scalar ended above it, before this place.
-    EndedAbove(Place),
+    EndedAbove(ScalarPlace),
     /// The scalar is refused.
-    Fails(ScalarFault, Place),
+    Fails(ScalarFault, ScalarPlace),
 }
 
 /// What a whole scalar is.
 #[derive(Clone, Copy, Debug, PartialEq, Eq)]
-pub enum Outcome {
+pub enum ScalarOutcome {
     /// It ends before this place.
-    Whole(Place),
+    Whole(ScalarPlace),
     /// It is refused.
-    Refused(ScalarFault, Place),
+    Refused(ScalarFault, ScalarPlace),
 }

@@ -4,16 +4,16 @@ ghost use Rattle.yl_scalar.specs.Reading.{Whole};
 ghost use Rattle.yl_scalar.specs.Header.{indicators, misfit};
 ghost use Rattle.yl_scalar.specs.Block.{block_begin, block_step, block_finish, deeper, with_content, text_line, header_end, header_read};
 ghost use Rattle.yl_text.specs.Character.{is_blank};
-ghost use Rattle.yl_scalar.specs.Reader.{said, extent_at, block_state, block_rows, block_failed};
+ghost use Rattle.yl_scalar.specs.Reader.{step_value, extent_at, block_reader_value, block_rows, is_block_refused};
 
-use crate::answer::{Line, Place, ScalarFault};
+use crate::answer::{ScalarFault, ScalarPlace, ScalarStep};
 use crate::character::{first_bad, indentation, is_blank, is_marker};
 use crate::header::{indicators, misfit};
 use std::alloc::{AllocError, Allocator};
 
 /// A block scalar that may go on below the rows that were read.
 #[derive(Debug, Drop)]
-pub struct Block<A: Allocator> {
+pub struct BlockReader<A: Allocator> {
     least: usize,
     /// The content column, once it is known.
     content: Option<usize>,
@@ -38,21 +38,21 @@ fn deeper(column: usize, spaces: &[usize]) -> Option<(usize, usize)>
 }
 
 /// What a header that begins at this column is to its scalar.
-fn read_header(column: usize, header: &[char]) -> Line
+fn read_header(column: usize, header: &[char]) -> ScalarStep
     requires { column + length header.now < 2 ^ 64 }
-    ensures { (least : ℕ) → said result [] (header_end least (indicators header.now).0 (column + length header.now))
+    ensures { (least : ℕ) → step_value result [] (header_end least (indicators header.now).0 (column + length header.now))
         ≡ header_read least column header.now (misfit header.now) }
 {
     let Some(at) = misfit(header) else {
         return match first_bad(header) {
-            None => Line::GoesOn,
+            None => ScalarStep::GoesOn,
             Some(bad) => not_allowed(column + bad),
         };
     };
     match first_bad(&header[..at + 1]) {
-        None => Line::Fails(
+        None => ScalarStep::Fails(
             ScalarFault::BadHeader,
-            Place {
+            ScalarPlace {
                 down: 0,
                 column: column + at,
             },
@@ -62,20 +62,20 @@ fn read_header(column: usize, header: &[char]) -> Line
 }
 
 /// A character in the scalar's first row that is not allowed.
-fn not_allowed(column: usize) -> Line
-    ensures { result ≡ Line.Fails ScalarFault.NotAllowed (record { down = 0; column = column }) }
+fn not_allowed(column: usize) -> ScalarStep
+    ensures { result ≡ ScalarStep.Fails ScalarFault.NotAllowed (record { down = 0; column = column }) }
 {
-    Line::Fails(ScalarFault::NotAllowed, Place { down: 0, column })
+    ScalarStep::Fails(ScalarFault::NotAllowed, ScalarPlace { down: 0, column })
 }
 
-impl<A: Allocator + Copy> Block<A> {
+impl<A: Allocator + Copy> BlockReader<A> {
     /// A scalar whose indicator, `|` or `>`, stands at the column `at`, where `header` is the rest of its row behind that. Its
     /// content has an indentation of `least` at the least, which is one more than that of the surrounding collection.
-    pub fn begin(alloc: A, least: usize, at: usize, header: &[char]) -> (Block<A>, Line)
+    pub fn begin(alloc: A, least: usize, at: usize, header: &[char]) -> (BlockReader<A>, ScalarStep)
         requires fits { at + 1 + length header.now < 2 ^ 64 }
         requires small { least < 2 ^ 63 }
-        ensures line { said result.1 [] (block_state result.0) ≡ block_begin least at header.now }
-        ensures reads { block_failed result.0 ≡ false }
+        ensures line { step_value result.1 [] (block_reader_value result.0) ≡ block_begin least at header.now }
+        ensures reads { is_block_refused result.0 ≡ false }
         ensures count { block_rows result.0 ≡ 0 }
     {
         let (digit, _) = indicators(header);
@@ -84,7 +84,7 @@ impl<A: Allocator + Copy> Block<A> {
         } else {
             None
         };
-        let reader = Block {
+        let reader = BlockReader {
             least,
             content,
             down: 0,
@@ -98,13 +98,13 @@ impl<A: Allocator + Copy> Block<A> {
     }
 
     /// Reads the next row. Once a call is refused for memory, so is each later one.
-    pub fn read(&mut self, row: &[char]) -> Result<Line, AllocError>
+    pub fn read(&mut self, row: &[char]) -> Result<ScalarStep, AllocError>
         requires { block_rows self.old + 1 < 2 ^ 64 }
-        ensures line { IfOk result (λ line. said line [] (block_state self.new) ≡ block_step (block_state self.old) row.now) }
-        ensures reads { OnOk result (block_failed self.new ≡ false) }
-        ensures failed { OnErr result (block_failed self.new ≡ true) }
+        ensures line { IfOk result (λ line. step_value line [] (block_reader_value self.new) ≡ block_step (block_reader_value self.old) row.now) }
+        ensures reads { OnOk result (is_block_refused self.new ≡ false) }
+        ensures failed { OnErr result (is_block_refused self.new ≡ true) }
         ensures count { block_rows self.new ≤ block_rows self.old + 1 }
-        ensures stays { block_failed self.old ≡ true → IsErr result }
+        ensures stays { is_block_refused self.old ≡ true → IsErr result }
     {
         if self.failed {
             return Err(AllocError);
@@ -113,28 +113,28 @@ impl<A: Allocator + Copy> Block<A> {
             return self.pass_blank(row);
         }
         if is_marker(row) {
-            return Ok(Line::EndedAbove(self.finish()));
+            return Ok(ScalarStep::EndedAbove(self.finish()));
         }
         Ok(self.read_text(row))
     }
 
     /// Where the scalar ends, if no row follows.
-    pub fn finish(&self) -> Place
-        ensures { Whole (extent_at result []) ≡ block_finish (block_state self.now) }
+    pub fn finish(&self) -> ScalarPlace
+        ensures { Whole (extent_at result []) ≡ block_finish (block_reader_value self.now) }
     {
-        Place {
+        ScalarPlace {
             down: self.down,
             column: self.column,
         }
     }
 
     /// Passes a blank row, whose leading spaces count until the content column is known.
-    fn pass_blank(&mut self, row: &[char]) -> Result<Line, AllocError>
+    fn pass_blank(&mut self, row: &[char]) -> Result<ScalarStep, AllocError>
         requires blank { is_blank row.now ≡ true }
         requires fits { block_rows self.old + 1 < 2 ^ 64 }
-        ensures line { IfOk result (λ line. said line [] (block_state self.new) ≡ block_step (block_state self.old) row.now) }
-        ensures reads { OnOk result (block_failed self.new ≡ false) }
-        ensures failed { OnErr result (block_failed self.new ≡ true) }
+        ensures line { IfOk result (λ line. step_value line [] (block_reader_value self.new) ≡ block_step (block_reader_value self.old) row.now) }
+        ensures reads { OnOk result (is_block_refused self.new ≡ false) }
+        ensures failed { OnErr result (is_block_refused self.new ≡ true) }
         ensures count { block_rows self.new ≤ block_rows self.old + 1 }
     {
         if self.content.is_none() {
@@ -143,48 +143,48 @@ impl<A: Allocator + Copy> Block<A> {
         }
         self.failed = false;
         self.blanks += 1;
-        Ok(Line::GoesOn)
+        Ok(ScalarStep::GoesOn)
     }
 
     /// Reads a row that is not blank and no marker.
-    fn read_text(&mut self, row: &[char]) -> Line
+    fn read_text(&mut self, row: &[char]) -> ScalarStep
         requires { block_rows self.old + 1 < 2 ^ 64 }
-        ensures line { said result [] (block_state self.new)
-            ≡ text_line (block_state self.old).content (block_state self.old) row.now }
-        ensures same { block_failed self.new ≡ block_failed self.old }
+        ensures line { step_value result [] (block_reader_value self.new)
+            ≡ text_line (block_reader_value self.old).content (block_reader_value self.old) row.now }
+        ensures same { is_block_refused self.new ≡ is_block_refused self.old }
         ensures count { block_rows self.new ≤ block_rows self.old + 1 }
     {
         let column = indentation(row);
         let Some(content) = self.content else {
             if column < self.least {
-                return Line::EndedAbove(self.finish());
+                return ScalarStep::EndedAbove(self.finish());
             }
             if let Some((down, column)) = deeper(column, &self.spaces) {
-                return Line::Fails(ScalarFault::BadIndentation, Place { down, column });
+                return ScalarStep::Fails(ScalarFault::BadIndentation, ScalarPlace { down, column });
             }
             return self.take(column, row);
         };
         if column < content {
-            return Line::EndedAbove(self.finish());
+            return ScalarStep::EndedAbove(self.finish());
         }
         self.take(content, row)
     }
 
     /// Takes a row of content, which is indented to this column.
-    fn take(&mut self, content: usize, row: &[char]) -> Line
+    fn take(&mut self, content: usize, row: &[char]) -> ScalarStep
         requires { block_rows self.old + 1 < 2 ^ 64 }
-        ensures line { said result [] (block_state self.new) ≡ with_content (block_state self.old) content row.now }
-        ensures same { block_failed self.new ≡ block_failed self.old }
+        ensures line { step_value result [] (block_reader_value self.new) ≡ with_content (block_reader_value self.old) content row.now }
+        ensures same { is_block_refused self.new ≡ is_block_refused self.old }
         ensures count { block_rows self.new ≤ block_rows self.old + 1 }
     {
         let down = self.down + self.blanks + 1;
         if let Some(column) = first_bad(row) {
-            return Line::Fails(ScalarFault::NotAllowed, Place { down, column });
+            return ScalarStep::Fails(ScalarFault::NotAllowed, ScalarPlace { down, column });
         }
         self.content = Some(content);
         self.down = down;
         self.column = row.len();
         self.blanks = 0;
-        Line::GoesOn
+        ScalarStep::GoesOn
     }
 }

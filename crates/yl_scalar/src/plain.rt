@@ -4,9 +4,9 @@ ghost use Rattle.std.specs.Str.{encode_utf8_all};
 ghost use Rattle.yl_scalar.specs.Reading.{Whole};
 ghost use Rattle.yl_scalar.specs.Plain.{is_safe_next, stop};
 ghost use Rattle.yl_scalar.specs.PlainSteps.{plain_begin, plain_step, plain_finish};
-ghost use Rattle.yl_scalar.specs.Reader.{said, extent_at, plain_state, plain_rows, plain_failed};
+ghost use Rattle.yl_scalar.specs.Reader.{step_value, extent_at, plain_reader_value, plain_rows, is_plain_refused};
 
-use crate::answer::{Line, Place, ScalarFault};
+use crate::answer::{ScalarFault, ScalarPlace, ScalarStep};
 use crate::character::{
     first_bad, indentation, is_blank, is_flow_indicator, is_marker, is_plain_safe, is_white,
     leading_white, without_end,
@@ -16,7 +16,7 @@ use std::alloc::{AllocError, Allocator};
 
 /// A plain scalar that may go on below the rows that were read.
 #[derive(Debug, Drop)]
-pub struct Plain<A: Allocator> {
+pub struct PlainReader<A: Allocator> {
     flow: bool,
     least: usize,
     down: usize,
@@ -57,7 +57,7 @@ fn stop(flow: bool, behind_space: bool, text: &[char]) -> usize
     text.len()
 }
 
-impl<A: Allocator + Copy> Plain<A> {
+impl<A: Allocator + Copy> PlainReader<A> {
     /// A scalar that begins at the column `at`, where the rest of its row is `text`. In block context a row below needs an
     /// indentation of `least` at the least, which is one more than that of the surrounding collection, to go on with it.
     pub fn begin(
@@ -66,18 +66,18 @@ impl<A: Allocator + Copy> Plain<A> {
         least: usize,
         at: usize,
         text: &[char],
-    ) -> Result<(Plain<A>, Line), AllocError>
+    ) -> Result<(PlainReader<A>, ScalarStep), AllocError>
         requires { at + length text.now < 2 ^ 64 }
-        ensures line { IfOk result (λ r. said r.1 (plain_state r.0).value (plain_state r.0)
+        ensures line { IfOk result (λ r. step_value r.1 (plain_reader_value r.0).value (plain_reader_value r.0)
             ≡ plain_begin flow least at text.now) }
-        ensures reads { IfOk result (λ r. plain_failed r.0 ≡ false) }
+        ensures reads { IfOk result (λ r. is_plain_refused r.0 ≡ false) }
         ensures count { IfOk result (λ r. plain_rows r.0 ≡ 0) }
     {
         let taken = stop(flow, false, text);
         let part = without_end(&text[..taken]);
         let value = text_of(alloc, part)?;
         let column = at + part.len();
-        let reader = Plain {
+        let reader = PlainReader {
             flow,
             least,
             down: 0,
@@ -87,49 +87,49 @@ impl<A: Allocator + Copy> Plain<A> {
             failed: false,
         };
         if let Some(place) = first_bad(part) {
-            let place = Place {
+            let place = ScalarPlace {
                 down: 0,
                 column: at + place,
             };
-            return Ok((reader, Line::Fails(ScalarFault::NotAllowed, place)));
+            return Ok((reader, ScalarStep::Fails(ScalarFault::NotAllowed, place)));
         }
         if taken == text.len() {
-            return Ok((reader, Line::GoesOn));
+            return Ok((reader, ScalarStep::GoesOn));
         }
-        Ok((reader, Line::EndsIn(Place { down: 0, column })))
+        Ok((reader, ScalarStep::EndsIn(ScalarPlace { down: 0, column })))
     }
 
     /// Reads the next row. Once a call is refused for memory, so is each later one.
-    pub fn read(&mut self, row: &[char]) -> Result<Line, AllocError>
+    pub fn read(&mut self, row: &[char]) -> Result<ScalarStep, AllocError>
         requires { plain_rows self.old + 1 < 2 ^ 64 }
-        ensures line { IfOk result (λ line. said line (plain_state self.new).value (plain_state self.new)
-            ≡ plain_step (plain_state self.old) row.now) }
-        ensures reads { OnOk result (plain_failed self.new ≡ false) }
-        ensures failed { OnErr result (plain_failed self.new ≡ true) }
+        ensures line { IfOk result (λ line. step_value line (plain_reader_value self.new).value (plain_reader_value self.new)
+            ≡ plain_step (plain_reader_value self.old) row.now) }
+        ensures reads { OnOk result (is_plain_refused self.new ≡ false) }
+        ensures failed { OnErr result (is_plain_refused self.new ≡ true) }
         ensures count { plain_rows self.new ≤ plain_rows self.old + 1 }
-        ensures stays { plain_failed self.old ≡ true → IsErr result }
+        ensures stays { is_plain_refused self.old ≡ true → IsErr result }
     {
         if self.failed {
             return Err(AllocError);
         }
         if is_blank(row) {
             self.blanks += 1;
-            return Ok(Line::GoesOn);
+            return Ok(ScalarStep::GoesOn);
         }
         if is_marker(row) || !(self.flow || self.least <= indentation(row)) {
-            return Ok(Line::EndedAbove(self.finish()));
+            return Ok(ScalarStep::EndedAbove(self.finish()));
         }
         let white = leading_white(row);
         let text = &row[white..];
         let taken = stop(self.flow, true, text);
         if taken == 0 {
-            return Ok(Line::EndedAbove(self.finish()));
+            return Ok(ScalarStep::EndedAbove(self.finish()));
         }
         let part = without_end(&text[..taken]);
         let down = self.down + self.blanks + 1;
         if let Some(place) = first_bad(part) {
             let column = white + place;
-            return Ok(Line::Fails(ScalarFault::NotAllowed, Place { down, column }));
+            return Ok(ScalarStep::Fails(ScalarFault::NotAllowed, ScalarPlace { down, column }));
         }
         self.failed = true;
         add_break(&mut self.value, self.blanks)?;
@@ -139,17 +139,17 @@ impl<A: Allocator + Copy> Plain<A> {
         self.column = white + part.len();
         self.blanks = 0;
         if taken == text.len() {
-            Ok(Line::GoesOn)
+            Ok(ScalarStep::GoesOn)
         } else {
-            Ok(Line::EndsIn(self.finish()))
+            Ok(ScalarStep::EndsIn(self.finish()))
         }
     }
 
     /// Where the scalar ends, if no row follows.
-    pub fn finish(&self) -> Place
-        ensures { Whole (extent_at result (plain_state self.now).value) ≡ plain_finish (plain_state self.now) }
+    pub fn finish(&self) -> ScalarPlace
+        ensures { Whole (extent_at result (plain_reader_value self.now).value) ≡ plain_finish (plain_reader_value self.now) }
     {
-        Place {
+        ScalarPlace {
             down: self.down,
             column: self.column,
         }
@@ -157,7 +157,7 @@ impl<A: Allocator + Copy> Plain<A> {
 
     /// The scalar's value so far, in UTF-8; the whole value once it has ended.
     pub fn into_value(self) -> String<A>
-        ensures { string_bytes result ≡ encode_utf8_all (plain_state self).value }
+        ensures { string_bytes result ≡ encode_utf8_all (plain_reader_value self).value }
     {
         self.value
     }

@@ -3,11 +3,11 @@ ghost use Rattle.std.specs.Prelude.{◌≡◌, ◌≤◌, ◌<◌, ◌+◌, ◌^
 ghost use Rattle.std.specs.Str.{encode_utf8_all};
 ghost use Rattle.yl_scalar.specs.Reading.{Refused};
 ghost use Rattle.yl_scalar.specs.Quoted.{Closes, stretch, quote, begins_with};
-ghost use Rattle.yl_scalar.specs.QuotedSteps.{quoted_begin, quoted_step, quoted_finish, took};
-ghost use Rattle.yl_scalar.specs.Reader.{said, quoted_state, quoted_rows, quoted_failed};
+ghost use Rattle.yl_scalar.specs.QuotedSteps.{quoted_begin, quoted_step, quoted_finish, quoted_step_behind};
+ghost use Rattle.yl_scalar.specs.Reader.{step_value, quoted_reader_value, quoted_rows, is_quoted_refused};
 ghost use Rattle.yl_scalar.specs.Part.{gives, IsWithin, FitsBehind};
 
-use crate::answer::{Line, Place, ScalarFault};
+use crate::answer::{ScalarFault, ScalarPlace, ScalarStep};
 use crate::character::{is_blank, is_marker, is_quoted_character, is_white, leading_white};
 use crate::escape::escape;
 use crate::folding::{push_joint, text_of};
@@ -15,7 +15,7 @@ use std::alloc::{AllocError, Allocator};
 
 /// A quoted scalar that goes on below the rows that were read.
 #[derive(Debug, Drop)]
-pub struct Quoted<A: Allocator> {
+pub struct QuotedReader<A: Allocator> {
     double: bool,
     opening: usize,
     down: usize,
@@ -142,7 +142,7 @@ fn stretch<A: Allocator>(
     Ok(Part::Open(None))
 }
 
-impl<A: Allocator + Copy> Quoted<A> {
+impl<A: Allocator + Copy> QuotedReader<A> {
     /// A scalar whose quote, a double or a single one, opens at the column `opening`, where `text` is the rest of the row
     /// behind the quote.
     pub fn begin(
@@ -150,16 +150,16 @@ impl<A: Allocator + Copy> Quoted<A> {
         double: bool,
         opening: usize,
         text: &[char],
-    ) -> Result<(Quoted<A>, Line), AllocError>
+    ) -> Result<(QuotedReader<A>, ScalarStep), AllocError>
         requires { opening + 1 + length text.now < 2 ^ 64 }
-        ensures line { IfOk result (λ r. said r.1 (quoted_state r.0).value (quoted_state r.0)
+        ensures line { IfOk result (λ r. step_value r.1 (quoted_reader_value r.0).value (quoted_reader_value r.0)
             ≡ quoted_begin double opening text.now) }
-        ensures reads { IfOk result (λ r. quoted_failed r.0 ≡ false) }
+        ensures reads { IfOk result (λ r. is_quoted_refused r.0 ≡ false) }
         ensures count { IfOk result (λ r. quoted_rows r.0 ≡ 0) }
     {
         let mut value = Vec::new(alloc);
         let part = stretch(double, &mut value, text)?;
-        let mut reader = Quoted {
+        let mut reader = QuotedReader {
             double,
             opening,
             down: 0,
@@ -173,25 +173,28 @@ impl<A: Allocator + Copy> Quoted<A> {
     }
 
     /// Reads the next row. Once a call is refused for memory, so is each later one.
-    pub fn read(&mut self, row: &[char]) -> Result<Line, AllocError>
+    pub fn read(&mut self, row: &[char]) -> Result<ScalarStep, AllocError>
         requires { quoted_rows self.old + 1 < 2 ^ 64 }
-        ensures line { IfOk result (λ line. said line (quoted_state self.new).value (quoted_state self.new)
-            ≡ quoted_step (quoted_state self.old) row.now) }
-        ensures reads { OnOk result (quoted_failed self.new ≡ false) }
-        ensures failed { OnErr result (quoted_failed self.new ≡ true) }
+        ensures line { IfOk result (λ line. step_value line (quoted_reader_value self.new).value (quoted_reader_value self.new)
+            ≡ quoted_step (quoted_reader_value self.old) row.now) }
+        ensures reads { OnOk result (is_quoted_refused self.new ≡ false) }
+        ensures failed { OnErr result (is_quoted_refused self.new ≡ true) }
         ensures count { quoted_rows self.new ≤ quoted_rows self.old + 1 }
-        ensures stays { quoted_failed self.old ≡ true → IsErr result }
+        ensures stays { is_quoted_refused self.old ≡ true → IsErr result }
     {
         if self.failed {
             return Err(AllocError);
         }
         let down = self.down + self.blanks + 1;
         if is_marker(row) {
-            return Ok(Line::Fails(ScalarFault::MarkerInQuote, Place { down, column: 0 }));
+            return Ok(ScalarStep::Fails(
+                ScalarFault::MarkerInQuote,
+                ScalarPlace { down, column: 0 },
+            ));
         }
         if is_blank(row) {
             self.blanks += 1;
-            return Ok(Line::GoesOn);
+            return Ok(ScalarStep::GoesOn);
         }
         let white = leading_white(row);
         self.failed = true;
@@ -205,19 +208,19 @@ impl<A: Allocator + Copy> Quoted<A> {
 
     /// The fault of a text that ends here, and its place: half an escape where it ends directly behind a backslash, else an
     /// unclosed quote.
-    pub fn finish(&self) -> (ScalarFault, Place)
-        ensures { Refused result.0 (result.1).down (result.1).column ≡ quoted_finish (quoted_state self.now) }
+    pub fn finish(&self) -> (ScalarFault, ScalarPlace)
+        ensures { Refused result.0 (result.1).down (result.1).column ≡ quoted_finish (quoted_reader_value self.now) }
     {
         if let Some(column) = self.backslash
             && self.blanks == 0
         {
-            let place = Place {
+            let place = ScalarPlace {
                 down: self.down,
                 column,
             };
             return (ScalarFault::BadEscape, place);
         }
-        let place = Place {
+        let place = ScalarPlace {
             down: 0,
             column: self.opening,
         };
@@ -226,34 +229,34 @@ impl<A: Allocator + Copy> Quoted<A> {
 
     /// The scalar's value so far; the whole value once it has ended.
     pub fn to_value(&self, alloc: A) -> Result<String<A>, AllocError>
-        ensures { IfOk result (λ text. string_bytes text ≡ encode_utf8_all (quoted_state self.now).value) }
+        ensures { IfOk result (λ text. string_bytes text ≡ encode_utf8_all (quoted_reader_value self.now).value) }
     {
         text_of(alloc, &self.value)
     }
 
     /// What a row read from this column on is to the scalar.
-    fn take(&mut self, column: usize, part: Part) -> Line
+    fn take(&mut self, column: usize, part: Part) -> ScalarStep
         requires { FitsBehind column part }
-        ensures line { said result (quoted_state self.new).value (quoted_state self.new)
-            ≡ took (quoted_state self.old) column (gives part (quoted_state self.old).value) }
-        ensures same { quoted_failed self.new ≡ quoted_failed self.old }
+        ensures line { step_value result (quoted_reader_value self.new).value (quoted_reader_value self.new)
+            ≡ quoted_step_behind (quoted_reader_value self.old) column (gives part (quoted_reader_value self.old).value) }
+        ensures same { is_quoted_refused self.new ≡ is_quoted_refused self.old }
         ensures count { quoted_rows self.new ≡ quoted_rows self.old }
     {
         let down = self.down;
         self.backslash = None;
         match part {
-            Part::Open(None) => Line::GoesOn,
+            Part::Open(None) => ScalarStep::GoesOn,
             Part::Open(Some(at)) => {
                 self.backslash = Some(column + at);
-                Line::GoesOn
+                ScalarStep::GoesOn
             }
-            Part::Closed(at) => Line::EndsIn(Place {
+            Part::Closed(at) => ScalarStep::EndsIn(ScalarPlace {
                 down,
                 column: column + at,
             }),
-            Part::Faulted(fault, at) => Line::Fails(
+            Part::Faulted(fault, at) => ScalarStep::Fails(
                 fault,
-                Place {
+                ScalarPlace {
                     down,
                     column: column + at,
                 },

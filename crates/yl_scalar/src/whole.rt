@@ -3,12 +3,12 @@ ghost use Rattle.std.specs.Prelude.{◌≡◌, ◌<◌, ◌+◌, ◌^◌, [], If
 ghost use Rattle.yl_scalar.specs.PlainSteps.{plain};
 ghost use Rattle.yl_scalar.specs.QuotedSteps.{quoted};
 ghost use Rattle.yl_scalar.specs.Block.{block};
-ghost use Rattle.yl_scalar.specs.Reader.{outcome, plain_state, quoted_state};
+ghost use Rattle.yl_scalar.specs.Reader.{outcome_value, plain_reader_value, quoted_reader_value};
 
-use crate::answer::{Line, Outcome};
-use crate::block::Block;
-use crate::plain::Plain;
-use crate::quoted::Quoted;
+use crate::answer::{ScalarOutcome, ScalarStep};
+use crate::block::BlockReader;
+use crate::plain::PlainReader;
+use crate::quoted::QuotedReader;
 use std::alloc::{AllocError, Allocator};
 
 /// Reads a plain scalar that begins at the column `at`, where `text` is the rest of its row and `rows` are all rows below.
@@ -20,30 +20,36 @@ pub fn read_plain<A: Allocator + Copy>(
     at: usize,
     text: &[char],
     rows: &[&[char]],
-) -> Result<(Plain<A>, Outcome), AllocError>
+) -> Result<(PlainReader<A>, ScalarOutcome), AllocError>
     requires fits { at + length text.now < 2 ^ 64 }
-    ensures { IfOk result (λ r. outcome r.1 (plain_state r.0).value
+    ensures { IfOk result (λ r. outcome_value r.1 (plain_reader_value r.0).value
         ≡ plain flow least at text.now (map (λ row. row.now) rows.now)) }
 {
-    let (mut reader, line) = Plain::begin(alloc, flow, least, at, text)?;
+    let (mut reader, line) = PlainReader::begin(alloc, flow, least, at, text)?;
     match line {
-        Line::GoesOn => {}
-        Line::EndsIn(place) | Line::EndedAbove(place) => {
-            return Ok((reader, Outcome::Whole(place)));
+        ScalarStep::GoesOn => {}
+        ScalarStep::EndsIn(place) | ScalarStep::EndedAbove(place) => {
+            return Ok((reader, ScalarOutcome::Whole(place)));
         }
-        Line::Fails(fault, place) => return Ok((reader, Outcome::Refused(fault, place))),
+        ScalarStep::Fails(fault, place) => return Ok((
+            reader,
+            ScalarOutcome::Refused(fault, place),
+        )),
     }
     for row in rows {
         match reader.read(row)? {
-            Line::GoesOn => {}
-            Line::EndsIn(place) | Line::EndedAbove(place) => {
-                return Ok((reader, Outcome::Whole(place)));
+            ScalarStep::GoesOn => {}
+            ScalarStep::EndsIn(place) | ScalarStep::EndedAbove(place) => {
+                return Ok((reader, ScalarOutcome::Whole(place)));
             }
-            Line::Fails(fault, place) => return Ok((reader, Outcome::Refused(fault, place))),
+            ScalarStep::Fails(fault, place) => return Ok((
+                reader,
+                ScalarOutcome::Refused(fault, place),
+            )),
         }
     }
     let place = reader.finish();
-    Ok((reader, Outcome::Whole(place)))
+    Ok((reader, ScalarOutcome::Whole(place)))
 }
 
 /// Reads a quoted scalar whose quote opens at the column `opening`, where `text` is the rest of its row behind the quote and
@@ -54,30 +60,36 @@ pub fn read_quoted<A: Allocator + Copy>(
     opening: usize,
     text: &[char],
     rows: &[&[char]],
-) -> Result<(Quoted<A>, Outcome), AllocError>
+) -> Result<(QuotedReader<A>, ScalarOutcome), AllocError>
     requires fits { opening + 1 + length text.now < 2 ^ 64 }
-    ensures { IfOk result (λ r. outcome r.1 (quoted_state r.0).value
+    ensures { IfOk result (λ r. outcome_value r.1 (quoted_reader_value r.0).value
         ≡ quoted double opening text.now (map (λ row. row.now) rows.now)) }
 {
-    let (mut reader, line) = Quoted::begin(alloc, double, opening, text)?;
+    let (mut reader, line) = QuotedReader::begin(alloc, double, opening, text)?;
     match line {
-        Line::GoesOn => {}
-        Line::EndsIn(place) | Line::EndedAbove(place) => {
-            return Ok((reader, Outcome::Whole(place)));
+        ScalarStep::GoesOn => {}
+        ScalarStep::EndsIn(place) | ScalarStep::EndedAbove(place) => {
+            return Ok((reader, ScalarOutcome::Whole(place)));
         }
-        Line::Fails(fault, place) => return Ok((reader, Outcome::Refused(fault, place))),
+        ScalarStep::Fails(fault, place) => return Ok((
+            reader,
+            ScalarOutcome::Refused(fault, place),
+        )),
     }
     for row in rows {
         match reader.read(row)? {
-            Line::GoesOn => {}
-            Line::EndsIn(place) | Line::EndedAbove(place) => {
-                return Ok((reader, Outcome::Whole(place)));
+            ScalarStep::GoesOn => {}
+            ScalarStep::EndsIn(place) | ScalarStep::EndedAbove(place) => {
+                return Ok((reader, ScalarOutcome::Whole(place)));
             }
-            Line::Fails(fault, place) => return Ok((reader, Outcome::Refused(fault, place))),
+            ScalarStep::Fails(fault, place) => return Ok((
+                reader,
+                ScalarOutcome::Refused(fault, place),
+            )),
         }
     }
     let (fault, place) = reader.finish();
-    Ok((reader, Outcome::Refused(fault, place)))
+    Ok((reader, ScalarOutcome::Refused(fault, place)))
 }
 
 /// Reads a block scalar whose indicator stands at the column `at`, where `header` is the rest of its row behind that and `rows`
@@ -88,23 +100,27 @@ pub fn read_block<A: Allocator + Copy>(
     at: usize,
     header: &[char],
     rows: &[&[char]],
-) -> Result<Outcome, AllocError>
+) -> Result<ScalarOutcome, AllocError>
     requires fits { at + 1 + length header.now < 2 ^ 64 }
     requires small { least < 2 ^ 63 }
-    ensures { IfOk result (λ r. outcome r [] ≡ block least at header.now (map (λ row. row.now) rows.now)) }
+    ensures { IfOk result (λ r. outcome_value r [] ≡ block least at header.now (map (λ row. row.now) rows.now)) }
 {
-    let (mut reader, line) = Block::begin(alloc, least, at, header);
+    let (mut reader, line) = BlockReader::begin(alloc, least, at, header);
     match line {
-        Line::GoesOn => {}
-        Line::EndsIn(place) | Line::EndedAbove(place) => return Ok(Outcome::Whole(place)),
-        Line::Fails(fault, place) => return Ok(Outcome::Refused(fault, place)),
+        ScalarStep::GoesOn => {}
+        ScalarStep::EndsIn(place) | ScalarStep::EndedAbove(place) => return Ok(ScalarOutcome::Whole(
+            place,
+        )),
+        ScalarStep::Fails(fault, place) => return Ok(ScalarOutcome::Refused(fault, place)),
     }
     for row in rows {
         match reader.read(row)? {
-            Line::GoesOn => {}
-            Line::EndsIn(place) | Line::EndedAbove(place) => return Ok(Outcome::Whole(place)),
-            Line::Fails(fault, place) => return Ok(Outcome::Refused(fault, place)),
+            ScalarStep::GoesOn => {}
+            ScalarStep::EndsIn(place) | ScalarStep::EndedAbove(place) => return Ok(
+                ScalarOutcome::Whole(place),
+            ),
+            ScalarStep::Fails(fault, place) => return Ok(ScalarOutcome::Refused(fault, place)),
         }
     }
-    Ok(Outcome::Whole(reader.finish()))
+    Ok(ScalarOutcome::Whole(reader.finish()))
 }

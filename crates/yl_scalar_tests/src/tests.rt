@@ -2,7 +2,8 @@ use refusing::Refusing;
 use std::alloc::{AllocError, Global};
 use std::test::Fail;
 use yl_scalar::{
-    Block, Line, Outcome, Place, Plain, Quoted, ScalarFault, read_block, read_plain, read_quoted,
+    BlockReader, PlainReader, QuotedReader, ScalarFault, ScalarOutcome, ScalarPlace, ScalarStep,
+    read_block, read_plain, read_quoted,
 };
 
 type Heap<'a> = &'a Refusing<Global>;
@@ -42,7 +43,7 @@ fn double_is(
     let below = views(alloc, &below)?;
     let (reader, outcome) = read_quoted(alloc, true, 0, &text, &below)?;
     let text = reader.to_value(alloc)?;
-    Ok(outcome == Outcome::Whole(Place { down, column }) && text.as_str() == value)
+    Ok(outcome == ScalarOutcome::Whole(ScalarPlace { down, column }) && text.as_str() == value)
 }
 
 fn double_fails(
@@ -57,7 +58,7 @@ fn double_fails(
     let below = rows(alloc, below)?;
     let below = views(alloc, &below)?;
     let (_, outcome) = read_quoted(alloc, true, 0, &text, &below)?;
-    Ok(outcome == Outcome::Refused(fault, Place { down, column }))
+    Ok(outcome == ScalarOutcome::Refused(fault, ScalarPlace { down, column }))
 }
 
 // The rows of `- a`, `  b`, an empty one, `  c`: the scalar stands at the column 2, and its rows need one space.
@@ -67,7 +68,7 @@ fn a_plain_scalar_over_four_rows(rt: HostRuntime) -> Result<(), Fail> {
     let below = rows(rt.alloc(), &["  b", "", "  c", ""])?;
     let below = views(rt.alloc(), &below)?;
     let (reader, outcome) = read_plain(rt.alloc(), false, 1, 2, &text, &below)?;
-    assert!(rt; outcome == Outcome::Whole(Place { down: 3, column: 3 }));
+    assert!(rt; outcome == ScalarOutcome::Whole(ScalarPlace { down: 3, column: 3 }));
     let value = reader.into_value();
     assert_eq!(rt; value.as_str(), "a b\nc");
     Ok(())
@@ -80,13 +81,13 @@ fn a_plain_scalar_of_one_row(rt: HostRuntime) -> Result<(), Fail> {
     let below = rows(rt.alloc(), &["#b", ""])?;
     let below = views(rt.alloc(), &below)?;
     let (reader, outcome) = read_plain(rt.alloc(), false, 0, 0, &text, &below)?;
-    assert!(rt; outcome == Outcome::Whole(Place { down: 0, column: 1 }));
+    assert!(rt; outcome == ScalarOutcome::Whole(ScalarPlace { down: 0, column: 1 }));
     let value = reader.into_value();
     assert_eq!(rt; value.as_str(), "a");
     let text = characters(rt.alloc(), "a\u{1}: b")?;
     let (_, outcome) = read_plain(rt.alloc(), false, 0, 2, &text, &below)?;
-    let place = Place { down: 0, column: 3 };
-    assert!(rt; outcome == Outcome::Refused(ScalarFault::NotAllowed, place));
+    let place = ScalarPlace { down: 0, column: 3 };
+    assert!(rt; outcome == ScalarOutcome::Refused(ScalarFault::NotAllowed, place));
     Ok(())
 }
 
@@ -94,18 +95,18 @@ fn a_plain_scalar_of_one_row(rt: HostRuntime) -> Result<(), Fail> {
 fn single_quotes(rt: HostRuntime) -> Result<(), Fail> {
     let text = characters(rt.alloc(), "it''s'")?;
     let (reader, outcome) = read_quoted(rt.alloc(), false, 0, &text, &[])?;
-    assert!(rt; outcome == Outcome::Whole(Place { down: 0, column: 7 }));
+    assert!(rt; outcome == ScalarOutcome::Whole(ScalarPlace { down: 0, column: 7 }));
     let value = reader.to_value(rt.alloc())?;
     assert_eq!(rt; value.as_str(), "it's");
     // In `a: 'x` the fault stands at the opening quote; a character that is not allowed comes first.
     let text = characters(rt.alloc(), "x")?;
     let (_, outcome) = read_quoted(rt.alloc(), false, 3, &text, &[])?;
-    let place = Place { down: 0, column: 3 };
-    assert!(rt; outcome == Outcome::Refused(ScalarFault::UnclosedQuote, place));
+    let place = ScalarPlace { down: 0, column: 3 };
+    assert!(rt; outcome == ScalarOutcome::Refused(ScalarFault::UnclosedQuote, place));
     let text = characters(rt.alloc(), "a\u{1}")?;
     let (_, outcome) = read_quoted(rt.alloc(), false, 0, &text, &[])?;
-    let place = Place { down: 0, column: 2 };
-    assert!(rt; outcome == Outcome::Refused(ScalarFault::NotAllowed, place));
+    let place = ScalarPlace { down: 0, column: 2 };
+    assert!(rt; outcome == ScalarOutcome::Refused(ScalarFault::NotAllowed, place));
     Ok(())
 }
 
@@ -140,26 +141,26 @@ fn block_scalars(rt: HostRuntime) -> Result<(), Fail> {
     let below = rows(rt.alloc(), &["   x", "", "  y", "b: 1", ""])?;
     let below = views(rt.alloc(), &below)?;
     let outcome = read_block(rt.alloc(), 1, 3, &header, &below)?;
-    assert!(rt; outcome == Outcome::Whole(Place { down: 3, column: 3 }));
+    assert!(rt; outcome == ScalarOutcome::Whole(ScalarPlace { down: 3, column: 3 }));
     // Trailing blank rows are no part of it.
     let below = rows(rt.alloc(), &["  x", "", " "])?;
     let below = views(rt.alloc(), &below)?;
     let outcome = read_block(rt.alloc(), 1, 3, &[], &below)?;
-    assert!(rt; outcome == Outcome::Whole(Place { down: 1, column: 3 }));
+    assert!(rt; outcome == ScalarOutcome::Whole(ScalarPlace { down: 1, column: 3 }));
     // A blank row above the content has more spaces than it.
     let below = rows(rt.alloc(), &["   ", "  x", ""])?;
     let below = views(rt.alloc(), &below)?;
     let outcome = read_block(rt.alloc(), 0, 0, &[], &below)?;
-    let place = Place { down: 1, column: 3 };
-    assert!(rt; outcome == Outcome::Refused(ScalarFault::BadIndentation, place));
+    let place = ScalarPlace { down: 1, column: 3 };
+    assert!(rt; outcome == ScalarOutcome::Refused(ScalarFault::BadIndentation, place));
     // A character that is not allowed, and one that is but fits no header.
     let header = characters(rt.alloc(), "\u{1}")?;
     let outcome = read_block(rt.alloc(), 0, 0, &header, &[])?;
-    let place = Place { down: 0, column: 1 };
-    assert!(rt; outcome == Outcome::Refused(ScalarFault::NotAllowed, place));
+    let place = ScalarPlace { down: 0, column: 1 };
+    assert!(rt; outcome == ScalarOutcome::Refused(ScalarFault::NotAllowed, place));
     let header = characters(rt.alloc(), "0")?;
     let outcome = read_block(rt.alloc(), 0, 0, &header, &[])?;
-    assert!(rt; outcome == Outcome::Refused(ScalarFault::BadHeader, place));
+    assert!(rt; outcome == ScalarOutcome::Refused(ScalarFault::BadHeader, place));
     Ok(())
 }
 
@@ -178,7 +179,7 @@ fn each_growth_of_a_plain_scalar_is_refused(rt: HostRuntime) -> Result<(), Fail>
         };
         assert!(rt; heap.is_armed(), "the {n}th growth");
         heap.refuse(0);
-        assert!(rt; outcome == Outcome::Whole(Place { down: 3, column: 8 }));
+        assert!(rt; outcome == ScalarOutcome::Whole(ScalarPlace { down: 3, column: 8 }));
         let value = reader.into_value();
         assert_eq!(rt; value.as_str(), "a plain scalar over more than\none row");
         assert!(rt; n > 3, "{n} growths");
@@ -204,7 +205,7 @@ fn each_growth_of_a_quoted_scalar_is_refused(rt: HostRuntime) -> Result<(), Fail
             heap.refuse(0);
             assert!(rt;
                 outcome
-                    == Outcome::Whole(Place {
+                    == ScalarOutcome::Whole(ScalarPlace {
                         down: 3,
                         column: 10
                     })
@@ -230,7 +231,7 @@ fn each_growth_of_a_block_scalar_is_refused(rt: HostRuntime) -> Result<(), Fail>
         if heap.is_armed() {
             heap.refuse(0);
             let outcome = answer?;
-            assert!(rt; outcome == Outcome::Whole(Place { down: 7, column: 3 }));
+            assert!(rt; outcome == ScalarOutcome::Whole(ScalarPlace { down: 7, column: 3 }));
             assert!(rt; n > 1, "{n} growths");
             return Ok(());
         }
@@ -246,18 +247,18 @@ fn no_row_is_read_behind_a_refused_one(rt: HostRuntime) -> Result<(), Fail> {
     let row = characters(rt.alloc(), " a row of many characters")?;
     let blank = characters(rt.alloc(), "")?;
     let heap = Refusing::new(rt.alloc());
-    let (mut plain, line) = Plain::begin(&heap, false, 1, 0, &text)?;
-    assert!(rt; line == Line::GoesOn);
+    let (mut plain, line) = PlainReader::begin(&heap, false, 1, 0, &text)?;
+    assert!(rt; line == ScalarStep::GoesOn);
     heap.refuse(1);
     assert!(rt; plain.read(&row).is_err());
     assert!(rt; plain.read(&blank).is_err());
-    let (mut quoted, line) = Quoted::begin(&heap, true, 0, &text)?;
-    assert!(rt; line == Line::GoesOn);
+    let (mut quoted, line) = QuotedReader::begin(&heap, true, 0, &text)?;
+    assert!(rt; line == ScalarStep::GoesOn);
     heap.refuse(1);
     assert!(rt; quoted.read(&row).is_err());
     assert!(rt; quoted.read(&blank).is_err());
-    let (mut block, line) = Block::begin(&heap, 1, 0, &blank);
-    assert!(rt; line == Line::GoesOn);
+    let (mut block, line) = BlockReader::begin(&heap, 1, 0, &blank);
+    assert!(rt; line == ScalarStep::GoesOn);
     heap.refuse(1);
     assert!(rt; block.read(&blank).is_err());
     assert!(rt; block.read(&row).is_err());

@@ -1,4 +1,8 @@
 pub mod Laws
-pub mod Left
+pub mod Output
+pub mod Restart
 pub mod Scanner
+pub mod Settled
+pub mod Standing
+pub mod State
 pub mod Whole

@@ -1,54 +1,76 @@
--- What a scanner shows before a row, and what its steps say.
-use Rattle.std.specs.Prelude.{◌≡◌, ◌≤◌, ◌<◌, ℕ, ◌+◌, ◌-◌, ◌^◌, Bool, true, false, List, [], map, Option, Some, None, option_map, option_to_list}
+-- Meaning: what a scanner shows before a row, and what its steps say.
+use Rattle.std.specs.Prelude.{◌≡◌, ◌≤◌, ◌<◌, ◌⊎◌, ℕ, ◌+◌, ◌-◌, ◌^◌, Bool, true, false, List, [], map, Option, Some, None, option_map, option_to_list}
 use Rattle.std.specs.Option.{ForSome}
 use Rattle.std.specs.Str.{chars}
-use Rattle.yl_text.specs.Lines.{Piece}
-use Rattle.yl_scalar.specs.declared.answer.Place.{Place}
+use Rattle.yl_text.specs.Lines.{RowValue}
+use Rattle.yl_scalar.specs.declared.answer.ScalarPlace.{ScalarPlace}
 use Rattle.yl_scalar.specs.Reader.{extent_at}
 use Rattle.yl_scalar.specs.Reading.{Whole}
 use Rattle.yl_lexeme.specs.declared.lexeme.Style.{Style}
 use Rattle.yl_lexeme.specs.Lexeme.{LexemeValue}
-use Rattle.yl_lexeme.specs.Known.{Known}
-use Rattle.yl_row.specs.declared.fault.Faulted.{Faulted}
-use Rattle.yl_scan.specs.declared.step.Ended.{Ended}
-use Rattle.yl_scan.specs.declared.step.Failed.{Failed}
+use Rattle.yl_lexeme.specs.Known.{SurroundingsValue}
+use Rattle.yl_row.specs.declared.fault.PlacedScanFault.{PlacedScanFault}
+use Rattle.yl_scan.specs.declared.step.LexemeAbove.{LexemeAbove}
+use Rattle.yl_scan.specs.declared.step.FaultAbove.{FaultAbove}
 use Rattle.yl_scan.specs.declared.step.Step.{Step}
-use Rattle.yl_scan.specs.declared.resting.Resting as code
-use Rattle.yl_scan.specs.declared.resting.Resting.TheVariants.{Between, Within as CodeWithin, Halted as CodeHalted}
+use Rattle.yl_scan.specs.declared.step.Soundness.{Soundness}
+use Rattle.yl_scan.specs.declared.step.Soundness.TheVariants.{NotSound, Sound, Stopped as SoundStopped}
+use Rattle.yl_scan.specs.declared.phase.Phase as code
+use Rattle.yl_scan.specs.declared.phase.Phase.TheVariants.{Between, Within as CodeWithin, Halted as CodeHalted}
 use Rattle.yl_row.specs.Step.{scalar_found}
-use Rattle.yl_row.specs.Mode.{Mode, rows_in, KeepsSpaces, ColumnBy}
-use Rattle.yl_row.specs.Reader.{mode_of}
-use Rattle.yl_row.specs.Entries.{lexeme_of}
-use Rattle.yl_scan.specs.Left.{Out, Told, Stand, Fresh, Within, Halted}
+use Rattle.yl_row.specs.ScalarReader.{ScalarReaderValue, rows_in, KeepsSpaces, ColumnBy}
+use Rattle.yl_row.specs.Reader.{scalar_reader_value}
+use Rattle.yl_lexeme.specs.Known.{context_of}
+use Rattle.yl_row.specs.Entries.{LineStateValue, Stopped, lexeme_of, state_of}
+use Rattle.yl_scan.specs.Output.{ScanOutput, StepValue, PhaseValue, Fresh, Within, Halted, silent_step}
 
--- a scanner: how many rows it was fed, where it stands before the next one, and whether it was refused memory
-pub record Scanning : Type 0 where
+-- a scanner: how many rows it was fed, where it stands before the next one, whether its steps are to hold states, and whether it was
+-- refused memory
+pub record ScannerValue : Type 0 where
   pub line : ℕ
-  pub stand : Stand
+  pub stand : PhaseValue
+  pub states : Bool
   pub refused : Bool
 
 -- ---- steps: what began so many rows before this line
 
-abbrev pub ended_at : {A : Type 0} → ℕ → Ended A → ℕ × LexemeValue
-ended_at line e = (line - e.ago, e.lexeme)
+abbrev pub lexeme_above_at : {A : Type 0} → ℕ → LexemeAbove A → ℕ × LexemeValue
+lexeme_above_at line e = (line - e.ago, e.lexeme)
 
-abbrev pub failed_at : ℕ → Failed → ℕ × Faulted
-failed_at line f = (line - f.ago, f.fault)
+abbrev pub fault_above_at : ℕ → FaultAbove → ℕ × PlacedScanFault
+fault_above_at line f = (line - f.ago, f.fault)
 
-abbrev pub told_of : {A : Type 0} → ℕ → Step A → Told
-told_of line s = record {
-  above = option_map (ended_at line) s.ended;
-  lexemes = s.lexemes.items;
-  comment = s.comment;
-  sound = s.is_sound;
-  fault = option_map (failed_at line) s.failed;
+-- the state of a row, by what stands before it and by whether it is sound
+abbrev pub state_by : LineStateValue → Soundness → Option LineStateValue
+state_by s NotSound = None
+state_by s Sound = Some s
+state_by s SoundStopped = Some Stopped
+
+-- or none, where states are not wanted
+abbrev pub state_for : Option LineStateValue → Soundness → Option LineStateValue
+state_for None _ = None
+state_for (Some s) sound = state_by s sound
+
+abbrev pub is_sound : Soundness → Bool
+is_sound NotSound = false
+is_sound Sound = true
+is_sound SoundStopped = true
+
+-- what a step tells of the row at a line, where this stands before the row
+abbrev pub step_value : {A : Type 0} → ℕ → LineStateValue → Step A → StepValue
+step_value line s step = record {
+  above = option_map (lexeme_above_at line) step.ended;
+  lexemes = step.lexemes.items;
+  comment = step.comment;
+  state = state_by s step.sound;
+  fault = option_map (fault_above_at line) step.failed;
 }
 
 -- what a step tells of the rows above this line began in one of them, and a fault there or in the row itself
-abbrev pub IsAbove : {A : Type 0} → ℕ → Ended A → Type 0
+abbrev pub IsAbove : {A : Type 0} → ℕ → LexemeAbove A → Type 0
 IsAbove line e = (0 < e.ago) × (e.ago ≤ line)
 
-abbrev pub IsNotBelow : ℕ → Failed → Type 0
+abbrev pub IsNotBelow : ℕ → FaultAbove → Type 0
 IsNotBelow line f = f.ago ≤ line
 
 abbrev pub BeginsInText : {A : Type 0} → ℕ → Step A → Type 0
@@ -59,44 +81,71 @@ abbrev pub FailsHere : {A : Type 0} → Step A → Type 0
 FailsHere s = ForSome s.failed (λ f. f.ago ≡ 0)
 
 -- what is told at the text's end, of no row
-abbrev pub at_end : Told → Out
-at_end t = record { lexemes = option_to_list t.above; comments = []; sound = []; fault = t.fault }
+abbrev pub at_end : StepValue → ScanOutput
+at_end t = record { lexemes = option_to_list t.above; comments = []; states = []; fault = t.fault }
 
 -- ---- where a scanner stands
 
-abbrev pub stand_of : {A : Type 0} → Bool → Known → code.Resting A → Stand
-stand_of start k Between = Fresh start k
-stand_of start k (CodeWithin begun o) = Within begun o.style o.at (mode_of o.reader) k
-stand_of start k (CodeHalted reach) = Halted reach.to_end reach.down
+abbrev pub phase_value : {A : Type 0} → Bool → SurroundingsValue → code.Phase A → PhaseValue
+phase_value start k Between = Fresh start k
+phase_value start k (CodeWithin begun o) = Within begun o.style o.at (scalar_reader_value o.reader) k
+phase_value start k (CodeHalted reach) = Halted reach.to_end reach.down
 
 -- what is known of the lexemes before, unless a fault has come before
-abbrev pub known_in : Stand → Option Known
-known_in (Fresh start k) = Some k
-known_in (Within begun style at m k) = Some k
-known_in (Halted to_end down) = None
+abbrev pub surroundings_in : PhaseValue → Option SurroundingsValue
+surroundings_in (Fresh start k) = Some k
+surroundings_in (Within begun style at m k) = Some k
+surroundings_in (Halted to_end down) = None
 
-abbrev pub is_halted : Stand → Bool
+-- what stands before the next row, if it is sound
+abbrev pub state_before : PhaseValue → LineStateValue
+state_before (Fresh start k) = state_of (context_of k)
+state_before (Within begun style at m k) = state_of (context_of k)
+state_before (Halted to_end down) = Stopped
+
+-- the line in which the scalar in progress began, if there is one
+abbrev pub begun_at : PhaseValue → Option ℕ
+begun_at (Fresh start k) = None
+begun_at (Within begun style at m k) = Some begun
+begun_at (Halted to_end down) = None
+
+-- a scalar in progress began in this line
+abbrev pub BeginsAt : ℕ → PhaseValue → Type 0
+BeginsAt line (Fresh start k) = Unit {0}
+BeginsAt line (Within begun style at m k) = begun ≡ line
+BeginsAt line (Halted to_end down) = Unit {0}
+
+-- the lexeme from above that a step tells is the scalar that was in progress
+abbrev pub EndsOpen : {A : Type 0} → ℕ → Option ℕ → Step A → Type 0
+EndsOpen line begun step = ForSome step.ended (λ e. begun ≡ Some (line - e.ago))
+
+-- and the scalar in progress behind the row began in it, or was in progress before it, and the row tells nothing
+pub record IsInOrder {A : Type 0} (line : ℕ) (begun behind : Option ℕ) (step : Step A) : Type 0 where
+  pub above : EndsOpen line begun step
+  pub next : ForSome behind (λ b. b ≡ line) ⊎ (((s : LineStateValue) → step_value line s step ≡ silent_step) × (behind ≡ begun))
+
+abbrev pub is_halted : PhaseValue → Bool
 is_halted (Fresh start k) = false
 is_halted (Within begun style at m k) = false
 is_halted (Halted to_end down) = true
 
 -- a scalar in progress began above, has read all rows since, and stands within columns that fit
-pub record IsUnderWay (line begun at : ℕ) (m : Mode) : Type 0 where
+pub record IsUnderWay (line begun at : ℕ) (m : ScalarReaderValue) : Type 0 where
   pub above : begun < line
   pub rows : rows_in m ≡ line - (begun + 1)
   pub spaces : KeepsSpaces m
   pub columns : ColumnBy (2 ^ 31) m
   pub column : at < 2 ^ 31
 
-abbrev pub IsInStep : {A : Type 0} → ℕ → code.Resting A → Type 0
+abbrev pub IsInStep : {A : Type 0} → ℕ → code.Phase A → Type 0
 IsInStep line Between = Unit {0}
-IsInStep line (CodeWithin begun o) = IsUnderWay line begun o.at (mode_of o.reader)
+IsInStep line (CodeWithin begun o) = IsUnderWay line begun o.at (scalar_reader_value o.reader)
 IsInStep line (CodeHalted reach) = Unit {0}
 
 -- a scalar's lexeme that ends before this place
-abbrev pub scalar_lexeme : Style → ℕ → Place → List ℕ → LexemeValue
+abbrev pub scalar_lexeme : Style → ℕ → ScalarPlace → List ℕ → LexemeValue
 scalar_lexeme style at place value = lexeme_of at (scalar_found style at (Whole (extent_at place value)))
 
 -- the characters of the rows
-abbrev pub characters_of : List Piece → List (List ℕ)
+abbrev pub characters_of : List RowValue → List (List ℕ)
 characters_of rows = map (λ r. chars r.text) rows

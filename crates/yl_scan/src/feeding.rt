@@ -1,27 +1,29 @@
 //! What a row tells, by where the scanner stands before it.
 
-ghost use Rattle.std.specs.Prelude.{◌≡◌, ◌≤◌, ◌<◌, ◌+◌, ◌-◌, ◌^◌, ◌==◌, ◌∷◌, [], not, ◌&&◌, ◌||◌, true, false, IfOk, List, ℕ, Bool, Option, is_some, length};
+ghost use Rattle.std.specs.Prelude.{◌≡◌, ◌≤◌, ◌<◌, ◌+◌, ◌-◌, ◌^◌, ◌==◌, ◌∷◌, [], not, ◌&&◌, ◌||◌, true, false, if◌then◌else◌, IfOk, List, ℕ, Bool, Option, IsSome, is_some, length};
 ghost use Rattle.yl_lexeme.specs.Lexeme.{LexemeValue};
-ghost use Rattle.yl_lexeme.specs.Known.{Known, new_row};
-ghost use Rattle.yl_lexeme.specs.Surroundings.{known};
+ghost use Rattle.yl_lexeme.specs.Known.{SurroundingsValue, context_of, new_row};
+ghost use Rattle.yl_lexeme.specs.Surroundings.{surroundings_value};
 ghost use Rattle.yl_scalar.specs.Reading.{GoesOn, Fails};
 ghost use Rattle.yl_text.specs.Character.{is_blank};
 ghost use Rattle.yl_row.specs.Fault.{is_tab, is_unclosed, of_scalar};
 ghost use Rattle.yl_row.specs.Step.{first_tab};
-ghost use Rattle.yl_row.specs.Entries.{State, ends_by, kept, stopped_rows};
-ghost use Rattle.yl_row.specs.Mode.{mode_finish};
-ghost use Rattle.yl_row.specs.Reader.{mode_of, value_of};
-ghost use Rattle.yl_row.specs.Run.{read, run};
-ghost use Rattle.yl_row.specs.Rows.{EndRests, gave, ended};
-ghost use Rattle.yl_scan.specs.Left.{Within, given, left, row_told, told};
-ghost use Rattle.yl_scan.specs.Scanner.{BeginsInText, FailsHere, IsInStep, IsUnderWay, at_end, scalar_lexeme, stand_of, told_of};
+ghost use Rattle.yl_row.specs.Entries.{LineStateValue, Stopped, ends_by, lexemes_up_to_fault, sound_state, state_of, stopped_rows};
+ghost use Rattle.yl_row.specs.ScalarReader.{reader_finish};
+ghost use Rattle.yl_row.specs.Reader.{scalar_reader_value, value_of};
+ghost use Rattle.yl_row.specs.Run.{row_reading_by, entries_by};
+ghost use Rattle.yl_row.specs.Rows.{EndRests, reading_with_lexemes, row_end_reading};
+ghost use Rattle.yl_scan.specs.Output.{Within, output_with_step, remaining_output, output_of_row, output_of_entries};
+ghost use Rattle.yl_scan.specs.Scanner.{BeginsAt, BeginsInText, EndsOpen, FailsHere, IsInOrder, IsInStep, IsUnderWay, at_end, begun_at, is_halted, scalar_lexeme, phase_value, state_before, state_by, step_value};
 
-use crate::resting::{Reach, Resting};
-use crate::step::{Ended, Failed, Step};
+use crate::phase::{Phase, Reach};
+use crate::step::{FaultAbove, LexemeAbove, Soundness, Step};
 use std::alloc::{AllocError, Allocator};
 use yl_lexeme::{Kind, Lexeme, Style, Surroundings};
-use yl_row::{End, Faulted, Open, Reader, ScanFault, first_tab, of_scalar, read_row};
-use yl_scalar::{Line, Outcome, Place, ScalarFault, is_blank};
+use yl_row::{
+    OpenScalar, PlacedScanFault, RowEnd, ScalarReader, ScanFault, first_tab, of_scalar, read_row,
+};
+use yl_scalar::{ScalarFault, ScalarOutcome, ScalarPlace, ScalarStep, is_blank};
 use yl_text::Pos;
 
 /// Whether a lexeme ends in its row before a column or at it.
@@ -51,8 +53,8 @@ fn is_unclosed(fault: ScanFault) -> bool
 }
 
 /// Takes the lexemes back that end past a fault's place. Only a tab can stand before some that were read.
-fn keep<A: Allocator>(lexemes: &mut Vec<Lexeme<A>, A>, fault: Faulted)
-    ensures { lexemes.new.items ≡ kept (Some fault) lexemes.old.items }
+fn keep<A: Allocator>(lexemes: &mut Vec<Lexeme<A>, A>, fault: PlacedScanFault)
+    ensures { lexemes.new.items ≡ lexemes_up_to_fault (Some fault) lexemes.old.items }
 {
     if is_tab(fault.fault) {
         lexemes.retain(|lexeme| ends_by(fault.column, lexeme));
@@ -60,7 +62,7 @@ fn keep<A: Allocator>(lexemes: &mut Vec<Lexeme<A>, A>, fault: Faulted)
 }
 
 /// How far a fault reaches.
-fn reach_of(fault: Faulted) -> Reach
+fn reach_of(fault: PlacedScanFault) -> Reach
     ensures end { result.to_end ≡ is_unclosed fault.fault }
     ensures down { result.down ≡ fault.down }
 {
@@ -71,8 +73,8 @@ fn reach_of(fault: Faulted) -> Reach
 }
 
 /// A row that tells nothing but whether it is sound.
-fn silent<A: Allocator>(alloc: A, is_sound: bool) -> Step<A>
-    ensures told { (line : ℕ) → told_of line result ≡ record { above = None; lexemes = []; comment = None; sound = is_sound; fault = None } }
+fn silent<A: Allocator>(alloc: A, sound: Soundness) -> Step<A>
+    ensures told { (line : ℕ) (s : LineStateValue) → step_value line s result ≡ record { above = None; lexemes = []; comment = None; state = state_by s sound; fault = None } }
     ensures fresh { result.ended ≡ None }
     ensures whole { result.failed ≡ None }
 {
@@ -80,42 +82,47 @@ fn silent<A: Allocator>(alloc: A, is_sound: bool) -> Step<A>
         ended: None,
         lexemes: Vec::new(alloc),
         comment: None,
-        is_sound,
+        sound,
+        state: None,
         failed: None,
     }
 }
 
 /// What a row tells that was read to this end, and where it leaves the scanner.
+#[inline(always)]
 fn row_end<A: Allocator + Copy>(
     line: u32,
-    is_sound: bool,
+    sound: Soundness,
     lexemes: Vec<Lexeme<A>, A>,
-    end: End<A>,
-) -> (Step<A>, Resting<A>)
-    ensures told { (row : List ℕ) (rows : List (List ℕ)) (tab : Option ℕ) (state : Option State) (k : Known) → is_some state ≡ is_sound → EndRests row end →
-        row_told line rows state (gave lexemes.items (ended rows tab row k end))
-        ≡ given line (told_of line result.0) (left (line + 1) (stand_of false (new_row k) result.1) rows) }
+    end: RowEnd<A>,
+) -> (Step<A>, Phase<A>)
+    ensures told { (s : LineStateValue) (row : List ℕ) (rows : List (List ℕ)) (tab : Option ℕ) (k : SurroundingsValue) → EndRests row end →
+        output_of_row line rows (state_by s sound) (reading_with_lexemes lexemes.items (row_end_reading rows tab row k end))
+        ≡ output_with_step line (step_value line s result.0) (remaining_output (line + 1) (phase_value false (new_row k) result.1) rows) }
     ensures in_step { (row : List ℕ) → length row < 2 ^ 31 → EndRests row end → IsInStep (line + 1) result.1 }
     ensures fresh { result.0.ended ≡ None }
     ensures here { FailsHere result.0 }
+    ensures begins { (k : SurroundingsValue) → BeginsAt line (phase_value false k result.1) }
+    ensures halts { (k : SurroundingsValue) → is_halted (phase_value false k result.1) ≡ is_some result.0.failed }
 {
     let mut step = Step {
         ended: None,
         lexemes,
         comment: None,
-        is_sound,
+        sound,
+        state: None,
         failed: None,
     };
     match end {
-        End::Read(comment) => {
+        RowEnd::Read(comment) => {
             step.comment = comment;
-            (step, Resting::Between)
+            (step, Phase::Between)
         }
-        End::Opens(scalar) => (step, Resting::Within(line, scalar)),
-        End::Stops(fault) => {
+        RowEnd::Opens(scalar) => (step, Phase::Within(line, scalar)),
+        RowEnd::Stops(fault) => {
             keep(&mut step.lexemes, fault);
-            step.failed = Some(Failed { ago: 0, fault });
-            (step, Resting::Halted(reach_of(fault)))
+            step.failed = Some(FaultAbove { ago: 0, fault });
+            (step, Phase::Halted(reach_of(fault)))
         }
     }
 }
@@ -128,10 +135,14 @@ fn tab_of(fresh: bool, row: &[char]) -> Option<usize>
 }
 
 /// Whether a row is sound that begins inside no lexeme.
-fn is_sound_start(line: u32, row: &[char]) -> bool
-    ensures { result ≡ ((line == 0) || not (is_blank row.now)) }
+fn sound_start(line: u32, row: &[char]) -> Soundness
+    ensures { (s : LineStateValue) → state_by s result ≡ (if (line == 0) || not (is_blank row.now) then Some s else None) }
 {
-    line == 0 || !is_blank(row)
+    if line == 0 || !is_blank(row) {
+        Soundness::Sound
+    } else {
+        Soundness::NotSound
+    }
 }
 
 /// Whether a row is sound that a fault reaches so far.
@@ -141,29 +152,43 @@ fn is_sound_behind(reach: Reach, row: &[char]) -> bool
     reach.down == 0 && !reach.to_end && !is_blank(row)
 }
 
+/// That a fault has come before, if the row is sound.
+fn stopped_if(is_sound: bool) -> Soundness
+    ensures { (s : LineStateValue) → state_by s result ≡ (if is_sound then Some Stopped else None) }
+{
+    if is_sound {
+        Soundness::Stopped
+    } else {
+        Soundness::NotSound
+    }
+}
+
 /// Reads a row from a column on, at its start or behind a lexeme that began above.
+#[inline(always)]
 fn read_on<A: Allocator + Copy>(
     alloc: A,
     surroundings: &mut Surroundings<'_, A>,
     line: u32,
     skip: usize,
     fresh: bool,
-    is_sound: bool,
+    sound: Soundness,
     row: &[char],
-) -> Result<(Step<A>, Resting<A>), AllocError>
+) -> Result<(Step<A>, Phase<A>), AllocError>
     requires { length row.now < 2 ^ 31 }
-    ensures told { IfOk result (λ r. (rows : List (List ℕ)) (state : Option State) → is_some state ≡ is_sound →
-        row_told line rows state (read rows (first_tab (not fresh) row.now) skip fresh fresh 0 (new_row (known surroundings.old)) row.now)
-        ≡ given line (told_of line r.0) (left (line + 1) (stand_of false (new_row (known surroundings.new)) r.1) rows)) }
+    ensures told { IfOk result (λ r. (s : LineStateValue) (rows : List (List ℕ)) →
+        output_of_row line rows (state_by s sound) (row_reading_by rows (first_tab (not fresh) row.now) skip fresh fresh 0 (new_row (surroundings_value surroundings.old)) row.now)
+        ≡ output_with_step line (step_value line s r.0) (remaining_output (line + 1) (phase_value false (new_row (surroundings_value surroundings.new)) r.1) rows)) }
     ensures in_step { IfOk result (λ r. IsInStep (line + 1) r.1) }
     ensures fresh { IfOk result (λ r. r.0.ended ≡ None) }
     ensures here { IfOk result (λ r. FailsHere r.0) }
+    ensures in_order { IfOk result (λ r. (begun : Option ℕ) (k : SurroundingsValue) → IsInOrder line begun (begun_at (phase_value false k r.1)) r.0) }
+    ensures halts { IfOk result (λ r. (k : SurroundingsValue) → is_halted (phase_value false k r.1) ≡ is_some r.0.failed) }
 {
     surroundings.new_row();
     let tab = tab_of(fresh, row);
     let mut lexemes = Vec::new(alloc);
     let end = read_row(alloc, surroundings, &mut lexemes, tab, skip, fresh, row)?;
-    Ok(row_end(line, is_sound, lexemes, end))
+    Ok(row_end(line, sound, lexemes, end))
 }
 
 /// Reads a row that begins inside no lexeme.
@@ -172,17 +197,20 @@ fn fresh_row<A: Allocator + Copy>(
     surroundings: &mut Surroundings<'_, A>,
     line: u32,
     row: &[char],
-) -> Result<(Step<A>, Resting<A>), AllocError>
+) -> Result<(Step<A>, Phase<A>), AllocError>
     requires { length row.now < 2 ^ 31 }
     ensures told { IfOk result (λ r. (rows : List (List ℕ)) →
-        told line (run (line == 0) 0 0 (new_row (known surroundings.old)) (row.now ∷ rows))
-        ≡ given line (told_of line r.0) (left (line + 1) (stand_of false (new_row (known surroundings.new)) r.1) rows)) }
+        output_of_entries line (entries_by (line == 0) 0 0 (new_row (surroundings_value surroundings.old)) (row.now ∷ rows))
+        ≡ output_with_step line (step_value line (state_of (context_of (surroundings_value surroundings.old))) r.0) (remaining_output (line + 1) (phase_value false (new_row (surroundings_value surroundings.new)) r.1) rows)) }
     ensures in_step { IfOk result (λ r. IsInStep (line + 1) r.1) }
     ensures fresh { IfOk result (λ r. r.0.ended ≡ None) }
     ensures here { IfOk result (λ r. FailsHere r.0) }
+    ensures in_order { IfOk result (λ r. (begun : Option ℕ) (k : SurroundingsValue) → IsInOrder line begun (begun_at (phase_value false k r.1)) r.0) }
+    ensures halts { IfOk result (λ r. (k : SurroundingsValue) → is_halted (phase_value false k r.1) ≡ is_some r.0.failed) }
 {
-    let is_sound = is_sound_start(line, row);
-    read_on(alloc, surroundings, line, 0, true, is_sound, row)
+    let sound = sound_start(line, row);
+    let read = read_on(alloc, surroundings, line, 0, true, sound, row)?;
+    Ok(read)
 }
 
 /// A scalar that ends before this place, which began at this column.
@@ -190,8 +218,8 @@ fn scalar_lexeme<A: Allocator + Copy>(
     alloc: A,
     style: Style,
     at: usize,
-    reader: Reader<A>,
-    place: Place,
+    reader: ScalarReader<A>,
+    place: ScalarPlace,
 ) -> Result<Lexeme<A>, AllocError>
     requires at { at < 2 ^ 31 }
     requires place { (place.down < 2 ^ 32) × (place.column ≤ 2 ^ 31) }
@@ -209,12 +237,12 @@ fn scalar_lexeme<A: Allocator + Copy>(
 }
 
 /// A scalar's fault.
-fn scalar_failed(ago: u32, fault: ScalarFault, place: Place) -> Failed
+fn scalar_failed(ago: u32, fault: ScalarFault, place: ScalarPlace) -> FaultAbove
     ensures { result ≡ record { ago = ago; fault = record { fault = of_scalar fault; down = place.down; column = place.column } } }
 {
-    Failed {
+    FaultAbove {
         ago,
-        fault: Faulted {
+        fault: PlacedScanFault {
             fault: of_scalar(fault),
             down: place.down,
             column: place.column,
@@ -228,26 +256,31 @@ fn within_row<A: Allocator + Copy>(
     surroundings: &mut Surroundings<'_, A>,
     line: u32,
     begun: u32,
-    scalar: Open<A>,
+    scalar: OpenScalar<A>,
     row: &[char],
-) -> Result<(Step<A>, Resting<A>), AllocError>
+) -> Result<(Step<A>, Phase<A>), AllocError>
     requires fits { length row.now < 2 ^ 31 }
-    requires under_way { IsUnderWay line begun scalar.at (mode_of scalar.reader) }
+    requires under_way { IsUnderWay line begun scalar.at (scalar_reader_value scalar.reader) }
     ensures told { IfOk result (λ r. (rows : List (List ℕ)) →
-        left line (Within begun scalar.style scalar.at (mode_of scalar.reader) (new_row (known surroundings.old))) (row.now ∷ rows)
-        ≡ given line (told_of line r.0) (left (line + 1) (stand_of false (new_row (known surroundings.new)) r.1) rows)) }
+        remaining_output line (Within begun scalar.style scalar.at (scalar_reader_value scalar.reader) (new_row (surroundings_value surroundings.old))) (row.now ∷ rows)
+        ≡ output_with_step line (step_value line (state_of (context_of (surroundings_value surroundings.old))) r.0) (remaining_output (line + 1) (phase_value false (new_row (surroundings_value surroundings.new)) r.1) rows)) }
     ensures in_step { IfOk result (λ r. IsInStep (line + 1) r.1) }
     ensures in_text { IfOk result (λ r. BeginsInText line r.0) }
+    ensures in_order { IfOk result (λ r. (k : SurroundingsValue) → IsInOrder line (Some begun) (begun_at (phase_value false k r.1)) r.0) }
+    ensures halts { IfOk result (λ r. (k : SurroundingsValue) → is_halted (phase_value false k r.1) ≡ is_some r.0.failed) }
 {
-    let Open { style, at, reader } = scalar;
+    let OpenScalar { style, at, reader } = scalar;
     let (reader, answer) = reader.read(row)?;
     let ago = line - begun;
     match answer {
-        Line::GoesOn => {
-            let scalar = Open { style, at, reader };
-            Ok((silent(alloc, false), Resting::Within(begun, scalar)))
+        ScalarStep::GoesOn => {
+            let scalar = OpenScalar { style, at, reader };
+            Ok((
+                silent(alloc, Soundness::NotSound),
+                Phase::Within(begun, scalar),
+            ))
         }
-        Line::EndsIn(place) => {
+        ScalarStep::EndsIn(place) => {
             let lexeme = scalar_lexeme(alloc, style, at, reader, place)?;
             let (mut step, resting) = read_on(
                 alloc,
@@ -255,24 +288,24 @@ fn within_row<A: Allocator + Copy>(
                 line,
                 place.column,
                 false,
-                false,
+                Soundness::NotSound,
                 row,
             )?;
-            step.ended = Some(Ended { ago, lexeme });
+            step.ended = Some(LexemeAbove { ago, lexeme });
             Ok((step, resting))
         }
-        Line::EndedAbove(place) => {
+        ScalarStep::EndedAbove(place) => {
             let lexeme = scalar_lexeme(alloc, style, at, reader, place)?;
             let (mut step, resting) = fresh_row(alloc, surroundings, line, row)?;
-            step.ended = Some(Ended { ago, lexeme });
+            step.ended = Some(LexemeAbove { ago, lexeme });
             Ok((step, resting))
         }
-        Line::Fails(fault, place) => {
-            let mut step = silent(alloc, place.down < ago as usize);
+        ScalarStep::Fails(fault, place) => {
+            let mut step = silent(alloc, stopped_if(place.down < ago as usize));
             step.failed = Some(scalar_failed(ago, fault, place));
             Ok((
                 step,
-                Resting::Halted(Reach {
+                Phase::Halted(Reach {
                     to_end: false,
                     down: 0,
                 }),
@@ -282,19 +315,21 @@ fn within_row<A: Allocator + Copy>(
 }
 
 /// Passes a row behind a fault.
-fn halted_row<A: Allocator + Copy>(alloc: A, reach: Reach, row: &[char]) -> (Step<A>, Resting<A>)
-    ensures told { (line : ℕ) (rows : List (List ℕ)) (k : Known) →
-        told line (stopped_rows reach.to_end reach.down (row.now ∷ rows))
-        ≡ given line (told_of line result.0) (left (line + 1) (stand_of false k result.1) rows) }
+fn halted_row<A: Allocator + Copy>(alloc: A, reach: Reach, row: &[char]) -> (Step<A>, Phase<A>)
+    ensures told { (line : ℕ) (s : LineStateValue) (rows : List (List ℕ)) (k : SurroundingsValue) →
+        output_of_entries line (stopped_rows reach.to_end reach.down (row.now ∷ rows))
+        ≡ output_with_step line (step_value line s result.0) (remaining_output (line + 1) (phase_value false k result.1) rows) }
     ensures in_step { (line : ℕ) → IsInStep line result.1 }
     ensures in_text { (line : ℕ) → BeginsInText line result.0 }
+    ensures in_order { (line : ℕ) (begun : Option ℕ) (k : SurroundingsValue) → IsInOrder line begun (begun_at (phase_value false k result.1)) result.0 }
+    ensures halts { (k : SurroundingsValue) → is_halted (phase_value false k result.1) ≡ true }
 {
-    let step = silent(alloc, is_sound_behind(reach, row));
+    let step = silent(alloc, stopped_if(is_sound_behind(reach, row)));
     let reach = Reach {
         to_end: reach.to_end,
         down: reach.down.saturating_sub(1),
     };
-    (step, Resting::Halted(reach))
+    (step, Phase::Halted(reach))
 }
 
 /// Reads a row.
@@ -302,23 +337,28 @@ pub fn fed_row<A: Allocator + Copy>(
     alloc: A,
     surroundings: &mut Surroundings<'_, A>,
     line: u32,
-    resting: Resting<A>,
+    resting: Phase<A>,
     row: &[char],
-) -> Result<(Step<A>, Resting<A>), AllocError>
+) -> Result<(Step<A>, Phase<A>), AllocError>
     requires fits { length row.now < 2 ^ 31 }
     requires in_step { IsInStep line resting }
     ensures told { IfOk result (λ r. (rows : List (List ℕ)) →
-        left line (stand_of (line == 0) (new_row (known surroundings.old)) resting) (row.now ∷ rows)
-        ≡ given line (told_of line r.0) (left (line + 1) (stand_of false (new_row (known surroundings.new)) r.1) rows)) }
+        remaining_output line (phase_value (line == 0) (new_row (surroundings_value surroundings.old)) resting) (row.now ∷ rows)
+        ≡ output_with_step line (step_value line (state_before (phase_value (line == 0) (new_row (surroundings_value surroundings.old)) resting)) r.0) (remaining_output (line + 1) (phase_value false (new_row (surroundings_value surroundings.new)) r.1) rows)) }
     ensures in_step { IfOk result (λ r. IsInStep (line + 1) r.1) }
     ensures in_text { IfOk result (λ r. BeginsInText line r.0) }
+    ensures in_order { IfOk result (λ r. (k : SurroundingsValue) → IsInOrder line (begun_at (phase_value (line == 0) (new_row (surroundings_value surroundings.old)) resting)) (begun_at (phase_value false k r.1)) r.0) }
+    ensures halts { IfOk result (λ r. (k : SurroundingsValue) → is_halted (phase_value false k r.1) ≡ (is_halted (phase_value (line == 0) (new_row (surroundings_value surroundings.old)) resting) || is_some r.0.failed)) }
 {
     match resting {
-        Resting::Between => fresh_row(alloc, surroundings, line, row),
-        Resting::Within(begun, scalar) => {
+        Phase::Between => {
+            let read = fresh_row(alloc, surroundings, line, row)?;
+            Ok(read)
+        }
+        Phase::Within(begun, scalar) => {
             within_row(alloc, surroundings, line, begun, scalar, row)
         }
-        Resting::Halted(reach) => Ok(halted_row(alloc, reach, row)),
+        Phase::Halted(reach) => Ok(halted_row(alloc, reach, row)),
     }
 }
 
@@ -327,22 +367,23 @@ fn ended_scalar<A: Allocator + Copy>(
     alloc: A,
     line: u32,
     begun: u32,
-    scalar: Open<A>,
+    scalar: OpenScalar<A>,
 ) -> Result<Step<A>, AllocError>
-    requires { IsUnderWay line begun scalar.at (mode_of scalar.reader) }
-    ensures told { IfOk result (λ step. (k : Known) → left line (Within begun scalar.style scalar.at (mode_of scalar.reader) k) [] ≡ at_end (told_of line step)) }
+    requires { IsUnderWay line begun scalar.at (scalar_reader_value scalar.reader) }
+    ensures told { IfOk result (λ step. (s : LineStateValue) (k : SurroundingsValue) → remaining_output line (Within begun scalar.style scalar.at (scalar_reader_value scalar.reader) k) [] ≡ at_end (step_value line s step)) }
     ensures in_text { IfOk result (λ step. BeginsInText line step) }
+    ensures in_order { IfOk result (λ step. EndsOpen line (Some begun) step) }
 {
-    let mut step = silent(alloc, false);
-    let Open { style, at, reader } = scalar;
+    let mut step = silent(alloc, Soundness::NotSound);
+    let OpenScalar { style, at, reader } = scalar;
     let ago = line - begun;
     match reader.finish() {
-        Outcome::Whole(place) => {
+        ScalarOutcome::Whole(place) => {
             let lexeme = scalar_lexeme(alloc, style, at, reader, place)?;
-            step.ended = Some(Ended { ago, lexeme });
+            step.ended = Some(LexemeAbove { ago, lexeme });
             Ok(step)
         }
-        Outcome::Refused(fault, place) => {
+        ScalarOutcome::Refused(fault, place) => {
             step.failed = Some(scalar_failed(ago, fault, place));
             Ok(step)
         }
@@ -353,17 +394,18 @@ fn ended_scalar<A: Allocator + Copy>(
 pub fn ended_text<A: Allocator + Copy>(
     alloc: A,
     line: u32,
-    resting: Resting<A>,
+    resting: Phase<A>,
 ) -> Result<Step<A>, AllocError>
     requires { IsInStep line resting }
-    ensures told { IfOk result (λ step. (start : Bool) (k : Known) → left line (stand_of start k resting) [] ≡ at_end (told_of line step)) }
+    ensures told { IfOk result (λ step. (s : LineStateValue) (start : Bool) (k : SurroundingsValue) → remaining_output line (phase_value start k resting) [] ≡ at_end (step_value line s step)) }
     ensures in_text { IfOk result (λ step. BeginsInText line step) }
+    ensures in_order { IfOk result (λ step. (start : Bool) (k : SurroundingsValue) → EndsOpen line (begun_at (phase_value start k resting)) step) }
 {
     match resting {
-        Resting::Within(begun, scalar) => {
+        Phase::Within(begun, scalar) => {
             let step = ended_scalar(alloc, line, begun, scalar)?;
             Ok(step)
         }
-        Resting::Between | Resting::Halted(_) => Ok(silent(alloc, false)),
+        Phase::Between | Phase::Halted(_) => Ok(silent(alloc, Soundness::NotSound)),
     }
 }

@@ -1,19 +1,24 @@
 //! The scanner, which is fed a text's rows.
 
-ghost use Rattle.std.specs.Prelude.{◌≡◌, ◌<◌, ◌+◌, ◌-◌, ◌^◌, ◌∷◌, [], true, false, IfOk, OnOk, OnErr, IsErr, List, ℕ, length, reverse};
+ghost use Rattle.std.specs.Prelude.{◌≡◌, ◌<◌, ◌+◌, ◌-◌, ◌^◌, ◌∷◌, [], ◌||◌, true, false, if◌then◌else◌, IfOk, OnOk, OnErr, IsErr, List, ℕ, None, is_some, length};
 ghost use Rattle.std.specs.Option.{ForSome};
 ghost use Rattle.std.specs.Str.{chars};
-ghost use Rattle.yl_lexeme.specs.Known.{nothing_known};
-ghost use Rattle.yl_scan.specs.Left.{Fresh, given, left};
-ghost use Rattle.yl_scan.specs.Scanner.{BeginsInText, at_end, is_halted, known_in, told_of};
+ghost use Rattle.yl_lexeme.specs.Known.{new_row, no_surroundings};
+ghost use Rattle.yl_lexeme.specs.Surroundings.{surroundings_value};
+ghost use Rattle.yl_row.specs.Entries.{LineStateValue};
+ghost use Rattle.yl_scan.specs.Output.{Fresh, output_with_step, remaining_output, output_of_entries};
+ghost use Rattle.yl_scan.specs.Restart.{from_state, phase_at};
+ghost use Rattle.yl_scan.specs.Scanner.{BeginsInText, EndsOpen, IsInOrder, IsInStep, at_end, begun_at, is_halted, surroundings_in, phase_value, state_before as standing_before, state_by, step_value};
 
+use crate::before::{state_before, state_for};
 use crate::feeding::{ended_text, fed_row};
-use crate::resting::Resting;
+use crate::phase::{Phase, Reach};
+use crate::state::LineState;
 use crate::step::Step;
 use std::alloc::{AllocError, Allocator};
 use std::marker::Model;
 use std::mem;
-use yl_lexeme::{Kind, Meter, Surroundings};
+use yl_lexeme::{BracketStack, ColumnStack, Kind, Meter, Surroundings};
 use yl_text::{Row, characters_of};
 
 /// A scanner. It is fed a text's rows from the first on, and tells what each row tells.
@@ -23,9 +28,13 @@ pub struct Scanner<'a, A: Allocator + Copy> {
     surroundings: Surroundings<'a, A>,
     /// The characters of the row.
     characters: Vec<char, A>,
-    resting: Resting<A>,
+    resting: Phase<A>,
     /// How many rows were fed.
     line: u32,
+    /// The steps are to hold states.
+    states: bool,
+    /// The state that was made last.
+    latest: Option<LineState<A>>,
     /// A call was refused for memory.
     refused: bool,
 }
@@ -33,28 +42,78 @@ pub struct Scanner<'a, A: Allocator + Copy> {
 impl<'a, A: Allocator + Copy> Model for Scanner<'a, A> {
     ghost use Rattle.std.specs.Prelude.{◌==◌};
     ghost use Rattle.yl_lexeme.specs.Known.{new_row};
-    ghost use Rattle.yl_lexeme.specs.Surroundings.{known};
-    ghost use Rattle.yl_scan.specs.Scanner.{IsInStep, Scanning, stand_of};
+    ghost use Rattle.yl_lexeme.specs.Surroundings.{surroundings_value};
+    ghost use Rattle.yl_scan.specs.Scanner.{IsInStep, ScannerValue, phase_value};
 
-    ghost Value = { Scanning };
+    ghost Value = { ScannerValue };
 
-    ghost view = { λ s. record { line = s.line; stand = stand_of (s.line == 0) (new_row (known s.surroundings)) s.resting; refused = s.refused } };
+    ghost view = { λ s. record { line = s.line; stand = phase_value (s.line == 0) (new_row (surroundings_value s.surroundings)) s.resting; states = s.states; refused = s.refused } };
 
     ghost invariant = { λ s. IsInStep s.line s.resting };
 }
 
 impl<'a, A: Allocator + Copy> Scanner<'a, A> {
-    /// A scanner at a text's start.
-    pub fn start(alloc: &'a A) -> Scanner<'a, A>
-        ensures { result ≡ record { line = 0; stand = Fresh true nothing_known; refused = false } }
+    /// A scanner that stands so, before any row was fed.
+    fn before(
+        alloc: &'a A,
+        surroundings: Surroundings<'a, A>,
+        resting: Phase<A>,
+        states: bool,
+    ) -> Scanner<'a, A>
+        requires { IsInStep 0 resting }
+        ensures { result ≡ record { line = 0; stand = phase_value true (new_row (surroundings_value surroundings.entry)) resting; states = states; refused = false } }
     {
         Scanner {
             alloc: *alloc,
-            surroundings: Surroundings::new(alloc),
+            surroundings,
             characters: Vec::new(*alloc),
-            resting: Resting::Between,
+            resting,
             line: 0,
+            states,
+            latest: None,
             refused: false,
+        }
+    }
+
+    /// A scanner at a text's start, whose steps hold states.
+    pub fn start(alloc: &'a A) -> Scanner<'a, A>
+        ensures { result ≡ record { line = 0; stand = Fresh true no_surroundings; states = true; refused = false } }
+    {
+        let surroundings = Surroundings::new(alloc);
+        Scanner::before(alloc, surroundings, Phase::Between, true)
+    }
+
+    /// A scanner at a text's start, whose steps hold no states, and which makes none.
+    pub fn start_without_states(alloc: &'a A) -> Scanner<'a, A>
+        ensures { result ≡ record { line = 0; stand = Fresh true no_surroundings; states = false; refused = false } }
+    {
+        let surroundings = Surroundings::new(alloc);
+        Scanner::before(alloc, surroundings, Phase::Between, false)
+    }
+
+    /// A scanner before a sound row with this state, whose steps hold states. It counts its rows from that one on. The only error is
+    /// memory.
+    pub fn resume(alloc: &'a A, state: &LineState<A>) -> Result<Scanner<'a, A>, AllocError>
+        ensures at { IfOk result (λ s. s ≡ record { line = 0; stand = phase_at state.now; states = true; refused = false }) }
+        ensures told { IfOk result (λ s. (rows : List (List ℕ)) → remaining_output s.line s.stand rows ≡ output_of_entries 0 (from_state state.now rows)) }
+    {
+        match state.standing() {
+            None => {
+                let resting = Phase::Halted(Reach {
+                    to_end: false,
+                    down: 0,
+                });
+                Ok(Scanner::before(alloc, Surroundings::new(alloc), resting, true))
+            }
+            Some(standing) => {
+                let surroundings = Surroundings::at_row_start(
+                    alloc,
+                    &standing.levels,
+                    &standing.brackets,
+                    standing.last,
+                )?;
+                Ok(Scanner::before(alloc, surroundings, Phase::Between, true))
+            }
         }
     }
 
@@ -62,21 +121,33 @@ impl<'a, A: Allocator + Copy> Scanner<'a, A> {
         requires fits { length (chars text.now) < 2 ^ 31 }
         requires few { self.old.line < 2 ^ 32 - 1 }
         ensures told { IfOk result (λ step. (rows : List (List ℕ)) →
-            left self.old.line self.old.stand (chars text.now ∷ rows)
-            ≡ given self.old.line (told_of self.old.line step) (left self.new.line self.new.stand rows)) }
+            remaining_output self.old.line self.old.stand (chars text.now ∷ rows)
+            ≡ output_with_step self.old.line (step_value self.old.line (standing_before self.old.stand) step) (remaining_output self.new.line self.new.stand rows)) }
+        ensures state { IfOk result (λ step. step.state ≡ (if self.old.states then state_by (standing_before self.old.stand) step.sound else None)) }
         ensures in_text { IfOk result (λ step. BeginsInText self.old.line step) }
+        ensures in_order { IfOk result (λ step. IsInOrder self.old.line (begun_at self.old.stand) (begun_at self.new.stand) step) }
+        ensures halts { IfOk result (λ step. is_halted self.new.stand ≡ (is_halted self.old.stand || is_some step.failed)) }
         ensures line { OnOk result (self.new.line ≡ self.old.line + 1) }
+        ensures states { self.new.states ≡ self.old.states }
         ensures refused { self.new.refused ≡ self.old.refused }
     {
         characters_of(text, &mut self.characters)?;
-        let resting = mem::replace(&mut self.resting, Resting::Between);
-        let (step, resting) = fed_row(
+        let before = state_before(
+            self.states,
+            self.alloc,
+            &mut self.latest,
+            &self.surroundings,
+            &self.resting,
+        )?;
+        let resting = mem::replace(&mut self.resting, Phase::Between);
+        let (mut step, resting) = fed_row(
             self.alloc,
             &mut self.surroundings,
             self.line,
             resting,
             &self.characters,
         )?;
+        step.state = state_for(before, step.sound);
         self.resting = resting;
         self.line += 1;
         Ok(step)
@@ -88,10 +159,14 @@ impl<'a, A: Allocator + Copy> Scanner<'a, A> {
         requires few { self.old.line < 2 ^ 32 - 1 }
         requires meter { meter.old.lines < 2 ^ 32 - 1 }
         ensures told { IfOk result (λ step. (rows : List (List ℕ)) →
-            left self.old.line self.old.stand (chars row.now.text ∷ rows)
-            ≡ given self.old.line (told_of self.old.line step) (left self.new.line self.new.stand rows)) }
+            remaining_output self.old.line self.old.stand (chars row.now.text ∷ rows)
+            ≡ output_with_step self.old.line (step_value self.old.line (standing_before self.old.stand) step) (remaining_output self.new.line self.new.stand rows)) }
+        ensures state { IfOk result (λ step. step.state ≡ (if self.old.states then state_by (standing_before self.old.stand) step.sound else None)) }
         ensures in_text { IfOk result (λ step. BeginsInText self.old.line step) }
+        ensures in_order { IfOk result (λ step. IsInOrder self.old.line (begun_at self.old.stand) (begun_at self.new.stand) step) }
+        ensures halts { IfOk result (λ step. is_halted self.new.stand ≡ (is_halted self.old.stand || is_some step.failed)) }
         ensures line { OnOk result (self.new.line ≡ self.old.line + 1) }
+        ensures states { self.new.states ≡ self.old.states }
         ensures meter { meter.new ≡ record { lines = meter.old.lines + 1; documents = meter.old.documents } }
         ensures goes_on { OnOk result (self.new.refused ≡ false) }
         ensures refused { OnErr result (self.new.refused ≡ true) }
@@ -107,10 +182,14 @@ impl<'a, A: Allocator + Copy> Scanner<'a, A> {
         requires few { self.old.line < 2 ^ 32 - 1 }
         requires meter { meter.old.lines < 2 ^ 32 - 1 }
         ensures told { IfOk result (λ step. (rows : List (List ℕ)) →
-            left self.old.line self.old.stand (chars text.now ∷ rows)
-            ≡ given self.old.line (told_of self.old.line step) (left self.new.line self.new.stand rows)) }
+            remaining_output self.old.line self.old.stand (chars text.now ∷ rows)
+            ≡ output_with_step self.old.line (step_value self.old.line (standing_before self.old.stand) step) (remaining_output self.new.line self.new.stand rows)) }
+        ensures state { IfOk result (λ step. step.state ≡ (if self.old.states then state_by (standing_before self.old.stand) step.sound else None)) }
         ensures in_text { IfOk result (λ step. BeginsInText self.old.line step) }
+        ensures in_order { IfOk result (λ step. IsInOrder self.old.line (begun_at self.old.stand) (begun_at self.new.stand) step) }
+        ensures halts { IfOk result (λ step. is_halted self.new.stand ≡ (is_halted self.old.stand || is_some step.failed)) }
         ensures line { OnOk result (self.new.line ≡ self.old.line + 1) }
+        ensures states { self.new.states ≡ self.old.states }
         ensures meter { meter.new ≡ record { lines = meter.old.lines + 1; documents = meter.old.documents } }
         ensures goes_on { OnOk result (self.new.refused ≡ false) }
         ensures refused { OnErr result (self.new.refused ≡ true) }
@@ -132,41 +211,52 @@ impl<'a, A: Allocator + Copy> Scanner<'a, A> {
         self.line
     }
 
+    /// The row in which the scalar in progress began, counted as `line` counts, if there is one.
+    pub fn begun(&self) -> Option<u32>
+        ensures { result ≡ begun_at self.now.stand }
+    {
+        match &self.resting {
+            Phase::Within(begun, _) => Some(*begun),
+            _ => None,
+        }
+    }
+
     /// Whether a fault has come before.
     pub fn is_stopped(&self) -> bool
         ensures { result ≡ is_halted self.now.stand }
     {
         match self.resting {
-            Resting::Halted(_) => true,
+            Phase::Halted(_) => true,
             _ => false,
         }
     }
 
-    /// One more than the column of each open block collection, counted from 0 in characters, the outermost first.
-    pub fn levels(&self) -> &[u32]
-        ensures { ForSome (known_in self.now.stand) (λ k. reverse result.now ≡ k.levels) }
+    /// One more than the column of each open block collection, counted from 0 in characters, the innermost on top.
+    pub fn levels(&self) -> &ColumnStack<'a, A>
+        ensures { ForSome (surroundings_in self.now.stand) (λ k. result.now ≡ k.levels) }
     {
-        self.surroundings.levels.as_slice()
+        &self.surroundings.levels
     }
 
-    /// The open brackets, the outermost first.
-    pub fn brackets(&self) -> &[Kind]
-        ensures { ForSome (known_in self.now.stand) (λ k. reverse result.now ≡ k.brackets) }
+    /// The open brackets, the innermost on top.
+    pub fn brackets(&self) -> &BracketStack<'a, A>
+        ensures { ForSome (surroundings_in self.now.stand) (λ k. result.now ≡ k.brackets) }
     {
-        self.surroundings.brackets.as_slice()
+        &self.surroundings.brackets
     }
 
     /// The kind of the last lexeme.
     pub fn last(&self) -> Option<Kind>
-        ensures { ForSome (known_in self.now.stand) (λ k. result ≡ k.last) }
+        ensures { ForSome (surroundings_in self.now.stand) (λ k. result ≡ k.last) }
     {
         self.surroundings.last
     }
 
     /// What the text's end tells. The only error is memory, also where a call before was refused it.
     pub fn finish(self) -> Result<Step<A>, AllocError>
-        ensures told { IfOk result (λ step. left self.entry.line self.entry.stand [] ≡ at_end (told_of self.entry.line step)) }
+        ensures told { IfOk result (λ step. (s : LineStateValue) → remaining_output self.entry.line self.entry.stand [] ≡ at_end (step_value self.entry.line s step)) }
         ensures in_text { IfOk result (λ step. BeginsInText self.entry.line step) }
+        ensures in_order { IfOk result (λ step. EndsOpen self.entry.line (begun_at self.entry.stand) step) }
         ensures stays { self.entry.refused ≡ true → IsErr result }
     {
         if self.refused {

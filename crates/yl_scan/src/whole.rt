@@ -3,99 +3,99 @@
 ghost use Rattle.std.specs.Prelude.{◌≡◌, ◌<◌, ◌+◌, ◌-◌, ◌^◌, ◌++◌, [], IfOk, OnOk, ℕ, Option, None, All, length, map, option_map, option_to_list};
 ghost use Rattle.std.specs.Option.{ForSome};
 ghost use Rattle.std.specs.Str.{chars};
-ghost use Rattle.yl_row.specs.Entries.{entries};
-ghost use Rattle.yl_scan.specs.Left.{at_line, first_fault, given, nothing, told};
-ghost use Rattle.yl_scan.specs.Scanner.{BeginsInText, IsAbove, IsNotBelow, at_end, characters_of, ended_at, failed_at, told_of};
-ghost use Rattle.yl_scan.specs.Whole.{comments_in, fault_of, joined, lexeme_in, out_of};
+ghost use Rattle.yl_row.specs.Entries.{LineStateValue, entries};
+ghost use Rattle.yl_scan.specs.Output.{at_line, first_fault, output_with_step, no_output, output_of_entries};
+ghost use Rattle.yl_scan.specs.Scanner.{BeginsInText, IsAbove, IsNotBelow, at_end, characters_of, lexeme_above_at, fault_above_at, step_value};
+ghost use Rattle.yl_scan.specs.Whole.{comments_in, fault_of, text_value_of_output, scanned_text_value, text_value_then, lexeme_in};
 
 use crate::scanner::Scanner;
-use crate::step::{Ended, Failed, Step};
+use crate::step::{FaultAbove, LexemeAbove, Step};
 use std::alloc::{AllocError, Allocator};
 use yl_lexeme::{Comment, Lexeme, Meter};
-use yl_row::Faulted;
+use yl_row::PlacedScanFault;
 use yl_text::Row;
 
 /// A lexeme, and the line in which it begins, counted from 0.
 #[derive(Drop)]
-pub struct LexemeAt<A: Allocator> {
+pub struct LineLexeme<A: Allocator> {
     pub line: u32,
     pub lexeme: Lexeme<A>,
 }
 
 /// A comment, and its line, counted from 0.
 #[derive(Drop)]
-pub struct CommentAt<A: Allocator> {
+pub struct LineComment<A: Allocator> {
     pub line: u32,
     pub comment: Comment<A>,
 }
 
 /// A fault, and the line in which its lexeme begins, counted from 0.
 #[derive(Clone, Copy, Debug, PartialEq, Eq)]
-pub struct FaultAt {
+pub struct LineFault {
     pub line: u32,
-    pub fault: Faulted,
+    pub fault: PlacedScanFault,
 }
 
 /// What a text holds: its lexemes and comments in order, whether each line is sound, and the scan fault if there is one.
 #[derive(Drop)]
-pub struct Scanned<A: Allocator> {
-    pub lexemes: Vec<LexemeAt<A>, A>,
-    pub comments: Vec<CommentAt<A>, A>,
+pub struct ScannedText<A: Allocator> {
+    pub lexemes: Vec<LineLexeme<A>, A>,
+    pub comments: Vec<LineComment<A>, A>,
     pub sound: Vec<bool, A>,
-    pub fault: Option<FaultAt>,
+    pub fault: Option<LineFault>,
 }
 
 /// Adds a lexeme that began so many rows before this line, if there is one.
 fn add_ended<A: Allocator>(
-    all: &mut Vec<LexemeAt<A>, A>,
+    all: &mut Vec<LineLexeme<A>, A>,
     line: u32,
-    ended: Option<Ended<A>>,
+    ended: Option<LexemeAbove<A>>,
 ) -> Result<(), AllocError>
     requires { ForSome ended (IsAbove line) }
-    ensures { OnOk result (map lexeme_in all.new.items ≡ map lexeme_in all.old.items ++ option_to_list (option_map (ended_at line) ended)) }
+    ensures { OnOk result (map lexeme_in all.new.items ≡ map lexeme_in all.old.items ++ option_to_list (option_map (lexeme_above_at line) ended)) }
 {
-    if let Some(Ended { ago, lexeme }) = ended {
+    if let Some(LexemeAbove { ago, lexeme }) = ended {
         let line = line - ago;
-        all.push(LexemeAt { line, lexeme })?;
+        all.push(LineLexeme { line, lexeme })?;
     }
     Ok(())
 }
 
 /// Adds the lexemes of a line.
 fn add_lexemes<A: Allocator>(
-    all: &mut Vec<LexemeAt<A>, A>,
+    all: &mut Vec<LineLexeme<A>, A>,
     line: u32,
     lexemes: Vec<Lexeme<A>, A>,
 ) -> Result<(), AllocError>
     ensures { OnOk result (map lexeme_in all.new.items ≡ map lexeme_in all.old.items ++ map (at_line line) lexemes.items) }
 {
     for lexeme in lexemes {
-        all.push(LexemeAt { line, lexeme })?;
+        all.push(LineLexeme { line, lexeme })?;
     }
     Ok(())
 }
 
 /// Adds the comment of a line, if there is one.
 fn add_comment<A: Allocator>(
-    all: &mut Vec<CommentAt<A>, A>,
+    all: &mut Vec<LineComment<A>, A>,
     line: u32,
     comment: Option<Comment<A>>,
 ) -> Result<(), AllocError>
     ensures { OnOk result (comments_in all.new.items ≡ comments_in all.old.items ++ option_to_list (option_map (at_line line) comment)) }
 {
     if let Some(comment) = comment {
-        all.push(CommentAt { line, comment })?;
+        all.push(LineComment { line, comment })?;
     }
     Ok(())
 }
 
 /// The first of two faults; the second began so many rows before this line.
-fn first_of(fault: Option<FaultAt>, line: u32, failed: Option<Failed>) -> Option<FaultAt>
+fn first_of(fault: Option<LineFault>, line: u32, failed: Option<FaultAbove>) -> Option<LineFault>
     requires { ForSome failed (IsNotBelow line) }
-    ensures { fault_of result ≡ first_fault (fault_of fault) (option_map (failed_at line) failed) }
+    ensures { fault_of result ≡ first_fault (fault_of fault) (option_map (fault_above_at line) failed) }
 {
     match (fault, failed) {
-        (None, Some(failed)) => Some(FaultAt {
+        (None, Some(failed)) => Some(LineFault {
             line: line - failed.ago,
             fault: failed.fault,
         }),
@@ -103,12 +103,12 @@ fn first_of(fault: Option<FaultAt>, line: u32, failed: Option<Failed>) -> Option
     }
 }
 
-impl<A: Allocator + Copy> Scanned<A> {
+impl<A: Allocator + Copy> ScannedText<A> {
     /// What a text of no rows holds.
-    fn empty(alloc: A) -> Scanned<A>
-        ensures { out_of result ≡ nothing }
+    fn empty(alloc: A) -> ScannedText<A>
+        ensures { scanned_text_value result ≡ text_value_of_output no_output }
     {
-        Scanned {
+        ScannedText {
             lexemes: Vec::new(alloc),
             comments: Vec::new(alloc),
             sound: Vec::new(alloc),
@@ -119,14 +119,15 @@ impl<A: Allocator + Copy> Scanned<A> {
     /// Adds what the row at this line told.
     fn add_row(&mut self, line: u32, step: Step<A>) -> Result<(), AllocError>
         requires { BeginsInText line step }
-        ensures { OnOk result (out_of self.new ≡ joined (out_of self.old) (given line (told_of line step) nothing)) }
+        ensures { OnOk result ((s : LineStateValue) → scanned_text_value self.new ≡ text_value_then (scanned_text_value self.old) (output_with_step line (step_value line s step) no_output)) }
     {
+        let is_sound = step.is_sound();
         let Step {
             ended,
             lexemes,
             comment,
-            is_sound,
             failed,
+            ..
         } = step;
         add_ended(&mut self.lexemes, line, ended)?;
         add_lexemes(&mut self.lexemes, line, lexemes)?;
@@ -139,7 +140,7 @@ impl<A: Allocator + Copy> Scanned<A> {
     /// Adds what the text's end told behind so many rows.
     fn add_end(&mut self, line: u32, step: Step<A>) -> Result<(), AllocError>
         requires { BeginsInText line step }
-        ensures { OnOk result (out_of self.new ≡ joined (out_of self.old) (at_end (told_of line step))) }
+        ensures { OnOk result ((s : LineStateValue) → scanned_text_value self.new ≡ text_value_then (scanned_text_value self.old) (at_end (step_value line s step))) }
     {
         add_ended(&mut self.lexemes, line, step.ended)?;
         self.fault = first_of(self.fault, line, step.failed);
@@ -152,15 +153,15 @@ pub fn scan<A: Allocator + Copy>(
     alloc: A,
     rows: &[Row<A>],
     meter: &mut Meter,
-) -> Result<Scanned<A>, AllocError>
+) -> Result<ScannedText<A>, AllocError>
     requires few { length rows.now < 2 ^ 32 - 1 }
     requires fits { All (λ row. length (chars row.text) < 2 ^ 31) rows.now }
     requires meter { meter.old.lines + length rows.now < 2 ^ 32 }
-    ensures told { IfOk result (λ scanned. out_of scanned ≡ told 0 (entries (characters_of rows.now))) }
+    ensures told { IfOk result (λ scanned. scanned_text_value scanned ≡ text_value_of_output (output_of_entries 0 (entries (characters_of rows.now)))) }
     ensures meter { OnOk result (meter.new ≡ record { lines = meter.old.lines + length rows.now; documents = meter.old.documents }) }
 {
-    let mut scanner = Scanner::start(&alloc);
-    let mut scanned = Scanned::empty(alloc);
+    let mut scanner = Scanner::start_without_states(&alloc);
+    let mut scanned = ScannedText::empty(alloc);
     for row in rows {
         let line = scanner.line();
         let step = scanner.feed(row, meter)?;

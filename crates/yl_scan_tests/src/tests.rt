@@ -9,7 +9,7 @@ ghost use Rattle.std.specs.Str.{chars};
 
 use std::alloc::{AllocError, Allocator, Global};
 use yl_lexeme::{Lexeme, Meter};
-use yl_scan::{FaultAt, Scanned, Scanner, Step, scan};
+use yl_scan::{LineFault, ScannedText, Scanner, Step, scan};
 use yl_text::{Row, TextFault, characters, split};
 
 /// More rows, and more characters of a row, than a test has.
@@ -42,7 +42,7 @@ fn scan_rows<A: Allocator + Copy>(
     alloc: A,
     rows: &[Row<A>],
     meter: &mut Meter,
-) -> Result<Scanned<A>, AllocError> {
+) -> Result<ScannedText<A>, AllocError> {
     if meter.lines != 0 || rows.len() > MANY || !are_short(global, rows)? {
         return Err(AllocError);
     }
@@ -50,14 +50,14 @@ fn scan_rows<A: Allocator + Copy>(
 }
 
 /// What a text holds.
-fn scanned(alloc: Global, text: &str) -> Result<Scanned<Global>, TextFault> {
+fn scanned(alloc: Global, text: &str) -> Result<ScannedText<Global>, TextFault> {
     let rows = split(alloc, text.as_bytes())?;
     let mut meter = Meter::new();
     scan_rows(alloc, alloc, &rows, &mut meter).map_err(|_| TextFault::Memory)
 }
 
 /// The scan fault of a text.
-fn fault_of(alloc: Global, text: &str) -> Result<Option<FaultAt>, TextFault> {
+fn fault_of(alloc: Global, text: &str) -> Result<Option<LineFault>, TextFault> {
     Ok(scanned(alloc, text)?.fault)
 }
 
@@ -93,7 +93,7 @@ fn show_lexeme<A: Allocator>(
 /// The lexemes of a text, a line each, and then its comments.
 fn shown<A: Allocator + Copy>(
     alloc: Global,
-    scanned: &Scanned<A>,
+    scanned: &ScannedText<A>,
 ) -> Result<String<Global>, AllocError> {
     let mut text = String::new(alloc);
     for at in &scanned.lexemes {

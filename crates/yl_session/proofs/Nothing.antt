@@ -6,12 +6,12 @@ use Rattle.std.proofs.lemmas.Str.{IsUtf8-nil}
 use Rattle.std.specs.List.{slice_get}
 use Rattle.yl_text.specs.declared.row.Break.TheVariants.{Lf, Cr}
 use Rattle.yl_text.specs.declared.TheConstants.{MAX_BYTES}
-use Rattle.yl_text.specs.Lines.{Piece, piece_bytes, text_of, AreWhole, IsLines}
+use Rattle.yl_text.specs.Lines.{RowValue, row_bytes, text_of, AreWhole, IsLines}
 use Rattle.yl_text.specs.Store.{AreLines}
 use Rattle.yl_text.specs.declared.fault.TextFault.{TextFault}
 use Rattle.yl_text.specs.declared.fault.TextFault.TheVariants.{NotUtf8, Range, OpenEnd, JoinedBreak, TooLarge, Memory}
 use Rattle.yl_session.specs.Runs.{IsNothing}
-use Rattle.yl_text.specs.Edit.{CanEdit, IsEditFault, Joins, front_of, back_of, edited, last_byte}
+use Rattle.yl_text.specs.Edit.{CanEdit, IsEditFault, Joins, front_of, back_of, edited_text, last_byte}
 use Rattle.yl_text.proofs.Seams.{back_starts, front_ends}
 
 -- there is an element at a place within
@@ -21,18 +21,18 @@ at (x ∷ xs) zero l = (x, refl)
 at (x ∷ xs) (suc i) l = at xs i (omega (arith, l))
 
 -- no CR LF is cut at any place
-uncut : (ps : List Piece) (i : ℕ) (p q : Piece) → AreWhole ps → slice_get ps i ≡ Some p → slice_get ps (suc i) ≡ Some q → p.end ≡ Cr → (q.text ≡ []) × (q.end ≡ Lf) → ⊥
+uncut : (ps : List RowValue) (i : ℕ) (p q : RowValue) → AreWhole ps → slice_get ps i ≡ Some p → slice_get ps (suc i) ≡ Some q → p.end ≡ Cr → (q.text ≡ []) × (q.end ≡ Lf) → ⊥
 uncut [] i p q w e f c s = cc
 uncut (x ∷ []) zero p q w e f c s = cc
 uncut (x ∷ []) (suc i) p q w e f c s = cc
 uncut (x ∷ y ∷ ps) zero p q w e f c s =
     let is_p : x ≡ p = cc in
     let is_q : y ≡ q = cc in
-    w.0 (ap (λ (z : Piece). z.end) is_p ∙ c) (ap (λ (z : Piece). z.text) is_q ∙ s.0, ap (λ (z : Piece). z.end) is_q ∙ s.1)
+    w.0 (ap (λ (z : RowValue). z.end) is_p ∙ c) (ap (λ (z : RowValue). z.text) is_q ∙ s.0, ap (λ (z : RowValue). z.end) is_q ∙ s.1)
 uncut (x ∷ y ∷ ps) (suc i) p q w e f c s = uncut (y ∷ ps) i p q w.1 e f c s
 
 -- the parts of a text do not join where it is cut between lines
-apart : (ps : List Piece) (a : ℕ) → AreLines ps → a < length ps → Joins (front_of ps a) (back_of ps a) → ⊥
+apart : (ps : List RowValue) (a : ℕ) → AreLines ps → a < length ps → Joins (front_of ps a) (back_of ps a) → ⊥
 apart ps zero h l j = absurd (omega (arith, j.0))
 apart ps (suc a) h l j =
     let p = at ps a (omega (arith, l)) in
@@ -42,10 +42,10 @@ apart ps (suc a) h l j =
     uncut ps a p.0 q.0 h.lines.whole p.1 q.1 ends ((back_starts ps (suc a) q.0 h q.1).0 j.1)
 
 -- the text is its two parts
-pub edited-nothing : (ps : List Piece) (a : ℕ) → edited ps a a [] ≡ text_of ps
-edited-nothing ps a = sym (flat_map-append piece_bytes (take a ps) (drop a ps)) ∙ ap (λ (l : List Piece). text_of l) (take-append-drop a ps)
+pub edited-nothing : (ps : List RowValue) (a : ℕ) → edited_text ps a a [] ≡ text_of ps
+edited-nothing ps a = sym (flat_map-append row_bytes (take a ps) (drop a ps)) ∙ ap (λ (l : List RowValue). text_of l) (take-append-drop a ps)
 
-pub CanEdit-nothing : (ps : List Piece) (a : ℕ) → AreLines ps → a < length ps → CanEdit ps a a []
+pub CanEdit-nothing : (ps : List RowValue) (a : ℕ) → AreLines ps → a < length ps → CanEdit ps a a []
 CanEdit-nothing ps a h l =
     let S : List ℕ → Type 0 = λ t. length t ≤ MAX_BYTES in
     record {
@@ -60,15 +60,15 @@ CanEdit-nothing ps a h l =
     }
 
 -- the lines are those of the text after it
-pub IsLines-nothing : (ps : List Piece) (a b : ℕ) (t : List ℕ) → AreLines ps → IsNothing a b t → IsLines (edited ps a b t) ps
+pub IsLines-nothing : (ps : List RowValue) (a b : ℕ) (t : List ℕ) → AreLines ps → IsNothing a b t → IsLines (edited_text ps a b t) ps
 IsLines-nothing ps a b t h n =
     let P : List ℕ → Type 0 = λ u. IsLines u ps in
-    let Q : ℕ → Type 0 = λ k. IsLines (edited ps a k t) ps in
-    let R : List ℕ → Type 0 = λ u. IsLines (edited ps a a u) ps in
+    let Q : ℕ → Type 0 = λ k. IsLines (edited_text ps a k t) ps in
+    let R : List ℕ → Type 0 = λ u. IsLines (edited_text ps a a u) ps in
     subst Q n.0 (subst R (sym n.1) (subst P (sym (edited-nothing ps a)) h.lines))
 
 -- none of the faults stands
-pub IsEditFault-nothing : (ps : List Piece) (a b : ℕ) (t : List ℕ) (f : TextFault) → AreLines ps → a < length ps → IsNothing a b t → IsEditFault ps a b t f → ⊥
+pub IsEditFault-nothing : (ps : List RowValue) (a b : ℕ) (t : List ℕ) (f : TextFault) → AreLines ps → a < length ps → IsNothing a b t → IsEditFault ps a b t f → ⊥
 IsEditFault-nothing ps a b t f h l n e =
     let P : ℕ → Type 0 = λ k. IsEditFault ps a k t f in
     let Q : List ℕ → Type 0 = λ u. IsEditFault ps a a u f in

@@ -17,9 +17,9 @@ pub struct Edit<A: Allocator> {
 }
 
 impl<A: Allocator> Model for Edit<A> {
-    ghost use Rattle.yl_session.specs.Runs.{Replacement};
+    ghost use Rattle.yl_session.specs.Runs.{EditValue};
 
-    ghost Value = { Replacement };
+    ghost Value = { EditValue };
 
     ghost view = { λ e. record { a = e.a; b = e.b; bytes = e.bytes.items } };
 }

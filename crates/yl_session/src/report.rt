@@ -8,14 +8,14 @@ use std::alloc::{AllocError, Allocator};
 use yl_config::Config;
 use yl_report::{Problem, Silences, arrange};
 use yl_rules::{RowOptions, push_line_problems, push_row_problems};
-use yl_text::{Break, Found, Lines, cut_line};
+use yl_text::{Break, Finding, Lines, cut_line};
 
 /// What the rules that look at one line find in the rows.
 fn find_in_rows<L: Lines>(
     alloc: L::Alloc,
     options: &RowOptions,
     lines: &L,
-) -> Result<Vec<Found<L::Alloc>, L::Alloc>, AllocError>
+) -> Result<Vec<Finding<L::Alloc>, L::Alloc>, AllocError>
     ensures { IfOk result (λ found. found.items ≡ findings_from options.now 1 (L.rows lines.now)) }
 {
     let mut found = Vec::new(alloc);
@@ -30,7 +30,7 @@ fn find_in_text<A: Allocator + Copy>(
     alloc: A,
     options: &RowOptions,
     text: &str,
-) -> Result<Vec<Found<A>, A>, AllocError>
+) -> Result<Vec<Finding<A>, A>, AllocError>
     ensures { IfOk result (λ found. found.items ≡ findings_from options.now 1 (lines_of text.now)) }
 {
     let mut found = Vec::new(alloc);

@@ -1,10 +1,10 @@
 //! A text that is kept open, with its report.
 ghost use Rattle.std.specs.Prelude.{◌≡◌, ◌<◌, ◌≤◌, ◌^◌, ◌↔◌, IsTrue, length, slice_get, Some, Ok, MatchResult, IfOk, OnOk, OnErr};
 ghost use Rattle.std.specs.List.{splice};
-ghost use Rattle.yl_text.specs.Lines.{Piece};
+ghost use Rattle.yl_text.specs.Lines.{RowValue};
 ghost use Rattle.yl_text.specs.Fault.{IsText, IsFaultOf};
 ghost use Rattle.yl_text.specs.Store.{AreLines, IsRange};
-ghost use Rattle.yl_text.specs.Edit.{CanEdit, edited, incoming_lines};
+ghost use Rattle.yl_text.specs.Edit.{CanEdit, edited_text, incoming_lines};
 ghost use Rattle.yl_session.specs.State.{OneState};
 ghost use Rattle.yl_session.specs.Runs.{IsNothing};
 
@@ -34,11 +34,11 @@ pub struct Session<S: LineStore> {
 
 impl<S: LineStore> Model for Session<S> {
     ghost use Rattle.std.specs.Prelude.{◌≡◌};
-    ghost use Rattle.yl_session.specs.State.{State};
+    ghost use Rattle.yl_session.specs.State.{SessionValue};
     ghost use Rattle.yl_session.specs.TextReport.{report};
     ghost use Rattle.yl_text.specs.Store.{AreLines};
 
-    ghost Value = { State };
+    ghost Value = { SessionValue };
 
     ghost view = { λ s. record { config = s.config; rows = S.rows s.store; problems = s.problems.items } };
 
@@ -82,7 +82,7 @@ impl<S: LineStore> Session<S> {
     /// A line without its break, counted from 0.
     pub fn line(&self, i: usize) -> &str
         requires { i < length self.now.rows }
-        ensures { (p : Piece) → slice_get self.now.rows i ≡ Some p → result.now ≡ p.text }
+        ensures { (p : RowValue) → slice_get self.now.rows i ≡ Some p → result.now ≡ p.text }
     {
         self.store.row(i).as_str()
     }
@@ -128,7 +128,7 @@ impl<S: LineStore> Session<S> {
     /// Puts the bytes in place of the lines a to b, where that is no fault.
     fn put(&mut self, a: usize, b: usize, bytes: &[u8]) -> Result<(), AllocError>
         requires { CanEdit self.old.rows a b bytes.now }
-        ensures ok { OnOk result (Shows self.old.config (edited self.old.rows a b bytes.now) self.new) }
+        ensures ok { OnOk result (Shows self.old.config (edited_text self.old.rows a b bytes.now) self.new) }
         ensures err { OnErr result (self.new ≡ self.old) }
     {
         let before = b < self.store.len();
@@ -142,7 +142,7 @@ impl<S: LineStore> Session<S> {
     /// nothing changes. An edit of no line by no bytes takes no memory.
     pub fn edit(&mut self, a: u64, b: u64, bytes: &[u8]) -> Result<Work, TextFault>
         ensures answer { IsAnswer self.old.rows a b bytes.now result }
-        ensures done { OnOk result (Shows self.old.config (edited self.old.rows a b bytes.now) self.new) }
+        ensures done { OnOk result (Shows self.old.config (edited_text self.old.rows a b bytes.now) self.new) }
         ensures refused { OnErr result (self.new ≡ self.old) }
         ensures nothing { a < length self.old.rows → IsNothing a b bytes.now → (result ≡ Ok no_work) × (self.new ≡ self.old) }
     {
@@ -173,8 +173,9 @@ impl<S: LineStore> Session<S> {
     }
 }
 
-/// A law: what a session shows follows from its configuration and its text alone. So after any edits it is
-/// what a session shows that is opened over the text that they left.
+/// A law: what a session shows follows from its configuration and its text alone, whichever store it has: a
+/// clause sees no store. So after any edits it is what a session shows that is opened over the text that they
+/// left, and sessions over two stores show the same of one text.
 pub fn one_state()
     ensures { OneState }
 {}

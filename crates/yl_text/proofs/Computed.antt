@@ -6,13 +6,13 @@ use Rattle.std.proofs.lemmas.List.Elements.{All-head, All-tail, All-cons, All-ni
 use Rattle.std.specs.Prelude.{All}
 use Rattle.yl_text.specs.declared.row.Break.{Break}
 use Rattle.yl_text.specs.declared.row.Break.TheVariants.{No, Lf, CrLf, Cr}
-use Rattle.yl_text.specs.Lines.{Piece, break_bytes, text_of, HasNoBreak, AreEnded, StartsWithLf, AreWhole, IsLines, cr_before, byte_before, lines_from, lines_of, OneList}
+use Rattle.yl_text.specs.Lines.{RowValue, break_bytes, text_of, HasNoBreak, AreEnded, StartsWithLf, AreWhole, IsLines, cr_before, byte_before, lines_from, lines_of, OneList}
 
-abbrev pub line : List ℕ → Break → Piece
+abbrev pub line : List ℕ → Break → RowValue
 line xs e = record { text = xs; end = e }
 
 -- one byte that is no break
-byte_before-plain : (b : ℕ) (p : Piece) (ps : List Piece) → b ≢ 10 → b ≢ 13 → byte_before b p ps ≡ (line (b ∷ p.text) p.end, ps)
+byte_before-plain : (b : ℕ) (p : RowValue) (ps : List RowValue) → b ≢ 10 → b ≢ 13 → byte_before b p ps ≡ (line (b ∷ p.text) p.end, ps)
 byte_before-plain b p ps h k = rw (cond-false _ _ _ (ne_eqb b 10 h), cond-false _ _ _ (ne_eqb b 13 k))
 
 -- a text with no break before more text
@@ -25,14 +25,14 @@ lines_from-text (x ∷ xs) t h =
     rw (lines_from-text xs t (All-tail P x xs h)) (byte_before-plain x _ _ here.0 here.1)
 
 -- CR before lines that do not begin with LF
-cr_kept : (xs : List ℕ) (e : Break) (p : Piece) (ps : List Piece) → ((xs ≡ []) × (e ≡ Lf) → ⊥) → cr_before xs e p ps ≡ (line [] Cr, p ∷ ps)
+cr_kept : (xs : List ℕ) (e : Break) (p : RowValue) (ps : List RowValue) → ((xs ≡ []) × (e ≡ Lf) → ⊥) → cr_before xs e p ps ≡ (line [] Cr, p ∷ ps)
 cr_kept [] No p ps h = refl
 cr_kept [] Lf p ps h = absurd (h (refl, refl))
 cr_kept [] CrLf p ps h = refl
 cr_kept [] Cr p ps h = refl
 cr_kept (x ∷ xs) e p ps h = refl
 
-cr_not_lf : (xs : List ℕ) (e : Break) (p : Piece) (ps : List Piece) → (cr_before xs e p ps).0.end ≢ Lf
+cr_not_lf : (xs : List ℕ) (e : Break) (p : RowValue) (ps : List RowValue) → (cr_before xs e p ps).0.end ≢ Lf
 cr_not_lf [] No p ps = λ h. cc
 cr_not_lf [] Lf p ps = λ h. cc
 cr_not_lf [] CrLf p ps = λ h. cc
@@ -86,19 +86,19 @@ unfolding lines_from
 lines_of-last xs h = let e = lines_from-text xs [] h in subst (λ (ys : List ℕ). lines_of ys ≡ line xs No ∷ []) (append-nil xs) (rw (e, append-nil xs))
 
 -- pieces that are lines are those that are computed
-computed : (ps : List Piece) → AreEnded ps → All (λ p. HasNoBreak p.text) ps → AreWhole ps → lines_of (text_of ps) ≡ ps
+computed : (ps : List RowValue) → AreEnded ps → All (λ p. HasNoBreak p.text) ps → AreWhole ps → lines_of (text_of ps) ≡ ps
 computed [] e n w = absurd e
 computed (p ∷ []) e n w =
-    let P : Piece → Type 0 = λ p. HasNoBreak p.text in
+    let P : RowValue → Type 0 = λ p. HasNoBreak p.text in
     rw (e, append-nil p.text, append-nil p.text, lines_of-last p.text (All-head P p [] n), ← e)
 computed (p ∷ q ∷ ps) e n w =
-    let P : Piece → Type 0 = λ p. HasNoBreak p.text in
+    let P : RowValue → Type 0 = λ p. HasNoBreak p.text in
     let rest = computed (q ∷ ps) e.1 (All-tail P p (q ∷ ps) n) w.1 in
-    let S : List Piece → Type 0 = λ l. StartsWithLf l in
+    let S : List RowValue → Type 0 = λ l. StartsWithLf l in
     let step = lines_of-step p.text p.end (text_of (q ∷ ps)) (All-head P p (q ∷ ps) n) e.0 (λ c x. w.0 c (subst S rest (lf_starts (text_of (q ∷ ps)) x))) in
     rw (append_assoc p.text (break_bytes p.end) (text_of (q ∷ ps)), step, rest)
 
-pub lines_of-is : (t : List ℕ) (ps : List Piece) → IsLines t ps → lines_of t ≡ ps
+pub lines_of-is : (t : List ℕ) (ps : List RowValue) → IsLines t ps → lines_of t ≡ ps
 lines_of-is t ps h = subst (λ (u : List ℕ). lines_of u ≡ ps) h.joined (computed ps h.ended h.unbroken h.whole)
 
 -- a text has at most one list of lines
@@ -106,9 +106,9 @@ pub one_list : OneList
 one_list t ps qs h k = sym (lines_of-is t ps h) ∙ lines_of-is t qs k
 
 -- CR before lines that do not begin with LF, once more: these are lines
-cr_kept-lines : (xs : List ℕ) (e : Break) (ps : List Piece) (t : List ℕ) → ((xs ≡ []) × (e ≡ Lf) → ⊥) → IsLines t (line xs e ∷ ps) → IsLines (13 ∷ t) (line [] Cr ∷ line xs e ∷ ps)
+cr_kept-lines : (xs : List ℕ) (e : Break) (ps : List RowValue) (t : List ℕ) → ((xs ≡ []) × (e ≡ Lf) → ⊥) → IsLines t (line xs e ∷ ps) → IsLines (13 ∷ t) (line [] Cr ∷ line xs e ∷ ps)
 cr_kept-lines xs e ps t n h =
-    let P : Piece → Type 0 = λ p. HasNoBreak p.text in
+    let P : RowValue → Type 0 = λ p. HasNoBreak p.text in
     record {
       joined = ap (λ (u : List ℕ). 13 ∷ u) h.joined;
       ended = (λ c. cc, h.ended);
@@ -116,10 +116,10 @@ cr_kept-lines xs e ps t n h =
       whole = (λ c s. n s, h.whole);
     }
 
-cr_lines : (xs : List ℕ) (e : Break) (ps : List Piece) (t : List ℕ) → IsLines t (line xs e ∷ ps) → let r = cr_before xs e (line xs e) ps in IsLines (13 ∷ t) (r.0 ∷ r.1)
+cr_lines : (xs : List ℕ) (e : Break) (ps : List RowValue) (t : List ℕ) → IsLines t (line xs e ∷ ps) → let r = cr_before xs e (line xs e) ps in IsLines (13 ∷ t) (r.0 ∷ r.1)
 cr_lines [] Lf [] t h = let e : Lf ≡ No = h.ended in cc
 cr_lines [] Lf (q ∷ ps) t h =
-    let P : Piece → Type 0 = λ p. HasNoBreak p.text in
+    let P : RowValue → Type 0 = λ p. HasNoBreak p.text in
     record {
       joined = ap (λ (u : List ℕ). 13 ∷ u) h.joined;
       ended = (λ c. cc, h.ended.1);
@@ -131,9 +131,9 @@ cr_lines [] CrLf ps t h = cr_kept-lines [] CrLf ps t (λ s. let e : CrLf ≡ Lf 
 cr_lines [] Cr ps t h = cr_kept-lines [] Cr ps t (λ s. let e : Cr ≡ Lf = s.1 in cc) h
 cr_lines (x ∷ xs) e ps t h = cr_kept-lines (x ∷ xs) e ps t (λ s. let e : x ∷ xs ≡ [] = s.0 in cc) h
 
-lf_lines : (p : Piece) (ps : List Piece) (t : List ℕ) → IsLines t (p ∷ ps) → IsLines (10 ∷ t) (line [] Lf ∷ p ∷ ps)
+lf_lines : (p : RowValue) (ps : List RowValue) (t : List ℕ) → IsLines t (p ∷ ps) → IsLines (10 ∷ t) (line [] Lf ∷ p ∷ ps)
 lf_lines p ps t h =
-    let P : Piece → Type 0 = λ p. HasNoBreak p.text in
+    let P : RowValue → Type 0 = λ p. HasNoBreak p.text in
     record {
       joined = ap (λ (u : List ℕ). 10 ∷ u) h.joined;
       ended = (λ c. cc, h.ended);
@@ -141,13 +141,13 @@ lf_lines p ps t h =
       whole = (λ c. cc, h.whole);
     }
 
-ended_same : (p q : Piece) (ps : List Piece) → q.end ≡ p.end → AreEnded (p ∷ ps) → AreEnded (q ∷ ps)
+ended_same : (p q : RowValue) (ps : List RowValue) → q.end ≡ p.end → AreEnded (p ∷ ps) → AreEnded (q ∷ ps)
 ended_same p q [] e h = e ∙ h
 ended_same p q (r ∷ ps) e h = (λ c. h.0 (sym e ∙ c), h.1)
 
-plain_lines : (b : ℕ) (p : Piece) (ps : List Piece) (t : List ℕ) → b ≢ 10 → b ≢ 13 → IsLines t (p ∷ ps) → IsLines (b ∷ t) (line (b ∷ p.text) p.end ∷ ps)
+plain_lines : (b : ℕ) (p : RowValue) (ps : List RowValue) (t : List ℕ) → b ≢ 10 → b ≢ 13 → IsLines t (p ∷ ps) → IsLines (b ∷ t) (line (b ∷ p.text) p.end ∷ ps)
 plain_lines b p ps t n m h =
-    let P : Piece → Type 0 = λ p. HasNoBreak p.text in
+    let P : RowValue → Type 0 = λ p. HasNoBreak p.text in
     let Q : ℕ → Type 0 = λ b. (b ≢ 10) × (b ≢ 13) in
     record {
       joined = ap (λ (u : List ℕ). b ∷ u) h.joined;
@@ -160,7 +160,7 @@ plain_lines b p ps t n m h =
 pub lines_of-IsLines : (t : List ℕ) → IsLines t (lines_of t)
 unfolding lines_from
 lines_of-IsLines [] =
-    record { joined = refl; ended = refl; unbroken = All-cons (λ (p : Piece). HasNoBreak p.text) (line [] No) [] (All-nil (λ b. (b ≢ 10) × (b ≢ 13))) (All-nil (λ (p : Piece). HasNoBreak p.text)); whole = (λ c. cc, tt) }
+    record { joined = refl; ended = refl; unbroken = All-cons (λ (p : RowValue). HasNoBreak p.text) (line [] No) [] (All-nil (λ b. (b ≢ 10) × (b ≢ 13))) (All-nil (λ (p : RowValue). HasNoBreak p.text)); whole = (λ c. cc, tt) }
 lines_of-IsLines (b ∷ t) =
     let r = lines_from t in
     let h = lines_of-IsLines t in
@@ -173,5 +173,5 @@ lines_of-IsLines (b ∷ t) =
           ]
     ]
 
-pub IsLines-same : (t : List ℕ) (ps : List Piece) → ps ≡ lines_of t → IsLines t ps
-IsLines-same t ps e = subst (λ (qs : List Piece). IsLines t qs) (sym e) (lines_of-IsLines t)
+pub IsLines-same : (t : List ℕ) (ps : List RowValue) → ps ≡ lines_of t → IsLines t ps
+IsLines-same t ps e = subst (λ (qs : List RowValue). IsLines t qs) (sym e) (lines_of-IsLines t)

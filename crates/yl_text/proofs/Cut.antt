@@ -10,7 +10,7 @@ use Rattle.std.specs.List.{slice_get}
 use Rattle.std.specs.Str.{IsUtf8, IsCharBoundary}
 use Rattle.yl_text.specs.declared.row.Break.{Break}
 use Rattle.yl_text.specs.declared.row.Break.TheVariants.{No, Lf, CrLf, Cr}
-use Rattle.yl_text.specs.Lines.{Piece, break_bytes, HasNoBreak, lines_of}
+use Rattle.yl_text.specs.Lines.{RowValue, break_bytes, HasNoBreak, lines_of}
 use Rattle.yl_text.specs.Split.{BreakAt, lines_behind}
 use Rattle.yl_text.proofs.Computed.{line, lines_of-step, lines_of-last}
 
@@ -99,14 +99,14 @@ behind_break Cr rest more = refl
 pub behind_none : (e : Break) (rest : List ℕ) → e ≡ No → lines_behind e rest ≡ []
 behind_none e rest last = ap (λ (b : Break). lines_behind b rest) last
 
-same_line : (row : Piece) (xs : List ℕ) (e : Break) → row.text ≡ xs → row.end ≡ e → row ≡ line xs e
+same_line : (row : RowValue) (xs : List ℕ) (e : Break) → row.text ≡ xs → row.end ≡ e → row ≡ line xs e
 same_line row xs e a b = let P : List ℕ → Type 0 = λ ys. line row.text row.end ≡ line ys e in subst P a (ap (λ (f : Break). line row.text f) b)
 
 -- a loop's step: a row is pushed that is the first line of what is left
-pub goes_on : {T E : Type 0} (r : Result T E) (x : T) (rows new : List Piece) (row : Piece) (xs : List ℕ) (e : Break) (t all : List ℕ) (others : List Piece)
+pub goes_on : {T E : Type 0} (r : Result T E) (x : T) (rows new : List RowValue) (row : RowValue) (xs : List ℕ) (e : Break) (t all : List ℕ) (others : List RowValue)
     → new ≡ cond (is_ok r) (rows ++ row ∷ []) rows → r ≡ Ok x → row.text ≡ xs → row.end ≡ e → lines_of t ≡ line xs e ∷ others → rows ++ lines_of t ≡ lines_of all → new ++ others ≡ lines_of all
 goes_on r x rows new row xs e t all others p ok a b first same =
     let now : new ≡ rows ++ row ∷ [] = pushed (row ∷ []) refl ok p in
     let is = same_line row xs e a b in
-    let whole : rows ++ (line xs e ∷ others) ≡ lines_of all = ap (λ (l : List Piece). rows ++ l) (sym first) ∙ same in
+    let whole : rows ++ (line xs e ∷ others) ≡ lines_of all = ap (λ (l : List RowValue). rows ++ l) (sym first) ∙ same in
     rw (now, is, append_assoc rows (line xs e ∷ []) others) whole

@@ -4,7 +4,7 @@ use Rattle.std.proofs.lemmas.List.{take_all}
 use Rattle.std.proofs.lemmas.Str.{utf8_valid_len-IsValidUpTo}
 use Rattle.std.specs.Str.{IsUtf8, IsValidUpTo}
 use Rattle.yl_text.specs.declared.fault.TextFault.TheVariants.{NotUtf8, Range, OpenEnd, JoinedBreak, TooLarge, Memory}
-use Rattle.yl_text.specs.Edit.{EditHasOneFault, EditHasFaultOrNone}
+use Rattle.yl_text.specs.Edit.{EditHasOneFault, EditHasNoFaultBeside}
 
 not_utf8 : (t : List ℕ) (n : ℕ) → IsValidUpTo t n → ¬ (IsUtf8 t)
 not_utf8 t n v u = v.longest (length t) v.short (subst IsUtf8 (sym (take_all (length t) t (omega arith))) u)
@@ -47,10 +47,10 @@ one_fault ps a b t Memory JoinedBreak h k = absurd h
 one_fault ps a b t Memory TooLarge h k = absurd h
 one_fault ps a b t Memory Memory h k = absurd h
 
-pub fault_or_none : EditHasFaultOrNone
-fault_or_none ps a b t (NotUtf8 n) can h = not_utf8 t n h can.utf8
-fault_or_none ps a b t Range can h = h.1 can.range
-fault_or_none ps a b t OpenEnd can h = can.closed h.2
-fault_or_none ps a b t JoinedBreak can h = can.apart h.3
-fault_or_none ps a b t TooLarge can h = let short = can.short in let long = h.4 in omega arith
-fault_or_none ps a b t Memory can h = h
+pub no_fault_beside : EditHasNoFaultBeside
+no_fault_beside ps a b t (NotUtf8 n) can h = not_utf8 t n h can.utf8
+no_fault_beside ps a b t Range can h = h.1 can.range
+no_fault_beside ps a b t OpenEnd can h = can.closed h.2
+no_fault_beside ps a b t JoinedBreak can h = can.apart h.3
+no_fault_beside ps a b t TooLarge can h = let short = can.short in let long = h.4 in omega arith
+no_fault_beside ps a b t Memory can h = h

@@ -1,9 +1,9 @@
--- What a rule finds in a text. Lines and columns count from 1, columns in characters.
+-- Meaning: what a rule finds in a text. Lines and columns count from 1, columns in characters.
 use Rattle.std.specs.Prelude.{ℕ, List, [], ◌∷◌, ◌++◌, codes}
-use Rattle.yl_text.specs.declared.found.RuleId.{RuleId}
-use Rattle.yl_text.specs.declared.found.RuleId.TheVariants.{Anchors, Braces, Brackets, Colons, Commas, Comments, DocumentStart, EmptyLines, Hyphens, Indentation, KeyDuplicates, KeyOrdering, LineLength, NewLineAtEndOfFile, NewLines, QuotedStrings, Syntax, TrailingSpaces, Truthy}
+use Rattle.yl_text.specs.declared.finding.RuleId.{RuleId}
+use Rattle.yl_text.specs.declared.finding.RuleId.TheVariants.{Anchors, Braces, Brackets, Colons, Commas, Comments, DocumentStart, EmptyLines, Hyphens, Indentation, KeyDuplicates, KeyOrdering, LineLength, NewLineAtEndOfFile, NewLines, QuotedStrings, Syntax, TrailingSpaces, Truthy}
 
-pub record Finding : Type 0 where
+pub record FindingValue : Type 0 where
   pub line : ℕ
   pub column : ℕ
   pub rule : RuleId
@@ -33,8 +33,8 @@ rule_name TrailingSpaces = codes "trailing-spaces"
 rule_name Truthy = codes "truthy"
 
 -- one problem, at a line and a column
-abbrev pub found : RuleId → ℕ → ℕ → List ℕ → List Finding
-found rule line column message = record { line = line; column = column; rule = rule; message = message } ∷ []
+abbrev pub one_finding : RuleId → ℕ → ℕ → List ℕ → List FindingValue
+one_finding rule line column message = record { line = line; column = column; rule = rule; message = message } ∷ []
 
 -- what is found at each element of a list: by those before it, with the latest first, by itself, and by those behind it
 abbrev pub at_each : {X Y : Type 0} → (List X → X → List X → List Y) → List X → List X → List Y

@@ -1,7 +1,10 @@
+pub mod Bounds
+pub mod Char
 pub mod Character
 pub mod Edit
 pub mod Fault
 pub mod Finding
+pub mod Message
 pub mod Lines
 pub mod Special
 pub mod Split

@@ -1,5 +1,6 @@
--- Printable ASCII: the part of c-printable (YAML 1.2.2, 5.1, [1]) that is one byte in UTF-8, without tab and breaks.
-use Rattle.std.specs.Prelude.{ℕ, Bool, ◌&&◌, nat_le, List}
+-- Meaning: printable ASCII: the part of c-printable (YAML 1.2.2, 5.1, [1]) that is one byte in
+-- UTF-8, without tab and breaks.
+use Rattle.std.specs.Prelude.{ℕ, Bool, not, ◌&&◌, nat_le, List}
 use Rattle.std.specs.List.{prefix_len}
 
 abbrev pub is_printable_ascii : ℕ → Bool
@@ -8,3 +9,7 @@ is_printable_ascii b = nat_le 0x20 b && nat_le b 0x7E
 -- the place of the first other byte, else the length
 abbrev pub special_place : List ℕ → ℕ
 special_place = prefix_len is_printable_ascii
+
+-- any other byte
+abbrev pub is_special : ℕ → Bool
+is_special b = not (is_printable_ascii b)

@@ -1,10 +1,10 @@
--- Lists of lines, and ranges of them, counted from 0.
+-- Meaning: lists of lines, and ranges of them, counted from 0.
 use Rattle.std.specs.Prelude.{ℕ, ◌≤◌, List, length}
-use Rattle.yl_text.specs.Lines.{Piece, text_of, IsLines}
+use Rattle.yl_text.specs.Lines.{RowValue, text_of, IsLines}
 use Rattle.yl_text.specs.declared.TheConstants.{MAX_BYTES}
 
 -- the rows are the lines of their text, which is short enough
-pub record AreLines (ps : List Piece) : Type 0 where
+pub record AreLines (ps : List RowValue) : Type 0 where
   pub lines : IsLines (text_of ps) ps
   pub short : length (text_of ps) ≤ MAX_BYTES
 

@@ -1,5 +1,5 @@
--- What a clause reads of a watched device, and how it counts failures: by answers alone, so that a fault of the device is
--- told only where the device failed.
+-- Meaning: what a clause reads of a watched device, and how it counts failures: by answers alone,
+-- so that a fault of the device is told only where the device failed.
 use Rattle.std.specs.Prelude.{◌≡◌, ℕ, ◌+◌, ◌&&◌, not, ◌==◌, if◌then◌else◌, List, length, Result, MatchResult}
 use Rattle.yl_text.specs.declared.device.Watched.{Watched}
 

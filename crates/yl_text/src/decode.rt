@@ -1,8 +1,8 @@
 //! The characters of a line.
-ghost use Rattle.std.specs.Prelude.{◌≡◌, [], IfOk, OnOk, OnErr, length};
-ghost use Rattle.std.specs.Str.{chars};
+ghost use Rattle.std.specs.Prelude.{◌≡◌, [], IfOk, OnOk, OnErr, length, IsTrue};
+ghost use Rattle.std.specs.Str.{IsAscii, chars};
 
-use crate::Row;
+use crate::{Row, first_special};
 use std::alloc::{AllocError, Allocator};
 
 /// Decodes the characters (code points) of a line, without its break, into the buffer in place of
@@ -24,7 +24,7 @@ pub fn characters_of<B: Allocator>(text: &str, buffer: &mut Vec<char, B>) -> Res
     ensures ok { OnOk result (buffer.new.items ≡ chars text.now) }
     ensures err { OnErr result (buffer.new.items ≡ []) }
 {
-    if text.is_ascii() {
+    if is_ascii(text) {
         return widened(text.as_bytes(), buffer);
     }
     buffer.clear();
@@ -33,6 +33,13 @@ pub fn characters_of<B: Allocator>(text: &str, buffer: &mut Vec<char, B>) -> Res
         buffer.push_reserved(c);
     }
     Ok(())
+}
+
+/// Whether all characters are ASCII. Most lines are printable ASCII, which is seen at once.
+fn is_ascii(text: &str) -> bool
+    ensures { IsTrue result → IsAscii text.now }
+{
+    first_special(text.as_bytes()) == text.len() || text.is_ascii()
 }
 
 /// The bytes, each taken for a character, in place of what the buffer holds.

@@ -50,7 +50,7 @@ pub fn back_starts_with_lf<S: Lines>(lines: &S, b: usize) -> bool
         }
 }
 
-/// How many bytes the lines a to b have.
+/// How many bytes the lines a to b have, b not included, counted from 0, breaks counted.
 pub fn bytes_between<S: Lines>(lines: &S, a: usize, b: usize) -> u64
     requires range { IsRange a b (length (S.rows lines.now)) }
     requires lines { AreLines (S.rows lines.now) }

@@ -1,14 +1,15 @@
 //! Text as lines: rows, stores of rows, edits of them, and devices that count their failures.
 #![tactic(auto)]
 
-ghost use Rattle.yl_text.specs.Edit.{EditIsSplice, EditHasOneFault, EditHasFaultOrNone};
+ghost use Rattle.yl_text.specs.Edit.{EditIsSplice, EditHasOneFault, EditHasNoFaultBeside, EditHasFaultOrNone};
 ghost use Rattle.yl_text.specs.Lines.{OneList, IsLinesOf};
 
+mod bounds;
 mod decode;
 mod device;
 mod edit;
 mod fault;
-mod found;
+mod finding;
 mod patched;
 mod plain_store;
 mod position;
@@ -17,12 +18,14 @@ mod special;
 mod splitting;
 mod store;
 
+pub use bounds::{lines_are_few_and_short, rows_fit};
 pub use decode::{characters, characters_of};
 pub use device::Watched;
+pub use edit::bytes_between;
 pub use fault::TextFault;
-pub use found::{Found, RuleId};
+pub use finding::{Finding, RuleId};
 pub use patched::Patched;
-pub use plain_store::PlainStore;
+pub use plain_store::{PlainStore, bytes_of, put_between};
 pub use position::Pos;
 pub use row::{Break, Row};
 pub use special::first_special;
@@ -38,9 +41,10 @@ pub fn one_list_of_lines()
     ensures exists { IsLinesOf }
 {}
 
-/// Laws of edits: made row by row, an edit is that of the text; and it has one fault, or none.
+/// Laws of edits: made row by row, an edit is that of the text; and it has one fault, or none, and never both.
 pub fn one_answer_to_an_edit()
     ensures splice { EditIsSplice }
     ensures one_fault { EditHasOneFault }
+    ensures not_both { EditHasNoFaultBeside }
     ensures fault_or_none { EditHasFaultOrNone }
 {}

@@ -18,10 +18,10 @@ pub struct Patched<'a, S: Lines> {
 impl<'a, S: Lines> Model for Patched<'a, S> {
     ghost use Rattle.std.specs.Prelude.{List, length, ◌+◌, ◌<◌, ◌^◌};
     ghost use Rattle.std.specs.List.{splice};
-    ghost use Rattle.yl_text.specs.Lines.{Piece};
+    ghost use Rattle.yl_text.specs.Lines.{RowValue};
     ghost use Rattle.yl_text.specs.Store.{IsRange};
 
-    ghost Value = { List Piece };
+    ghost Value = { List RowValue };
 
     ghost view = { λ p. splice (S.rows p.lines.now) p.a p.b p.rows.now };
 

@@ -18,18 +18,18 @@ pub struct PlainStore<A: Allocator> {
 
 impl<A: Allocator> Model for PlainStore<A> {
     ghost use Rattle.std.specs.Prelude.{List};
-    ghost use Rattle.yl_text.specs.Lines.{Piece};
+    ghost use Rattle.yl_text.specs.Lines.{RowValue};
     ghost use Rattle.yl_text.specs.Store.{AreLines};
 
-    ghost Value = { List Piece };
+    ghost Value = { List RowValue };
 
     ghost view = { λ s. s.rows.items };
 
     ghost invariant = { λ s. AreLines s.rows.items };
 }
 
-/// How many bytes the rows have.
-fn bytes_of<A: Allocator>(rows: &[Row<A>]) -> u64
+/// How many bytes the rows have, breaks counted.
+pub fn bytes_of<A: Allocator>(rows: &[Row<A>]) -> u64
     requires { length (text_of rows.now) < 2 ^ 64 }
     ensures { result ≡ length (text_of rows.now) }
 {
@@ -58,8 +58,9 @@ fn remove_between<T: Drop, A: Allocator>(items: &mut Vec<T, A>, a: usize, b: usi
     drop(items.drain(a..b));
 }
 
-/// Puts the new items in place of the items a to b, where there is room for both.
-fn put_between<T: Drop, A: Allocator>(
+/// Puts the new items, which it takes out of their `Vec`, in place of the items a to b, b not included,
+/// counted from 0. There is room for the old and the new ones, so it takes no memory.
+pub fn put_between<T: Drop, A: Allocator>(
     items: &mut Vec<T, A>,
     a: usize,
     b: usize,

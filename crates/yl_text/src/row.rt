@@ -32,7 +32,7 @@ impl Break {
     }
 }
 
-/// A line: its text in UTF-8, and the break behind it. In contracts it is a `Piece`, the text's bytes
+/// A line: its text in UTF-8, and the break behind it. In contracts it is a `RowValue`, the text's bytes
 /// and the break.
 #[derive(Drop)]
 pub struct Row<A: Allocator> {
@@ -42,15 +42,15 @@ pub struct Row<A: Allocator> {
 
 impl<A: Allocator> Model for Row<A> {
     ghost use Rattle.std.specs.Prelude.{string_bytes};
-    ghost use Rattle.yl_text.specs.Lines.{Piece};
+    ghost use Rattle.yl_text.specs.Lines.{RowValue};
 
-    ghost Value = { Piece };
+    ghost Value = { RowValue };
 
     ghost view = { λ r. record { text = string_bytes r.text; end = r.end } };
 }
 
 impl<A: Allocator> Row<A> {
-    ghost use Rattle.yl_text.specs.Lines.{Piece};
+    ghost use Rattle.yl_text.specs.Lines.{RowValue};
 
     /// A line with a copy of this text. It fails for want of memory alone.
     pub fn new(alloc: A, text: &str, end: Break) -> Result<Row<A>, AllocError>

@@ -8,6 +8,7 @@ ghost use Rattle.yl_text.specs.declared.row.Break.TheVariants.{No};
 use crate::MAX_BYTES;
 use crate::fault::TextFault;
 use crate::row::{Break, Row};
+use crate::special::first_special;
 use memchr::memchr2;
 use std::alloc::{AllocError, Allocator};
 
@@ -25,6 +26,20 @@ fn first_break(bytes: &[u8]) -> usize
     ensures before { HasNoBreak (take result bytes.now) }
     ensures at { result < length bytes.now → (slice_index bytes.now result ≡ 10) ⊎ (slice_index bytes.now result ≡ 13) }
 {
+    let special = first_special(bytes);
+    special + found_break(&bytes[special..])
+}
+
+/// The same, where the first byte is likely to be it, and others that are not printable ASCII are
+/// likely to stand before it.
+fn found_break(bytes: &[u8]) -> usize
+    ensures within { result ≤ length bytes.now }
+    ensures before { HasNoBreak (take result bytes.now) }
+    ensures at { result < length bytes.now → (slice_index bytes.now result ≡ 10) ⊎ (slice_index bytes.now result ≡ 13) }
+{
+    if matches!(bytes.first(), Some(b'\n' | b'\r')) {
+        return 0;
+    }
     memchr2(b'\n', b'\r', bytes).unwrap_or(bytes.len())
 }
 

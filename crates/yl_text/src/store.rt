@@ -1,7 +1,7 @@
 //! Lists of rows, and stores of them.
 ghost use Rattle.std.specs.Prelude.{◌≡◌, ◌+◌, ◌-◌, ◌<◌, ◌≤◌, List, [], length, slice_get, Some, OnOk, OnErr, IfOk, MatchResult};
 ghost use Rattle.std.specs.List.{splice};
-ghost use Rattle.yl_text.specs.Lines.{Piece, text_of};
+ghost use Rattle.yl_text.specs.Lines.{RowValue, text_of};
 ghost use Rattle.yl_text.specs.Store.{AreLines, IsRange};
 ghost use Rattle.yl_text.specs.Edit.{CanEdit, IsEditFault};
 
@@ -13,7 +13,7 @@ use std::alloc::{AllocError, Allocator};
 pub trait Lines {
     type Alloc: Allocator + Copy;
 
-    ghost rows: { Self → List Piece };
+    ghost rows: { Self → List RowValue };
 
     /// How many rows there are.
     fn len(&self) -> usize

@@ -2,22 +2,10 @@
 #![tactic(auto)]
 
 use std::process::ExitCode;
-use std::{env, fs};
-use yl_cli::{
-    AskedDump, Fault, Program, RunFault, Stop, View, asked_dump, read_text, say, text_of,
-};
+use yl_cli::{AskedDump, Program, ProgramFault, RunFault, View, asked_dump, read_text, text_of};
 use yl_dump::{DumpFault, write_events, write_lexemes, write_lines};
+use yl_programs::{bytes_of, ended, stopped, words};
 use yl_text::Watched;
-
-/// The exit status where a fault ended the program.
-const FAULT: u8 = 255;
-
-// Says a fault on standard error.
-fn stopped(rt: &HostRuntime, fault: &Fault<'_>) -> u8 {
-    let mut out = Watched::new(rt.stderr());
-    let _ = say(Program::Yldump, fault, &mut out);
-    FAULT
-}
 
 // The name under which a fault of the file is told.
 fn shown_name(file: &str) -> &str {
@@ -25,19 +13,16 @@ fn shown_name(file: &str) -> &str {
 }
 
 // The bytes of a file, or of standard input at `-`.
-fn bytes_of(rt: &HostRuntime, file: &str) -> Result<Vec<u8>, RunFault> {
+fn bytes_given(rt: &HostRuntime, file: &str) -> Result<Vec<u8>, RunFault> {
     if file == "-" {
         return read_text(rt.alloc(), &mut Watched::new(rt.stdin()));
     }
-    match fs::open(rt, file) {
-        Ok(opened) => read_text(rt.alloc(), &mut Watched::new(opened)),
-        Err(_) => Err(RunFault::Read),
-    }
+    bytes_of(rt, file)
 }
 
 // Shows what is asked for.
 fn shown(rt: &HostRuntime, asked: &AskedDump) -> Result<(), RunFault> {
-    let bytes = bytes_of(rt, asked.file.as_str())?;
+    let bytes = bytes_given(rt, asked.file.as_str())?;
     let text = match text_of(bytes.as_slice()) {
         Ok(text) => text,
         Err(fault) => return Err(RunFault::Text(fault)),
@@ -55,27 +40,20 @@ fn shown(rt: &HostRuntime, asked: &AskedDump) -> Result<(), RunFault> {
 }
 
 fn answered(rt: &HostRuntime) -> u8 {
-    let words: Vec<String> = match env::args(rt) {
-        Ok(words) => match words.skip(1).collect(rt.alloc()) {
-            Ok(words) => words,
-            Err(_) => return stopped(rt, &Fault::Memory),
-        },
-        Err(_) => return stopped(rt, &Fault::Use),
+    let words = match words(rt) {
+        Ok(words) => words,
+        Err(fault) => return stopped(rt, Program::Yldump, &fault),
     };
     let asked = match asked_dump(rt.alloc(), words.as_slice()) {
         Ok(asked) => asked,
-        Err(Stop::Help(text)) => {
-            return match rt.print(text) {
-                Ok(()) => 0,
-                Err(_) => stopped(rt, &Fault::Run("help", RunFault::Write)),
-            };
-        }
-        Err(Stop::Use) => return stopped(rt, &Fault::Use),
-        Err(Stop::Memory) => return stopped(rt, &Fault::Memory),
+        Err(stop) => return ended(rt, Program::Yldump, stop),
     };
     match shown(rt, &asked) {
         Ok(()) => 0,
-        Err(fault) => stopped(rt, &Fault::Run(shown_name(asked.file.as_str()), fault)),
+        Err(fault) => {
+            let fault = ProgramFault::Run(shown_name(asked.file.as_str()), fault);
+            stopped(rt, Program::Yldump, &fault)
+        }
     }
 }
 

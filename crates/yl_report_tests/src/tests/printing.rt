@@ -4,7 +4,7 @@ use std::alloc::Global;
 use std::test::Fail;
 use yl_report::{Problem, WriteFault, status, write_parts, write_report};
 use yl_rules::Level;
-use yl_text::{Found, RuleId, Watched};
+use yl_text::{Finding, RuleId, Watched};
 
 fn make_problem(
     alloc: Global,
@@ -15,7 +15,7 @@ fn make_problem(
     message: &str,
 ) -> Result<Problem<Global>, Fail> {
     let message = String::from_str(alloc, message)?;
-    Ok(Problem::new(Found::new(line, column, rule, message), level))
+    Ok(Problem::new(Finding::new(line, column, rule, message), level))
 }
 
 fn make_report(alloc: Global) -> Result<Vec<Problem<Global>>, Fail> {

@@ -2,22 +2,25 @@
 use refusing::Refusing;
 use std::alloc::Global;
 use std::test::Fail;
-use yl_report::{CommentAt, Silences, arrange};
-use yl_rules::Levels;
-use yl_text::{Found, RuleId};
+use yl_lexeme::PlacedComment;
+use yl_report::{Silences, arrange};
+use yl_rules::RuleLevels;
+use yl_text::{Finding, RuleId};
 
 type Heap<'a> = &'a Refusing<Global>;
 
-const COMMENTS: [CommentAt<'static>; 2] = [
-    CommentAt {
+const COMMENTS: [PlacedComment<'static>; 2] = [
+    PlacedComment {
         line: 1,
         text: "# yamllint disable",
-        is_behind: false,
+        col: 0,
+        behind: None,
     },
-    CommentAt {
+    PlacedComment {
         line: 3,
         text: "# yamllint disable-line rule:colons",
-        is_behind: true,
+        col: 8,
+        behind: Some(6),
     },
 ];
 
@@ -56,10 +59,10 @@ fn each_growth_of_arranging_is_refused(rt: HostRuntime) -> Result<(), Fail> {
     for n in 1..u64::MAX {
         let mut found = Vec::new(&heap);
         for line in [3, 1, 2] {
-            found.push(Found::new(line, 1, RuleId::Colons, String::from_str(&heap, "x")?))?;
+            found.push(Finding::new(line, 1, RuleId::Colons, String::from_str(&heap, "x")?))?;
         }
         heap.refuse(n);
-        let answer = arrange(&heap, found, &Levels::standard(), &silences);
+        let answer = arrange(&heap, found, &RuleLevels::standard(), &silences);
         if heap.is_armed() {
             heap.refuse(0);
             assert_eq!(rt; answer?.len(), 3);

@@ -1,9 +1,10 @@
 //! What comments silence, and the order of what is left.
 use std::alloc::Global;
 use std::test::Fail;
-use yl_report::{CommentAt, Problem, Silences, arrange};
-use yl_rules::{Level, Levels};
-use yl_text::{Found, RuleId};
+use yl_lexeme::PlacedComment;
+use yl_report::{Problem, Silences, arrange};
+use yl_rules::{Level, RuleLevels};
+use yl_text::{Finding, RuleId};
 
 fn make_found(
     alloc: Global,
@@ -11,15 +12,15 @@ fn make_found(
     column: u64,
     rule: RuleId,
     message: &str,
-) -> Result<Found<Global>, Fail> {
-    Ok(Found::new(line, column, rule, String::from_str(alloc, message)?))
+) -> Result<Finding<Global>, Fail> {
+    Ok(Finding::new(line, column, rule, String::from_str(alloc, message)?))
 }
 
 // Where the report of trailing spaces in the lines given has them, under the comments.
 fn reported_lines(
     alloc: Global,
     first_row: &str,
-    comments: &[CommentAt<'_>],
+    comments: &[PlacedComment<'_>],
     rule: RuleId,
     lines: &[u64],
 ) -> Result<Vec<u64>, Fail> {
@@ -28,7 +29,7 @@ fn reported_lines(
         found.push(make_found(alloc, *line, 5, rule, "x")?)?;
     }
     let silences = Silences::read(alloc, first_row, comments)?;
-    let problems = arrange(alloc, found, &Levels::standard(), &silences)?;
+    let problems = arrange(alloc, found, &RuleLevels::standard(), &silences)?;
     let mut left = Vec::new(alloc);
     for problem in problems.as_slice() {
         left.push(problem.line())?;
@@ -37,11 +38,12 @@ fn reported_lines(
 }
 
 // A comment that begins its line.
-fn alone(line: u32, text: &str) -> CommentAt<'_> {
-    CommentAt {
+fn alone(line: u32, text: &str) -> PlacedComment<'_> {
+    PlacedComment {
         line,
         text,
-        is_behind: false,
+        col: 0,
+        behind: None,
     }
 }
 
@@ -51,10 +53,11 @@ fn a_line_is_silenced(rt: HostRuntime) -> Result<(), Fail> {
     let comments = [alone(1, "# yamllint disable-line")];
     let left = reported_lines(alloc, "---", &comments, RuleId::TrailingSpaces, &[3, 4])?;
     assert_eq!(rt; left.as_slice(), [4u64].as_slice());
-    let behind = [CommentAt {
+    let behind = [PlacedComment {
         line: 2,
         text: "# yamllint disable-line rule:colons rule:trailing-spaces",
-        is_behind: true,
+        col: 8,
+        behind: Some(6),
     }];
     let left = reported_lines(alloc, "---", &behind, RuleId::TrailingSpaces, &[3, 4])?;
     assert_eq!(rt; left.as_slice(), [4u64].as_slice());
@@ -153,7 +156,12 @@ fn a_report_is_in_order(rt: HostRuntime) -> Result<(), Fail> {
         make_found(alloc, 2, 9, RuleId::Syntax, "b")?,
         make_found(alloc, 2, 9, RuleId::Syntax, "a")?,
     ]?;
-    let problems = arrange(alloc, found, &Levels::standard(), &Silences::none(alloc))?;
+    let problems = arrange(
+        alloc,
+        found,
+        &RuleLevels::standard(),
+        &Silences::none(alloc),
+    )?;
     let mut seen = Vec::new(alloc);
     for problem in problems.as_slice() {
         assert!(rt; problem.level() == Level::Error);

@@ -1,12 +1,13 @@
 use super::shown;
 use std::alloc::{AllocError, Global};
 use std::test::Fail;
-use yl_rules::{CommentAt, CommentsOptions, comment_problems};
+use yl_lexeme::PlacedComment;
+use yl_rules::{CommentsOptions, comment_problems};
 
 // What the rule finds in one comment.
 fn found_in(
     alloc: Global,
-    comment: CommentAt<'_>,
+    comment: PlacedComment<'_>,
     options: &CommentsOptions,
 ) -> Result<String, AllocError> {
     let found = comment_problems(alloc, &[comment], options)?;
@@ -85,7 +86,7 @@ fn comments_with_the_usual_options(rt: HostRuntime) -> Result<(), Fail> {
             "1:2 comments missing starting space in comment\n",
         ),
     ] {
-        let comment = CommentAt {
+        let comment = PlacedComment {
             line,
             col,
             text,
@@ -99,7 +100,7 @@ fn comments_with_the_usual_options(rt: HostRuntime) -> Result<(), Fail> {
 
 #[test]
 fn comments_with_other_options(rt: HostRuntime) -> Result<(), Fail> {
-    let comment = CommentAt {
+    let comment = PlacedComment {
         line: 0,
         col: 0,
         text: "#!x",

@@ -1,12 +1,13 @@
 use super::{opened, shown};
 use refusing::Refusing;
-use std::alloc::Global;
+use std::alloc::{AllocError, Allocator, Global};
 use std::test::Fail;
+use yl_lexeme::PlacedComment;
 use yl_rules::{
-    CommentAt, CommentsOptions, RowOptions, RunOptions, comment_problems, push_row_problems,
-    row_problems, run_problems,
+    CommentsOptions, RowOptions, RunOptions, comment_problems, push_row_problems, row_problems,
+    run_problems,
 };
-use yl_text::{Break, Found, Row};
+use yl_text::{Break, Finding, Row};
 
 type Heap<'a> = &'a Refusing<Global>;
 
@@ -37,33 +38,58 @@ fn each_growth_of_a_row(rt: HostRuntime) -> Result<(), Fail> {
     Ok(())
 }
 
+// Three pushes of the problems of a row, of which the second has its nth growth refused.
+#[derive(Drop)]
+struct ThreePushes {
+    is_met: bool,
+    is_ok: bool,
+    then: String,
+    later: String,
+}
+
+fn pushes<A: Allocator + Copy>(
+    global: Global,
+    alloc: A,
+    refusing: &Refusing<Global>,
+    n: u64,
+) -> Result<ThreePushes, AllocError> {
+    let options = RowOptions::standard();
+    let row = Row::new(alloc, "a ", Break::Lf)?;
+    let mut found = Vec::with_capacity(alloc, 1)?;
+    push_row_problems(alloc, 1, &row, &options, &mut found)?;
+    refusing.refuse(n);
+    let is_ok = push_row_problems(alloc, 2, &row, &options, &mut found).is_ok();
+    let is_met = !refusing.is_armed();
+    refusing.refuse(0);
+    let then = shown(global, found.as_slice())?;
+    push_row_problems(alloc, 3, &row, &options, &mut found)?;
+    let later = shown(global, found.as_slice())?;
+    Ok(ThreePushes {
+        is_met,
+        is_ok,
+        then,
+        later,
+    })
+}
+
+const FIRST: &str = "1:2 trailing-spaces trailing spaces\n";
+
+const FIRST_AND_THIRD: &str =
+    "1:2 trailing-spaces trailing spaces\n3:2 trailing-spaces trailing spaces\n";
+
 // A refusal leaves what was there.
 #[test]
 fn each_growth_of_a_push(rt: HostRuntime) -> Result<(), Fail> {
-    let heap = Refusing::new(rt.alloc());
-    let options = RowOptions::standard();
-    let row: Row<Heap<'_>> = Row::new(&heap, "a ", Break::Lf)?;
+    let refusing = Refusing::new(rt.alloc());
     for n in 1..u64::MAX {
-        let mut found: Vec<Found<Heap<'_>>, Heap<'_>> = Vec::with_capacity(&heap, 1)?;
-        push_row_problems(&heap, 1, &row, &options, &mut found)?;
-        heap.refuse(n);
-        let answer = push_row_problems(&heap, 2, &row, &options, &mut found);
-        if heap.is_armed() {
-            heap.refuse(0);
-            assert!(rt; answer.is_ok());
-            assert_eq!(rt; found.len(), 2);
+        let pushes = pushes(rt.alloc(), &refusing, &refusing, n)?;
+        assert!(rt; pushes.is_ok != pushes.is_met, "the {n}th growth");
+        if pushes.is_ok {
+            assert!(rt; n > 1);
             return Ok(());
         }
-        assert!(rt; answer.is_err(), "the {n}th growth");
-        assert_eq!(rt;
-            shown(rt.alloc(), found.as_slice())?.as_str(),
-            "1:2 trailing-spaces trailing spaces\n"
-        );
-        assert!(rt; push_row_problems(&heap, 2, &row, &options, &mut found).is_ok());
-        assert_eq!(rt;
-            shown(rt.alloc(), found.as_slice())?.as_str(),
-            "1:2 trailing-spaces trailing spaces\n2:2 trailing-spaces trailing spaces\n"
-        );
+        assert_eq!(rt; pushes.then.as_str(), FIRST);
+        assert_eq!(rt; pushes.later.as_str(), FIRST_AND_THIRD);
     }
     Ok(())
 }
@@ -95,19 +121,19 @@ fn each_growth_of_a_text(rt: HostRuntime) -> Result<(), Fail> {
 fn each_growth_of_comments(rt: HostRuntime) -> Result<(), Fail> {
     let heap = Refusing::new(rt.alloc());
     let options = CommentsOptions::standard();
-    let first = CommentAt {
+    let first = PlacedComment {
         line: 0,
         col: 1,
         text: "#x",
         behind: Some(0),
     };
-    let second = CommentAt { line: 3, ..first };
+    let second = PlacedComment { line: 3, ..first };
     for n in 1..u64::MAX {
         heap.refuse(n);
         let answer = comment_problems(&heap, &[first, second], &options);
         if heap.is_armed() {
             heap.refuse(0);
-            assert!(rt; n > 4, "{n} growths");
+            assert!(rt; n > 1, "{n} growths");
             let found = answer?;
             assert_eq!(rt;
                 shown(rt.alloc(), found.as_slice())?.as_str(),

@@ -2,13 +2,13 @@
 use super::{fault_of, scanned, shown};
 use std::alloc::{AllocError, Global};
 use std::test::Fail;
-use yl_scan::{FaultAt, Faulted, ScanFault};
+use yl_scan::{LineFault, PlacedScanFault, ScanFault};
 
 /// A fault so many lines below the line where its lexeme begins.
-fn at(fault: ScanFault, line: u32, down: usize, column: usize) -> Option<FaultAt> {
-    Some(FaultAt {
+fn at(fault: ScanFault, line: u32, down: usize, column: usize) -> Option<LineFault> {
+    Some(LineFault {
         line,
-        fault: Faulted {
+        fault: PlacedScanFault {
             fault,
             down,
             column,

@@ -4,7 +4,7 @@ use refusing::Refusing;
 use std::alloc::{AllocError, Global};
 use std::test::Fail;
 use yl_lexeme::Meter;
-use yl_scan::{Scanned, Scanner};
+use yl_scan::{ScannedText, Scanner};
 use yl_text::{Row, split};
 
 type Heap<'a> = &'a Refusing<Global>;
@@ -25,7 +25,7 @@ fn whole<'a>(
     global: Global,
     heap: Heap<'a>,
     rows: &[Row<Heap<'a>>],
-) -> Result<(u64, Scanned<Heap<'a>>), AllocError> {
+) -> Result<(u64, ScannedText<Heap<'a>>), AllocError> {
     for n in 0..u64::MAX {
         let mut meter = Meter::new();
         heap.refuse(n + 1);

@@ -11,3 +11,6 @@ returns-in-Memory-clause-err g c = rw c.in-Memory.is c.write_line-in-Memory.ensu
 
 pub returns-in-TooLarge-clause-err : goal.returns-in-TooLarge-clause-err
 returns-in-TooLarge-clause-err g c = rw (c.in-Text.is, c.in-TooLarge.is) c.write_line-in-TooLarge.ensures.err
+
+pub returns-in-Command-clause-err : goal.returns-in-Command-clause-err
+returns-in-Command-clause-err g c = rw c.in-Command.is c.write_line-in-Command.ensures.err

@@ -1,5 +1,5 @@
 use Rattle.std.proofs.Common.{rules, ◌≡◌, ◌+◌, ◌++◌, ◌∙◌, ap, [], Some, drop, arith}
-use Rattle.yl_lexeme.specs.Kept.{kept_behind}
+use Rattle.yl_lexeme.specs.Kept.{key_unit_behind}
 use Rattle.yl_marks.specs.Keys.{place_of}
 use Rattle.yl_marks.specs.ByLine.{latest_of}
 use Rattle.yl_marks.proofs.InLine.{kept_pieces, kept_suffices, kept_if_asked, all_read, pieces_step, latest_step, depth_step}
@@ -10,7 +10,7 @@ loop-i-preserved g c =
     let e = c.loop-i.earlier in
     let p = c.piece_at-piece.result in
     let xs = c.args.tokens.now in
-    let passed = kept_behind p.kind (place_of e.count p) c.loop-i.unit in
+    let passed = key_unit_behind p.kind (place_of e.count p) c.loop-i.unit in
     let new = c.pass_if_asked.new.unit in
     let same : kept_pieces (e.count + 1) c.depth_behind.result (Some p) new (drop (c.loop-i.i + 1) xs) ≡ kept_pieces (e.count + 1) c.depth_behind.result (Some p) passed (drop (c.loop-i.i + 1) xs) =
     kept_if_asked _ _ _ c.loop-i.unit passed new xs c.last_value-last.result c.loop-i.i c.last_value-last.ensures c.in_ok-pass_if_asked.ensures in

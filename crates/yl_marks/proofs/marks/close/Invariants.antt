@@ -1,10 +1,10 @@
 use Rattle.std.proofs.Common.{◌≡◌, ◌++◌, reverse, vec_len}
-use Rattle.yl_marks.specs.Marks.{left_open, closings}
+use Rattle.yl_marks.specs.Marks.{collections_left, closings}
 use Rattle.yl_marks.proofs.marks.close.Given as goal
 
 abbrev pub invariant-loop-c : goal.invariant-loop-c
 invariant-loop-c g l = record {
-  left : left_open l.m (reverse l.collections.items) ≡ left_open l.m (reverse l.fn.collections.items);
+  left : collections_left l.m (reverse l.collections.items) ≡ collections_left l.m (reverse l.fn.collections.items);
   closed : l.symbols.items ++ closings l.m (reverse l.collections.items) ≡ l.fn.symbols.items ++ closings l.m (reverse l.fn.collections.items);
 }
 

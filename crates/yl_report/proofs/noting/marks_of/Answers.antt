@@ -3,7 +3,7 @@ use Rattle.std.specs.Prelude.{◌==◌}
 use Rattle.std.specs.List.{list_any}
 use Rattle.std.proofs.lemmas.List.{take_all}
 use Rattle.std.proofs.lemmas.List.Sorted.{IsNonDecreasingBy-from_sort, list_any-IsPermutation}
-use Rattle.yl_report.specs.CommentOf.{comment_of}
+use Rattle.yl_lexeme.specs.PlacedComments.{placed_comment_value}
 use Rattle.yl_report.specs.Directive.{is_switched_off, disables_line}
 use Rattle.yl_report.proofs.Noted.{switched_more, own_more}
 use Rattle.yl_report.proofs.noting.marks_of.Goals as goal
@@ -26,7 +26,7 @@ invariant_of-result g c = record {
 pub returns : goal.returns
 returns g c = λ line.
     let all : take c.loop-comment.comment-index c.args.comments.now ≡ c.args.comments.now = take_all c.loop-comment.comment-index c.args.comments.now (omega arith) in
-    let switched = c.loop-comment.invariant.switched line ∙ ap (λ l. is_switched_off (map comment_of l) c.args.rule line) all in
+    let switched = c.loop-comment.invariant.switched line ∙ ap (λ l. is_switched_off (map placed_comment_value l) c.args.rule line) all in
     let owned = sym (list_any-IsPermutation (λ own. own == line) c.loop-comment.lines.items c.sort_unstable.new.self.items c.sort_unstable.ensures.permutation)
-    ∙ c.loop-comment.invariant.owned line ∙ ap (λ l. list_any (disables_line c.args.rule line) (map comment_of l)) all in
+    ∙ c.loop-comment.invariant.owned line ∙ ap (λ l. list_any (disables_line c.args.rule line) (map placed_comment_value l)) all in
     λ i. switched i || owned i

@@ -1,11 +1,11 @@
 use Rattle.std.proofs.Common.{◌≡◌, take}
 use Rattle.yl_text.specs.Watched.{device_of, failures_of}
-use Rattle.yl_report.specs.Report.{printed}
+use Rattle.yl_report.specs.Report.{report_text}
 use Rattle.yl_report.specs.Written.{Passes}
 use Rattle.yl_report.proofs.printing.put_problems.Given as goal
 
 abbrev pub invariant-loop-problem : goal.invariant-loop-problem
 invariant-loop-problem g l = record {
   quiet : failures_of l.out ≡ failures_of l.initial.out;
-  passed : Passes (g.W.Write.contents (device_of l.initial.out)) (g.W.Write.contents (device_of l.out)) l.initial.waiting.items (printed l.name (take l.problem-index l.problems) l.no_warnings) l.waiting.items;
+  passed : Passes (g.W.Write.contents (device_of l.initial.out)) (g.W.Write.contents (device_of l.out)) l.initial.waiting.items (report_text l.name (take l.problem-index l.problems) l.no_warnings) l.waiting.items;
 }

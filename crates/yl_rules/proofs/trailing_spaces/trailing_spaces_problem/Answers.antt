@@ -1,4 +1,4 @@
-use Rattle.std.proofs.Common.{◌≡◌, ◌∙◌, ap, arith}
+use Rattle.std.proofs.Common.{◌≡◌, ◌∙◌, ap, arith, refl}
 use Rattle.yl_rules.specs.TrailingSpaces.{end_white}
 use Rattle.yl_rules.proofs.Texts.{no_trailing, some_trailing, white_within}
 use Rattle.yl_rules.proofs.trailing_spaces.trailing_spaces_problem.Goals as goal
@@ -16,4 +16,4 @@ overflow_sub-column g c =
 pub returns : goal.returns
 returns g c =
     let white : c.end_white-white.result ≡ end_white c.args.text.now = c.end_white-white.ensures ∙ ap end_white c.as_bytes.ensures.value in
-    some_trailing c.args.text.now _ c.args.line c.end_white-white.result c.width.result c.new.result c.utf8.text white c.if-white-eq0.false c.width.ensures.exact c.in_ok-message.ensures.ok c.new.ensures
+    some_trailing c.args.text.now _ c.args.line c.end_white-white.result c.width.result c.fixed.result c.utf8.text white c.if-white-eq0.false c.width.ensures.exact refl c.fixed.ensures

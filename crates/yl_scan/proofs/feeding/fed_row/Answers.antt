@@ -1,4 +1,8 @@
-use Rattle.std.proofs.Common.{◌+◌}
+use Rattle.std.proofs.Common.{◌+◌, ◌∷◌, eqb, ap, ◌∙◌}
+use Rattle.yl_lexeme.specs.Known.{new_row}
+use Rattle.yl_lexeme.specs.Surroundings.{surroundings_value}
+use Rattle.yl_scan.specs.Output.{remaining_output}
+use Rattle.yl_scan.specs.Scanner.{phase_value, state_before}
 use Rattle.yl_scan.proofs.feeding.fed_row.Goals as goal
 
 pub returns-in-Halted-clause-in_step : goal.returns-in-Halted-clause-in_step
@@ -6,3 +10,15 @@ returns-in-Halted-clause-in_step g c = c.halted_row.ensures.in_step (c.args.line
 
 pub returns-in-Halted-clause-in_text : goal.returns-in-Halted-clause-in_text
 returns-in-Halted-clause-in_text g c = c.halted_row.ensures.in_text c.args.line
+
+pub returns-in-Halted-clause-in_order : goal.returns-in-Halted-clause-in_order
+returns-in-Halted-clause-in_order g c = λ k. c.halted_row.ensures.in_order c.args.line _ k
+
+pub returns-in-Halted-clause-told : goal.returns-in-Halted-clause-told
+returns-in-Halted-clause-told g c = λ rows.
+    let k = new_row (surroundings_value c.args.surroundings.now) in
+    ap (λ resting. remaining_output c.args.line (phase_value (eqb c.args.line 0) k resting) (c.args.row.now ∷ rows)) c.in-Halted.is
+    ∙ c.halted_row.ensures.told c.args.line (state_before (phase_value (eqb c.args.line 0) k c.args.resting)) rows k
+
+pub returns-in_ok-read-in-Between-clause-in_order : goal.returns-in_ok-read-in-Between-clause-in_order
+returns-in_ok-read-in-Between-clause-in_order g c = λ k. c.in_ok-read-in-Between.ensures.in_order _ k

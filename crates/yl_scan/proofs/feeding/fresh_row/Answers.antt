@@ -1,23 +1,15 @@
-use Rattle.std.proofs.Common.{Bool, true, false, cond, refl, sym, ◌≡◌, ◌∙◌, Some, None, Ok, Err, IfOk}
-use Rattle.std.specs.Prelude.{is_some, ◌||◌, ◌==◌, not, Result}
-use Rattle.yl_text.specs.Character.{is_blank}
-use Rattle.yl_lexeme.specs.Known.{around, new_row}
-use Rattle.yl_lexeme.specs.Surroundings.{known}
-use Rattle.yl_row.specs.Entries.{State, state_of, sound_state}
+use Rattle.std.proofs.Common.{false, true, eqb, ap, sym, ◌∙◌}
+use Rattle.yl_lexeme.specs.Known.{context_of, new_row}
+use Rattle.yl_lexeme.specs.Surroundings.{surroundings_value}
+use Rattle.yl_row.specs.Entries.{state_of}
+use Rattle.yl_row.specs.Run.{row_reading_by}
+use Rattle.yl_row.specs.Step.{first_tab}
+use Rattle.yl_scan.specs.Output.{output_of_row}
 use Rattle.yl_scan.proofs.feeding.fresh_row.Goals as goal
 
-is_there : (b : Bool) (s : State) → is_some (cond b (Some s) None) ≡ b
-is_there true s = refl
-is_there false s = refl
-
--- what holds of an `Ok` because of what else holds of it
-if_ok : {A E : Type 0} {P Q : A → Type 0} (r : Result A E) → ((x : A) → P x → Q x) → IfOk r P → IfOk r Q
-if_ok (Ok x) f h = f x h
-if_ok (Err e) f h = h
-
 pub returns-clause-told : goal.returns-clause-told
-returns-clause-told g c =
-    if_ok c.read_on.result
-    (λ r told rows. told rows (sound_state (c.args.line == 0) c.args.row.now (around (new_row (known c.args.surroundings.now))))
-    (is_there ((c.args.line == 0) || not (is_blank c.args.row.now)) (state_of (around (new_row (known c.args.surroundings.now)))) ∙ sym c.is_sound_start-is_sound.ensures))
-    c.read_on.ensures.told
+returns-clause-told g c = λ rows.
+    let k = surroundings_value c.args.surroundings.now in
+    let row = c.args.row.now in
+    ap (λ state. output_of_row c.args.line rows state (row_reading_by rows (first_tab false row) 0 true true 0 (new_row k) row)) (sym (c.sound_start-sound.ensures (state_of (context_of k))))
+    ∙ c.in_ok-read.ensures.told (state_of (context_of k)) rows

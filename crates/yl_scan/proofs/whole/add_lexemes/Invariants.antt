@@ -1,5 +1,5 @@
 use Rattle.std.proofs.Common.{◌≡◌, ◌++◌, map}
-use Rattle.yl_scan.specs.Left.{at_line}
+use Rattle.yl_scan.specs.Output.{at_line}
 use Rattle.yl_scan.specs.Whole.{lexeme_in}
 use Rattle.yl_scan.proofs.whole.add_lexemes.Given as goal
 

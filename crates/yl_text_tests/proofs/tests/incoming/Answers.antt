@@ -1,11 +1,11 @@
 use Rattle.std.proofs.Common.{◌≡◌, ◌-◌, ℕ, List, length, take, arith, sym, ap, ◌∙◌}
 use Rattle.std.specs.Vec.{vec_len}
-use Rattle.yl_text.specs.Lines.{Piece, lines_of}
+use Rattle.yl_text.specs.Lines.{RowValue, lines_of}
 use Rattle.yl_text.proofs.Computed.{lines_of-is}
 use Rattle.yl_text_tests.proofs.tests.incoming.Goals as goal
 use Rattle.yl_text_tests.proofs.tests.incoming.Goals.{then-before+in-Some-1, then-before+in-None-1, else-before}
 
-without_last : (ps all : List Piece) (n : ℕ) → ps ≡ all → n ≡ length ps → take (n - 1) ps ≡ take (length all - 1) all
+without_last : (ps all : List RowValue) (n : ℕ) → ps ≡ all → n ≡ length ps → take (n - 1) ps ≡ take (length all - 1) all
 without_last ps all n e l = rw (l, e)
 
 pub returns : goal.returns

@@ -2,27 +2,27 @@ use Rattle.std.proofs.Common.{arith, ◌≡◌, ℕ, List, ◌∷◌, ap, ◌∙
 use Rattle.std.specs.Str.{chars}
 use Rattle.std.proofs.lemmas.Grind.{common_steps}
 use Rattle.yl_text.proofs.Computed.{line}
-use Rattle.yl_scan.specs.Left.{given, left}
-use Rattle.yl_scan.specs.Scanner.{told_of}
-use Rattle.yl_dump.specs.TextScan.{TextScan, characters_of, rows_of}
+use Rattle.yl_scan.specs.Output.{output_with_step, remaining_output}
+use Rattle.yl_scan.specs.Scanner.{state_before, step_value}
+use Rattle.yl_dump.specs.TextScan.{TextScannerValue, characters_of, rows_of}
 use Rattle.yl_dump.proofs.Rows.{next_fits, characters-next}
 use Rattle.yl_dump.proofs.text_scanner.TextScanner.read_line.Goals as goal
 
 pub feed_text-requires-clause-fits : goal.feed_text-requires-clause-fits
 feed_text-requires-clause-fits g c =
     let s = c.self.inside in
-    let rows : rows_of s.is_done s.rest.now ≡ c.args.self.now.rows = ap (λ (v : TextScan). v.rows) c.self.view_is in
+    let rows : rows_of s.is_done s.rest.now ≡ c.args.self.now.rows = ap (λ (v : TextScannerValue). v.rows) c.self.view_is in
     next_fits s.is_done s.rest.now s.scanner.line s.meter.lines c.args.self.now.rows (line c.cut_line-first.result.line.now c.cut_line-first.result.end) _ rows c.requires c.self.invariant c.cut_line-first.ensures.first
 
 pub returns-clause-told : goal.returns-clause-told
 returns-clause-told g c =
     let s = c.self.inside in
     let left_over = rows_of c.eq-self-inside.result c.cut_line-first.result.rest.now in
-    let rows : rows_of s.is_done s.rest.now ≡ c.args.self.now.rows = ap (λ (v : TextScan). v.rows) c.self.view_is in
+    let rows : rows_of s.is_done s.rest.now ≡ c.args.self.now.rows = ap (λ (v : TextScannerValue). v.rows) c.self.view_is in
     let passed : left_over ≡ drop 1 c.args.self.now.rows = grind (arith, common_steps) in
     let read = characters-next s.is_done s.rest.now c.args.self.now.rows (line c.cut_line-first.result.line.now c.cut_line-first.result.end) _ left_over rows c.requires c.cut_line-first.ensures.first passed in
     let from = chars c.cut_line-first.result.line.now ∷ characters_of left_over in
-    ap (λ (l : List (List ℕ)). left c.args.self.now.line c.args.self.now.stand l) read
-    ∙ ap (λ (v : TextScan). left v.line v.stand from) (sym c.self.view_is)
+    ap (λ (l : List (List ℕ)). remaining_output c.args.self.now.line c.args.self.now.stand l) read
+    ∙ ap (λ (v : TextScannerValue). remaining_output v.line v.stand from) (sym c.self.view_is)
     ∙ c.in_ok-step.ensures.told (characters_of left_over)
-    ∙ ap (λ (v : TextScan). given v.line (told_of v.line c.in_ok-step.step) (left c.feed_text.new.self.line c.feed_text.new.self.stand (characters_of left_over))) c.self.view_is
+    ∙ ap (λ (v : TextScannerValue). output_with_step v.line (step_value v.line (state_before v.stand) c.in_ok-step.step) (remaining_output c.feed_text.new.self.line c.feed_text.new.self.stand (characters_of left_over))) c.self.view_is

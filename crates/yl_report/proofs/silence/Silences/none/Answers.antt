@@ -1,7 +1,7 @@
 use Rattle.std.proofs.Common.{rules}
-use Rattle.yl_report.specs.Silence.{file_silenced, silenced}
+use Rattle.yl_report.specs.Silence.{is_file_silenced_by, is_silenced_at}
 use Rattle.yl_report.proofs.silence.Silences.none.Goals as goal
 
 pub returns : goal.returns
-unfolding file_silenced silenced
+unfolding is_file_silenced_by is_silenced_at
 returns g c = search rules

@@ -1,0 +1,94 @@
+//! A list in chunks.
+ghost use Rattle.std.specs.Prelude.{◌≡◌, ◌+◌, ◌^◌, ◌<◌, ◌≤◌, [], length, slice_get, vec_len, Some, IfOk, OnOk, OnErr};
+ghost use Rattle.std.specs.List.{splice};
+ghost use Rattle.yl_text.specs.Store.{IsRange};
+
+use crate::MOST;
+use crate::counting::place_of;
+use crate::places::last_start;
+use crate::spreading::put;
+use std::alloc::{AllocError, Allocator};
+use std::marker::Model;
+
+/// A list of items, kept in chunks of 1 to `MOST` of them. In contracts it is the list.
+///
+/// An item is found by a binary search over the places at which the chunks begin, of 8 bytes each. An edit
+/// within a chunk that has room moves the items of that chunk and the places of the chunks behind it;
+/// any other makes the chunks that it touches anew. A chunk that an edit leaves with few items is joined
+/// with one beside it.
+#[derive(Drop)]
+pub struct Chunks<T, A: Allocator> {
+    chunks: Vec<Vec<T, A>, A>,
+    starts: Vec<usize, A>,
+    len: usize,
+}
+
+impl<T, A: Allocator> Model for Chunks<T, A> {
+    ghost use Rattle.std.specs.Prelude.{List};
+
+    ghost Value = { List T };
+
+    ghost use Rattle.yl_chunks.specs.Chunks.{items_of, AreChunks};
+
+    ghost view = { λ c. items_of c.chunks.items };
+
+    ghost invariant = { λ c. AreChunks c.chunks.items c.starts.items c.len };
+}
+
+impl<T: Drop, A: Allocator + Copy> Chunks<T, A> {
+    /// An empty list. It takes no memory.
+    pub fn new(alloc: A) -> Chunks<T, A>
+        ensures { result ≡ [] }
+    {
+        Chunks {
+            chunks: Vec::new(alloc),
+            starts: Vec::new(alloc),
+            len: 0,
+        }
+    }
+
+    /// How many items there are.
+    pub fn len(&self) -> usize
+        ensures { result ≡ length self.now }
+    {
+        self.len
+    }
+
+    /// The fewest items that one of its chunks has, or `MOST` where there is none: how well filled they are.
+    pub fn fewest(&self) -> usize
+        ensures { result ≤ MOST }
+    {
+        let mut fewest = MOST;
+        for chunk in &self.chunks {
+            fewest = fewest.min(chunk.len());
+        }
+        fewest
+    }
+
+    /// The item at `i`, counted from 0. It takes no memory.
+    pub fn get(&self, i: usize) -> &T
+        requires { i < length self.now }
+        ensures { slice_get self.now i ≡ Some result.now }
+    {
+        let j = last_start(&self.starts, i);
+        &self.chunks[j][i - self.starts[j]]
+    }
+
+    /// Puts the new items, which it takes out of their `Vec`, in place of the items a to b, b not
+    /// included, counted from 0. On `Err` a growth was refused: nothing has changed, and the new items
+    /// are where they were.
+    pub fn splice(&mut self, a: usize, b: usize, new: &mut Vec<T, A>) -> Result<(), AllocError>
+        requires range { IsRange a b (length self.old) }
+        requires few { length self.old + vec_len new.old < 2 ^ 64 }
+        ensures ok { OnOk result (self.new ≡ splice self.old a b new.old.items) }
+        ensures taken { OnOk result (new.new.items ≡ []) }
+        ensures err { OnErr result (self.new ≡ self.old) }
+        ensures back { OnErr result (new.new.items ≡ new.old.items) }
+    {
+        let place = place_of(&self.chunks, &self.starts, self.len, a, b, new.len());
+        let len = self.len - (b - a) + new.len();
+        put(&mut self.chunks, &mut self.starts, place, new)?;
+        self.len = len;
+        Ok(())
+    }
+}

@@ -1,0 +1,32 @@
+//! Lists in chunks, and a store of lines over them: an edit moves the items of a few chunks alone.
+#![tactic(auto)]
+
+ghost use Rattle.std.specs.Prelude.{◌≡◌};
+ghost use Rattle.yl_text.specs.Lines.{text_of};
+ghost use Rattle.yl_text.specs.Store.{AreLines};
+
+use yl_text::{LineStore, one_list_of_lines};
+
+mod chunk_store;
+mod chunks;
+mod counting;
+mod cutting;
+mod places;
+mod spreading;
+
+pub use chunk_store::ChunkStore;
+pub use chunks::Chunks;
+
+/// The most items that a chunk may have.
+pub const MOST: usize = 256;
+
+/// A law: two stores of one text have the same rows, however they keep them. So whatever follows from the
+/// rows, as all that a session shows, is the same over either.
+pub fn one_list_of_rows<S: LineStore, T: LineStore>(_one: &S, _other: &T)
+    requires one { AreLines (S.rows _one.now) }
+    requires other { AreLines (T.rows _other.now) }
+    requires text { text_of (S.rows _one.now) ≡ text_of (T.rows _other.now) }
+    ensures { S.rows _one.now ≡ T.rows _other.now }
+{
+    one_list_of_lines();
+}

@@ -1,0 +1,132 @@
+-- Meaning: what an editing run writes: the report of the text, then what each command is answered.
+use Rattle.std.specs.Prelude.{◌≡◌, ℕ, ◌<◌, ◌-◌, ◌^◌, if◌then◌else◌, List, [], ◌∷◌, ◌++◌, length, codes, decimal, Option, Some, None, Result, Ok, Err, IfSome, ◌⊎◌}
+use Rattle.std.specs.Io.KnownBytes.{Appends, IsAtEnd, Keeps}
+use Rattle.yl_text.specs.declared.fault.TextFault.{TextFault}
+use Rattle.yl_text.specs.declared.fault.TextFault.TheVariants.{NotUtf8, Range, OpenEnd, JoinedBreak, TooLarge, Memory}
+use Rattle.yl_text.specs.Lines.{RowValue, lines_of}
+use Rattle.yl_config.specs.declared.config.Config.{Config}
+use Rattle.yl_report.specs.Report.{report_text, status_of}
+use Rattle.yl_report.specs.Written.{AppendsFront}
+use Rattle.yl_session.specs.declared.session.Work.{Work}
+use Rattle.yl_session.specs.Runs.{EditValue, text_after, text_after_all, AreAnswers}
+use Rattle.yl_session.specs.TextReport.{report}
+use Rattle.yl_args.specs.declared.answer.Flags.{Flags}
+use Rattle.yl_cli.specs.declared.fault.RunFault.{RunFault}
+use Rattle.yl_cli.specs.declared.fault.RunFault.TheVariants as fault
+use Rattle.yl_cli.specs.Text.{without_mark, IsBadText}
+use Rattle.yl_cli.specs.Run.{Failures}
+use Rattle.yl_cli.specs.Command.{Next, Command, Bad, next_command}
+
+-- ---- what is read
+
+-- the bytes are these commands and then the rest
+abbrev pub AreCommands : List ℕ → List EditValue → List ℕ → Type 0
+AreCommands bytes [] rest = bytes ≡ rest
+AreCommands bytes (e ∷ edits) rest = (mid : List ℕ) × (next_command bytes ≡ Command e mid) × AreCommands mid edits rest
+
+-- these commands were read of the bytes that were given, where they are known
+abbrev pub WereRead : Option (List ℕ) → Option (List ℕ) → List EditValue → Type 0
+WereRead None rest edits = Unit {0}
+WereRead (Some bytes) None edits = ⊥
+WereRead (Some bytes) (Some rest) edits = AreCommands bytes edits rest
+
+-- ---- what is written
+
+-- the names of refusals
+abbrev pub refusal_name : TextFault → List ℕ
+refusal_name (NotUtf8 n) = codes "NotUtf8"
+refusal_name Range = codes "Range"
+refusal_name OpenEnd = codes "OpenEnd"
+refusal_name JoinedBreak = codes "JoinedBreak"
+refusal_name TooLarge = codes "TooLarge"
+refusal_name Memory = codes "Memory"
+
+-- the line after a report: its status, and how many lines were scanned where that is asked
+abbrev pub ok_line : ℕ → Option ℕ → List ℕ
+ok_line status None = codes "-- ok " ++ decimal status ++ codes "\n"
+ok_line status (Some scanned) = codes "-- ok " ++ decimal status ++ (codes " " ++ decimal scanned) ++ codes "\n"
+
+abbrev pub refused_line : TextFault → List ℕ
+refused_line f = codes "-- refused " ++ refusal_name f ++ codes "\n"
+
+-- the report of these lines and the line after it
+abbrev pub shown_lines : Config → (name : List ℕ) → Flags → List RowValue → Option ℕ → List ℕ
+shown_lines c name flags rows scanned = report_text name (report c rows) flags.no_warnings ++ ok_line (status_of (report c rows) flags.strict) scanned
+
+-- the same of a text
+abbrev pub shown_text : Config → (name : List ℕ) → Flags → (text : List ℕ) → Option ℕ → List ℕ
+shown_text c name flags text scanned = shown_lines c name flags (lines_of text) scanned
+
+-- how many lines were scanned, where that is asked
+abbrev pub scanned_shown : Flags → Work → Option ℕ
+scanned_shown flags work = if flags.work then Some work.scanned else None
+
+-- what an edit that left this text is answered
+abbrev pub reply : Config → (name : List ℕ) → Flags → (text : List ℕ) → Result Work TextFault → List ℕ
+reply c name flags text (Ok work) = shown_text c name flags text (scanned_shown flags work)
+reply c name flags text (Err f) = refused_line f
+
+-- what the edits of a text are answered, one after another
+abbrev pub replies : Config → (name : List ℕ) → Flags → (text : List ℕ) → List EditValue → List (Result Work TextFault) → List ℕ
+replies c name flags text [] answers = []
+replies c name flags text (e ∷ edits) [] = []
+replies c name flags text (e ∷ edits) (r ∷ answers) = reply c name flags (text_after text e r) r ++ replies c name flags (text_after text e r) edits answers
+
+-- all that is written of a text and its edits
+abbrev pub driven : Config → (name : List ℕ) → Flags → (text : List ℕ) → List EditValue → List (Result Work TextFault) → List ℕ
+driven c name flags text edits answers = shown_text c name flags text None ++ replies c name flags text edits answers
+
+-- ---- a run
+
+-- what the reader was given, and what the writer held before the run and holds after it, where that is known
+pub record Devices : Type 0 where
+  pub given : Option (List ℕ)
+  pub before : Option (List ℕ)
+  pub now : Option (List ℕ)
+
+-- these commands were read up to the rest, each has the answer that it gets at the text of that moment, and all that they are answered
+-- is written
+pub record IsAnswered (c : Config) (name : List ℕ) (flags : Flags) (text : List ℕ) (d : Devices) (rest : Option (List ℕ)) (edits : List EditValue) (answers : List (Result Work TextFault)) : Type 0 where
+  pub read : WereRead d.given rest edits
+  pub answered : AreAnswers text edits answers
+  pub written : Appends d.before d.now (driven c name flags text edits answers)
+
+-- all commands up to the end were answered, and this is the status of the text that they left
+pub record IsDriven (c : Config) (name : List ℕ) (flags : Flags) (text : List ℕ) (d : Devices) (status : ℕ) : Type 0 where
+  pub edits : List EditValue
+  pub answers : List (Result Work TextFault)
+  pub place : Option (List ℕ)
+  pub is_end : IsAtEnd place
+  pub all : IsAnswered c name flags text d place edits answers
+  pub is_status : status ≡ status_of (report c (lines_of (text_after_all text edits answers))) flags.strict
+
+-- all commands before a place were answered
+pub record IsStopped (c : Config) (name : List ℕ) (flags : Flags) (text : List ℕ) (d : Devices) : Type 0 where
+  pub edits : List EditValue
+  pub answers : List (Result Work TextFault)
+  pub place : Option (List ℕ)
+  pub all : IsAnswered c name flags text d place edits answers
+
+-- all commands before a place were answered, and there stands no command, or they are as many as are counted
+pub record IsBadCommand (c : Config) (name : List ℕ) (flags : Flags) (text : List ℕ) (d : Devices) : Type 0 where
+  pub edits : List EditValue
+  pub answers : List (Result Work TextFault)
+  pub place : Option (List ℕ)
+  pub all : IsAnswered c name flags text d place edits answers
+  pub bad : (IfSome place (λ bytes. next_command bytes ≡ Bad)) ⊎ (length edits ≡ 2 ^ 64 - 1)
+
+-- what is written is a beginning of what some answers ask for
+pub record IsBegun (c : Config) (name : List ℕ) (flags : Flags) (text : List ℕ) (d : Devices) : Type 0 where
+  pub edits : List EditValue
+  pub answers : List (Result Work TextFault)
+  pub answered : AreAnswers text edits answers
+  pub written : AppendsFront d.before d.now (driven c name flags text edits answers)
+
+-- why a run may end early: for a device only where its failures rose. On a failed read and at a bad command all that the commands
+-- before it are answered is written
+abbrev pub IsDriveFault : Config → (name : List ℕ) → Flags → (bytes : List ℕ) → Failures → Devices → RunFault → Type 0
+IsDriveFault c name flags bytes n d (fault.Text f) = IsBadText (without_mark bytes) f × Keeps d.before d.now
+IsDriveFault c name flags bytes n d fault.Read = (n.reads_before < n.reads_after) × IsStopped c name flags (without_mark bytes) d
+IsDriveFault c name flags bytes n d fault.Write = (n.writes_before < n.writes_after) × IsBegun c name flags (without_mark bytes) d
+IsDriveFault c name flags bytes n d fault.Command = IsBadCommand c name flags (without_mark bytes) d
+IsDriveFault c name flags bytes n d fault.Memory = IsBegun c name flags (without_mark bytes) d

@@ -1,0 +1,80 @@
+//! The line of a command.
+ghost use Rattle.std.specs.Prelude.{◌≡◌, ◌+◌, ◌<◌, ◌^◌, map, IfOk, IfSome};
+ghost use Rattle.yl_cli.specs.Command.{command_line, is_digit, line_of_numbers, line_of_words, number};
+
+use std::alloc::{AllocError, Allocator};
+
+/// The most bytes that a command puts into a text.
+const MOST_BYTES: u64 = 67_108_864;
+
+/// What a command asks for: `count` lines from `first` on, counted from 0, give way to `size` bytes.
+#[derive(Clone, Copy)]
+pub struct CommandLine {
+    pub first: u64,
+    pub count: u64,
+    pub size: u64,
+}
+
+fn is_digit(c: u8) -> bool
+    ensures { result ≡ is_digit c }
+{
+    48 <= c && c <= 57
+}
+
+/// The number that a word of 1 to 10 decimal digits is.
+fn number(word: &[u8]) -> Option<u64>
+    ensures value { result ≡ number word.now }
+    ensures bound { IfSome result (λ n. n < 10 ^ 10) }
+{
+    if word.is_empty() || word.len() > 10 {
+        return None;
+    }
+    let mut value = 0u64;
+    for c in word {
+        if !is_digit(*c) {
+            return None;
+        }
+        value = value * 10 + (*c - 48) as u64;
+    }
+    Some(value)
+}
+
+fn line_of_numbers(first: Option<u64>, count: Option<u64>, size: Option<u64>) -> Option<CommandLine>
+    requires first { IfSome first (λ n. n < 10 ^ 10) }
+    requires count { IfSome count (λ n. n < 10 ^ 10) }
+    ensures value { result ≡ line_of_numbers first count size }
+    ensures bound { IfSome result (λ c. c.first + c.count < 2 ^ 64) }
+{
+    let first = first?;
+    let count = count?;
+    let size = size?;
+    if size > MOST_BYTES {
+        return None;
+    }
+    Some(CommandLine { first, count, size })
+}
+
+fn line_of_words(words: &[&[u8]]) -> Option<CommandLine>
+    ensures value { result ≡ line_of_words (map (λ word. word.now) words.now) }
+    ensures bound { IfSome result (λ c. c.first + c.count < 2 ^ 64) }
+{
+    let [name, first, count, size] = words else {
+        return None;
+    };
+    if *name != b"replace".as_slice() {
+        return None;
+    }
+    line_of_numbers(number(first), number(count), number(size))
+}
+
+/// What a command's line asks for, or `None` where it is none.
+pub(crate) fn command_line<A: Allocator + Copy>(
+    alloc: A,
+    line: &[u8],
+) -> Result<Option<CommandLine>, AllocError>
+    ensures value { IfOk result (λ found. found ≡ command_line line.now) }
+    ensures bound { IfOk result (λ found. IfSome found (λ c. c.first + c.count < 2 ^ 64)) }
+{
+    let words: Vec<&[u8], A> = line.split(|c| *c == b' ').collect(alloc)?;
+    Ok(line_of_words(words.as_slice()))
+}

@@ -1,0 +1,4 @@
+pub mod Folding
+pub mod OneAnswer
+pub mod Saying
+mod Examples

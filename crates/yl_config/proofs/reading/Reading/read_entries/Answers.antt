@@ -1,0 +1,31 @@
+use Rattle.std.proofs.Common.{◌≡◌, [], Option, ap, sym, ◌∙◌}
+use Rattle.std.specs.List.{flat_map}
+use Rattle.yl_config.specs.declared.misfit.Misfit.{Misfit}
+use Rattle.yl_config.specs.Config.{said}
+use Rattle.yl_settings.specs.Item.{entry_value, nodes_at}
+use Rattle.yl_config.specs.Misfits.{earliest, root_entry_misfits}
+use Rattle.yl_settings.specs.Nodes.{entries_of}
+use Rattle.yl_config.specs.Settings.{Settings, with_entries}
+use Rattle.yl_settings.proofs.AtNone.{at_none}
+use Rattle.yl_config.proofs.Folding.{earliest-entries, with_entries-entries, with_entries-no_entry}
+use Rattle.yl_config.proofs.reading.Reading.read_entries.Goals as goal
+
+pub loop-entry-preserved : goal.loop-entry-preserved
+loop-entry-preserved c =
+    let f = root_entry_misfits c.args.mapping in
+    let e = entry_value c.args.events.now c.in-Some.entry in
+    let es = entries_of (nodes_at c.args.events.now c.loop-entry.rest) in
+    let more = entries_of (nodes_at c.args.events.now c.in-Some.entry.more) in
+    record {
+      within = c.in-Some.ensures.within;
+      first = ap (λ (o : Option Misfit). earliest o (flat_map f more)) c.read_entry.ensures.first
+          ∙ (earliest-entries f c.loop-entry.self.first e more es c.in-Some.ensures.entry ∙ c.loop-entry.invariant.first);
+      said = ap (λ (o : Settings). with_entries (said c.args.base.now) more o) c.read_entry.ensures.said
+          ∙ (with_entries-entries (said c.args.base.now) (said c.loop-entry.self.config) e more es c.in-Some.ensures.entry ∙ c.loop-entry.invariant.said);
+    }
+
+pub returns-clause-said : goal.returns-clause-said
+returns-clause-said c =
+    let es = entries_of (nodes_at c.args.events.now c.loop-entry.rest) in
+    let nothing : es ≡ [] = at_none c.first_entry.result _ _ c.in_default.not-Some c.first_entry.ensures.entry in
+    sym (with_entries-no_entry (said c.args.base.now) (said c.loop-entry.self.config) es nothing) ∙ c.loop-entry.invariant.said

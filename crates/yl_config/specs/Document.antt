@@ -1,0 +1,28 @@
+-- Meaning: what a document of a configuration says, or the first of what does not fit in it.
+use Rattle.std.specs.Prelude.{List, [], ◌++◌, Option, Some, None, Result, Ok, Err}
+use Rattle.yl_text.specs.declared.position.Pos.{Pos}
+use Rattle.yl_events.specs.Event.{EventValue}
+use Rattle.yl_config.specs.declared.fault.ConfigFault.{ConfigFault}
+use Rattle.yl_config.specs.declared.misfit.Misfit.{Misfit}
+use Rattle.yl_config.specs.declared.misfit.MisfitKind.TheVariants.{NotAMapping}
+use Rattle.yl_config.specs.Faults.{fault_of}
+use Rattle.yl_config.specs.Misfits.{at_key, earliest, root_misfits}
+use Rattle.yl_settings.specs.Nodes.{ItemValue, first_item, nodes_from}
+use Rattle.yl_config.specs.Settings.{Settings, settings_of}
+
+-- the root of a document
+abbrev pub root_of : List EventValue → ItemValue
+root_of es = first_item (first_item (nodes_from es)).inside
+
+-- a document that begins behind the first one
+abbrev pub next_misfits : Option Pos → List Misfit
+next_misfits None = []
+next_misfits (Some place) = at_key NotAMapping place
+
+-- the first misfit, if there is one; else what is said
+abbrev pub judged : Settings → Option Misfit → Result Settings ConfigFault
+judged s None = Ok s
+judged s (Some m) = Err (fault_of m)
+
+abbrev pub judged_document : List EventValue → Option Pos → Result Settings ConfigFault
+judged_document es next = judged (settings_of (root_of es)) (earliest None (root_misfits (root_of es) ++ next_misfits next))

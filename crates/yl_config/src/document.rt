@@ -1,0 +1,67 @@
+//! A configuration from the events of its document.
+ghost use Rattle.std.specs.Prelude.{◌≡◌, ◌≤◌, length, map};
+ghost use Rattle.yl_events.specs.Event.{event_value};
+ghost use Rattle.yl_settings.specs.Item.{item_value};
+ghost use Rattle.yl_config.specs.Document.{judged_document, next_misfits, root_of};
+ghost use Rattle.yl_config.specs.Answered.{answered};
+ghost use Rattle.yl_config.specs.Misfits.{earliest};
+
+use crate::config::Config;
+use crate::fault::{ConfigFault, fault_of};
+use crate::misfit::MisfitKind;
+use crate::reading::{Reading, read_root};
+use yl_events::{Event, EventKind};
+use yl_settings::{Item, first_item};
+use yl_text::Pos;
+
+/// The root of a document; an end where there is none.
+fn root_of<'a>(events: &[Event<'a>]) -> Item<'a>
+    ensures root { item_value events.now result ≡ root_of (map event_value events.now) }
+    ensures inside { result.inside ≤ length events.now }
+{
+    let none = Item {
+        kind: EventKind::DocumentEnd,
+        place: None,
+        inside: events.len(),
+    };
+    match first_item(events, 0) {
+        None => none,
+        Some(document) => match first_item(events, document.item.inside) {
+            None => none,
+            Some(root) => root.item,
+        },
+    }
+}
+
+#[tactic(auto, unfolding(crate::specs::Misfits::earliest))]
+impl Reading {
+    /// Notes a document behind the first one.
+    fn note_next(&mut self, next: Option<Pos>)
+        ensures first { self.new.first ≡ earliest self.old.first (next_misfits next) }
+        ensures config { self.new.config ≡ self.old.config }
+    {
+        match next {
+            None => {}
+            Some(place) => self.note_key(MisfitKind::NotAMapping, place),
+        }
+    }
+}
+
+impl Config {
+    /// What a configuration says whose first document has these events; where there is no document, there are none. `next` is the
+    /// place where a second document begins, if there is one, counted from 0.
+    ///
+    /// The fault is the first in the text of what does not fit; of two at one place the one that stands first among `NotAMapping`,
+    /// `UnknownKey`, `UnknownRule`, `UnknownOption`, `BadValue`, `BadLevel` and `UnknownExtends`.
+    pub fn of_document(events: &[Event<'_>], next: Option<Pos>) -> Result<Config, ConfigFault>
+        ensures { answered result ≡ judged_document (map event_value events.now) next }
+    {
+        let root = root_of(events);
+        let mut reading = read_root(events, &root);
+        reading.note_next(next);
+        match reading.first {
+            Some(misfit) => Err(fault_of(misfit)),
+            None => Ok(reading.config),
+        }
+    }
+}

@@ -1,0 +1,100 @@
+//! A configuration from its bytes.
+ghost use Rattle.std.specs.Prelude.{◌≡◌, ◌<◌, ◌^◌, All, IfOk, length, ◌-◌};
+ghost use Rattle.std.specs.Str.{chars};
+ghost use Rattle.yl_scan.specs.Scanner.{characters_of};
+ghost use Rattle.yl_config.specs.Answered.{answered};
+ghost use Rattle.yl_config.specs.Outcome.{IsConfigOf, Says, from_own, is_lone_end, judged_own};
+ghost use Rattle.yl_documents.specs.TextReading.{reading_of};
+
+use crate::config::Config;
+use crate::fault::{ConfigFault, from_one};
+use std::alloc::{AllocError, Allocator};
+use yl_documents::{
+    BuiltDocument, build_all, end_of, in_text, place_behind, place_of_scan_fault, text_fault,
+};
+use yl_lexeme::{Kind, Meter};
+use yl_scan::scan;
+use yl_text::{MAX_BYTES, Row, TextFault, split};
+
+/// Whether a document is a marker `...` alone.
+fn is_lone_end<A: Allocator>(document: &BuiltDocument<'_, '_, A>) -> bool
+    ensures { result ≡ is_lone_end document.now.lexemes }
+{
+    match document.lexemes {
+        [lexeme] => lexeme.lexeme.kind() == Kind::DocEnd,
+        _ => false,
+    }
+}
+
+/// These documents from the first on that is one of a configuration.
+fn from_own<'c, 'a, 'b, A: Allocator>(
+    documents: &'c [BuiltDocument<'a, 'b, A>],
+) -> &'c [BuiltDocument<'a, 'b, A>]
+    ensures { result.now ≡ from_own documents.now }
+{
+    let mut rest = documents;
+    while let [document, later @ ..] = rest {
+        if !is_lone_end(document) {
+            return rest;
+        }
+        rest = later;
+    }
+    rest
+}
+
+/// What is said of these documents.
+fn judge_documents<A: Allocator>(
+    documents: &[BuiltDocument<'_, '_, A>],
+) -> Result<Config, ConfigFault>
+    ensures { answered result ≡ judged_own (from_own documents.now) }
+{
+    match from_own(documents) {
+        [] => Config::of_document(&[], None),
+        [document, later @ ..] => {
+            Config::of_document(&document.built.events, place_behind(None, from_own(later)))
+        }
+    }
+}
+
+/// What is said of the lines of a text. It fails for want of memory alone.
+fn judge_rows<A: Allocator + Copy>(
+    alloc: A,
+    rows: &[Row<A>],
+) -> Result<Result<Config, ConfigFault>, AllocError>
+    requires few { length rows.now < 2 ^ 32 - 1 }
+    requires fits { All (λ row. length (chars row.text) < 2 ^ 31) rows.now }
+    ensures { IfOk result (λ answer. Says (reading_of (characters_of rows.now)) (answered answer)) }
+{
+    let scanned = scan(alloc, rows, &mut Meter::new())?;
+    let scan_fault = place_of_scan_fault(scanned.fault)?;
+    let lexemes = in_text(alloc, &scanned.lexemes)?;
+    let documents = build_all(alloc, &lexemes)?;
+    match text_fault(end_of(rows), scan_fault, &documents) {
+        Some(place) => Ok(Err(ConfigFault::Syntax(from_one(place)))),
+        None => Ok(judge_documents(&documents)),
+    }
+}
+
+impl Config {
+    /// What a configuration says whose text is these bytes, in UTF-8.
+    ///
+    /// The faults, in the order in which they are looked for: `TooLarge`; `NotUtf8`; `Syntax`, at the text's first fault; of all
+    /// that does not fit the first in the text, of two at one place the one that stands first among the others. `Memory` where a
+    /// growth was refused.
+    pub fn read<A: Allocator + Copy>(alloc: A, bytes: &[u8]) -> Result<Config, ConfigFault>
+        ensures { IsConfigOf bytes.now (answered result) }
+    {
+        if bytes.len() > MAX_BYTES {
+            return Err(ConfigFault::TooLarge);
+        }
+        let rows = match split(alloc, bytes) {
+            Ok(rows) => rows,
+            Err(TextFault::NotUtf8 { .. }) => return Err(ConfigFault::NotUtf8),
+            Err(_) => return Err(ConfigFault::Memory),
+        };
+        match judge_rows(alloc, &rows) {
+            Ok(answer) => answer,
+            Err(AllocError) => Err(ConfigFault::Memory),
+        }
+    }
+}

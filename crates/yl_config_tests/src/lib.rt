@@ -1,0 +1,5 @@
+//! Tests of `yl_config`, over texts.
+#![tactic(auto)]
+
+#[cfg(test)]
+mod tests;

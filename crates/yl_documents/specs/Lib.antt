@@ -1,0 +1,4 @@
+pub mod TextReading
+pub mod TextDocuments
+pub mod Syntax
+pub mod Law

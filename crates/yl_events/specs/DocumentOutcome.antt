@@ -1,0 +1,41 @@
+-- Bridge: what is told of a document while its lexemes are read: what its symbols from some place
+-- on make of it, behind what was told before.
+use Rattle.std.specs.Prelude.{ℕ, ◌≡◌, ◌+◌, List, [], ◌∷◌, ◌++◌, Option, Some, None, reverse}
+use Rattle.yl_marks.specs.declared.symbol.Symbol.{Symbol}
+use Rattle.yl_events.specs.declared.symbol.Goal.{Goal}
+use Rattle.yl_events.specs.declared.symbol.Outline.{Outline}
+use Rattle.yl_events.specs.declared.symbol.Shape.TheVariants.{DocumentEnd}
+use Rattle.yl_events.specs.declared.fault.PlacedParseFault.{PlacedParseFault}
+use Rattle.yl_events.specs.Outlines.{end_event}
+use Rattle.yl_events.specs.Machine.{ParserState, step, run, taken_count}
+use Rattle.yl_events.specs.Trail.{TrailValue, fault_from}
+
+-- all of its events, or its fault
+pub data DocumentOutcome : Type 0 where
+  Events : (outlines : List Outline) → DocumentOutcome
+  Fails : (fault : PlacedParseFault) → DocumentOutcome
+
+-- behind so many lexemes: the events of these symbols, or the fault at the lexeme of this index among them
+abbrev pub document_outcome : TrailValue → (count place : ℕ) → List Symbol → Option (List Outline) → DocumentOutcome
+document_outcome trail count place ws (Some es) = Events (es ++ end_event DocumentEnd ∷ [])
+document_outcome trail count place ws None = Fails (record { kind = fault_from trail place ws; place = count + place })
+
+-- these symbols come, and no more
+abbrev pub outcome_by : TrailValue → ℕ → List Goal → List Outline → List Symbol → DocumentOutcome
+outcome_by trail count goals out ws = document_outcome trail count (taken_count ws goals out) ws (run ws goals out)
+
+-- ---- some of the symbols
+
+-- the goals and the events behind these symbols; None: one of them is refused
+abbrev pub steps_onto : (ParserState → Option ParserState) → Option ParserState → Option ParserState
+steps_onto next None = None
+steps_onto next (Some s) = next s
+
+abbrev pub steps : List Symbol → List Goal → List Outline → Option ParserState
+steps [] goals out = Some (record { goals = goals; events = out })
+steps (w ∷ ws) goals out = steps_onto (λ s. steps ws s.goals s.events) (step goals out w)
+
+-- a walk's answer: nothing where all are taken, and the stack, whose top stands last, and the events; else how many lexemes are
+abbrev pub Walked : Option ParserState → (taken : ℕ) → Option ℕ → List Goal → List Outline → Type 0
+Walked s taken None goals events = s ≡ Some (record { goals = reverse goals; events = events })
+Walked s taken (Some place) goals events = (s ≡ None) × (place ≡ taken)

@@ -1,0 +1,4 @@
+pub mod Measured
+pub mod LookBack
+pub mod Places
+pub mod Examples

@@ -1,0 +1,195 @@
+//! What is kept of the elements before a place.
+ghost use Rattle.std.specs.Prelude.{◌≡◌, OnOk, reverse};
+ghost use Rattle.std.specs.Option.{option_to_list};
+ghost use Rattle.yl_indentation.specs.Facts.{is_entry_after, is_checked};
+ghost use Rattle.yl_indentation.specs.Context.{nothing_open, with_lexeme_in, with_lexeme, open_after, after, around, expectation_around, fact_here, fact_in};
+
+use crate::element::{Element, Site};
+use crate::expected::{
+    begins_line, expectation_in_block, expectation_in_brackets, expectation_of_items, is_content,
+};
+use crate::fact::{Expectation, Fact};
+use std::alloc::{AllocError, Allocator};
+use std::marker::Model;
+use yl_lexeme::Kind;
+use yl_marks::{Collection, Token};
+
+/// An open collection.
+#[derive(Clone, Copy)]
+pub enum OpenCollection {
+    /// One in a block, with its column, and whether the latest of its own entries, keys and values
+    /// is an entry.
+    Block(Collection, u32, bool),
+    /// One in brackets: the leading spaces of its line, and where its items are expected.
+    Brackets(u32, Expectation),
+}
+
+fn is_entry_after(kind: Kind, before: bool) -> bool
+    ensures { result ≡ is_entry_after kind before }
+{
+    match kind {
+        Kind::Entry => true,
+        Kind::Key | Kind::Value => false,
+        _ => before,
+    }
+}
+
+fn with_lexeme_in(kind: Kind, opened: OpenCollection) -> OpenCollection
+    ensures { result ≡ with_lexeme_in kind opened }
+{
+    match opened {
+        OpenCollection::Block(collection, column, in_entries) => {
+            OpenCollection::Block(collection, column, is_entry_after(kind, in_entries))
+        }
+        brackets => brackets,
+    }
+}
+
+/// Notes a lexeme in the innermost collection.
+fn note<A: Allocator>(
+    kind: Kind,
+    collections: &mut Vec<OpenCollection, A>,
+) -> Result<(), AllocError>
+    ensures { OnOk result (reverse collections.new.items ≡ with_lexeme kind (reverse collections.old.items)) }
+{
+    if let Some(opened) = collections.pop() {
+        collections.push(with_lexeme_in(kind, opened))?;
+    }
+    Ok(())
+}
+
+/// Opens and closes the collections that the element opens and closes.
+fn pass_open<A: Allocator>(
+    element: Element,
+    collections: &mut Vec<OpenCollection, A>,
+) -> Result<(), AllocError>
+    ensures { OnOk result (reverse collections.new.items ≡ open_after element (reverse collections.old.items)) }
+{
+    match element {
+        Element::Opening(collection, column) => {
+            collections.push(OpenCollection::Block(collection, column, false))?;
+        }
+        Element::OpeningBracket(site) => {
+            let items = expectation_of_items(site.token.start.line, site.indentation, site.next);
+            collections.push(OpenCollection::Brackets(site.indentation, items))?;
+        }
+        Element::Closing | Element::ClosingBracket(_) => {
+            let _ = collections.pop();
+        }
+        Element::Marker(_) => collections.clear(),
+        Element::Other(site) => note(site.token.kind, collections)?,
+        Element::Nothing => {}
+    }
+    Ok(())
+}
+
+/// The innermost open collection, without one that opened directly before the place.
+fn around(just_opened: bool, collections: &[OpenCollection]) -> Option<OpenCollection>
+    ensures { result ≡ around just_opened (reverse collections.now) }
+{
+    match collections {
+        [outer @ .., _] if just_opened => outer.last().copied(),
+        _ => collections.last().copied(),
+    }
+}
+
+fn expectation_around(
+    around: Option<OpenCollection>,
+    latest: Option<Token>,
+    token: Token,
+) -> Option<Expectation>
+    ensures { result ≡ expectation_around around latest token }
+{
+    match around {
+        None => Some(Expectation::At(0)),
+        Some(OpenCollection::Block(collection, column, in_entries)) => {
+            expectation_in_block(collection, column, in_entries, token)
+        }
+        Some(OpenCollection::Brackets(indentation, items)) => {
+            expectation_in_brackets(indentation, items, latest, token)
+        }
+    }
+}
+
+fn is_checked(site: Site, latest: Option<Token>) -> bool
+    ensures { result ≡ is_checked site latest }
+{
+    site.counts && is_content(site.token.kind) && begins_line(site.token, latest)
+}
+
+/// What counts of the elements before a place.
+#[derive(Drop)]
+pub struct Context<A: Allocator> {
+    /// The open collections, the outermost first.
+    collections: Vec<OpenCollection, A>,
+    latest: Option<Token>,
+    /// A collection opened directly before the place.
+    just_opened: bool,
+}
+
+impl<A: Allocator> Model for Context<A> {
+    ghost use Rattle.std.specs.Prelude.{reverse};
+    ghost use Rattle.yl_indentation.specs.Context.{ContextValue};
+
+    ghost Value = { ContextValue };
+
+    ghost view = { λ c. record { open_ones = reverse c.collections.items; latest = c.latest; just_opened = c.just_opened } };
+}
+
+impl<A: Allocator> Context<A> {
+    /// At the start of a document.
+    pub fn new(alloc: A) -> Context<A>
+        ensures { result ≡ nothing_open }
+    {
+        Context {
+            collections: Vec::new(alloc),
+            latest: None,
+            just_opened: false,
+        }
+    }
+
+    fn fact_here(&self, site: Site) -> Option<Fact>
+        ensures { option_to_list result ≡ fact_here self.now site }
+    {
+        if !is_checked(site, self.latest) {
+            return None;
+        }
+        let around = around(self.just_opened, &self.collections);
+        match expectation_around(around, self.latest, site.token) {
+            None => None,
+            Some(expectation) => Some(Fact {
+                line: site.token.start.line,
+                column: site.token.start.col,
+                expectation,
+            }),
+        }
+    }
+
+    /// The fact of an element, if its place is checked.
+    pub fn fact(&self, element: Element) -> Option<Fact>
+        ensures { option_to_list result ≡ fact_in self.now element }
+    {
+        match element {
+            Element::OpeningBracket(site) | Element::ClosingBracket(site) | Element::Other(site) =>
+                { self.fact_here(site) }
+            _ => None,
+        }
+    }
+
+    /// Goes on after an element. The only error is out of memory; the context then says nothing
+    /// more of the document.
+    pub fn pass(&mut self, element: Element) -> Result<(), AllocError>
+        ensures { OnOk result (self.new ≡ after element self.old) }
+    {
+        pass_open(element, &mut self.collections)?;
+        self.just_opened = matches!(element, Element::Opening(_, _));
+        match element {
+            Element::Marker(site)
+            | Element::OpeningBracket(site)
+            | Element::ClosingBracket(site)
+            | Element::Other(site) => self.latest = Some(site.token),
+            _ => {}
+        }
+        Ok(())
+    }
+}

@@ -1,0 +1,94 @@
+//! The elements of a document: its lexemes, each with what stands around it, and the marks
+//! between them.
+ghost use Rattle.std.specs.Prelude.{◌≡◌, ◌<◌, ◌+◌, map, length, slice_get, slice_index};
+ghost use Rattle.yl_marks.specs.Keys.{lexeme_at_line, token_of};
+ghost use Rattle.yl_indentation.specs.Elements.{element_of, element_at};
+
+use std::alloc::Allocator;
+use yl_lexeme::{Kind, LexemeAtLine};
+use yl_marks::{Collection, Marked, Token, token_of};
+
+/// A lexeme and what stands around it.
+#[derive(Clone, Copy)]
+pub struct Site {
+    pub token: Token,
+    /// The lexeme after it.
+    pub next: Option<Token>,
+    /// How many spaces its line begins with.
+    pub indentation: u32,
+    /// Whether it is one of those whose place is checked.
+    pub counts: bool,
+}
+
+/// An element of a document.
+#[derive(Clone, Copy)]
+pub enum Element {
+    /// A block collection opens, in this column.
+    Opening(Collection, u32),
+    /// The innermost block collection closes.
+    Closing,
+    /// `---` or `...`.
+    Marker(Site),
+    /// `[` or `{`.
+    OpeningBracket(Site),
+    /// `]` or `}`.
+    ClosingBracket(Site),
+    /// Any other lexeme.
+    Other(Site),
+    /// No lexeme has the mark's index.
+    Nothing,
+}
+
+fn token_at<A: Allocator>(lexemes: &[LexemeAtLine<'_, A>], i: usize) -> Option<Token>
+    ensures { result ≡ slice_get (map token_of (map (λ x. lexeme_at_line x.line x.lexeme.now) lexemes.now)) i }
+{
+    match lexemes.get(i) {
+        None => None,
+        Some(at) => Some(token_of(at)),
+    }
+}
+
+fn indentation_at(indentations: &[u32], line: u32) -> u32
+    ensures { result ≡ slice_index indentations.now line }
+{
+    match indentations.get(line as usize) {
+        None => 0,
+        Some(spaces) => *spaces,
+    }
+}
+
+fn element_at(site: Site) -> Element
+    ensures { result ≡ element_at site.token.kind site }
+{
+    match site.token.kind {
+        Kind::DocStart | Kind::DocEnd => Element::Marker(site),
+        Kind::SeqOpen | Kind::MapOpen => Element::OpeningBracket(site),
+        Kind::SeqClose | Kind::MapClose => Element::ClosingBracket(site),
+        _ => Element::Other(site),
+    }
+}
+
+/// The element of a mark, in a document with these lexemes, of which the first `counted` count.
+/// `indentations` are the leading spaces of its lines.
+pub fn element_of<A: Allocator>(
+    lexemes: &[LexemeAtLine<'_, A>],
+    counted: usize,
+    indentations: &[u32],
+    mark: Marked,
+) -> Element
+    ensures { result ≡ element_of (map token_of (map (λ x. lexeme_at_line x.line x.lexeme.now) lexemes.now)) counted indentations.now mark }
+{
+    match mark {
+        Marked::Open(collection, column) => Element::Opening(collection, column),
+        Marked::Close => Element::Closing,
+        Marked::Lexeme(i, _) => match token_at(lexemes, i) {
+            None => Element::Nothing,
+            Some(token) => element_at(Site {
+                token,
+                next: token_at(lexemes, i.saturating_add(1)),
+                indentation: indentation_at(indentations, token.start.line),
+                counts: i < counted,
+            }),
+        },
+    }
+}

@@ -1,0 +1,36 @@
+//! The rule indentation: where the first lexemes of lines are expected, and the problems of those
+//! that stand elsewhere.
+//!
+//! The definition, `specs/Facts.antt`, looks back over the lexemes and marks before a place. The
+//! code keeps the collections that are open: `specs/Context.antt`. What a text decides for all its
+//! documents is their `Measure`.
+#![tactic(auto)]
+
+ghost use Rattle.yl_indentation.specs.Laws.{MeasureIsLocal, ProblemsAreByDocuments};
+
+mod context;
+mod element;
+mod expected;
+mod fact;
+mod facts;
+mod measure;
+mod options;
+mod problems;
+
+pub use fact::{Expectation, Fact};
+pub use facts::indent_facts;
+pub use measure::Measure;
+pub use options::{IndentSequences, IndentationOptions, Spaces};
+pub use problems::indent_problems;
+
+/// A law: the measure of facts one after another is that of the earlier ones and then that of the
+/// later ones.
+pub fn measure_is_local()
+    ensures { MeasureIsLocal }
+{}
+
+/// A law: the problems of a text are those of its documents, one after another, each by the measure
+/// of the earlier ones and that of all.
+pub fn problems_are_by_documents()
+    ensures { ProblemsAreByDocuments }
+{}

@@ -1,0 +1,96 @@
+//! What the facts of a text decide for all of it.
+ghost use Rattle.std.specs.Prelude.{◌≡◌, ◌-◌};
+ghost use Rattle.yl_indentation.specs.Measures.{empty_measure, first, and_later, positive_step, measure_at, measure_of};
+
+use crate::fact::{Expectation, Fact};
+
+/// What facts decide: the first step, which is the width where the option spaces is consistent, and
+/// how sequences in mappings stand. A measure is kept of each document; that of a text is made of
+/// them by `and_later`. Steps are in characters.
+#[derive(Clone, Copy, Debug, PartialEq, Eq)]
+pub struct Measure {
+    /// The first positive distance of a lexeme from its base, entries in mappings left out.
+    pub step: Option<u32>,
+    /// The same, entries in mappings counted.
+    pub step_with_entries: Option<u32>,
+    /// Whether the first entry in a mapping stands in the mapping's column.
+    pub flush: Option<bool>,
+}
+
+/// The earlier one, if there is one.
+fn first<T: Copy>(earlier: Option<T>, later: Option<T>) -> Option<T>
+    ensures { result ≡ first earlier later }
+{
+    match earlier {
+        None => later,
+        Some(_) => earlier,
+    }
+}
+
+/// How far a column stands past a base, if it does.
+fn positive_step(column: u32, base: u32) -> Option<u32>
+    ensures { result ≡ positive_step (column - base) }
+{
+    if column > base {
+        Some(column - base)
+    } else {
+        None
+    }
+}
+
+impl Measure {
+    /// The measure of no facts.
+    pub fn empty() -> Measure
+        ensures { result ≡ empty_measure }
+    {
+        Measure {
+            step: None,
+            step_with_entries: None,
+            flush: None,
+        }
+    }
+
+    /// The measure of one fact.
+    pub(crate) fn at(fact: Fact) -> Measure
+        ensures { result ≡ measure_at fact.column fact.expectation }
+    {
+        match fact.expectation {
+            Expectation::At(_) => Measure::empty(),
+            Expectation::Beyond(base) => {
+                let step = positive_step(fact.column, base);
+                Measure {
+                    step,
+                    step_with_entries: step,
+                    flush: None,
+                }
+            }
+            Expectation::EntryIn(base) => Measure {
+                step: None,
+                step_with_entries: positive_step(fact.column, base),
+                flush: Some(fact.column == base),
+            },
+        }
+    }
+
+    /// The measure of earlier facts and then of later ones.
+    pub fn and_later(self, later: Measure) -> Measure
+        ensures { result ≡ and_later self later }
+    {
+        Measure {
+            step: first(self.step, later.step),
+            step_with_entries: first(self.step_with_entries, later.step_with_entries),
+            flush: first(self.flush, later.flush),
+        }
+    }
+
+    /// The measure of these facts.
+    pub fn of(facts: &[Fact]) -> Measure
+        ensures { result ≡ measure_of facts.now }
+    {
+        let mut measure = Measure::empty();
+        for fact in facts {
+            measure = measure.and_later(Measure::at(*fact));
+        }
+        measure
+    }
+}

@@ -1,0 +1,154 @@
+//! The problems of the rule indentation.
+ghost use Rattle.std.specs.Prelude.{◌≡◌, ◌++◌, IfOk, OnOk};
+ghost use Rattle.std.specs.Option.{option_to_list};
+ghost use Rattle.yl_indentation.specs.Measures.{is_flush};
+ghost use Rattle.yl_indentation.specs.Problems.{is_indented, width, not_as_expected, not_beyond, finding_by_width, finding_by, finding_at, indent_problems};
+
+use crate::fact::{Expectation, Fact};
+use crate::measure::Measure;
+use crate::options::{IndentSequences, IndentationOptions, Spaces};
+use std::alloc::{AllocError, Allocator};
+use yl_text::{Finding, RuleId};
+
+/// Whether an entry in a mapping is to be indented from it. `at_base`: it stands in the mapping's
+/// column.
+fn is_indented(choice: IndentSequences, flush: bool, at_base: bool) -> bool
+    ensures { result ≡ is_indented choice flush at_base }
+{
+    match choice {
+        IndentSequences::Indented => true,
+        IndentSequences::NotIndented => false,
+        IndentSequences::Whatever => !at_base,
+        IndentSequences::Consistent => !flush,
+    }
+}
+
+/// Whether the first entry in a mapping stands in the mapping's column.
+fn is_flush(measure: Measure) -> bool
+    ensures { result ≡ is_flush measure }
+{
+    match measure.flush {
+        None => false,
+        Some(flush) => flush,
+    }
+}
+
+/// The width at a place, where `here` is the measure of the facts up to it.
+fn width(options: &IndentationOptions, here: Measure, flush: bool) -> Option<u32>
+    ensures { result ≡ width options.now here flush }
+{
+    match options.spaces {
+        Spaces::Every(width) => Some(width),
+        Spaces::Consistent if is_indented(options.indent_sequences, flush, false) => {
+            here.step_with_entries
+        }
+        Spaces::Consistent => here.step,
+    }
+}
+
+fn not_as_expected<A: Allocator + Copy>(
+    alloc: A,
+    expected: u64,
+    fact: Fact,
+) -> Result<Option<Finding<A>>, AllocError>
+    ensures { IfOk result (λ o. option_to_list o ≡ not_as_expected expected fact) }
+{
+    let Fact { line, column, .. } = fact;
+    if expected == u64::from(column) {
+        return Ok(None);
+    }
+    let message = format!(in alloc; "wrong indentation: expected {expected} but found {column}")?;
+    let line = u64::from(line) + 1;
+    let column = u64::from(column) + 1;
+    Ok(Some(Finding::new(line, column, RuleId::Indentation, message)))
+}
+
+fn not_beyond<A: Allocator + Copy>(
+    alloc: A,
+    least: u64,
+    fact: Fact,
+) -> Result<Option<Finding<A>>, AllocError>
+    ensures { IfOk result (λ o. option_to_list o ≡ not_beyond least fact) }
+{
+    let Fact { line, column, .. } = fact;
+    if least <= u64::from(column) {
+        return Ok(None);
+    }
+    let message = format!(in alloc; "wrong indentation: expected at least {least}")?;
+    let line = u64::from(line) + 1;
+    let column = u64::from(column) + 1;
+    Ok(Some(Finding::new(line, column, RuleId::Indentation, message)))
+}
+
+fn finding_by_width<A: Allocator + Copy>(
+    alloc: A,
+    width: Option<u32>,
+    base: u32,
+    fact: Fact,
+) -> Result<Option<Finding<A>>, AllocError>
+    ensures { IfOk result (λ o. option_to_list o ≡ finding_by_width width base fact) }
+{
+    match width {
+        None => not_beyond(alloc, u64::from(base) + 1, fact),
+        Some(width) => not_as_expected(alloc, u64::from(base) + u64::from(width), fact),
+    }
+}
+
+fn finding_by<A: Allocator + Copy>(
+    alloc: A,
+    choice: IndentSequences,
+    flush: bool,
+    width: Option<u32>,
+    fact: Fact,
+) -> Result<Option<Finding<A>>, AllocError>
+    ensures { IfOk result (λ o. option_to_list o ≡ finding_by choice flush width fact fact.expectation) }
+{
+    match fact.expectation {
+        Expectation::At(column) => not_as_expected(alloc, u64::from(column), fact),
+        Expectation::Beyond(base) => finding_by_width(alloc, width, base, fact),
+        Expectation::EntryIn(base) if is_indented(choice, flush, fact.column == base) => {
+            finding_by_width(alloc, width, base, fact)
+        }
+        Expectation::EntryIn(base) => not_as_expected(alloc, u64::from(base), fact),
+    }
+}
+
+/// Adds the problem of a fact, if it has one.
+fn push_found<A: Allocator + Copy>(
+    alloc: A,
+    options: &IndentationOptions,
+    here: Measure,
+    flush: bool,
+    fact: Fact,
+    found: &mut Vec<Finding<A>, A>,
+) -> Result<(), AllocError>
+    ensures { OnOk result (found.new.items ≡ found.old.items ++ finding_at options.now here flush fact) }
+{
+    let width = width(options, here, flush);
+    if let Some(one) = finding_by(alloc, options.indent_sequences, flush, width, fact)? {
+        found.push(one)?;
+    }
+    Ok(())
+}
+
+/// The problems of one document's facts. `before` is the measure of the facts of all earlier
+/// documents of the text, `whole` that of all its facts. Lines and columns of problems count from 1.
+/// The only error is out of memory.
+pub fn indent_problems<A: Allocator + Copy>(
+    alloc: A,
+    facts: &[Fact],
+    options: &IndentationOptions,
+    before: Measure,
+    whole: Measure,
+) -> Result<Vec<Finding<A>, A>, AllocError>
+    ensures { IfOk result (λ v. v.items ≡ indent_problems options.now before whole facts.now) }
+{
+    let flush = is_flush(whole);
+    let mut here = before;
+    let mut found = Vec::new(alloc);
+    for fact in facts {
+        here = here.and_later(Measure::at(*fact));
+        push_found(alloc, options, here, flush, *fact, &mut found)?;
+    }
+    Ok(found)
+}

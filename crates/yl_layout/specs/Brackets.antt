@@ -1,0 +1,96 @@
+-- Meaning: yamllint's rules braces and brackets, which are one rule over two kinds of flow collections.
+use Rattle.std.specs.Prelude.{ℕ, Bool, true, false, if◌then◌else◌, List, [], ◌∷◌, ◌++◌, ◌+◌, codes, Option, Some, None}
+use Rattle.yl_lexeme.specs.declared.lexeme.Kind.{Kind}
+use Rattle.yl_lexeme.specs.declared.lexeme.Kind.TheVariants.{SeqOpen, SeqClose, MapOpen, MapClose}
+use Rattle.yl_text.specs.declared.finding.RuleId.{RuleId}
+use Rattle.yl_text.specs.declared.finding.RuleId.TheVariants.{Braces, Brackets}
+use Rattle.yl_text.specs.Finding.{FindingValue, one_finding}
+use Rattle.yl_layout.specs.declared.span.Span.{Span}
+use Rattle.yl_layout.specs.declared.brackets.Flow.{Flow}
+use Rattle.yl_layout.specs.declared.brackets.Flow.TheVariants.{Mapping, Sequence}
+use Rattle.yl_layout.specs.declared.brackets.Forbid.{Forbid}
+use Rattle.yl_layout.specs.declared.brackets.Forbid.TheVariants.{Nothing, NonEmpty, Everything}
+use Rattle.yl_layout.specs.declared.brackets.BracketsOptions.{BracketsOptions}
+use Rattle.yl_layout.specs.Spans.{too_many, too_few}
+
+-- ---- the two kinds
+
+abbrev pub rule_of : Flow → RuleId
+rule_of Mapping = Braces
+rule_of Sequence = Brackets
+
+abbrev pub opens : Flow → Kind → Bool
+opens Mapping MapOpen = true
+opens Mapping _ = false
+opens Sequence SeqOpen = true
+opens Sequence _ = false
+
+abbrev pub closes : Flow → Kind → Bool
+closes Mapping MapClose = true
+closes Mapping _ = false
+closes Sequence SeqClose = true
+closes Sequence _ = false
+
+abbrev pub forbidden_text : Flow → List ℕ
+forbidden_text Mapping = codes "forbidden flow mapping"
+forbidden_text Sequence = codes "forbidden flow sequence"
+
+abbrev pub too_few_text : Flow → List ℕ
+too_few_text Mapping = codes "too few spaces inside braces"
+too_few_text Sequence = codes "too few spaces inside brackets"
+
+abbrev pub too_many_text : Flow → List ℕ
+too_many_text Mapping = codes "too many spaces inside braces"
+too_many_text Sequence = codes "too many spaces inside brackets"
+
+abbrev pub too_few_empty_text : Flow → List ℕ
+too_few_empty_text Mapping = codes "too few spaces inside empty braces"
+too_few_empty_text Sequence = codes "too few spaces inside empty brackets"
+
+abbrev pub too_many_empty_text : Flow → List ℕ
+too_many_empty_text Mapping = codes "too many spaces inside empty braces"
+too_many_empty_text Sequence = codes "too many spaces inside empty brackets"
+
+-- ---- the rule
+
+abbrev pub or_else : Option ℕ → Option ℕ → Option ℕ
+or_else None other = other
+or_else (Some n) other = Some n
+
+-- the bounds on the distance of two lexemes of which one is a bracket, and on that of two brackets with nothing between
+abbrev pub inside : Flow → BracketsOptions → Span → Span → List FindingValue
+inside flow o x y =
+    too_few (rule_of flow) o.min_spaces_inside x y (too_few_text flow) ++ too_many (rule_of flow) o.max_spaces_inside x y (too_many_text flow)
+
+abbrev pub inside_empty : Flow → BracketsOptions → Span → Span → List FindingValue
+inside_empty flow o x y =
+    too_few (rule_of flow) (or_else o.min_spaces_inside_empty o.min_spaces_inside) x y (too_few_empty_text flow)
+    ++ too_many (rule_of flow) (or_else o.max_spaces_inside_empty o.max_spaces_inside) x y (too_many_empty_text flow)
+
+-- told of the character behind the bracket
+abbrev pub forbidden : Flow → Span → List FindingValue
+forbidden flow x = one_finding (rule_of flow) (x.start.line + 1) (x.start.col + 2) (forbidden_text flow)
+
+-- at an opening bracket and the lexeme behind it
+abbrev pub behind_opening_at : Flow → BracketsOptions → Forbid → Span → Option Span → List FindingValue
+behind_opening_at flow o Everything x after = forbidden flow x
+behind_opening_at flow o NonEmpty x None = []
+behind_opening_at flow o NonEmpty x (Some y) = if closes flow y.kind then inside_empty flow o x y else forbidden flow x
+behind_opening_at flow o Nothing x None = []
+behind_opening_at flow o Nothing x (Some y) = if closes flow y.kind then inside_empty flow o x y else inside flow o x y
+
+-- at a closing bracket and the lexeme before it
+abbrev pub before_closing : Flow → BracketsOptions → Option Span → Span → List FindingValue
+before_closing flow o None y = []
+before_closing flow o (Some x) y = if opens flow x.kind then [] else inside flow o x y
+
+abbrev pub brackets_by : Flow → BracketsOptions → Option Span → Span → Option Span → List FindingValue
+brackets_by flow o before x after =
+    if opens flow x.kind then behind_opening_at flow o o.forbid x after
+    else if closes flow x.kind then before_closing flow o before x
+    else []
+
+-- at a lexeme between its neighbours, if the rule is on
+abbrev pub brackets : Flow → Option BracketsOptions → Option Span → Span → Option Span → List FindingValue
+brackets flow None before x after = []
+brackets flow (Some o) before x after = brackets_by flow o before x after

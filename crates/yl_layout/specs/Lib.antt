@@ -1,0 +1,11 @@
+pub mod Spans
+pub mod Brackets
+pub mod Colons
+pub mod Commas
+pub mod Hyphens
+pub mod DocumentStart
+pub mod Truthy
+pub mod Strings
+pub mod QuotedStrings
+pub mod Lexemes
+pub mod Standard

@@ -1,0 +1,40 @@
+-- Meaning: lexemes by their kinds and places, and the distances between them.
+use Rattle.std.specs.Prelude.{ℕ, Bool, true, false, ◌==◌, nat_lt, if◌then◌else◌, List, [], ◌∷◌, ◌+◌, ◌-◌, Option, Some, None}
+use Rattle.yl_lexeme.specs.Lexeme.{LexemeValue}
+use Rattle.yl_text.specs.declared.finding.RuleId.{RuleId}
+use Rattle.yl_text.specs.Finding.{FindingValue, one_finding}
+use Rattle.yl_layout.specs.declared.span.Span.{Span}
+
+-- a lexeme of the text without its value
+abbrev pub span_of : LexemeValue → Span
+span_of x = record { kind = x.kind; start = x.start; end_line = x.end.line; end_col = x.end.col }
+
+-- how many characters stand between two lexemes of one line
+abbrev pub distance : Span → Span → Option ℕ
+distance x y = if x.end_line == y.start.line then Some (y.start.col - x.end_col) else None
+
+-- more than a bound, where there are both; and less
+abbrev pub is_above : Option ℕ → Option ℕ → Bool
+is_above None most = false
+is_above (Some n) None = false
+is_above (Some n) (Some most) = nat_lt most n
+
+abbrev pub is_below : Option ℕ → Option ℕ → Bool
+is_below None least = false
+is_below (Some n) None = false
+is_below (Some n) (Some least) = nat_lt n least
+
+-- told of the character directly before the second lexeme
+abbrev pub too_many : RuleId → Option ℕ → Span → Span → List ℕ → List FindingValue
+too_many rule most x y message =
+    if is_above (distance x y) most then one_finding rule (y.start.line + 1) y.start.col message else []
+
+-- told of the second lexeme
+abbrev pub too_few : RuleId → Option ℕ → Span → Span → List ℕ → List FindingValue
+too_few rule least x y message =
+    if is_below (distance x y) least then one_finding rule (y.start.line + 1) (y.start.col + 1) message else []
+
+-- the same behind a lexeme, if another follows it
+abbrev pub too_many_behind : RuleId → Option ℕ → Span → Option Span → List ℕ → List FindingValue
+too_many_behind rule most x None message = []
+too_many_behind rule most x (Some y) message = too_many rule most x y message

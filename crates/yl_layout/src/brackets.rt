@@ -1,0 +1,278 @@
+//! The rules braces and brackets: one rule over two kinds of flow collections.
+ghost use Rattle.std.specs.Prelude.{◌≡◌, ◌++◌, ◌+◌, ◌<◌, ◌^◌, OnOk};
+ghost use Rattle.yl_layout.specs.Brackets.{before_closing, behind_opening_at, brackets, brackets_by, forbidden, inside, inside_empty, or_else};
+
+use crate::report::{report, report_too_few, report_too_many};
+use crate::span::Span;
+use std::alloc::{AllocError, Allocator};
+use yl_lexeme::Kind;
+use yl_text::{Finding, RuleId};
+
+/// Which flow collections are forbidden.
+#[derive(Clone, Copy, Debug, PartialEq, Eq)]
+pub enum Forbid {
+    Nothing,
+    /// Those that hold something.
+    NonEmpty,
+    Everything,
+}
+
+/// How many characters may stand behind an opening bracket and before a closing one, in one line.
+/// `None` is no bound; of empty collections it is the bound of the others.
+#[derive(Clone, Copy, Debug, PartialEq, Eq)]
+pub struct BracketsOptions {
+    pub forbid: Forbid,
+    pub min_spaces_inside: Option<u32>,
+    pub max_spaces_inside: Option<u32>,
+    pub min_spaces_inside_empty: Option<u32>,
+    pub max_spaces_inside_empty: Option<u32>,
+}
+
+impl BracketsOptions {
+    ghost use Rattle.std.specs.Prelude.{◌≡◌};
+    ghost use Rattle.yl_layout.specs.Standard.{standard_brackets};
+
+    /// Those of yamllint's default configuration.
+    pub fn standard() -> BracketsOptions
+        ensures { result ≡ standard_brackets }
+    {
+        BracketsOptions {
+            forbid: Forbid::Nothing,
+            min_spaces_inside: Some(0),
+            max_spaces_inside: Some(0),
+            min_spaces_inside_empty: None,
+            max_spaces_inside_empty: None,
+        }
+    }
+}
+
+/// The two kinds of flow collections.
+#[derive(Clone, Copy)]
+pub(crate) enum Flow {
+    Mapping,
+    Sequence,
+}
+
+impl Flow {
+    ghost use Rattle.std.specs.Prelude.{◌≡◌};
+    ghost use Rattle.yl_layout.specs.Brackets.{closes, forbidden_text, opens, rule_of, too_few_empty_text, too_few_text, too_many_empty_text, too_many_text};
+
+    fn rule(self) -> RuleId
+        ensures { result ≡ rule_of self }
+    {
+        match self {
+            Flow::Mapping => RuleId::Braces,
+            Flow::Sequence => RuleId::Brackets,
+        }
+    }
+
+    fn opens(self, kind: Kind) -> bool
+        ensures { result ≡ opens self kind }
+    {
+        match self {
+            Flow::Mapping => matches!(kind, Kind::MapOpen),
+            Flow::Sequence => matches!(kind, Kind::SeqOpen),
+        }
+    }
+
+    fn closes(self, kind: Kind) -> bool
+        ensures { result ≡ closes self kind }
+    {
+        match self {
+            Flow::Mapping => matches!(kind, Kind::MapClose),
+            Flow::Sequence => matches!(kind, Kind::SeqClose),
+        }
+    }
+
+    fn forbidden_text(self) -> &'static str
+        ensures { result.now ≡ forbidden_text self }
+    {
+        match self {
+            Flow::Mapping => "forbidden flow mapping",
+            Flow::Sequence => "forbidden flow sequence",
+        }
+    }
+
+    fn too_few_text(self) -> &'static str
+        ensures { result.now ≡ too_few_text self }
+    {
+        match self {
+            Flow::Mapping => "too few spaces inside braces",
+            Flow::Sequence => "too few spaces inside brackets",
+        }
+    }
+
+    fn too_many_text(self) -> &'static str
+        ensures { result.now ≡ too_many_text self }
+    {
+        match self {
+            Flow::Mapping => "too many spaces inside braces",
+            Flow::Sequence => "too many spaces inside brackets",
+        }
+    }
+
+    fn too_few_empty_text(self) -> &'static str
+        ensures { result.now ≡ too_few_empty_text self }
+    {
+        match self {
+            Flow::Mapping => "too few spaces inside empty braces",
+            Flow::Sequence => "too few spaces inside empty brackets",
+        }
+    }
+
+    fn too_many_empty_text(self) -> &'static str
+        ensures { result.now ≡ too_many_empty_text self }
+    {
+        match self {
+            Flow::Mapping => "too many spaces inside empty braces",
+            Flow::Sequence => "too many spaces inside empty brackets",
+        }
+    }
+}
+
+/// Holds the distance of two lexemes against the bounds inside brackets.
+fn push_inside<A: Allocator>(
+    problems: &mut Vec<Finding<A>, A>,
+    flow: Flow,
+    options: BracketsOptions,
+    x: Span,
+    y: Span,
+) -> Result<(), AllocError>
+    ensures { OnOk result (problems.new.items ≡ problems.old.items ++ inside flow options x y) }
+{
+    let rule = flow.rule();
+    report_too_few(
+        problems,
+        rule,
+        options.min_spaces_inside,
+        x,
+        y,
+        flow.too_few_text(),
+    )?;
+    report_too_many(
+        problems,
+        rule,
+        options.max_spaces_inside,
+        x,
+        y,
+        flow.too_many_text(),
+    )?;
+    Ok(())
+}
+
+/// The same of two brackets with nothing between them.
+fn push_inside_empty<A: Allocator>(
+    problems: &mut Vec<Finding<A>, A>,
+    flow: Flow,
+    options: BracketsOptions,
+    x: Span,
+    y: Span,
+) -> Result<(), AllocError>
+    ensures { OnOk result (problems.new.items ≡ problems.old.items ++ inside_empty flow options x y) }
+{
+    let rule = flow.rule();
+    let least = options
+        .min_spaces_inside_empty
+        .or(options.min_spaces_inside);
+    let most = options
+        .max_spaces_inside_empty
+        .or(options.max_spaces_inside);
+    report_too_few(problems, rule, least, x, y, flow.too_few_empty_text())?;
+    report_too_many(problems, rule, most, x, y, flow.too_many_empty_text())?;
+    Ok(())
+}
+
+fn push_forbidden<A: Allocator>(
+    problems: &mut Vec<Finding<A>, A>,
+    flow: Flow,
+    x: Span,
+) -> Result<(), AllocError>
+    ensures { OnOk result (problems.new.items ≡ problems.old.items ++ forbidden flow x) }
+{
+    let line = u64::from(x.start.line) + 1;
+    let column = u64::from(x.start.col) + 2;
+    report(problems, flow.rule(), line, column, flow.forbidden_text())
+}
+
+/// At an opening bracket and the lexeme behind it.
+fn push_behind_opening<A: Allocator>(
+    problems: &mut Vec<Finding<A>, A>,
+    flow: Flow,
+    options: BracketsOptions,
+    x: Span,
+    after: Option<Span>,
+) -> Result<(), AllocError>
+    ensures { OnOk result (problems.new.items ≡ problems.old.items ++ behind_opening_at flow options options.forbid x after) }
+{
+    match (options.forbid, after) {
+        (Forbid::Everything, _) => push_forbidden(problems, flow, x),
+        (_, None) => Ok(()),
+        (forbid, Some(y)) => {
+            if flow.closes(y.kind) {
+                push_inside_empty(problems, flow, options, x, y)
+            } else if forbid == Forbid::NonEmpty {
+                push_forbidden(problems, flow, x)
+            } else {
+                push_inside(problems, flow, options, x, y)
+            }
+        }
+    }
+}
+
+/// At a closing bracket and the lexeme before it.
+fn push_before_closing<A: Allocator>(
+    problems: &mut Vec<Finding<A>, A>,
+    flow: Flow,
+    options: BracketsOptions,
+    before: Option<Span>,
+    y: Span,
+) -> Result<(), AllocError>
+    ensures { OnOk result (problems.new.items ≡ problems.old.items ++ before_closing flow options before y) }
+{
+    match before {
+        None => Ok(()),
+        Some(x) => {
+            if flow.opens(x.kind) {
+                Ok(())
+            } else {
+                push_inside(problems, flow, options, x, y)
+            }
+        }
+    }
+}
+
+fn push_brackets_by<A: Allocator>(
+    problems: &mut Vec<Finding<A>, A>,
+    flow: Flow,
+    options: BracketsOptions,
+    before: Option<Span>,
+    x: Span,
+    after: Option<Span>,
+) -> Result<(), AllocError>
+    ensures { OnOk result (problems.new.items ≡ problems.old.items ++ brackets_by flow options before x after) }
+{
+    if flow.opens(x.kind) {
+        push_behind_opening(problems, flow, options, x, after)
+    } else if flow.closes(x.kind) {
+        push_before_closing(problems, flow, options, before, x)
+    } else {
+        Ok(())
+    }
+}
+
+/// Puts behind the problems what the rule finds at a lexeme between its neighbours, if it is on.
+pub(crate) fn push_brackets<A: Allocator>(
+    problems: &mut Vec<Finding<A>, A>,
+    flow: Flow,
+    options: Option<BracketsOptions>,
+    before: Option<Span>,
+    x: Span,
+    after: Option<Span>,
+) -> Result<(), AllocError>
+    ensures { OnOk result (problems.new.items ≡ problems.old.items ++ brackets flow options before x after) }
+{
+    match options {
+        None => Ok(()),
+        Some(options) => push_brackets_by(problems, flow, options, before, x, after),
+    }
+}

@@ -1,0 +1,126 @@
+//! The rule colons.
+ghost use Rattle.std.specs.Prelude.{◌≡◌, ◌++◌, Some, OnOk};
+ghost use Rattle.yl_layout.specs.Colons.{before_colon, behind_colon, behind_question_mark, colons, colons_by, round_colon};
+
+use crate::report::{report_too_many, report_too_many_behind};
+use crate::span::{Span, distance};
+use std::alloc::{AllocError, Allocator};
+use yl_lexeme::Kind;
+use yl_text::{Finding, RuleId};
+
+/// How many characters may stand before and behind a `:`, and behind a `?`, in one line. `None` is no bound.
+#[derive(Clone, Copy, Debug, PartialEq, Eq)]
+pub struct ColonsOptions {
+    pub max_spaces_before: Option<u32>,
+    pub max_spaces_after: Option<u32>,
+}
+
+impl ColonsOptions {
+    /// Those of yamllint's default configuration.
+    pub fn standard() -> ColonsOptions
+        ensures { result ≡ record { max_spaces_before = Some 0; max_spaces_after = Some 1 } }
+    {
+        ColonsOptions {
+            max_spaces_before: Some(0),
+            max_spaces_after: Some(1),
+        }
+    }
+}
+
+fn push_before_colon<A: Allocator>(
+    problems: &mut Vec<Finding<A>, A>,
+    options: ColonsOptions,
+    before: Option<Span>,
+    y: Span,
+) -> Result<(), AllocError>
+    ensures { OnOk result (problems.new.items ≡ problems.old.items ++ before_colon options before y) }
+{
+    let Some(x) = before else {
+        return Ok(());
+    };
+    // An alias needs one space: its name may hold a colon.
+    if matches!(x.kind, Kind::Alias) && distance(x, y) == Some(1) {
+        return Ok(());
+    }
+    let most = options.max_spaces_before;
+    report_too_many(
+        problems,
+        RuleId::Colons,
+        most,
+        x,
+        y,
+        "too many spaces before colon",
+    )
+}
+
+fn push_behind_colon<A: Allocator>(
+    problems: &mut Vec<Finding<A>, A>,
+    options: ColonsOptions,
+    x: Span,
+    after: Option<Span>,
+) -> Result<(), AllocError>
+    ensures { OnOk result (problems.new.items ≡ problems.old.items ++ behind_colon options x after) }
+{
+    let most = options.max_spaces_after;
+    let message = "too many spaces after colon";
+    report_too_many_behind(problems, RuleId::Colons, most, x, after, message)
+}
+
+fn push_behind_question_mark<A: Allocator>(
+    problems: &mut Vec<Finding<A>, A>,
+    options: ColonsOptions,
+    x: Span,
+    after: Option<Span>,
+) -> Result<(), AllocError>
+    ensures { OnOk result (problems.new.items ≡ problems.old.items ++ behind_question_mark options x after) }
+{
+    let most = options.max_spaces_after;
+    let message = "too many spaces after question mark";
+    report_too_many_behind(problems, RuleId::Colons, most, x, after, message)
+}
+
+fn push_round_colon<A: Allocator>(
+    problems: &mut Vec<Finding<A>, A>,
+    options: ColonsOptions,
+    before: Option<Span>,
+    x: Span,
+    after: Option<Span>,
+) -> Result<(), AllocError>
+    ensures { OnOk result (problems.new.items ≡ problems.old.items ++ round_colon options before x after) }
+{
+    push_before_colon(problems, options, before, x)?;
+    push_behind_colon(problems, options, x, after)?;
+    Ok(())
+}
+
+fn push_colons_by<A: Allocator>(
+    problems: &mut Vec<Finding<A>, A>,
+    options: ColonsOptions,
+    before: Option<Span>,
+    x: Span,
+    after: Option<Span>,
+) -> Result<(), AllocError>
+    ensures { OnOk result (problems.new.items ≡ problems.old.items ++ colons_by options before x after) }
+{
+    match x.kind {
+        Kind::Value => push_round_colon(problems, options, before, x, after),
+        Kind::Key => push_behind_question_mark(problems, options, x, after),
+        _ => Ok(()),
+    }
+}
+
+/// Puts behind the problems what the rule finds at a lexeme between its neighbours, if it is on.
+pub(crate) fn push_colons<A: Allocator>(
+    problems: &mut Vec<Finding<A>, A>,
+    options: Option<ColonsOptions>,
+    before: Option<Span>,
+    x: Span,
+    after: Option<Span>,
+) -> Result<(), AllocError>
+    ensures { OnOk result (problems.new.items ≡ problems.old.items ++ colons options before x after) }
+{
+    match options {
+        None => Ok(()),
+        Some(options) => push_colons_by(problems, options, before, x, after),
+    }
+}

@@ -1,0 +1,164 @@
+//! The rule commas.
+ghost use Rattle.std.specs.Prelude.{◌≡◌, ◌++◌, ◌+◌, ◌<◌, ◌^◌, Some, OnOk};
+ghost use Rattle.yl_layout.specs.Commas.{before_comma, behind_comma, commas, commas_by, few_behind_comma, first_comma, many_behind_comma};
+
+use crate::report::{report, report_too_few, report_too_many};
+use crate::span::Span;
+use std::alloc::{AllocError, Allocator};
+use yl_lexeme::Kind;
+use yl_text::{Finding, RuleId};
+
+/// How many characters may stand before and behind a `,` in one line. `None` is no bound.
+#[derive(Clone, Copy, Debug, PartialEq, Eq)]
+pub struct CommasOptions {
+    pub max_spaces_before: Option<u32>,
+    pub min_spaces_after: Option<u32>,
+    pub max_spaces_after: Option<u32>,
+}
+
+impl CommasOptions {
+    /// Those of yamllint's default configuration.
+    pub fn standard() -> CommasOptions
+        ensures { result ≡ record { max_spaces_before = Some 0; min_spaces_after = Some 1; max_spaces_after = Some 1 } }
+    {
+        CommasOptions {
+            max_spaces_before: Some(0),
+            min_spaces_after: Some(1),
+            max_spaces_after: Some(1),
+        }
+    }
+}
+
+/// At a comma whose line has nothing before it.
+fn push_first_comma<A: Allocator>(
+    problems: &mut Vec<Finding<A>, A>,
+    options: CommasOptions,
+    y: Span,
+) -> Result<(), AllocError>
+    ensures { OnOk result (problems.new.items ≡ problems.old.items ++ first_comma options y) }
+{
+    if options.max_spaces_before.is_none() {
+        return Ok(());
+    }
+    let line = u64::from(y.start.line) + 1;
+    let column = u64::from(y.start.col.max(1));
+    report(
+        problems,
+        RuleId::Commas,
+        line,
+        column,
+        "too many spaces before comma",
+    )
+}
+
+fn push_before_comma<A: Allocator>(
+    problems: &mut Vec<Finding<A>, A>,
+    options: CommasOptions,
+    before: Option<Span>,
+    y: Span,
+) -> Result<(), AllocError>
+    ensures { OnOk result (problems.new.items ≡ problems.old.items ++ before_comma options before y) }
+{
+    let Some(x) = before else {
+        return Ok(());
+    };
+    if x.end_line < u64::from(y.start.line) {
+        return push_first_comma(problems, options, y);
+    }
+    let most = options.max_spaces_before;
+    report_too_many(
+        problems,
+        RuleId::Commas,
+        most,
+        x,
+        y,
+        "too many spaces before comma",
+    )
+}
+
+fn push_few_behind_comma<A: Allocator>(
+    problems: &mut Vec<Finding<A>, A>,
+    options: CommasOptions,
+    x: Span,
+    y: Span,
+) -> Result<(), AllocError>
+    ensures { OnOk result (problems.new.items ≡ problems.old.items ++ few_behind_comma options x y) }
+{
+    let least = options.min_spaces_after;
+    report_too_few(
+        problems,
+        RuleId::Commas,
+        least,
+        x,
+        y,
+        "too few spaces after comma",
+    )
+}
+
+fn push_many_behind_comma<A: Allocator>(
+    problems: &mut Vec<Finding<A>, A>,
+    options: CommasOptions,
+    x: Span,
+    y: Span,
+) -> Result<(), AllocError>
+    ensures { OnOk result (problems.new.items ≡ problems.old.items ++ many_behind_comma options x y) }
+{
+    let most = options.max_spaces_after;
+    report_too_many(
+        problems,
+        RuleId::Commas,
+        most,
+        x,
+        y,
+        "too many spaces after comma",
+    )
+}
+
+fn push_behind_comma<A: Allocator>(
+    problems: &mut Vec<Finding<A>, A>,
+    options: CommasOptions,
+    x: Span,
+    after: Option<Span>,
+) -> Result<(), AllocError>
+    ensures { OnOk result (problems.new.items ≡ problems.old.items ++ behind_comma options x after) }
+{
+    let Some(y) = after else {
+        return Ok(());
+    };
+    push_few_behind_comma(problems, options, x, y)?;
+    push_many_behind_comma(problems, options, x, y)?;
+    Ok(())
+}
+
+fn push_commas_by<A: Allocator>(
+    problems: &mut Vec<Finding<A>, A>,
+    options: CommasOptions,
+    before: Option<Span>,
+    x: Span,
+    after: Option<Span>,
+) -> Result<(), AllocError>
+    ensures { OnOk result (problems.new.items ≡ problems.old.items ++ commas_by options before x after) }
+{
+    if !matches!(x.kind, Kind::Comma) {
+        return Ok(());
+    }
+    push_before_comma(problems, options, before, x)?;
+    push_behind_comma(problems, options, x, after)?;
+    Ok(())
+}
+
+/// Puts behind the problems what the rule finds at a lexeme between its neighbours, if it is on.
+pub(crate) fn push_commas<A: Allocator>(
+    problems: &mut Vec<Finding<A>, A>,
+    options: Option<CommasOptions>,
+    before: Option<Span>,
+    x: Span,
+    after: Option<Span>,
+) -> Result<(), AllocError>
+    ensures { OnOk result (problems.new.items ≡ problems.old.items ++ commas options before x after) }
+{
+    match options {
+        None => Ok(()),
+        Some(options) => push_commas_by(problems, options, before, x, after),
+    }
+}

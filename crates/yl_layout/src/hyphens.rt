@@ -1,0 +1,46 @@
+//! The rule hyphens.
+ghost use Rattle.std.specs.Prelude.{◌≡◌, ◌++◌, Some, OnOk};
+ghost use Rattle.yl_layout.specs.Hyphens.{hyphens};
+
+use crate::report::report_too_many_behind;
+use crate::span::Span;
+use std::alloc::{AllocError, Allocator};
+use yl_lexeme::Kind;
+use yl_text::{Finding, RuleId};
+
+/// How many characters may stand behind a `-` in one line. `None` is no bound.
+#[derive(Clone, Copy, Debug, PartialEq, Eq)]
+pub struct HyphensOptions {
+    pub max_spaces_after: Option<u32>,
+}
+
+impl HyphensOptions {
+    /// Those of yamllint's default configuration.
+    pub fn standard() -> HyphensOptions
+        ensures { result ≡ record { max_spaces_after = Some 1 } }
+    {
+        HyphensOptions {
+            max_spaces_after: Some(1),
+        }
+    }
+}
+
+/// Puts behind the problems what the rule finds at a lexeme and the one behind it, if it is on.
+pub(crate) fn push_hyphens<A: Allocator>(
+    problems: &mut Vec<Finding<A>, A>,
+    options: Option<HyphensOptions>,
+    x: Span,
+    after: Option<Span>,
+) -> Result<(), AllocError>
+    ensures { OnOk result (problems.new.items ≡ problems.old.items ++ hyphens options x after) }
+{
+    let Some(options) = options else {
+        return Ok(());
+    };
+    if !matches!(x.kind, Kind::Entry) {
+        return Ok(());
+    }
+    let most = options.max_spaces_after;
+    let message = "too many spaces after hyphen";
+    report_too_many_behind(problems, RuleId::Hyphens, most, x, after, message)
+}

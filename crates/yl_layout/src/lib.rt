@@ -1,0 +1,27 @@
+//! The rules on the lexemes of a document: spaces round brackets, commas, colons and hyphens, the document's start, truthy words and
+//! quotes.
+#![tactic(auto)]
+
+mod brackets;
+mod colons;
+mod commas;
+mod document_start;
+mod hyphens;
+mod lexemes;
+mod options;
+mod quoted_strings;
+mod report;
+mod span;
+mod strings;
+mod truthy;
+mod words;
+
+pub use brackets::{BracketsOptions, Forbid};
+pub use colons::ColonsOptions;
+pub use commas::CommasOptions;
+pub use document_start::DocumentStartOptions;
+pub use hyphens::HyphensOptions;
+pub use lexemes::lexeme_problems;
+pub use options::LexemeOptions;
+pub use quoted_strings::{QuoteType, QuotedStringsOptions};
+pub use truthy::{TruthyOptions, TruthyWords};

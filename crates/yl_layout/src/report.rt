@@ -1,0 +1,76 @@
+//! What is put behind the problems that were found.
+ghost use Rattle.std.specs.Prelude.{◌≡◌, ◌++◌, ◌+◌, ◌<◌, ◌^◌, OnOk};
+ghost use Rattle.yl_text.specs.Finding.{one_finding};
+ghost use Rattle.yl_layout.specs.Spans.{too_few, too_many, too_many_behind};
+
+use crate::span::{Span, distance, is_above, is_below};
+use std::alloc::{AllocError, Allocator};
+use yl_text::{Finding, RuleId};
+
+/// Puts a problem behind the others. Line and column count from 1.
+pub(crate) fn report<A: Allocator>(
+    problems: &mut Vec<Finding<A>, A>,
+    rule: RuleId,
+    line: u64,
+    column: u64,
+    message: &'static str,
+) -> Result<(), AllocError>
+    ensures { OnOk result (problems.new.items ≡ problems.old.items ++ one_finding rule line column message.now) }
+{
+    problems.push(Finding::fixed(line, column, rule, message))?;
+    Ok(())
+}
+
+/// Puts a problem behind the others if more characters stand between two lexemes of a line than may.
+pub(crate) fn report_too_many<A: Allocator>(
+    problems: &mut Vec<Finding<A>, A>,
+    rule: RuleId,
+    most: Option<u32>,
+    x: Span,
+    y: Span,
+    message: &'static str,
+) -> Result<(), AllocError>
+    ensures { OnOk result (problems.new.items ≡ problems.old.items ++ too_many rule most x y message.now) }
+{
+    if !is_above(distance(x, y), most) {
+        return Ok(());
+    }
+    let line = u64::from(y.start.line) + 1;
+    report(problems, rule, line, u64::from(y.start.col), message)
+}
+
+/// The same where fewer characters stand between them than must.
+pub(crate) fn report_too_few<A: Allocator>(
+    problems: &mut Vec<Finding<A>, A>,
+    rule: RuleId,
+    least: Option<u32>,
+    x: Span,
+    y: Span,
+    message: &'static str,
+) -> Result<(), AllocError>
+    ensures { OnOk result (problems.new.items ≡ problems.old.items ++ too_few rule least x y message.now) }
+{
+    if !is_below(distance(x, y), least) {
+        return Ok(());
+    }
+    let line = u64::from(y.start.line) + 1;
+    let column = u64::from(y.start.col) + 1;
+    report(problems, rule, line, column, message)
+}
+
+/// The same where too many characters stand behind a lexeme, if another follows it.
+pub(crate) fn report_too_many_behind<A: Allocator>(
+    problems: &mut Vec<Finding<A>, A>,
+    rule: RuleId,
+    most: Option<u32>,
+    x: Span,
+    after: Option<Span>,
+    message: &'static str,
+) -> Result<(), AllocError>
+    ensures { OnOk result (problems.new.items ≡ problems.old.items ++ too_many_behind rule most x after message.now) }
+{
+    match after {
+        None => Ok(()),
+        Some(y) => report_too_many(problems, rule, most, x, y, message),
+    }
+}

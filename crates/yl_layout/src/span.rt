@@ -1,0 +1,64 @@
+//! Lexemes by their kinds and places, and the distances between them.
+ghost use Rattle.std.specs.Prelude.{◌≡◌};
+ghost use Rattle.yl_marks.specs.Keys.{lexeme_at_line};
+ghost use Rattle.yl_layout.specs.Spans.{distance, is_above, is_below, span_of};
+
+use std::alloc::Allocator;
+use yl_lexeme::{Kind, LexemeAtLine};
+use yl_text::Pos;
+
+/// A lexeme without its value. Lines and columns count from 0, columns in characters.
+#[derive(Clone, Copy)]
+pub(crate) struct Span {
+    pub(crate) kind: Kind,
+    /// Where it begins.
+    pub(crate) start: Pos,
+    /// The line in which it ends.
+    pub(crate) end_line: u64,
+    /// The column behind its last character.
+    pub(crate) end_col: u32,
+}
+
+/// The span of a lexeme at a line.
+pub(crate) fn span_of<A: Allocator>(at: &LexemeAtLine<'_, A>) -> Span
+    ensures { result ≡ span_of (lexeme_at_line at.now.line at.now.lexeme.now) }
+{
+    let end = at.lexeme.end();
+    Span {
+        kind: at.lexeme.kind(),
+        start: at.start(),
+        end_line: u64::from(at.line) + u64::from(end.line),
+        end_col: end.col,
+    }
+}
+
+/// How many characters stand between two lexemes of one line.
+pub(crate) fn distance(x: Span, y: Span) -> Option<u32>
+    ensures { result ≡ distance x y }
+{
+    if x.end_line == u64::from(y.start.line) {
+        Some(y.start.col.saturating_sub(x.end_col))
+    } else {
+        None
+    }
+}
+
+/// Whether there is a distance above a bound that is there.
+pub(crate) fn is_above(distance: Option<u32>, most: Option<u32>) -> bool
+    ensures { result ≡ is_above distance most }
+{
+    match (distance, most) {
+        (Some(distance), Some(most)) => most < distance,
+        _ => false,
+    }
+}
+
+/// Whether there is a distance below a bound that is there.
+pub(crate) fn is_below(distance: Option<u32>, least: Option<u32>) -> bool
+    ensures { result ≡ is_below distance least }
+{
+    match (distance, least) {
+        (Some(distance), Some(least)) => distance < least,
+        _ => false,
+    }
+}

@@ -1,0 +1,204 @@
+//! Which plain scalars are strings.
+ghost use Rattle.std.specs.Prelude.{◌≡◌, ◌≤◌, [], ◌∷◌, length, bytes_eq};
+ghost use Rattle.std.specs.List.{list_all, prefix_len};
+ghost use Rattle.yl_layout.specs.Strings.{all_and_some, begins_with_digit, is_based, is_digit, is_exponent, is_false_word, is_hexadecimal, is_infinity, is_not_a_number, is_null, is_number, is_octal, is_reserved_word, is_signed, is_string, is_true_word, is_word_of, past_digits, past_fraction, unsigned};
+
+fn is_digit(byte: u8) -> bool
+    ensures { result ≡ is_digit byte }
+{
+    b'0' <= byte && byte <= b'9'
+}
+
+fn is_octal(byte: u8) -> bool
+    ensures { result ≡ is_octal byte }
+{
+    b'0' <= byte && byte <= b'7'
+}
+
+fn is_hexadecimal(byte: u8) -> bool
+    ensures { result ≡ is_hexadecimal byte }
+{
+    is_digit(byte) || (b'A' <= byte && byte <= b'F') || (b'a' <= byte && byte <= b'f')
+}
+
+fn is_word(text: &[u8], word: &str) -> bool
+    ensures { result ≡ bytes_eq word.now text.now }
+{
+    word.as_bytes() == text
+}
+
+fn is_one_of(text: &[u8], first: &str, second: &str, third: &str) -> bool
+    ensures { result ≡ is_word_of (first.now ∷ second.now ∷ third.now ∷ []) text.now }
+{
+    is_word(text, first) || is_word(text, second) || is_word(text, third)
+}
+
+fn is_null(text: &[u8]) -> bool
+    ensures { result ≡ is_null text.now }
+{
+    is_one_of(text, "null", "Null", "NULL") || is_word(text, "~")
+}
+
+fn is_true_word(text: &[u8]) -> bool
+    ensures { result ≡ is_true_word text.now }
+{
+    is_one_of(text, "true", "True", "TRUE")
+}
+
+fn is_false_word(text: &[u8]) -> bool
+    ensures { result ≡ is_false_word text.now }
+{
+    is_one_of(text, "false", "False", "FALSE")
+}
+
+fn is_not_a_number(text: &[u8]) -> bool
+    ensures { result ≡ is_not_a_number text.now }
+{
+    is_one_of(text, ".nan", ".NaN", ".NAN")
+}
+
+/// Whether it is null, a truth value or the word for no number.
+fn is_reserved_word(text: &[u8]) -> bool
+    ensures { result ≡ is_reserved_word text.now }
+{
+    is_null(text) || is_true_word(text) || is_false_word(text) || is_not_a_number(text)
+}
+
+fn is_infinity(text: &[u8]) -> bool
+    ensures { result ≡ is_infinity text.now }
+{
+    is_one_of(text, ".inf", ".Inf", ".INF")
+}
+
+fn all_digits(text: &[u8]) -> bool
+    ensures { result ≡ list_all is_digit text.now }
+{
+    text.iter().all(|byte| is_digit(*byte))
+}
+
+fn are_digits(text: &[u8]) -> bool
+    ensures { result ≡ all_and_some is_digit text.now }
+{
+    !text.is_empty() && all_digits(text)
+}
+
+fn all_octal(text: &[u8]) -> bool
+    ensures { result ≡ list_all is_octal text.now }
+{
+    text.iter().all(|byte| is_octal(*byte))
+}
+
+fn are_octal(text: &[u8]) -> bool
+    ensures { result ≡ all_and_some is_octal text.now }
+{
+    !text.is_empty() && all_octal(text)
+}
+
+fn all_hexadecimal(text: &[u8]) -> bool
+    ensures { result ≡ list_all is_hexadecimal text.now }
+{
+    text.iter().all(|byte| is_hexadecimal(*byte))
+}
+
+fn are_hexadecimal(text: &[u8]) -> bool
+    ensures { result ≡ all_and_some is_hexadecimal text.now }
+{
+    !text.is_empty() && all_hexadecimal(text)
+}
+
+/// The text behind a sign.
+fn unsigned(text: &[u8]) -> &[u8]
+    ensures { result.now ≡ unsigned text.now }
+{
+    match text {
+        [b'+' | b'-', rest @ ..] => rest,
+        _ => text,
+    }
+}
+
+/// How many digits the text begins with.
+fn count_digits(text: &[u8]) -> usize
+    ensures count { result ≡ prefix_len is_digit text.now }
+    ensures most { result ≤ length text.now }
+{
+    for (i, byte) in text.iter().enumerate() {
+        if !is_digit(*byte) {
+            return i;
+        }
+    }
+    text.len()
+}
+
+/// The text behind the digits that it begins with.
+fn past_digits(text: &[u8]) -> &[u8]
+    ensures { result.now ≡ past_digits text.now }
+{
+    let (_, rest) = text.split_at(count_digits(text));
+    rest
+}
+
+fn begins_with_digit(text: &[u8]) -> bool
+    ensures { result ≡ begins_with_digit text.now }
+{
+    match text {
+        [] => false,
+        [first, ..] => is_digit(*first),
+    }
+}
+
+/// The text behind a point and the digits that follow it.
+fn past_fraction(text: &[u8]) -> &[u8]
+    ensures { result.now ≡ past_fraction text.now }
+{
+    match text {
+        [b'.', rest @ ..] => past_digits(rest),
+        _ => text,
+    }
+}
+
+/// Whether it is nothing, or an exponent.
+fn is_exponent(text: &[u8]) -> bool
+    ensures { result ≡ is_exponent text.now }
+{
+    match text {
+        [] => true,
+        [b'e' | b'E', rest @ ..] => are_digits(unsigned(rest)),
+        _ => false,
+    }
+}
+
+/// Whether it is a whole number or one with a fraction, perhaps with an exponent.
+fn is_number(text: &[u8]) -> bool
+    ensures { result ≡ is_number text.now }
+{
+    match text {
+        [] => false,
+        [b'.', rest @ ..] => begins_with_digit(rest) && is_exponent(past_digits(rest)),
+        [first, rest @ ..] => is_digit(*first) && is_exponent(past_fraction(past_digits(rest))),
+    }
+}
+
+/// Whether it is a number to the base 8 or 16.
+fn is_based(text: &[u8]) -> bool
+    ensures { result ≡ is_based text.now }
+{
+    match text {
+        [b'0', b'o', rest @ ..] => are_octal(rest),
+        [b'0', b'x', rest @ ..] => are_hexadecimal(rest),
+        _ => false,
+    }
+}
+
+/// Whether it is a number or an infinity, the sign left out.
+fn is_signed(text: &[u8]) -> bool
+    ensures { result ≡ is_signed text.now }
+{
+    is_number(text) || is_infinity(text)
+}
+
+/// Whether a plain scalar of this value is a string.
+pub(crate) fn is_string(value: &[u8]) -> bool
+    ensures { result ≡ is_string value.now }
+{
+    !(is_reserved_word(value) || is_based(value) || is_signed(unsigned(value)))
+}

@@ -1,0 +1,162 @@
+//! The rule truthy.
+ghost use Rattle.std.specs.Prelude.{◌≡◌, ◌++◌, ◌+◌, ◌<◌, ◌^◌, OnOk};
+ghost use Rattle.yl_layout.specs.Truthy.{is_asked, is_plain, is_truthy, is_wrong, truthy, truthy_by, truthy_found};
+
+use crate::span::Span;
+use crate::words::{truthy_text, word_index};
+use std::alloc::{AllocError, Allocator};
+use yl_lexeme::{Kind, Style};
+use yl_marks::KeyFacts;
+use yl_text::{Finding, RuleId};
+
+/// A set of truthy words. A word goes by its index, which `index_of` tells.
+#[derive(Clone, Copy, Debug, PartialEq, Eq)]
+pub struct TruthyWords {
+    /// For each truthy word, in the order of ASCII, whether it is in the set.
+    pub allowed: [bool; 18],
+}
+
+impl TruthyWords {
+    ghost use Rattle.std.specs.Prelude.{◌≡◌, ◌<◌, false, true, replicate, slice_set};
+    ghost use Rattle.yl_layout.specs.Truthy.{is_allowed, truthy_index};
+
+    /// None of them.
+    pub fn none() -> TruthyWords
+        ensures { result.allowed ≡ replicate 18 false }
+    {
+        TruthyWords {
+            allowed: [false; 18],
+        }
+    }
+
+    /// The same set with the word of this index.
+    pub fn with(self, index: usize) -> TruthyWords
+        requires { index < 18 }
+        ensures { result.allowed ≡ slice_set self.allowed index true }
+    {
+        let mut allowed = self.allowed;
+        allowed[index] = true;
+        TruthyWords { allowed }
+    }
+
+    /// The index of a word, if it is truthy.
+    pub fn index_of(word: &[u8]) -> Option<usize>
+        ensures { result ≡ truthy_index word.now }
+    {
+        word_index(word)
+    }
+
+    /// Whether the word of this index is in the set.
+    pub fn has(&self, index: usize) -> bool
+        requires { index < 18 }
+        ensures { result ≡ is_allowed self.now index }
+    {
+        self.allowed[index]
+    }
+}
+
+/// Which truthy words may stand, and whether keys are looked at.
+#[derive(Clone, Copy, Debug, PartialEq, Eq)]
+pub struct TruthyOptions {
+    pub allowed_values: TruthyWords,
+    pub check_keys: bool,
+}
+
+impl TruthyOptions {
+    ghost use Rattle.std.specs.Prelude.{◌≡◌};
+    ghost use Rattle.yl_layout.specs.Standard.{standard_truthy};
+
+    /// Those of yamllint's default configuration: `true` and `false` are allowed.
+    pub fn standard() -> TruthyOptions
+        ensures { result ≡ standard_truthy }
+    {
+        TruthyOptions {
+            allowed_values: TruthyWords::none().with(12).with(16),
+            check_keys: true,
+        }
+    }
+}
+
+fn is_plain(kind: Kind) -> bool
+    ensures { result ≡ is_plain kind }
+{
+    matches!(kind, Kind::Scalar(Style::Plain))
+}
+
+/// Whether the options ask for this lexeme to be looked at.
+fn is_asked(options: &TruthyOptions, key: KeyFacts) -> bool
+    ensures { result ≡ is_asked options.now key }
+{
+    options.check_keys || !key.is_key
+}
+
+/// Whether there is such a word, and it is not allowed.
+fn is_wrong(words: &TruthyWords, index: Option<usize>) -> bool
+    ensures { result ≡ is_wrong words.now index }
+{
+    match index {
+        None => false,
+        Some(index) => !words.allowed.get(index).copied().unwrap_or(false),
+    }
+}
+
+/// Whether a lexeme is a plain scalar without tag whose value is a truthy word that is not allowed.
+fn is_truthy(options: &TruthyOptions, kind: Kind, value: &str, key: KeyFacts) -> bool
+    ensures { result ≡ is_truthy options.now kind value.now key }
+{
+    if !is_plain(kind) {
+        return false;
+    }
+    !key.has_tag
+        && is_asked(options, key)
+        && is_wrong(
+            &options.allowed_values,
+            TruthyWords::index_of(value.as_bytes()),
+        )
+}
+
+fn report_truthy<A: Allocator + Copy>(
+    problems: &mut Vec<Finding<A>, A>,
+    options: &TruthyOptions,
+    x: Span,
+) -> Result<(), AllocError>
+    ensures { OnOk result (problems.new.items ≡ problems.old.items ++ truthy_found options.now x) }
+{
+    let message = truthy_text(*problems.allocator(), &options.allowed_values)?;
+    let line = u64::from(x.start.line) + 1;
+    let column = u64::from(x.start.col) + 1;
+    problems.push(Finding::new(line, column, RuleId::Truthy, message))?;
+    Ok(())
+}
+
+fn push_truthy_by<A: Allocator + Copy>(
+    problems: &mut Vec<Finding<A>, A>,
+    options: &TruthyOptions,
+    x: Span,
+    value: &str,
+    key: KeyFacts,
+) -> Result<(), AllocError>
+    ensures { OnOk result (problems.new.items ≡ problems.old.items ++ truthy_by options.now x value.now key) }
+{
+    if is_truthy(options, x.kind, value, key) {
+        report_truthy(problems, options, x)
+    } else {
+        Ok(())
+    }
+}
+
+/// Puts behind the problems what the rule finds at a lexeme and its value, if it is on.
+pub(crate) fn push_truthy<A: Allocator + Copy>(
+    problems: &mut Vec<Finding<A>, A>,
+    options: &Option<TruthyOptions>,
+    x: Span,
+    value: &str,
+    key: KeyFacts,
+) -> Result<(), AllocError>
+    ensures { OnOk result (problems.new.items ≡ problems.old.items ++ truthy options.now x value.now key) }
+{
+    match options {
+        None => Ok(()),
+        Some(options) => push_truthy_by(problems, options, x, value, key),
+    }
+}

@@ -1,0 +1,103 @@
+//! The truthy words and the text that lists them.
+ghost use Rattle.std.specs.Prelude.{◌≡◌, ◌++◌, ◌<◌, ◌∷◌, ℕ, List, bytes_eq, codes, Some, IfOk, OnOk, string_bytes, if◌then◌else◌};
+ghost use Rattle.std.specs.List.{slice_get};
+ghost use Rattle.yl_layout.specs.Truthy.{listed, truthy_index, truthy_text, truthy_words};
+
+use crate::truthy::TruthyWords;
+use std::alloc::{AllocError, Allocator};
+
+/// How many truthy words there are.
+const WORDS: usize = 18;
+
+/// The truthy word of this index, in the order of ASCII.
+fn word_at(index: usize) -> &'static str
+    requires { index < 18 }
+    ensures { slice_get truthy_words index ≡ Some result.now }
+{
+    match index {
+        0 => "FALSE",
+        1 => "False",
+        2 => "NO",
+        3 => "No",
+        4 => "OFF",
+        5 => "Off",
+        6 => "ON",
+        7 => "On",
+        8 => "TRUE",
+        9 => "True",
+        10 => "YES",
+        11 => "Yes",
+        12 => "false",
+        13 => "no",
+        14 => "off",
+        15 => "on",
+        16 => "true",
+        _ => "yes",
+    }
+}
+
+fn is_word(word: &str, text: &[u8]) -> bool
+    ensures { result ≡ bytes_eq word.now text.now }
+{
+    word.as_bytes() == text
+}
+
+/// The index of a word, if it is truthy.
+pub(crate) fn word_index(word: &[u8]) -> Option<usize>
+    ensures { result ≡ truthy_index word.now }
+{
+    for i in 0..WORDS {
+        if is_word(word_at(i), word) {
+            return Some(i);
+        }
+    }
+    None
+}
+
+/// Puts a word behind a list of words.
+fn push_word<A: Allocator>(
+    text: &mut String<A>,
+    is_first: bool,
+    word: &str,
+) -> Result<(), AllocError>
+    ensures { OnOk result (string_bytes text.new ≡ string_bytes text.old ++ (if is_first then word.now else codes ", " ++ word.now)) }
+{
+    if !is_first {
+        text.push_str(", ")?;
+    }
+    text.push_str(word)?;
+    Ok(())
+}
+
+/// Puts a word behind a list of words, if it is allowed. Answers whether the next one is the first.
+fn push_if_allowed<A: Allocator>(
+    text: &mut String<A>,
+    is_first: bool,
+    is_allowed: bool,
+    word: &str,
+) -> Result<bool, AllocError>
+    ensures { IfOk result (λ next. (rest : List (List ℕ)) → string_bytes text.new ++ listed next rest
+        ≡ string_bytes text.old ++ listed is_first (if is_allowed then word.now ∷ rest else rest)) }
+{
+    if !is_allowed {
+        return Ok(is_first);
+    }
+    push_word(text, is_first, word)?;
+    Ok(false)
+}
+
+/// What is said of a truthy word that is not among these.
+pub(crate) fn truthy_text<A: Allocator>(
+    alloc: A,
+    words: &TruthyWords,
+) -> Result<String<A>, AllocError>
+    ensures { IfOk result (λ s. string_bytes s ≡ truthy_text words.now) }
+{
+    let mut text = String::from_str(alloc, "truthy value should be one of [")?;
+    let mut is_first = true;
+    for i in 0..WORDS {
+        is_first = push_if_allowed(&mut text, is_first, words.allowed[i], word_at(i))?;
+    }
+    text.push_str("]")?;
+    Ok(text)
+}

@@ -1,0 +1,68 @@
+//! Each growth is refused in turn, up to the first run that meets none.
+use super::{found_in, placed, problems, scanned, shown};
+use refusing::Refusing;
+use std::alloc::{AllocError, Global};
+use std::process::Abort;
+use std::test::Fail;
+use yl_layout::LexemeOptions;
+use yl_lexeme::Lexeme;
+use yl_scan::LineLexeme;
+
+type Heap<'a> = &'a Refusing<Global>;
+
+// The same lexemes in another memory.
+fn copied<'a>(
+    heap: Heap<'a>,
+    lexemes: &[LineLexeme<Global>],
+) -> Result<Vec<LineLexeme<Heap<'a>>, Heap<'a>>, AllocError> {
+    let mut copied = Vec::new(heap);
+    for one in lexemes {
+        let value = String::from_str(heap, one.lexeme.value())?;
+        let lexeme = Lexeme::new(
+            one.lexeme.kind(),
+            one.lexeme.start(),
+            one.lexeme.end(),
+            value,
+        );
+        copied.push(LineLexeme {
+            line: one.line,
+            lexeme,
+        })?;
+    }
+    Ok(copied)
+}
+
+// Each growth of the view of keys and of the rules is refused in turn, up to the first run that meets none: it finds this.
+fn refuse_each(
+    rt: &impl Abort,
+    alloc: Global,
+    heap: Heap<'_>,
+    lexemes: &[LineLexeme<Global>],
+    wanted: &str,
+) -> Result<(), AllocError> {
+    let lexemes = copied(heap, lexemes)?;
+    let placed = placed(heap, &lexemes)?;
+    for n in 1..u64::MAX {
+        heap.refuse(n);
+        let answer = found_in(heap, &placed, placed.len(), &LexemeOptions::standard());
+        if heap.is_armed() {
+            heap.refuse(0);
+            assert!(rt; n > 6, "{n} growths");
+            let found = answer?;
+            assert_eq!(rt; shown(alloc, &found)?.as_str(), wanted);
+            return Ok(());
+        }
+        assert!(rt; answer.is_err(), "the {n}th growth");
+    }
+    Ok(())
+}
+
+#[test]
+fn each_growth_is_refused(rt: HostRuntime) -> Result<(), Fail> {
+    let text = "a : [1 ,2, {  }]\n!t b: [yes, &c !d on]\n? [ no]\n-  x\n";
+    let wanted = problems(rt.alloc(), text, &LexemeOptions::standard())?;
+    let scanned = scanned(rt.alloc(), text)?;
+    let heap = Refusing::new(rt.alloc());
+    refuse_each(&rt, rt.alloc(), &heap, &scanned.lexemes, wanted.as_str())?;
+    Ok(())
+}

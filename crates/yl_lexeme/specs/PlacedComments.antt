@@ -1,0 +1,6 @@
+-- Bridge: a comment as it is handed in.
+use Rattle.yl_lexeme.specs.declared.placed.PlacedComment.{PlacedComment}
+use Rattle.yl_lexeme.specs.Lexeme.{PlacedCommentValue}
+
+abbrev pub placed_comment_value : PlacedComment → PlacedCommentValue
+placed_comment_value c = record { line = c.line; column = c.col; text = c.text.now; behind = c.behind }

@@ -1,0 +1,5 @@
+pub mod Examples
+pub mod Reported
+pub mod Rows
+pub mod Shown
+pub mod Together

@@ -1,0 +1,7 @@
+use Rattle.std.proofs.Common.{◌≡◌, ◌++◌, map, drop}
+use Rattle.yl_lexeme.specs.PlacedComments.{placed_comment_value}
+use Rattle.yl_lint.specs.TextReport.{comments_in_sections}
+use Rattle.yl_lint.proofs.comments.comments_in_sections.Given as goal
+
+abbrev pub invariant-loop-one : goal.invariant-loop-one
+invariant-loop-one g l = map placed_comment_value l.comments.items ++ comments_in_sections l.line (drop l.one-index l.kept) ≡ comments_in_sections 0 l.kept

@@ -1,0 +1,138 @@
+-- Meaning: the report of a text: what the rules find in its lines and in its sections, with its fault, in order and with levels. Of the
+-- sections after the first with a fault nothing is shown; what the rules on lines find is never hidden.
+use Rattle.std.specs.Prelude.{ℕ, ◌+◌, ◌-◌, List, [], ◌∷◌, ◌++◌, map, length, codes, Option, Some, None, slice_get}
+use Rattle.std.specs.List.{flat_map}
+use Rattle.std.specs.Str.{chars}
+use Rattle.yl_text.specs.declared.position.Pos.{Pos}
+use Rattle.yl_text.specs.declared.finding.RuleId.TheVariants.{Syntax}
+use Rattle.yl_text.specs.Finding.{FindingValue}
+use Rattle.yl_text.specs.Lines.{RowValue}
+use Rattle.yl_lexeme.specs.Lexeme.{PlacedCommentValue}
+use Rattle.yl_indentation.specs.declared.fact.Fact.{Fact}
+use Rattle.yl_indentation.specs.declared.measure.Measure.{Measure}
+use Rattle.yl_indentation.specs.declared.options.IndentationOptions.{IndentationOptions}
+use Rattle.yl_indentation.specs.Measures.{empty_measure, and_later, measure_of}
+use Rattle.yl_indentation.specs.Problems.{indent_problems}
+use Rattle.yl_rules.specs.declared.options.RowOptions.{RowOptions}
+use Rattle.yl_rules.specs.Rows.{row_findings}
+use Rattle.yl_rules.specs.Runs.{run_findings}
+use Rattle.yl_report.specs.Directive.{disables_file, is_silenced}
+use Rattle.yl_report.specs.Report.{ProblemValue, report_of}
+use Rattle.yl_config.specs.declared.config.Config.{Config}
+use Rattle.yl_settings.specs.declared.options.RuleOptions.{RuleOptions}
+use Rattle.yl_config.specs.Config.{levels_of, options_of}
+use Rattle.yl_record.specs.Records.{RecordValue, records}
+use Rattle.yl_sections.specs.Kept.{KeptValue, SectionFaultValue, Here, Behind}
+use Rattle.yl_sections.specs.Judge.{kept_of_section}
+use Rattle.yl_sections.specs.Sections.{sections}
+
+-- ---- lines
+
+-- what the rules that look at one line find in each of these lines, the first of which has this number
+abbrev pub findings_from : RowOptions → ℕ → List RowValue → List FindingValue
+findings_from o line [] = []
+findings_from o line (row ∷ rows) = row_findings o line row ++ findings_from o (line + 1) rows
+
+-- what the rules on lines find in a text
+abbrev pub findings_in_lines : RuleOptions → List RowValue → List FindingValue
+findings_in_lines o rows = findings_from o.row 1 rows ++ run_findings o.run rows
+
+abbrev pub text_in : Option RowValue → List ℕ
+text_in None = []
+text_in (Some row) = row.text
+
+abbrev pub first_text : List RowValue → List ℕ
+first_text rows = text_in (slice_get rows 0)
+
+abbrev pub width_of : Option RowValue → ℕ
+width_of None = 0
+width_of (Some row) = length (chars row.text)
+
+-- after the last character of the last line
+abbrev pub end_of : List RowValue → Pos
+end_of rows = record { line = length rows - 1; col = width_of (slice_get rows (length rows - 1)) }
+
+-- ---- the text's fault
+
+abbrev pub syntax_finding : Pos → List ℕ → FindingValue
+syntax_finding p text = record { line = p.line + 1; column = p.col + 1; rule = Syntax; message = codes "syntax error: " ++ text }
+
+-- where a section ends before these, which begin at this line: at the next one's first lexeme, or else at the text's end
+abbrev pub place_after : ℕ → Pos → List KeptValue → Pos
+place_after line end [] = end
+place_after line end (k ∷ ks) = record { line = line; col = k.first }
+
+-- the fault of a section of so many rows that begins at this line, before these sections
+abbrev pub finding_of_fault : ℕ → ℕ → Pos → List KeptValue → SectionFaultValue → FindingValue
+finding_of_fault line rows end ks (Here p text) = syntax_finding (record { line = line + p.line; col = p.col }) text
+finding_of_fault line rows end ks (Behind text) = syntax_finding (place_after (line + rows) end ks) text
+
+abbrev pub fault_or_later : ℕ → ℕ → Pos → List KeptValue → Option SectionFaultValue → List FindingValue → List FindingValue
+fault_or_later line rows end ks None later = later
+fault_or_later line rows end ks (Some f) later = finding_of_fault line rows end ks f ∷ []
+
+-- the text's fault, if it has one: the first of those of its sections, of which the first begins at this line
+abbrev pub fault_in_sections : ℕ → Pos → List KeptValue → List FindingValue
+fault_in_sections line end [] = []
+fault_in_sections line end (k ∷ ks) = fault_or_later line k.rows end ks k.fault (fault_in_sections (line + k.rows) end ks)
+
+-- ---- what sections show
+
+abbrev pub unless_fault : {X : Type 0} → Option SectionFaultValue → List X → List X
+unless_fault None later = later
+unless_fault (Some f) later = []
+
+-- the sections up to the first with a fault
+abbrev pub shown : List KeptValue → List KeptValue
+shown [] = []
+shown (k ∷ ks) = k ∷ unless_fault k.fault (shown ks)
+
+-- so many lines further down
+abbrev pub moved : ℕ → FindingValue → FindingValue
+moved line f = record { line = line + f.line; column = f.column; rule = f.rule; message = f.message }
+
+-- what is found in a section that begins at this line. Its indentation is judged by the measure of the facts before it and that of all
+-- facts that are shown
+abbrev pub findings_in_section : IndentationOptions → Measure → ℕ → Measure → KeptValue → List FindingValue
+findings_in_section o whole line before k = map (moved line) (k.found ++ indent_problems o before whole k.facts)
+
+abbrev pub findings_in_sections : IndentationOptions → Measure → ℕ → Measure → List KeptValue → List FindingValue
+findings_in_sections o whole line before [] = []
+findings_in_sections o whole line before (k ∷ ks) =
+    findings_in_section o whole line before k ++ findings_in_sections o whole (line + k.rows) (and_later before (measure_of k.facts)) ks
+
+abbrev pub facts_in_sections : List KeptValue → List Fact
+facts_in_sections ks = flat_map (λ k. k.facts) ks
+
+abbrev pub moved_comment : ℕ → PlacedCommentValue → PlacedCommentValue
+moved_comment line c = record { line = line + c.line; column = c.column; text = c.text; behind = c.behind }
+
+-- the comments of sections, of which the first begins at this line
+abbrev pub comments_in_sections : ℕ → List KeptValue → List PlacedCommentValue
+comments_in_sections line [] = []
+comments_in_sections line (k ∷ ks) = map (moved_comment line) k.comments ++ comments_in_sections (line + k.rows) ks
+
+-- ---- the report
+
+-- of a text with this first line, which ends there, in whose lines the rules found this, and of whose sections this is kept
+unfoldable pub report_of_kept : Config → List FindingValue → List ℕ → Pos → List KeptValue → List ProblemValue
+report_of_kept config in_lines first end ks =
+    let seen = shown ks in
+    report_of (levels_of config) (disables_file first) (is_silenced (comments_in_sections 0 seen))
+    (in_lines
+    ++ (fault_in_sections 0 end ks
+    ++ findings_in_sections (options_of config).indentation (measure_of (facts_in_sections seen)) 0 empty_measure seen))
+
+abbrev pub characters_in : List RowValue → List (List ℕ)
+characters_in rows = map (λ row. chars row.text) rows
+
+abbrev pub records_of : List RowValue → List RecordValue
+records_of rows = records (characters_in rows)
+
+-- what is kept of the sections of a text
+abbrev pub kept_of_text : Config → List RowValue → List KeptValue
+kept_of_text config rows = map (kept_of_section config) (sections (records_of rows))
+
+-- the report of the lines of a text under a configuration
+unfoldable pub report : Config → List RowValue → List ProblemValue
+report config rows = report_of_kept config (findings_in_lines (options_of config) rows) (first_text rows) (end_of rows) (kept_of_text config rows)

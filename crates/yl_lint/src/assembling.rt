@@ -1,0 +1,97 @@
+//! The report of a text, from what is kept of its sections.
+ghost use Rattle.std.specs.Prelude.{◌≡◌, ◌≤◌, ◌++◌, length, take, IfOk, OnOk};
+ghost use Rattle.yl_indentation.specs.Measures.{empty_measure, measure_of};
+ghost use Rattle.yl_lint.specs.TextReport.{facts_in_sections, findings_in_section, findings_in_sections, report_of_kept, shown};
+
+use crate::comments::comments_in_sections;
+use crate::fault::push_fault;
+use crate::moving::{line_below, push_moved};
+use std::alloc::{AllocError, Allocator};
+use yl_config::Config;
+use yl_indentation::{IndentationOptions, Measure, indent_problems};
+use yl_report::{Problem, Silences, arrange};
+use yl_sections::Kept;
+use yl_text::{Finding, Pos};
+
+/// How many sections are shown: those up to the first with a fault.
+fn count_shown<A: Allocator>(kept: &[Kept<A>]) -> usize
+    ensures within { result ≤ length kept.now }
+    ensures shown { take result kept.now ≡ shown kept.now }
+{
+    for (i, one) in kept.iter().enumerate() {
+        if one.fault().is_some() {
+            return i + 1;
+        }
+    }
+    kept.len()
+}
+
+/// The measure of all facts of these sections.
+fn measure_of<A: Allocator>(kept: &[Kept<A>]) -> Measure
+    ensures { result ≡ measure_of (facts_in_sections kept.now) }
+{
+    let mut measure = Measure::empty();
+    for one in kept {
+        measure = measure.and_later(one.measure());
+    }
+    measure
+}
+
+/// Puts what is found in a section that begins at `line` behind the rest. `before` is the measure of the facts of the sections before it,
+/// `whole` that of all facts that are shown.
+fn push_section<A: Allocator + Copy>(
+    alloc: A,
+    options: &IndentationOptions,
+    whole: Measure,
+    line: u32,
+    before: Measure,
+    kept: &Kept<A>,
+    found: &mut Vec<Finding<A>, A>,
+) -> Result<(), AllocError>
+    ensures { OnOk result (found.new.items ≡ found.old.items ++ findings_in_section options.now whole line before kept.now) }
+{
+    push_moved(alloc, line, kept.found(), found)?;
+    let indented = indent_problems(alloc, kept.facts(), options, before, whole)?;
+    push_moved(alloc, line, &indented, found)
+}
+
+/// Puts what is found in these sections, of which the first begins at line 0, behind the rest.
+fn push_sections<A: Allocator + Copy>(
+    alloc: A,
+    options: &IndentationOptions,
+    whole: Measure,
+    kept: &[Kept<A>],
+    found: &mut Vec<Finding<A>, A>,
+) -> Result<(), AllocError>
+    ensures { OnOk result (found.new.items ≡ found.old.items ++ findings_in_sections options.now whole 0 empty_measure kept.now) }
+{
+    let mut line = 0;
+    let mut before = Measure::empty();
+    for one in kept {
+        push_section(alloc, options, whole, line, before, one, found)?;
+        line = line_below(line, one.rows())?;
+        before = before.and_later(one.measure());
+    }
+    Ok(())
+}
+
+/// The report of a text whose first line is `first`, which ends at `end`, in whose lines the rules on lines found these, and of whose
+/// sections this is kept, in order. The only error is out of memory.
+pub fn report_of_kept<A: Allocator + Copy>(
+    alloc: A,
+    config: &Config,
+    mut found: Vec<Finding<A>, A>,
+    first: &str,
+    end: Pos,
+    kept: &[Kept<A>],
+) -> Result<Vec<Problem<A>, A>, AllocError>
+    ensures { IfOk result (λ problems. problems.items ≡ report_of_kept config.now found.items first.now end kept.now) }
+{
+    let seen = &kept[..count_shown(kept)];
+    let comments = comments_in_sections(alloc, seen)?;
+    let silences = Silences::read(alloc, first, &comments)?;
+    push_fault(alloc, end, kept, &mut found)?;
+    let options = config.indentation_options();
+    push_sections(alloc, options, measure_of(seen), seen, &mut found)?;
+    arrange(alloc, found, config.levels(), &silences)
+}

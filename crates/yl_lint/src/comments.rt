@@ -1,0 +1,54 @@
+//! The comments of the sections that are shown, at their places in the text.
+ghost use Rattle.std.specs.Prelude.{◌≡◌, ◌++◌, ◌∷◌, [], map, IfOk, OnOk};
+ghost use Rattle.yl_lexeme.specs.PlacedComments.{placed_comment_value};
+ghost use Rattle.yl_lint.specs.TextReport.{moved_comment, comments_in_sections};
+
+use crate::moving::line_below;
+use std::alloc::{AllocError, Allocator};
+use yl_lexeme::PlacedComment;
+use yl_sections::{Kept, KeptComment};
+
+/// The comment of a section that begins at `line`, at its place in the text.
+fn moved_comment<A: Allocator>(
+    line: u32,
+    comment: &KeptComment<A>,
+) -> Result<PlacedComment<'_>, AllocError>
+    ensures { IfOk result (λ c. placed_comment_value c ≡ moved_comment line comment.now) }
+{
+    Ok(PlacedComment {
+        line: line_below(line, comment.line())?,
+        col: comment.col(),
+        text: comment.text(),
+        behind: comment.behind(),
+    })
+}
+
+/// Puts the comments of a section that begins at `line` behind these.
+fn push_comments<'a, A: Allocator>(
+    line: u32,
+    from: &'a [KeptComment<A>],
+    comments: &mut Vec<PlacedComment<'a>, A>,
+) -> Result<(), AllocError>
+    ensures { OnOk result (map placed_comment_value comments.new.items ≡ map placed_comment_value comments.old.items ++ map (moved_comment line) from.now) }
+{
+    for one in from {
+        comments.push(moved_comment(line, one)?)?;
+    }
+    Ok(())
+}
+
+/// The comments of these sections, of which the first begins at line 0.
+pub fn comments_in_sections<A: Allocator + Copy>(
+    alloc: A,
+    kept: &[Kept<A>],
+) -> Result<Vec<PlacedComment<'_>, A>, AllocError>
+    ensures { IfOk result (λ v. map placed_comment_value v.items ≡ comments_in_sections 0 kept.now) }
+{
+    let mut comments = Vec::new(alloc);
+    let mut line = 0;
+    for one in kept {
+        push_comments(line, one.comments(), &mut comments)?;
+        line = line_below(line, one.rows())?;
+    }
+    Ok(comments)
+}

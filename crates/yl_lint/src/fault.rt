@@ -1,0 +1,84 @@
+//! The fault of a text.
+ghost use Rattle.std.specs.Prelude.{◌≡◌, ◌+◌, ◌++◌, ◌∷◌, [], codes, IfOk, OnOk};
+ghost use Rattle.yl_lint.specs.TextReport.{syntax_finding, place_after, finding_of_fault, fault_in_sections};
+ghost use Rattle.yl_sections.specs.Owned.{section_fault_value};
+
+use crate::moving::line_below;
+use std::alloc::{AllocError, Allocator};
+use yl_sections::{Kept, SectionFault};
+use yl_text::{Finding, Pos, RuleId};
+
+fn syntax_finding<A: Allocator + Copy>(
+    alloc: A,
+    place: Pos,
+    text: &str,
+) -> Result<Finding<A>, AllocError>
+    ensures { IfOk result (λ f. f ≡ syntax_finding place text.now) }
+{
+    let message = format!(in alloc; "syntax error: {text}")?;
+    let line = u64::from(place.line) + 1;
+    let column = u64::from(place.col) + 1;
+    Ok(Finding::new(line, column, RuleId::Syntax, message))
+}
+
+/// Where a section ends before these, which begin at `line`.
+fn place_after<A: Allocator>(line: u32, end: Pos, later: &[Kept<A>]) -> Pos
+    ensures { result ≡ place_after line end later.now }
+{
+    match later {
+        [] => end,
+        [next, ..] => Pos {
+            line,
+            col: next.first(),
+        },
+    }
+}
+
+/// The problem of the fault of a section of `rows` rows that begins at `line`, before these sections.
+fn finding_of_fault<A: Allocator + Copy>(
+    alloc: A,
+    line: u32,
+    rows: u32,
+    end: Pos,
+    later: &[Kept<A>],
+    fault: SectionFault,
+) -> Result<Finding<A>, AllocError>
+    ensures { IfOk result (λ f. f ≡ finding_of_fault line rows end later.now (section_fault_value fault)) }
+{
+    match fault {
+        SectionFault::Here(place, text) => {
+            let place = Pos {
+                line: line_below(line, place.line)?,
+                col: place.col,
+            };
+            syntax_finding(alloc, place, text)
+        }
+        SectionFault::Behind(text) => {
+            let place = place_after(line_below(line, rows)?, end, later);
+            syntax_finding(alloc, place, text)
+        }
+    }
+}
+
+/// Puts the problem of the text's fault behind what was found, if it has one. The text ends at `end`.
+pub fn push_fault<A: Allocator + Copy>(
+    alloc: A,
+    end: Pos,
+    kept: &[Kept<A>],
+    found: &mut Vec<Finding<A>, A>,
+) -> Result<(), AllocError>
+    ensures { OnOk result (found.new.items ≡ found.old.items ++ fault_in_sections 0 end kept.now) }
+{
+    let mut line = 0;
+    let mut later = kept;
+    while let [one, rest @ ..] = later {
+        let rows = one.rows();
+        if let Some(fault) = one.fault() {
+            found.push(finding_of_fault(alloc, line, rows, end, rest, fault)?)?;
+            return Ok(());
+        }
+        line = line_below(line, rows)?;
+        later = rest;
+    }
+    Ok(())
+}

@@ -1,0 +1,9 @@
+mod Assembled
+mod Cutting
+mod Faults
+mod Fits
+mod Joined
+mod Keeping
+mod Masked
+mod Put
+mod Steps

@@ -1,0 +1,23 @@
+-- Meaning: what is kept of a text, row by row: with how many spaces a row begins, and its entry.
+use Rattle.std.specs.Prelude.{ℕ, List, [], ◌∷◌, map}
+use Rattle.yl_text.specs.Character.{indentation}
+use Rattle.yl_row.specs.Entries.{RowEntry, LineStateValue, entries}
+use Rattle.yl_scan.specs.Restart.{from_state}
+
+pub record RecordValue : Type 0 where
+  pub indentation : ℕ
+  pub entry : RowEntry
+
+-- entries, each with how many spaces its row begins with
+abbrev pub records_with : List ℕ → List RowEntry → List RecordValue
+records_with [] es = []
+records_with (n ∷ ns) [] = []
+records_with (n ∷ ns) (e ∷ es) = record { indentation = n; entry = e } ∷ records_with ns es
+
+-- the records of a text of these rows, each given as its characters
+abbrev pub records : List (List ℕ) → List RecordValue
+records rows = records_with (map indentation rows) (entries rows)
+
+-- the records of the rows of a text from a sound one on, by its state
+abbrev pub records_from : LineStateValue → List (List ℕ) → List RecordValue
+records_from state rows = records_with (map indentation rows) (from_state state rows)

@@ -1,0 +1,77 @@
+-- Meaning: what the rows of a text from a sound one on consist of, by its state; laws of restart.
+use Rattle.std.specs.Prelude.{◌≡◌, ◌∷◌, ◌++◌, ◌+◌, ◌-◌, ◌≤◌, ◌<◌, ◌⊎◌, length, ℕ, zero, suc, false, true, List, [], take, drop, Option, Some, None, IsSome}
+use Rattle.std.specs.List.{AllByRecursion}
+use Rattle.yl_lexeme.specs.Known.{row_start}
+use Rattle.yl_row.specs.Entries.{RowEntry, LineStateValue, Stopped, Stands, stopped_rows, entries}
+use Rattle.yl_row.specs.Run.{entries_by}
+use Rattle.yl_scan.specs.Output.{PhaseValue, Fresh, Halted}
+
+-- the state of the row at a line, if it is there and sound
+abbrev pub state_at : List RowEntry → ℕ → Option LineStateValue
+state_at [] n = None
+state_at (e ∷ es) zero = e.state
+state_at (e ∷ es) (suc n) = state_at es n
+
+-- what the rows from a sound row on consist of, if this is its state
+abbrev pub from_state : LineStateValue → List (List ℕ) → List RowEntry
+from_state Stopped rows = stopped_rows false 0 rows
+from_state (Stands levels brackets last) rows = entries_by true 0 0 (row_start levels brackets last) rows
+
+-- where a scanner stands before a sound row with this state
+abbrev pub phase_at : LineStateValue → PhaseValue
+phase_at Stopped = Halted false 0
+phase_at (Stands levels brackets last) = Fresh true (row_start levels brackets last)
+
+abbrev pub ResumeLaw : Type 0
+ResumeLaw = (t : List (List ℕ)) (i : ℕ) (s : LineStateValue) → state_at (entries t) i ≡ Some s → drop i (entries t) ≡ from_state s (drop i t)
+
+-- nothing begins in a row
+pub record IsQuiet (e : RowEntry) : Type 0 where
+  pub lexemes : e.lexemes ≡ []
+  pub comment : e.comment ≡ None
+  pub fault : e.fault ≡ None
+
+-- whether the row at line k is sound, and its state, depend on the rows down to it alone; if it is sound, so does what the rows above
+-- it consist of
+abbrev pub PrefixLaw : Type 0
+PrefixLaw =
+    (t u : List (List ℕ)) (k : ℕ) → take (k + 1) t ≡ take (k + 1) u
+    → (state_at (entries t) k ≡ state_at (entries u) k) × (IsSome (state_at (entries t) k) → take k (entries t) ≡ take k (entries u))
+
+-- from sound rows with the same state on, rows that are the same consist of the same; behind a fault, of nothing
+pub record Shifts (t u : List (List ℕ)) (i j : ℕ) (s : LineStateValue) : Type 0 where
+  pub same : drop i (entries t) ≡ drop j (entries u)
+  pub quiet : s ≡ Stopped → AllByRecursion IsQuiet (drop i (entries t))
+
+abbrev pub ShiftLaw : Type 0
+ShiftLaw =
+    (t u : List (List ℕ)) (i j : ℕ) (s : LineStateValue) → state_at (entries t) i ≡ Some s → state_at (entries u) j ≡ Some s → drop i t ≡ drop j u → Shifts t u i j s
+
+-- two texts are the same above a line, which is sound in both or in none, with the same state
+abbrev pub AreSameAbove : ℕ → List (List ℕ) → List (List ℕ) → Type 0
+AreSameAbove r old new = (r ≡ 0) ⊎ (take (r + 1) old ≡ take (r + 1) new)
+
+-- what an edited text consists of: above a sound row that stands above the edit, what the old text did; from it on, what its state and
+-- the rows say
+abbrev pub RestartLaw : Type 0
+RestartLaw =
+    (old new : List (List ℕ)) (r : ℕ) (s : LineStateValue) → AreSameAbove r old new → state_at (entries new) r ≡ Some s
+    → entries new ≡ take r (entries old) ++ from_state s (drop r new)
+
+-- and from a row on that is sound in both with the same state, where the rows from there on are the same, what the old text did: the
+-- rows between are to be read
+abbrev pub ConvergenceLaw : Type 0
+ConvergenceLaw =
+    (old new : List (List ℕ)) (r m n : ℕ) (s z : LineStateValue) → AreSameAbove r old new → state_at (entries new) r ≡ Some s
+    → r ≤ m → drop m new ≡ drop n old → state_at (entries new) m ≡ Some z → state_at (entries old) n ≡ Some z
+    → entries new ≡ take r (entries old) ++ (take (m - r) (from_state s (drop r new)) ++ drop n (entries old))
+
+-- the rows from one on that lies behind the rows that were put in are those from its counterpart on
+abbrev pub CounterpartLaw : Type 0
+CounterpartLaw =
+    (old mid : List (List ℕ)) (a b i : ℕ) → a ≤ length old
+    → drop (a + length mid + i) (take a old ++ (mid ++ drop b old)) ≡ drop (b + i) old
+
+-- the rows above the edit stay
+abbrev pub AboveLaw : Type 0
+AboveLaw = (old mid : List (List ℕ)) (a b r : ℕ) → a ≤ length old → r < a → take (r + 1) old ≡ take (r + 1) (take a old ++ (mid ++ drop b old))

@@ -1,0 +1,188 @@
+//! What must be known at a sound row.
+
+ghost use Rattle.std.specs.Prelude.{◌≡◌, ◌↔◌, IfOk, IsTrue, MatchOption};
+ghost use Rattle.yl_row.specs.Entries.{Stopped, Stands};
+ghost use Rattle.yl_scan.specs.State.{is_stopped};
+
+use arrayvec::ArrayVec;
+use std::alloc::{AllocError, Allocator};
+use std::marker::Model;
+use std::rc::Rc;
+use yl_lexeme::{BracketStack, ColumnStack, KeptStack, Kind, Surroundings};
+
+/// What must be known at a sound row that no fault stands before.
+#[derive(Drop)]
+pub struct Standing<A: Allocator> {
+    /// One more than the column of each open block collection, counted from 0 in characters, the innermost on top.
+    pub levels: KeptStack<u32, A>,
+    /// The open brackets, the innermost on top.
+    pub brackets: KeptStack<Kind, A>,
+    /// The kind of the last lexeme.
+    pub last: Option<Kind>,
+}
+
+/// What must be known at a sound row: the columns, the open brackets and the last lexeme's kind, or that a fault has come before.
+/// It is one pointer, and rows with equal states share what it points to.
+#[derive(Drop)]
+pub struct LineState<A: Allocator> {
+    /// Nothing, if a fault has come before.
+    standing: Option<Rc<Standing<A>, A>>,
+}
+
+impl<A: Allocator> Model for LineState<A> {
+    ghost use Rattle.yl_row.specs.Entries.{LineStateValue};
+    ghost use Rattle.yl_scan.specs.Standing.{state_seen};
+
+    ghost Value = { LineStateValue };
+
+    ghost view = { λ s. state_seen s.standing };
+}
+
+impl<A: Allocator + Copy> LineState<A> {
+    /// A fault has come before.
+    pub fn stopped() -> LineState<A>
+        ensures { result ≡ Stopped }
+    {
+        LineState { standing: None }
+    }
+
+    fn of(alloc: A, surroundings: &Surroundings<'_, A>) -> Result<LineState<A>, AllocError>
+        ensures { IfOk result (λ s. s ≡ Stands surroundings.now.levels surroundings.now.brackets surroundings.now.last) }
+    {
+        let standing = Standing {
+            levels: KeptStack::of(ArrayVec::new(), &surroundings.levels)?,
+            brackets: KeptStack::of(ArrayVec::new(), &surroundings.brackets)?,
+            last: surroundings.last,
+        };
+        Ok(LineState {
+            standing: Some(Rc::new(alloc, standing)?),
+        })
+    }
+
+    /// What stands before a row, by what is known there: the latest state, if it is the same, and else a new one, which is the latest
+    /// then. The only error is memory.
+    pub fn before(
+        latest: &mut Option<LineState<A>>,
+        alloc: A,
+        surroundings: &Surroundings<'_, A>,
+    ) -> Result<LineState<A>, AllocError>
+        ensures { IfOk result (λ s. s ≡ Stands surroundings.now.levels surroundings.now.brackets surroundings.now.last) }
+    {
+        if let Some(state) = latest
+            && state.shows(surroundings)
+        {
+            return state.share();
+        }
+        let state = LineState::of(alloc, surroundings)?;
+        *latest = Some(state.share()?);
+        Ok(state)
+    }
+
+    /// Whether this is what stands before a row, by what is known there. Of 64 columns or brackets or more it says that it is not.
+    fn shows(&self, surroundings: &Surroundings<'_, A>) -> bool
+        ensures { IsTrue result → self.now ≡ Stands surroundings.now.levels surroundings.now.brackets surroundings.now.last }
+    {
+        match &self.standing {
+            None => false,
+            Some(standing) => {
+                let standing = standing.as_ref();
+                standing.last == surroundings.last
+                    && keeps_levels(&standing.levels, &surroundings.levels)
+                    && keeps_brackets(&standing.brackets, &surroundings.brackets)
+            }
+        }
+    }
+}
+
+impl<A: Allocator> LineState<A> {
+    /// The same state, which takes no room. It fails where more are shared than can be counted.
+    pub fn share(&self) -> Result<LineState<A>, AllocError>
+        ensures { IfOk result (λ s. s ≡ self.now) }
+    {
+        match &self.standing {
+            None => Ok(LineState { standing: None }),
+            Some(standing) => Ok(LineState {
+                standing: Some(standing.clone()?),
+            }),
+        }
+    }
+
+    /// What is known, if no fault has come before.
+    pub fn standing(&self) -> Option<&Standing<A>>
+        ensures { MatchOption result (self.now ≡ Stopped) (λ s. self.now ≡ Stands s.now.levels s.now.brackets s.now.last) }
+    {
+        match &self.standing {
+            None => None,
+            Some(standing) => Some(standing.as_ref()),
+        }
+    }
+
+    /// Whether a fault has come before.
+    pub fn is_stopped(&self) -> bool
+        ensures { result ≡ is_stopped self.now }
+    {
+        self.standing.is_none()
+    }
+
+    fn is_same(&self, other: &LineState<A>) -> bool
+        ensures { IsTrue result ↔ (self.now ≡ other.now) }
+    {
+        match (self.standing(), other.standing()) {
+            (None, None) => true,
+            (Some(a), Some(b)) => same_standing(a, b),
+            _ => false,
+        }
+    }
+}
+
+fn keeps_levels<A: Allocator + Copy>(kept: &KeptStack<u32, A>, levels: &ColumnStack<'_, A>) -> bool
+    ensures { IsTrue result → kept.now ≡ levels.now }
+{
+    kept.keeps(levels)
+}
+
+fn keeps_brackets<A: Allocator + Copy>(
+    kept: &KeptStack<Kind, A>,
+    brackets: &BracketStack<'_, A>,
+) -> bool
+    ensures { IsTrue result → kept.now ≡ brackets.now }
+{
+    kept.keeps(brackets)
+}
+
+fn same_levels<A: Allocator>(a: &KeptStack<u32, A>, b: &KeptStack<u32, A>) -> bool
+    ensures { IsTrue result ↔ (a.now ≡ b.now) }
+{
+    a.is_like(b)
+}
+
+fn same_brackets<A: Allocator>(a: &KeptStack<Kind, A>, b: &KeptStack<Kind, A>) -> bool
+    ensures { IsTrue result ↔ (a.now ≡ b.now) }
+{
+    a.is_like(b)
+}
+
+fn same_standing<A: Allocator>(a: &Standing<A>, b: &Standing<A>) -> bool
+    ensures { IsTrue result ↔ (Stands a.now.levels a.now.brackets a.now.last ≡ Stands b.now.levels b.now.brackets b.now.last) }
+{
+    a.last == b.last && same_levels(&a.levels, &b.levels) && same_brackets(&a.brackets, &b.brackets)
+}
+
+impl<A: Allocator> PartialEq for LineState<A> {
+    ghost use Rattle.std.specs.Cmp.{partial_equiv_from_equiv};
+    ghost use Rattle.yl_scan.specs.State.{state_eq, state_equivalence};
+
+    ghost eq = { state_eq };
+
+    ghost laws = { partial_equiv_from_equiv state_equivalence };
+
+    fn eq(&self, other: &LineState<A>) -> bool {
+        self.is_same(other)
+    }
+}
+
+impl<A: Allocator> Eq for LineState<A> {
+    ghost use Rattle.yl_scan.specs.State.{state_equivalence};
+
+    ghost laws = { state_equivalence };
+}

@@ -1,0 +1,54 @@
+-- What is kept of a section, put together.
+use Rattle.std.proofs.Common.{◌≡◌, ◌++◌, ℕ, true, List, [], ◌∷◌, map, length, refl, ap, ◌∙◌, Option}
+use Rattle.std.specs.Prelude.{slice_get}
+use Rattle.std.specs.List.{filter, flat_map}
+use Rattle.yl_text.specs.declared.finding.RuleId.TheVariants.{Comments, Indentation}
+use Rattle.yl_marks.specs.declared.symbol.Marked.{Marked}
+use Rattle.yl_marks.specs.Keys.{token_of}
+use Rattle.yl_marks.specs.Marks.{marked_lexemes}
+use Rattle.yl_indentation.specs.Facts.{indent_facts}
+use Rattle.yl_rules.specs.Comments.{comment_findings}
+use Rattle.yl_config.specs.Config.{options_of}
+use Rattle.yl_text.specs.Finding.{FindingValue}
+use Rattle.yl_lexeme.specs.Lexeme.{LexemeValue, PlacedCommentValue}
+use Rattle.yl_events.specs.Event.{EventValue}
+use Rattle.yl_indentation.specs.declared.fact.Fact.{Fact}
+use Rattle.yl_layout.specs.Lexemes.{lexeme_findings}
+use Rattle.yl_config.specs.declared.config.Config.{Config}
+use Rattle.yl_record.specs.Records.{RecordValue}
+use Rattle.yl_sections.specs.Sections.{lexemes_of}
+use Rattle.yl_sections.specs.Kept.{BuiltValue, SectionFaultValue, KeptValue, scan_fault_from, section_fault, shown_events, counted_of, comment_lines, shown_comments, is_addressed, lexeme_options_of, shown_comment_findings, tree_findings, facts_of, column_or, kept_of, is_on}
+
+pub kept_is :
+    (config : Config) (rs : List RecordValue) (b : BuiltValue) (xs : List LexemeValue) (scanned fault : Option SectionFaultValue) (events : List EventValue) (counted rows lines first : ℕ)
+    (comments kept : List PlacedCommentValue) (found : List FindingValue) (facts : List Fact) (k : KeptValue)
+    → k ≡ record { rows = rows; first = first; found = found; facts = facts; comments = kept; fault = fault }
+    → found ≡ lexeme_findings (lexeme_options_of config) counted xs ++ (shown_comment_findings config comments ++ tree_findings config events)
+    → facts ≡ facts_of config rs xs counted
+    → kept ≡ filter is_addressed comments
+    → first ≡ column_or 0 (slice_get xs 0)
+    → comments ≡ shown_comments lines rs
+    → events ≡ shown_events fault b.events
+    → counted ≡ counted_of xs b.fault
+    → lines ≡ comment_lines rows xs b.fault
+    → fault ≡ section_fault xs b.fault scanned
+    → scanned ≡ scan_fault_from 0 rs
+    → rows ≡ length rs
+    → xs ≡ lexemes_of rs
+    → k ≡ kept_of config rs b
+kept_is config rs b xs scanned fault events counted rows lines first comments kept found facts k h1 h2 h3 h4 h5 h6 h7 h8 h9 h10 h11 h12 h13 =
+    rw (h1, h2, h3, h4, h5, h6, h7, h8, h9, h10, h11, h12, h13) refl
+
+-- ---- rules that are on
+
+flat_map-map : {X Y Z : Type 0} (f : Y → List Z) (g : X → Y) (xs : List X) → flat_map (λ x. f (g x)) xs ≡ flat_map f (map g xs)
+flat_map-map f g [] = refl
+flat_map-map f g (x ∷ xs) = ap (λ ys. f (g x) ++ ys) (flat_map-map f g xs)
+
+pub comments_are : {X : Type 0} (config : Config) (g : X → PlacedCommentValue) (xs : List X) (found : List FindingValue) → is_on config Comments ≡ true
+    → found ≡ flat_map (λ x. comment_findings (options_of config).comments (g x)) xs → found ≡ shown_comment_findings config (map g xs)
+comments_are config g xs found on e = rw on (e ∙ flat_map-map (comment_findings (options_of config).comments) g xs)
+
+pub facts_are : (config : Config) (rs : List RecordValue) (xs : List LexemeValue) (counted : ℕ) (marks : List Marked) (ns : List ℕ) (facts : List Fact) → is_on config Indentation ≡ true
+    → facts ≡ indent_facts (map token_of xs) marks counted ns → marks ≡ marked_lexemes xs → ns ≡ map (λ r. r.indentation) rs → facts ≡ facts_of config rs xs counted
+facts_are config rs xs counted marks ns facts on e m n = rw on (e ∙ rw (m, n) refl)

@@ -1,0 +1,7 @@
+pub mod Documents
+pub mod Cuts
+pub mod Rows
+pub mod Assembled
+pub mod Sequence
+pub mod Local
+mod Examples

@@ -1,0 +1,218 @@
+-- Meaning: what is kept of a section, by itself: lines count from its first row (those of what is found from 1). What the text's fault
+-- says of a section follows from the sections' own faults: a section after one with a fault is hidden whole, and one without fault shows
+-- all that it has. So what is kept is what the section shows, and no problem needs to know on which lexemes it rests. Rules that look at
+-- rows hide nothing, and are no part of it.
+use Rattle.std.specs.Prelude.{◌≡◌, ℕ, Bool, true, false, ◌==◌, if◌then◌else◌, List, [], ◌∷◌, ◌++◌, ◌+◌, ◌-◌, ◌^◌, min, map, length, take, codes, Option, Some, None, slice_get, is_some}
+use Rattle.std.specs.List.{filter, flat_map, starts_with}
+use Rattle.yl_text.specs.declared.position.Pos.{Pos}
+use Rattle.yl_text.specs.declared.finding.RuleId.{RuleId}
+use Rattle.yl_text.specs.declared.finding.RuleId.TheVariants.{Anchors, Braces, Brackets, Colons, Commas, Comments, DocumentStart, Hyphens, Indentation, KeyDuplicates, KeyOrdering, QuotedStrings, Truthy}
+use Rattle.yl_text.specs.Finding.{FindingValue}
+use Rattle.yl_lexeme.specs.Lexeme.{LexemeValue, CommentValue, PlacedCommentValue}
+use Rattle.yl_marks.specs.Keys.{token_of}
+use Rattle.yl_marks.specs.Marks.{marked_lexemes}
+use Rattle.yl_row.specs.declared.fault.PlacedScanFault.{PlacedScanFault}
+use Rattle.yl_row.specs.Entries.{pos_at}
+use Rattle.yl_row.specs.Fault as scan
+use Rattle.yl_events.specs.declared.fault.PlacedParseFault.{PlacedParseFault}
+use Rattle.yl_events.specs.Event.{EventValue}
+use Rattle.yl_events.specs.Built.{Builds}
+use Rattle.yl_events.specs.Faults as parse
+use Rattle.yl_layout.specs.declared.options.LexemeOptions.{LexemeOptions}
+use Rattle.yl_layout.specs.Lexemes.{lexeme_findings}
+use Rattle.yl_indentation.specs.declared.fact.Fact.{Fact}
+use Rattle.yl_indentation.specs.Facts.{indent_facts}
+use Rattle.yl_tree.specs.Anchors.{anchors}
+use Rattle.yl_tree.specs.KeyRules.{key_duplicates, key_ordering}
+use Rattle.yl_rules.specs.Comments.{comment_findings}
+use Rattle.yl_config.specs.declared.config.Config.{Config}
+use Rattle.yl_config.specs.Config.{levels_of, options_of}
+use Rattle.yl_record.specs.Records.{RecordValue}
+use Rattle.yl_sections.specs.declared.comments.LexemeEnd.{LexemeEnd}
+use Rattle.yl_sections.specs.Sections.{lexemes_of}
+
+-- ---- the document
+
+-- its events and no fault, or its fault and no events
+pub record BuiltValue : Type 0 where
+  pub events : List EventValue
+  pub fault : Option PlacedParseFault
+
+abbrev pub nothing_built : BuiltValue
+nothing_built = record { events = []; fault = None }
+
+-- what the document of these lexemes gives; no lexemes are no document
+abbrev pub IsBuilt : List LexemeValue → BuiltValue → Type 0
+IsBuilt [] b = b ≡ nothing_built
+IsBuilt (x ∷ xs) b = Builds (x ∷ xs) b.events b.fault
+
+-- how many documents they are
+abbrev pub document_count : List LexemeValue → ℕ
+document_count [] = 0
+document_count (x ∷ xs) = 1
+
+-- ---- the section's fault
+
+pub data SectionFaultValue : Type 0 where
+  -- at a place of the section
+  Here : (place : Pos) (text : List ℕ) → SectionFaultValue
+  -- its document may not end: at the next document's first lexeme, or at the text's end
+  Behind : (text : List ℕ) → SectionFaultValue
+
+-- the greatest number of lines and of characters stands for all beyond it: no text has that many
+abbrev pub place_in_text : ℕ → ℕ → Pos
+place_in_text line column = pos_at (min line (2 ^ 32 - 1)) (min column (2 ^ 32 - 1))
+
+abbrev pub scan_fault_or : ℕ → Option PlacedScanFault → Option SectionFaultValue → Option SectionFaultValue
+scan_fault_or line None later = later
+scan_fault_or line (Some f) later = Some (Here (place_in_text (line + f.down) f.column) (scan.fault_text f.fault))
+
+-- the scan fault in these rows, the first of which is at this line
+abbrev pub scan_fault_from : ℕ → List RecordValue → Option SectionFaultValue
+scan_fault_from line [] = None
+scan_fault_from line (r ∷ rs) = scan_fault_or line r.entry.fault (scan_fault_from (line + 1) rs)
+
+abbrev pub or_behind : Option SectionFaultValue → List ℕ → Option SectionFaultValue
+or_behind None text = Some (Behind text)
+or_behind (Some f) text = Some f
+
+-- a parse fault at a lexeme comes before the scan fault, which stands after all lexemes; one after them gives way to it
+abbrev pub parse_fault_or : Option LexemeValue → List ℕ → Option SectionFaultValue → Option SectionFaultValue
+parse_fault_or None text scanned = or_behind scanned text
+parse_fault_or (Some x) text scanned = Some (Here x.start text)
+
+-- by the parse fault of these lexemes and the scan fault
+abbrev pub section_fault : List LexemeValue → Option PlacedParseFault → Option SectionFaultValue → Option SectionFaultValue
+section_fault xs None scanned = scanned
+section_fault xs (Some f) scanned = parse_fault_or (slice_get xs f.place) (parse.fault_text f.kind) scanned
+
+-- how many lexemes come before the parse fault
+abbrev pub counted_of : List LexemeValue → Option PlacedParseFault → ℕ
+counted_of xs None = length xs
+counted_of xs (Some f) = f.place
+
+abbrev pub line_or : ℕ → Option LexemeValue → ℕ
+line_or rows None = rows
+line_or rows (Some x) = x.start.line
+
+-- up to which line, without it, comments are shown: that of a parse fault at a lexeme, else as many as there are rows
+abbrev pub comment_lines : ℕ → List LexemeValue → Option PlacedParseFault → ℕ
+comment_lines rows xs None = rows
+comment_lines rows xs (Some f) = line_or rows (slice_get xs f.place)
+
+-- ---- comments
+
+-- where the last lexeme ends, after those of the row at this line too
+abbrev pub last_end : Option LexemeEnd → ℕ → List LexemeValue → Option LexemeEnd
+last_end last line [] = last
+last_end last line (x ∷ xs) = last_end (Some (record { line = line + x.end.line; col = x.end.col })) line xs
+
+-- in which column, if it is in this line
+abbrev pub column_in : ℕ → Option LexemeEnd → Option ℕ
+column_in line None = None
+column_in line (Some end) = if end.line == line then Some end.col else None
+
+abbrev pub comment_at : ℕ → Option LexemeEnd → Option CommentValue → List PlacedCommentValue
+comment_at line last None = []
+comment_at line last (Some c) = record { line = line; column = c.column; text = c.text; behind = column_in line last } ∷ []
+
+-- the comments of these rows, the first of which is at this line; a row's comment comes after its lexemes
+abbrev pub comments_from : Option LexemeEnd → ℕ → List RecordValue → List PlacedCommentValue
+comments_from last line [] = []
+comments_from last line (r ∷ rs) =
+    let end = last_end last line r.entry.lexemes in comment_at line end r.entry.comment ++ comments_from end (line + 1) rs
+
+-- those before this line
+abbrev pub shown_comments : ℕ → List RecordValue → List PlacedCommentValue
+shown_comments line rs = comments_from None 0 (take line rs)
+
+-- it is one that may silence rules
+abbrev pub is_addressed : PlacedCommentValue → Bool
+is_addressed c = starts_with (λ a b. a == b) c.text (codes "# yamllint ")
+
+-- ---- the rules
+
+abbrev pub is_on : Config → RuleId → Bool
+is_on config rule = is_some (levels_of config rule)
+
+abbrev pub options_if : {O : Type 0} → Bool → O → Option O
+options_if true o = Some o
+options_if false o = None
+
+abbrev pub items_if : {X : Type 0} → Bool → List X → List X
+items_if true xs = xs
+items_if false xs = []
+
+-- of the rules on lexemes
+abbrev pub lexeme_options_of : Config → LexemeOptions
+lexeme_options_of config = record {
+  braces = options_if (is_on config Braces) (options_of config).braces;
+  brackets = options_if (is_on config Brackets) (options_of config).brackets;
+  colons = options_if (is_on config Colons) (options_of config).colons;
+  commas = options_if (is_on config Commas) (options_of config).commas;
+  hyphens = options_if (is_on config Hyphens) (options_of config).hyphens;
+  document_start = options_if (is_on config DocumentStart) (options_of config).document_start;
+  truthy = options_if (is_on config Truthy) (options_of config).truthy;
+  quoted_strings = options_if (is_on config QuotedStrings) (options_of config).quoted_strings;
+}
+
+-- the shebang's place, line 0 and column 0, is the text's first: in the first row of a later section a lexeme stands before any comment
+abbrev pub shown_comment_findings : Config → List PlacedCommentValue → List FindingValue
+shown_comment_findings config cs = items_if (is_on config Comments) (flat_map (comment_findings (options_of config).comments) cs)
+
+abbrev pub tree_findings : Config → List EventValue → List FindingValue
+tree_findings config es =
+    items_if (is_on config KeyDuplicates) (key_duplicates (options_of config).key_duplicates es)
+    ++ (items_if (is_on config KeyOrdering) (key_ordering es) ++ items_if (is_on config Anchors) (anchors (options_of config).anchors es))
+
+-- the events count where the section has no fault
+abbrev pub shown_events : Option SectionFaultValue → List EventValue → List EventValue
+shown_events None es = es
+shown_events (Some f) es = []
+
+-- ---- what is kept
+
+pub record KeptValue : Type 0 where
+  pub rows : ℕ
+  -- the column of its first lexeme, where the fault of a section before may stand; 0 where it has none
+  pub first : ℕ
+  -- of the lexemes, comments and events that are shown
+  pub found : List FindingValue
+  -- of the rule indentation, of the lexemes that are shown; lines from 0
+  pub facts : List Fact
+  -- the comments that are shown and may silence rules
+  pub comments : List PlacedCommentValue
+  pub fault : Option SectionFaultValue
+
+abbrev pub column_or : ℕ → Option LexemeValue → ℕ
+column_or column None = column
+column_or column (Some x) = x.start.col
+
+abbrev pub facts_of : Config → List RecordValue → List LexemeValue → ℕ → List Fact
+facts_of config rs xs counted =
+    items_if (is_on config Indentation) (indent_facts (map token_of xs) (marked_lexemes xs) counted (map (λ r. r.indentation) rs))
+
+-- of a section with these lexemes, whose document gives this, and with this fault
+abbrev pub kept_with : Config → List RecordValue → List LexemeValue → BuiltValue → Option SectionFaultValue → KeptValue
+kept_with config rs xs b fault =
+    let counted = counted_of xs b.fault in
+    let comments = shown_comments (comment_lines (length rs) xs b.fault) rs in
+    record {
+      rows = length rs;
+      first = column_or 0 (slice_get xs 0);
+      found =
+          lexeme_findings (lexeme_options_of config) counted xs
+          ++ (shown_comment_findings config comments ++ tree_findings config (shown_events fault b.events));
+      facts = facts_of config rs xs counted;
+      comments = filter is_addressed comments;
+      fault = fault;
+    }
+
+abbrev pub kept_of : Config → List RecordValue → BuiltValue → KeptValue
+kept_of config rs b = let xs = lexemes_of rs in kept_with config rs xs b (section_fault xs b.fault (scan_fault_from 0 rs))
+
+-- k is what is kept of the section of these rows: its document gives so
+pub record IsKept (config : Config) (rs : List RecordValue) (k : KeptValue) : Type 0 where
+  pub document : BuiltValue
+  pub built : IsBuilt (lexemes_of rs) document
+  pub kept : k ≡ kept_of config rs document

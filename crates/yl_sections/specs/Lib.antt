@@ -1,0 +1,6 @@
+pub mod Sections
+pub mod Kept
+pub mod Judge
+pub mod Owned
+pub mod Local
+pub mod Laws

@@ -1,0 +1,44 @@
+-- Meaning: sections of an edited text: cut by what stands near the edit alone.
+use Rattle.std.specs.Prelude.{◌≡◌, ◌⊎◌, ◌<◌, ◌≤◌, ◌+◌, ℕ, Bool, true, false, List, [], ◌∷◌, ◌++◌, length, take, drop, Option, None}
+use Rattle.std.specs.List.{splice}
+use Rattle.yl_lexeme.specs.declared.lexeme.Kind.{Kind}
+use Rattle.yl_record.specs.Records.{RecordValue}
+use Rattle.yl_sections.specs.Sections.{last_kind, is_section_start, sections}
+
+-- the kind of the last lexeme, after these rows too
+abbrev pub kind_after : Option Kind → List RecordValue → Option Kind
+kind_after last [] = last
+kind_after last (r ∷ rs) = kind_after (last_kind last r.entry.lexemes) rs
+
+-- a section begins with the first of these rows
+abbrev pub is_start : Option Kind → List RecordValue → Bool
+is_start last [] = false
+is_start last (r ∷ rs) = is_section_start last r.entry.lexemes
+
+-- a section begins with the row of this index
+abbrev pub is_start_at : List RecordValue → ℕ → Bool
+is_start_at rs i = is_start (kind_after None (take i rs)) (drop i rs)
+
+-- how many rows these sections have, and which
+abbrev pub row_total : List (List RecordValue) → ℕ
+row_total [] = 0
+row_total (s ∷ ss) = length s + row_total ss
+
+abbrev pub all_rows : List (List RecordValue) → List RecordValue
+all_rows [] = []
+all_rows (s ∷ ss) = s ++ all_rows ss
+
+-- the rows of sections, one section after another, are all rows
+abbrev pub SectionsAreRows : Type 0
+SectionsAreRows = (rs : List RecordValue) → all_rows (sections rs) ≡ rs
+
+-- the new rows are the old ones up to a place at which a section begins, some rows, and the old ones from a place on at which a section
+-- begins: then only the sections of the rows between are new. p, q: how many old sections stand before the places x and y; z is y in
+-- the new text
+abbrev pub SectionsAreLocal : Type 0
+SectionsAreLocal =
+    (old new : List RecordValue) (p q x y z : ℕ)
+    → p ≤ q → q ≤ length (sections old) → x ≡ row_total (take p (sections old)) → y ≡ row_total (take q (sections old))
+    → x < z → take x old ≡ take x new → drop y old ≡ drop z new
+    → (p ≡ 0) ⊎ (is_start_at new x ≡ true) → (q ≡ length (sections old)) ⊎ (is_start_at new z ≡ true)
+    → splice (sections old) p q (sections (drop x (take z new))) ≡ sections new

@@ -1,0 +1,63 @@
+-- Meaning: the records of a text's rows, cut where documents begin (YAML 1.2.2, 9.1 and 9.2). A document's first lexeme is the first of
+-- its row: `---` and a directive stand at column 0, and after `...` stands no lexeme in its row. So documents are runs of rows: a section
+-- holds the rows from a document's first lexeme on to before the next document's; the first holds all rows before it too. A text without
+-- lexemes is one section and no document.
+use Rattle.std.specs.Prelude.{ℕ, suc, Bool, true, false, if◌then◌else◌, List, [], ◌∷◌, ◌++◌, ◌+◌, map, Option, Some, None}
+use Rattle.yl_lexeme.specs.declared.lexeme.Kind.{Kind}
+use Rattle.yl_lexeme.specs.Lexeme.{LexemeValue}
+use Rattle.yl_marks.specs.Keys.{lexeme_at_line}
+use Rattle.yl_events.specs.Cut.{is_beginning}
+use Rattle.yl_record.specs.Records.{RecordValue}
+
+-- the kind of the last lexeme, after these too
+abbrev pub last_kind : Option Kind → List LexemeValue → Option Kind
+last_kind last [] = last
+last_kind last (x ∷ xs) = last_kind (Some x.kind) xs
+
+-- a document begins with a lexeme of this kind after one of that kind, and is not the text's first
+abbrev pub is_next_document : Option Kind → Kind → Bool
+is_next_document None kind = false
+is_next_document (Some last) kind = is_beginning last kind
+
+-- a section begins with the row of these lexemes
+abbrev pub is_section_start : Option Kind → List LexemeValue → Bool
+is_section_start last [] = false
+is_section_start last (x ∷ xs) = is_next_document last x.kind
+
+-- the rows that belong to the section before, and the sections that begin after them
+pub record Parts : Type 0 where
+  pub here : List RecordValue
+  pub later : List (List RecordValue)
+
+abbrev pub with_row : Bool → RecordValue → Parts → Parts
+with_row true r p = record { here = []; later = (r ∷ p.here) ∷ p.later }
+with_row false r p = record { here = r ∷ p.here; later = p.later }
+
+abbrev pub parts : Option Kind → List RecordValue → Parts
+parts last [] = record { here = []; later = [] }
+parts last (r ∷ rs) = with_row (is_section_start last r.entry.lexemes) r (parts (last_kind last r.entry.lexemes) rs)
+
+abbrev pub all_parts : Parts → List (List RecordValue)
+all_parts p = p.here ∷ p.later
+
+abbrev pub sections : List RecordValue → List (List RecordValue)
+sections rs = all_parts (parts None rs)
+
+-- how many rows come before the next section's first
+abbrev pub row_count : Option Kind → List RecordValue → ℕ
+row_count last [] = 0
+row_count last (r ∷ rs) = if is_section_start last r.entry.lexemes then 0 else suc (row_count (last_kind last r.entry.lexemes) rs)
+
+-- the sections of rows that begin one, if there are any
+abbrev pub later_sections : List RecordValue → List (List RecordValue)
+later_sections [] = []
+later_sections (r ∷ rs) = sections (r ∷ rs)
+
+-- the lexemes of these rows, the first of which is at this line
+abbrev pub lexemes_from : ℕ → List RecordValue → List LexemeValue
+lexemes_from line [] = []
+lexemes_from line (r ∷ rs) = map (lexeme_at_line line) r.entry.lexemes ++ lexemes_from (line + 1) rs
+
+-- the lexemes of a section, with lines from its first row
+abbrev pub lexemes_of : List RecordValue → List LexemeValue
+lexemes_of rs = lexemes_from 0 rs

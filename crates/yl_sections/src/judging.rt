@@ -1,0 +1,132 @@
+//! Judging a section.
+ghost use Rattle.std.specs.Prelude.{◌≡◌, ◌≤◌, ◌<◌, ◌-◌, ◌+◌, ◌^◌, map, length, slice_get, IfOk, OnOk};
+ghost use Rattle.std.specs.Option.{option_map};
+ghost use Rattle.yl_events.specs.Event.{event_value};
+ghost use Rattle.yl_marks.specs.Keys.{lexeme_at_line};
+ghost use Rattle.yl_sections.specs.Sections.{lexemes_of, sections};
+ghost use Rattle.yl_sections.specs.Kept.{column_or, counted_of, document_count, kept_of, scan_fault_from, section_fault, shown_events};
+ghost use Rattle.yl_sections.specs.Judge.{built_value, document_of, documents_in, kept_of_section};
+ghost use Rattle.yl_sections.specs.Owned.{section_fault_value};
+
+use crate::comments::{kept_comments, shown_comments};
+use crate::fault::{SectionFault, comment_lines, counted, scan_fault, section_fault};
+use crate::kept::Kept;
+use crate::lexemes::lexemes_of;
+use crate::rules::{facts, found};
+use crate::sections::section_len;
+use std::alloc::{AllocError, Allocator};
+use yl_config::Config;
+use yl_events::{Built, Event, parse_document};
+use yl_lexeme::{LexemeAtLine, Meter};
+use yl_record::Record;
+
+/// What the document of these lexemes gives; no lexemes are no document.
+fn document_of<'a, A: Allocator + Copy>(
+    alloc: A,
+    lexemes: &[LexemeAtLine<'a, A>],
+    meter: &mut Meter,
+) -> Result<Built<'a, A>, AllocError>
+    requires { meter.old.documents < 2 ^ 32 - 1 }
+    ensures built { IfOk result (λ b. built_value b ≡ document_of (map (λ x. lexeme_at_line x.line x.lexeme.now) lexemes.now)) }
+    ensures counted { meter.new
+        ≡ record meter.old { documents = meter.old.documents + document_count (map (λ x. lexeme_at_line x.line x.lexeme.now) lexemes.now) } }
+{
+    if lexemes.is_empty() {
+        return Ok(Built {
+            events: Vec::new(alloc),
+            fault: None,
+        });
+    }
+    parse_document(alloc, lexemes, meter)
+}
+
+/// The events where the section has no fault.
+fn shown_events<'b, 'a>(fault: Option<SectionFault>, events: &'b [Event<'a>]) -> &'b [Event<'a>]
+    ensures { map event_value result.now ≡ shown_events (option_map section_fault_value fault) (map event_value events.now) }
+{
+    if fault.is_some() { &[] } else { events }
+}
+
+/// The column of the first lexeme, or 0.
+fn first_column<A: Allocator>(lexemes: &[LexemeAtLine<'_, A>]) -> u32
+    ensures { result ≡ column_or 0 (slice_get (map (λ x. lexeme_at_line x.line x.lexeme.now) lexemes.now) 0) }
+{
+    match lexemes {
+        [] => 0,
+        [first, ..] => first.lexeme.start().col,
+    }
+}
+
+/// What is kept of the section of these rows with these lexemes, whose document gives this.
+fn keep<'a, A: Allocator + Copy>(
+    alloc: A,
+    config: &Config,
+    records: &[&'a Record<A>],
+    lexemes: &[LexemeAtLine<'a, A>],
+    document: &Built<'a, A>,
+) -> Result<Kept<A>, AllocError>
+    requires few { length records.now < 2 ^ 32 }
+    requires lexemes { map (λ x. lexeme_at_line x.line x.lexeme.now) lexemes.now ≡ lexemes_of (map (λ r. r.now) records.now) }
+    requires inside { counted_of (map (λ x. lexeme_at_line x.line x.lexeme.now) lexemes.now) document.now.fault ≤ length lexemes.now }
+    ensures { IfOk result (λ k. k ≡ kept_of config.now (map (λ r. r.now) records.now) (built_value document.now)) }
+{
+    let parsed = document.fault;
+    let fault = section_fault(lexemes, parsed, scan_fault(records));
+    let events = shown_events(fault, document.events.as_slice());
+    let counted = counted(lexemes, parsed);
+    let lines = comment_lines(records.len(), lexemes, parsed);
+    let comments = shown_comments(alloc, records, lines)?;
+    let found = found(alloc, config, lexemes, counted, &comments, events)?;
+    let facts = facts(alloc, config, records, lexemes, counted)?;
+    let comments = kept_comments(alloc, &comments)?;
+    Ok(Kept::new(
+        records.len() as u32,
+        first_column(lexemes),
+        found,
+        facts,
+        comments,
+        fault,
+    ))
+}
+
+/// What is kept of the section of these rows. Counts its document in the meter, if it has one. The only error is out of memory.
+pub fn judge<A: Allocator + Copy>(
+    alloc: A,
+    config: &Config,
+    records: &[&Record<A>],
+    meter: &mut Meter,
+) -> Result<Kept<A>, AllocError>
+    requires rows { length records.now < 2 ^ 32 }
+    requires documents { meter.old.documents < 2 ^ 32 - 1 }
+    ensures kept { IfOk result (λ k. k ≡ kept_of_section config.now (map (λ r. r.now) records.now)) }
+    ensures counted { OnOk result (meter.new
+        ≡ record meter.old { documents = meter.old.documents + document_count (lexemes_of (map (λ r. r.now) records.now)) }) }
+{
+    let lexemes = lexemes_of(alloc, records)?;
+    let document = document_of(alloc, &lexemes, meter)?;
+    keep(alloc, config, records, &lexemes, &document)
+}
+
+/// What is kept of each section of these rows. Counts their documents in the meter. The only error is out of memory.
+pub fn judge_all<A: Allocator + Copy>(
+    alloc: A,
+    config: &Config,
+    records: &[&Record<A>],
+    meter: &mut Meter,
+) -> Result<Vec<Kept<A>, A>, AllocError>
+    requires rows { length records.now < 2 ^ 32 }
+    requires documents { meter.old.documents + length records.now < 2 ^ 32 - 1 }
+    ensures kept { IfOk result (λ v. v.items ≡ map (kept_of_section config.now) (sections (map (λ r. r.now) records.now))) }
+    ensures counted { OnOk result (meter.new
+        ≡ record meter.old { documents = meter.old.documents + documents_in (sections (map (λ r. r.now) records.now)) }) }
+{
+    let mut all = Vec::new(alloc);
+    let (first, mut rest) = records.split_at(section_len(records));
+    all.push(judge(alloc, config, first, meter)?)?;
+    while !rest.is_empty() {
+        let (section, below) = rest.split_at(section_len(rest));
+        all.push(judge(alloc, config, section, meter)?)?;
+        rest = below;
+    }
+    Ok(all)
+}

@@ -1,0 +1,20 @@
+//! What the definitions say of each section. No function here calls anything.
+ghost use Rattle.yl_sections.specs.Local.{SectionsAreLocal, SectionsAreRows};
+ghost use Rattle.yl_sections.specs.Laws.{FirstSection, KeptIsComputed, OneKept};
+
+/// A section has one value that is kept, and it can be computed.
+pub fn one_kept()
+    ensures computed { KeptIsComputed }
+    ensures one { OneKept }
+{}
+
+/// The first section of some rows is as many as `section_len` answers, and the others are those of the rows after it.
+pub fn first_section()
+    ensures { FirstSection }
+{}
+
+/// The rows of a text's sections are all of its rows; after an edit the sections before and after it are the old ones.
+pub fn sections_are_local()
+    ensures rows { SectionsAreRows }
+    ensures local { SectionsAreLocal }
+{}

@@ -1,0 +1,20 @@
+//! Sections: the runs of a text's rows that hold one document each, and what is kept of one.
+//!
+//! A section is judged by itself, with lines counted from its first row. The report of a text takes what is kept of the sections up to
+//! the first that has a fault.
+#![tactic(auto)]
+
+mod comments;
+mod fault;
+mod judging;
+mod kept;
+mod laws;
+mod lexemes;
+mod rules;
+mod sections;
+
+pub use fault::SectionFault;
+pub use judging::{judge, judge_all};
+pub use kept::{Kept, KeptComment};
+pub use laws::{first_section, one_kept, sections_are_local};
+pub use sections::{is_section_start, last_kind, section_len};

@@ -1,0 +1,189 @@
+//! What the rules find in a section.
+ghost use Rattle.std.specs.Prelude.{◌≡◌, ◌≤◌, ◌++◌, map, length, IfOk};
+ghost use Rattle.yl_lexeme.specs.PlacedComments.{placed_comment_value};
+ghost use Rattle.yl_marks.specs.Keys.{lexeme_at_line};
+ghost use Rattle.yl_events.specs.Event.{event_value};
+ghost use Rattle.yl_layout.specs.Lexemes.{lexeme_findings};
+ghost use Rattle.yl_tree.specs.Anchors.{anchors};
+ghost use Rattle.yl_tree.specs.KeyRules.{key_duplicates, key_ordering};
+ghost use Rattle.yl_config.specs.Config.{options_of};
+ghost use Rattle.yl_sections.specs.Kept.{facts_of, is_on, items_if, lexeme_options_of, options_if, shown_comment_findings, tree_findings};
+
+use crate::lexemes::indentations;
+use std::alloc::{AllocError, Allocator};
+use yl_config::Config;
+use yl_events::Event;
+use yl_indentation::{Fact, indent_facts};
+use yl_layout::{LexemeOptions, lexeme_problems};
+use yl_lexeme::{LexemeAtLine, PlacedComment};
+use yl_marks::{key_facts, mark};
+use yl_record::Record;
+use yl_rules::comment_problems;
+use yl_text::{Finding, RuleId};
+use yl_tree::{anchors, key_duplicates, key_ordering};
+
+/// Whether a rule is on.
+fn is_on(config: &Config, rule: RuleId) -> bool
+    ensures { result ≡ is_on config.now rule }
+{
+    config.levels().level_of(rule).is_some()
+}
+
+/// The options of a rule that is on.
+fn options_if<O: Copy>(is_on: bool, options: &O) -> Option<O>
+    ensures { result ≡ options_if is_on options.now }
+{
+    if is_on { Some(*options) } else { None }
+}
+
+/// The options of the rules on lexemes.
+fn lexeme_options(config: &Config) -> LexemeOptions
+    ensures { result ≡ lexeme_options_of config.now }
+{
+    LexemeOptions {
+        braces: options_if(is_on(config, RuleId::Braces), config.braces_options()),
+        brackets: options_if(is_on(config, RuleId::Brackets), config.brackets_options()),
+        colons: options_if(is_on(config, RuleId::Colons), config.colons_options()),
+        commas: options_if(is_on(config, RuleId::Commas), config.commas_options()),
+        hyphens: options_if(is_on(config, RuleId::Hyphens), config.hyphens_options()),
+        document_start: options_if(
+            is_on(config, RuleId::DocumentStart),
+            config.document_start_options(),
+        ),
+        truthy: options_if(is_on(config, RuleId::Truthy), config.truthy_options()),
+        quoted_strings: options_if(
+            is_on(config, RuleId::QuotedStrings),
+            config.quoted_strings_options(),
+        ),
+    }
+}
+
+/// What the rules on lexemes find, where the first `counted` of these count.
+fn lexemes_found<A: Allocator + Copy>(
+    alloc: A,
+    config: &Config,
+    lexemes: &[LexemeAtLine<'_, A>],
+    counted: usize,
+) -> Result<Vec<Finding<A>, A>, AllocError>
+    requires { counted ≤ length lexemes.now }
+    ensures { IfOk result (λ v. v.items
+        ≡ lexeme_findings (lexeme_options_of config.now) counted (map (λ x. lexeme_at_line x.line x.lexeme.now) lexemes.now)) }
+{
+    let keys = key_facts(alloc, lexemes)?;
+    lexeme_problems(alloc, lexemes, &keys, counted, &lexeme_options(config))
+}
+
+/// What the rule comments finds.
+fn comments_found<A: Allocator + Copy>(
+    alloc: A,
+    config: &Config,
+    comments: &[PlacedComment<'_>],
+) -> Result<Vec<Finding<A>, A>, AllocError>
+    ensures { IfOk result (λ v. v.items ≡ shown_comment_findings config.now (map placed_comment_value comments.now)) }
+{
+    if !is_on(config, RuleId::Comments) {
+        return Ok(Vec::new(alloc));
+    }
+    comment_problems(alloc, comments, config.comments_options())
+}
+
+/// What the rule key-duplicates finds.
+fn duplicates_found<'a, A: Allocator + Copy>(
+    alloc: A,
+    config: &Config,
+    events: &[Event<'a>],
+) -> Result<Vec<Finding<A>, A>, AllocError>
+    ensures { IfOk result (λ v. v.items
+        ≡ items_if (is_on config.now RuleId.KeyDuplicates) (key_duplicates (options_of config.now).key_duplicates (map event_value events.now))) }
+{
+    if !is_on(config, RuleId::KeyDuplicates) {
+        return Ok(Vec::new(alloc));
+    }
+    key_duplicates(alloc, events, config.key_duplicates_options())
+}
+
+/// What the rule key-ordering finds.
+fn misplaced_found<'a, A: Allocator + Copy>(
+    alloc: A,
+    config: &Config,
+    events: &[Event<'a>],
+) -> Result<Vec<Finding<A>, A>, AllocError>
+    ensures { IfOk result (λ v. v.items ≡ items_if (is_on config.now RuleId.KeyOrdering) (key_ordering (map event_value events.now))) }
+{
+    if !is_on(config, RuleId::KeyOrdering) {
+        return Ok(Vec::new(alloc));
+    }
+    key_ordering(alloc, events)
+}
+
+/// What the rule anchors finds.
+fn anchors_found<'a, A: Allocator + Copy>(
+    alloc: A,
+    config: &Config,
+    events: &[Event<'a>],
+) -> Result<Vec<Finding<A>, A>, AllocError>
+    ensures { IfOk result (λ v. v.items
+        ≡ items_if (is_on config.now RuleId.Anchors) (anchors (options_of config.now).anchors (map event_value events.now))) }
+{
+    if !is_on(config, RuleId::Anchors) {
+        return Ok(Vec::new(alloc));
+    }
+    anchors(alloc, events, config.anchors_options())
+}
+
+/// What the rules on keys and anchors find.
+fn tree_found<'a, A: Allocator + Copy>(
+    alloc: A,
+    config: &Config,
+    events: &[Event<'a>],
+) -> Result<Vec<Finding<A>, A>, AllocError>
+    ensures { IfOk result (λ v. v.items ≡ tree_findings config.now (map event_value events.now)) }
+{
+    let mut found = duplicates_found(alloc, config, events)?;
+    let mut misplaced = misplaced_found(alloc, config, events)?;
+    let mut anchors = anchors_found(alloc, config, events)?;
+    found.append(&mut misplaced)?;
+    found.append(&mut anchors)?;
+    Ok(found)
+}
+
+/// What the rules find in a section of which the first `counted` lexemes, these comments and these events are shown.
+pub fn found<'a, A: Allocator + Copy>(
+    alloc: A,
+    config: &Config,
+    lexemes: &[LexemeAtLine<'_, A>],
+    counted: usize,
+    comments: &[PlacedComment<'_>],
+    events: &[Event<'a>],
+) -> Result<Vec<Finding<A>, A>, AllocError>
+    requires { counted ≤ length lexemes.now }
+    ensures { IfOk result (λ v. v.items
+        ≡ lexeme_findings (lexeme_options_of config.now) counted (map (λ x. lexeme_at_line x.line x.lexeme.now) lexemes.now)
+        ++ (shown_comment_findings config.now (map placed_comment_value comments.now) ++ tree_findings config.now (map event_value events.now))) }
+{
+    let mut found = lexemes_found(alloc, config, lexemes, counted)?;
+    let mut of_comments = comments_found(alloc, config, comments)?;
+    let mut of_events = tree_found(alloc, config, events)?;
+    found.append(&mut of_comments)?;
+    found.append(&mut of_events)?;
+    Ok(found)
+}
+
+/// What the rule indentation checks in a section of which the first `counted` lexemes are shown.
+pub fn facts<A: Allocator + Copy>(
+    alloc: A,
+    config: &Config,
+    records: &[&Record<A>],
+    lexemes: &[LexemeAtLine<'_, A>],
+    counted: usize,
+) -> Result<Vec<Fact, A>, AllocError>
+    ensures { IfOk result (λ v. v.items
+        ≡ facts_of config.now (map (λ r. r.now) records.now) (map (λ x. lexeme_at_line x.line x.lexeme.now) lexemes.now) counted) }
+{
+    if !is_on(config, RuleId::Indentation) {
+        return Ok(Vec::new(alloc));
+    }
+    let marks = mark(alloc, lexemes)?;
+    let indentations = indentations(alloc, records)?;
+    indent_facts(alloc, lexemes, &marks, counted, &indentations)
+}

@@ -1,0 +1,4 @@
+pub mod AtNone
+pub mod Walk
+pub mod Digits
+pub mod Truthy

@@ -1,0 +1,141 @@
+//! The nodes of a document, walked over its events. A node goes by the index of its first event.
+ghost use Rattle.std.specs.Prelude.{◌≡◌, ◌<◌, ◌≤◌, ◌∷◌, [], map, length, MatchOption, IfSome, drop};
+ghost use Rattle.yl_events.specs.Event.{event_value, kind_value};
+ghost use Rattle.yl_settings.specs.Nodes.{ends, entries_of, innermost, is_alias, levels_from, outer, starts, starts_mapping, starts_sequence, NoNode, Node};
+ghost use Rattle.yl_settings.specs.Item.{entry_value, nodes_at};
+
+use yl_events::{Event, EventKind};
+use yl_text::Pos;
+
+/// A node: its kind, where its content begins, and the index of the first event in it.
+#[derive(Clone, Copy)]
+pub struct Item<'a> {
+    pub kind: EventKind<'a>,
+    pub place: Option<Pos>,
+    pub inside: usize,
+}
+
+/// A node, and the index of the event behind it.
+#[derive(Clone, Copy)]
+pub struct ItemAt<'a> {
+    pub item: Item<'a>,
+    pub more: usize,
+}
+
+/// An entry of a mapping, and the index of the event behind it.
+#[derive(Clone, Copy)]
+pub struct EntryAt<'a> {
+    pub key: EventKind<'a>,
+    pub key_place: Option<Pos>,
+    pub value: Item<'a>,
+    pub more: usize,
+}
+
+/// Whether a collection or a document begins.
+fn starts(kind: EventKind<'_>) -> bool
+    ensures { result ≡ starts (kind_value kind.entry) }
+{
+    matches!(
+        kind,
+        EventKind::DocumentStart | EventKind::SequenceStart | EventKind::MappingStart
+    )
+}
+
+/// Whether a collection or a document ends.
+fn ends(kind: EventKind<'_>) -> bool
+    ensures { result ≡ ends (kind_value kind.entry) }
+{
+    matches!(
+        kind,
+        EventKind::DocumentEnd | EventKind::SequenceEnd | EventKind::MappingEnd
+    )
+}
+
+pub fn starts_mapping(kind: EventKind<'_>) -> bool
+    ensures { result ≡ starts_mapping (kind_value kind.entry) }
+{
+    matches!(kind, EventKind::MappingStart)
+}
+
+pub fn starts_sequence(kind: EventKind<'_>) -> bool
+    ensures { result ≡ starts_sequence (kind_value kind.entry) }
+{
+    matches!(kind, EventKind::SequenceStart)
+}
+
+pub fn is_alias(kind: EventKind<'_>) -> bool
+    ensures { result ≡ is_alias (kind_value kind.entry) }
+{
+    matches!(kind, EventKind::Alias(_))
+}
+
+/// The index of the event behind the collection in which the event of this index stands.
+fn behind_collection(events: &[Event<'_>], at: usize) -> usize
+    requires { at ≤ length events.now }
+    ensures within { result ≤ length events.now }
+    ensures forward { at ≤ result }
+    ensures outer { levels_from (map event_value (drop result events.now)) ≡ outer (levels_from (map event_value (drop at events.now))) }
+{
+    let mut depth: usize = 1;
+    for i in at..events.len() {
+        let kind = events[i].kind;
+        if starts(kind) {
+            depth += 1;
+        } else if ends(kind) {
+            depth -= 1;
+            if depth == 0 {
+                return i + 1;
+            }
+        }
+    }
+    events.len()
+}
+
+/// The first of the nodes that begin with the event of this index.
+pub fn first_item<'a>(events: &[Event<'a>], at: usize) -> Option<ItemAt<'a>>
+    requires { at ≤ length events.now }
+    ensures item { MatchOption result (nodes_at events.now at ≡ NoNode)
+        (λ x. nodes_at events.now at ≡ Node (kind_value x.item.kind) x.item.place (nodes_at events.now x.item.inside) (nodes_at events.now x.more)) }
+    ensures inside { IfSome result (λ x. x.item.inside ≤ length events.now) }
+    ensures within { IfSome result (λ x. x.more ≤ length events.now) }
+    ensures forward { IfSome result (λ x. at < x.more) }
+{
+    if at == events.len() {
+        return None;
+    }
+    let event = events[at];
+    let (inside, more) = if starts(event.kind) {
+        (at + 1, behind_collection(events, at + 1))
+    } else if ends(event.kind) {
+        return None;
+    } else {
+        (events.len(), at + 1)
+    };
+    Some(ItemAt {
+        item: Item {
+            kind: event.kind,
+            place: event.place,
+            inside,
+        },
+        more,
+    })
+}
+
+/// The first of the entries that begin with the event of this index.
+pub fn first_entry<'a>(events: &[Event<'a>], at: usize) -> Option<EntryAt<'a>>
+    requires { at ≤ length events.now }
+    ensures entry { MatchOption result (entries_of (nodes_at events.now at) ≡ [])
+        (λ x. entries_of (nodes_at events.now at) ≡ entry_value events.now x ∷ entries_of (nodes_at events.now x.more)) }
+    ensures inside { IfSome result (λ x. x.value.inside ≤ length events.now) }
+    ensures within { IfSome result (λ x. x.more ≤ length events.now) }
+    ensures forward { IfSome result (λ x. at < x.more) }
+{
+    let key = first_item(events, at)?;
+    let value = first_item(events, key.more)?;
+    Some(EntryAt {
+        key: key.item.kind,
+        key_place: key.item.place,
+        value: value.item,
+        more: value.more,
+    })
+}

@@ -1,0 +1,155 @@
+//! What a rule finds.
+
+use std::alloc::Allocator;
+use std::marker::Model;
+
+/// A rule, by its name in yamllint's documentation; `Syntax` is that of the text's fault.
+#[derive(Clone, Copy, Debug, PartialEq, Eq)]
+pub enum RuleId {
+    Anchors,
+    Braces,
+    Brackets,
+    Colons,
+    Commas,
+    Comments,
+    DocumentStart,
+    EmptyLines,
+    Hyphens,
+    Indentation,
+    KeyDuplicates,
+    KeyOrdering,
+    LineLength,
+    NewLineAtEndOfFile,
+    NewLines,
+    QuotedStrings,
+    Syntax,
+    TrailingSpaces,
+    Truthy,
+}
+
+impl RuleId {
+    ghost use Rattle.std.specs.Prelude.{◌≡◌};
+    ghost use Rattle.yl_text.specs.Finding.{rule_name};
+
+    /// The rule's name, as configurations and printed lines have it.
+    pub fn name(self) -> &'static str
+        ensures { result.now ≡ rule_name self }
+    {
+        match self {
+            RuleId::Anchors => "anchors",
+            RuleId::Braces => "braces",
+            RuleId::Brackets => "brackets",
+            RuleId::Colons => "colons",
+            RuleId::Commas => "commas",
+            RuleId::Comments => "comments",
+            RuleId::DocumentStart => "document-start",
+            RuleId::EmptyLines => "empty-lines",
+            RuleId::Hyphens => "hyphens",
+            RuleId::Indentation => "indentation",
+            RuleId::KeyDuplicates => "key-duplicates",
+            RuleId::KeyOrdering => "key-ordering",
+            RuleId::LineLength => "line-length",
+            RuleId::NewLineAtEndOfFile => "new-line-at-end-of-file",
+            RuleId::NewLines => "new-lines",
+            RuleId::QuotedStrings => "quoted-strings",
+            RuleId::Syntax => "syntax",
+            RuleId::TrailingSpaces => "trailing-spaces",
+            RuleId::Truthy => "truthy",
+        }
+    }
+}
+
+/// What is said of a problem: a text that never varies, or one with a number or a name in it.
+#[derive(Drop)]
+enum Message<A: Allocator> {
+    Fixed(&'static str),
+    Owned(String<A>),
+}
+
+impl<A: Allocator> Message<A> {
+    ghost use Rattle.std.specs.Prelude.{◌≡◌};
+    ghost use Rattle.yl_text.specs.Message.{message_text};
+
+    fn as_str(&self) -> &str
+        ensures { result.now ≡ message_text self.now }
+    {
+        match self {
+            Message::Fixed(text) => text,
+            Message::Owned(text) => text.as_str(),
+        }
+    }
+}
+
+/// A problem before it has a level. Its line and its column count from 1, the column in characters.
+#[derive(Drop)]
+pub struct Finding<A: Allocator> {
+    line: u64,
+    column: u64,
+    rule: RuleId,
+    message: Message<A>,
+}
+
+impl<A: Allocator> Model for Finding<A> {
+    ghost use Rattle.yl_text.specs.Finding.{FindingValue};
+    ghost use Rattle.yl_text.specs.Message.{message_text};
+
+    ghost Value = { FindingValue };
+
+    ghost view = { λ f. record { line = f.line; column = f.column; rule = f.rule; message = message_text f.message } };
+}
+
+impl<A: Allocator> Finding<A> {
+    ghost use Rattle.std.specs.Prelude.{◌≡◌, string_bytes};
+
+    /// What the rule found at a line and a column, both counted from 1.
+    pub fn new(line: u64, column: u64, rule: RuleId, message: String<A>) -> Finding<A>
+        ensures { result ≡ record { line = line; column = column; rule = rule; message = string_bytes message } }
+    {
+        Finding {
+            line,
+            column,
+            rule,
+            message: Message::Owned(message),
+        }
+    }
+
+    /// What the rule found at a line and a column, both counted from 1, told by a text that never varies. It takes
+    /// no memory.
+    pub fn fixed(line: u64, column: u64, rule: RuleId, message: &'static str) -> Finding<A>
+        ensures { result ≡ record { line = line; column = column; rule = rule; message = message.now } }
+    {
+        Finding {
+            line,
+            column,
+            rule,
+            message: Message::Fixed(message),
+        }
+    }
+
+    /// The line, counted from 1.
+    pub fn line(&self) -> u64
+        ensures { result ≡ self.now.line }
+    {
+        self.line
+    }
+
+    /// The column, counted from 1 in characters.
+    pub fn column(&self) -> u64
+        ensures { result ≡ self.now.column }
+    {
+        self.column
+    }
+
+    pub fn rule(&self) -> RuleId
+        ensures { result ≡ self.now.rule }
+    {
+        self.rule
+    }
+
+    /// What is said of the problem.
+    pub fn message(&self) -> &str
+        ensures { result.now ≡ self.now.message }
+    {
+        self.message.as_str()
+    }
+}

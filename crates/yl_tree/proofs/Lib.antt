@@ -1,0 +1,7 @@
+pub mod AtEach
+pub mod CodePoints
+mod Examples
+pub mod Frames
+pub mod Keys
+pub mod Names
+pub mod Unused

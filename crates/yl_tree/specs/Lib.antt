@@ -1,0 +1,10 @@
+pub mod Anchors
+pub mod Frames
+pub mod Greatest
+pub mod Keys
+pub mod KeyRules
+pub mod Messages
+pub mod NameSets
+pub mod OpenCollections
+pub mod Order
+pub mod Unused

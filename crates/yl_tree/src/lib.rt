@@ -1,0 +1,18 @@
+//! yamllint's rules key-duplicates, key-ordering and anchors, over a document's events.
+#![tactic(auto)]
+
+mod anchor_rule;
+mod duplicates;
+mod greatest;
+mod laws;
+mod messages;
+mod name_set;
+mod options;
+mod ordering;
+mod walk;
+
+pub use anchor_rule::anchors;
+pub use duplicates::key_duplicates;
+pub use laws::code_point_order;
+pub use options::{AnchorsOptions, KeyDuplicatesOptions};
+pub use ordering::key_ordering;

@@ -1,0 +1,104 @@
+//! Problems whose messages name a key or an anchor.
+ghost use Rattle.std.specs.Prelude.{◌≡◌, ◌<◌, ◌++◌, ◌/◌, ◌%◌, ◌∷◌, [], codes, string_bytes, IfOk, OnOk};
+ghost use Rattle.std.specs.Option.{option_to_list};
+ghost use Rattle.yl_tree.specs.Messages.{hexadecimal, is_control, printed_character, printed_name, message_of, name_finding};
+
+use std::alloc::{AllocError, Allocator};
+use yl_text::{Finding, Pos, RuleId};
+
+fn is_control(c: char) -> bool
+    ensures { result ≡ is_control c }
+{
+    c < ' ' || c == '\x7f'
+}
+
+fn digit(n: u32) -> char
+    requires { n < 16 }
+    ensures value { result ≡ hexadecimal n }
+    ensures ascii { result < 128 }
+{
+    if n < 10 {
+        (b'0' + n as u8) as char
+    } else {
+        (b'a' - 10 + n as u8) as char
+    }
+}
+
+/// Puts `\x` and two digits behind the text.
+fn push_number<A: Allocator>(text: &mut String<A>, n: u32) -> Result<(), AllocError>
+    requires { n < 128 }
+    ensures { OnOk result (string_bytes text.new ≡ string_bytes text.old ++ (codes "\\x" ++ hexadecimal (n / 16) ∷ hexadecimal (n % 16) ∷ [])) }
+{
+    text.push_str("\\x")?;
+    text.push(digit(n / 16))?;
+    text.push(digit(n % 16))?;
+    Ok(())
+}
+
+fn push_character<A: Allocator>(text: &mut String<A>, c: char) -> Result<(), AllocError>
+    ensures { OnOk result (string_bytes text.new ≡ string_bytes text.old ++ printed_character c) }
+{
+    if is_control(c) {
+        push_number(text, c as u32)?;
+    } else {
+        text.push(c)?;
+    }
+    Ok(())
+}
+
+fn push_name<A: Allocator>(text: &mut String<A>, name: &str) -> Result<(), AllocError>
+    ensures { OnOk result (string_bytes text.new ≡ string_bytes text.old ++ printed_name name.now) }
+{
+    for c in name.chars() {
+        push_character(text, c)?;
+    }
+    Ok(())
+}
+
+fn message_of<A: Allocator>(
+    alloc: A,
+    front: &str,
+    name: &str,
+    back: &str,
+) -> Result<String<A>, AllocError>
+    ensures { IfOk result (λ text. string_bytes text ≡ message_of front.now name.now back.now) }
+{
+    let mut text = String::from_str(alloc, front)?;
+    push_name(&mut text, name)?;
+    text.push_str(back)?;
+    Ok(text)
+}
+
+/// What the rule finds at a place, which counts from 0: a name between words. Without a place it is
+/// nothing.
+pub(crate) fn name_problem<A: Allocator>(
+    alloc: A,
+    rule: RuleId,
+    place: Option<Pos>,
+    front: &str,
+    name: &str,
+    back: &str,
+) -> Result<Option<Finding<A>>, AllocError>
+    ensures { IfOk result (λ o. option_to_list o ≡ name_finding rule place (message_of front.now name.now back.now)) }
+{
+    let Some(place) = place else {
+        return Ok(None);
+    };
+    let message = message_of(alloc, front, name, back)?;
+    let line = place.line as u64 + 1;
+    let column = place.col as u64 + 1;
+    Ok(Some(Finding::new(line, column, rule, message)))
+}
+
+/// Puts what was found behind the rest.
+pub(crate) fn push_found<A: Allocator>(
+    found: &mut Vec<Finding<A>, A>,
+    more: Option<Finding<A>>,
+) -> Result<(), AllocError>
+    ensures { OnOk result (found.new.items ≡ found.old.items ++ option_to_list more) }
+{
+    if let Some(one) = more {
+        found.push(one)?;
+    }
+    Ok(())
+}

@@ -1,0 +1,5 @@
+//! Tests of `yl_tree`, over texts and over events.
+#![tactic(auto)]
+
+#[cfg(test)]
+mod tests;

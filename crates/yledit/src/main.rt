@@ -1,0 +1,60 @@
+//! `yledit`: prints the problems of a YAML file, and those of each text that commands on standard input make of it.
+#![tactic(auto)]
+
+use std::process::ExitCode;
+use yl_chunks::ChunkStore;
+use yl_cli::{Asked, Program, ProgramFault, RunFault, asked, drive};
+use yl_config::Config;
+use yl_programs::{bytes_of, config_of, ended, stopped, words};
+use yl_text::Watched;
+
+// A fault of the run over a file: what cannot be read after its text was, are the commands.
+fn edited(rt: &HostRuntime, file: &str, asked: &Asked, config: Config) -> u8 {
+    let bytes = match bytes_of(rt, file) {
+        Ok(bytes) => bytes,
+        Err(fault) => return stopped(rt, Program::Yledit, &ProgramFault::Run(file, fault)),
+    };
+    let mut input = Watched::new(rt.stdin());
+    let mut out = Watched::new(rt.stdout());
+    let answer = drive::<ChunkStore<_>, _, _>(
+        rt.alloc(),
+        file,
+        config,
+        asked.flags,
+        bytes.as_slice(),
+        &mut input,
+        &mut out,
+    );
+    match answer {
+        Ok(status) => status,
+        Err(RunFault::Read) => stopped(
+            rt,
+            Program::Yledit,
+            &ProgramFault::Run("stdin", RunFault::Read),
+        ),
+        Err(fault) => stopped(rt, Program::Yledit, &ProgramFault::Run(file, fault)),
+    }
+}
+
+fn answered(rt: &HostRuntime) -> u8 {
+    let words = match words(rt) {
+        Ok(words) => words,
+        Err(fault) => return stopped(rt, Program::Yledit, &fault),
+    };
+    let asked = match asked(rt.alloc(), Program::Yledit, words.as_slice()) {
+        Ok(asked) => asked,
+        Err(stop) => return ended(rt, Program::Yledit, stop),
+    };
+    let config = match config_of(rt, &asked.config) {
+        Ok(config) => config,
+        Err(fault) => return stopped(rt, Program::Yledit, &fault),
+    };
+    match asked.files.first() {
+        Some(file) => edited(rt, file.as_str(), &asked, config),
+        None => stopped(rt, Program::Yledit, &ProgramFault::Use),
+    }
+}
+
+fn main(rt: HostRuntime) -> ExitCode {
+    ExitCode::from(answered(&rt))
+}
