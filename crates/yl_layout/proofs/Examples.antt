@@ -1,5 +1,7 @@
 -- Short texts, as lexemes, and what the rules find in them, computed.
-use Rattle.std.specs.Prelude.{ℕ, ◌≡◌, refl, List, [], ◌∷◌, ◌++◌, codes, length, true, Some, None}
+use Rattle.std.specs.Prelude.{ℕ, Bool, ◌≡◌, refl, List, [], ◌∷◌, ◌++◌, ◌&&◌, codes, length, true, Some, None}
+use Rattle.std.specs.Ordering.{is_lt, nat_cmp}
+use Rattle.std.specs.Cmp.Lexicographic.{slice_cmp}
 use Rattle.yl_lexeme.specs.declared.lexeme.Style.TheVariants.{Plain, Double}
 use Rattle.yl_lexeme.specs.declared.lexeme.Kind.{Kind}
 use Rattle.yl_lexeme.specs.declared.lexeme.Kind.TheVariants.{DocStart, Entry, Key, Value, Comma, SeqOpen, SeqClose, MapOpen, MapClose, Alias, Tag, Scalar}
@@ -11,6 +13,7 @@ use Rattle.yl_layout.specs.declared.options.LexemeOptions.{LexemeOptions}
 use Rattle.yl_layout.specs.declared.quoted_strings.QuoteType.TheVariants as quotes
 use Rattle.yl_layout.specs.Lexemes.{lexeme_findings}
 use Rattle.yl_layout.specs.Standard.{standard_brackets, standard_options}
+use Rattle.yl_layout.specs.Truthy.{truthy_words}
 
 -- a lexeme in one line, from a column to before another
 abbrev lexeme : Kind → ℕ → ℕ → ℕ → List ℕ → LexemeValue
@@ -90,3 +93,13 @@ tag_of_a_mapping = refl
 -- '---\na: "x"\nb: 1\nc: x\n'
 pub other_quotes : all_of quoting (lexeme DocStart 0 0 3 (codes "") ∷ lexeme (Scalar Plain) 1 0 1 (codes "a") ∷ lexeme Value 1 1 2 (codes "") ∷ lexeme (Scalar Double) 1 3 6 (codes "x") ∷ lexeme (Scalar Plain) 2 0 1 (codes "b") ∷ lexeme Value 2 1 2 (codes "") ∷ lexeme (Scalar Plain) 2 3 4 (codes "1") ∷ lexeme (Scalar Plain) 3 0 1 (codes "c") ∷ lexeme Value 3 1 2 (codes "") ∷ lexeme (Scalar Plain) 3 3 4 (codes "x") ∷ []) ≡ unquoted 2 4 ++ unquoted 4 4
 other_quotes = refl
+
+-- ---- the truthy words
+
+-- each of these comes behind the one before it in the order of bytes, the first behind this one
+abbrev rise_from : List ℕ → List (List ℕ) → Bool
+rise_from w [] = true
+rise_from w (v ∷ vs) = is_lt (slice_cmp nat_cmp w v) && rise_from v vs
+
+pub words_in_order : rise_from [] truthy_words ≡ true
+words_in_order = refl

@@ -5,7 +5,6 @@ pub mod Commas
 pub mod Hyphens
 pub mod DocumentStart
 pub mod Truthy
-pub mod Strings
 pub mod QuotedStrings
 pub mod Lexemes
 pub mod Standard

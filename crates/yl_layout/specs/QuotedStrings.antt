@@ -11,7 +11,7 @@ use Rattle.yl_layout.specs.declared.span.Span.{Span}
 use Rattle.yl_layout.specs.declared.quoted_strings.QuoteType.{QuoteType}
 use Rattle.yl_layout.specs.declared.quoted_strings.QuoteType.TheVariants.{Any, Single, Double}
 use Rattle.yl_layout.specs.declared.quoted_strings.QuotedStringsOptions.{QuotedStringsOptions}
-use Rattle.yl_layout.specs.Strings.{is_string}
+use Rattle.yl_plain.specs.Strings.{is_string}
 
 abbrev pub is_single : QuoteType → Bool
 is_single Single = true

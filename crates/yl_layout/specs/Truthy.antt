@@ -13,7 +13,7 @@ use Rattle.yl_layout.specs.declared.truthy.TruthyOptions.{TruthyOptions}
 -- in the order of ASCII
 abbrev pub truthy_words : List (List ℕ)
 truthy_words =
-    codes "FALSE" ∷ codes "False" ∷ codes "NO" ∷ codes "No" ∷ codes "OFF" ∷ codes "Off" ∷ codes "ON" ∷ codes "On" ∷ codes "TRUE"
+    codes "FALSE" ∷ codes "False" ∷ codes "NO" ∷ codes "No" ∷ codes "OFF" ∷ codes "ON" ∷ codes "Off" ∷ codes "On" ∷ codes "TRUE"
     ∷ codes "True" ∷ codes "YES" ∷ codes "Yes" ∷ codes "false" ∷ codes "no" ∷ codes "off" ∷ codes "on" ∷ codes "true" ∷ codes "yes" ∷ []
 
 -- the index of a word among these, of which the first has such an index

@@ -12,7 +12,6 @@ mod options;
 mod quoted_strings;
 mod report;
 mod span;
-mod strings;
 mod truthy;
 mod words;
 

@@ -4,10 +4,10 @@ ghost use Rattle.yl_layout.specs.QuotedStrings.{is_misquoted, is_misquoted_style
 
 use crate::report::report;
 use crate::span::Span;
-use crate::strings::is_string;
 use std::alloc::{AllocError, Allocator};
 use yl_lexeme::{Kind, Style};
 use yl_marks::KeyFacts;
+use yl_plain::is_string;
 use yl_text::{Finding, RuleId};
 
 /// The quotes that strings are to have.

@@ -35,18 +35,48 @@ fn truthy_words_with_the_usual_options(rt: HostRuntime) -> Result<(), Fail> {
     Ok(())
 }
 
-#[test]
-fn truthy_words_but_for_keys(rt: HostRuntime) -> Result<(), Fail> {
-    let mut allowed_values = TruthyWords::none();
-    for word in ["yes", "on", "No"] {
+// The set of these words.
+fn set_of(words: &[&str]) -> Result<TruthyWords, Fail> {
+    let mut set = TruthyWords::none();
+    for word in words {
         let index = TruthyWords::index_of(word.as_bytes()).ok_or("no truthy word")?;
         if index < 18 {
-            allowed_values = allowed_values.with(index);
+            set = set.with(index);
         }
     }
+    Ok(set)
+}
+
+// The allowed words are listed in the order of ASCII, however they are given.
+#[test]
+fn allowed_words_in_order(rt: HostRuntime) -> Result<(), Fail> {
+    let mut options = LexemeOptions::standard();
+    for (words, wanted) in [
+        (["on", "Off", "On", "OFF", "ON"], "OFF, ON, Off, On, on"),
+        (["YES", "Yes", "No", "NO", "no"], "NO, No, YES, Yes, no"),
+        (
+            ["TRUE", "False", "off", "FALSE", "True"],
+            "FALSE, False, TRUE, True, off",
+        ),
+    ] {
+        options.truthy = Some(TruthyOptions {
+            allowed_values: set_of(&words)?,
+            check_keys: true,
+        });
+        let found = problems(rt.alloc(), "---\na: yes\n", &options)?;
+        let wanted = format!(in rt.alloc();
+            "2:4 truthy value should be one of [{wanted}] (truthy)\n"
+        )?;
+        assert_eq!(rt; found.as_str(), wanted.as_str());
+    }
+    Ok(())
+}
+
+#[test]
+fn truthy_words_but_for_keys(rt: HostRuntime) -> Result<(), Fail> {
     let mut options = LexemeOptions::standard();
     options.truthy = Some(TruthyOptions {
-        allowed_values,
+        allowed_values: set_of(&["yes", "on", "No"])?,
         check_keys: false,
     });
     for (text, wanted) in [

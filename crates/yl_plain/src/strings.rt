@@ -1,7 +1,7 @@
 //! Which plain scalars are strings.
 ghost use Rattle.std.specs.Prelude.{◌≡◌, ◌≤◌, [], ◌∷◌, length, bytes_eq};
 ghost use Rattle.std.specs.List.{list_all, prefix_len};
-ghost use Rattle.yl_layout.specs.Strings.{all_and_some, begins_with_digit, is_based, is_digit, is_exponent, is_false_word, is_hexadecimal, is_infinity, is_not_a_number, is_null, is_number, is_octal, is_reserved_word, is_signed, is_string, is_true_word, is_word_of, past_digits, past_fraction, unsigned};
+ghost use Rattle.yl_plain.specs.Strings.{all_and_some, begins_with_digit, is_based, is_digit, is_exponent, is_false_word, is_hexadecimal, is_infinity, is_not_a_number, is_null, is_number, is_octal, is_reserved_word, is_signed, is_string, is_true_word, is_word_of, past_digits, past_fraction, unsigned};
 
 fn is_digit(byte: u8) -> bool
     ensures { result ≡ is_digit byte }
@@ -197,7 +197,7 @@ fn is_signed(text: &[u8]) -> bool
 }
 
 /// Whether a plain scalar of this value is a string.
-pub(crate) fn is_string(value: &[u8]) -> bool
+pub fn is_string(value: &[u8]) -> bool
     ensures { result ≡ is_string value.now }
 {
     !(is_reserved_word(value) || is_based(value) || is_signed(unsigned(value)))
