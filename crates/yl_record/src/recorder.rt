@@ -198,6 +198,7 @@ impl<'a, A: Allocator + Copy> Recorder<'a, A> {
     pub fn complete(&self) -> &[Record<A>]
         requires { self.now.refused ≡ false }
         ensures count { length result.now ≡ complete_count self.now }
+        ensures within { length result.now ≤ length self.now.records }
         ensures told { (rows : List (List ℕ)) → result.now ≡ take (length result.now) (recorded self.now rows) }
     {
         let count = complete_len(self.scanner.begun(), self.taken, self.records.len());

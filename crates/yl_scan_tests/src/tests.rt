@@ -8,9 +8,10 @@ ghost use Rattle.std.specs.Prelude.{◌<◌, ◌^◌, All, IfOk, IsTrue, length}
 ghost use Rattle.std.specs.Str.{chars};
 
 use std::alloc::{AllocError, Allocator, Global};
+use std::test::Fail;
 use yl_lexeme::{Lexeme, Meter};
-use yl_scan::{LineFault, ScannedText, Scanner, Step, scan};
-use yl_text::{Row, TextFault, characters, split};
+use yl_scan::{LineComment, LineFault, LineLexeme, ScannedText, Scanner, Step, scan};
+use yl_text::{Row, characters, split};
 
 /// More rows, and more characters of a row, than a test has.
 const MANY: usize = 2_000_000;
@@ -41,24 +42,12 @@ fn scan_rows<A: Allocator + Copy>(
     global: Global,
     alloc: A,
     rows: &[Row<A>],
-    meter: &mut Meter,
 ) -> Result<ScannedText<A>, AllocError> {
-    if meter.lines != 0 || rows.len() > MANY || !are_short(global, rows)? {
+    let mut meter = Meter::new();
+    if rows.len() > MANY || !are_short(global, rows)? {
         return Err(AllocError);
     }
-    scan(alloc, rows, meter)
-}
-
-/// What a text holds.
-fn scanned(alloc: Global, text: &str) -> Result<ScannedText<Global>, TextFault> {
-    let rows = split(alloc, text.as_bytes())?;
-    let mut meter = Meter::new();
-    scan_rows(alloc, alloc, &rows, &mut meter).map_err(|_| TextFault::Memory)
-}
-
-/// The scan fault of a text.
-fn fault_of(alloc: Global, text: &str) -> Result<Option<LineFault>, TextFault> {
-    Ok(scanned(alloc, text)?.fault)
+    scan(alloc, rows, &mut meter)
 }
 
 /// Feeds a row.
@@ -74,10 +63,22 @@ fn fed<A: Allocator + Copy>(
     scanner.feed(row, meter)
 }
 
+/// Feeds a row, and lets go what it tells.
+fn pass<A: Allocator + Copy>(
+    global: Global,
+    scanner: &mut Scanner<'_, A>,
+    row: &Row<A>,
+    meter: &mut Meter,
+) -> Result<(), AllocError> {
+    match fed(global, scanner, row, meter) {
+        Ok(_) => Ok(()),
+        Err(error) => Err(error),
+    }
+}
+
 /// A lexeme that begins at this line: its kind, its start, its end, and its value if it has one.
 fn show_lexeme<A: Allocator>(
-    alloc: Global,
-    shown: &mut String<Global>,
+    shown: &mut String,
     line: u32,
     lexeme: &Lexeme<A>,
 ) -> Result<(), AllocError> {
@@ -86,25 +87,72 @@ fn show_lexeme<A: Allocator>(
     let down = lexeme.end().line;
     let end = lexeme.end().col;
     let value = lexeme.value();
-    let text = format!(in alloc; "{kind:?} {line}:{start} +{down}:{end} {value}\n")?;
-    shown.push_str(text.as_str())
+    write!(shown, "{kind:?} {line}:{start} +{down}:{end} {value}\n")
 }
 
-/// The lexemes of a text, a line each, and then its comments.
-fn shown<A: Allocator + Copy>(
-    alloc: Global,
-    scanned: &ScannedText<A>,
-) -> Result<String<Global>, AllocError> {
-    let mut text = String::new(alloc);
-    for at in &scanned.lexemes {
-        show_lexeme(alloc, &mut text, at.line, &at.lexeme)?;
+fn show_lexemes<A: Allocator>(
+    shown: &mut String,
+    lexemes: &[LineLexeme<A>],
+) -> Result<(), AllocError> {
+    for at in lexemes {
+        show_lexeme(shown, at.line, &at.lexeme)?;
     }
-    for at in &scanned.comments {
+    Ok(())
+}
+
+fn show_comments<A: Allocator>(
+    shown: &mut String,
+    comments: &[LineComment<A>],
+) -> Result<(), AllocError> {
+    for at in comments {
         let line = at.line;
         let col = at.comment.col();
-        let comment = at.comment.text();
-        let one = format!(in alloc; "Comment {line}:{col} {comment}\n")?;
-        text.push_str(one.as_str())?;
+        let text = at.comment.text();
+        write!(shown, "Comment {line}:{col} {text}\n")?;
     }
-    Ok(text)
+    Ok(())
+}
+
+/// A letter `s` for each row that is sound, and a dash for each other.
+fn show_rows(shown: &mut String, sound: &[bool]) -> Result<(), AllocError> {
+    shown.push_str("Rows ")?;
+    for is_sound in sound {
+        shown.push(if *is_sound { 's' } else { '-' })?;
+    }
+    shown.push('\n')
+}
+
+/// A fault: its name, the line in which its lexeme begins, and its place below that line.
+fn show_fault(shown: &mut String, fault: Option<LineFault>) -> Result<(), AllocError> {
+    match fault {
+        None => Ok(()),
+        Some(LineFault { line, fault }) => {
+            let name = fault.fault;
+            let down = fault.down;
+            let column = fault.column;
+            write!(shown, "Fault {name:?} {line} +{down}:{column}\n")
+        }
+    }
+}
+
+/// What was scanned: the lexemes, a line each, the comments, which rows are sound, and the fault.
+fn shown<A: Allocator>(alloc: Global, scanned: &ScannedText<A>) -> Result<String, AllocError> {
+    let mut shown = String::new(alloc);
+    show_lexemes(&mut shown, &scanned.lexemes)?;
+    show_comments(&mut shown, &scanned.comments)?;
+    show_rows(&mut shown, &scanned.sound)?;
+    show_fault(&mut shown, scanned.fault)?;
+    Ok(shown)
+}
+
+/// What a text holds.
+fn scanned(alloc: Global, text: &str) -> Result<ScannedText<Global>, Fail> {
+    let rows = split(alloc, text.as_bytes())?;
+    Ok(scan_rows(alloc, alloc, &rows)?)
+}
+
+/// What a text holds, as it is shown.
+fn told(alloc: Global, text: &str) -> Result<String, Fail> {
+    let scanned = scanned(alloc, text)?;
+    Ok(shown(alloc, &scanned)?)
 }

@@ -2,48 +2,70 @@
 use super::{fed, scanned};
 use std::alloc::{AllocError, Global};
 use std::test::Fail;
-use yl_lexeme::Meter;
+use yl_lexeme::{Items, Meter};
 use yl_scan::{LineState, Scanner, Step};
 use yl_text::{Row, split};
 
 const BRACKETS: usize = 100_000;
 
-/// So many times the piece.
-fn times(alloc: Global, count: usize, piece: &str) -> Result<String<Global>, AllocError> {
-    let mut text = String::new(alloc);
+/// A piece, and so many times another one.
+fn times(alloc: Global, first: &str, count: usize, piece: &str) -> Result<String, AllocError> {
+    let mut text = String::from_str(alloc, first)?;
     for _i in 0..count {
         text.push_str(piece)?;
     }
     Ok(text)
 }
 
+/// How many lexemes a text has, the last one's line, how many rows, and whether there is a fault.
+fn counts(alloc: Global, text: &str) -> Result<(usize, Option<u32>, usize, bool), Fail> {
+    let scanned = scanned(alloc, text)?;
+    let last = scanned.lexemes.last().map(|at| at.line);
+    Ok((
+        scanned.lexemes.len(),
+        last,
+        scanned.sound.len(),
+        scanned.fault.is_some(),
+    ))
+}
+
+/// A row of a mebibyte, many open brackets on a row, and each on a row of its own.
 #[test]
-fn a_row_of_a_mebibyte(rt: HostRuntime) -> Result<(), Fail> {
-    let mut text = String::from_str(rt.alloc(), "[")?;
-    text.push_str(&times(rt.alloc(), 262_144, "aa, ")?)?;
-    let scanned = scanned(rt.alloc(), &text)?;
-    assert_eq!(rt; scanned.lexemes.len(), 524_289);
-    assert!(rt; scanned.fault.is_none());
+fn long_rows_and_many_rows(rt: HostRuntime) -> Result<(), Fail> {
+    let rows: [(&str, usize, &str, (usize, Option<u32>, usize, bool)); 3] = [
+        ("[", 262_144, "aa, ", (524_289, Some(0), 1, false)),
+        ("", BRACKETS, "[", (BRACKETS, Some(0), 1, false)),
+        (
+            "",
+            BRACKETS,
+            "[\n",
+            (BRACKETS, Some(99_999), BRACKETS + 1, false),
+        ),
+    ];
+    for (first, count, piece, want) in rows {
+        let text = times(rt.alloc(), first, count, piece)?;
+        assert_eq!(rt; counts(rt.alloc(), &text)?, want);
+    }
     Ok(())
 }
 
-#[test]
-fn many_open_brackets_on_a_row(rt: HostRuntime) -> Result<(), Fail> {
-    let scanned = scanned(rt.alloc(), &times(rt.alloc(), BRACKETS, "[")?)?;
-    assert_eq!(rt; scanned.lexemes.len(), BRACKETS);
-    assert!(rt; scanned.fault.is_none());
-    Ok(())
+/// The state that a step holds.
+fn state_of(step: Step<Global>) -> Option<LineState<Global>> {
+    step.state
 }
 
-#[test]
-fn many_open_brackets_on_rows_of_their_own(rt: HostRuntime) -> Result<(), Fail> {
-    let scanned = scanned(rt.alloc(), &times(rt.alloc(), BRACKETS, "[\n")?)?;
-    assert_eq!(rt; scanned.lexemes.len(), BRACKETS);
-    assert_eq!(rt; scanned.sound.len(), BRACKETS + 1);
-    assert!(rt; scanned.fault.is_none());
-    let last = scanned.lexemes.last();
-    assert_eq!(rt; last.map(|at| at.line), Some(99_999));
-    Ok(())
+/// Feeds a row, and adds its state, if it is sound.
+fn push_state(
+    global: Global,
+    scanner: &mut Scanner<'_, Global>,
+    row: &Row<Global>,
+    meter: &mut Meter,
+    states: &mut Vec<LineState<Global>>,
+) -> Result<(), AllocError> {
+    match state_of(fed(global, scanner, row, meter)?) {
+        None => Ok(()),
+        Some(state) => Ok(states.push(state)?),
+    }
 }
 
 /// The states of the rows that are sound, where these rows are fed so many times.
@@ -51,44 +73,47 @@ fn states_of(
     alloc: Global,
     count: usize,
     rows: &[Row<Global>],
-) -> Result<Vec<LineState<Global>, Global>, AllocError> {
+) -> Result<Vec<LineState<Global>>, AllocError> {
     let mut scanner = Scanner::start(&alloc);
     let mut meter = Meter::new();
     let mut states = Vec::new(alloc);
     for _i in 0..count {
         for row in rows {
-            let Step { state, .. } = fed(alloc, &mut scanner, row, &mut meter)?;
-            if let Some(state) = state {
-                states.push(state)?;
-            }
+            push_state(alloc, &mut scanner, row, &mut meter, &mut states)?;
         }
     }
     Ok(states)
 }
 
-#[test]
-fn states_of_rows_that_open_a_bracket_each(rt: HostRuntime) -> Result<(), Fail> {
-    let rows = split(rt.alloc(), b"[")?;
-    let states = states_of(rt.alloc(), 200_000, &rows)?;
-    assert_eq!(rt; states.len(), 200_000);
-    let first = states.first();
-    let last = states.last();
-    assert!(rt; last.is_some_and(|last| !last.is_stopped()));
-    assert!(rt; last.is_some_and(|last| last == last));
-    assert!(rt; last.is_some_and(|last| first.is_some_and(|first| first != last)));
-    Ok(())
+/// How many items come.
+fn count<T: Copy>(items: Items<'_, T, Global>) -> usize {
+    let mut items = items;
+    for n in 0..usize::MAX {
+        if items.next().is_none() {
+            return n;
+        }
+    }
+    usize::MAX
 }
 
-#[test]
-fn states_of_rows_at_brackets_that_open_and_close(rt: HostRuntime) -> Result<(), Fail> {
-    let rows = split(rt.alloc(), b"[[[[[[[\n[[]],\n[[]],\n")?;
-    let states = states_of(rt.alloc(), 2_000, &rows)?;
-    assert!(rt; states.len() > 4_000);
-    Ok(())
+/// How many block collections and brackets are open; nothing behind a fault.
+fn depths(state: &LineState<Global>) -> Option<(usize, usize)> {
+    let standing = state.standing()?;
+    Some((
+        count(standing.levels.items()),
+        count(standing.brackets.items()),
+    ))
+}
+
+/// How many states there are, how deep the last one is, and whether it equals itself and the first.
+fn summary(states: &[LineState<Global>]) -> Option<(usize, (usize, usize), bool, bool)> {
+    let first = states.first()?;
+    let last = states.last()?;
+    Some((states.len(), depths(last)?, last == last, last == first))
 }
 
 /// Rows that each begin one column further, with an entry in each.
-fn steps_of(alloc: Global, count: usize) -> Result<String<Global>, AllocError> {
+fn steps_of(alloc: Global, count: usize) -> Result<String, AllocError> {
     let mut text = String::new(alloc);
     let mut spaces = String::new(alloc);
     for _i in 0..count {
@@ -100,19 +125,21 @@ fn steps_of(alloc: Global, count: usize) -> Result<String<Global>, AllocError> {
 }
 
 #[test]
-fn states_of_rows_each_a_column_further(rt: HostRuntime) -> Result<(), Fail> {
-    let text = steps_of(rt.alloc(), 3_000)?;
-    let rows = split(rt.alloc(), text.as_bytes())?;
-    let states = states_of(rt.alloc(), 1, &rows)?;
-    assert_eq!(rt; states.len(), 3_000);
-    let last = states.last().and_then(LineState::standing);
-    assert!(rt; last.is_some());
-    if let Some(standing) = last {
-        let mut levels = standing.levels.items();
-        for _i in 0..2_999 {
-            assert!(rt; levels.next().is_some());
-        }
-        assert!(rt; levels.next().is_none());
+fn states_of_deep_rows(rt: HostRuntime) -> Result<(), Fail> {
+    let steps = steps_of(rt.alloc(), 3_000)?;
+    let rows: [(&str, usize, (usize, (usize, usize), bool, bool)); 3] = [
+        ("[", 200_000, (200_000, (0, 199_999), true, false)),
+        (
+            "[[[[[[[\n[[]],\n[[]],\n",
+            2_000,
+            (6_000, (0, 14_000), true, false),
+        ),
+        (&steps, 1, (3_000, (2_999, 0), true, false)),
+    ];
+    for (text, times, want) in rows {
+        let rows = split(rt.alloc(), text.as_bytes())?;
+        let states = states_of(rt.alloc(), times, &rows)?;
+        assert_eq!(rt; summary(&states), Some(want));
     }
     Ok(())
 }

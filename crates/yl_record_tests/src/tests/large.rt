@@ -1,0 +1,75 @@
+//! Deep texts.
+use super::all_fed;
+use std::alloc::{AllocError, Global};
+use std::test::Fail;
+use yl_lexeme::Items;
+use yl_record::{Record, Recorder};
+use yl_scan::LineState;
+use yl_text::{Row, split};
+
+/// The records of these rows, told so many times.
+fn recorded(
+    global: Global,
+    times: usize,
+    rows: &[Row<Global>],
+) -> Result<Vec<Record<Global>>, AllocError> {
+    let mut recorder = Recorder::start(&global);
+    for _i in 0..times {
+        all_fed(global, &mut recorder, rows)?;
+    }
+    recorder.finish()
+}
+
+/// How many items come.
+fn count<T: Copy>(items: Items<'_, T, Global>) -> usize {
+    let mut items = items;
+    for n in 0..usize::MAX {
+        if items.next().is_none() {
+            return n;
+        }
+    }
+    usize::MAX
+}
+
+/// How many block collections and brackets are open; nothing behind a fault.
+fn depths(state: &LineState<Global>) -> Option<(usize, usize)> {
+    let standing = state.standing()?;
+    Some((
+        count(standing.levels.items()),
+        count(standing.brackets.items()),
+    ))
+}
+
+/// How many records there are, how many lexemes the last has, and how deep it lies.
+fn summary(records: &[Record<Global>]) -> Option<(usize, usize, (usize, usize))> {
+    let last = records.last()?;
+    Some((records.len(), last.lexemes().len(), depths(last.state()?)?))
+}
+
+/// Rows that each begin one column further, with an entry in each.
+fn steps_of(global: Global, count: usize) -> Result<String, AllocError> {
+    let mut text = String::new(global);
+    let mut spaces = String::new(global);
+    for _i in 0..count {
+        text.push_str(&spaces)?;
+        text.push_str("-\n")?;
+        spaces.push(' ')?;
+    }
+    Ok(text)
+}
+
+#[test]
+fn records_of_deep_rows(rt: HostRuntime) -> Result<(), Fail> {
+    let steps = steps_of(rt.alloc(), 8_000)?;
+    let rows: [(&str, usize, (usize, usize, (usize, usize))); 3] = [
+        ("[", 200_000, (200_000, 1, (0, 199_999))),
+        ("{a: [", 200_000, (200_000, 4, (0, 399_998))),
+        (steps.as_str().trim_end(), 1, (8_000, 1, (7_999, 0))),
+    ];
+    for (text, times, want) in rows {
+        let rows = split(rt.alloc(), text.as_bytes())?;
+        let records = recorded(rt.alloc(), times, &rows)?;
+        assert_eq!(rt; summary(&records), Some(want));
+    }
+    Ok(())
+}
