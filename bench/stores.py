@@ -4,7 +4,9 @@
     python3 bench/stores.py
 
 It makes a repository in a folder that goes away again, of the crates yl_text and yl_chunks and of the program in
-bench/stores, has `rt run` prove and build it, and runs it. `split` is timed on texts of 60 to 64 MiB, the best of three.
+bench/stores, has `rt run` prove and build it, and runs it. It does the same with the earlier form of `split`, which
+found each break by `memchr` alone, and runs the two programs in turn, twice each: `split` is timed on texts of
+4 to 64 MiB, the best of all runs, and its ratio is to that form. The other figures are those of the first run.
 Of texts of 10^3 to 10^6 lines it types lines before the first line, in the middle and before the last one, takes them out
 again, and replaces a line as often; the better of two rounds counts. A line of the table has the mean nanoseconds of an
 edit that puts in or takes out a line, and of one that replaces a line, each over `ChunkStore`, over `PlainStore`, and as
@@ -20,6 +22,14 @@ HERE = os.path.dirname(os.path.abspath(__file__))
 ROOT = os.path.dirname(HERE)
 CRATES = ["yl_text", "yl_chunks"]
 BENCH = "yl_store_bench"
+ROUNDS = 2
+
+# The earlier form of `split`: what stands in src/splitting.rt of yl_text, and what stood there.
+EARLIER = [
+    ("use crate::special::first_special;\n", ""),
+    ("    let special = first_special(bytes);\n    special + found_break(&bytes[special..])\n", "    found_break(bytes)\n"),
+    ("    if matches!(bytes.first(), Some(b'\\n' | b'\\r')) {\n        return 0;\n    }\n", ""),
+]
 
 
 def make_repository(folder):
@@ -40,6 +50,45 @@ def make_repository(folder):
     subprocess.run(["git", "init", "-q", folder], check=True)
 
 
+def take_earlier_split(folder):
+    """Puts the earlier form of `split` into the repository."""
+    name = os.path.join(folder, "crates", "yl_text", "src", "splitting.rt")
+    with open(name) as file:
+        text = file.read()
+    for now, then in EARLIER:
+        if text.count(now) != 1:
+            sys.exit(f"{name} has another form: {now!r}")
+        text = text.replace(now, then)
+    with open(name, "w") as file:
+        file.write(text)
+    # This form needs no proof by hand.
+    shutil.rmtree(os.path.join(folder, "crates", "yl_text", "proofs", "splitting", "first_break"))
+
+
+def run(folder):
+    """Proves and builds the program where it is not, and runs it: the lines that it writes."""
+    program = os.path.join(folder, "crates", BENCH)
+    ran = subprocess.run(["rt", "run"], cwd=program, stdout=subprocess.PIPE, text=True)
+    if ran.returncode != 0:
+        sys.exit("rt run failed")
+    return ran.stdout.splitlines()
+
+
+def splits(lines):
+    """The nanoseconds of each split, with how many bytes and rows it had."""
+    found = [line.split() for line in lines if line.startswith("split ")]
+    return {kind: (int(size), int(rows), int(spent)) for _, kind, size, rows, spent in found}
+
+
+def show_splits(runs, earlier):
+    """Prints the best time of each split, and its ratio to that of the earlier form."""
+    for kind, (size, rows, _) in splits(runs[0]).items():
+        now = min(splits(lines)[kind][2] for lines in runs)
+        then = min(splits(lines)[kind][2] for lines in earlier)
+        print(f"split of {size / 2**20:.1f} MiB, {kind} lines: {rows} rows, {now / 1e6:.0f} ms, {size / now * 1000:.0f} MB/s, "
+              f"{now / then:.2f} of the earlier form")
+
+
 def show(lines):
     """Prints the table, and what it says of texts that grow."""
     found = {}
@@ -50,12 +99,8 @@ def show(lines):
             kind = "start" if place == 0 else "middle" if place <= size // 2 else "end"
             found[word, size, kind] = (moved, replaced)
         elif word == "fewest":
-            size, edits, before, after, rows = map(int, numbers)
-            print(f"after {edits} random edits of {size} lines: {rows} lines, the smallest chunk has {after} (before: {before})")
-        elif word == "split":
-            kind, *numbers = numbers
-            size, rows, spent = map(int, numbers)
-            print(f"split of {size / 2**20:.1f} MiB, {kind} lines: {rows} rows, {spent / 1e6:.0f} ms, {size / spent * 1000:.0f} MB/s")
+            size, edits, before, after, rows, spent = map(int, numbers)
+            print(f"{edits} random edits of {size} lines: {spent} ns an edit; then {rows} lines, the smallest chunk has {after} (before: {before})")
         elif word == "typed":
             size, spent, fewest, rows = map(int, numbers)
             print(f"{rows} lines typed one after another: {spent} ns a line, the smallest chunk has {fewest}")
@@ -70,13 +115,16 @@ def show(lines):
 
 
 def main():
-    with tempfile.TemporaryDirectory() as folder:
+    runs, earlier = [], []
+    with tempfile.TemporaryDirectory() as folder, tempfile.TemporaryDirectory() as other:
         make_repository(folder)
-        program = os.path.join(folder, "crates", BENCH)
-        ran = subprocess.run(["rt", "run"], cwd=program, stdout=subprocess.PIPE, text=True)
-    if ran.returncode != 0:
-        sys.exit("rt run failed")
-    show(ran.stdout.splitlines())
+        make_repository(other)
+        take_earlier_split(other)
+        for _ in range(ROUNDS):
+            runs.append(run(folder))
+            earlier.append(run(other))
+    show_splits(runs, earlier)
+    show(runs[0])
 
 
 if __name__ == "__main__":

@@ -145,18 +145,17 @@ pub splice_len : {T : Type 0} (xs ys : List T) (a b : ℕ) → a ≤ b → b ≤
 splice_len xs ys a b le within = omega (arith, length-append (take a xs) (ys ++ drop b xs), length-append ys (drop b xs), length-take a xs, length-drop b xs)
 
 -- the chunks that were found, and those beside them, hold the items a to b
-pub place_facts : {X T : Type 0} (f : X → List T) (cs : List X) (starts : List ℕ) (len a b first end first' end' : ℕ) → length starts ≡ length cs
-    → ((j : ℕ) → j < length cs → get_or starts j 0 ≡ length (flat_map f (take j cs))) → len ≡ length (flat_map f cs) → a ≤ b → b ≤ len → first < end → end ≤ length starts
-    → get_or starts first 0 ≤ a → (end < length starts → b ≤ get_or starts end 0) → first' ≤ first → end ≤ end'
+pub place_facts : {X T : Type 0} (f : X → List T) (cs : List X) (a b first end first' end' : ℕ) → a ≤ b → b ≤ length (flat_map f cs) → first < end → end ≤ length cs
+    → length (flat_map f (take first cs)) ≤ a → (end < length cs → b ≤ length (flat_map f (take end cs))) → first' ≤ first → end ≤ end'
     → (length (flat_map f (take first' cs)) ≤ a) × (b ≤ length (flat_map f (take end' cs))) × (length (flat_map f (take first' cs)) ≤ length (flat_map f (take end' cs)))
-place_facts f cs starts len a b first end first' end' counted each whole le within some inside from to before behind =
+place_facts f cs a b first end first' end' le within some inside from to before behind =
     let low = part_rises f cs first' first before in
     let high = part_rises f cs end end' behind in
-    let low' : length (flat_map f (take first' cs)) ≤ a = omega (arith, each first (omega (arith, counted)), low) in
+    let low' : length (flat_map f (take first' cs)) ≤ a = omega (arith, from, low) in
     let high' : b ≤ length (flat_map f (take end' cs)) =
     elim (cases_lt end (length cs)) [
-      | inl h ↦ omega (arith, each end h, to (omega (arith, counted)), high)
-      | inr h ↦ omega (arith, ap (λ u. length (flat_map f u)) (take_all end cs h), whole, within, high)
+      | inl h ↦ omega (arith, to h, high)
+      | inr h ↦ omega (arith, ap (λ u. length (flat_map f u)) (take_all end cs h), within, high)
     ] in
     (low', high', omega (arith, low', high', le))
 
@@ -171,12 +170,12 @@ item_of_piece f xs j c i s x l is start le within read inside =
     slice_get-get_or (flat_map f xs) i x inside ∙ ap Some at
 
 -- the piece that is found for an item is the one that holds it
-pub in_found_piece : {X T : Type 0} (f : X → List T) (cs : List X) (starts : List ℕ) (i j : ℕ) (d : X) → length starts ≡ length cs → ((k : ℕ) → k < length cs → get_or starts k 0 ≡ length (flat_map f (take k cs)))
-    → j < length cs → (j + 1 < length starts → i < get_or starts (j + 1) 0) → i < length (flat_map f cs) → i < length (flat_map f (take j cs)) + length (f (get_or cs j d))
-in_found_piece f cs starts i j d counted each l most inside =
+pub in_found_piece : {X T : Type 0} (f : X → List T) (cs : List X) (i j : ℕ) (d : X) → j < length cs → (j + 1 < length cs → i < length (flat_map f (take (j + 1) cs))) → i < length (flat_map f cs)
+    → i < length (flat_map f (take j cs)) + length (f (get_or cs j d))
+in_found_piece f cs i j d l most inside =
     let more = ap length (part_more f cs j d l) ∙ length-append (flat_map f (take j cs)) (f (get_or cs j d)) in
     elim (cases_lt (j + 1) (length cs)) [
-      | inl h ↦ omega (arith, each (j + 1) h, most (omega (arith, counted)), more)
+      | inl h ↦ omega (arith, most h, more)
       | inr h ↦ omega (arith, ap (λ u. length (flat_map f u)) (take_all (j + 1) cs h), inside, more)
     ]
 
@@ -223,13 +222,22 @@ one_same f cs p x y l is same =
     let back : flat_map f (drop p (set cs p y)) ≡ f y ++ H = ap (flat_map f) (drop-set cs p y l) in
     in_two f (set cs p y) p ∙ (λ i. front i ++ back i) ∙ ap (λ u. F ++ (u ++ H)) same ∙ sym old
 
--- where the pieces begin, with one of them made anew and the places behind it moved
-pub one_moved : {X T : Type 0} (f : X → List T) (cs : List X) (starts now : List ℕ) (p removed added : ℕ) (x y : X) → length starts ≡ length cs → ((k : ℕ) → k < length cs → get_or starts k 0 ≡ length (flat_map f (take k cs)))
-    → p < length cs → x ≡ get_or cs p x → removed ≤ length (f x) → length (f y) ≡ length (f x) - removed + added → ((k : ℕ) → k < p + 1 → get_or now k 0 ≡ get_or starts k 0)
-    → ((k : ℕ) → p + 1 ≤ k → k < length starts → get_or now k 0 ≡ get_or starts k 0 - removed + added) → (j : ℕ) → j < length (set cs p y) → get_or now j 0 ≡ length (flat_map f (take j (set cs p y)))
-one_moved f cs starts now p removed added x y counted each l is fewer size before after j inside =
-    let within : j < length cs = omega (arith, inside, length-set cs p y) in
-    elim (cases_lt j (p + 1)) [
-      | inl h ↦ before j h ∙ each j within ∙ ap (λ u. length (flat_map f u)) (sym (take-set-le j cs p y (omega arith)))
-      | inr h ↦ omega (arith, after j h (omega (arith, counted)), each j within, one_counted f cs p j x y l is (omega arith), piece_within f cs p j x l is (omega arith), size)
-    ]
+-- where the pieces up to one that is made anew begin, and how many items stand behind the others
+pub one_moved : {X T : Type 0} (f : X → List T) (cs : List X) (places : List ℕ) (p len now removed added : ℕ) (x y : X)
+    → ((j : ℕ) → j < length cs → j < p + 1 → get_or places j 0 ≡ length (flat_map f (take j cs)))
+    → ((j : ℕ) → j < length cs → p + 1 ≤ j → get_or places j 0 + length (flat_map f (take j cs)) ≡ len)
+    → p < length cs → x ≡ get_or cs p x → removed ≤ length (f x) → length (f y) ≡ length (f x) - removed + added → now ≡ len - removed + added → (j : ℕ) → j < length (set cs p y)
+    → (j < p + 1 → get_or places j 0 ≡ length (flat_map f (take j (set cs p y)))) × (p + 1 ≤ j → get_or places j 0 + length (flat_map f (take j (set cs p y))) ≡ now)
+one_moved f cs places p len now removed added x y before behind l is fewer size total j inside =
+    let within : j < length cs = omega (arith, inside, length-set cs p y) in (
+      λ h. before j within h ∙ ap (λ u. length (flat_map f u)) (sym (take-set-le j cs p y (omega arith))),
+      λ h. omega (arith, behind j within h, one_counted f cs p j x y l is (omega arith), piece_within f cs p j x l is (omega arith), size, total, fewer),
+    )
+
+-- how many items there are with one piece made anew
+pub one_total : {X T : Type 0} (f : X → List T) (cs : List X) (p len now removed added : ℕ) (x y : X) → len ≡ length (flat_map f cs) → p < length cs → x ≡ get_or cs p x → removed ≤ length (f x)
+    → length (f y) ≡ length (f x) - removed + added → now ≡ len - removed + added → now ≡ length (flat_map f (set cs p y))
+one_total f cs p len now removed added x y whole l is fewer size total =
+    let old = ap (λ u. length (flat_map f u)) (take_all (length cs) cs (omega arith)) in
+    let new = ap (λ u. length (flat_map f u)) (take_all (length cs) (set cs p y) (omega (arith, length-set cs p y))) in
+    omega (arith, one_counted f cs p (length cs) x y l is l, piece_within f cs p (length cs) x l is l, size, total, fewer, whole, old, new)

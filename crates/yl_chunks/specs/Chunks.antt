@@ -4,6 +4,7 @@ use Rattle.std.specs.List.{flat_map}
 use Rattle.yl_text.specs.Store.{IsRange}
 use Rattle.yl_chunks.specs.declared.TheConstants.{MOST}
 use Rattle.yl_chunks.specs.declared.places.Place.{Place}
+use Rattle.yl_chunks.specs.declared.places.Starts.{Starts}
 
 -- the items of the chunks, one chunk after another
 abbrev pub items_of : {T A : Type 0} → List (Vec T A) → List T
@@ -17,16 +18,22 @@ IsFilled c = (0 < length c.items) × (length c.items ≤ MOST)
 abbrev pub HasRoom : {T A : Type 0} → ℕ → Vec T A → Type 0
 HasRoom n c = (c.items ≡ []) × (n ≤ vec_capacity c)
 
--- for each chunk the number of items before it
-pub record AreStarts {T A : Type 0} (chunks : List (Vec T A)) (starts : List ℕ) : Type 0 where
-  pub counted : length starts ≡ length chunks
-  pub each : (j : ℕ) → j < length chunks → slice_index starts j ≡ length (items_of (take j chunks))
+-- how many items the chunks have, and for each chunk how many of them stand before it; from `turned` on,
+-- how many do not
+pub record ArePlaces {T A : Type 0} (chunks : List (Vec T A)) (places : List ℕ) (turned len : ℕ) : Type 0 where
+  pub counted : length places ≡ length chunks
+  pub within : turned ≤ length chunks
+  pub whole : len ≡ length (items_of chunks)
+  pub before : (j : ℕ) → j < length chunks → j < turned → slice_index places j ≡ length (items_of (take j chunks))
+  pub behind : (j : ℕ) → j < length chunks → turned ≤ j → slice_index places j + length (items_of (take j chunks)) ≡ len
 
--- filled chunks, where they begin, and how many items they have
-pub record AreChunks {T A : Type 0} (chunks : List (Vec T A)) (starts : List ℕ) (len : ℕ) : Type 0 where
+abbrev pub AreStarts : {T A : Type 0} → List (Vec T A) → Starts A → Type 0
+AreStarts chunks s = ArePlaces chunks s.places.items s.turned s.len
+
+-- filled chunks, and where they begin
+pub record AreChunks {T A : Type 0} (chunks : List (Vec T A)) (starts : Starts A) : Type 0 where
   pub filled : All IsFilled chunks
   pub begin : AreStarts chunks starts
-  pub whole : len ≡ length (items_of chunks)
 
 -- the chunks from `first` on, before `end`, have `count` items, and those from a to b are some of them
 pub record IsPlace {T A : Type 0} (chunks : List (Vec T A)) (p : Place) : Type 0 where

@@ -4,8 +4,8 @@ ghost use Rattle.std.specs.List.{splice};
 ghost use Rattle.yl_text.specs.Store.{IsRange};
 
 use crate::MOST;
-use crate::counting::place_of;
-use crate::places::last_start;
+use crate::counting::{last_start, place_of, start_of};
+use crate::places::Starts;
 use crate::spreading::put;
 use std::alloc::{AllocError, Allocator};
 use std::marker::Model;
@@ -13,14 +13,13 @@ use std::marker::Model;
 /// A list of items, kept in chunks of 1 to `MOST` of them. In contracts it is the list.
 ///
 /// An item is found by a binary search over the places at which the chunks begin, of 8 bytes each. An edit
-/// within a chunk that has room moves the items of that chunk and the places of the chunks behind it;
-/// any other makes the chunks that it touches anew. A chunk that an edit leaves with few items is joined
-/// with one beside it.
+/// within a chunk that has room moves the items of that chunk, and the places of the chunks between it and
+/// the last edit's: edits near one another move nearly none. Any other makes the chunks that it touches
+/// anew. A chunk that an edit leaves with few items is joined with one beside it.
 #[derive(Drop)]
 pub struct Chunks<T, A: Allocator> {
     chunks: Vec<Vec<T, A>, A>,
-    starts: Vec<usize, A>,
-    len: usize,
+    starts: Starts<A>,
 }
 
 impl<T, A: Allocator> Model for Chunks<T, A> {
@@ -32,7 +31,7 @@ impl<T, A: Allocator> Model for Chunks<T, A> {
 
     ghost view = { λ c. items_of c.chunks.items };
 
-    ghost invariant = { λ c. AreChunks c.chunks.items c.starts.items c.len };
+    ghost invariant = { λ c. AreChunks c.chunks.items c.starts };
 }
 
 impl<T: Drop, A: Allocator + Copy> Chunks<T, A> {
@@ -42,8 +41,11 @@ impl<T: Drop, A: Allocator + Copy> Chunks<T, A> {
     {
         Chunks {
             chunks: Vec::new(alloc),
-            starts: Vec::new(alloc),
-            len: 0,
+            starts: Starts {
+                places: Vec::new(alloc),
+                turned: 0,
+                len: 0,
+            },
         }
     }
 
@@ -51,7 +53,7 @@ impl<T: Drop, A: Allocator + Copy> Chunks<T, A> {
     pub fn len(&self) -> usize
         ensures { result ≡ length self.now }
     {
-        self.len
+        self.starts.len
     }
 
     /// The fewest items that one of its chunks has, or `MOST` where there is none: how well filled they are.
@@ -70,8 +72,9 @@ impl<T: Drop, A: Allocator + Copy> Chunks<T, A> {
         requires { i < length self.now }
         ensures { slice_get self.now i ≡ Some result.now }
     {
-        let j = last_start(&self.starts, i);
-        &self.chunks[j][i - self.starts[j]]
+        let j = last_start(&self.chunks, &self.starts, i);
+        let start = start_of(&self.chunks, &self.starts, j);
+        &self.chunks[j][i - start]
     }
 
     /// Puts the new items, which it takes out of their `Vec`, in place of the items a to b, b not
@@ -85,10 +88,7 @@ impl<T: Drop, A: Allocator + Copy> Chunks<T, A> {
         ensures err { OnErr result (self.new ≡ self.old) }
         ensures back { OnErr result (new.new.items ≡ new.old.items) }
     {
-        let place = place_of(&self.chunks, &self.starts, self.len, a, b, new.len());
-        let len = self.len - (b - a) + new.len();
-        put(&mut self.chunks, &mut self.starts, place, new)?;
-        self.len = len;
-        Ok(())
+        let place = place_of(&self.chunks, &self.starts, a, b, new.len());
+        put(&mut self.chunks, &mut self.starts, place, new)
     }
 }

@@ -1,54 +1,101 @@
 //! Where the items of a list stand in its chunks.
-ghost use Rattle.std.specs.Prelude.{◌≡◌, ◌+◌, ◌-◌, ◌^◌, ◌<◌, ◌≤◌, ℕ, length, take, slice_index, vec_capacity};
+ghost use Rattle.std.specs.Prelude.{◌≡◌, ◌+◌, ◌-◌, ◌^◌, ◌<◌, ◌≤◌, ℕ, length, take, vec_capacity};
 ghost use Rattle.yl_text.specs.Store.{IsRange};
 ghost use Rattle.yl_chunks.specs.Chunks.{items_of, AreStarts, IsPlace, in_list};
 
-use crate::places::{Place, joined, touched};
+use crate::places::{Place, Starts, joined};
 use std::alloc::Allocator;
 
 /// Counts where the chunks begin, in place of what was counted.
-pub(crate) fn count_starts<T, A: Allocator>(chunks: &[Vec<T, A>], starts: &mut Vec<usize, A>)
+pub(crate) fn count_starts<T, A: Allocator>(chunks: &[Vec<T, A>], starts: &mut Starts<A>)
     requires few { length (items_of chunks.now) < 2 ^ 64 }
-    requires room { length chunks.now ≤ vec_capacity starts.old }
-    ensures { AreStarts chunks.now starts.new.items }
+    requires room { length chunks.now ≤ vec_capacity starts.old.places }
+    ensures { AreStarts chunks.now starts.new }
 {
-    starts.clear();
+    starts.places.clear();
     let mut start = 0;
     for chunk in chunks {
-        starts.push_reserved(start);
+        starts.places.push_reserved(start);
         start += chunk.len();
     }
+    starts.turned = chunks.len();
+    starts.len = start;
 }
 
 /// How many items stand before a chunk, or how many there are.
-pub(crate) fn start_of<T, A: Allocator>(
-    chunks: &[Vec<T, A>],
-    starts: &[usize],
-    len: usize,
-    j: usize,
-) -> usize
+pub(crate) fn start_of<T, A: Allocator>(chunks: &[Vec<T, A>], starts: &Starts<A>, j: usize) -> usize
     requires starts { AreStarts chunks.now starts.now }
-    requires len { len ≡ length (items_of chunks.now) }
     requires within { j ≤ length chunks.now }
     ensures { result ≡ length (items_of (take j chunks.now)) }
 {
-    if j < chunks.len() { starts[j] } else { len }
+    if j >= chunks.len() {
+        starts.len
+    } else if j < starts.turned {
+        starts.places[j]
+    } else {
+        starts.len - starts.places[j]
+    }
+}
+
+/// The last chunk before which no more than `i` items stand.
+pub(crate) fn last_start<T, A: Allocator>(
+    chunks: &[Vec<T, A>],
+    starts: &Starts<A>,
+    i: usize,
+) -> usize
+    requires starts { AreStarts chunks.now starts.now }
+    requires some { 0 < length chunks.now }
+    ensures within { result < length chunks.now }
+    ensures least { length (items_of (take result chunks.now)) ≤ i }
+    ensures most { result + 1 < length chunks.now → i < length (items_of (take (result + 1) chunks.now)) }
+{
+    let mut low = 0;
+    let mut high = chunks.len();
+    while high - low > 1 {
+        let middle = low + (high - low) / 2;
+        if start_of(chunks, starts, middle) <= i {
+            low = middle;
+        } else {
+            high = middle;
+        }
+    }
+    low
+}
+
+/// The chunks that hold the items a to b: the first, and the end.
+fn touched<T, A: Allocator>(
+    chunks: &[Vec<T, A>],
+    starts: &Starts<A>,
+    a: usize,
+    b: usize,
+) -> (usize, usize)
+    requires starts { AreStarts chunks.now starts.now }
+    requires some { 0 < length chunks.now }
+    requires ordered { a ≤ b }
+    ensures ordered { result.0 < result.1 }
+    ensures within { result.1 ≤ length chunks.now }
+    ensures start { length (items_of (take result.0 chunks.now)) ≤ a }
+    ensures end { result.1 < length chunks.now → b ≤ length (items_of (take result.1 chunks.now)) }
+{
+    let first = last_start(chunks, starts, a);
+    if a == b {
+        return (first, first + 1);
+    }
+    (first, last_start(chunks, starts, b - 1) + 1)
 }
 
 /// The place of the items a to b, b not included, counted from 0. Where few items would be left with
 /// so many in their place, a chunk beside them is in it.
 pub(crate) fn place_of<T, A: Allocator>(
     chunks: &[Vec<T, A>],
-    starts: &[usize],
-    len: usize,
+    starts: &Starts<A>,
     a: usize,
     b: usize,
     put: usize,
 ) -> Place
     requires starts { AreStarts chunks.now starts.now }
-    requires len { len ≡ length (items_of chunks.now) }
-    requires range { IsRange a b len }
-    requires few { len + put < 2 ^ 64 }
+    requires range { IsRange a b (length (items_of chunks.now)) }
+    requires few { length (items_of chunks.now) + put < 2 ^ 64 }
     ensures place { IsPlace chunks.now result }
     ensures from { in_list chunks.now result result.a ≡ a }
     ensures to { in_list chunks.now result result.b ≡ b }
@@ -62,14 +109,14 @@ pub(crate) fn place_of<T, A: Allocator>(
             b: 0,
         };
     }
-    let (first, end) = touched(starts, a, b);
-    let old = start_of(chunks, starts, len, end) - start_of(chunks, starts, len, first);
+    let (first, end) = touched(chunks, starts, a, b);
+    let old = start_of(chunks, starts, end) - start_of(chunks, starts, first);
     let (first, end) = joined(chunks.len(), first, end, old - (b - a) + put);
-    let start = start_of(chunks, starts, len, first);
+    let start = start_of(chunks, starts, first);
     Place {
         first,
         end,
-        count: start_of(chunks, starts, len, end) - start,
+        count: start_of(chunks, starts, end) - start,
         a: a - start,
         b: b - start,
     }

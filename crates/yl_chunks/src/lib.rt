@@ -13,6 +13,7 @@ mod counting;
 mod cutting;
 mod places;
 mod spreading;
+mod turning;
 
 pub use chunk_store::ChunkStore;
 pub use chunks::Chunks;

@@ -7,7 +7,8 @@ ghost use Rattle.yl_chunks.specs.Chunks.{items_of, IsFilled, HasRoom, AreStarts,
 use crate::MOST;
 use crate::counting::count_starts;
 use crate::cutting::{cut, gather};
-use crate::places::{Place, move_starts};
+use crate::places::{Place, Starts};
+use crate::turning::turn;
 use std::alloc::{AllocError, Allocator};
 use yl_text::put_between;
 
@@ -67,19 +68,19 @@ fn spread<T: Drop, A: Allocator>(
 /// anew where the chunks begin. Where there is no memory no item moves.
 fn respread<T: Drop, A: Allocator + Copy>(
     chunks: &mut Vec<Vec<T, A>, A>,
-    starts: &mut Vec<usize, A>,
+    starts: &mut Starts<A>,
     place: Place,
     new: &mut Vec<T, A>,
 ) -> Result<(), AllocError>
     requires place { IsPlace chunks.old.items place }
     requires filled { All IsFilled chunks.old.items }
-    requires starts { AreStarts chunks.old.items starts.old.items }
+    requires starts { AreStarts chunks.old.items starts.old }
     requires few { length (items_of chunks.old.items) + vec_len new.old < 2 ^ 64 }
     ensures ok { OnOk result (items_of chunks.new.items ≡ splice (items_of chunks.old.items)
         (in_list chunks.old.items place place.a) (in_list chunks.old.items place place.b) new.old.items) }
     ensures taken { OnOk result (new.new.items ≡ []) }
     ensures filled { All IsFilled chunks.new.items }
-    ensures starts { AreStarts chunks.new.items starts.new.items }
+    ensures starts { AreStarts chunks.new.items starts.new }
     ensures err { OnErr result (items_of chunks.new.items ≡ items_of chunks.old.items) }
     ensures back { OnErr result (new.new.items ≡ new.old.items) }
 {
@@ -89,7 +90,7 @@ fn respread<T: Drop, A: Allocator + Copy>(
     let mut items = Vec::with_capacity(alloc, place.count + new.len())?;
     let mut fresh = empty_chunks(alloc, count, MOST.min(left))?;
     chunks.try_reserve(count)?;
-    starts.try_reserve(count)?;
+    starts.places.try_reserve(count)?;
     spread(chunks, place, new, &mut items, &mut fresh);
     count_starts(chunks, starts);
     Ok(())
@@ -115,11 +116,11 @@ fn put_in_chunk<T: Drop, A: Allocator>(
     Ok(())
 }
 
-/// Puts the new items in place of those of a place in one chunk, which has room for them. The chunks
-/// behind it stay where they are, and begin elsewhere.
+/// Puts the new items in place of those of a place in one chunk, which has room for them. No
+/// other chunk changes.
 fn put_in_place<T: Drop, A: Allocator>(
     chunks: &mut Vec<Vec<T, A>, A>,
-    starts: &mut [usize],
+    starts: &mut Starts<A>,
     place: Place,
     new: &mut Vec<T, A>,
 ) -> Result<(), AllocError>
@@ -139,8 +140,9 @@ fn put_in_place<T: Drop, A: Allocator>(
     ensures back { OnErr result (new.new.items ≡ new.old.items) }
 {
     let put = new.len();
+    turn(chunks, starts, place.end);
     put_in_chunk(&mut chunks[place.first], place.a, place.b, new)?;
-    move_starts(starts, place.end, place.b - place.a, put);
+    starts.len = starts.len - (place.b - place.a) + put;
     Ok(())
 }
 
@@ -148,19 +150,19 @@ fn put_in_place<T: Drop, A: Allocator>(
 /// has them, where it has room, else in fresh chunks. Where there is no memory no item moves.
 pub(crate) fn put<T: Drop, A: Allocator + Copy>(
     chunks: &mut Vec<Vec<T, A>, A>,
-    starts: &mut Vec<usize, A>,
+    starts: &mut Starts<A>,
     place: Place,
     new: &mut Vec<T, A>,
 ) -> Result<(), AllocError>
     requires place { IsPlace chunks.old.items place }
     requires filled { All IsFilled chunks.old.items }
-    requires starts { AreStarts chunks.old.items starts.old.items }
+    requires starts { AreStarts chunks.old.items starts.old }
     requires few { length (items_of chunks.old.items) + vec_len new.old < 2 ^ 64 }
     ensures ok { OnOk result (items_of chunks.new.items ≡ splice (items_of chunks.old.items)
         (in_list chunks.old.items place place.a) (in_list chunks.old.items place place.b) new.old.items) }
     ensures taken { OnOk result (new.new.items ≡ []) }
     ensures filled { All IsFilled chunks.new.items }
-    ensures starts { AreStarts chunks.new.items starts.new.items }
+    ensures starts { AreStarts chunks.new.items starts.new }
     ensures err { OnErr result (items_of chunks.new.items ≡ items_of chunks.old.items) }
     ensures back { OnErr result (new.new.items ≡ new.old.items) }
 {

@@ -38,7 +38,8 @@ fn each_growth_of_a_row(rt: HostRuntime) -> Result<(), Fail> {
     Ok(())
 }
 
-// Three pushes of the problems of a row, of which the second has its nth growth refused.
+// Three pushes of the problems of a row, of which the second has its nth growth refused. It finds no
+// room, so it asks for at least one.
 #[derive(Drop)]
 struct ThreePushes {
     is_met: bool,
@@ -55,8 +56,9 @@ fn pushes<A: Allocator + Copy>(
 ) -> Result<ThreePushes, AllocError> {
     let options = RowOptions::standard();
     let row = Row::new(alloc, "a ", Break::Lf)?;
-    let mut found = Vec::with_capacity(alloc, 1)?;
+    let mut found = Vec::new(alloc);
     push_row_problems(alloc, 1, &row, &options, &mut found)?;
+    found.shrink_to_fit();
     refusing.refuse(n);
     let is_ok = push_row_problems(alloc, 2, &row, &options, &mut found).is_ok();
     let is_met = !refusing.is_armed();

@@ -90,14 +90,14 @@ fn decodes_characters(rt: HostRuntime) -> Result<(), Fail> {
 // The one byte that is not 0x20 to 0x7E, at each place of a text of each small length.
 #[test]
 fn finds_the_first_special_byte(rt: HostRuntime) -> Result<(), Fail> {
-    for len in 0..70 {
+    for len in 0..131 {
         let mut bytes = Vec::new(rt.alloc());
         for i in 0..len {
             bytes.push(if i % 2 == 0 { 0x20 } else { 0x7E })?;
         }
         assert_eq!(rt; first_special(bytes.as_slice()), len);
         for i in 0..len {
-            for special in [0x00, 0x09, 0x1F, 0x7F, 0x80, 0xFF] {
+            for special in [0x00, 0x09, 0x0A, 0x0D, 0x1F, 0x7F, 0x80, 0xC3, 0xFF] {
                 let mut text = Vec::from_slice(rt.alloc(), bytes.as_slice())?;
                 if let Some(byte) = text.get_mut(i) {
                     *byte = special;

@@ -17,8 +17,8 @@ loop-chunk-preserved g c =
     let pushed = c.push_reserved.ensures.items in
     let i = c.loop-chunk.invariant in
     record {
-      counted = ap length pushed ∙ length_push c.loop-chunk.starts.items c.loop-chunk.start ∙ ap (λ (n : ℕ). n + 1) i.counted;
+      counted = ap length pushed ∙ length_push c.loop-chunk.starts.places.items c.loop-chunk.start ∙ ap (λ (n : ℕ). n + 1) i.counted;
       start = h.0;
-      each = λ k l. ap (λ u. slice_index u k) pushed ∙ each_more c.loop-chunk.starts.items (λ (m : ℕ). length (items_of (take m c.args.chunks.now))) c.loop-chunk.chunk-index c.loop-chunk.start i.counted i.start i.each k l;
+      each = λ k l. ap (λ u. slice_index u k) pushed ∙ each_more c.loop-chunk.starts.places.items (λ (m : ℕ). length (items_of (take m c.args.chunks.now))) c.loop-chunk.chunk-index c.loop-chunk.start i.counted i.start i.each k l;
       room = omega (arith, c.push_reserved.ensures.capacity, i.room);
     }

@@ -5,8 +5,8 @@ use Rattle.yl_chunks.proofs.counting.count_starts.Given as goal
 -- the chunks so far are counted
 abbrev pub invariant-loop-chunk : goal.invariant-loop-chunk
 invariant-loop-chunk g l = record {
-  counted : length l.starts.items ≡ l.chunk-index;
+  counted : length l.starts.places.items ≡ l.chunk-index;
   start : l.start ≡ length (items_of (take l.chunk-index l.chunks));
-  each : (k : ℕ) → k < l.chunk-index → slice_index l.starts.items k ≡ length (items_of (take k l.chunks));
-  room : length l.chunks ≤ vec_capacity l.starts;
+  each : (k : ℕ) → k < l.chunk-index → slice_index l.starts.places.items k ≡ length (items_of (take k l.chunks));
+  room : length l.chunks ≤ vec_capacity l.starts.places;
 }

@@ -1,14 +1,9 @@
 use Rattle.std.proofs.Common.{arith}
-use Rattle.yl_chunks.proofs.Pieces.{part_le, part_rises, place_facts}
+use Rattle.yl_chunks.proofs.Pieces.{part_le, place_facts}
 use Rattle.yl_chunks.proofs.counting.place_of.Goals as goal
 
-pub touched-first-requires-clause-rising : goal.touched-first-requires-clause-rising
-touched-first-requires-clause-rising g c i j le l =
-    let r = c.requires in
-    omega (arith, r.starts.each i (omega (arith, r.starts.counted)), r.starts.each j (omega (arith, r.starts.counted)), part_rises (λ v. v.items) c.args.chunks.now i j le)
-
 pub overflow_add-old : goal.overflow_add-old
-overflow_add-old g c = record { fits = omega (arith, part_le (λ v. v.items) c.args.chunks.now c.touched-first.result.1, c.start_of.ensures, c.requires.len, c.requires.few) }
+overflow_add-old g c = record { fits = omega (arith, part_le (λ v. v.items) c.args.chunks.now c.touched-first.result.1, c.start_of.ensures, c.requires.few) }
 
 pub overflow_sub-result : goal.overflow_sub-result
 overflow_sub-result g c =
@@ -16,7 +11,7 @@ overflow_sub-result g c =
     let cs = c.args.chunks.now in
     let t = c.touched-first.ensures in
     let j = c.joined-first.ensures in
-    let h = place_facts (λ v. v.items) cs c.args.starts.now c.args.len c.args.a c.args.b c.touched-first.result.0 c.touched-first.result.1 c.joined-first.result.0 c.joined-first.result.1 r.starts.counted r.starts.each r.len r.range.ordered r.range.within t.ordered t.within t.start t.end j.first j.end in
+    let h = place_facts (λ v. v.items) cs c.args.a c.args.b c.touched-first.result.0 c.touched-first.result.1 c.joined-first.result.0 c.joined-first.result.1 r.range.ordered r.range.within t.ordered t.within t.start t.end j.first j.end in
     omega (arith, h.2, c.start_of-start.ensures, c.start_of-3.ensures)
 
 pub overflow_sub-result-2 : goal.overflow_sub-result-2
@@ -25,7 +20,7 @@ overflow_sub-result-2 g c =
     let cs = c.args.chunks.now in
     let t = c.touched-first.ensures in
     let j = c.joined-first.ensures in
-    let h = place_facts (λ v. v.items) cs c.args.starts.now c.args.len c.args.a c.args.b c.touched-first.result.0 c.touched-first.result.1 c.joined-first.result.0 c.joined-first.result.1 r.starts.counted r.starts.each r.len r.range.ordered r.range.within t.ordered t.within t.start t.end j.first j.end in
+    let h = place_facts (λ v. v.items) cs c.args.a c.args.b c.touched-first.result.0 c.touched-first.result.1 c.joined-first.result.0 c.joined-first.result.1 r.range.ordered r.range.within t.ordered t.within t.start t.end j.first j.end in
     omega (arith, h.0, c.start_of-start.ensures)
 
 pub overflow_sub-result-3 : goal.overflow_sub-result-3
@@ -34,7 +29,7 @@ overflow_sub-result-3 g c =
     let cs = c.args.chunks.now in
     let t = c.touched-first.ensures in
     let j = c.joined-first.ensures in
-    let h = place_facts (λ v. v.items) cs c.args.starts.now c.args.len c.args.a c.args.b c.touched-first.result.0 c.touched-first.result.1 c.joined-first.result.0 c.joined-first.result.1 r.starts.counted r.starts.each r.len r.range.ordered r.range.within t.ordered t.within t.start t.end j.first j.end in
+    let h = place_facts (λ v. v.items) cs c.args.a c.args.b c.touched-first.result.0 c.touched-first.result.1 c.joined-first.result.0 c.joined-first.result.1 r.range.ordered r.range.within t.ordered t.within t.start t.end j.first j.end in
     omega (arith, h.0, c.start_of-start.ensures, r.range.ordered)
 
 pub returns-clause-place : goal.returns-clause-place
@@ -43,7 +38,7 @@ returns-clause-place g c =
     let cs = c.args.chunks.now in
     let t = c.touched-first.ensures in
     let j = c.joined-first.ensures in
-    let h = place_facts (λ v. v.items) cs c.args.starts.now c.args.len c.args.a c.args.b c.touched-first.result.0 c.touched-first.result.1 c.joined-first.result.0 c.joined-first.result.1 r.starts.counted r.starts.each r.len r.range.ordered r.range.within t.ordered t.within t.start t.end j.first j.end in
+    let h = place_facts (λ v. v.items) cs c.args.a c.args.b c.touched-first.result.0 c.touched-first.result.1 c.joined-first.result.0 c.joined-first.result.1 r.range.ordered r.range.within t.ordered t.within t.start t.end j.first j.end in
     record {
       ordered = omega (arith, t.ordered, j.first, j.end);
       within = j.within;
@@ -57,7 +52,7 @@ returns-clause-from g c =
     let cs = c.args.chunks.now in
     let t = c.touched-first.ensures in
     let j = c.joined-first.ensures in
-    let h = place_facts (λ v. v.items) cs c.args.starts.now c.args.len c.args.a c.args.b c.touched-first.result.0 c.touched-first.result.1 c.joined-first.result.0 c.joined-first.result.1 r.starts.counted r.starts.each r.len r.range.ordered r.range.within t.ordered t.within t.start t.end j.first j.end in
+    let h = place_facts (λ v. v.items) cs c.args.a c.args.b c.touched-first.result.0 c.touched-first.result.1 c.joined-first.result.0 c.joined-first.result.1 r.range.ordered r.range.within t.ordered t.within t.start t.end j.first j.end in
     omega (arith, h.0, c.start_of-start.ensures)
 
 pub returns-clause-to : goal.returns-clause-to
@@ -66,5 +61,5 @@ returns-clause-to g c =
     let cs = c.args.chunks.now in
     let t = c.touched-first.ensures in
     let j = c.joined-first.ensures in
-    let h = place_facts (λ v. v.items) cs c.args.starts.now c.args.len c.args.a c.args.b c.touched-first.result.0 c.touched-first.result.1 c.joined-first.result.0 c.joined-first.result.1 r.starts.counted r.starts.each r.len r.range.ordered r.range.within t.ordered t.within t.start t.end j.first j.end in
+    let h = place_facts (λ v. v.items) cs c.args.a c.args.b c.touched-first.result.0 c.touched-first.result.1 c.joined-first.result.0 c.joined-first.result.1 r.range.ordered r.range.within t.ordered t.within t.start t.end j.first j.end in
     omega (arith, h.0, c.start_of-start.ensures, r.range.ordered)

@@ -1,14 +1,26 @@
-use Rattle.std.proofs.Common.{◌≡◌, ℕ, ◌+◌, ◌-◌, ◌<◌, ◌≤◌, ◌∙◌, List, Vec, Result, Ok, Err, OnErr, length, take, ap, sym, refl, get_or, arith}
+use Rattle.std.proofs.Common.{◌≡◌, ℕ, ◌+◌, ◌-◌, ◌<◌, ◌≤◌, ◌∙◌, List, Vec, Result, Ok, Err, OnErr, length, take, set, ap, subst, sym, refl, get_or, arith}
 use Rattle.std.proofs.lemmas.List.{length-set, length-append}
 use Rattle.std.proofs.lemmas.List.Elements.{All-set}
-use Rattle.yl_chunks.specs.Chunks.{items_of}
+use Rattle.yl_chunks.specs.Chunks.{items_of, ArePlaces}
 use Rattle.yl_chunks.specs.declared.places.Place.{Place}
-use Rattle.yl_chunks.proofs.Pieces.{part_le, part_more, piece_within, splice_len, one_put, one_same, one_moved}
+use Rattle.yl_chunks.proofs.Pieces.{part_more, splice_len, one_put, one_same, one_moved, one_total}
 use Rattle.yl_chunks.proofs.spreading.put_in_place.Goals as goal
 
 on_err : {T E P : Type 0} (r : Result T E) → P → OnErr r P
 on_err (Ok v) p = tt
 on_err (Err e) p = p
+
+-- the places stay true with one chunk made anew, up to which they are turned
+moved : {T A : Type 0} (cs : List (Vec T A)) (places : List ℕ) (turned p len now removed added : ℕ) (x y : Vec T A) → ArePlaces cs places turned len → turned ≡ p + 1 → p < length cs → x ≡ get_or cs p x → removed ≤ length x.items
+    → length y.items ≡ length x.items - removed + added → now ≡ len - removed + added → ArePlaces (set cs p y) places turned now
+moved cs places turned p len now removed added x y h at l is fewer size total =
+    let parts = one_moved (λ v. v.items) cs places p len now removed added x y (λ j k m. h.before j k (omega (arith, at))) (λ j k m. h.behind j k (omega (arith, at))) l is fewer size total in record {
+      counted = h.counted ∙ sym (length-set cs p y);
+      within = omega (arith, h.within, length-set cs p y);
+      whole = one_total (λ v. v.items) cs p len now removed added x y h.whole l is fewer size total;
+      before = λ j k m. (parts j k).0 (omega (arith, at));
+      behind = λ j k m. (parts j k).1 (omega (arith, at));
+    }
 
 -- the items of the one chunk of a place are counted
 size_of : {T A : Type 0} (cs : List (Vec T A)) (p : Place) (x : Vec T A) → p.end ≡ p.first + 1 → p.first < length cs → x ≡ get_or cs p.first x
@@ -27,12 +39,10 @@ returns-in_err-put_in_chunk-clause-starts g c =
     let r = c.requires in
     let p = c.args.place in
     let cs = c.args.chunks.now.items in
-    let x = c.index_mut.result.now in
-    let y = c.put_in_chunk.new.chunk in
-    let l : p.first < length cs = omega (arith, r.one, r.place.within) in record {
-      counted = r.starts.counted ∙ sym (length-set cs p.first y);
-      each = one_moved (λ v. v.items) cs c.args.starts.now c.args.starts.now p.first 0 0 x y r.starts.counted r.starts.each l c.index_mut.ensures.value (omega arith) (omega (arith, ap length c.in_err-put_in_chunk.ensures.err)) (λ k h. refl) (λ k h m. omega arith);
-    }
+    let s = c.turn.new.starts in
+    let turned = subst (λ u. ArePlaces u s.places.items s.turned s.len) c.deref.ensures.value c.turn.ensures.starts in
+    let l : p.first < length cs = omega (arith, r.one, r.place.within) in
+    moved cs s.places.items s.turned p.first s.len s.len 0 0 c.index_mut.result.now c.put_in_chunk.new.chunk turned (c.turn.ensures.turned ∙ r.one) l c.index_mut.ensures.value (omega arith) (omega (arith, ap length c.in_err-put_in_chunk.ensures.err)) (omega arith)
 
 pub returns-in_err-put_in_chunk-clause-err : goal.returns-in_err-put_in_chunk-clause-err
 returns-in_err-put_in_chunk-clause-err g c =
@@ -41,20 +51,6 @@ returns-in_err-put_in_chunk-clause-err g c =
     let cs = c.args.chunks.now.items in
     let l : p.first < length cs = omega (arith, r.one, r.place.within) in
     on_err c.from_residual.result (one_same (λ v. v.items) cs p.first c.index_mut.result.now c.put_in_chunk.new.chunk l c.index_mut.ensures.value c.in_err-put_in_chunk.ensures.err)
-
-pub move_starts-requires-clause-taken : goal.move_starts-requires-clause-taken
-move_starts-requires-clause-taken g c k from inside =
-    let r = c.requires in
-    let p = c.args.place in
-    let cs = c.args.chunks.now.items in
-    let x = c.index_mut.result.now in
-    let l : p.first < length cs = omega (arith, r.one, r.place.within) in
-    omega (arith, r.starts.each k (omega (arith, r.starts.counted)), piece_within (λ v. v.items) cs p.first k x l c.index_mut.ensures.value (omega (arith, r.one)), size_of cs p x r.one l c.index_mut.ensures.value r.place.count, r.place.range.within)
-
-pub move_starts-requires-clause-few : goal.move_starts-requires-clause-few
-move_starts-requires-clause-few g c k from inside =
-    let r = c.requires in
-    omega (arith, r.starts.each k (omega (arith, r.starts.counted)), part_le (λ v. v.items) c.args.chunks.now.items k, r.few, c.len-put.ensures)
 
 pub returns-clause-ok : goal.returns-clause-ok
 returns-clause-ok g c =
@@ -86,10 +82,9 @@ returns-clause-starts g c =
     let x = c.index_mut.result.now in
     let y = c.put_in_chunk.new.chunk in
     let new = c.args.new.now in
+    let s = c.turn.new.starts in
+    let turned = subst (λ u. ArePlaces u s.places.items s.turned s.len) c.deref.ensures.value c.turn.ensures.starts in
     let l : p.first < length cs = omega (arith, r.one, r.place.within) in
     let size = size_of cs p x r.one l c.index_mut.ensures.value r.place.count in
     let put = ap length c.in_ok-put_in_chunk.ensures.ok ∙ splice_len x.items new.items p.a p.b r.place.range.ordered (omega (arith, r.place.range.within, size)) in
-    let m = c.move_starts.ensures in record {
-      counted = m.len ∙ r.starts.counted ∙ sym (length-set cs p.first y);
-      each = one_moved (λ v. v.items) cs c.args.starts.now c.move_starts.new.starts p.first (p.b - p.a) c.len-put.result x y r.starts.counted r.starts.each l c.index_mut.ensures.value (omega (arith, r.place.range.within, size)) (omega (arith, put, c.len-put.ensures, new.ok.0)) (λ k h. m.before k (omega (arith, r.one))) (λ k h i. m.after k (omega (arith, r.one)) i);
-    }
+    moved cs s.places.items s.turned p.first s.len (s.len - (p.b - p.a) + c.len-put.result) (p.b - p.a) c.len-put.result x y turned (c.turn.ensures.turned ∙ r.one) l c.index_mut.ensures.value (omega (arith, r.place.range.within, size)) (omega (arith, put, c.len-put.ensures, new.ok.0)) refl
