@@ -1,5 +1,6 @@
 pub mod Examples
 pub mod Reported
 pub mod Rows
+pub mod Streamed
 pub mod Shown
 pub mod Together

@@ -38,28 +38,8 @@ told_more old new rows i row text total at is told whole =
     ∙ (ap (λ (t : List ℕ). old (chars t ∷ characters_in (drop (i + 1) rows))) is
     ∙ (ap (λ (rs : List RowValue). old (characters_in rs)) (sym (rows_at rows i row at)) ∙ whole))
 
--- after the last row
-pub told_all : (old : List (List ℕ) → List RecordValue) (rows : List RowValue) (i : ℕ) (total all : List RecordValue)
-    → length rows ≤ i → all ≡ old [] → old (characters_in (drop i rows)) ≡ total → all ≡ total
-told_all old rows i total all l is whole = is ∙ (ap (λ (rs : List RowValue). old (characters_in rs)) (sym (drop_of_length-le rows l)) ∙ whole)
-
-few_with : (ns : List ℕ) (es : List RowEntry) → length (records_with ns es) ≤ length ns
+-- no more records than indentations
+pub few_with : (ns : List ℕ) (es : List RowEntry) → length (records_with ns es) ≤ length ns
 few_with [] es = omega arith
 few_with (n ∷ ns) [] = omega arith
 few_with (n ∷ ns) (e ∷ es) = omega (arith, few_with ns es)
-
--- no more records than rows
-pub few_records : (rows : List RowValue) → length (records_of rows) ≤ length rows
-few_records rows =
-    omega (arith, few_with (map indentation (characters_in rows)) (entries (characters_in rows)), length-map (characters_in rows) indentation, length-map rows (λ (row : RowValue). chars row.text))
-
--- of what a call gives, by what is known of it
-pub if_ok_map : {T E : Type 0} {P Q : T → Type 0} (r : Result T E) → ((x : T) → P x → Q x) → IfOk r P → IfOk r Q
-if_ok_map (Ok x) f p = f x p
-if_ok_map (Err e) f p = p
-
--- after the last row there are no more records than rows
-pub few_told : (old : List (List ℕ) → List RecordValue) (rows : List RowValue) (i most : ℕ) (all : List RecordValue)
-    → length rows < most → length rows ≤ i → all ≡ old [] → old (characters_in (drop i rows)) ≡ records_of rows → length all < most
-few_told old rows i most all few l is whole =
-    omega (arith, ap (λ (rs : List RecordValue). length rs) (told_all old rows i (records_of rows) all l is whole), few_records rows, few)

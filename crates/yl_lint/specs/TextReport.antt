@@ -23,7 +23,7 @@ use Rattle.yl_settings.specs.declared.options.RuleOptions.{RuleOptions}
 use Rattle.yl_config.specs.Config.{levels_of, options_of}
 use Rattle.yl_record.specs.Records.{RecordValue, records}
 use Rattle.yl_sections.specs.Kept.{KeptValue, SectionFaultValue, Here, Behind}
-use Rattle.yl_sections.specs.Judge.{kept_of_section}
+use Rattle.yl_sections.specs.Judge.{documents_in, kept_of_section}
 use Rattle.yl_sections.specs.Sections.{sections}
 
 -- ---- lines
@@ -132,6 +132,10 @@ records_of rows = records (characters_in rows)
 -- what is kept of the sections of a text
 abbrev pub kept_of_text : Config → List RowValue → List KeptValue
 kept_of_text config rows = map (kept_of_section config) (sections (records_of rows))
+
+-- how many documents a text has
+abbrev pub document_count : List RowValue → ℕ
+document_count rows = documents_in (sections (records_of rows))
 
 -- the report of the lines of a text under a configuration
 unfoldable pub report : Config → List RowValue → List ProblemValue

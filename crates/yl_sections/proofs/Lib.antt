@@ -4,4 +4,6 @@ pub mod Rows
 pub mod Assembled
 pub mod Sequence
 pub mod Local
+pub mod Fronts
+pub mod Stateless
 mod Examples

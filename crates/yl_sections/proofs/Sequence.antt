@@ -58,38 +58,6 @@ pub few_documents : (xs : List LexemeValue) → document_count xs ≤ 1
 few_documents [] = omega arith
 few_documents (x ∷ xs) = omega arith
 
--- ---- sections of rows behind references
-
-pub split_sections : (rs first rest : List (Bor RecordValue)) (n : ℕ) → n ≡ row_count None (seen rs) → first ≡ take n rs → rest ≡ drop n rs → sections (seen rs) ≡ seen first ∷ later_sections (seen rest)
-split_sections rs first rest n e f r =
-    first_section (seen rs)
-    ∙ (ap (λ k. take k (seen rs) ∷ later_sections (drop k (seen rs))) (sym e)
-    ∙ (ap (λ (xs : List RecordValue). xs ∷ later_sections (drop n (seen rs))) (take-map (λ (x : Bor RecordValue). x.now) n rs)
-    ∙ (ap (λ (xs : List RecordValue). seen (take n rs) ∷ later_sections xs) (drop-map (λ (x : Bor RecordValue). x.now) n rs)
-    ∙ (ap (λ (xs : List (Bor RecordValue)). seen xs ∷ later_sections (seen (drop n rs))) (sym f) ∙ ap (λ (xs : List (Bor RecordValue)). seen first ∷ later_sections (seen xs)) (sym r)))))
-
-some_later : (rs : List (Bor RecordValue)) → 0 < length rs → later_sections (seen rs) ≡ sections (seen rs)
-some_later [] l = absurd (omega (arith, l))
-some_later (r ∷ rs) l = refl
-
-pub split_later : (rs first rest : List (Bor RecordValue)) (n : ℕ) → 0 < length rs → n ≡ row_count None (seen rs) → first ≡ take n rs → rest ≡ drop n rs
-    → later_sections (seen rs) ≡ seen first ∷ later_sections (seen rest)
-split_later rs first rest n l e f r = some_later rs l ∙ split_sections rs first rest n e f r
-
-none_later : (rs : List (Bor RecordValue)) → length rs ≡ 0 → later_sections (seen rs) ≡ []
-none_later [] l = refl
-none_later (r ∷ rs) l = absurd (omega (arith, l))
-
-some_count : (rs : List (Bor RecordValue)) → 0 < length rs → 0 < row_count None (seen rs)
-some_count [] l = absurd (omega (arith, l))
-some_count (r ∷ rs) l = omega (arith, some_rows r.now (seen rs))
-
-pub fewer_rows : (rs rest : List (Bor RecordValue)) (n : ℕ) → 0 < length rs → n ≡ row_count None (seen rs) → n ≤ length rs → rest ≡ drop n rs → length rest < length rs
-fewer_rows rs rest n l e w r =
-    let some : 0 < row_count None (seen rs) = some_count rs l in
-    let len : length rest ≡ length rs - n = ap length r ∙ length-drop n rs in
-    omega (arith, some, len, l, e, w)
-
 -- ---- a section more
 
 pub kept_more : (f : List RecordValue → KeptValue) (items new total : List KeptValue) (s : List RecordValue) (before after : List (List RecordValue)) (k : KeptValue) → before ≡ s ∷ after → k ≡ f s
@@ -104,11 +72,3 @@ pub documents_more : (old new total : ℕ) (s : List RecordValue) (before after 
 documents_more old new total s before after cut counted whole =
     let all : documents_in before ≡ document_count (lexemes_of s) + documents_in after = ap documents_in cut in
     omega (arith, all, counted, whole)
-
-pub kept_all : (f : List RecordValue → KeptValue) (items total : List KeptValue) (rs : List (Bor RecordValue)) → length rs ≡ 0 → items ++ map f (later_sections (seen rs)) ≡ total → items ≡ total
-kept_all f items total rs l whole = sym (append-nil items) ∙ (ap (λ (ss : List (List RecordValue)). items ++ map f ss) (sym (none_later rs l)) ∙ whole)
-
-pub documents_all : (n total : ℕ) (rs : List (Bor RecordValue)) → length rs ≡ 0 → n + documents_in (later_sections (seen rs)) ≡ total → n ≡ total
-documents_all n total rs l whole =
-    let none : documents_in (later_sections (seen rs)) ≡ 0 = ap documents_in (none_later rs l) in
-    omega (arith, none, whole)

@@ -1,5 +1,6 @@
 //! Judging a section.
-ghost use Rattle.std.specs.Prelude.{◌≡◌, ◌≤◌, ◌<◌, ◌-◌, ◌+◌, ◌^◌, map, length, slice_get, IfOk, OnOk};
+ghost use Rattle.std.specs.Prelude.{◌≡◌, ◌≤◌, ◌<◌, ◌-◌, ◌+◌, ◌++◌, ◌∷◌, ◌^◌, [], List, drop, map, length, slice_get, IfOk, OnOk};
+ghost use Rattle.yl_record.specs.Records.{RecordValue};
 ghost use Rattle.std.specs.Option.{option_map};
 ghost use Rattle.yl_events.specs.Event.{event_value};
 ghost use Rattle.yl_marks.specs.Keys.{lexeme_at_line};
@@ -107,6 +108,39 @@ pub fn judge<A: Allocator + Copy>(
     keep(alloc, config, records, &lexemes, &document)
 }
 
+/// Judges the sections of these rows but the last one, to which rows that follow may belong, and puts what is kept of each after the
+/// rest. Answers how many rows they have. Counts their documents in the meter. The only error is out of memory.
+pub fn judge_whole<A: Allocator + Copy>(
+    alloc: A,
+    config: &Config,
+    records: &[&Record<A>],
+    kept: &mut Vec<Kept<A>, A>,
+    meter: &mut Meter,
+) -> Result<usize, AllocError>
+    requires rows { length records.now < 2 ^ 32 }
+    requires documents { meter.old.documents + length records.now < 2 ^ 32 - 1 }
+    ensures within { IfOk result (λ n. n ≤ length records.now) }
+    ensures kept { IfOk result (λ n. (more : List RecordValue)
+        → kept.new.items ++ map (kept_of_section config.now) (sections (drop n (map (λ r. r.now) records.now) ++ more))
+        ≡ kept.old.items ++ map (kept_of_section config.now) (sections (map (λ r. r.now) records.now ++ more))) }
+    ensures counted { IfOk result (λ n. (more : List RecordValue)
+        → meter.new.documents + documents_in (sections (drop n (map (λ r. r.now) records.now) ++ more))
+        ≡ meter.old.documents + documents_in (sections (map (λ r. r.now) records.now ++ more))) }
+    ensures few { IfOk result (λ n. meter.new.documents ≤ meter.old.documents + n) }
+    ensures lines { OnOk result (meter.new.lines ≡ meter.old.lines) }
+    ensures last { IfOk result (λ n. sections (drop n (map (λ r. r.now) records.now)) ≡ drop n (map (λ r. r.now) records.now) ∷ []) }
+{
+    let mut judged = 0;
+    let mut count = section_len(records);
+    while count < records.len() - judged {
+        let section = &records[judged..judged + count];
+        kept.push(judge(alloc, config, section, meter)?)?;
+        judged += count;
+        count = section_len(&records[judged..]);
+    }
+    Ok(judged)
+}
+
 /// What is kept of each section of these rows. Counts their documents in the meter. The only error is out of memory.
 pub fn judge_all<A: Allocator + Copy>(
     alloc: A,
@@ -121,12 +155,8 @@ pub fn judge_all<A: Allocator + Copy>(
         ≡ record meter.old { documents = meter.old.documents + documents_in (sections (map (λ r. r.now) records.now)) }) }
 {
     let mut all = Vec::new(alloc);
-    let (first, mut rest) = records.split_at(section_len(records));
-    all.push(judge(alloc, config, first, meter)?)?;
-    while !rest.is_empty() {
-        let (section, below) = rest.split_at(section_len(rest));
-        all.push(judge(alloc, config, section, meter)?)?;
-        rest = below;
-    }
+    let judged = judge_whole(alloc, config, records, &mut all, meter)?;
+    let (_, last) = records.split_at(judged);
+    all.push(judge(alloc, config, last, meter)?)?;
     Ok(all)
 }

@@ -14,7 +14,7 @@ mod rules;
 mod sections;
 
 pub use fault::SectionFault;
-pub use judging::{judge, judge_all};
+pub use judging::{judge, judge_all, judge_whole};
 pub use kept::{Kept, KeptComment};
 pub use laws::{first_section, one_kept, sections_are_local};
 pub use sections::{is_section_start, last_kind, section_len};

@@ -1,0 +1,63 @@
+-- Records that come row by row, and the sections that are judged among them.
+use Rattle.std.proofs.Common.{◌≡◌, ℕ, ◌+◌, ◌-◌, ◌<◌, ◌≤◌, Result, Ok, Err, List, [], ◌∷◌, ◌++◌, length, map, take, drop, ap, sym, refl, ◌∙◌, append-nil, arith}
+use Rattle.std.proofs.lemmas.List.{take-append-drop, drop-append-le, length-append, length-map}
+use Rattle.std.proofs.Math.ListN.{drop_of_length-le}
+use Rattle.std.specs.Prelude.{OnOk}
+use Rattle.yl_text.specs.Character.{indentation}
+use Rattle.yl_lexeme.specs.declared.meter.Meter.{Meter}
+use Rattle.yl_record.specs.Parts.{entries_in, indentations_in, indentation_in}
+use Rattle.yl_record.specs.Records.{RecordValue}
+use Rattle.yl_record.specs.Recorded.{RecorderValue, recorded, if_wanted, entries_with_rest}
+use Rattle.yl_sections.specs.Kept.{KeptValue}
+use Rattle.yl_sections.specs.Judge.{documents_in}
+use Rattle.yl_sections.specs.Sections.{sections}
+use Rattle.yl_lint.proofs.Rows.{few_with}
+
+-- what the first rows and those that follow come to, once so many of the first are taken
+module _ (before after : List (List ℕ) → List RecordValue) (complete : List RecordValue) (n : ℕ) (rows : List (List ℕ)) (is : complete ≡ take (length complete) (before rows)) (gone : after rows ≡ drop n (before rows)) (within : n ≤ length complete) where
+  abbrev more : List RecordValue
+  more = drop (length complete) (before rows)
+
+  whole : complete ++ more ≡ before rows
+  whole = ap (λ (xs : List RecordValue). xs ++ more) is ∙ take-append-drop (length complete) (before rows)
+
+  rest : drop n complete ++ more ≡ after rows
+  rest = sym (drop-append-le n complete more within) ∙ (ap (drop n) whole ∙ sym gone)
+
+  pub kept_so : (f : List RecordValue → KeptValue) (old new : List KeptValue) (lent : List RecordValue) → lent ≡ complete
+      → ((more : List RecordValue) → new ++ map f (sections (drop n lent ++ more)) ≡ old ++ map f (sections (lent ++ more)))
+      → new ++ map f (sections (after rows)) ≡ old ++ map f (sections (before rows))
+  kept_so f old new lent same told =
+      ap (λ (xs : List RecordValue). new ++ map f (sections xs)) (sym rest)
+      ∙ (ap (λ (xs : List RecordValue). new ++ map f (sections (drop n xs ++ more))) (sym same)
+      ∙ (told more ∙ (ap (λ (xs : List RecordValue). old ++ map f (sections (xs ++ more))) same ∙ ap (λ (xs : List RecordValue). old ++ map f (sections xs)) whole)))
+
+  pub documents_so : (old new : ℕ) (lent : List RecordValue) → lent ≡ complete
+      → ((more : List RecordValue) → new + documents_in (sections (drop n lent ++ more)) ≡ old + documents_in (sections (lent ++ more)))
+      → new + documents_in (sections (after rows)) ≡ old + documents_in (sections (before rows))
+  documents_so old new lent same told =
+      ap (λ (xs : List RecordValue). new + documents_in (sections xs)) (sym rest)
+      ∙ (ap (λ (xs : List RecordValue). new + documents_in (sections (drop n xs ++ more))) (sym same)
+      ∙ (told more ∙ (ap (λ (xs : List RecordValue). old + documents_in (sections (xs ++ more))) same ∙ ap (λ (xs : List RecordValue). old + documents_in (sections xs)) whole)))
+
+-- no more records at the text's end than were not taken
+pub few_at_end : (r : RecorderValue) (all : List RecordValue) → all ≡ recorded r [] → length all ≤ length r.records
+few_at_end r all is =
+    let ns = indentations_in r.records ++ map indentation [] in
+    let few : length (recorded r []) ≤ length ns = few_with ns (if_wanted r.states (entries_with_rest (entries_in r.records) r.taken r.stand [])) in
+    let len : length ns ≡ length r.records = ap (λ (xs : List ℕ). length xs) (append-nil (indentations_in r.records)) ∙ length-map r.records indentation_in in
+    omega (arith, ap (λ (xs : List RecordValue). length xs) is, few, len)
+
+-- what is kept of the last sections too
+pub kept_at_end : (f : List RecordValue → KeptValue) (some last all total : List KeptValue) (records : List RecordValue) (told : List RecordValue) → records ≡ told → last ≡ map f (sections records) → all ≡ some ++ last
+    → some ++ map f (sections told) ≡ total → all ≡ total
+kept_at_end f some last all total records told is judged put whole =
+    put ∙ (ap (λ (ks : List KeptValue). some ++ ks) judged ∙ (ap (λ (rs : List RecordValue). some ++ map f (sections rs)) is ∙ whole))
+
+-- and how many documents and lines there are
+pub counted_at_end : (m : Meter) (lines documents : ℕ) → m.lines ≡ lines → m.documents ≡ documents → m ≡ record { lines = lines; documents = documents }
+counted_at_end m lines documents a b = rw (sym a, sym b) refl
+
+pub on_ok : {T E P : Type 0} (r : Result T E) → P → OnOk r P
+on_ok (Ok x) p = p
+on_ok (Err e) p = tt
