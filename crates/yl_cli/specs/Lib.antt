@@ -7,7 +7,7 @@ pub mod Text
 pub use Rattle.yl_config.specs.Config
 pub use Rattle.yl_report.specs.Report
 pub use Rattle.yl_report.specs.Written
-pub use Rattle.yl_session.specs.TextReport
+pub use Rattle.yl_lint.specs.TextReport
 pub use Rattle.yl_text.specs.Lines
 pub use Rattle.yl_text.specs.Watched
 pub use Rattle.yl_session.specs.Runs

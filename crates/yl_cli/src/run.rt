@@ -6,7 +6,7 @@ ghost use Rattle.yl_text.specs.Lines.{lines_of};
 ghost use Rattle.yl_text.specs.Watched.{device_of, failures_of};
 ghost use Rattle.yl_report.specs.Written.{AppendsFront};
 ghost use Rattle.yl_report.specs.Report.{report_text, status_of};
-ghost use Rattle.yl_session.specs.TextReport.{report};
+ghost use Rattle.yl_lint.specs.TextReport.{report};
 ghost use Rattle.yl_cli.specs.Text.{without_mark, TakesAtMost};
 ghost use Rattle.yl_cli.specs.Run.{IsRunFault, joined_status};
 
@@ -16,8 +16,8 @@ use std::alloc::Allocator;
 use std::io::{Read, Write};
 use yl_args::Flags;
 use yl_config::Config;
+use yl_lint::report_of_text;
 use yl_report::{status, write_report};
-use yl_session::report_of_text;
 use yl_text::Watched;
 
 /// Reads a text to its end, writes its report, and answers its status: 1 with an error, else 2 with a

@@ -13,7 +13,8 @@ const PLAIN: Flags = Flags {
 
 const TEXT: &[u8] = b"a: 1 \nb: 2\n";
 
-const OPENED: &[u8] = b"f.yaml:1:5: [error] trailing spaces (trailing-spaces)\n-- ok 1\n";
+const OPENED: &[u8] =
+    b"f.yaml:1:1: [warning] missing document start \"---\" (document-start)\nf.yaml:1:5: [error] trailing spaces (trailing-spaces)\n-- ok 1\n";
 
 // What a run answers, and what it has written then.
 #[derive(Drop)]
@@ -45,18 +46,18 @@ fn run(alloc: Global, text: &[u8], commands: &[u8], most: usize, fails_at: u64) 
 fn answers_commands(rt: HostRuntime) -> Result<(), Fail> {
     let alloc = rt.alloc();
     let rows: [(&[u8], &[u8], u8, &[u8]); 7] = [
-        (b"a: 1\n", b"", 0, b"-- ok 0\n"),
+        (b"---\na: 1\n", b"", 0, b"-- ok 0\n"),
         (
             b"a: 1\n",
             b"replace 0 0 4\n---\nreplace 9 0 0\n",
             0,
-            b"-- ok 0\n-- ok 0\n-- refused Range\n",
+            b"f.yaml:1:1: [warning] missing document start \"---\" (document-start)\n-- ok 0\n-- ok 0\n-- refused Range\n",
         ),
         (
-            b"\xEF\xBB\xBFa: 1\n",
-            b"replace 0 1 6\na: 1 \n",
+            b"\xEF\xBB\xBF--- 1\n",
+            b"replace 0 1 7\n--- 1 \n",
             1,
-            b"-- ok 0\nf.yaml:1:5: [error] trailing spaces (trailing-spaces)\n-- ok 1\n",
+            b"-- ok 0\nf.yaml:1:6: [error] trailing spaces (trailing-spaces)\n-- ok 1\n",
         ),
         (
             b"---\na: 1\r",
@@ -65,22 +66,22 @@ fn answers_commands(rt: HostRuntime) -> Result<(), Fail> {
             b"-- ok 0\n-- refused JoinedBreak\n-- refused OpenEnd\n-- refused NotUtf8\n",
         ),
         (
-            b"a\n",
+            b"--- a\n",
             b"replace 9999999999 9999999999 0\n",
             0,
             b"-- ok 0\n-- refused Range\n",
         ),
         (
-            b"a\n",
-            b"replace 0000000000 01 2\nb\nreplace 1 0 2\nc\n",
+            b"--- a\n",
+            b"replace 0000000000 01 6\n--- b\nreplace 1 0 3\n c\n",
             0,
             b"-- ok 0\n-- ok 0\n-- ok 0\n",
         ),
         (
-            b"a \n",
+            b"--- \n",
             b"replace 0 0 0\n",
             1,
-            b"f.yaml:1:2: [error] trailing spaces (trailing-spaces)\n-- ok 1\nf.yaml:1:2: [error] trailing spaces (trailing-spaces)\n-- ok 1\n",
+            b"f.yaml:1:4: [error] trailing spaces (trailing-spaces)\n-- ok 1\nf.yaml:1:4: [error] trailing spaces (trailing-spaces)\n-- ok 1\n",
         ),
     ];
     for (text, commands, status, want) in rows {
@@ -214,7 +215,7 @@ fn tells_the_work(rt: HostRuntime) -> Result<(), Fail> {
         "f.yaml",
         Config::standard(),
         flags,
-        b"a\n",
+        b"--- a\n",
         &mut input,
         &mut out,
     );

@@ -1,6 +1,7 @@
 use crate::devices::{Repeated, make_sink, make_source};
 use refusing::Refusing;
-use std::alloc::Global;
+use std::alloc::{AllocError, Allocator, Global};
+use std::io::Read;
 use std::test::Fail;
 use yl_cli::{BadText, Flags, RunFault, joined, lint};
 use yl_config::Config;
@@ -15,82 +16,126 @@ const PLAIN: Flags = Flags {
 const TEXT: &[u8] = b"a: 1 \nb: 2\n\t\n";
 
 const REPORT: &[u8] =
-    b"f.yaml:1:5: [error] trailing spaces (trailing-spaces)\nf.yaml:3:1: [error] trailing spaces (trailing-spaces)\n";
+    b"f.yaml:1:1: [warning] missing document start \"---\" (document-start)\nf.yaml:1:5: [error] trailing spaces (trailing-spaces)\nf.yaml:3:1: [error] trailing spaces (trailing-spaces)\n";
+
+// What a run answers, what it has written then, and how often its devices failed.
+#[derive(Drop)]
+struct Ran {
+    answer: Result<u8, RunFault>,
+    out: Vec<u8>,
+    read_failures: u64,
+    write_failures: u64,
+}
+
+// A run whose writer takes at most `most` bytes a call and `room` in all, and then fails or takes none.
+fn run<A: Allocator + Copy, R: Read + Drop>(
+    global: Global,
+    alloc: A,
+    reader: R,
+    most: usize,
+    room: usize,
+    fails: bool,
+) -> Ran {
+    let mut input = Watched::new(reader);
+    let mut out = Watched::new(make_sink(global, most, room, fails));
+    let config = Config::standard();
+    let answer = lint(alloc, "f.yaml", &config, PLAIN, &mut input, &mut out);
+    Ran {
+        answer,
+        read_failures: input.failures(),
+        write_failures: out.failures(),
+        out: out.into_inner().bytes,
+    }
+}
+
+// A text, its status, and its report.
+const TEXTS: [(&[u8], u8, &[u8]); 11] = [
+    (b"", 0, b""),
+    (TEXT, 1, REPORT),
+    (
+        b"a: 1\n",
+        0,
+        b"f.yaml:1:1: [warning] missing document start \"---\" (document-start)\n",
+    ),
+    (
+        b"---\na:  1 \n",
+        1,
+        b"f.yaml:2:4: [error] too many spaces after colon (colons)\nf.yaml:2:6: [error] trailing spaces (trailing-spaces)\n",
+    ),
+    (
+        b"---\r\na: 1\r\n",
+        1,
+        b"f.yaml:1:4: [error] wrong new line character: expected \\n (new-lines)\n",
+    ),
+    (
+        b"---\na: |\n  # yamllint disable\n  x \n",
+        1,
+        b"f.yaml:4:4: [error] trailing spaces (trailing-spaces)\n",
+    ),
+    (
+        b"---\na: [1, 2",
+        1,
+        b"f.yaml:2:9: [error] no new line character at the end of file (new-line-at-end-of-file)\nf.yaml:2:9: [error] syntax error: comma or closing bracket expected (syntax)\n",
+    ),
+    (b"# yamllint disable-file\na: [\n", 0, b""),
+    (
+        b"---\n\"\\a\": 1\n\"\\x07\": 2\n",
+        1,
+        b"f.yaml:3:1: [error] duplication of key \"\\x07\" in mapping (key-duplicates)\n",
+    ),
+    (
+        b"\xEF\xBB\xBF--- \xC3\xA9 \n",
+        1,
+        b"f.yaml:1:6: [error] trailing spaces (trailing-spaces)\n",
+    ),
+    (
+        b"\xEF\xBB\xBF\xEF\xBB\xBF \n",
+        1,
+        b"f.yaml:1:1: [error] syntax error: character not allowed here (syntax)\nf.yaml:1:2: [error] trailing spaces (trailing-spaces)\n",
+    ),
+];
 
 #[test]
 fn lints_texts(rt: HostRuntime) -> Result<(), Fail> {
     let alloc = rt.alloc();
-    let rows: [(&[u8], u8, &[u8]); 6] = [
-        (b"", 0, b""),
-        (TEXT, 1, REPORT),
-        (
-            b"a: 1\r\nb: 2 \r\n",
-            1,
-            b"f.yaml:2:5: [error] trailing spaces (trailing-spaces)\n",
-        ),
-        (
-            b"a: 1 \rb: 2\r",
-            1,
-            b"f.yaml:1:5: [error] trailing spaces (trailing-spaces)\n",
-        ),
-        (
-            b"\xEF\xBB\xBFa: \xC3\xA9 ",
-            1,
-            b"f.yaml:1:5: [error] trailing spaces (trailing-spaces)\n",
-        ),
-        (
-            b"\xEF\xBB\xBF\xEF\xBB\xBF ",
-            1,
-            b"f.yaml:1:2: [error] trailing spaces (trailing-spaces)\n",
-        ),
-    ];
-    for (text, code, report) in rows {
+    for (text, code, report) in TEXTS {
         for most in 1..5 {
-            let mut input = Watched::new(make_source(text, most, 0));
-            let mut out = Watched::new(make_sink(alloc, most, 1000, true));
-            let answer = lint(
-                alloc,
-                "f.yaml",
-                &Config::standard(),
-                PLAIN,
-                &mut input,
-                &mut out,
-            );
-            assert!(rt; answer == Ok(code));
-            assert!(rt; out.into_inner().bytes.as_slice() == report);
+            let ran = run(alloc, alloc, make_source(text, most, 0), most, 1000, true);
+            assert_eq!(rt; ran.answer, Ok(code));
+            assert_eq!(rt; ran.out.as_slice(), report);
         }
     }
     Ok(())
 }
 
+// A line of so many pieces, and its end.
+fn long_line(alloc: Global, count: usize, piece: &[u8], end: &[u8]) -> Result<Vec<u8>, AllocError> {
+    let mut text = Vec::from_slice(alloc, b"---\n")?;
+    for _ in 0..count {
+        text.extend_from_slice(piece)?;
+    }
+    text.extend_from_slice(end)?;
+    Ok(text)
+}
+
+// One word may be long.
 #[test]
 fn lints_long_lines(rt: HostRuntime) -> Result<(), Fail> {
     let alloc = rt.alloc();
-    let mut text = Vec::new(alloc);
-    for _ in 0..41 {
-        text.extend_from_slice(b"\xC3\xA9 ")?;
+    let rows: [(&[u8], usize, &[u8], &[u8]); 2] = [
+        (
+            b"\xC3\xA9 ",
+            41,
+            b"x\n",
+            b"f.yaml:2:81: [error] line too long (83 > 80 characters) (line-length)\n",
+        ),
+        (b"x", 81, b"\n", b""),
+    ];
+    for (piece, count, end, report) in rows {
+        let text = long_line(alloc, count, piece, end)?;
+        let ran = run(alloc, alloc, make_source(&text, 100, 0), 1000, 1000, true);
+        assert_eq!(rt; ran.out.as_slice(), report);
     }
-    text.extend_from_slice(b"x\n")?;
-    let mut input = Watched::new(make_source(text.as_slice(), 100, 0));
-    let mut out = Watched::new(make_sink(alloc, 1000, 1000, true));
-    let answer = lint(alloc, "-", &Config::standard(), PLAIN, &mut input, &mut out);
-    assert!(rt; answer == Ok(1));
-    let report: &[u8] = b"-:1:81: [error] line too long (83 > 80 characters) (line-length)\n";
-    assert!(rt; out.into_inner().bytes.as_slice() == report);
-    Ok(())
-}
-
-#[test]
-fn one_word_may_be_long(rt: HostRuntime) -> Result<(), Fail> {
-    let alloc = rt.alloc();
-    let mut input = Watched::new(Repeated {
-        byte: b'x',
-        left: 81,
-    });
-    let mut out = Watched::new(make_sink(alloc, 1000, 1000, true));
-    let answer = lint(alloc, "-", &Config::standard(), PLAIN, &mut input, &mut out);
-    assert!(rt; answer == Ok(0));
-    assert!(rt; out.into_inner().bytes.is_empty());
     Ok(())
 }
 
@@ -99,19 +144,10 @@ fn stops_at_each_write(rt: HostRuntime) -> Result<(), Fail> {
     let alloc = rt.alloc();
     for room in 0..REPORT.len() {
         for fails in [true, false] {
-            let mut input = Watched::new(make_source(TEXT, 100, 0));
-            let mut out = Watched::new(make_sink(alloc, 4, room, fails));
-            let answer = lint(
-                alloc,
-                "f.yaml",
-                &Config::standard(),
-                PLAIN,
-                &mut input,
-                &mut out,
-            );
-            assert!(rt; answer == Err(RunFault::Write), "after {room} bytes");
-            assert!(rt; out.failures() == 1);
-            assert!(rt; out.into_inner().bytes.as_slice() == &REPORT[..room]);
+            let ran = run(alloc, alloc, make_source(TEXT, 100, 0), 4, room, fails);
+            assert_eq!(rt; ran.answer, Err(RunFault::Write), "after {room} bytes");
+            assert_eq!(rt; ran.write_failures, 1);
+            assert_eq!(rt; ran.out.as_slice(), &REPORT[..room]);
         }
     }
     Ok(())
@@ -121,19 +157,10 @@ fn stops_at_each_write(rt: HostRuntime) -> Result<(), Fail> {
 fn stops_at_each_read(rt: HostRuntime) -> Result<(), Fail> {
     let alloc = rt.alloc();
     for fails_at in 1..15 {
-        let mut input = Watched::new(make_source(TEXT, 1, fails_at));
-        let mut out = Watched::new(make_sink(alloc, 4, 1000, true));
-        let answer = lint(
-            alloc,
-            "f.yaml",
-            &Config::standard(),
-            PLAIN,
-            &mut input,
-            &mut out,
-        );
-        assert!(rt; answer == Err(RunFault::Read), "at call {fails_at}");
-        assert!(rt; input.failures() == 1);
-        assert!(rt; out.into_inner().bytes.is_empty());
+        let ran = run(alloc, alloc, make_source(TEXT, 1, fails_at), 4, 1000, true);
+        assert_eq!(rt; ran.answer, Err(RunFault::Read), "at call {fails_at}");
+        assert_eq!(rt; ran.read_failures, 1);
+        assert_eq!(rt; ran.out.len(), 0);
     }
     Ok(())
 }
@@ -148,72 +175,47 @@ fn refuses_bytes(rt: HostRuntime) -> Result<(), Fail> {
         (b"\xEF\xBB\xBF\xED\xA0\x80", 0),
     ];
     for (bytes, valid_up_to) in rows {
-        let mut input = Watched::new(make_source(bytes, 100, 0));
-        let mut out = Watched::new(make_sink(alloc, 1000, 1000, true));
-        let answer = lint(
-            alloc,
-            "f.yaml",
-            &Config::standard(),
-            PLAIN,
-            &mut input,
-            &mut out,
-        );
-        assert!(rt; answer == Err(RunFault::Text(BadText::NotUtf8 { valid_up_to })));
+        let ran = run(alloc, alloc, make_source(bytes, 100, 0), 1000, 1000, true);
+        let fault = BadText::NotUtf8 { valid_up_to };
+        assert_eq!(rt; ran.answer, Err(RunFault::Text(fault)));
     }
     Ok(())
 }
 
+// They are no UTF-8 either: that they are too many is looked for first.
 #[test]
 fn refuses_too_many_bytes(rt: HostRuntime) -> Result<(), Fail> {
     let alloc = rt.alloc();
-    // They are no UTF-8 either: that they are too many is looked for first.
-    let mut input = Watched::new(Repeated {
+    let reader = Repeated {
         byte: 0xFF,
         left: 100_000_000,
-    });
-    let mut out = Watched::new(make_sink(alloc, 1000, 1000, true));
-    let answer = lint(
-        alloc,
-        "f.yaml",
-        &Config::standard(),
-        PLAIN,
-        &mut input,
-        &mut out,
-    );
-    assert!(rt; answer == Err(RunFault::Text(BadText::TooLarge)));
-    assert!(rt; input.into_inner().left == 100_000_000 - 67_108_868);
-    assert!(rt; out.into_inner().bytes.is_empty());
+    };
+    let ran = run(alloc, alloc, reader, 1000, 1000, true);
+    assert_eq!(rt; ran.answer, Err(RunFault::Text(BadText::TooLarge)));
+    assert_eq!(rt; ran.out.len(), 0);
     Ok(())
 }
 
-type Heap<'a> = &'a Refusing<Global>;
-
-// The first run that meets no refusal answers as one with ample memory; each before it wants memory.
+// The first run that meets no refusal answers as one with ample memory. Each before it wants memory, or was
+// refused a room that it can do without.
 #[test]
 fn refuses_each_growth(rt: HostRuntime) -> Result<(), Fail> {
     let heap = Refusing::new(rt.alloc());
+    let mut refused = 0;
     for nth in 1..u64::MAX {
-        let mut input = Watched::new(make_source(TEXT, 5, 0));
-        let mut out = Watched::new(make_sink(rt.alloc(), 1000, 1000, true));
         heap.refuse(nth);
-        let lent: Heap<'_> = &heap;
-        let answer = lint(
-            lent,
-            "f.yaml",
-            &Config::standard(),
-            PLAIN,
-            &mut input,
-            &mut out,
-        );
-        let bytes = out.into_inner().bytes;
+        let ran = run(rt.alloc(), &heap, make_source(TEXT, 5, 0), 1000, 1000, true);
+        if ran.answer == Err(RunFault::Memory) {
+            refused = nth;
+            assert_eq!(rt; ran.out.len(), 0);
+            continue;
+        }
+        assert_eq!(rt; ran.answer, Ok(1), "the {nth}th growth");
+        assert_eq!(rt; ran.out.as_slice(), REPORT);
         if heap.is_armed() {
-            assert!(rt; nth > 3);
-            assert!(rt; answer == Ok(1));
-            assert!(rt; bytes.as_slice() == REPORT);
+            assert!(rt; refused > 20, "{refused} growths");
             return Ok(());
         }
-        assert!(rt; answer == Err(RunFault::Memory), "the {nth}th growth");
-        assert!(rt; bytes.is_empty());
     }
     Ok(())
 }

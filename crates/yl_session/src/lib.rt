@@ -2,9 +2,7 @@
 #![tactic(auto)]
 
 mod replaying;
-mod report;
 mod session;
 
 pub use replaying::{Edit, replay};
-pub use report::{report_of, report_of_text};
 pub use session::{Session, Work, one_state};

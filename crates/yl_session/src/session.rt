@@ -8,12 +8,13 @@ ghost use Rattle.yl_text.specs.Edit.{CanEdit, edited_text, incoming_lines};
 ghost use Rattle.yl_session.specs.State.{OneState};
 ghost use Rattle.yl_session.specs.Runs.{IsNothing};
 
-use crate::report::report_of;
 use std::alloc::{AllocError, Allocator};
 use std::marker::Model;
 use yl_config::Config;
+use yl_lexeme::Meter;
+use yl_lint::report_of_lines;
 use yl_report::{Problem, status};
-use yl_text::{LineStore, Patched, Row, TextFault, split};
+use yl_text::{LineStore, Patched, Row, TextFault, rows_fit, split};
 
 /// What an edit took: how many rows were turned into lexemes, and of how many documents events were
 /// derived.
@@ -35,7 +36,7 @@ pub struct Session<S: LineStore> {
 impl<S: LineStore> Model for Session<S> {
     ghost use Rattle.std.specs.Prelude.{◌≡◌};
     ghost use Rattle.yl_session.specs.State.{SessionValue};
-    ghost use Rattle.yl_session.specs.TextReport.{report};
+    ghost use Rattle.yl_lint.specs.TextReport.{report};
     ghost use Rattle.yl_text.specs.Store.{AreLines};
 
     ghost Value = { SessionValue };
@@ -47,7 +48,7 @@ impl<S: LineStore> Model for Session<S> {
 
 impl<S: LineStore> Session<S> {
     ghost use Rattle.yl_session.specs.State.{Shows};
-    ghost use Rattle.yl_session.specs.TextReport.{report};
+    ghost use Rattle.yl_lint.specs.TextReport.{report};
     ghost use Rattle.yl_report.specs.Report.{status_of};
     ghost use Rattle.yl_session.specs.Runs.{IsAnswer, no_work};
 
@@ -60,7 +61,8 @@ impl<S: LineStore> Session<S> {
         let Ok(store) = S::from_rows(&mut rows) else {
             return Err(TextFault::Memory);
         };
-        let Ok(problems) = report_of(alloc, &config, &store) else {
+        rows_fit(&store);
+        let Ok(problems) = report_of_lines(alloc, &config, &store, &mut Meter::new()) else {
             return Err(TextFault::Memory);
         };
         Ok(Session {
@@ -108,7 +110,7 @@ impl<S: LineStore> Session<S> {
         a: usize,
         b: usize,
         rows: &mut Vec<Row<S::Alloc>, S::Alloc>,
-    ) -> Result<(), AllocError>
+    ) -> Result<Work, AllocError>
         requires range { IsRange a b (length self.old.rows) }
         requires lines { AreLines (splice self.old.rows a b rows.old.items) }
         ensures config { self.new.config ≡ self.old.config }
@@ -116,17 +118,22 @@ impl<S: LineStore> Session<S> {
         ensures problems { OnOk result (self.new.problems ≡ report self.new.config self.new.rows) }
         ensures err { OnErr result (self.new ≡ self.old) }
     {
+        let mut meter = Meter::new();
         let problems = {
             let patched = Patched::new(&self.store, a, b, rows.as_slice());
-            report_of(self.alloc, &self.config, &patched)?
+            rows_fit(&patched);
+            report_of_lines(self.alloc, &self.config, &patched, &mut meter)?
         };
         self.store.splice(a, b, rows)?;
         self.problems = problems;
-        Ok(())
+        Ok(Work {
+            scanned: meter.lines,
+            documents: meter.documents,
+        })
     }
 
     /// Puts the bytes in place of the lines a to b, where that is no fault.
-    fn put(&mut self, a: usize, b: usize, bytes: &[u8]) -> Result<(), AllocError>
+    fn put(&mut self, a: usize, b: usize, bytes: &[u8]) -> Result<Work, AllocError>
         requires { CanEdit self.old.rows a b bytes.now }
         ensures ok { OnOk result (Shows self.old.config (edited_text self.old.rows a b bytes.now) self.new) }
         ensures err { OnErr result (self.new ≡ self.old) }
@@ -157,19 +164,9 @@ impl<S: LineStore> Session<S> {
             });
         }
         match self.put(a, b, bytes) {
-            Ok(()) => Ok(Work {
-                scanned: self.lines(),
-                documents: 0,
-            }),
+            Ok(work) => Ok(work),
             Err(AllocError) => Err(TextFault::Memory),
         }
-    }
-
-    /// How many lines the text has, which is no more than its bytes and one.
-    fn lines(&self) -> u32
-        ensures { result ≡ length self.now.rows }
-    {
-        self.len() as u32
     }
 }
 

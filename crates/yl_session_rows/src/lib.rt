@@ -4,4 +4,6 @@
 #[cfg(test)]
 mod rows;
 #[cfg(test)]
+mod seams;
+#[cfg(test)]
 mod shown;

@@ -1,6 +1,6 @@
 //! Sessions with ample memory: what edits are answered, and what is shown then.
-use crate::shown::{has_lines, stand_at};
-use std::alloc::Global;
+use crate::shown::{lines_shown, name_of, report_shown};
+use std::alloc::{AllocError, Global};
 use std::test::Fail;
 use yl_config::Config;
 use yl_session::{Edit, Session, Work, replay};
@@ -12,23 +12,85 @@ fn opened(alloc: Global, text: &[u8]) -> Result<Plain, TextFault> {
     Session::open(alloc, Config::standard(), text)
 }
 
-// Edits, one after another: the lines, the bytes, the lines then, and where problems stand then.
-const STEPS: [(u64, u64, &[u8], &[&str], &[(u64, u64)]); 3] = [
-    (1, 2, b"b \nc\n", &["a ", "b ", "c", ""], &[(1, 2), (2, 2)]),
-    (0, 1, b"", &["b ", "c", ""], &[(1, 2)]),
-    (0, 1, b"b\n", &["b", "c", ""], &[]),
+// An edit: these bytes in place of the lines from the first to the second number on.
+type Change = (u64, u64, &'static [u8]);
+
+// Makes the edits, and shows the report of the text before them and after each, or why one was refused.
+fn transcript(alloc: Global, text: &[u8], changes: &[Change]) -> Result<String, Fail> {
+    let mut session = opened(alloc, text)?;
+    let mut shown = report_shown(alloc, session.problems())?;
+    for (a, b, bytes) in changes {
+        let name = match session.edit(*a, *b, bytes) {
+            Ok(_) => "edited",
+            Err(fault) => name_of(fault),
+        };
+        let report = report_shown(alloc, session.problems())?;
+        let piece = format!(in alloc; "-- {name}\n{report}")?;
+        shown.push_str(piece.as_str())?;
+    }
+    Ok(shown)
+}
+
+// A text, edits, and what is shown.
+const EDITED: [(&str, &[Change], &str); 9] = [
+    // A plain scalar goes on into a new line.
+    ("---\n- a\n- b\n", &[(2, 3, b"  b\n")], "-- edited\n"),
+    // A quote is opened, and closed again.
+    (
+        "---\na: 1\nb: 2\n",
+        &[(1, 2, b"a: 'x\n"), (1, 2, b"a: 1\n")],
+        "-- edited\n2:4 syntax error: quoted scalar is not closed\n-- edited\n",
+    ),
+    // A bracket is closed a line earlier.
+    (
+        "---\na: [\n  1,\n  2\n]\nb: 3\n",
+        &[(3, 4, b"  2]\n")],
+        "-- edited\n5:1 syntax error: bracket without partner\n",
+    ),
+    // The width is taken anew.
+    (
+        "---\na:\n    b: 1\nc:\n  d: 1\n",
+        &[(2, 3, b"  b: 1\n")],
+        "5:3 wrong indentation: expected 4 but found 2\n-- edited\n",
+    ),
+    // A comment that silences a rule goes.
+    (
+        "---\n# yamllint disable rule:colons\na:  1\n",
+        &[(1, 2, b"")],
+        "-- edited\n2:4 too many spaces after colon\n",
+    ),
+    // Refused edits leave the report.
+    (
+        "---\na: 1\rb:  2\n",
+        &[(2, 3, b"\n"), (0, 1, b"x")],
+        "3:4 too many spaces after colon\n-- JoinedBreak\n3:4 too many spaces after colon\n-- OpenEnd\n3:4 too many spaces after colon\n",
+    ),
+    // An anchor counts in its document alone.
+    (
+        "---\na: &x 1\n---\nb: *x\n",
+        &[(2, 3, b"")],
+        "4:4 found undeclared alias \"x\"\n-- edited\n",
+    ),
+    // Rows that a text loses, and gets again.
+    (
+        "---\na: 1\n",
+        &[(0, 3, b""), (0, 1, b"---\nb: 2 \n")],
+        "-- edited\n-- edited\n2:5 trailing spaces\n",
+    ),
+    // Lines behind an edit are counted anew.
+    (
+        "---\na: 1\nb: 2\nc:  3\n",
+        &[(1, 2, b"a: 1\nz: 0\n"), (1, 3, b"")],
+        "4:4 too many spaces after colon\n-- edited\n5:4 too many spaces after colon\n-- edited\n3:4 too many spaces after colon\n",
+    ),
 ];
 
 #[test]
 fn edits_renew_the_report(rt: HostRuntime) -> Result<(), Fail> {
-    let mut session = opened(rt.alloc(), b"a \nb\n")?;
-    assert_eq!(rt; session.status(false), 1);
-    for (a, b, bytes, lines, places) in STEPS {
-        assert!(rt; session.edit(a, b, bytes).is_ok(), "lines {a} to {b}");
-        assert!(rt; has_lines(&session, lines), "lines {a} to {b}");
-        assert!(rt; stand_at(session.problems(), places), "lines {a} to {b}");
+    for (text, changes, wanted) in EDITED {
+        let shown = transcript(rt.alloc(), text.as_bytes(), changes)?;
+        assert_eq!(rt; shown.as_str(), wanted, "{text:?}");
     }
-    assert_eq!(rt; session.status(true), 0);
     Ok(())
 }
 
@@ -48,12 +110,17 @@ const REFUSED: [(u64, u64, &[u8], TextFault); 10] = [
 
 #[test]
 fn a_refused_edit_changes_nothing(rt: HostRuntime) -> Result<(), Fail> {
-    let mut session = opened(rt.alloc(), b"---\na: 1\rb: 2 \n")?;
+    let alloc = rt.alloc();
+    let mut session = opened(alloc, b"---\na: 1\rb: 2 \n")?;
+    let report = report_shown(alloc, session.problems())?;
     for (a, b, bytes, fault) in REFUSED {
         assert_eq!(rt; session.edit(a, b, bytes), Err(fault), "lines {a} to {b}");
     }
-    assert!(rt; has_lines(&session, &["---", "a: 1", "b: 2 ", ""]));
-    assert!(rt; stand_at(session.problems(), &[(3, 5)]));
+    assert_eq!(rt; lines_shown(alloc, &session)?.as_str(), "---|a: 1|b: 2 ||");
+    assert_eq!(rt;
+        report_shown(alloc, session.problems())?.as_str(),
+        report.as_str()
+    );
     Ok(())
 }
 
@@ -67,7 +134,7 @@ fn an_edit_of_nothing_is_no_work(rt: HostRuntime) -> Result<(), Fail> {
         };
         assert_eq!(rt; session.edit(line, line, b""), Ok(nothing), "line {line}");
     }
-    assert!(rt; has_lines(&session, &["a", " ", "b"]));
+    assert_eq!(rt; lines_shown(rt.alloc(), &session)?.as_str(), "a| |b|");
     Ok(())
 }
 
@@ -98,53 +165,7 @@ fn what_is_too_large_is_refused(rt: HostRuntime) -> Result<(), Fail> {
     Ok(())
 }
 
-// What comes in: nothing, x with each break, each break alone.
-const PIECES: [&[u8]; 7] = [b"", b"x\n", b"x\r", b"x\r\n", b"\n", b"\r", b"\r\n"];
-
-// A text, how far lines are replaced from the second on, and for each piece how many lines there are
-// then, or J for a break that would be joined.
-const SEAMS: [(&str, u64, &[u8]); 18] = [
-    ("a\nc", 1, b"2333333"),
-    ("a\n\nc", 1, b"34J44J4"),
-    ("a\n\r\nc", 1, b"3444444"),
-    ("a\rc", 1, b"2333J33"),
-    ("a\r\nc", 1, b"2333333"),
-    ("a\r\rc", 1, b"3444J44"),
-    ("a\r\r\nc", 1, b"3444J44"),
-    ("a\nb\nc", 2, b"2333333"),
-    ("a\nb\n\nc", 2, b"34J44J4"),
-    ("a\nb\r\n\rc", 2, b"3444444"),
-    ("a\rb\nc", 2, b"2333J33"),
-    ("a\rb\n\nc", 2, b"J4J4JJ4"),
-    ("a\rb\n\rc", 2, b"3444J44"),
-    ("a\rb\r\n\nc", 2, b"J4J4JJ4"),
-    ("a\rb\r\r\nc", 2, b"3444J44"),
-    ("a\r\nb\nc", 2, b"2333333"),
-    ("a\r\nb\n\nc", 2, b"34J44J4"),
-    ("a\r\nb\r\n\r\nc", 2, b"3444444"),
-];
-
-// How many lines there are after the edit, as a digit, or J.
-fn outcome(alloc: Global, text: &str, b: u64, piece: &[u8]) -> Result<u8, TextFault> {
-    let mut session = opened(alloc, text.as_bytes())?;
-    Ok(match session.edit(1, b, piece) {
-        Ok(_) => b'0' + session.len().min(9) as u8,
-        Err(TextFault::JoinedBreak) => b'J',
-        Err(_) => b'?',
-    })
-}
-
-#[test]
-fn breaks_meet_at_seams(rt: HostRuntime) -> Result<(), Fail> {
-    for (text, b, wanted) in SEAMS {
-        for (piece, want) in PIECES.iter().zip(wanted) {
-            assert_eq!(rt; outcome(rt.alloc(), text, b, piece)?, *want, "{text:?}");
-        }
-    }
-    Ok(())
-}
-
-fn edit(alloc: Global, a: u64, b: u64, bytes: &[u8]) -> Result<Edit<Global>, Fail> {
+fn edit(alloc: Global, a: u64, b: u64, bytes: &[u8]) -> Result<Edit<Global>, AllocError> {
     Ok(Edit {
         a,
         b,
@@ -168,7 +189,6 @@ fn replay_goes_on_behind_a_refused_edit(rt: HostRuntime) -> Result<(), Fail> {
     )?;
     let accepted: Vec<bool> = answers.iter().map(|answer| answer.is_ok()).collect(alloc)?;
     assert_eq!(rt; accepted.as_slice(), [true, false, true].as_slice());
-    assert!(rt; has_lines(&session, &["x ", "y", "c "]));
-    assert!(rt; stand_at(session.problems(), &[(1, 2), (3, 2)]));
+    assert_eq!(rt; lines_shown(alloc, &session)?.as_str(), "x |y|c |");
     Ok(())
 }

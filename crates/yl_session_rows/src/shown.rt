@@ -1,25 +1,46 @@
-//! What a session shows, compared with what is wanted.
-use std::alloc::Allocator;
+//! What a session shows, as text.
+use std::alloc::{AllocError, Allocator, Global};
 use yl_report::Problem;
 use yl_session::Session;
-use yl_text::LineStore;
+use yl_text::{LineStore, TextFault};
 
-/// Whether the session has these lines.
-pub fn has_lines<S: LineStore>(session: &Session<S>, lines: &[&str]) -> bool {
-    if session.len() != lines.len() {
-        return false;
+/// The problems, a line each: line, column, message.
+pub fn report_shown<A: Allocator>(
+    alloc: Global,
+    problems: &[Problem<A>],
+) -> Result<String, AllocError> {
+    let mut text = String::new(alloc);
+    for problem in problems {
+        let line = problem.line();
+        let column = problem.column();
+        let message = problem.message();
+        let piece = format!(in alloc; "{line}:{column} {message}\n")?;
+        text.push_str(piece.as_str())?;
     }
-    for (i, line) in lines.iter().enumerate() {
-        if session.line(i) != *line {
-            return false;
-        }
-    }
-    true
+    Ok(text)
 }
 
-/// Whether the problems stand at these places, counted from 1, in this order.
-pub fn stand_at<A: Allocator>(problems: &[Problem<A>], places: &[(u64, u64)]) -> bool {
-    problems.len() == places.len()
-        && problems.iter().zip(places).all(|(problem, place)| problem.line() == place.0
-            && problem.column() == place.1)
+/// The lines, a bar after each.
+pub fn lines_shown<S: LineStore>(
+    alloc: Global,
+    session: &Session<S>,
+) -> Result<String, AllocError> {
+    let mut text = String::new(alloc);
+    for i in 0..session.len() {
+        text.push_str(session.line(i))?;
+        text.push_str("|")?;
+    }
+    Ok(text)
+}
+
+/// What a fault of an edit is called.
+pub fn name_of(fault: TextFault) -> &'static str {
+    match fault {
+        TextFault::NotUtf8 { valid_up_to: _ } => "NotUtf8",
+        TextFault::Range => "Range",
+        TextFault::OpenEnd => "OpenEnd",
+        TextFault::JoinedBreak => "JoinedBreak",
+        TextFault::TooLarge => "TooLarge",
+        TextFault::Memory => "Memory",
+    }
 }

@@ -22,22 +22,30 @@ fn opened<'a>(heap: Heap<'a>) -> Result<Plain<'a>, TextFault> {
 #[test]
 fn each_growth_of_open(rt: HostRuntime) -> Result<(), Fail> {
     let heap = Refusing::new(rt.alloc());
+    let whole = opened(&heap)?;
+    let mut refused = 0;
     for n in 1..u64::MAX {
         heap.refuse(n);
         let answer = opened(&heap);
-        if heap.is_armed() {
-            heap.refuse(0);
-            assert!(rt; show_same(&answer?, &opened(&heap)?));
-            assert!(rt; n > 4, "{n} growths");
+        let is_met = !heap.is_armed();
+        heap.refuse(0);
+        match answer {
+            Err(fault) => {
+                assert_eq!(rt; fault, TextFault::Memory);
+                refused = n;
+            }
+            Ok(session) => assert!(rt; show_same(&session, &whole)),
+        }
+        if !is_met {
+            assert!(rt; refused > 20, "{refused} growths");
             return Ok(());
         }
-        assert_eq!(rt; answer.err(), Some(TextFault::Memory));
     }
     Ok(())
 }
 
 // After a refused growth all that is shown is as before, and the edit asked again is answered as in a
-// session that met no refusal.
+// session that met no refusal. A refused room that an edit can do without changes nothing of its answer.
 #[test]
 fn each_growth_of_an_edit(rt: HostRuntime) -> Result<(), Fail> {
     let heap = Refusing::new(rt.alloc());
@@ -45,21 +53,25 @@ fn each_growth_of_an_edit(rt: HostRuntime) -> Result<(), Fail> {
     let mut after = opened(&heap)?;
     let wanted = after.edit(1, 2, PIECE);
     assert!(rt; wanted.is_ok());
+    let mut refused = 0;
     for n in 1..u64::MAX {
         let mut session = opened(&heap)?;
         heap.refuse(n);
         let answer = session.edit(1, 2, PIECE);
-        if heap.is_armed() {
-            heap.refuse(0);
+        let is_met = !heap.is_armed();
+        heap.refuse(0);
+        if answer == Err(TextFault::Memory) {
+            refused = n;
+            assert!(rt; show_same(&session, &before), "the {n}th growth");
+            assert_eq!(rt; session.edit(1, 2, PIECE), wanted);
+        } else {
             assert_eq!(rt; answer, wanted);
-            assert!(rt; show_same(&session, &after));
-            assert!(rt; n > 4, "{n} growths");
+        }
+        assert!(rt; show_same(&session, &after), "the {n}th growth");
+        if !is_met {
+            assert!(rt; refused > 20, "{refused} growths");
             return Ok(());
         }
-        assert_eq!(rt; answer, Err(TextFault::Memory));
-        assert!(rt; show_same(&session, &before), "the {n}th growth");
-        assert_eq!(rt; session.edit(1, 2, PIECE), wanted);
-        assert!(rt; show_same(&session, &after), "the {n}th growth");
     }
     Ok(())
 }
@@ -117,12 +129,12 @@ fn each_growth_of_a_replay(rt: HostRuntime) -> Result<(), Fail> {
         if is_last {
             assert!(rt; first && third);
             assert!(rt;
-                as_a_whole > 4 && n > as_a_whole.saturating_add(6),
+                as_a_whole > 20 && n > as_a_whole.saturating_add(40),
                 "{as_a_whole}, {n}"
             );
             return Ok(());
         }
-        assert!(rt; first != third, "the {n}th growth");
+        assert!(rt; first || third, "the {n}th growth");
     }
     Ok(())
 }

@@ -1,0 +1,22 @@
+use Rattle.std.proofs.Common.{◌≡◌, ◌≤◌, ℕ, List, length, refl, subst, sym}
+use Rattle.yl_text.specs.declared.TheConstants.{MAX_BYTES}
+use Rattle.yl_text.specs.Fault.{IsText}
+use Rattle.yl_text.specs.Lines.{RowValue, IsLines, text_of}
+use Rattle.yl_text.specs.Store.{AreLines}
+use Rattle.yl_session.proofs.session.Session.open.Goals as goal
+
+-- rows that are the lines of a text
+are_lines : (t : List ℕ) (rows stored : List RowValue) → stored ≡ rows → IsLines t rows → IsText t → AreLines stored
+are_lines t rows stored same lines text =
+    let P : List ℕ → Type 0 = λ u. IsLines u rows in
+    let S : List ℕ → Type 0 = λ u. length u ≤ MAX_BYTES in
+    subst AreLines (sym same) (record { lines = subst P (sym lines.joined) lines; short = subst S (sym lines.joined) text.short })
+
+pub invariant_of-result : goal.invariant_of-result
+invariant_of-result g c =
+    (are_lines c.args.bytes.now c.in_ok-rows.rows.items (g.S.Lines.rows c.in-Ok.store) c.in-Ok.ensures.ok c.in_ok-rows.ensures.lines c.in_ok-rows.ensures.text, c.in-Ok-report_of_lines.ensures.report)
+
+pub returns-clause-shown : goal.returns-clause-shown
+returns-clause-shown g c =
+    let P : List RowValue → Type 0 = λ rows. IsLines c.args.bytes.now rows in
+    record { config = refl; lines = subst P (sym c.in-Ok.ensures.ok) c.in_ok-rows.ensures.lines; problems = c.in-Ok-report_of_lines.ensures.report }
