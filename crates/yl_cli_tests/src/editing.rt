@@ -226,3 +226,18 @@ fn tells_the_work(rt: HostRuntime) -> Result<(), Fail> {
     );
     Ok(())
 }
+
+// 10,000 lines, one of which is edited.
+#[test]
+fn edits_a_long_text(rt: HostRuntime) -> Result<(), Fail> {
+    let alloc = rt.alloc();
+    let mut text = Vec::from_slice(alloc, b"---\n")?;
+    for n in 10_000..20_000u32 {
+        let line = format!(in alloc; "k{n}: v\n")?;
+        text.extend_from_slice(line.as_bytes())?;
+    }
+    let ran = run(alloc, text.as_slice(), b"replace 5000 1 5\nz: v\n", 100, 0);
+    assert_eq!(rt; ran.answer, Ok(0));
+    assert_eq!(rt; ran.out.as_slice(), b"-- ok 0\n-- ok 0\n".as_slice());
+    Ok(())
+}

@@ -49,7 +49,7 @@ fn run<A: Allocator + Copy, R: Read + Drop>(
 }
 
 // A text, its status, and its report.
-const TEXTS: [(&[u8], u8, &[u8]); 11] = [
+const TEXTS: [(&[u8], u8, &[u8]); 16] = [
     (b"", 0, b""),
     (TEXT, 1, REPORT),
     (
@@ -92,6 +92,27 @@ const TEXTS: [(&[u8], u8, &[u8]); 11] = [
         b"\xEF\xBB\xBF\xEF\xBB\xBF \n",
         1,
         b"f.yaml:1:1: [error] syntax error: character not allowed here (syntax)\nf.yaml:1:2: [error] trailing spaces (trailing-spaces)\n",
+    ),
+    (
+        b"---\nk: 1\nk: 2\nk: 3\n",
+        1,
+        b"f.yaml:3:1: [error] duplication of key \"k\" in mapping (key-duplicates)\nf.yaml:4:1: [error] duplication of key \"k\" in mapping (key-duplicates)\n",
+    ),
+    (
+        b"---\na:\n- 1\n",
+        1,
+        b"f.yaml:3:1: [error] wrong indentation: expected at least 1 (indentation)\n",
+    ),
+    (
+        b"---\n\"a\":1\n",
+        1,
+        b"f.yaml:2:4: [error] syntax error: second node (syntax)\n",
+    ),
+    (b"---\n{\"a\":1}\n", 0, b""),
+    (
+        b"---\nyes: \"no\"\nb: !!str yes\nc: [on, off]\n",
+        0,
+        b"f.yaml:2:1: [warning] truthy value should be one of [false, true] (truthy)\nf.yaml:4:5: [warning] truthy value should be one of [false, true] (truthy)\nf.yaml:4:9: [warning] truthy value should be one of [false, true] (truthy)\n",
     ),
 ];
 
