@@ -29,6 +29,7 @@ struct Ran {
 
 // A run whose writer takes at most `most` bytes a call and `room` in all, and then fails or takes none.
 fn run<A: Allocator + Copy, R: Read + Drop>(
+    config: &Config,
     global: Global,
     alloc: A,
     reader: R,
@@ -38,8 +39,7 @@ fn run<A: Allocator + Copy, R: Read + Drop>(
 ) -> Ran {
     let mut input = Watched::new(reader);
     let mut out = Watched::new(make_sink(global, most, room, fails));
-    let config = Config::standard();
-    let answer = lint(alloc, "f.yaml", &config, PLAIN, &mut input, &mut out);
+    let answer = lint(alloc, "f.yaml", config, PLAIN, &mut input, &mut out);
     Ran {
         answer,
         read_failures: input.failures(),
@@ -121,7 +121,15 @@ fn lints_texts(rt: HostRuntime) -> Result<(), Fail> {
     let alloc = rt.alloc();
     for (text, code, report) in TEXTS {
         for most in 1..5 {
-            let ran = run(alloc, alloc, make_source(text, most, 0), most, 1000, true);
+            let ran = run(
+                &Config::standard(),
+                alloc,
+                alloc,
+                make_source(text, most, 0),
+                most,
+                1000,
+                true,
+            );
             assert_eq!(rt; ran.answer, Ok(code));
             assert_eq!(rt; ran.out.as_slice(), report);
         }
@@ -154,7 +162,45 @@ fn lints_long_lines(rt: HostRuntime) -> Result<(), Fail> {
     ];
     for (piece, count, end, report) in rows {
         let text = long_line(alloc, count, piece, end)?;
-        let ran = run(alloc, alloc, make_source(&text, 100, 0), 1000, 1000, true);
+        let ran = run(
+            &Config::standard(),
+            alloc,
+            alloc,
+            make_source(&text, 100, 0),
+            1000,
+            1000,
+            true,
+        );
+        assert_eq!(rt; ran.out.as_slice(), report);
+    }
+    Ok(())
+}
+
+// A key may begin 1024 characters before its colon, and no more.
+#[test]
+fn lints_long_keys(rt: HostRuntime) -> Result<(), Fail> {
+    let alloc = rt.alloc();
+    let rows: [(usize, &[u8]); 2] = [
+        (1024, b""),
+        (
+            1025,
+            b"f.yaml:2:1026: [error] syntax error: mapping value not allowed here (syntax)\n",
+        ),
+    ];
+    let config = Config::read(alloc, b"rules: {}");
+    assert!(rt; config.is_ok());
+    let config = config.unwrap_or(Config::standard());
+    for (count, report) in rows {
+        let text = long_line(alloc, count, b"k", b": 1\n")?;
+        let ran = run(
+            &config,
+            alloc,
+            alloc,
+            make_source(&text, 100, 0),
+            1000,
+            1000,
+            true,
+        );
         assert_eq!(rt; ran.out.as_slice(), report);
     }
     Ok(())
@@ -165,7 +211,15 @@ fn stops_at_each_write(rt: HostRuntime) -> Result<(), Fail> {
     let alloc = rt.alloc();
     for room in 0..REPORT.len() {
         for fails in [true, false] {
-            let ran = run(alloc, alloc, make_source(TEXT, 100, 0), 4, room, fails);
+            let ran = run(
+                &Config::standard(),
+                alloc,
+                alloc,
+                make_source(TEXT, 100, 0),
+                4,
+                room,
+                fails,
+            );
             assert_eq!(rt; ran.answer, Err(RunFault::Write), "after {room} bytes");
             assert_eq!(rt; ran.write_failures, 1);
             assert_eq!(rt; ran.out.as_slice(), &REPORT[..room]);
@@ -178,7 +232,15 @@ fn stops_at_each_write(rt: HostRuntime) -> Result<(), Fail> {
 fn stops_at_each_read(rt: HostRuntime) -> Result<(), Fail> {
     let alloc = rt.alloc();
     for fails_at in 1..15 {
-        let ran = run(alloc, alloc, make_source(TEXT, 1, fails_at), 4, 1000, true);
+        let ran = run(
+            &Config::standard(),
+            alloc,
+            alloc,
+            make_source(TEXT, 1, fails_at),
+            4,
+            1000,
+            true,
+        );
         assert_eq!(rt; ran.answer, Err(RunFault::Read), "at call {fails_at}");
         assert_eq!(rt; ran.read_failures, 1);
         assert_eq!(rt; ran.out.len(), 0);
@@ -196,7 +258,15 @@ fn refuses_bytes(rt: HostRuntime) -> Result<(), Fail> {
         (b"\xEF\xBB\xBF\xED\xA0\x80", 0),
     ];
     for (bytes, valid_up_to) in rows {
-        let ran = run(alloc, alloc, make_source(bytes, 100, 0), 1000, 1000, true);
+        let ran = run(
+            &Config::standard(),
+            alloc,
+            alloc,
+            make_source(bytes, 100, 0),
+            1000,
+            1000,
+            true,
+        );
         let fault = BadText::NotUtf8 { valid_up_to };
         assert_eq!(rt; ran.answer, Err(RunFault::Text(fault)));
     }
@@ -211,7 +281,7 @@ fn refuses_too_many_bytes(rt: HostRuntime) -> Result<(), Fail> {
         byte: 0xFF,
         left: 100_000_000,
     };
-    let ran = run(alloc, alloc, reader, 1000, 1000, true);
+    let ran = run(&Config::standard(), alloc, alloc, reader, 1000, 1000, true);
     assert_eq!(rt; ran.answer, Err(RunFault::Text(BadText::TooLarge)));
     assert_eq!(rt; ran.out.len(), 0);
     Ok(())
@@ -225,7 +295,15 @@ fn refuses_each_growth(rt: HostRuntime) -> Result<(), Fail> {
     let mut refused = 0;
     for nth in 1..u64::MAX {
         heap.refuse(nth);
-        let ran = run(rt.alloc(), &heap, make_source(TEXT, 5, 0), 1000, 1000, true);
+        let ran = run(
+            &Config::standard(),
+            rt.alloc(),
+            &heap,
+            make_source(TEXT, 5, 0),
+            1000,
+            1000,
+            true,
+        );
         if ran.answer == Err(RunFault::Memory) {
             refused = nth;
             assert_eq!(rt; ran.out.len(), 0);
