@@ -6,7 +6,8 @@ small documents as Kubernetes has them, CI files, flow as JSON has it, comments,
 mappings; and one document of short lines. For each, our program prints its report to /dev/null, and a C program over libyaml
 (`parse.c`, built by gcc -O2; Debian's package is libyaml-dev) reads all events of the same file and drops them. They run in turns,
 each in a fresh process, and the least of five times counts, the processor's time of program and system. Where PYTHON_YAMLLINT is
-given (the path of Debian's `yamllint`), it runs once over the first 200 kB. Memory is the peak of the process itself."""
+given (the path of Debian's `yamllint`), it runs once over the first 200 kB. Memory is the peak of the process, and at least this
+script's own, some 15 MiB, since a process begins as a copy of it."""
 
 import os
 import subprocess
