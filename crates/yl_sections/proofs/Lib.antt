@@ -4,6 +4,7 @@ pub mod Rows
 pub mod Assembled
 pub mod Sequence
 pub mod Local
+pub mod Last
 pub mod Fronts
 pub mod Stateless
 mod Examples

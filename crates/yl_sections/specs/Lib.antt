@@ -3,4 +3,5 @@ pub mod Kept
 pub mod Judge
 pub mod Owned
 pub mod Local
+pub mod Last
 pub mod Laws

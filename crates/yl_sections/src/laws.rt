@@ -1,4 +1,5 @@
 //! What the definitions say of each section. No function here calls anything.
+ghost use Rattle.yl_sections.specs.Last.{LastLaw, StoppedLaw};
 ghost use Rattle.yl_sections.specs.Local.{SectionsAreLocal, SectionsAreRows};
 ghost use Rattle.yl_sections.specs.Laws.{FirstSection, KeptIsComputed, OneKept};
 
@@ -17,4 +18,10 @@ pub fn first_section()
 pub fn sections_are_local()
     ensures rows { SectionsAreRows }
     ensures local { SectionsAreLocal }
+{}
+
+/// The state of a sound row says of which kind the last lexeme above it is, or that no lexeme follows.
+pub fn states_tell_kinds()
+    ensures last { LastLaw }
+    ensures stopped { StoppedLaw }
 {}

@@ -16,5 +16,5 @@ mod sections;
 pub use fault::SectionFault;
 pub use judging::{judge, judge_all, judge_whole};
 pub use kept::{Kept, KeptComment};
-pub use laws::{first_section, one_kept, sections_are_local};
+pub use laws::{first_section, one_kept, sections_are_local, states_tell_kinds};
 pub use sections::{is_section_start, last_kind, section_len};
