@@ -1,10 +1,21 @@
 -- Bridge: how a list lies in chunks.
-use Rattle.std.specs.Prelude.{◌≡◌, ℕ, ◌+◌, ◌<◌, ◌≤◌, List, [], length, take, All, Vec, vec_capacity, slice_index}
+use Rattle.std.specs.Prelude.{◌≡◌, ℕ, ◌+◌, ◌<◌, ◌≤◌, List, [], length, take, All, Vec, vec_capacity, slice_index, Option}
 use Rattle.std.specs.List.{flat_map}
 use Rattle.yl_text.specs.Store.{IsRange}
 use Rattle.yl_chunks.specs.declared.TheConstants.{MOST}
 use Rattle.yl_chunks.specs.declared.places.Place.{Place}
 use Rattle.yl_chunks.specs.declared.places.Starts.{Starts}
+
+-- room is made to put so many items in place of those from a to b
+pub record Room : Type 0 where
+  pub a : ℕ
+  pub b : ℕ
+  pub count : ℕ
+
+-- a list, and the room that is made for an edit of it
+pub record ListValue (T : Type 0) : Type 0 where
+  pub items : List T
+  pub room : Option Room
 
 -- the items of the chunks, one chunk after another
 abbrev pub items_of : {T A : Type 0} → List (Vec T A) → List T

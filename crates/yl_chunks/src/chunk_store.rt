@@ -21,9 +21,9 @@ impl<A: Allocator> Model for ChunkStore<A> {
 
     ghost Value = { List RowValue };
 
-    ghost view = { λ s. s.rows };
+    ghost view = { λ s. s.rows.items };
 
-    ghost invariant = { λ s. AreLines s.rows × (s.bytes ≡ length (text_of s.rows)) };
+    ghost invariant = { λ s. AreLines s.rows.items × (s.bytes ≡ length (text_of s.rows.items)) };
 }
 
 impl<A: Allocator + Copy> ChunkStore<A> {

@@ -23,13 +23,14 @@ pub struct Chunks<T, A: Allocator> {
 }
 
 impl<T, A: Allocator> Model for Chunks<T, A> {
-    ghost use Rattle.std.specs.Prelude.{List};
+    ghost use Rattle.yl_chunks.specs.Chunks.{ListValue};
 
-    ghost Value = { List T };
+    ghost Value = { ListValue T };
 
+    ghost use Rattle.std.specs.Prelude.{None};
     ghost use Rattle.yl_chunks.specs.Chunks.{items_of, AreChunks};
 
-    ghost view = { λ c. items_of c.chunks.items };
+    ghost view = { λ c. record { items = items_of c.chunks.items; room = None } };
 
     ghost invariant = { λ c. AreChunks c.chunks.items c.starts };
 }
@@ -37,7 +38,7 @@ impl<T, A: Allocator> Model for Chunks<T, A> {
 impl<T: Drop, A: Allocator + Copy> Chunks<T, A> {
     /// An empty list. It takes no memory.
     pub fn new(alloc: A) -> Chunks<T, A>
-        ensures { result ≡ [] }
+        ensures { result.items ≡ [] }
     {
         Chunks {
             chunks: Vec::new(alloc),
@@ -51,7 +52,7 @@ impl<T: Drop, A: Allocator + Copy> Chunks<T, A> {
 
     /// How many items there are.
     pub fn len(&self) -> usize
-        ensures { result ≡ length self.now }
+        ensures { result ≡ length self.now.items }
     {
         self.starts.len
     }
@@ -69,8 +70,8 @@ impl<T: Drop, A: Allocator + Copy> Chunks<T, A> {
 
     /// The item at `i`, counted from 0. It takes no memory.
     pub fn get(&self, i: usize) -> &T
-        requires { i < length self.now }
-        ensures { slice_get self.now i ≡ Some result.now }
+        requires { i < length self.now.items }
+        ensures { slice_get self.now.items i ≡ Some result.now }
     {
         let j = last_start(&self.chunks, &self.starts, i);
         let start = start_of(&self.chunks, &self.starts, j);
@@ -81,11 +82,11 @@ impl<T: Drop, A: Allocator + Copy> Chunks<T, A> {
     /// included, counted from 0. On `Err` a growth was refused: nothing has changed, and the new items
     /// are where they were.
     pub fn splice(&mut self, a: usize, b: usize, new: &mut Vec<T, A>) -> Result<(), AllocError>
-        requires range { IsRange a b (length self.old) }
-        requires few { length self.old + vec_len new.old < 2 ^ 64 }
-        ensures ok { OnOk result (self.new ≡ splice self.old a b new.old.items) }
+        requires range { IsRange a b (length self.old.items) }
+        requires few { length self.old.items + vec_len new.old < 2 ^ 64 }
+        ensures ok { OnOk result (self.new.items ≡ splice self.old.items a b new.old.items) }
         ensures taken { OnOk result (new.new.items ≡ []) }
-        ensures err { OnErr result (self.new ≡ self.old) }
+        ensures err { OnErr result (self.new.items ≡ self.old.items) }
         ensures back { OnErr result (new.new.items ≡ new.old.items) }
     {
         let place = place_of(&self.chunks, &self.starts, a, b, new.len());

@@ -12,11 +12,13 @@ mod chunks;
 mod counting;
 mod cutting;
 mod places;
+mod spliced;
 mod spreading;
 mod turning;
 
 pub use chunk_store::ChunkStore;
 pub use chunks::Chunks;
+pub use spliced::Spliced;
 
 /// The most items that a chunk may have.
 pub const MOST: usize = 256;

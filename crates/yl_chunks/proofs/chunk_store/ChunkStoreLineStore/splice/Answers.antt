@@ -27,13 +27,13 @@ overflow_sub-bytes g c =
 
 pub splice-requires-clause-few : goal.splice-requires-clause-few
 splice-requires-clause-few g c =
-    omega (arith, length-lines c.self.inside.rows c.self.invariant.0.lines.ended, c.self.invariant.0.short, few c.args.self.now c.args.rows.now.items c.args.a c.args.b c.requires.lines, c.requires.lines.short, c.args.rows.now.ok.0)
+    omega (arith, length-lines c.self.inside.rows.items c.self.invariant.0.lines.ended, c.self.invariant.0.short, few c.args.self.now c.args.rows.now.items c.args.a c.args.b c.requires.lines, c.requires.lines.short, c.args.rows.now.ok.0)
 
 pub invariant_of-self-2 : goal.invariant_of-self-2
 invariant_of-self-2 g c =
     let ps = c.args.self.now in
     let ns = c.args.rows.now.items in
-    let is : c.splice.new.self ≡ splice ps c.args.a c.args.b ns = c.in_ok-splice.ensures.ok ∙ ap (λ u. splice u c.args.a c.args.b ns) c.self.view_is in (
+    let is : c.splice.new.self.items ≡ splice ps c.args.a c.args.b ns = c.in_ok-splice.ensures.ok ∙ ap (λ u. splice u c.args.a c.args.b ns) c.self.view_is in (
       subst AreLines (sym is) c.requires.lines,
       omega (arith, ap (λ u. length (text_of u)) is, spliced_bytes ps ns c.args.a c.args.b, c.bytes_between.ensures, c.bytes_of.ensures, ap (λ u. length (text_of u)) c.deref.ensures.value, c.self.invariant.1, ap (λ u. length (text_of u)) c.self.view_is, part_le row_bytes ps c.args.b),
     )
