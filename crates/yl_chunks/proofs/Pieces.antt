@@ -1,5 +1,5 @@
 -- Pieces of a list, one after another: what the first of them make, and what a change of one changes.
-use Rattle.std.proofs.Common.{◌≡◌, ℕ, ◌+◌, ◌-◌, ◌*◌, ◌/◌, ◌%◌, ◌<◌, ◌≤◌, List, [], ◌∷◌, ◌++◌, length, take, drop, set, get_or, refl, ap, sym, ◌∙◌, arith, append_assoc, rules, subst, inl, inr, All, slice_get, Some}
+use Rattle.std.proofs.Common.{◌≡◌, ℕ, ◌+◌, ◌-◌, ◌*◌, ◌/◌, ◌%◌, ◌^◌, ◌<◌, ◌≤◌, List, [], ◌∷◌, ◌++◌, length, take, drop, set, get_or, refl, ap, sym, ◌∙◌, arith, append_assoc, rules, subst, inl, inr, All, slice_get, Some}
 use Rattle.std.proofs.lemmas.List.{same_lists, places, drop-take, take_more, drop_more, append-nil, length-take, length-drop, length-append, take-append-drop, drop-drop, drop-set, take-set, length-set, take_all, take-take, get_or-take, get_or-drop, get_or_append_left, get_or_push, length-take-le, drop-set-lt, take_more_set, take-set-le}
 use Rattle.std.proofs.lemmas.Bool.{cases_lt}
 use Rattle.std.proofs.lemmas.List.Elements.{All-get_or, All-same, All-cons}
@@ -241,3 +241,7 @@ one_total f cs p len now removed added x y whole l is fewer size total =
     let old = ap (λ u. length (flat_map f u)) (take_all (length cs) cs (omega arith)) in
     let new = ap (λ u. length (flat_map f u)) (take_all (length cs) (set cs p y) (omega (arith, length-set cs p y))) in
     omega (arith, one_counted f cs p (length cs) x y l is l, piece_within f cs p (length cs) x l is l, size, total, fewer, whole, old, new)
+
+-- with as many items as that more a part of them is few enough
+pub part_few : {X T : Type 0} (f : X → List T) (cs : List X) (p q count n : ℕ) → length (flat_map f (take p cs)) + count ≡ length (flat_map f (take q cs)) → length (flat_map f cs) + n < 2 ^ 64 → count + n < 2 ^ 64
+part_few f cs p q count n is few = omega (arith, part_le f cs q, is, few)

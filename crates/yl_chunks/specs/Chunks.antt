@@ -1,10 +1,12 @@
 -- Bridge: how a list lies in chunks.
-use Rattle.std.specs.Prelude.{◌≡◌, ℕ, ◌+◌, ◌<◌, ◌≤◌, List, [], length, take, All, Vec, vec_capacity, slice_index, Option}
-use Rattle.std.specs.List.{flat_map}
+use Rattle.std.specs.Prelude.{◌≡◌, ℕ, ◌+◌, ◌-◌, ◌*◌, ◌^◌, ◌<◌, ◌≤◌, List, [], length, take, min, All, Vec, vec_len, vec_capacity, slice_get, slice_index, Option, Some, None}
+use Rattle.std.specs.List.{flat_map, splice}
 use Rattle.yl_text.specs.Store.{IsRange}
 use Rattle.yl_chunks.specs.declared.TheConstants.{MOST}
 use Rattle.yl_chunks.specs.declared.places.Place.{Place}
 use Rattle.yl_chunks.specs.declared.places.Starts.{Starts}
+use Rattle.yl_chunks.specs.declared.room.Fresh.{Fresh}
+use Rattle.yl_chunks.specs.declared.room.Prepared.{Prepared}
 
 -- room is made to put so many items in place of those from a to b
 pub record Room : Type 0 where
@@ -56,3 +58,47 @@ pub record IsPlace {T A : Type 0} (chunks : List (Vec T A)) (p : Place) : Type 0
 -- the place in the list of its chunks' item at i
 abbrev pub in_list : {T A : Type 0} → List (Vec T A) → Place → ℕ → ℕ
 in_list chunks p i = length (items_of (take p.first chunks)) + i
+
+-- the list with these items in place of those of the place
+abbrev pub put_at : {T A : Type 0} → List (Vec T A) → Place → List T → List T
+put_at chunks p new = splice (items_of chunks) (in_list chunks p p.a) (in_list chunks p p.b) new
+
+-- how many items the chunks of a place have with so many in place of its own
+abbrev pub left_with : Place → ℕ → ℕ
+left_with p count = p.count - (p.b - p.a) + count
+
+-- the one chunk of a place has room for so many items beside its own, and keeps some and not too many
+pub record HasChunk {T A : Type 0} (chunks : List (Vec T A)) (p : Place) (count : ℕ) : Type 0 where
+  pub one : p.end ≡ p.first + 1
+  pub some : 0 < left_with p count
+  pub most : left_with p count ≤ MOST
+  pub capacity : (c : Vec T A) → slice_get chunks p.first ≡ Some c → vec_len c + count ≤ vec_capacity c
+
+-- there are fresh chunks for what the chunks of a place have with so many items in place of its own, and room on the way
+pub record HasFresh {T A : Type 0} (chunks : Vec (Vec T A) A) (places : Vec ℕ A) (p : Place) (count : ℕ) (fresh : Fresh T A) : Type 0 where
+  pub empty : fresh.items.items ≡ []
+  pub items_room : p.count + count ≤ vec_capacity fresh.items
+  pub each_room : All (HasRoom (min MOST (left_with p count))) fresh.chunks.items
+  pub enough : vec_len fresh.chunks ≤ left_with p count
+  pub few : left_with p count ≤ MOST * vec_len fresh.chunks
+  pub chunks_room : vec_len chunks + vec_len fresh.chunks ≤ vec_capacity chunks
+  pub places_room : vec_len chunks + vec_len fresh.chunks ≤ vec_capacity places
+
+abbrev pub HasEither : {T A : Type 0} → Vec (Vec T A) A → Vec ℕ A → Place → ℕ → Option (Fresh T A) → Type 0
+HasEither chunks places p count None = HasChunk chunks.items p count
+HasEither chunks places p count (Some fresh) = HasFresh chunks places p count fresh
+
+-- what is prepared for these chunks is room enough
+pub record IsPrepared {T A : Type 0} (chunks : Vec (Vec T A) A) (places : Vec ℕ A) (r : Prepared T A) : Type 0 where
+  pub place : IsPlace chunks.items r.place
+  pub few : length (items_of chunks.items) + r.count < 2 ^ 64
+  pub either : HasEither chunks places r.place r.count r.fresh
+
+abbrev pub IsPreparedIfAny : {T A : Type 0} → Vec (Vec T A) A → Vec ℕ A → Option (Prepared T A) → Type 0
+IsPreparedIfAny chunks places None = Unit {0}
+IsPreparedIfAny chunks places (Some r) = IsPrepared chunks places r
+
+-- what was prepared for these chunks, as room in their list
+abbrev pub room_of : {T A : Type 0} → List (Vec T A) → Option (Prepared T A) → Option Room
+room_of chunks None = None
+room_of chunks (Some r) = Some (record { a = in_list chunks r.place r.place.a; b = in_list chunks r.place r.place.b; count = r.count })

@@ -6,6 +6,7 @@ ghost use Rattle.yl_text.specs.Store.{IsRange};
 use crate::MOST;
 use crate::counting::{last_start, place_of, start_of};
 use crate::places::Starts;
+use crate::room::{Prepared, prepare};
 use crate::spreading::put;
 use std::alloc::{AllocError, Allocator};
 use std::marker::Model;
@@ -20,6 +21,7 @@ use std::marker::Model;
 pub struct Chunks<T, A: Allocator> {
     chunks: Vec<Vec<T, A>, A>,
     starts: Starts<A>,
+    room: Option<Prepared<T, A>>,
 }
 
 impl<T, A: Allocator> Model for Chunks<T, A> {
@@ -27,12 +29,11 @@ impl<T, A: Allocator> Model for Chunks<T, A> {
 
     ghost Value = { ListValue T };
 
-    ghost use Rattle.std.specs.Prelude.{None};
-    ghost use Rattle.yl_chunks.specs.Chunks.{items_of, AreChunks};
+    ghost use Rattle.yl_chunks.specs.Chunks.{items_of, room_of, AreChunks, IsPreparedIfAny};
 
-    ghost view = { λ c. record { items = items_of c.chunks.items; room = None } };
+    ghost view = { λ c. record { items = items_of c.chunks.items; room = room_of c.chunks.items c.room } };
 
-    ghost invariant = { λ c. AreChunks c.chunks.items c.starts };
+    ghost invariant = { λ c. AreChunks c.chunks.items c.starts × IsPreparedIfAny c.chunks c.starts.places c.room };
 }
 
 impl<T: Drop, A: Allocator + Copy> Chunks<T, A> {
@@ -47,6 +48,7 @@ impl<T: Drop, A: Allocator + Copy> Chunks<T, A> {
                 turned: 0,
                 len: 0,
             },
+            room: None,
         }
     }
 
@@ -89,7 +91,36 @@ impl<T: Drop, A: Allocator + Copy> Chunks<T, A> {
         ensures err { OnErr result (self.new.items ≡ self.old.items) }
         ensures back { OnErr result (new.new.items ≡ new.old.items) }
     {
-        let place = place_of(&self.chunks, &self.starts, a, b, new.len());
-        put(&mut self.chunks, &mut self.starts, place, new)
+        self.make_room(a, b, new.len())?;
+        self.fill_room(a, b, new);
+        Ok(())
+    }
+
+    /// Makes room to put so many items in place of those from a to b, b not included, counted from 0, as
+    /// `fill_room` does. No item moves. The room is kept up to the next call that changes the list or makes
+    /// room. On `Err` a growth was refused.
+    pub fn make_room(&mut self, a: usize, b: usize, count: usize) -> Result<(), AllocError>
+        requires range { IsRange a b (length self.old.items) }
+        requires few { length self.old.items + count < 2 ^ 64 }
+        ensures items { self.new.items ≡ self.old.items }
+        ensures room { OnOk result (self.new.room ≡ Some (record { a = a; b = b; count = count })) }
+    {
+        self.room = None;
+        let place = place_of(&self.chunks, &self.starts, a, b, count);
+        let prepared = prepare(&mut self.chunks, &mut self.starts, place, count)?;
+        self.room = Some(prepared);
+        Ok(())
+    }
+
+    /// Puts the new items, which it takes out of their `Vec`, in place of those from a to b, where room was
+    /// made for as many. It takes no memory.
+    pub fn fill_room(&mut self, a: usize, b: usize, new: &mut Vec<T, A>)
+        requires room { self.old.room ≡ Some (record { a = a; b = b; count = vec_len new.old }) }
+        ensures items { self.new.items ≡ splice self.old.items a b new.old.items }
+        ensures taken { new.new.items ≡ [] }
+    {
+        let _ = (a, b);
+        let prepared = self.room.take().unwrap();
+        put(&mut self.chunks, &mut self.starts, prepared, new);
     }
 }

@@ -12,6 +12,7 @@ mod chunks;
 mod counting;
 mod cutting;
 mod places;
+mod room;
 mod spliced;
 mod spreading;
 mod turning;

@@ -1,5 +1,7 @@
 //! Where the chunks of a list begin.
-ghost use Rattle.std.specs.Prelude.{◌≤◌};
+ghost use Rattle.std.specs.Prelude.{◌≡◌, ◌+◌, ◌^◌, ◌<◌, ◌≤◌};
+ghost use Rattle.yl_text.specs.Store.{IsRange};
+ghost use Rattle.yl_chunks.specs.Chunks.{left_with};
 
 use crate::MOST;
 use std::alloc::Allocator;
@@ -13,6 +15,17 @@ pub(crate) struct Place {
     pub count: usize,
     pub a: usize,
     pub b: usize,
+}
+
+impl Place {
+    /// How many items its chunks have with so many in place of its own.
+    pub fn left(self, count: usize) -> usize
+        requires range { IsRange self.a self.b self.count }
+        requires few { self.count + count < 2 ^ 64 }
+        ensures { result ≡ left_with self count }
+    {
+        self.count - (self.b - self.a) + count
+    }
 }
 
 /// Where the chunks of a list begin, and how many items it has. A place before `turned` counts the items

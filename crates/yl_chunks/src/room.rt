@@ -1,0 +1,124 @@
+//! Room made for an edit before any item moves.
+ghost use Rattle.std.specs.Prelude.{◌≡◌, ◌+◌, ◌-◌, ◌*◌, ◌^◌, ◌<◌, ◌≤◌, All, length, map, vec_len, vec_capacity, slice_get, Some, IfOk, OnOk};
+ghost use Rattle.yl_chunks.specs.Chunks.{items_of, HasRoom, AreChunks, IsPlace, HasFresh, IsPrepared, left_with, room_of, in_list};
+
+use crate::MOST;
+use crate::places::{Place, Starts};
+use std::alloc::{AllocError, Allocator};
+
+/// Fresh chunks with no items yet, and room for all items at once that come into them.
+#[derive(Drop)]
+pub(crate) struct Fresh<T, A: Allocator> {
+    pub items: Vec<T, A>,
+    pub chunks: Vec<Vec<T, A>, A>,
+}
+
+/// Room to put `count` items in place of those of a place: in fresh chunks, or else in the one chunk that
+/// has them.
+#[derive(Drop)]
+pub(crate) struct Prepared<T, A: Allocator> {
+    pub place: Place,
+    pub count: usize,
+    pub fresh: Option<Fresh<T, A>>,
+}
+
+/// Empty chunks, each with room for that many items.
+fn empty_chunks<T: Drop, A: Allocator + Copy>(
+    alloc: A,
+    count: usize,
+    capacity: usize,
+) -> Result<Vec<Vec<T, A>, A>, AllocError>
+    ensures len { IfOk result (λ chunks. vec_len chunks ≡ count) }
+    ensures room { IfOk result (λ chunks. All (HasRoom capacity) chunks.items) }
+{
+    let mut chunks = Vec::with_capacity(alloc, count)?;
+    for _ in 0..count {
+        chunks.push_reserved(Vec::with_capacity(alloc, capacity)?);
+    }
+    Ok(chunks)
+}
+
+/// Into how many chunks that many items are cut.
+fn chunk_count(items: usize) -> usize
+    ensures enough { result ≤ items }
+    ensures few { items ≤ MOST * result }
+{
+    items.div_ceil(MOST)
+}
+
+/// Makes room in the one chunk of a place.
+fn prepare_chunk<T: Drop, A: Allocator>(
+    chunks: &mut Vec<Vec<T, A>, A>,
+    j: usize,
+    count: usize,
+) -> Result<(), AllocError>
+    requires within { j < vec_len chunks.old }
+    requires few { length (items_of chunks.old.items) + count < 2 ^ 64 }
+    ensures same { map (λ c. c.items) chunks.new.items ≡ map (λ c. c.items) chunks.old.items }
+    ensures room { OnOk result ((c : _) → slice_get chunks.new.items j ≡ Some c → vec_len c + count ≤ vec_capacity c) }
+{
+    chunks[j].try_reserve(count)
+}
+
+/// Makes fresh chunks for what the chunks of the place have with so many items in place of its own.
+fn prepare_fresh<T: Drop, A: Allocator + Copy>(
+    chunks: &mut Vec<Vec<T, A>, A>,
+    places: &mut Vec<usize, A>,
+    place: Place,
+    count: usize,
+) -> Result<Fresh<T, A>, AllocError>
+    requires place { IsPlace chunks.old.items place }
+    requires few { length (items_of chunks.old.items) + count < 2 ^ 64 }
+    requires counted { vec_len places.old ≡ vec_len chunks.old }
+    ensures chunks { chunks.new.items ≡ chunks.old.items }
+    ensures places { places.new.items ≡ places.old.items }
+    ensures fresh { IfOk result (λ fresh. HasFresh chunks.new places.new place count fresh) }
+{
+    let alloc = *chunks.allocator();
+    let left = place.left(count);
+    let items = Vec::with_capacity(alloc, place.count + count)?;
+    let fresh = empty_chunks(alloc, chunk_count(left), MOST.min(left))?;
+    chunks.try_reserve(fresh.len())?;
+    places.try_reserve(fresh.len())?;
+    Ok(Fresh {
+        items,
+        chunks: fresh,
+    })
+}
+
+/// Makes room to put so many items in place of those of the place: in the chunk that has them, where it
+/// may have as many, else in fresh chunks. No item moves.
+pub(crate) fn prepare<T: Drop, A: Allocator + Copy>(
+    chunks: &mut Vec<Vec<T, A>, A>,
+    starts: &mut Starts<A>,
+    place: Place,
+    count: usize,
+) -> Result<Prepared<T, A>, AllocError>
+    requires chunks { AreChunks chunks.old.items starts.old }
+    requires place { IsPlace chunks.old.items place }
+    requires few { length (items_of chunks.old.items) + count < 2 ^ 64 }
+    ensures items { items_of chunks.new.items ≡ items_of chunks.old.items }
+    ensures chunks { AreChunks chunks.new.items starts.new }
+    ensures prepared { IfOk result (λ r. IsPrepared chunks.new starts.new.places r) }
+    ensures room { IfOk result (λ r. room_of chunks.new.items (Some r) ≡ Some (record {
+      a = in_list chunks.old.items place place.a;
+      b = in_list chunks.old.items place place.b;
+      count = count;
+    })) }
+{
+    let left = place.left(count);
+    if place.end - place.first == 1 && 0 < left && left <= MOST {
+        prepare_chunk(chunks, place.first, count)?;
+        return Ok(Prepared {
+            place,
+            count,
+            fresh: None,
+        });
+    }
+    let fresh = prepare_fresh(chunks, &mut starts.places, place, count)?;
+    Ok(Prepared {
+        place,
+        count,
+        fresh: Some(fresh),
+    })
+}
