@@ -11,7 +11,6 @@ use Rattle.yl_indentation.specs.declared.options.IndentationOptions.{Indentation
 use Rattle.yl_indentation.specs.declared.options.Spaces.TheVariants.{Consistent}
 use Rattle.yl_indentation.specs.declared.options.IndentSequences.TheVariants.{Indented}
 use Rattle.yl_indentation.specs.Measures.{empty_measure, measure_of}
-use Rattle.yl_lexeme.specs.Lexeme.{PlacedCommentValue}
 use Rattle.yl_sections.specs.Kept.{KeptValue, SectionFaultValue, Here, Behind}
 use Rattle.yl_lint.specs.TextReport.{comments_in_sections, facts_in_sections, fault_in_sections, findings_in_sections, shown}
 

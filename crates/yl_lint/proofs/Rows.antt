@@ -1,19 +1,16 @@
 -- The rows of a text, one after another: what is found in them, and their records.
-use Rattle.std.proofs.Common.{IfOk, Result, Ok, Err, ◌≡◌, ℕ, ◌+◌, ◌<◌, ◌≤◌, List, [], ◌∷◌, ◌++◌, Some, drop, map, length, ap, sym, ◌∙◌, append_assoc, add-one, refl, arith}
+use Rattle.std.proofs.Common.{◌≡◌, ℕ, ◌+◌, ◌<◌, ◌≤◌, List, [], ◌∷◌, ◌++◌, Some, drop, length, ap, sym, ◌∙◌, append_assoc, add-one, arith}
 use Rattle.std.proofs.Math.Seq.{drop-cons}
-use Rattle.std.proofs.Math.ListN.{drop_of_length-le}
-use Rattle.std.proofs.lemmas.List.{length-map}
 use Rattle.std.proofs.lemmas.Option.{slice_get_within, get_or_from_slice_get}
 use Rattle.std.specs.List.{slice_get}
 use Rattle.std.specs.Str.{chars}
-use Rattle.yl_text.specs.Character.{indentation}
 use Rattle.yl_text.specs.Finding.{FindingValue}
 use Rattle.yl_text.specs.Lines.{RowValue}
 use Rattle.yl_rules.specs.declared.options.RowOptions.{RowOptions}
 use Rattle.yl_rules.specs.Rows.{row_findings}
-use Rattle.yl_row.specs.Entries.{RowEntry, entries}
-use Rattle.yl_record.specs.Records.{RecordValue, records, records_with}
-use Rattle.yl_lint.specs.TextReport.{characters_in, findings_from, records_of}
+use Rattle.yl_row.specs.Entries.{RowEntry}
+use Rattle.yl_record.specs.Records.{RecordValue, records_with}
+use Rattle.yl_lint.specs.TextReport.{characters_in, findings_from}
 
 pub rows_at : (rows : List RowValue) (i : ℕ) (row : RowValue) → slice_get rows i ≡ Some row → drop i rows ≡ row ∷ drop (i + 1) rows
 rows_at rows i row e =

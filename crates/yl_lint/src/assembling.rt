@@ -1,5 +1,5 @@
 //! The report of a text, from what is kept of its sections.
-ghost use Rattle.std.specs.Prelude.{◌≡◌, ◌≤◌, ◌++◌, length, take, IfOk, OnOk};
+ghost use Rattle.std.specs.Prelude.{◌≡◌, ◌≤◌, ◌++◌, length, map, take, IfOk, OnOk};
 ghost use Rattle.yl_indentation.specs.Measures.{empty_measure, measure_of};
 ghost use Rattle.yl_lint.specs.TextReport.{facts_in_sections, findings_in_section, findings_in_sections, report_of_kept, shown};
 
@@ -14,9 +14,9 @@ use yl_sections::Kept;
 use yl_text::{Finding, Pos};
 
 /// How many sections are shown: those up to the first with a fault.
-fn count_shown<A: Allocator>(kept: &[Kept<A>]) -> usize
+fn count_shown<A: Allocator>(kept: &[&Kept<A>]) -> usize
     ensures within { result ≤ length kept.now }
-    ensures shown { take result kept.now ≡ shown kept.now }
+    ensures shown { map (λ k. k.now) (take result kept.now) ≡ shown (map (λ k. k.now) kept.now) }
 {
     for (i, one) in kept.iter().enumerate() {
         if one.fault().is_some() {
@@ -27,8 +27,8 @@ fn count_shown<A: Allocator>(kept: &[Kept<A>]) -> usize
 }
 
 /// The measure of all facts of these sections.
-fn measure_of<A: Allocator>(kept: &[Kept<A>]) -> Measure
-    ensures { result ≡ measure_of (facts_in_sections kept.now) }
+fn measure_of<A: Allocator>(kept: &[&Kept<A>]) -> Measure
+    ensures { result ≡ measure_of (facts_in_sections (map (λ k. k.now) kept.now)) }
 {
     let mut measure = Measure::empty();
     for one in kept {
@@ -60,10 +60,10 @@ fn push_sections<A: Allocator + Copy>(
     alloc: A,
     options: &IndentationOptions,
     whole: Measure,
-    kept: &[Kept<A>],
+    kept: &[&Kept<A>],
     found: &mut Vec<Finding<A>, A>,
 ) -> Result<(), AllocError>
-    ensures { OnOk result (found.new.items ≡ found.old.items ++ findings_in_sections options.now whole 0 empty_measure kept.now) }
+    ensures { OnOk result (found.new.items ≡ found.old.items ++ findings_in_sections options.now whole 0 empty_measure (map (λ k. k.now) kept.now)) }
 {
     let mut line = 0;
     let mut before = Measure::empty();
@@ -83,9 +83,9 @@ pub fn report_of_kept<A: Allocator + Copy>(
     mut found: Vec<Finding<A>, A>,
     first: &str,
     end: Pos,
-    kept: &[Kept<A>],
+    kept: &[&Kept<A>],
 ) -> Result<Vec<Problem<A>, A>, AllocError>
-    ensures { IfOk result (λ problems. problems.items ≡ report_of_kept config.now found.items first.now end kept.now) }
+    ensures { IfOk result (λ problems. problems.items ≡ report_of_kept config.now found.items first.now end (map (λ k. k.now) kept.now)) }
 {
     let seen = &kept[..count_shown(kept)];
     let comments = comments_in_sections(alloc, seen)?;

@@ -38,11 +38,11 @@ fn push_comments<'a, A: Allocator>(
 }
 
 /// The comments of these sections, of which the first begins at line 0.
-pub fn comments_in_sections<A: Allocator + Copy>(
+pub fn comments_in_sections<'a, A: Allocator + Copy>(
     alloc: A,
-    kept: &[Kept<A>],
-) -> Result<Vec<PlacedComment<'_>, A>, AllocError>
-    ensures { IfOk result (λ v. map placed_comment_value v.items ≡ comments_in_sections 0 kept.now) }
+    kept: &[&'a Kept<A>],
+) -> Result<Vec<PlacedComment<'a>, A>, AllocError>
+    ensures { IfOk result (λ v. map placed_comment_value v.items ≡ comments_in_sections 0 (map (λ k. k.now) kept.now)) }
 {
     let mut comments = Vec::new(alloc);
     let mut line = 0;

@@ -1,5 +1,5 @@
 //! The fault of a text.
-ghost use Rattle.std.specs.Prelude.{◌≡◌, ◌+◌, ◌++◌, ◌∷◌, [], codes, IfOk, OnOk};
+ghost use Rattle.std.specs.Prelude.{◌≡◌, ◌+◌, ◌++◌, ◌∷◌, [], codes, map, IfOk, OnOk};
 ghost use Rattle.yl_lint.specs.TextReport.{syntax_finding, place_after, finding_of_fault, fault_in_sections};
 ghost use Rattle.yl_sections.specs.Owned.{section_fault_value};
 
@@ -22,8 +22,8 @@ fn syntax_finding<A: Allocator + Copy>(
 }
 
 /// Where a section ends before these, which begin at `line`.
-fn place_after<A: Allocator>(line: u32, end: Pos, later: &[Kept<A>]) -> Pos
-    ensures { result ≡ place_after line end later.now }
+fn place_after<A: Allocator>(line: u32, end: Pos, later: &[&Kept<A>]) -> Pos
+    ensures { result ≡ place_after line end (map (λ k. k.now) later.now) }
 {
     match later {
         [] => end,
@@ -40,10 +40,10 @@ fn finding_of_fault<A: Allocator + Copy>(
     line: u32,
     rows: u32,
     end: Pos,
-    later: &[Kept<A>],
+    later: &[&Kept<A>],
     fault: SectionFault,
 ) -> Result<Finding<A>, AllocError>
-    ensures { IfOk result (λ f. f ≡ finding_of_fault line rows end later.now (section_fault_value fault)) }
+    ensures { IfOk result (λ f. f ≡ finding_of_fault line rows end (map (λ k. k.now) later.now) (section_fault_value fault)) }
 {
     match fault {
         SectionFault::Here(place, text) => {
@@ -64,10 +64,10 @@ fn finding_of_fault<A: Allocator + Copy>(
 pub fn push_fault<A: Allocator + Copy>(
     alloc: A,
     end: Pos,
-    kept: &[Kept<A>],
+    kept: &[&Kept<A>],
     found: &mut Vec<Finding<A>, A>,
 ) -> Result<(), AllocError>
-    ensures { OnOk result (found.new.items ≡ found.old.items ++ fault_in_sections 0 end kept.now) }
+    ensures { OnOk result (found.new.items ≡ found.old.items ++ fault_in_sections 0 end (map (λ k. k.now) kept.now)) }
 {
     let mut line = 0;
     let mut later = kept;

@@ -2,16 +2,21 @@
 //!
 //! The rows of a text are recorded, its sections are judged one after another, and what is kept of them is put together with what the rules
 //! on lines find: `report_of_lines`. Sections after the first with a fault are hidden.
+//!
+//! A session keeps the records and what is kept of the sections: `records_of_lines`, `kept_of_records` and `report_with_kept` are the same
+//! steps one by one.
 #![tactic(auto)]
 
 mod assembling;
 mod comments;
 mod fault;
+mod kept;
 mod laws;
 mod lines;
 mod lint;
 mod moving;
 
 pub use assembling::report_of_kept;
+pub use kept::{kept_of_records, records_of_lines};
 pub use laws::one_report;
-pub use lint::{report_of_lines, report_of_text};
+pub use lint::{report_of_lines, report_of_text, report_with_kept};

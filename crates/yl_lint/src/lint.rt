@@ -1,103 +1,33 @@
 //! The report of the lines of a text.
-ghost use Rattle.std.specs.Prelude.{◌≡◌, ◌<◌, ◌≤◌, ◌+◌, ◌++◌, ◌-◌, ◌^◌, false, ℕ, List, length, map, IfOk, OnOk};
+ghost use Rattle.std.specs.Prelude.{◌≡◌, ◌<◌, ◌≤◌, ◌+◌, ◌-◌, ◌^◌, length, map, IfOk, OnOk};
 ghost use Rattle.yl_text.specs.Lines.{lines_of};
 ghost use Rattle.yl_text.specs.Store.{AreLines};
-ghost use Rattle.yl_record.specs.Recorded.{recorded};
-ghost use Rattle.yl_sections.specs.Judge.{documents_in, kept_of_section};
-ghost use Rattle.yl_sections.specs.Sections.{sections};
 ghost use Rattle.yl_lint.specs.TextReport.{document_count, kept_of_text, report};
 
 use crate::assembling::report_of_kept;
+use crate::kept::{kept_of_lines, lent};
 use crate::lines::{end_of, find_in_lines, first_text};
 use std::alloc::{AllocError, Allocator};
 use yl_config::Config;
 use yl_lexeme::Meter;
-use yl_record::{Record, Recorder};
 use yl_report::Problem;
-use yl_sections::{Kept, judge_all, judge_whole};
+use yl_sections::Kept;
 use yl_text::{LineStore, Lines, MAX_BYTES, PlainStore, rows_fit, split};
 
-/// How many records wait at least before sections are looked for among them.
-const ROOM: usize = 256;
-
-/// The records, each lent.
-fn lent<A: Allocator + Copy>(
-    alloc: A,
-    records: &[Record<A>],
-) -> Result<Vec<&Record<A>, A>, AllocError>
-    ensures records { IfOk result (λ v. map (λ r. r.now) v.items ≡ records.now) }
-    ensures len { IfOk result (λ v. length v.items ≡ length records.now) }
-{
-    let mut all = Vec::with_capacity(alloc, records.len())?;
-    for record in records {
-        all.push(record)?;
-    }
-    Ok(all)
-}
-
-/// Judges the sections that are complete, puts what is kept of them after the rest, and lets their records go, once `room` records are
-/// complete. Answers how many are to be complete before the next time.
-fn judge_complete<A: Allocator + Copy>(
-    alloc: A,
-    config: &Config,
-    recorder: &mut Recorder<'_, A>,
-    room: usize,
-    kept: &mut Vec<Kept<A>, A>,
-    meter: &mut Meter,
-) -> Result<usize, AllocError>
-    requires whole { recorder.old.refused ≡ false }
-    requires few { length recorder.old.records < 2 ^ 32 - 1 }
-    requires documents { meter.old.documents + length recorder.old.records < 2 ^ 32 - 1 }
-    ensures kept { OnOk result ((rows : List (List ℕ))
-        → kept.new.items ++ map (kept_of_section config.now) (sections (recorded recorder.new rows))
-        ≡ kept.old.items ++ map (kept_of_section config.now) (sections (recorded recorder.old rows))) }
-    ensures counted { OnOk result ((rows : List (List ℕ))
-        → meter.new.documents + documents_in (sections (recorded recorder.new rows))
-        ≡ meter.old.documents + documents_in (sections (recorded recorder.old rows))) }
-    ensures whole { OnOk result (recorder.new.refused ≡ false) }
-    ensures fed { OnOk result (recorder.new.taken + length recorder.new.records ≡ recorder.old.taken + length recorder.old.records) }
-    ensures few { OnOk result (meter.new.documents + recorder.old.taken ≤ meter.old.documents + recorder.new.taken) }
-    ensures lines { OnOk result (meter.new.lines ≡ meter.old.lines) }
-{
-    if recorder.complete().len() < room {
-        return Ok(room);
-    }
-    let all = lent(alloc, recorder.complete())?;
-    let judged = judge_whole(alloc, config, &all, kept, meter)?;
-    let open = all.len() - judged;
-    drop(all);
-    recorder.let_go(judged);
-    Ok(ROOM.max(open.saturating_mul(2)))
-}
-
-/// What is kept of the sections of these lines. The records of a section go once it is judged.
-fn kept_of_lines<L: Lines>(
+/// The report of the lines of a text under a configuration, in order, where this is kept of its sections, in order. The only error is out
+/// of memory.
+pub fn report_with_kept<L: Lines>(
     alloc: L::Alloc,
     config: &Config,
     lines: &L,
-    meter: &mut Meter,
-) -> Result<Vec<Kept<L::Alloc>, L::Alloc>, AllocError>
+    kept: &[&Kept<L::Alloc>],
+) -> Result<Vec<Problem<L::Alloc>, L::Alloc>, AllocError>
     requires lines { AreLines (L.rows lines.now) }
-    requires rows { meter.old.lines + length (L.rows lines.now) < 2 ^ 32 }
-    requires documents { meter.old.documents + length (L.rows lines.now) < 2 ^ 32 - 1 }
-    ensures kept { IfOk result (λ v. v.items ≡ kept_of_text config.now (L.rows lines.now)) }
-    ensures counted { OnOk result (meter.new ≡ record {
-      lines = meter.old.lines + length (L.rows lines.now);
-      documents = meter.old.documents + document_count (L.rows lines.now);
-    }) }
+    requires kept { map (λ k. k.now) kept.now ≡ kept_of_text config.now (L.rows lines.now) }
+    ensures { IfOk result (λ problems. problems.items ≡ report config.now (L.rows lines.now)) }
 {
-    rows_fit(lines);
-    let mut kept = Vec::new(alloc);
-    let mut recorder = Recorder::start_without_states(&alloc);
-    let mut room = ROOM;
-    for i in 0..lines.len() {
-        recorder.feed_text(lines.row(i).as_str(), meter)?;
-        room = judge_complete(alloc, config, &mut recorder, room, &mut kept, meter)?;
-    }
-    let records = recorder.finish()?;
-    let mut last = judge_all(alloc, config, &lent(alloc, &records)?, meter)?;
-    kept.append(&mut last)?;
-    Ok(kept)
+    let found = find_in_lines(alloc, config, lines)?;
+    report_of_kept(alloc, config, found, first_text(lines), end_of(lines), kept)
 }
 
 /// The report of the lines of a text under a configuration, in order. Counts its lines and its documents in the meter. The only error is
@@ -118,15 +48,7 @@ pub fn report_of_lines<L: Lines>(
     }) }
 {
     let kept = kept_of_lines(alloc, config, lines, meter)?;
-    let found = find_in_lines(alloc, config, lines)?;
-    report_of_kept(
-        alloc,
-        config,
-        found,
-        first_text(lines),
-        end_of(lines),
-        &kept,
-    )
+    report_with_kept(alloc, config, lines, &lent(alloc, &kept)?)
 }
 
 /// The report of a text under a configuration, in order. The only error is out of memory.

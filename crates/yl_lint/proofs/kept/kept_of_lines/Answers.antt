@@ -1,4 +1,4 @@
-use Rattle.std.proofs.Common.{rules, ◌≡◌, ◌≤◌, ◌+◌, ◌++◌, ◌∙◌, ℕ, List, [], ap, sym, refl, map, drop, length, arith}
+use Rattle.std.proofs.Common.{rules, ◌≡◌, ◌+◌, ◌++◌, ◌∙◌, List, [], ap, refl, map, drop, length, arith}
 use Rattle.std.proofs.Math.ListN.{drop_of_length-le}
 use Rattle.yl_text.specs.Lines.{RowValue}
 use Rattle.yl_lexeme.specs.declared.meter.Meter.{Meter}
@@ -11,7 +11,7 @@ use Rattle.yl_lint.specs.TextReport.{characters_in, document_count}
 use Rattle.yl_lint.proofs.Rows.{told_more}
 use Rattle.yl_sections.proofs.Stateless.{kept_without_states, documents_without_states}
 use Rattle.yl_lint.proofs.Streamed.{few_at_end, counted_at_end}
-use Rattle.yl_lint.proofs.lint.kept_of_lines.Goals as goal
+use Rattle.yl_lint.proofs.kept.kept_of_lines.Goals as goal
 
 pub loop-i-preserved : goal.loop-i-preserved
 loop-i-preserved g c =
@@ -34,28 +34,27 @@ loop-i-preserved g c =
       lines = omega (arith, c.in_ok-room.ensures.lines, lines, c.loop-i.invariant.lines);
     }
 
-pub judge_all-requires-clause-rows : goal.judge_all-requires-clause-rows
-judge_all-requires-clause-rows g c =
+pub kept_of_records-requires-clause-rows : goal.kept_of_records-requires-clause-rows
+kept_of_records-requires-clause-rows g c =
     let few = few_at_end c.loop-i.recorder c.in_ok-records.records.items c.in_ok-records.ensures.told in
-    omega (arith, few, c.deref.ensures.len, c.deref-2.ensures.len, c.in_ok-lent.ensures.len, ap length c.deref.ensures.value, c.loop-i.invariant.fed, c.rows_fit.ensures.few)
+    omega (arith, few, c.deref.ensures.len, c.loop-i.invariant.fed, c.rows_fit.ensures.few)
 
-pub judge_all-requires-clause-documents : goal.judge_all-requires-clause-documents
-judge_all-requires-clause-documents g c =
+pub kept_of_records-requires-clause-documents : goal.kept_of_records-requires-clause-documents
+kept_of_records-requires-clause-documents g c =
     let few = few_at_end c.loop-i.recorder c.in_ok-records.records.items c.in_ok-records.ensures.told in
-    omega (arith, few, c.deref.ensures.len, c.deref-2.ensures.len, c.in_ok-lent.ensures.len, ap length c.deref.ensures.value, c.loop-i.invariant.fed, c.loop-i.invariant.few, c.requires.documents)
+    omega (arith, few, c.deref.ensures.len, c.loop-i.invariant.fed, c.loop-i.invariant.few, c.requires.documents)
 
 pub returns-clause-counted : goal.returns-clause-counted
 returns-clause-counted g c =
     let rows = g.L.Lines.rows c.args.lines.now in
     let ended : c.loop-i.i ≡ length rows = search rules in
-    let lines : c.judge_all.new.meter.lines ≡ c.loop-i.meter.lines = ap (λ (m : Meter). m.lines) c.in_ok-last.ensures.counted in
-    let seen : map (λ r. r.now) c.deref-2.result.now ≡ recorded c.loop-i.recorder [] =
-    ap (map (λ r. r.now)) c.deref-2.ensures.value ∙ (c.in_ok-lent.ensures.records ∙ (c.deref.ensures.value ∙ c.in_ok-records.ensures.told)) in
-    let documents : c.judge_all.new.meter.documents ≡ c.loop-i.meter.documents + documents_in (sections (recorded c.loop-i.recorder [])) =
+    let lines : c.kept_of_records.new.meter.lines ≡ c.loop-i.meter.lines = ap (λ (m : Meter). m.lines) c.in_ok-last.ensures.counted in
+    let seen : c.deref.result.now ≡ recorded c.loop-i.recorder [] = c.deref.ensures.value ∙ c.in_ok-records.ensures.told in
+    let documents : c.kept_of_records.new.meter.documents ≡ c.loop-i.meter.documents + documents_in (sections (recorded c.loop-i.recorder [])) =
     ap (λ (m : Meter). m.documents) c.in_ok-last.ensures.counted ∙ ap (λ (rs : List RecordValue). c.loop-i.meter.documents + documents_in (sections rs)) seen in
     let none : documents_in (sections (recorded c.loop-i.recorder (characters_in (drop c.loop-i.i rows)))) ≡ documents_in (sections (recorded c.loop-i.recorder [])) =
     ap (λ (rs : List RowValue). documents_in (sections (recorded c.loop-i.recorder (characters_in rs)))) (drop_of_length-le rows (omega (arith, ended))) in
-    counted_at_end c.judge_all.new.meter (c.args.meter.now.lines + length rows) (c.args.meter.now.documents + document_count rows) (omega (arith, lines, ended, c.loop-i.invariant.lines)) (omega (arith, documents, none, c.loop-i.invariant.documents))
+    counted_at_end c.kept_of_records.new.meter (c.args.meter.now.lines + length rows) (c.args.meter.now.documents + document_count rows) (omega (arith, lines, ended, c.loop-i.invariant.lines)) (omega (arith, documents, none, c.loop-i.invariant.documents))
 
 pub loop-i-init : goal.loop-i-init
 loop-i-init g c =

@@ -3,7 +3,7 @@ use Rattle.yl_record.specs.Recorded.{recorded}
 use Rattle.yl_sections.specs.Judge.{documents_in, kept_of_section}
 use Rattle.yl_sections.specs.Sections.{sections}
 use Rattle.yl_lint.specs.TextReport.{characters_in, document_count, kept_of_text}
-use Rattle.yl_lint.proofs.lint.kept_of_lines.Given as goal
+use Rattle.yl_lint.proofs.kept.kept_of_lines.Given as goal
 
 abbrev pub invariant-loop-i : goal.invariant-loop-i
 invariant-loop-i g l = record {
