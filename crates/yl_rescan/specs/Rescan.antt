@@ -1,0 +1,41 @@
+-- Meaning: which rows of an edited text are scanned again. A text is given as its rows, and a row as its characters.
+use Rattle.std.specs.Prelude.{◌≡◌, ◌≤◌, ◌<◌, ◌+◌, ◌-◌, ◌⊎◌, ℕ, List, length, map, Option, Some, None, IsSome}
+use Rattle.std.specs.Str.{chars}
+use Rattle.yl_text.specs.Lines.{RowValue}
+use Rattle.yl_row.specs.Entries.{LineStateValue, entries}
+use Rattle.yl_scan.specs.Restart.{state_at}
+
+-- the characters of each row
+abbrev pub characters_in : List RowValue → List (List ℕ)
+characters_in rows = map (λ row. chars row.text) rows
+
+-- the greatest sound row above row a, or the first row
+pub record IsRestart (t : List (List ℕ)) (a r : ℕ) : Type 0 where
+  pub place : (r ≡ 0) ⊎ ((r < a) × IsSome (state_at (entries t) r))
+  pub greatest : (j : ℕ) → r < j → j < a → state_at (entries t) j ≡ None
+
+-- row i of the old text and row j of the new one are sound, with the same state
+pub record HaveSameState (old new : List (List ℕ)) (i j : ℕ) : Type 0 where
+  pub state : LineStateValue
+  pub before : state_at (entries old) i ≡ Some state
+  pub after : state_at (entries new) j ≡ Some state
+
+-- row m of the new text agrees with its counterpart, where the lines from `stop` on are the old ones from b on
+abbrev pub IsAgreement : (old new : List (List ℕ)) (stop b m : ℕ) → Type 0
+IsAgreement old new stop b m = HaveSameState old new (m - stop + b) m
+
+-- the least row from `stop` on that agrees, or the last row
+pub record IsStop (old new : List (List ℕ)) (stop b m : ℕ) : Type 0 where
+  pub place : ((stop ≤ m) × IsAgreement old new stop b m) ⊎ (m + 1 ≡ length new)
+  pub least : (j : ℕ) → stop ≤ j → j < m → ¬ (IsAgreement old new stop b j)
+
+-- where k lines were put in place of those from a to b, n rows were scanned again, from row r on: those before row `end`, whose
+-- counterpart is the old row `old_end`, and the row at which scanning stopped. Both texts end there, or agree
+pub record IsRescan (old new : List (List ℕ)) (a b k r old_end end n : ℕ) : Type 0 where
+  pub restart : IsRestart new a r
+  pub m : ℕ
+  pub stop : IsStop old new (a + k) b m
+  pub within : end ≤ m + 1
+  pub some : k ≤ n
+  pub few : n ≤ m - r + 1
+  pub ended : ((old_end ≡ length old) × (end ≡ length new)) ⊎ HaveSameState old new old_end end
