@@ -1,0 +1,2 @@
+-- What an edit keeps of the records.
+use Rattle.std.proofs.Common.{◌≡◌, ℕ}
