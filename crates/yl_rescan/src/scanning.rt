@@ -96,7 +96,7 @@ fn recorder_at<'a, A: Allocator + Copy>(
 
 /// The records of the rows from where scanning began to before `end`.
 #[derive(Drop)]
-pub struct Rescanned<A: Allocator> {
+pub struct Scanned<A: Allocator> {
     pub records: Vec<Record<A>, A>,
     pub end: usize,
     /// Whether row `end` agrees with the old one. If not, it is the text's end.
@@ -113,7 +113,7 @@ pub fn rescan_from<L: Lines>(
     stop: usize,
     b: usize,
     meter: &mut Meter,
-) -> Result<Rescanned<L::Alloc>, AllocError>
+) -> Result<Scanned<L::Alloc>, AllocError>
     requires lines { AreLines (L.rows lines.now) }
     requires begins { BeginsAt (records (characters_in (L.rows lines.now))) from.now.row (option_map (λ s. s.now) from.now.state) }
     requires within { from.now.row ≤ length (L.rows lines.now) }
@@ -133,14 +133,14 @@ pub fn rescan_from<L: Lines>(
     for i in from.row..lines.len() {
         recorder.feed_text(lines.row(i).as_str(), meter)?;
         if is_stop(old, i, stop, b, recorder.state()) {
-            return Ok(Rescanned {
+            return Ok(Scanned {
                 records: recorder.cut(),
                 end: i,
                 agreed: true,
             });
         }
     }
-    Ok(Rescanned {
+    Ok(Scanned {
         records: recorder.finish()?,
         end: lines.len(),
         agreed: false,
