@@ -1,0 +1,11 @@
+-- Meaning: the documents of a text that stand at some of its lines.
+use Rattle.std.specs.Prelude.{ℕ, ◌+◌, ◌&&◌, if◌then◌else◌, leb, ltb, List, [], ◌∷◌, length}
+use Rattle.yl_record.specs.Records.{RecordValue}
+use Rattle.yl_sections.specs.Sections.{lexemes_of}
+use Rattle.yl_sections.specs.Kept.{document_count}
+
+-- how many documents of these sections, of which the first begins at this line, hold one of the lines from r to m
+abbrev pub documents_holding : ℕ → ℕ → ℕ → List (List RecordValue) → ℕ
+documents_holding line r m [] = 0
+documents_holding line r m (s ∷ ss) =
+    (if leb line m && ltb r (line + length s) then document_count (lexemes_of s) else 0) + documents_holding (line + length s) r m ss
