@@ -1,2 +1,11 @@
 //! Which sections of an edited text are judged again, and what is kept of them.
+//!
+//! A section is a run of rows with one document. An edit changes some rows; the sections before and after them stay as they are, and
+//! what is kept of them too.
 #![tactic(auto)]
+
+mod places;
+mod rejudging;
+mod starts;
+
+pub use rejudging::{Rejudged, rejudge};

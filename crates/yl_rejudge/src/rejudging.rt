@@ -1,0 +1,105 @@
+//! Judging the sections that an edit changed.
+ghost use Rattle.std.specs.Prelude.{◌≡◌, ◌+◌, ◌-◌, ◌<◌, ◌≤◌, ◌^◌, ℕ, length, map, take, drop, IfOk, OnOk};
+ghost use Rattle.std.specs.List.{splice};
+ghost use Rattle.yl_text.specs.Store.{IsRange};
+ghost use Rattle.yl_sections.specs.Sections.{sections};
+ghost use Rattle.yl_sections.specs.Judge.{documents_in, kept_of_section};
+ghost use Rattle.yl_rejudge.specs.Places.{GoOnAlike};
+ghost use Rattle.yl_rejudge.specs.Documents.{documents_holding};
+
+use crate::places::{back_of, front_of, new_row, section_of};
+use std::alloc::{AllocError, Allocator};
+use yl_chunks::{Chunks, Spliced};
+use yl_config::Config;
+use yl_lexeme::Meter;
+use yl_record::Record;
+use yl_sections::{Kept, judge_all};
+
+/// What is kept of the sections from one on to before `end`, both counted from 0, becomes this.
+#[derive(Drop)]
+pub struct Rejudged<A: Allocator> {
+    pub from: usize,
+    pub end: usize,
+    pub kept: Vec<Kept<A>, A>,
+}
+
+/// The records from x on to before z, counted from 0, lent.
+fn gather_between<'a, A: Allocator + Copy>(
+    alloc: A,
+    records: &Spliced<'a, Record<A>, A>,
+    x: usize,
+    z: usize,
+) -> Result<Vec<&'a Record<A>, A>, AllocError>
+    requires ordered { x ≤ z }
+    requires within { z ≤ length records.now }
+    ensures { IfOk result (λ all. map (λ r. r.now) all.items ≡ drop x (take z records.now)) }
+{
+    let mut all = Vec::new(alloc);
+    for i in x..z {
+        all.push(records.get(i))?;
+    }
+    Ok(all)
+}
+
+/// What is kept of each section of the records from x on to before z. Counts their documents in the meter.
+fn judge_between<A: Allocator + Copy>(
+    alloc: A,
+    config: &Config,
+    records: &Spliced<'_, Record<A>, A>,
+    x: usize,
+    z: usize,
+    meter: &mut Meter,
+) -> Result<Vec<Kept<A>, A>, AllocError>
+    requires ordered { x ≤ z }
+    requires within { z ≤ length records.now }
+    requires few { length records.now < 2 ^ 30 }
+    requires meter { meter.old.documents + length records.now < 2 ^ 32 - 1 }
+    ensures kept { IfOk result (λ v. v.items ≡ map (kept_of_section config.now) (sections (drop x (take z records.now)))) }
+    ensures documents { OnOk result (meter.new.documents ≡ meter.old.documents + documents_in (sections (drop x (take z records.now)))) }
+    ensures lines { OnOk result (meter.new.lines ≡ meter.old.lines) }
+{
+    let all = gather_between(alloc, records, x, z)?;
+    judge_all(alloc, config, &all, meter)
+}
+
+/// What is kept of the sections of the new records, from what is kept of those of the old ones: the new records are the old ones before
+/// row `from`, and from row `end` on the old ones from `old_end` on, rows counted from 0. Judges the sections that hold a row from the
+/// one before `from` to the one before `end`, and counts their documents in the meter. The only error is out of memory.
+pub fn rejudge<A: Allocator + Copy>(
+    alloc: A,
+    config: &Config,
+    kept: &[Kept<A>],
+    old: &Chunks<Record<A>, A>,
+    records: &Spliced<'_, Record<A>, A>,
+    from: usize,
+    old_end: usize,
+    end: usize,
+    meter: &mut Meter,
+) -> Result<Rejudged<A>, AllocError>
+    requires kept { kept.now ≡ map (kept_of_section config.now) (sections old.now.items) }
+    requires before { take from old.now.items ≡ take from records.now }
+    requires behind { drop old_end old.now.items ≡ drop end records.now }
+    requires old_range { IsRange from old_end (length old.now.items) }
+    requires range { IsRange from end (length records.now) }
+    requires alike { GoOnAlike old.now.items records.now old_end end }
+    requires few { (length old.now.items < 2 ^ 30) × (length records.now < 2 ^ 30) }
+    requires meter { meter.old.documents + length records.now < 2 ^ 32 - 1 }
+    ensures range { IfOk result (λ r. IsRange r.from r.end (length kept.now)) }
+    ensures kept { IfOk result (λ r. splice kept.now r.from r.end r.kept.items ≡ map (kept_of_section config.now) (sections records.now)) }
+    ensures documents { OnOk result ((m : ℕ) → end ≤ m + 1 → meter.new.documents ≤ meter.old.documents + documents_holding 0 (from - 1) m (sections records.now)) }
+    ensures lines { OnOk result (meter.new.lines ≡ meter.old.lines) }
+{
+    let first = front_of(kept, records, section_of(kept, from));
+    let last = back_of(kept, records, first, old_end, end);
+    let z = new_row(kept, records.len(), last, old_end, end);
+    let kept = if first.section > 0 && first.row == z {
+        Vec::new(alloc)
+    } else {
+        judge_between(alloc, config, records, first.row, z, meter)?
+    };
+    Ok(Rejudged {
+        from: first.section,
+        end: last.section,
+        kept,
+    })
+}
