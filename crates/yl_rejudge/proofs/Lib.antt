@@ -1,2 +1,5 @@
 pub mod SectionStarts
 pub mod KeptRows
+pub mod SectionsEdited
+pub mod Bound
+pub mod Outcome

@@ -5,6 +5,7 @@ use Rattle.yl_lexeme.specs.declared.lexeme.Kind.{Kind}
 use Rattle.yl_lexeme.specs.Lexeme.{LexemeValue}
 use Rattle.yl_record.specs.Records.{RecordValue}
 use Rattle.yl_sections.specs.Sections.{Parts, last_kind, is_section_start, with_row, parts, sections}
+use Rattle.yl_sections.proofs.Cuts.{none_begins}
 use Rattle.yl_sections.specs.Local.{kind_after, is_start, is_start_at, row_total}
 
 -- a section begins with the row of this index, where the last lexeme before them is of this kind
@@ -98,9 +99,13 @@ rows_apart rs (suc n) (suc k) s o l =
     let p = parts None rs in
     omega (arith, have_rows None rs n (omega (arith, o, l)), rows_ordered p.later (suc n) k (omega (arith, o)))
 
+pub not_first : (rs : List RecordValue) → is_start_at rs 0 ≡ false
+not_first [] = refl
+not_first (r ∷ rs) = none_begins r.entry.lexemes
+
 -- ---- starts before an edit
 
-front_same : (last : Option Kind) (rs : List RecordValue) (from i : ℕ) → i < from → starts_after last (take from rs) i ≡ starts_after last rs i
+pub front_same : (last : Option Kind) (rs : List RecordValue) (from i : ℕ) → i < from → starts_after last (take from rs) i ≡ starts_after last rs i
 front_same last rs zero i l = absurd (omega (arith, l))
 front_same last [] (suc from) i l = refl
 front_same last (r ∷ rs) (suc from) zero l = refl
@@ -126,13 +131,13 @@ quiet_row last [] e = refl
 quiet_row last (x ∷ xs) e = absurd (cc)
 
 -- rows without lexemes begin none
-quiet : (last : Option Kind) (rs : List RecordValue) (i : ℕ) → AllByRecursion (λ r. r.entry.lexemes ≡ []) rs → starts_after last rs i ≡ false
+pub quiet : (last : Option Kind) (rs : List RecordValue) (i : ℕ) → AllByRecursion (λ r. r.entry.lexemes ≡ []) rs → starts_after last rs i ≡ false
 quiet last [] i h = none_after last i
 quiet last (r ∷ rs) zero h = quiet_row last r.entry.lexemes h.0
 quiet last (r ∷ rs) (suc i) h = quiet (last_kind last r.entry.lexemes) rs i h.1
 
 -- by the rows from one on
-from_row : (last : Option Kind) (rs : List RecordValue) (e d : ℕ) → starts_after last rs (e + d) ≡ starts_after (kind_after last (take e rs)) (drop e rs) d
+pub from_row : (last : Option Kind) (rs : List RecordValue) (e d : ℕ) → starts_after last rs (e + d) ≡ starts_after (kind_after last (take e rs)) (drop e rs) d
 from_row last rs zero d = ap (λ i. starts_after last rs i) (zero-add d)
 from_row last [] (suc e) d = none_after last (suc e + d) ∙ sym (none_after last d)
 from_row last (r ∷ rs) (suc e) d =

@@ -1,13 +1,13 @@
 //! Judging the sections that an edit changed.
-ghost use Rattle.std.specs.Prelude.{◌≡◌, ◌+◌, ◌-◌, ◌<◌, ◌≤◌, ◌^◌, ℕ, length, map, take, drop, IfOk, OnOk};
+ghost use Rattle.std.specs.Prelude.{◌≡◌, ◌+◌, ◌-◌, ◌<◌, ◌≤◌, ◌^◌, ◌⊎◌, ℕ, length, map, take, drop, IfOk, OnOk};
 ghost use Rattle.std.specs.List.{splice};
 ghost use Rattle.yl_text.specs.Store.{IsRange};
 ghost use Rattle.yl_sections.specs.Sections.{sections};
 ghost use Rattle.yl_sections.specs.Judge.{documents_in, kept_of_section};
-ghost use Rattle.yl_rejudge.specs.Places.{GoOnAlike};
-ghost use Rattle.yl_rejudge.specs.Documents.{documents_holding};
+ghost use Rattle.yl_rejudge.specs.Places.{GoOnAlike, changed_sections};
+ghost use Rattle.yl_rejudge.specs.Documents.{EndsAnew, documents_holding};
 
-use crate::places::{back_of, front_of, new_row, section_of};
+use crate::places::{Place, back_of, front_of, new_row, section_of};
 use std::alloc::{AllocError, Allocator};
 use yl_chunks::{Chunks, Spliced};
 use yl_config::Config;
@@ -62,6 +62,30 @@ fn judge_between<A: Allocator + Copy>(
     judge_all(alloc, config, &all, meter)
 }
 
+/// The same, where they come after so many sections that stay; if there are no rows, and sections before them, there is nothing.
+fn judge_changed<A: Allocator + Copy>(
+    alloc: A,
+    config: &Config,
+    records: &Spliced<'_, Record<A>, A>,
+    first: Place,
+    z: usize,
+    meter: &mut Meter,
+) -> Result<Vec<Kept<A>, A>, AllocError>
+    requires ordered { first.row ≤ z }
+    requires within { z ≤ length records.now }
+    requires few { length records.now < 2 ^ 30 }
+    requires meter { meter.old.documents + length records.now < 2 ^ 32 - 1 }
+    ensures kept { IfOk result (λ v. v.items ≡ map (kept_of_section config.now) (changed_sections first.section first.row z records.now)) }
+    ensures documents { OnOk result (meter.new.documents ≡ meter.old.documents + documents_in (changed_sections first.section first.row z records.now)) }
+    ensures lines { OnOk result (meter.new.lines ≡ meter.old.lines) }
+{
+    if first.section > 0 && first.row == z {
+        Ok(Vec::new(alloc))
+    } else {
+        judge_between(alloc, config, records, first.row, z, meter)
+    }
+}
+
 /// What is kept of the sections of the new records, from what is kept of those of the old ones: the new records are the old ones before
 /// row `from`, and from row `end` on the old ones from `old_end` on, rows counted from 0. Judges the sections that hold a row from the
 /// one before `from` to the one before `end`, and counts their documents in the meter. The only error is out of memory.
@@ -87,16 +111,14 @@ pub fn rejudge<A: Allocator + Copy>(
     ensures range { IfOk result (λ r. IsRange r.from r.end (length kept.now)) }
     ensures kept { IfOk result (λ r. splice kept.now r.from r.end r.kept.items ≡ map (kept_of_section config.now) (sections records.now)) }
     ensures documents { OnOk result ((m : ℕ) → end ≤ m + 1 → meter.new.documents ≤ meter.old.documents + documents_holding 0 (from - 1) m (sections records.now)) }
+    ensures nearest { OnOk result ((m : ℕ) → end ≤ m + 1 → (meter.new.documents ≤ meter.old.documents + documents_holding 0 from m (sections records.now))
+        ⊎ (EndsAnew old.now.items records.now from × (meter.new.documents ≤ meter.old.documents + documents_holding 0 (from - 1) m (sections records.now)))) }
     ensures lines { OnOk result (meter.new.lines ≡ meter.old.lines) }
 {
     let first = front_of(kept, records, section_of(kept, from));
     let last = back_of(kept, records, first, old_end, end);
     let z = new_row(kept, records.len(), last, old_end, end);
-    let kept = if first.section > 0 && first.row == z {
-        Vec::new(alloc)
-    } else {
-        judge_between(alloc, config, records, first.row, z, meter)?
-    };
+    let kept = judge_changed(alloc, config, records, first, z, meter)?;
     Ok(Rejudged {
         from: first.section,
         end: last.section,

@@ -94,11 +94,11 @@ drop_joined [] (suc p) = refl
 drop_joined (s ∷ ss) (suc p) = drop-append-add s (all_rows ss) (row_total (take p ss)) ∙ drop_joined ss p
 
 -- the first sections are those of the first rows
-front_sections : (old : List RecordValue) (p : ℕ) → 0 < p → sections (all_rows (take p (sections old))) ≡ take p (sections old)
+pub front_sections : (old : List RecordValue) (p : ℕ) → 0 < p → sections (all_rows (take p (sections old))) ≡ take p (sections old)
 front_sections old zero l = absurd (omega (arith, l))
 front_sections old (suc p) l = ap all_parts (front None old p)
 
-back_sections : (old : List RecordValue) (q : ℕ) → q < length (sections old) → sections (all_rows (drop q (sections old))) ≡ drop q (sections old)
+pub back_sections : (old : List RecordValue) (q : ℕ) → q < length (sections old) → sections (all_rows (drop q (sections old))) ≡ drop q (sections old)
 back_sections old zero l = ap sections (joined_parts None old)
 back_sections old (suc q) l = back None old q (omega (arith, l))
 

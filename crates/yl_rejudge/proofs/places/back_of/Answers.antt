@@ -1,4 +1,4 @@
-use Rattle.std.proofs.Common.{◌≡◌, ◌+◌, ◌-◌, ◌≤◌, false, take, arith, ap, sym, ◌∙◌}
+use Rattle.std.proofs.Common.{◌≡◌, ◌+◌, ◌-◌, ◌≤◌, take, arith, ap, sym, ◌∙◌}
 use Rattle.yl_sections.specs.Local.{is_start_at}
 use Rattle.yl_rejudge.specs.Places.{rows_kept}
 use Rattle.yl_rejudge.proofs.KeptRows.{rows_more, rows_front, passed_on, not_back}

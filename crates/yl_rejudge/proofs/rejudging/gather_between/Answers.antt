@@ -1,5 +1,5 @@
 use Rattle.std.proofs.Common.{◌≤◌, arith}
-use Rattle.yl_rejudge.proofs.Rejudged.{between_more}
+use Rattle.yl_rejudge.proofs.SectionsEdited.{between_more}
 use Rattle.yl_rejudge.proofs.rejudging.gather_between.Goals as goal
 
 pub loop-i-preserved : goal.loop-i-preserved

@@ -1,4 +1,4 @@
-use Rattle.std.proofs.Common.{◌≤◌, ℕ, List, Option, length, take, arith, ap, sym, ◌∙◌, None}
+use Rattle.std.proofs.Common.{◌≤◌, List, Option, length, take, arith, ap, sym, ◌∙◌, None}
 use Rattle.yl_lexeme.specs.declared.lexeme.Kind.{Kind}
 use Rattle.yl_lexeme.specs.Lexeme.{LexemeValue}
 use Rattle.yl_sections.specs.Sections.{is_section_start}
