@@ -1,22 +1,21 @@
 -- What an edit keeps of the records, and which rows it scans again.
-use Rattle.std.proofs.Common.{◌≡◌, ℕ, zero, suc, ◌+◌, ◌-◌, ◌<◌, ◌≤◌, ◌⊎◌, ◌^◌, Bool, true, false, List, [], ◌∷◌, ◌++◌, length, map, take, drop, Option, Some, None, refl, ap, sym, ◌∙◌, subst, arith, rules, inl, inr, cond, length-append}
-use Rattle.std.specs.Prelude.{IsSome, IsTrue}
+use Rattle.std.proofs.Common.{◌≡◌, ℕ, ◌+◌, ◌-◌, ◌<◌, ◌≤◌, ◌⊎◌, ◌^◌, Bool, true, false, List, [], ◌∷◌, ◌++◌, length, map, take, drop, Option, Some, None, refl, ap, sym, ◌∙◌, subst, arith, rules, inl, inr, cond}
+use Rattle.std.specs.Prelude.{IsSome}
 use Rattle.std.specs.List.{splice}
 use Rattle.std.specs.Str.{chars}
 use Rattle.std.proofs.lemmas.List.{same_lists, places, length-drop, length-take, length-map, map-append, drop-map, take-map}
 use Rattle.std.proofs.Math.ListN.{drop_of_length-le}
-use Rattle.yl_text.specs.Lines.{RowValue, AreEnded}
+use Rattle.yl_text.specs.Lines.{RowValue}
 use Rattle.yl_text.specs.Store.{AreLines, IsRange}
 use Rattle.yl_text.proofs.Fitting.{lines_are_few}
 use Rattle.yl_row.specs.Entries.{LineStateValue, entries}
 use Rattle.yl_scan.specs.Restart.{state_at}
-use Rattle.yl_scan.specs.State.{state_eq}
 use Rattle.yl_scan.proofs.States.{states_told}
 use Rattle.yl_scan.proofs.Restarts.{prefix, shift}
 use Rattle.yl_record.specs.Records.{RecordValue, records}
 use Rattle.yl_rescan.specs.Agree.{agree, agrees, state_of_row, BeginsAt, BeginsBelow}
-use Rattle.yl_rescan.specs.Rescan.{characters_in, HaveSameState, IsAgreement, IsRestart, IsStop, IsRescan}
-use Rattle.yl_rescan.proofs.Rows.{records_length, records_state, same_back, same_front, state_within}
+use Rattle.yl_rescan.specs.Rescan.{characters_in, HaveSameState, IsRestart, IsRescan}
+use Rattle.yl_rescan.proofs.Rows.{records_length, records_state, same_back, same_front}
 
 -- ---- lists
 

@@ -1,16 +1,14 @@
 -- Records of rows, taken and dropped.
-use Rattle.std.proofs.Common.{◌≡◌, ℕ, zero, suc, ◌+◌, ◌≤◌, ◌<◌, Bool, true, false, List, [], ◌∷◌, ◌++◌, length, map, take, drop, Option, Some, None, refl, ap, sym, ◌∙◌, arith}
-use Rattle.std.specs.Prelude.{slice_get}
+use Rattle.std.proofs.Common.{◌≡◌, ℕ, zero, suc, Bool, true, false, List, [], ◌∷◌, length, map, take, drop, Option, Some, None, refl, ap, sym, ◌∙◌, arith}
 use Rattle.std.proofs.lemmas.List.{length-map, drop-map, take-map}
 use Rattle.yl_text.specs.Character.{indentation}
 use Rattle.yl_row.specs.declared.fault.PlacedScanFault.{PlacedScanFault}
 use Rattle.yl_row.specs.Fault.{is_unclosed}
 use Rattle.yl_row.specs.Step.{first_tab}
 use Rattle.yl_lexeme.specs.Past.{PastLexeme}
-use Rattle.yl_row.specs.Entries.{RowEntry, LineStateValue, RowReading, entries, entries_from, entries_below, stopped_rows, row_reading}
+use Rattle.yl_row.specs.Entries.{RowEntry, RowReading, entries, entries_from, entries_below, stopped_rows, row_reading}
 use Rattle.yl_scan.specs.Restart.{state_at}
 use Rattle.yl_record.specs.Records.{RecordValue, records, records_with}
-use Rattle.yl_record.specs.Recorder.{state_in}
 use Rattle.yl_rescan.specs.Agree.{state_of_row}
 
 -- ---- an entry a row
@@ -89,9 +87,3 @@ same_back t u i j rows es =
     let ns : drop i (map indentation t) ≡ drop j (map indentation u) = drop-map indentation i t ∙ (ap (map indentation) rows ∙ sym (drop-map indentation j u)) in
     with_drop i (map indentation t) (entries t) ∙ (ap (λ (ms : List ℕ). records_with ms (drop i (entries t))) ns
     ∙ (ap (λ (fs : List RowEntry). records_with (drop j (map indentation u)) fs) es ∙ sym (with_drop j (map indentation u) (entries u))))
-
--- the state at a row that is there
-pub state_within : (es : List RowEntry) (i : ℕ) (s : LineStateValue) → state_at es i ≡ Some s → i < length es
-state_within [] i s h = cc
-state_within (e ∷ es) zero s h = omega arith
-state_within (e ∷ es) (suc i) s h = let l = state_within es i s h in omega (arith, l)

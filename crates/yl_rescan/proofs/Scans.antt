@@ -1,5 +1,5 @@
 -- Scanning rows again.
-use Rattle.std.proofs.Common.{◌≡◌, ℕ, zero, suc, ◌+◌, ◌-◌, ◌<◌, ◌≤◌, ◌&&◌, nat_le, Bool, true, false, List, [], ◌∷◌, ◌++◌, length, map, take, drop, Option, Some, None, refl, ap, sym, subst, ◌∙◌, arith, inl, inr, length-append}
+use Rattle.std.proofs.Common.{◌≡◌, ℕ, zero, suc, ◌+◌, ◌-◌, ◌<◌, ◌≤◌, ◌&&◌, nat_le, Bool, true, false, List, [], ◌∷◌, ◌++◌, length, map, take, drop, Option, Some, None, refl, ap, sym, ◌∙◌, arith, inl, inr, length-append}
 use Rattle.std.specs.Prelude.{slice_get, IsSome}
 use Rattle.std.specs.Str.{chars}
 use Rattle.std.proofs.lemmas.Bool.{le-leb, cases_lt}
@@ -25,8 +25,7 @@ use Rattle.yl_scan.proofs.Resumed.{resumed}
 use Rattle.yl_record.specs.Parts.{entries_in, indentations_in, with_fault_in}
 use Rattle.yl_record.specs.Records.{RecordValue, records, records_from, records_with}
 use Rattle.yl_record.specs.Recorded.{RecorderValue, entries_with_scalar, entries_with_rest, if_wanted, recorded}
-use Rattle.yl_record.specs.Recorder.{state_in}
-use Rattle.yl_rescan.specs.Agree.{agree, agrees, state_of_row, BeginsAt}
+use Rattle.yl_rescan.specs.Agree.{agree, state_of_row, BeginsAt}
 use Rattle.yl_rescan.specs.Rescan.{characters_in}
 use Rattle.yl_rescan.proofs.Rows.{with_drop, records_state, records_length}
 

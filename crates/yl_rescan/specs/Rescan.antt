@@ -1,5 +1,5 @@
 -- Meaning: which rows of an edited text are scanned again. A text is given as its rows, and a row as its characters.
-use Rattle.std.specs.Prelude.{◌≡◌, ◌≤◌, ◌<◌, ◌+◌, ◌-◌, ◌⊎◌, ℕ, List, length, map, Option, Some, None, IsSome}
+use Rattle.std.specs.Prelude.{◌≡◌, ◌≤◌, ◌<◌, ◌+◌, ◌-◌, ◌⊎◌, ℕ, List, length, map, Some, None, IsSome}
 use Rattle.std.specs.Str.{chars}
 use Rattle.yl_text.specs.Lines.{RowValue}
 use Rattle.yl_row.specs.Entries.{LineStateValue, entries}

@@ -1,8 +1,7 @@
-use Rattle.std.proofs.Common.{◌≡◌, ◌+◌, ◌-◌, cond, ◌<◌, ◌^◌, List, option_map, length, refl, ap, sym, ◌∙◌, subst, arith}
+use Rattle.std.proofs.Common.{◌+◌, ◌-◌, cond, List, option_map, length, refl, ap, sym, ◌∙◌, subst, arith}
 use Rattle.std.specs.List.{splice}
 use Rattle.yl_text.specs.Lines.{RowValue}
 use Rattle.yl_text.specs.Store.{AreLines}
-use Rattle.yl_lexeme.specs.declared.meter.Meter.{Meter}
 use Rattle.yl_rescan.specs.Rescan.{characters_in}
 use Rattle.yl_rescan.proofs.Edits.{WasScanned, characters_length, few_rows, below_length, begins_patched, above_edit, rescanned_rows}
 use Rattle.yl_rescan.proofs.rescanning.rescan.Goals as goal

@@ -1,6 +1,5 @@
-use Rattle.std.proofs.Common.{rules, ◌≡◌, ◌≤◌, ◌<◌, ◌+◌, ◌-◌, ◌&&◌, ◌∙◌, ℕ, List, [], true, false, nat_le, Option, option_map, length, take, drop, refl, sym, ap, arith}
+use Rattle.std.proofs.Common.{◌≡◌, ◌≤◌, ◌+◌, ◌-◌, ◌&&◌, ◌∙◌, List, false, nat_le, Option, option_map, length, drop, refl, sym, ap, arith}
 use Rattle.std.proofs.lemmas.Bool.{leb-true}
-use Rattle.yl_text.specs.Lines.{RowValue}
 use Rattle.yl_lexeme.specs.declared.meter.Meter.{Meter}
 use Rattle.yl_row.specs.Entries.{LineStateValue}
 use Rattle.yl_record.specs.Records.{RecordValue, records}
