@@ -11,7 +11,7 @@ documents_holding line r m [] = 0
 documents_holding line r m (s ∷ ss) =
     (if leb line m && ltb r (line + length s) then document_count (lexemes_of s) else 0) + documents_holding (line + length s) r m ss
 
--- the section of the rows before row `from` ends there in the new text: a section begins with that row which began with it in no old
--- text, or no row follows
+-- the new text's section before row `from` ends there: with that row a section begins that did not begin in the old text, or no row
+-- follows
 abbrev pub EndsAnew : List RecordValue → List RecordValue → ℕ → Type 0
 EndsAnew old new from = ((is_start_at old from ≡ false) × (is_start_at new from ≡ true)) ⊎ (from ≡ length new)

@@ -62,7 +62,8 @@ fn judge_between<A: Allocator + Copy>(
     judge_all(alloc, config, &all, meter)
 }
 
-/// The same, where they come after so many sections that stay; if there are no rows, and sections before them, there is nothing.
+/// What is kept of each section of the records from `first` on to before z. Sections that stay come before them: where these are some
+/// and the records none, as where whole documents went, there is nothing to judge. Counts their documents in the meter.
 fn judge_changed<A: Allocator + Copy>(
     alloc: A,
     config: &Config,
@@ -87,8 +88,8 @@ fn judge_changed<A: Allocator + Copy>(
 }
 
 /// What is kept of the sections of the new records, from what is kept of those of the old ones: the new records are the old ones before
-/// row `from`, and from row `end` on the old ones from `old_end` on, rows counted from 0. Judges the sections that hold a row from the
-/// one before `from` to the one before `end`, and counts their documents in the meter. The only error is out of memory.
+/// row `from`, and from row `end` on the old ones from `old_end` on, rows counted from 0. Judges no section but those that hold a row
+/// from the one before `from` on to before `end`, and counts their documents in the meter. The only error is out of memory.
 pub fn rejudge<A: Allocator + Copy>(
     alloc: A,
     config: &Config,
