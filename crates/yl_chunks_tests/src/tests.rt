@@ -1,4 +1,5 @@
 mod growths;
+mod lists;
 mod random;
 mod seams;
 

@@ -8,13 +8,13 @@ use std::test::Fail;
 use yl_chunks::ChunkStore;
 
 // How many rows the texts have.
-const SIZES: [usize; 4] = [255, 256, 257, 513];
+pub(crate) const SIZES: [usize; 4] = [255, 256, 257, 513];
 
 // Places at the ends of the texts, and about the borders of chunks that halve or third them.
-const PLACES: [usize; 12] = [0, 1, 128, 129, 171, 172, 254, 255, 256, 257, 342, 513];
+pub(crate) const PLACES: [usize; 12] = [0, 1, 128, 129, 171, 172, 254, 255, 256, 257, 342, 513];
 
 // How many rows are put in: with them a chunk keeps its rows, is filled, is split, or is left empty.
-const COUNTS: [usize; 6] = [0, 1, 2, 128, 256, 257];
+pub(crate) const COUNTS: [usize; 6] = [0, 1, 2, 128, 256, 257];
 
 // Puts rows in place of the rows a to b of a text of that size, so many in turn.
 fn edits(
