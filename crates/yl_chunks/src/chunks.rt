@@ -11,12 +11,17 @@ use crate::spreading::put;
 use std::alloc::{AllocError, Allocator};
 use std::marker::Model;
 
-/// A list of items, kept in chunks of 1 to `MOST` of them. In contracts it is the list.
+/// A list of items, kept in chunks of 1 to `MOST` of them. In contracts it is the list, and the room that is
+/// made for an edit of it, if any.
 ///
 /// An item is found by a binary search over the places at which the chunks begin, of 8 bytes each. An edit
 /// within a chunk that has room moves the items of that chunk, and the places of the chunks between it and
 /// the last edit's: edits near one another move nearly none. Any other makes the chunks that it touches
 /// anew. A chunk that an edit leaves with few items is joined with one beside it.
+///
+/// `splice` makes an edit at once. `make_room` and `fill_room` make it in two steps, so that several lists
+/// can change together: the first takes all memory and moves no item, and the second only moves items. Room
+/// is kept up to the next edit, or the next call that makes room.
 #[derive(Drop)]
 pub struct Chunks<T, A: Allocator> {
     chunks: Vec<Vec<T, A>, A>,
@@ -91,14 +96,16 @@ impl<T: Drop, A: Allocator + Copy> Chunks<T, A> {
         ensures err { OnErr result (self.new.items ≡ self.old.items) }
         ensures back { OnErr result (new.new.items ≡ new.old.items) }
     {
-        self.make_room(a, b, new.len())?;
-        self.fill_room(a, b, new);
+        self.room = None;
+        let place = place_of(&self.chunks, &self.starts, a, b, new.len());
+        let prepared = prepare(&mut self.chunks, &mut self.starts, place, new.len())?;
+        put(&mut self.chunks, &mut self.starts, prepared, new);
         Ok(())
     }
 
     /// Makes room to put so many items in place of those from a to b, b not included, counted from 0, as
-    /// `fill_room` does. No item moves. The room is kept up to the next call that changes the list or makes
-    /// room. On `Err` a growth was refused.
+    /// `fill_room` does. No item moves. It takes the place of room that was made before. On `Err` a growth
+    /// was refused.
     pub fn make_room(&mut self, a: usize, b: usize, count: usize) -> Result<(), AllocError>
         requires range { IsRange a b (length self.old.items) }
         requires few { length self.old.items + count < 2 ^ 64 }
