@@ -7,7 +7,7 @@ use Rattle.yl_text.specs.Edit.{edited_text}
 use Rattle.yl_text.proofs.Computed.{lines_of-is}
 use Rattle.yl_config.specs.declared.config.Config.{Config}
 use Rattle.yl_session.specs.State.{SessionValue, Shows}
-use Rattle.yl_session.specs.declared.session.Work.{Work}
+use Rattle.yl_session.specs.declared.work.Work.{Work}
 use Rattle.yl_session.specs.Runs.{EditValue, IsAnswer, text_after, text_after_all, AreAnswers, Replayed}
 
 pub left_by-push : (t : List ℕ) (es : List EditValue) (rs : List (Result Work TextFault)) (e : EditValue) (r : Result Work TextFault) → AreAnswers t es rs → text_after_all t (es ++ e ∷ []) (rs ++ r ∷ []) ≡ text_after (text_after_all t es rs) e r

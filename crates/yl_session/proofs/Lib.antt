@@ -1,2 +1,4 @@
+mod Bounds
+mod Renewed
 pub mod Goes
 pub mod Nothing

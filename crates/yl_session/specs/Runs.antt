@@ -7,7 +7,7 @@ use Rattle.yl_text.specs.declared.fault.TextFault.TheVariants.{Memory}
 use Rattle.yl_text.specs.Lines.{RowValue, lines_of}
 use Rattle.yl_text.specs.Edit.{CanEdit, IsEditFault, edited_text}
 use Rattle.yl_config.specs.declared.config.Config.{Config}
-use Rattle.yl_session.specs.declared.session.Work.{Work}
+use Rattle.yl_session.specs.declared.work.Work.{Work}
 use Rattle.yl_session.specs.State.{SessionValue, Shows}
 
 -- no bytes in place of no line

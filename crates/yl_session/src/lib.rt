@@ -1,8 +1,16 @@
 //! The report of a text, and of a text that is kept open and edited.
+//!
+//! A session keeps a record of each row and what is kept of each section. An edit scans the rows that it can have changed, judges the
+//! sections that hold them, and puts the report together anew.
 #![tactic(auto)]
 
+mod beginning;
+mod planning;
+mod putting;
 mod replaying;
 mod session;
+mod work;
 
 pub use replaying::{Edit, replay};
-pub use session::{Session, Work, one_state};
+pub use session::{Session, one_state};
+pub use work::Work;

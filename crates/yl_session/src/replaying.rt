@@ -2,7 +2,8 @@
 ghost use Rattle.std.specs.Prelude.{◌≡◌, MatchResult, IfOk};
 ghost use Rattle.yl_text.specs.Fault.{IsText, IsFaultOf};
 
-use crate::session::{Session, Work};
+use crate::session::Session;
+use crate::work::Work;
 use std::alloc::Allocator;
 use std::marker::Model;
 use yl_config::Config;

@@ -4,46 +4,51 @@ ghost use Rattle.std.specs.List.{splice};
 ghost use Rattle.yl_text.specs.Lines.{RowValue};
 ghost use Rattle.yl_text.specs.Fault.{IsText, IsFaultOf};
 ghost use Rattle.yl_text.specs.Store.{AreLines, IsRange};
-ghost use Rattle.yl_text.specs.Edit.{CanEdit, edited_text, incoming_lines};
+ghost use Rattle.yl_text.specs.Edit.{CanEdit, edited_text, incoming_lines, inserted_rows};
 ghost use Rattle.yl_session.specs.State.{OneState};
+ghost use Rattle.yl_lint.specs.TextReport.{characters_in};
 ghost use Rattle.yl_session.specs.Runs.{IsNothing};
+ghost use Rattle.yl_session.specs.Work.{IsWork};
 
+use crate::beginning::{Beginning, begin};
+use crate::planning::{make_room, planned};
+use crate::putting::put;
+use crate::work::Work;
 use std::alloc::{AllocError, Allocator};
 use std::marker::Model;
+use yl_chunks::Chunks;
 use yl_config::Config;
-use yl_lexeme::Meter;
-use yl_lint::report_of_lines;
+use yl_record::Record;
 use yl_report::{Problem, status};
-use yl_text::{LineStore, Patched, Row, TextFault, rows_fit, split};
+use yl_sections::Kept;
+use yl_text::{LineStore, Row, TextFault, split};
 
-/// What an edit took: how many rows were turned into lexemes, and of how many documents events were
-/// derived.
-#[derive(Clone, Copy, Debug, PartialEq, Eq)]
-pub struct Work {
-    pub scanned: u32,
-    pub documents: u32,
-}
-
-/// The lines of a text, and their report under a configuration.
+/// The lines of a text, with a record of each, what is kept of its sections, and its report under a
+/// configuration.
 #[derive(Drop)]
 pub struct Session<S: LineStore> {
     alloc: S::Alloc,
     config: Config,
     store: S,
+    records: Chunks<Record<S::Alloc>, S::Alloc>,
+    kept: Vec<Kept<S::Alloc>, S::Alloc>,
     problems: Vec<Problem<S::Alloc>, S::Alloc>,
 }
 
 impl<S: LineStore> Model for Session<S> {
     ghost use Rattle.std.specs.Prelude.{◌≡◌};
     ghost use Rattle.yl_session.specs.State.{SessionValue};
-    ghost use Rattle.yl_lint.specs.TextReport.{report};
+    ghost use Rattle.yl_lint.specs.TextReport.{kept_of_text, records_of, report};
     ghost use Rattle.yl_text.specs.Store.{AreLines};
 
     ghost Value = { SessionValue };
 
     ghost view = { λ s. record { config = s.config; rows = S.rows s.store; problems = s.problems.items } };
 
-    ghost invariant = { λ s. AreLines (S.rows s.store) × (s.problems.items ≡ report s.config (S.rows s.store)) };
+    ghost invariant = { λ s. AreLines (S.rows s.store)
+        × (s.records.items ≡ records_of (S.rows s.store))
+        × (s.kept.items ≡ kept_of_text s.config (S.rows s.store))
+        × (s.problems.items ≡ report s.config (S.rows s.store)) };
 }
 
 impl<S: LineStore> Session<S> {
@@ -61,14 +66,20 @@ impl<S: LineStore> Session<S> {
         let Ok(store) = S::from_rows(&mut rows) else {
             return Err(TextFault::Memory);
         };
-        rows_fit(&store);
-        let Ok(problems) = report_of_lines(alloc, &config, &store, &mut Meter::new()) else {
+        let Ok(begun) = begin(alloc, &config, &store) else {
             return Err(TextFault::Memory);
         };
+        let Beginning {
+            records,
+            kept,
+            problems,
+        } = begun;
         Ok(Session {
             alloc,
             config,
             store,
+            records,
+            kept,
             problems,
         })
     }
@@ -116,26 +127,41 @@ impl<S: LineStore> Session<S> {
         ensures config { self.new.config ≡ self.old.config }
         ensures rows { OnOk result (self.new.rows ≡ splice self.old.rows a b rows.old.items) }
         ensures problems { OnOk result (self.new.problems ≡ report self.new.config self.new.rows) }
+        ensures work { IfOk result (λ work. IsWork (characters_in self.old.rows) (characters_in (splice self.old.rows a b rows.old.items)) a b (length rows.old.items) work) }
         ensures err { OnErr result (self.new ≡ self.old) }
     {
-        let mut meter = Meter::new();
-        let problems = {
-            let patched = Patched::new(&self.store, a, b, rows.as_slice());
-            rows_fit(&patched);
-            report_of_lines(self.alloc, &self.config, &patched, &mut meter)?
-        };
+        let mut plan = planned(
+            self.alloc,
+            &self.config,
+            &self.store,
+            &self.records,
+            &self.kept,
+            a,
+            b,
+            rows.as_slice(),
+        )?;
+        make_room(&mut self.records, &mut self.kept, &plan)?;
         self.store.splice(a, b, rows)?;
-        self.problems = problems;
-        Ok(Work {
-            scanned: meter.lines,
-            documents: meter.documents,
-        })
+        self.records.fill_room(
+            plan.rescan.from,
+            plan.rescan.old_end,
+            &mut plan.rescan.records,
+        );
+        put(
+            &mut self.kept,
+            plan.rejudged.from,
+            plan.rejudged.end,
+            &mut plan.rejudged.kept,
+        );
+        self.problems = plan.problems;
+        Ok(plan.work)
     }
 
     /// Puts the bytes in place of the lines a to b, where that is no fault.
     fn put(&mut self, a: usize, b: usize, bytes: &[u8]) -> Result<Work, AllocError>
         requires { CanEdit self.old.rows a b bytes.now }
         ensures ok { OnOk result (Shows self.old.config (edited_text self.old.rows a b bytes.now) self.new) }
+        ensures work { IfOk result (λ work. IsWork (characters_in self.old.rows) (characters_in self.new.rows) a b (length (inserted_rows self.old.rows b bytes.now)) work) }
         ensures err { OnErr result (self.new ≡ self.old) }
     {
         let before = b < self.store.len();
@@ -150,6 +176,8 @@ impl<S: LineStore> Session<S> {
     pub fn edit(&mut self, a: u64, b: u64, bytes: &[u8]) -> Result<Work, TextFault>
         ensures answer { IsAnswer self.old.rows a b bytes.now result }
         ensures done { OnOk result (Shows self.old.config (edited_text self.old.rows a b bytes.now) self.new) }
+        // No more than the rows and documents that the edit can have changed.
+        ensures work { IfOk result (λ work. ¬ (IsNothing a b bytes.now) → IsWork (characters_in self.old.rows) (characters_in self.new.rows) a b (length (inserted_rows self.old.rows b bytes.now)) work) }
         ensures refused { OnErr result (self.new ≡ self.old) }
         ensures nothing { a < length self.old.rows → IsNothing a b bytes.now → (result ≡ Ok no_work) × (self.new ≡ self.old) }
     {

@@ -1,14 +1,71 @@
-use Rattle.std.proofs.Common.{◌≤◌, ◌+◌, List, ℕ, length, take, drop, arith, length-append, ◌++◌}
+use Rattle.std.proofs.Common.{◌≡◌, ◌+◌, ℕ, refl, List, Result, Ok, Err, length, arith, ap, sym, subst, ◌∙◌}
 use Rattle.std.specs.List.{splice}
-use Rattle.yl_text.specs.Lines.{RowValue, text_of}
 use Rattle.yl_text.specs.Store.{AreLines}
-use Rattle.yl_text.proofs.Edited.{length-lines}
+use Rattle.yl_record.specs.Records.{RecordValue}
+use Rattle.yl_sections.specs.Kept.{KeptValue}
+use Rattle.yl_lint.specs.TextReport.{kept_of_text, records_of, report}
+use Rattle.yl_session.proofs.Bounds.{few_lines, few_records}
+use Rattle.std.specs.Prelude.{OnErr}
+use Rattle.yl_text.specs.Lines.{RowValue}
+use Rattle.yl_config.specs.declared.config.Config.{Config}
+use Rattle.yl_report.specs.Report.{ProblemValue}
+use Rattle.yl_session.specs.State.{SessionValue}
 use Rattle.yl_session.proofs.session.Session.change.Goals as goal
 
-few : (ps ns : List RowValue) (a b : ℕ) → AreLines (splice ps a b ns) → length ns ≤ length (text_of (splice ps a b ns)) + 1
-few ps ns a b h = omega (arith, length-lines (splice ps a b ns) h.lines.ended, length-append (take a ps) (ns ++ drop b ps), length-append ns (drop b ps))
+-- what holds holds where it is refused
+held : {X E P : Type 0} (r : Result X E) → P → OnErr r P
+held (Ok x) p = tt
+held (Err e) p = p
 
-pub new-patched-requires-clause-few : goal.new-patched-requires-clause-few
-new-patched-requires-clause-few g c =
-    let old : AreLines (g.S.Lines.rows c.self.inside.store) = c.self.invariant.0 in
-    omega (arith, length-lines (g.S.Lines.rows c.self.inside.store) old.lines.ended, old.short, few c.args.self.now.rows c.args.rows.now.items c.args.a c.args.b c.requires.lines, c.requires.lines.short, c.as_slice.ensures.len)
+abbrev state : Config → List RowValue → List ProblemValue → SessionValue
+state c ps problems = record { config = c; rows = ps; problems = problems }
+
+pub returns-in_err-make_room-clause-err : goal.returns-in_err-make_room-clause-err
+returns-in_err-make_room-clause-err g c = held c.from_residual-in_err-make_room.result c.self.view_is
+
+pub returns-in_err-splice-clause-err : goal.returns-in_err-splice-clause-err
+returns-in_err-splice-clause-err g c =
+    held c.from_residual-in_err-splice.result (ap (λ (ps : List RowValue). state c.self.inside.config ps c.self.inside.problems.items) c.in_err-splice.ensures.err ∙ c.self.view_is)
+
+-- a list that was renewed of new lines
+renewed : {X : Type 0} {all : List X} {rows new : List RowValue} (held old items : List X) (i j : ℕ) (f : List RowValue → List X) → rows ≡ new → all ≡ splice held i j items → held ≡ old → splice old i j items ≡ f rows → all ≡ f new
+renewed held old items i j f e is same made = rw (is, same, made, e) refl
+
+shown_so : {X : Type 0} {all : List X} {rows new : List RowValue} (f : List RowValue → List X) → rows ≡ new → all ≡ f rows → all ≡ f new
+shown_so f e is = rw (is, e) refl
+
+pub make_room-requires-clause-few : goal.make_room-requires-clause-few
+make_room-requires-clause-few g c =
+    let rows = g.S.Lines.rows c.self.inside.store in
+    omega (arith, few_lines rows c.self.invariant.0, few_records rows, ap (λ (rs : List RecordValue). length rs) c.self.invariant.1, c.in_ok-plan.plan.rescan.records.small)
+
+pub invariant_of-self : goal.invariant_of-self
+invariant_of-self g c = (c.self.invariant.0, c.make_room.ensures.records ∙ c.self.invariant.1, c.make_room.ensures.kept ∙ c.self.invariant.2, c.self.invariant.3)
+
+pub invariant_of-self-in_err-splice : goal.invariant_of-self-in_err-splice
+invariant_of-self-in_err-splice g c =
+    let e = sym c.in_err-splice.ensures.err in
+    let P : List RowValue → Type 0 = λ rows. AreLines rows in
+    (
+      subst P e c.self.invariant.0,
+      c.make_room.ensures.records ∙ (c.self.invariant.1 ∙ ap records_of e),
+      c.make_room.ensures.kept ∙ (c.self.invariant.2 ∙ ap (kept_of_text c.self.inside.config) e),
+      c.self.invariant.3 ∙ ap (report c.self.inside.config) e,
+    )
+
+pub invariant_of-self-2 : goal.invariant_of-self-2
+invariant_of-self-2 g c =
+    let rows = g.S.Lines.rows c.self.inside.store in
+    let new = splice rows c.args.a c.args.b c.args.rows.now.items in
+    let e : new ≡ g.S.Lines.rows c.splice.new.self = sym c.in_ok-splice.ensures.ok in
+    let P : List RowValue → Type 0 = λ ps. AreLines ps in
+    let Q : List RowValue → Type 0 = λ ps. AreLines (splice ps c.args.a c.args.b c.args.rows.now.items) in
+    let here : c.args.self.now.rows ≡ rows = sym (ap (λ (s : SessionValue). s.rows) c.self.view_is) in
+    let plan = c.in_ok-plan.plan in
+    let put : splice rows c.args.a c.args.b c.as_slice.result.now ≡ g.S.Lines.rows c.splice.new.self = ap (λ (ps : List RowValue). splice rows c.args.a c.args.b ps) c.as_slice.ensures.value ∙ e in
+    (
+      subst P e (subst Q here c.requires.lines),
+      renewed c.make_room.new.records.items c.self.inside.records.items plan.rescan.records.items plan.rescan.from plan.rescan.old_end records_of put c.fill_room.ensures.items c.make_room.ensures.records c.in_ok-plan.ensures.records,
+      renewed c.make_room.new.kept.items c.deref.result.now plan.rejudged.kept.items plan.rejudged.from plan.rejudged.end (kept_of_text c.self.inside.config) put c.put.ensures.items (c.make_room.ensures.kept ∙ sym c.deref.ensures.value) c.in_ok-plan.ensures.kept,
+      shown_so (report c.self.inside.config) put c.in_ok-plan.ensures.problems,
+    )

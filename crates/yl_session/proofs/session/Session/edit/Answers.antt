@@ -34,4 +34,4 @@ pub returns-then-is_nothing-clause-done : goal.returns-then-is_nothing-clause-do
 returns-then-is_nothing-clause-done g c =
     let n : IsNothing c.args.a c.args.b c.args.bytes.now = c.if-is_nothing.ensures.0 refl in
     let P : SessionValue → Type 0 = λ s. Shows s.config (edited_text s.rows c.args.a c.args.b c.args.bytes.now) s in
-    subst P c.self.view_is (record { config = refl; lines = IsLines-nothing (g.S.Lines.rows c.self.inside.store) c.args.a c.args.b c.args.bytes.now c.self.invariant.0 n; problems = c.self.invariant.1 })
+    subst P c.self.view_is (record { config = refl; lines = IsLines-nothing (g.S.Lines.rows c.self.inside.store) c.args.a c.args.b c.args.bytes.now c.self.invariant.0 n; problems = c.self.invariant.3 })

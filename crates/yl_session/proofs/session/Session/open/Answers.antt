@@ -14,9 +14,9 @@ are_lines t rows stored same lines text =
 
 pub invariant_of-result : goal.invariant_of-result
 invariant_of-result g c =
-    (are_lines c.args.bytes.now c.in_ok-rows.rows.items (g.S.Lines.rows c.in-Ok.store) c.in-Ok.ensures.ok c.in_ok-rows.ensures.lines c.in_ok-rows.ensures.text, c.in-Ok-report_of_lines.ensures.report)
+    (are_lines c.args.bytes.now c.in_ok-rows.rows.items (g.S.Lines.rows c.in-Ok.store) c.in-Ok.ensures.ok c.in_ok-rows.ensures.lines c.in_ok-rows.ensures.text, c.in-Ok-begin.ensures.records, c.in-Ok-begin.ensures.kept, c.in-Ok-begin.ensures.problems)
 
 pub returns-clause-shown : goal.returns-clause-shown
 returns-clause-shown g c =
     let P : List RowValue → Type 0 = λ rows. IsLines c.args.bytes.now rows in
-    record { config = refl; lines = subst P (sym c.in-Ok.ensures.ok) c.in_ok-rows.ensures.lines; problems = c.in-Ok-report_of_lines.ensures.report }
+    record { config = refl; lines = subst P (sym c.in-Ok.ensures.ok) c.in_ok-rows.ensures.lines; problems = c.in-Ok-begin.ensures.problems }

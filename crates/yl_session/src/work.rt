@@ -1,0 +1,9 @@
+//! What an edit took.
+
+/// What an edit took: how many rows were turned into lexemes, and of how many documents events were
+/// derived.
+#[derive(Clone, Copy, Debug, PartialEq, Eq)]
+pub struct Work {
+    pub scanned: u32,
+    pub documents: u32,
+}
