@@ -9,8 +9,8 @@ use Rattle.yl_text.specs.Lines.{RowValue}
 use Rattle.yl_rules.specs.declared.options.RowOptions.{RowOptions}
 use Rattle.yl_rules.specs.Rows.{row_findings}
 use Rattle.yl_row.specs.Entries.{RowEntry}
-use Rattle.yl_record.specs.Records.{RecordValue, records_with}
-use Rattle.yl_lint.specs.TextReport.{characters_in, findings_from}
+use Rattle.yl_record.specs.Records.{RecordValue, characters_in, records_with}
+use Rattle.yl_lint.specs.TextReport.{findings_from}
 
 pub rows_at : (rows : List RowValue) (i : ℕ) (row : RowValue) → slice_get rows i ≡ Some row → drop i rows ≡ row ∷ drop (i + 1) rows
 rows_at rows i row e =

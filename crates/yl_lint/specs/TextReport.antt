@@ -21,7 +21,7 @@ use Rattle.yl_report.specs.Report.{ProblemValue, report_of}
 use Rattle.yl_config.specs.declared.config.Config.{Config}
 use Rattle.yl_settings.specs.declared.options.RuleOptions.{RuleOptions}
 use Rattle.yl_config.specs.Config.{levels_of, options_of}
-use Rattle.yl_record.specs.Records.{RecordValue, records}
+use Rattle.yl_record.specs.Records.{RecordValue, characters_in, records}
 use Rattle.yl_sections.specs.Kept.{KeptValue, SectionFaultValue, Here, Behind}
 use Rattle.yl_sections.specs.Judge.{documents_in, kept_of_section}
 use Rattle.yl_sections.specs.Sections.{sections}
@@ -122,9 +122,6 @@ report_of_kept config in_lines first end ks =
     (in_lines
     ++ (fault_in_sections 0 end ks
     ++ findings_in_sections (options_of config).indentation (measure_of (facts_in_sections seen)) 0 empty_measure seen))
-
-abbrev pub characters_in : List RowValue → List (List ℕ)
-characters_in rows = map (λ row. chars row.text) rows
 
 abbrev pub records_of : List RowValue → List RecordValue
 records_of rows = records (characters_in rows)

@@ -1,8 +1,14 @@
 -- Meaning: what is kept of a text, row by row: with how many spaces a row begins, and its entry.
 use Rattle.std.specs.Prelude.{ℕ, List, [], ◌∷◌, map}
+use Rattle.std.specs.Str.{chars}
 use Rattle.yl_text.specs.Character.{indentation}
+use Rattle.yl_text.specs.Lines.{RowValue}
 use Rattle.yl_row.specs.Entries.{RowEntry, LineStateValue, entries}
 use Rattle.yl_scan.specs.Restart.{from_state}
+
+-- the characters of each row
+abbrev pub characters_in : List RowValue → List (List ℕ)
+characters_in rows = map (λ row. chars row.text) rows
 
 pub record RecordValue : Type 0 where
   pub indentation : ℕ

@@ -111,8 +111,7 @@ pub fn rejudge<A: Allocator + Copy>(
     requires meter { meter.old.documents + length records.now < 2 ^ 32 - 1 }
     ensures range { IfOk result (λ r. IsRange r.from r.end (length kept.now)) }
     ensures kept { IfOk result (λ r. splice kept.now r.from r.end r.kept.items ≡ map (kept_of_section config.now) (sections records.now)) }
-    ensures documents { OnOk result ((m : ℕ) → end ≤ m + 1 → meter.new.documents ≤ meter.old.documents + documents_holding 0 (from - 1) m (sections records.now)) }
-    ensures nearest { OnOk result ((m : ℕ) → end ≤ m + 1 → (meter.new.documents ≤ meter.old.documents + documents_holding 0 from m (sections records.now))
+    ensures documents { OnOk result ((m : ℕ) → end ≤ m + 1 → (meter.new.documents ≤ meter.old.documents + documents_holding 0 from m (sections records.now))
         ⊎ (EndsAnew old.now.items records.now from × (meter.new.documents ≤ meter.old.documents + documents_holding 0 (from - 1) m (sections records.now)))) }
     ensures lines { OnOk result (meter.new.lines ≡ meter.old.lines) }
 {

@@ -12,9 +12,9 @@ use Rattle.yl_row.specs.Entries.{LineStateValue, entries}
 use Rattle.yl_scan.specs.Restart.{state_at}
 use Rattle.yl_scan.proofs.States.{states_told}
 use Rattle.yl_scan.proofs.Restarts.{prefix, shift}
-use Rattle.yl_record.specs.Records.{RecordValue, records}
+use Rattle.yl_record.specs.Records.{RecordValue, characters_in, records}
 use Rattle.yl_rescan.specs.Agree.{agree, agrees, state_of_row, BeginsAt, BeginsBelow}
-use Rattle.yl_rescan.specs.Rescan.{characters_in, HaveSameState, IsRestart, IsRescan}
+use Rattle.yl_rescan.specs.Rescan.{HaveSameState, IsRestart, IsRescan}
 use Rattle.yl_rescan.proofs.Rows.{records_length, records_state, same_back, same_front}
 
 -- ---- lists

@@ -23,10 +23,9 @@ use Rattle.yl_scan.specs.Restart.{state_at, from_state}
 use Rattle.yl_scan.specs.Settled.{with_last}
 use Rattle.yl_scan.proofs.Resumed.{resumed}
 use Rattle.yl_record.specs.Parts.{entries_in, indentations_in, with_fault_in}
-use Rattle.yl_record.specs.Records.{RecordValue, records, records_from, records_with}
+use Rattle.yl_record.specs.Records.{RecordValue, characters_in, records, records_from, records_with}
 use Rattle.yl_record.specs.Recorded.{RecorderValue, entries_with_scalar, entries_with_rest, if_wanted, recorded}
 use Rattle.yl_rescan.specs.Agree.{agree, state_of_row, BeginsAt}
-use Rattle.yl_rescan.specs.Rescan.{characters_in}
 use Rattle.yl_rescan.proofs.Rows.{with_drop, records_state, records_length}
 
 -- ---- what is put into records late leaves their states alone

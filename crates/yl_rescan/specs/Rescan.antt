@@ -1,13 +1,7 @@
 -- Meaning: which rows of an edited text are scanned again. A text is given as its rows, and a row as its characters.
-use Rattle.std.specs.Prelude.{◌≡◌, ◌≤◌, ◌<◌, ◌+◌, ◌-◌, ◌⊎◌, ℕ, List, length, map, Some, None, IsSome}
-use Rattle.std.specs.Str.{chars}
-use Rattle.yl_text.specs.Lines.{RowValue}
+use Rattle.std.specs.Prelude.{◌≡◌, ◌≤◌, ◌<◌, ◌+◌, ◌-◌, ◌⊎◌, ℕ, List, length, Some, None, IsSome}
 use Rattle.yl_row.specs.Entries.{LineStateValue, entries}
 use Rattle.yl_scan.specs.Restart.{state_at}
-
--- the characters of each row
-abbrev pub characters_in : List RowValue → List (List ℕ)
-characters_in rows = map (λ row. chars row.text) rows
 
 -- the greatest sound row above row a, or the first row
 pub record IsRestart (t : List (List ℕ)) (a r : ℕ) : Type 0 where

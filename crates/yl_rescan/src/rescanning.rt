@@ -2,8 +2,8 @@
 ghost use Rattle.std.specs.Prelude.{◌≡◌, ◌≤◌, ◌<◌, ◌+◌, ◌-◌, ◌^◌, true, length, take, drop, IfOk, OnOk, if◌then◌else◌};
 ghost use Rattle.std.specs.List.{splice};
 ghost use Rattle.yl_text.specs.Store.{AreLines, IsRange};
-ghost use Rattle.yl_record.specs.Records.{records};
-ghost use Rattle.yl_rescan.specs.Rescan.{characters_in, IsRescan};
+ghost use Rattle.yl_record.specs.Records.{characters_in, records};
+ghost use Rattle.yl_rescan.specs.Rescan.{IsRescan};
 
 use crate::scanning::{last_sound, rescan_from};
 use std::alloc::{AllocError, Allocator};

@@ -2,10 +2,9 @@
 ghost use Rattle.std.specs.Prelude.{◌≡◌, ◌≤◌, ◌<◌, ◌+◌, ◌-◌, ◌^◌, ◌&&◌, ℕ, List, [], true, false, nat_le, Some, None, IfOk, OnOk, option_map, length, take, drop, if◌then◌else◌};
 ghost use Rattle.yl_text.specs.Store.{AreLines};
 ghost use Rattle.yl_row.specs.Entries.{LineStateValue};
-ghost use Rattle.yl_record.specs.Records.{records, records_from};
+ghost use Rattle.yl_record.specs.Records.{characters_in, records, records_from};
 ghost use Rattle.yl_record.specs.Recorded.{recorded};
 ghost use Rattle.yl_rescan.specs.Agree.{agree, agrees, state_of_row, BeginsAt, BeginsBelow};
-ghost use Rattle.yl_rescan.specs.Rescan.{characters_in};
 
 use std::alloc::{AllocError, Allocator};
 use yl_chunks::Chunks;

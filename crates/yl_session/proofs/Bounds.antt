@@ -8,7 +8,8 @@ use Rattle.yl_text.specs.Store.{AreLines}
 use Rattle.yl_text.proofs.Edited.{length-lines}
 use Rattle.std.specs.Str.{chars}
 use Rattle.yl_row.specs.Entries.{entries}
-use Rattle.yl_lint.specs.TextReport.{characters_in, records_of}
+use Rattle.yl_lint.specs.TextReport.{records_of}
+use Rattle.yl_record.specs.Records.{characters_in}
 use Rattle.yl_lint.proofs.Rows.{few_with}
 
 new_within : (ps ns : List RowValue) (a b : ℕ) → length ns ≤ length (splice ps a b ns)

@@ -1,16 +1,16 @@
 -- What is renewed of a session's text, and what it took.
-use Rattle.std.proofs.Common.{◌≡◌, ◌≤◌, ◌<◌, ◌+◌, ◌-◌, ◌⊎◌, inl, inr, ℕ, List, length, take, drop, map, [], ◌∷◌, Option, Some, None, refl, arith, ap, sym, subst, ◌∙◌}
+use Rattle.std.proofs.Common.{◌≡◌, ◌≤◌, ◌<◌, ◌+◌, ◌-◌, ◌⊎◌, inl, inr, ℕ, zero, suc, List, length, take, drop, map, [], ◌∷◌, Option, Some, None, refl, arith, ap, sym, subst, ◌∙◌}
 use Rattle.std.specs.Prelude.{IsSome}
 use Rattle.yl_text.specs.Lines.{RowValue}
 use Rattle.yl_text.specs.Store.{AreLines}
-use Rattle.yl_row.specs.Entries.{LineStateValue, Stopped, Stands, entries}
+use Rattle.yl_row.specs.Entries.{RowEntry, LineStateValue, Stopped, Stands, entries}
 use Rattle.yl_scan.specs.Restart.{state_at}
 use Rattle.yl_record.specs.Records.{RecordValue, records}
 use Rattle.yl_sections.specs.Local.{kind_after}
 use Rattle.yl_sections.specs.Sections.{sections}
 use Rattle.yl_sections.proofs.Last.{last_kept, stopped_empty}
 use Rattle.yl_rescan.specs.Rescan.{IsRescan, IsRestart}
-use Rattle.yl_rescan.proofs.Rows.{each_row, records_length, state_within}
+use Rattle.yl_rescan.proofs.Rows.{each_row, records_length}
 use Rattle.yl_rejudge.specs.Places.{GoOnAlike}
 use Rattle.yl_rejudge.specs.Documents.{documents_holding, EndsAnew}
 use Rattle.yl_session.specs.declared.work.Work.{Work}
@@ -31,6 +31,12 @@ go_on_alike old new rs us rs_are us_are a b k r i j n h = elim h.ended [
 begins_anew : (old new : List (List ℕ)) (r : ℕ) → r < length new → EndsAnew (records old) (records new) r → BeginsAnew old new r
 begins_anew old new r within (inl h) = h
 begins_anew old new r within (inr h) = absurd (omega (arith, within, h, records_length new))
+
+-- the state at a row that is there
+state_within : (es : List RowEntry) (i : ℕ) (s : LineStateValue) → state_at es i ≡ Some s → i < length es
+state_within [] i s h = absurd (cc)
+state_within (e ∷ es) zero s h = omega arith
+state_within (e ∷ es) (suc i) s h = let l = state_within es i s h in omega (arith, l)
 
 some_of : {X : Type 0} (o : Option X) → IsSome o → (x : X) × (o ≡ Some x)
 some_of None h = absurd (cc)

@@ -2,7 +2,8 @@
 ghost use Rattle.std.specs.Prelude.{◌≡◌, ◌≤◌, ◌<◌, ◌^◌, ◌+◌, ◌++◌, Some, length, map, vec_len, vec_capacity, IfOk, OnOk};
 ghost use Rattle.std.specs.List.{splice};
 ghost use Rattle.yl_text.specs.Store.{AreLines, IsRange};
-ghost use Rattle.yl_lint.specs.TextReport.{characters_in, kept_of_text, records_of, report};
+ghost use Rattle.yl_lint.specs.TextReport.{kept_of_text, records_of, report};
+ghost use Rattle.yl_record.specs.Records.{characters_in};
 ghost use Rattle.yl_session.specs.Work.{IsWork};
 
 use crate::beginning::with_lent;
@@ -75,7 +76,11 @@ pub fn make_room<A: Allocator + Copy>(
     ensures room { OnOk result (records.new.room ≡ Some (record { a = plan.now.rescan.from; b = plan.now.rescan.old_end; count = vec_len plan.now.rescan.records })) }
     ensures kept_room { OnOk result (vec_len kept.new + vec_len plan.now.rejudged.kept ≤ vec_capacity kept.new) }
 {
-    records.make_room(plan.rescan.from, plan.rescan.old_end, plan.rescan.records.len())?;
+    records.make_room(
+        plan.rescan.from,
+        plan.rescan.old_end,
+        plan.rescan.records.len(),
+    )?;
     kept.try_reserve(plan.rejudged.kept.len())?;
     Ok(())
 }

@@ -18,12 +18,7 @@ fn replace<T: Drop, A: Allocator>(items: &mut Vec<T, A>, from: usize, new: &mut 
 }
 
 /// Puts the new items in place of the items a to b, where there is room for both. Where they are as many, no other item moves.
-pub fn put<T: Drop, A: Allocator>(
-    items: &mut Vec<T, A>,
-    a: usize,
-    b: usize,
-    new: &mut Vec<T, A>,
-)
+pub fn put<T: Drop, A: Allocator>(items: &mut Vec<T, A>, a: usize, b: usize, new: &mut Vec<T, A>)
     requires range { IsRange a b (vec_len items.old) }
     requires room { vec_len items.old + vec_len new.old ≤ vec_capacity items.old }
     ensures items { items.new.items ≡ splice items.old.items a b new.old.items }

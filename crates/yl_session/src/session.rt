@@ -6,7 +6,7 @@ ghost use Rattle.yl_text.specs.Fault.{IsText, IsFaultOf};
 ghost use Rattle.yl_text.specs.Store.{AreLines, IsRange};
 ghost use Rattle.yl_text.specs.Edit.{CanEdit, edited_text, incoming_lines, inserted_rows};
 ghost use Rattle.yl_session.specs.State.{OneState};
-ghost use Rattle.yl_lint.specs.TextReport.{characters_in};
+ghost use Rattle.yl_record.specs.Records.{characters_in};
 ghost use Rattle.yl_session.specs.Runs.{IsNothing};
 ghost use Rattle.yl_session.specs.Work.{IsWork};
 

@@ -2,12 +2,12 @@ use Rattle.std.proofs.Common.{rules, ◌≡◌, ◌+◌, ◌++◌, ◌∙◌, Li
 use Rattle.std.proofs.Math.ListN.{drop_of_length-le}
 use Rattle.yl_text.specs.Lines.{RowValue}
 use Rattle.yl_lexeme.specs.declared.meter.Meter.{Meter}
-use Rattle.yl_record.specs.Records.{RecordValue}
+use Rattle.yl_record.specs.Records.{RecordValue, characters_in}
 use Rattle.yl_record.specs.Recorded.{RecorderValue, recorded, records_without_states}
 use Rattle.yl_sections.specs.Kept.{KeptValue}
 use Rattle.yl_sections.specs.Judge.{documents_in, kept_of_section}
 use Rattle.yl_sections.specs.Sections.{sections}
-use Rattle.yl_lint.specs.TextReport.{characters_in, document_count}
+use Rattle.yl_lint.specs.TextReport.{document_count}
 use Rattle.yl_lint.proofs.Rows.{told_more}
 use Rattle.yl_sections.proofs.Stateless.{kept_without_states, documents_without_states}
 use Rattle.yl_lint.proofs.Streamed.{few_at_end, counted_at_end}

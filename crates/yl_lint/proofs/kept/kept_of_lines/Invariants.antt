@@ -2,7 +2,8 @@ use Rattle.std.proofs.Common.{◌≡◌, ◌≤◌, ◌+◌, ◌++◌, false, dr
 use Rattle.yl_record.specs.Recorded.{recorded}
 use Rattle.yl_sections.specs.Judge.{documents_in, kept_of_section}
 use Rattle.yl_sections.specs.Sections.{sections}
-use Rattle.yl_lint.specs.TextReport.{characters_in, document_count, kept_of_text}
+use Rattle.yl_lint.specs.TextReport.{document_count, kept_of_text}
+use Rattle.yl_record.specs.Records.{characters_in}
 use Rattle.yl_lint.proofs.kept.kept_of_lines.Given as goal
 
 abbrev pub invariant-loop-i : goal.invariant-loop-i

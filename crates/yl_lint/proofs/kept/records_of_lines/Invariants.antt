@@ -1,6 +1,7 @@
 use Rattle.std.proofs.Common.{◌≡◌, ◌+◌, drop, length}
 use Rattle.yl_record.specs.Recorded.{recorded}
-use Rattle.yl_lint.specs.TextReport.{characters_in, records_of}
+use Rattle.yl_lint.specs.TextReport.{records_of}
+use Rattle.yl_record.specs.Records.{characters_in}
 use Rattle.yl_lint.proofs.kept.records_of_lines.Given as goal
 
 abbrev pub invariant-loop-i : goal.invariant-loop-i

@@ -49,14 +49,6 @@ returns-clause-documents g c = λ m l.
     c.front_of-first.result.row c.back_of-last.result.row c.new_row-z.result c.requires.before c.requires.behind (omega (arith, c.front_of-first.ensures.row, c.section_of.ensures.row)) c.back_of-last.ensures.section.0 c.back_of-last.ensures.section.1
     c.front_of-first.ensures.at c.back_of-last.ensures.at (c.new_row-z.ensures ∙ ap (λ n. cond (c.back_of-last.result.section == length c.args.kept.now) n (c.back_of-last.result.row - c.args.old_end + c.args.end)) c.len.ensures)
     c.front_of-first.ensures.start c.back_of-last.ensures.start c.front_of-first.ensures.passed c.section_of.ensures.last c.back_of-last.ensures.passed c.requires.old_range.ordered c.requires.range.ordered c.requires.range.within c.requires.alike in
-    omega (arith, c.in_ok-kept.ensures.documents, o.few m l)
-
-pub returns-clause-nearest : goal.returns-clause-nearest
-returns-clause-nearest g c = λ m l.
-    let o = outcome c.args.config.now c.args.old.now.items c.args.records.now c.args.kept.now c.args.from c.args.old_end c.args.end c.requires.kept c.front_of-first.result.section c.section_of.result.section c.back_of-last.result.section
-    c.front_of-first.result.row c.back_of-last.result.row c.new_row-z.result c.requires.before c.requires.behind (omega (arith, c.front_of-first.ensures.row, c.section_of.ensures.row)) c.back_of-last.ensures.section.0 c.back_of-last.ensures.section.1
-    c.front_of-first.ensures.at c.back_of-last.ensures.at (c.new_row-z.ensures ∙ ap (λ n. cond (c.back_of-last.result.section == length c.args.kept.now) n (c.back_of-last.result.row - c.args.old_end + c.args.end)) c.len.ensures)
-    c.front_of-first.ensures.start c.back_of-last.ensures.start c.front_of-first.ensures.passed c.section_of.ensures.last c.back_of-last.ensures.passed c.requires.old_range.ordered c.requires.range.ordered c.requires.range.within c.requires.alike in
     elim (o.near m l) [
       | inl h ↦ inl (omega (arith, c.in_ok-kept.ensures.documents, h))
       | inr h ↦ inr (h.0, omega (arith, c.in_ok-kept.ensures.documents, h.1))

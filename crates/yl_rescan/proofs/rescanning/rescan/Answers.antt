@@ -2,7 +2,7 @@ use Rattle.std.proofs.Common.{◌+◌, ◌-◌, cond, List, option_map, length, 
 use Rattle.std.specs.List.{splice}
 use Rattle.yl_text.specs.Lines.{RowValue}
 use Rattle.yl_text.specs.Store.{AreLines}
-use Rattle.yl_rescan.specs.Rescan.{characters_in}
+use Rattle.yl_record.specs.Records.{characters_in}
 use Rattle.yl_rescan.proofs.Edits.{WasScanned, characters_length, few_rows, below_length, begins_patched, above_edit, rescanned_rows}
 use Rattle.yl_rescan.proofs.rescanning.rescan.Goals as goal
 

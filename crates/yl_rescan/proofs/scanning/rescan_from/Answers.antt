@@ -2,10 +2,9 @@ use Rattle.std.proofs.Common.{◌≡◌, ◌≤◌, ◌+◌, ◌-◌, ◌&&◌, 
 use Rattle.std.proofs.lemmas.Bool.{leb-true}
 use Rattle.yl_lexeme.specs.declared.meter.Meter.{Meter}
 use Rattle.yl_row.specs.Entries.{LineStateValue}
-use Rattle.yl_record.specs.Records.{RecordValue, records}
+use Rattle.yl_record.specs.Records.{RecordValue, characters_in, records}
 use Rattle.yl_record.specs.Recorded.{recorded}
 use Rattle.yl_rescan.specs.Agree.{agree, agrees, state_of_row}
-use Rattle.yl_rescan.specs.Rescan.{characters_in}
 use Rattle.yl_rescan.proofs.Scans.{begins_told, told_next, state_told, cut_told, least_more, stopped, all_told}
 use Rattle.yl_rescan.proofs.scanning.rescan_from.Goals as goal
 

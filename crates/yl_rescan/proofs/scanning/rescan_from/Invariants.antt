@@ -1,8 +1,7 @@
 use Rattle.std.proofs.Common.{◌≡◌, ◌<◌, ◌≤◌, ◌+◌, ◌-◌, ℕ, true, false, length, drop}
-use Rattle.yl_record.specs.Records.{records}
+use Rattle.yl_record.specs.Records.{characters_in, records}
 use Rattle.yl_record.specs.Recorded.{recorded}
 use Rattle.yl_rescan.specs.Agree.{agrees}
-use Rattle.yl_rescan.specs.Rescan.{characters_in}
 use Rattle.yl_rescan.proofs.scanning.rescan_from.Given as goal
 
 abbrev pub invariant-loop-i : goal.invariant-loop-i

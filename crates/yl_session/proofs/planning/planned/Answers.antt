@@ -4,8 +4,8 @@ use Rattle.std.specs.List.{splice}
 use Rattle.std.specs.Str.{chars}
 use Rattle.yl_text.specs.Lines.{RowValue}
 use Rattle.yl_lexeme.specs.declared.meter.Meter.{Meter}
-use Rattle.yl_record.specs.Records.{RecordValue}
-use Rattle.yl_lint.specs.TextReport.{characters_in, records_of}
+use Rattle.yl_record.specs.Records.{RecordValue, characters_in}
+use Rattle.yl_lint.specs.TextReport.{records_of}
 use Rattle.yl_rescan.proofs.Rows.{records_length}
 use Rattle.yl_session.proofs.Bounds.{few_lines, few_new, few_records}
 use Rattle.yl_session.proofs.Renewed.{go_on_alike, has_row, is_work}
@@ -77,4 +77,4 @@ returns-clause-work g c =
     is_work (characters_in rows) (characters_in new) c.args.records.now.items c.new-spliced.result c.args.a c.args.b (length c.args.rows.now) c.in_ok-rescan.rescan.from c.in_ok-rescan.rescan.old_end c.in_ok-rescan.rescan.end c.rescan.new.meter.lines
     c.rejudge.new.meter.lines c.rejudge.new.meter.documents c.requires.records is (omega (arith, has_row new c.requires.lines, length-map new (λ (row : RowValue). chars row.text))) c.in_ok-rescan.ensures.work
     c.in_ok-rejudged.ensures.lines
-    (λ m l. less (c.in_ok-rejudged.ensures.nearest m l) (omega (arith, c.in_ok-rescan.ensures.documents, ap (λ (m : Meter). m.documents) c.new-meter.ensures)))
+    (λ m l. less (c.in_ok-rejudged.ensures.documents m l) (omega (arith, c.in_ok-rescan.ensures.documents, ap (λ (m : Meter). m.documents) c.new-meter.ensures)))

@@ -45,8 +45,7 @@ invariant_of-self g c = (c.self.invariant.0, c.make_room.ensures.records ∙ c.s
 pub invariant_of-self-in_err-splice : goal.invariant_of-self-in_err-splice
 invariant_of-self-in_err-splice g c =
     let e = sym c.in_err-splice.ensures.err in
-    let P : List RowValue → Type 0 = λ rows. AreLines rows in
-    (
+    let P : List RowValue → Type 0 = λ rows. AreLines rows in (
       subst P e c.self.invariant.0,
       c.make_room.ensures.records ∙ (c.self.invariant.1 ∙ ap records_of e),
       c.make_room.ensures.kept ∙ (c.self.invariant.2 ∙ ap (kept_of_text c.self.inside.config) e),
@@ -62,8 +61,7 @@ invariant_of-self-2 g c =
     let Q : List RowValue → Type 0 = λ ps. AreLines (splice ps c.args.a c.args.b c.args.rows.now.items) in
     let here : c.args.self.now.rows ≡ rows = sym (ap (λ (s : SessionValue). s.rows) c.self.view_is) in
     let plan = c.in_ok-plan.plan in
-    let put : splice rows c.args.a c.args.b c.as_slice.result.now ≡ g.S.Lines.rows c.splice.new.self = ap (λ (ps : List RowValue). splice rows c.args.a c.args.b ps) c.as_slice.ensures.value ∙ e in
-    (
+    let put : splice rows c.args.a c.args.b c.as_slice.result.now ≡ g.S.Lines.rows c.splice.new.self = ap (λ (ps : List RowValue). splice rows c.args.a c.args.b ps) c.as_slice.ensures.value ∙ e in (
       subst P e (subst Q here c.requires.lines),
       renewed c.make_room.new.records.items c.self.inside.records.items plan.rescan.records.items plan.rescan.from plan.rescan.old_end records_of put c.fill_room.ensures.items c.make_room.ensures.records c.in_ok-plan.ensures.records,
       renewed c.make_room.new.kept.items c.deref.result.now plan.rejudged.kept.items plan.rejudged.from plan.rejudged.end (kept_of_text c.self.inside.config) put c.put.ensures.items (c.make_room.ensures.kept ∙ sym c.deref.ensures.value) c.in_ok-plan.ensures.kept,
