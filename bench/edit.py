@@ -109,7 +109,7 @@ def show(words, program, folder):
                 times = sorted(row[0] for row in kinds[kind])
                 median, most = statistics.median(times), times[min(len(times) - 1, int(len(times) * 0.99))]
                 rows, judged, problems = (max(row[i] for row in kinds[kind]) for i in (1, 2, 3))
-                print(f"{place:7} {kind:8} {len(times):6} {median / 1e3:10.1f} {most / 1e3:9.1f} {opened / median:12.0f}"
+                print(f"{place:7} {kind:8} {len(times):6} {median / 1e3:10.1f} {most / 1e3:9.1f} {opened / median:12.1f}"
                       f" {rows:10} {judged:10} {problems:9}")
             print(f"{place:7} peak {peak / MIB:.0f} MiB", flush=True)
 
