@@ -9,7 +9,7 @@ use Rattle.yl_text.specs.Edit.{edited_text}
 use Rattle.yl_text.proofs.Computed.{lines_of-is}
 use Rattle.yl_config.specs.declared.config.Config.{Config}
 use Rattle.yl_report.specs.Written.{AppendsFront}
-use Rattle.yl_session.specs.declared.session.Work.{Work}
+use Rattle.yl_session.specs.declared.work.Work.{Work}
 use Rattle.yl_session.specs.Runs.{EditValue, AreAnswers, IsAnswer, Replayed, text_after, text_after_all}
 use Rattle.yl_session.specs.State.{SessionValue, Shows}
 use Rattle.yl_lint.specs.TextReport.{report}

@@ -7,7 +7,7 @@ use Rattle.yl_text.specs.Lines.{RowValue, lines_of}
 use Rattle.yl_config.specs.declared.config.Config.{Config}
 use Rattle.yl_report.specs.Report.{report_text, status_of}
 use Rattle.yl_report.specs.Written.{AppendsFront}
-use Rattle.yl_session.specs.declared.session.Work.{Work}
+use Rattle.yl_session.specs.declared.work.Work.{Work}
 use Rattle.yl_session.specs.Runs.{EditValue, text_after, text_after_all, AreAnswers}
 use Rattle.yl_lint.specs.TextReport.{report}
 use Rattle.yl_args.specs.declared.answer.Flags.{Flags}

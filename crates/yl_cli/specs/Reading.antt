@@ -6,7 +6,7 @@ use Rattle.yl_text.specs.declared.fault.TextFault.{TextFault}
 use Rattle.yl_text.specs.Lines.{lines_of}
 use Rattle.yl_config.specs.declared.config.Config.{Config}
 use Rattle.yl_report.specs.Written.{AppendsFront}
-use Rattle.yl_session.specs.declared.session.Work.{Work}
+use Rattle.yl_session.specs.declared.work.Work.{Work}
 use Rattle.yl_session.specs.Runs.{EditValue, IsAnswer, Replayed, text_after}
 use Rattle.yl_session.specs.State.{SessionValue, Shows}
 use Rattle.yl_args.specs.declared.answer.Flags.{Flags}
