@@ -83,8 +83,21 @@ impl<A: Allocator> Record<A> {
     }
 }
 
+/// The same lexemes, in no more room than they take.
+fn fitted<A: Allocator + Copy>(lexemes: Vec<Lexeme<A>, A>) -> Result<Vec<Lexeme<A>, A>, AllocError>
+    ensures { IfOk result (λ fitted. fitted.items ≡ lexemes.items) }
+{
+    let mut lexemes = lexemes;
+    if lexemes.len() == lexemes.capacity() {
+        return Ok(lexemes);
+    }
+    let mut fitted = Vec::with_capacity(*lexemes.allocator(), lexemes.len())?;
+    fitted.append(&mut lexemes)?;
+    Ok(fitted)
+}
+
 /// The record of a row that told this, with its fault and a scalar that ends below it left out.
-pub fn record_of<A: Allocator>(
+pub fn record_of<A: Allocator + Copy>(
     alloc: A,
     indentation: u32,
     state: Option<LineState<A>>,
@@ -93,8 +106,7 @@ pub fn record_of<A: Allocator>(
 ) -> Result<Record<A>, AllocError>
     ensures { IfOk result (λ r. r ≡ record { indentation = indentation; entry = record { state = state; lexemes = lexemes.items; comment = comment; fault = None } }) }
 {
-    let mut lexemes = lexemes;
-    lexemes.shrink_to_fit();
+    let lexemes = fitted(lexemes)?;
     let extra = match comment {
         None => None,
         Some(comment) => Some(Box::new(
