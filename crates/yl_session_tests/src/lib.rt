@@ -4,4 +4,6 @@
 #[cfg(test)]
 mod growth;
 #[cfg(test)]
+mod refused;
+#[cfg(test)]
 mod shown;

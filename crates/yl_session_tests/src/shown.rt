@@ -8,7 +8,11 @@ use yl_text::LineStore;
 fn are_same<A: Allocator>(problems: &[Problem<A>], wanted: &[Problem<A>]) -> bool {
     problems.len() == wanted.len()
         && problems.iter().zip(wanted).all(|(a, b)| {
-            a.line() == b.line() && a.column() == b.column() && a.message() == b.message()
+            a.line() == b.line()
+                && a.column() == b.column()
+                && a.rule() == b.rule()
+                && a.is_error() == b.is_error()
+                && a.message() == b.message()
         })
 }
 
@@ -22,5 +26,7 @@ pub fn show_same<S: LineStore>(session: &Session<S>, wanted: &Session<S>) -> boo
             return false;
         }
     }
-    are_same(session.problems(), wanted.problems())
+    session.status(false) == wanted.status(false)
+        && session.status(true) == wanted.status(true)
+        && are_same(session.problems(), wanted.problems())
 }
