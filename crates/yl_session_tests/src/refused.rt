@@ -12,37 +12,38 @@ use yl_text::{LineStore, PlainStore, TextFault};
 type Heap<'a> = &'a Refusing<Global>;
 
 // An edit: these bytes in place of the lines from the first to the second number on.
-type Change = (u64, u64, &'static [u8]);
+type Change<'b> = (u64, u64, &'b [u8]);
 
 // A session over a text, after edits of it.
-fn edited<'a, S: LineStore<Alloc = Heap<'a>>>(
-    heap: Heap<'a>,
+fn edited<S: LineStore>(
+    alloc: S::Alloc,
     text: &str,
-    changes: &[Change],
+    changes: &[Change<'_>],
 ) -> Result<Session<S>, TextFault> {
-    let mut session = Session::open(heap, Config::standard(), text.as_bytes())?;
+    let mut session = Session::open(alloc, Config::standard(), text.as_bytes())?;
     for (a, b, bytes) in changes {
         session.edit(*a, *b, bytes)?;
     }
     Ok(session)
 }
 
-// How many runs of an edit, which follows others, there are up to the first that meets no refusal. After each refused growth all that is
-// shown is as before, and the edit asked again is answered as in a session that met no refusal.
-fn refused_in_turn<'a, S: LineStore<Alloc = Heap<'a>>>(
+// How many runs of an edit there are, after earlier ones, up to the first that meets no refusal; the allocator takes memory from the heap.
+// After each refused growth all that is shown is as before, and the edit asked again is answered as in a session that met no refusal.
+fn refused_in_turn<S: LineStore>(
     rt: &impl Abort,
-    heap: Heap<'a>,
+    heap: &Refusing<Global>,
+    alloc: S::Alloc,
     text: &str,
-    earlier: &[Change],
-    change: Change,
+    earlier: &[Change<'_>],
+    change: Change<'_>,
 ) -> Result<u64, Fail> {
     let (a, b, bytes) = change;
-    let before: Session<S> = edited(heap, text, earlier)?;
-    let mut after: Session<S> = edited(heap, text, earlier)?;
+    let before: Session<S> = edited(alloc, text, earlier)?;
+    let mut after: Session<S> = edited(alloc, text, earlier)?;
     let wanted = after.edit(a, b, bytes);
     assert!(rt; wanted.is_ok());
     for n in 1..u64::MAX {
-        let mut session: Session<S> = edited(heap, text, earlier)?;
+        let mut session: Session<S> = edited(alloc, text, earlier)?;
         heap.refuse(n);
         let answer = session.edit(a, b, bytes);
         let is_met = !heap.is_armed();
@@ -63,11 +64,15 @@ fn refused_in_turn<'a, S: LineStore<Alloc = Heap<'a>>>(
 }
 
 // Each of these edits of a text in turn, over both stores.
-fn check<'a>(rt: &impl Abort, heap: Heap<'a>, text: &str, changes: &[Change]) -> Result<(), Fail> {
+fn check(rt: &impl Abort, heap: Heap<'_>, text: &str, changes: &[Change<'_>]) -> Result<(), Fail> {
     for (i, change) in changes.iter().enumerate() {
         let earlier = changes.get(..i).unwrap_or(&[]);
-        let plain = refused_in_turn::<PlainStore<Heap<'a>>>(rt, heap, text, earlier, *change)?;
-        let chunks = refused_in_turn::<ChunkStore<Heap<'a>>>(rt, heap, text, earlier, *change)?;
+        let plain = refused_in_turn::<PlainStore<Heap<'_>>>(
+            rt, heap, heap, text, earlier, *change,
+        )?;
+        let chunks = refused_in_turn::<ChunkStore<Heap<'_>>>(
+            rt, heap, heap, text, earlier, *change,
+        )?;
         assert!(rt;
             plain > 20 && chunks > 20,
             "{plain} and {chunks} runs of edit {i} of {text:?}"
@@ -77,7 +82,7 @@ fn check<'a>(rt: &impl Abort, heap: Heap<'a>, text: &str, changes: &[Change]) ->
 }
 
 // A text, and edits of it.
-const EDITS: [(&str, &[Change]); 8] = [
+const EDITS: [(&str, &[Change<'static>]); 8] = [
     ("a \r\nb\nc \n", &[(1, 2, b"x \ny\r")]),
     ("---\n- a\n- b\n", &[(2, 3, b"  b\n")]),
     (
