@@ -1,5 +1,5 @@
 //! What an edit is to change, made beside what there is.
-ghost use Rattle.std.specs.Prelude.{◌≡◌, ◌≤◌, ◌<◌, ◌^◌, ◌+◌, ◌++◌, Some, length, map, vec_len, vec_capacity, IfOk, OnOk};
+ghost use Rattle.std.specs.Prelude.{◌≡◌, ◌≤◌, ◌<◌, ◌^◌, ◌+◌, ◌++◌, Some, length, map, vec_len, vec_capacity, IfOk, OnOk, MatchOption};
 ghost use Rattle.std.specs.List.{splice};
 ghost use Rattle.yl_text.specs.Store.{AreLines, IsRange};
 ghost use Rattle.yl_lint.specs.TextReport.{kept_of_text, records_of, report};
@@ -19,6 +19,7 @@ use yl_report::Problem;
 use yl_rescan::{Rescanned, rescan};
 use yl_sections::Kept;
 use yl_text::{LineStore, Patched, Row};
+use yl_unchanged::leaves_report;
 
 /// What is kept of the sections, with this in place of that of those from `from` on, before `end`; lent.
 fn lent_kept<'a, A: Allocator + Copy>(
@@ -54,12 +55,43 @@ fn report_after<S: LineStore>(
     report_with_kept(alloc, config, &patched, kept)
 }
 
-/// What an edit is to change: the records of some rows, what is kept of some sections, and the report.
+/// The report after the edit that puts these rows in place of the lines a to b, where what is kept of the sections becomes this; none
+/// where the edit is seen to leave it as it is.
+fn renewed_report<S: LineStore>(
+    alloc: S::Alloc,
+    config: &Config,
+    store: &S,
+    a: usize,
+    b: usize,
+    rows: &[Row<S::Alloc>],
+    kept: &[Kept<S::Alloc>],
+    new: &Rejudged<S::Alloc>,
+) -> Result<Option<Vec<Problem<S::Alloc>, S::Alloc>>, AllocError>
+    requires range { IsRange a b (length (S.rows store.now)) }
+    requires old { AreLines (S.rows store.now) }
+    requires lines { AreLines (splice (S.rows store.now) a b rows.now) }
+    requires kept { kept.now ≡ kept_of_text config.now (S.rows store.now) }
+    requires kept_range { IsRange new.now.from new.now.end (length kept.now) }
+    requires new { splice kept.now new.now.from new.now.end new.now.kept.items ≡ kept_of_text config.now (splice (S.rows store.now) a b rows.now) }
+    ensures { IfOk result (λ problems. MatchOption problems
+        (report config.now (splice (S.rows store.now) a b rows.now) ≡ report config.now (S.rows store.now))
+        (λ v. v.items ≡ report config.now (splice (S.rows store.now) a b rows.now))) }
+{
+    if leaves_report(
+        alloc, config, store, a, b, rows, kept, new.from, new.end, &new.kept,
+    )? {
+        return Ok(None);
+    }
+    let all = lent_kept(alloc, kept, new)?;
+    Ok(Some(report_after(alloc, config, store, a, b, rows, &all)?))
+}
+
+/// What an edit is to change: the records of some rows, what is kept of some sections, and the report, unless it stays.
 #[derive(Drop)]
 pub struct Plan<A: Allocator> {
     pub rescan: Rescanned<A>,
     pub rejudged: Rejudged<A>,
-    pub problems: Vec<Problem<A>, A>,
+    pub problems: Option<Vec<Problem<A>, A>>,
     pub work: Work,
 }
 
@@ -105,7 +137,9 @@ pub fn planned<S: LineStore>(
     ensures records { IfOk result (λ p. splice records.now.items p.rescan.from p.rescan.old_end p.rescan.records.items ≡ records_of (splice (S.rows store.now) a b rows.now)) }
     ensures kept_range { IfOk result (λ p. IsRange p.rejudged.from p.rejudged.end (length kept.now)) }
     ensures kept { IfOk result (λ p. splice kept.now p.rejudged.from p.rejudged.end p.rejudged.kept.items ≡ kept_of_text config.now (splice (S.rows store.now) a b rows.now)) }
-    ensures problems { IfOk result (λ p. p.problems.items ≡ report config.now (splice (S.rows store.now) a b rows.now)) }
+    ensures problems { IfOk result (λ p. MatchOption p.problems
+        (report config.now (splice (S.rows store.now) a b rows.now) ≡ report config.now (S.rows store.now))
+        (λ v. v.items ≡ report config.now (splice (S.rows store.now) a b rows.now))) }
     ensures work { IfOk result (λ p. IsWork (characters_in (S.rows store.now)) (characters_in (splice (S.rows store.now) a b rows.now)) a b (length rows.now) p.work) }
 {
     let mut meter = Meter::new();
@@ -124,10 +158,7 @@ pub fn planned<S: LineStore>(
             &mut meter,
         )?
     };
-    let problems = {
-        let all = lent_kept(alloc, kept, &rejudged)?;
-        report_after(alloc, config, store, a, b, rows, &all)?
-    };
+    let problems = renewed_report(alloc, config, store, a, b, rows, kept, &rejudged)?;
     Ok(Plan {
         rescan,
         rejudged,

@@ -1,5 +1,5 @@
 //! A text that is kept open, with its report.
-ghost use Rattle.std.specs.Prelude.{◌≡◌, ◌<◌, ◌≤◌, ◌^◌, ◌↔◌, IsTrue, length, slice_get, Some, Ok, MatchResult, IfOk, OnOk, OnErr};
+ghost use Rattle.std.specs.Prelude.{◌≡◌, ◌<◌, ◌≤◌, ◌^◌, ◌↔◌, IsTrue, length, slice_get, Some, Ok, MatchOption, MatchResult, IfOk, OnOk, OnErr};
 ghost use Rattle.std.specs.List.{splice};
 ghost use Rattle.yl_text.specs.Lines.{RowValue};
 ghost use Rattle.yl_text.specs.Fault.{IsText, IsFaultOf};
@@ -153,7 +153,7 @@ impl<S: LineStore> Session<S> {
             plan.rejudged.end,
             &mut plan.rejudged.kept,
         );
-        self.problems = plan.problems;
+        renew(&mut self.problems, plan.problems);
         Ok(plan.work)
     }
 
@@ -204,6 +204,15 @@ impl<S: LineStore> Session<S> {
 pub fn one_state()
     ensures { OneState }
 {}
+
+/// Puts the new report in place of the old one, where there is a new one.
+fn renew<A: Allocator>(problems: &mut Vec<Problem<A>, A>, new: Option<Vec<Problem<A>, A>>)
+    ensures { MatchOption new (problems.new.items ≡ problems.old.items) (λ v. problems.new.items ≡ v.items) }
+{
+    if let Some(new) = new {
+        *problems = new;
+    }
+}
 
 /// Whether no line is replaced by no bytes.
 fn is_nothing(a: usize, b: usize, bytes: &[u8]) -> bool

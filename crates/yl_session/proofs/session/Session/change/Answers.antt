@@ -1,11 +1,11 @@
-use Rattle.std.proofs.Common.{◌≡◌, ◌+◌, ℕ, refl, List, Result, Ok, Err, length, arith, ap, sym, subst, ◌∙◌}
+use Rattle.std.proofs.Common.{◌≡◌, ◌+◌, ℕ, refl, Option, Some, None, List, Result, Ok, Err, length, arith, ap, sym, subst, ◌∙◌}
 use Rattle.std.specs.List.{splice}
 use Rattle.yl_text.specs.Store.{AreLines}
 use Rattle.yl_record.specs.Records.{RecordValue}
 use Rattle.yl_sections.specs.Kept.{KeptValue}
 use Rattle.yl_lint.specs.TextReport.{kept_of_text, records_of, report}
 use Rattle.yl_session.proofs.Bounds.{few_lines, few_records}
-use Rattle.std.specs.Prelude.{OnErr}
+use Rattle.std.specs.Prelude.{OnErr, MatchOption}
 use Rattle.yl_text.specs.Lines.{RowValue}
 use Rattle.yl_config.specs.declared.config.Config.{Config}
 use Rattle.yl_report.specs.Report.{ProblemValue}
@@ -31,8 +31,11 @@ returns-in_err-splice-clause-err g c =
 renewed : {X : Type 0} {all : List X} {rows new : List RowValue} (held old items : List X) (i j : ℕ) (f : List RowValue → List X) → rows ≡ new → all ≡ splice held i j items → held ≡ old → splice old i j items ≡ f rows → all ≡ f new
 renewed held old items i j f e is same made = rw (is, same, made, e) refl
 
-shown_so : {X : Type 0} {all : List X} {rows new : List RowValue} (f : List RowValue → List X) → rows ≡ new → all ≡ f rows → all ≡ f new
-shown_so f e is = rw (is, e) refl
+-- a report that was renewed, or stays
+shown_so : {X V : Type 0} {shown old : List X} {rows before new : List RowValue} (items : V → List X) (f : List RowValue → List X) → rows ≡ new → (o : Option V) → old ≡ f before
+    → MatchOption o (shown ≡ old) (λ v. shown ≡ items v) → MatchOption o (f rows ≡ f before) (λ v. items v ≡ f rows) → shown ≡ f new
+shown_so items f e None h stays same = stays ∙ (h ∙ (sym same ∙ ap f e))
+shown_so items f e (Some v) h is made = is ∙ (made ∙ ap f e)
 
 pub make_room-requires-clause-few : goal.make_room-requires-clause-few
 make_room-requires-clause-few g c =
@@ -65,5 +68,11 @@ invariant_of-self-2 g c =
       subst P e (subst Q here c.requires.lines),
       renewed c.make_room.new.records.items c.self.inside.records.items plan.rescan.records.items plan.rescan.from plan.rescan.old_end records_of put c.fill_room.ensures.items c.make_room.ensures.records c.in_ok-plan.ensures.records,
       renewed c.make_room.new.kept.items c.deref.result.now plan.rejudged.kept.items plan.rejudged.from plan.rejudged.end (kept_of_text c.self.inside.config) put c.put.ensures.items (c.make_room.ensures.kept ∙ sym c.deref.ensures.value) c.in_ok-plan.ensures.kept,
-      shown_so (report c.self.inside.config) put c.in_ok-plan.ensures.problems,
+      shown_so (λ v. v.items) (report c.self.inside.config) put plan.problems c.self.invariant.3 c.renew.ensures c.in_ok-plan.ensures.problems,
     )
+
+pub returns-clause-problems : goal.returns-clause-problems
+returns-clause-problems g c =
+    let rows = g.S.Lines.rows c.self.inside.store in
+    let put : splice rows c.args.a c.args.b c.as_slice.result.now ≡ g.S.Lines.rows c.splice.new.self = ap (λ (ps : List RowValue). splice rows c.args.a c.args.b ps) c.as_slice.ensures.value ∙ sym c.in_ok-splice.ensures.ok in
+    shown_so (λ v. v.items) (report c.self.inside.config) put c.in_ok-plan.plan.problems c.self.invariant.3 c.renew.ensures c.in_ok-plan.ensures.problems
