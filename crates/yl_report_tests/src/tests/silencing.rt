@@ -142,12 +142,13 @@ fn a_file_is_silenced(rt: HostRuntime) -> Result<(), Fail> {
     Ok(())
 }
 
-// A rule that is off is left out, and what stands twice stands once; the order is that of line, column,
-// rule and message.
+// A rule that is off is left out, and what stands twice stands once; each has the level of its rule; the
+// order is that of line, column, rule and message.
 #[test]
 fn a_report_is_in_order(rt: HostRuntime) -> Result<(), Fail> {
     let alloc = rt.alloc();
     let found = vec![in alloc;
+        make_found(alloc, 2, 9, RuleId::Truthy, "w")?,
         make_found(alloc, 2, 9, RuleId::Syntax, "b")?,
         make_found(alloc, 10, 1, RuleId::Colons, "a")?,
         make_found(alloc, 2, 9, RuleId::NewLineAtEndOfFile, "c")?,
@@ -164,21 +165,26 @@ fn a_report_is_in_order(rt: HostRuntime) -> Result<(), Fail> {
     )?;
     let mut seen = Vec::new(alloc);
     for problem in problems.as_slice() {
-        assert!(rt; problem.level() == Level::Error);
-        seen.push((problem.line(), problem.column(), problem.rule()))?;
+        seen.push((
+            problem.line(),
+            problem.column(),
+            problem.rule(),
+            problem.level(),
+        ))?;
     }
     assert!(rt;
         seen.as_slice()
             == [
-                (2, 9, RuleId::NewLineAtEndOfFile),
-                (2, 9, RuleId::Syntax),
-                (2, 9, RuleId::Syntax),
-                (2, 10, RuleId::Anchors),
-                (10, 1, RuleId::Colons),
+                (2, 9, RuleId::NewLineAtEndOfFile, Level::Error),
+                (2, 9, RuleId::Syntax, Level::Error),
+                (2, 9, RuleId::Syntax, Level::Error),
+                (2, 9, RuleId::Truthy, Level::Warning),
+                (2, 10, RuleId::Anchors, Level::Error),
+                (10, 1, RuleId::Colons, Level::Error),
             ]
             .as_slice()
     );
-    let messages: [&str; 5] = ["c", "a", "b", "a", "a"];
+    let messages: [&str; 6] = ["c", "a", "b", "w", "a", "a"];
     for (problem, message) in problems.iter().zip(messages) {
         assert_eq!(rt; problem.message(), message);
     }

@@ -4,7 +4,7 @@ use std::test::Fail;
 
 #[test]
 fn scalars(rt: HostRuntime) -> Result<(), Fail> {
-    let rows: [(&str, &str); 6] = [
+    let rows: [(&str, &str); 7] = [
         (
             "- a\n  b\n\n  c\n",
             "Entry 0:0 +0:1 \nScalar(Plain) 0:2 +3:3 a b\nc\nRows s----\n",
@@ -21,6 +21,10 @@ fn scalars(rt: HostRuntime) -> Result<(), Fail> {
             "- |\n  i # j\n",
             "Entry 0:0 +0:1 \nScalar(Literal) 0:2 +1:7 \nRows s--\n",
         ),
+        (
+            "---\na: |\n  # yamllint disable\n  x \n",
+            "DocStart 0:0 +0:3 \nScalar(Plain) 1:0 +0:1 a\nValue 1:1 +0:2 \nScalar(Literal) 1:3 +2:4 \nRows ss---\n",
+        ),
     ];
     for (text, want) in rows {
         assert_eq!(rt; told(rt.alloc(), text)?.as_str(), want);
@@ -30,7 +34,7 @@ fn scalars(rt: HostRuntime) -> Result<(), Fail> {
 
 #[test]
 fn other_lexemes_and_comments(rt: HostRuntime) -> Result<(), Fail> {
-    let rows: [(&str, &str); 5] = [
+    let rows: [(&str, &str); 7] = [
         (
             "{\"a\":1, b: 2}",
             "MapOpen 0:0 +0:1 \nScalar(Double) 0:1 +0:4 a\nValue 0:4 +0:5 \nScalar(Plain) 0:5 +0:6 1\nComma 0:6 +0:7 \n\
@@ -52,6 +56,17 @@ fn other_lexemes_and_comments(rt: HostRuntime) -> Result<(), Fail> {
             "# a\n- b # c\n\n'd' # e\n",
             "Entry 1:0 +0:1 \nScalar(Plain) 1:2 +0:3 b\nScalar(Single) 3:0 +0:3 d\n\
              Comment 0:0 # a\nComment 1:4 # c\nComment 3:4 # e\nRows ss-s-\n",
+        ),
+        (
+            "---\na: 1\nb: 2\n",
+            "DocStart 0:0 +0:3 \nScalar(Plain) 1:0 +0:1 a\nValue 1:1 +0:2 \nScalar(Plain) 1:3 +0:4 1\n\
+             Scalar(Plain) 2:0 +0:1 b\nValue 2:1 +0:2 \nScalar(Plain) 2:3 +0:4 2\nRows sss-\n",
+        ),
+        (
+            "---\na: [\n  1,\n  2\n]\nb: 3\n",
+            "DocStart 0:0 +0:3 \nScalar(Plain) 1:0 +0:1 a\nValue 1:1 +0:2 \nSeqOpen 1:3 +0:4 \n\
+             Scalar(Plain) 2:2 +0:3 1\nComma 2:3 +0:4 \nScalar(Plain) 3:2 +0:3 2\nSeqClose 4:0 +0:1 \n\
+             Scalar(Plain) 5:0 +0:1 b\nValue 5:1 +0:2 \nScalar(Plain) 5:3 +0:4 3\nRows ssssss-\n",
         ),
     ];
     for (text, want) in rows {
