@@ -16,7 +16,7 @@ from collections import defaultdict
 
 ROOT = os.path.join(os.path.dirname(os.path.abspath(__file__)), '..')
 # layers that only other crates of the library call
-INNER = {'yl_scalar', 'yl_row', 'yl_args', 'refusing'}
+INNER = {'yl_scalar', 'yl_row', 'yl_args', 'refusing', 'callers'}
 # and what other crates of the library alone call, of the crates that users meet
 INNER_CALLS = {
     'yl_text': {'first_special'},
@@ -122,7 +122,7 @@ def library():
         m = re.match(r'([a-z0-9_]+)[^:]*:', line)
         if m and os.path.exists(os.path.join(ROOT, 'crates', m.group(1), 'src/lib.rt')):
             crates.append(m.group(1))
-    return [c for c in crates if not re.search(r'_tests$|_rows$', c)]
+    return [c for c in crates if not c.endswith('_tests') and c not in ('callers', 'refusing')]
 
 
 def spans(text):

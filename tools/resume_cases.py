@@ -1,7 +1,7 @@
 #!/usr/bin/env python3
 """resume_cases.py MODEL SEED COUNT: compares records with a reference model on random texts, and with records from each sound row on.
 
-MODEL is the folder of the model (machine.py, texts.py). The crates are copied into a folder that goes away again, and yl_record_tests gets
+MODEL is the folder of the model (machine.py, texts.py). The crates are copied into a folder that goes away again, and yl_scan_tests gets
 tests over COUNT texts, which `rt try --test` runs there with no proof. Of each text the records are to be those that the model's answer
 gives. A recorder that begins at a sound row by its state is to tell the records from there on, and one that is cut there those above. The
 differences are printed, and the number of texts and of sound rows that were compared."""
@@ -92,7 +92,7 @@ def shown_state(state):
 
 
 def records(answer, text):
-    """What yl_record_tests is to show of the text."""
+    """What yl_scan_tests is to show of the text."""
     told = []
     for number, (row, state) in enumerate(zip(re.split("\r\n|\r|\n", text), answer["states"], strict=True)):
         told.append(f"Row {len(row) - len(row.lstrip(' '))} {shown_state(state)}\n")
@@ -157,13 +157,16 @@ def main():
     with tempfile.TemporaryDirectory() as folder:
         shutil.copytree(f"{REPOSITORY}/crates", f"{folder}/crates", ignore=shutil.ignore_patterns("out"))
         shutil.copy(f"{REPOSITORY}/crates.txt", folder)
-        crate = f"{folder}/crates/yl_record_tests"
-        with open(f"{crate}/src/tests/random.rt", "w") as file:
+        crate = f"{folder}/crates/yl_scan_tests"
+        source = f"{crate}/src"
+        with open(f"{source}/records/random.rt", "w") as file:
             file.write(tests(cases))
         for name in ("growths", "large"):
-            os.remove(f"{crate}/src/tests/{name}.rt")
-        edit(f"{crate}/src/tests.rt", "mod growths;\nmod large;\n", "mod random;\n")
-        edit(f"{crate}/src/tests/resumed.rt", "\nfn text_agreements(", "\npub fn text_agreements(")
+            os.remove(f"{source}/{name}.rt")
+            os.remove(f"{source}/records/{name}.rt")
+            edit(f"{source}/lib.rt", f"#[cfg(test)]\nmod {name};\n", "")
+        edit(f"{source}/records.rt", "mod growths;\nmod large;\n", "mod random;\n")
+        edit(f"{source}/records/resumed.rt", "\nfn text_agreements(", "\npub fn text_agreements(")
         ran = subprocess.run(["rt", "try", "--test", "--seconds", "600"], cwd=crate, capture_output=True, text=True)
     lines = [line for line in ran.stdout.splitlines() + ran.stderr.splitlines() if "texts_from_" in line]
     passed = sum(line.endswith("... ok") for line in lines if line.startswith("test "))

@@ -7,9 +7,12 @@ ghost use Rattle.yl_text.specs.Watched.{failures_of};
 use std::fs;
 use std::io::Write;
 use std::process::ExitCode;
-use yl_cli::{Asked, Flags, Program, ProgramFault, RunFault, asked, joined, lint};
+use yl_args::{Asked, Flags, asked};
+use yl_cli::{joined, lint};
 use yl_config::Config;
-use yl_programs::{config_of, ended, stopped, words};
+use yl_devices::{Program, ProgramFault, RunFault};
+use yl_programs::{ended, stopped, words};
+use yl_sources::config_of;
 use yl_text::Watched;
 
 // The name under which a file's problems are printed.
@@ -71,9 +74,9 @@ fn answered(rt: &HostRuntime) -> u8 {
         Ok(asked) => asked,
         Err(stop) => return ended(rt, Program::Yamllint, stop),
     };
-    match config_of(rt, &asked.config) {
+    match config_of(rt, Program::Yamllint, &asked.config) {
         Ok(config) => linted_all(rt, &asked, &config),
-        Err(fault) => stopped(rt, Program::Yamllint, &fault),
+        Err(status) => status,
     }
 }
 

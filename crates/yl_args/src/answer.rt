@@ -4,14 +4,6 @@ ghost use Rattle.yl_args.specs.declared.answer.Stop.TheVariants.{Memory};
 
 use std::alloc::{AllocError, AllocFailed};
 
-/// The program whose words they are.
-#[derive(Clone, Copy, Debug, PartialEq, Eq)]
-pub enum Program {
-    Yamllint,
-    Yledit,
-    Yldump,
-}
-
 /// How a run prints and counts.
 #[derive(Clone, Copy, Debug, PartialEq, Eq)]
 pub struct Flags {

@@ -1,8 +1,9 @@
 //! Words read by `clap`.
-use crate::answer::{Asked, AskedDump, Flags, Program, Source, Stop, View};
+use crate::answer::{Asked, AskedDump, Flags, Source, Stop, View};
 use clap::error::ErrorKind;
 use clap::{Arg, ArgAction, ArgGroup, ArgMatches, Command, Error};
 use std::alloc::{AllocError, Global};
+use yl_devices::Program;
 
 const FORMATS: [&str; 1] = ["parsable"];
 
@@ -156,7 +157,8 @@ fn source_of(alloc: Global, matches: &ArgMatches<'_>) -> Result<Source, AllocErr
     }
 }
 
-// What the words after the name `yledit` ask for. Standard input has the commands, so it is no file.
+// What the words after the name `yledit` ask for. Standard input has the commands, so it is no
+// file.
 fn asked_edit(alloc: Global, words: &[String]) -> Result<Asked, Stop> {
     let command = edit_command(alloc)?;
     let matches = match command.try_get_matches_from(words) {
@@ -178,9 +180,9 @@ fn asked_edit(alloc: Global, words: &[String]) -> Result<Asked, Stop> {
     })
 }
 
-/// What the words after the name of `yamllint` or `yledit` ask for. They are looked at from left to right: whichever
-/// of `-h` and a word that does not fit comes first answers. An option that is given twice, a value
-/// that is none of those that the option takes, and a want of files are `Use`.
+/// What the words after the name of `yamllint` or `yledit` ask for. They are looked at from left to
+/// right: whichever of `-h` and a word that does not fit comes first answers. An option that is
+/// given twice, a value that is none of those that the option takes, and a want of files are `Use`.
 pub fn asked(alloc: Global, program: Program, words: &[String]) -> Result<Asked, Stop> {
     if program == Program::Yledit {
         return asked_edit(alloc, words);
@@ -211,8 +213,8 @@ fn view_of(matches: &ArgMatches<'_>) -> View {
     }
 }
 
-/// What the words behind the name `yldump` ask for, which are looked at as those of `yamllint`. Two of the
-/// flags that say what is shown, and more than one file, are `Use`.
+/// What the words behind the name `yldump` ask for, which are looked at as those of `yamllint`. Two
+/// of the flags that say what is shown, and more than one file, are `Use`.
 pub fn asked_dump(alloc: Global, words: &[String]) -> Result<AskedDump, Stop> {
     let command = dump_command(alloc)?;
     let matches = match command.try_get_matches_from(words) {

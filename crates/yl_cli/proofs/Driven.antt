@@ -8,7 +8,7 @@ use Rattle.yl_text.specs.Lines.{RowValue, lines_of}
 use Rattle.yl_text.specs.Edit.{edited_text}
 use Rattle.yl_text.proofs.Computed.{lines_of-is}
 use Rattle.yl_config.specs.declared.config.Config.{Config}
-use Rattle.yl_report.specs.Written.{AppendsFront}
+use Rattle.yl_devices.specs.Written.{AppendsFront}
 use Rattle.yl_session.specs.declared.work.Work.{Work}
 use Rattle.yl_session.specs.Runs.{EditValue, AreAnswers, IsAnswer, Replayed, text_after, text_after_all}
 use Rattle.yl_session.specs.State.{SessionValue, Shows}
@@ -17,11 +17,11 @@ use Rattle.yl_report.specs.Report.{status_of}
 use Rattle.yl_session.proofs.Goes.{left_by-push, AreAnswers-push}
 use Rattle.yl_args.specs.declared.answer.Flags.{Flags}
 use Rattle.yl_cli.specs.Command.{Command, Bad, next_command}
-use Rattle.yl_cli.specs.declared.fault.RunFault.{RunFault}
-use Rattle.yl_cli.specs.declared.fault.RunFault.TheVariants as fault
+use Rattle.yl_devices.specs.declared.fault.RunFault.{RunFault}
+use Rattle.yl_devices.specs.declared.fault.RunFault.TheVariants as fault
 use Rattle.yl_cli.specs.Run.{Failures, IsCommandFault}
-use Rattle.yl_cli.specs.Text.{without_mark}
-use Rattle.yl_cli.specs.Drive.{AreCommands, WereRead, driven, refused_line, replies, reply, scanned_shown, shown_lines, shown_text, Devices, IsBegun, IsDriven, IsDriveFault}
+use Rattle.yl_devices.specs.Text.{without_mark}
+use Rattle.yl_cli.specs.Drive.{AreCommands, WereRead, text_of_run, refused_line, replies, reply, scanned_shown, shown_lines, shown_text, Devices, IsBegun, IsDriven, IsDriveFault}
 use Rattle.yl_cli.specs.Reading.{TakesCommand, IsReply, IsReplyBegun, SoFar}
 
 AreCommands-push : (xs mid rest : List ℕ) (es : List EditValue) (e : EditValue) → AreCommands xs es mid → next_command mid ≡ Command e rest → AreCommands xs (es ++ e ∷ []) rest
@@ -44,7 +44,7 @@ replies-push c name flags text (d ∷ es) (q ∷ rs) e r h =
     ∙ sym (append_assoc (reply c name flags (text_after text d q) q) (replies c name flags (text_after text d q) es rs) (reply c name flags (text_after (text_after_all (text_after text d q) es rs) e r) r))
 
 driven-push : (c : Config) (name : List ℕ) (flags : Flags) (text : List ℕ) (es : List EditValue) (rs : List (Result Work TextFault)) (e : EditValue) (r : Result Work TextFault) → AreAnswers text es rs
-    → driven c name flags text (es ++ e ∷ []) (rs ++ r ∷ []) ≡ driven c name flags text es rs ++ reply c name flags (text_after (text_after_all text es rs) e r) r
+    → text_of_run c name flags text (es ++ e ∷ []) (rs ++ r ∷ []) ≡ text_of_run c name flags text es rs ++ reply c name flags (text_after (text_after_all text es rs) e r) r
 driven-push c name flags text es rs e r h =
     ap (λ l. shown_text c name flags text None ++ l) (replies-push c name flags text es rs e r h)
     ∙ sym (append_assoc (shown_text c name flags text None) (replies c name flags text es rs) (reply c name flags (text_after (text_after_all text es rs) e r) r))
@@ -107,7 +107,7 @@ begun_so_far count c name flags text given mid before now s f = record {
   edits = f.edits;
   answers = f.answers;
   answered = f.replayed.answered;
-  written = record { front = driven c name flags text f.edits f.answers; rest = []; whole = sym (append-nil _); appends = f.written };
+  written = record { front = text_of_run c name flags text f.edits f.answers; rest = []; whole = sym (append-nil _); appends = f.written };
 }
 
 -- nothing but a beginning of the first report is out

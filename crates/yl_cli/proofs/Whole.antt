@@ -1,7 +1,7 @@
 -- A text that is short enough was read to the reader's end.
 use Rattle.std.proofs.Common.{◌≡◌, ℕ, ◌+◌, ◌<◌, ◌≤◌, Bool, true, false, cond, List, [], ◌++◌, Option, None, Some, IfSome, sym, ◌∙◌, ap, subst, length, drop, arith, length-drop, append-nil}
 use Rattle.std.specs.Io.KnownBytes.{Consumes, IsAtEnd}
-use Rattle.yl_cli.specs.Text.{without_mark, mark}
+use Rattle.yl_devices.specs.Text.{without_mark, mark}
 use Rattle.std.specs.List.{starts_with}
 use Rattle.std.specs.Prelude.{nat_eq}
 

@@ -2,23 +2,19 @@
 use Rattle.std.specs.Prelude.{ℕ, zero, suc, Bool, ◌&&◌, ◌==◌, nat_le, if◌then◌else◌, List, [], ◌∷◌, ◌+◌, ◌*◌, ◌-◌, length, take, drop, codes, bytes_eq, Option, Some, None}
 use Rattle.std.specs.List.{slice_split}
 use Rattle.std.specs.Option.{option_map}
+use Rattle.std.specs.Char.{is_ascii_digit}
+use Rattle.yl_text.specs.Char as char
 use Rattle.yl_cli.specs.declared.command.CommandLine.{CommandLine}
 use Rattle.yl_session.specs.Runs.{EditValue}
-
-abbrev pub is_space : ℕ → Bool
-is_space c = c == 32
-
-abbrev pub is_digit : ℕ → Bool
-is_digit c = nat_le 48 c && nat_le c 57
 
 -- the number that these digits write after those of n
 abbrev pub number_after : ℕ → List ℕ → Option ℕ
 number_after n [] = Some n
-number_after n (c ∷ cs) = if is_digit c then number_after (n * 10 + (c - 48)) cs else None
+number_after n (c ∷ cs) = if is_ascii_digit c then number_after (n * 10 + (c - char.digit_zero)) cs else None
 
 -- the number that a word of 1 to 10 decimal digits is
-abbrev pub number : List ℕ → Option ℕ
-number word = if nat_le 1 (length word) && nat_le (length word) 10 then number_after 0 word else None
+abbrev pub number_of_word : List ℕ → Option ℕ
+number_of_word word = if nat_le 1 (length word) && nat_le (length word) 10 then number_after 0 word else None
 
 abbrev pub line_of_numbers : Option ℕ → Option ℕ → Option ℕ → Option CommandLine
 line_of_numbers None count size = None
@@ -33,18 +29,18 @@ line_of_words (name ∷ []) = None
 line_of_words (name ∷ first ∷ []) = None
 line_of_words (name ∷ first ∷ count ∷ []) = None
 line_of_words (name ∷ first ∷ count ∷ size ∷ []) =
-    if bytes_eq name (codes "replace") then line_of_numbers (number first) (number count) (number size) else None
+    if bytes_eq name (codes "replace") then line_of_numbers (number_of_word first) (number_of_word count) (number_of_word size) else None
 line_of_words (name ∷ first ∷ count ∷ size ∷ more ∷ words) = None
 
 -- the words of a line stand between single spaces
 abbrev pub command_line : List ℕ → Option CommandLine
-command_line line = line_of_words (slice_split is_space line)
+command_line line = line_of_words (slice_split (λ c. c == char.space) line)
 
 -- a line of at most so many bytes, and what follows its line feed
 abbrev pub first_line : ℕ → List ℕ → Option (List ℕ × List ℕ)
 first_line most [] = None
-first_line zero (x ∷ xs) = if x == 10 then Some ([], xs) else None
-first_line (suc most) (x ∷ xs) = if x == 10 then Some ([], xs) else option_map (λ p. (x ∷ p.0, p.1)) (first_line most xs)
+first_line zero (x ∷ xs) = if x == char.line_feed then Some ([], xs) else None
+first_line (suc most) (x ∷ xs) = if x == char.line_feed then Some ([], xs) else option_map (λ p. (x ∷ p.0, p.1)) (first_line most xs)
 
 -- what the next bytes are: a command, and what follows it; the end; or no command
 pub data Next : Type 0 where

@@ -6,14 +6,14 @@ use Rattle.yl_text.specs.declared.fault.TextFault.TheVariants.{NotUtf8, Range, O
 use Rattle.yl_text.specs.Lines.{RowValue, lines_of}
 use Rattle.yl_config.specs.declared.config.Config.{Config}
 use Rattle.yl_report.specs.Report.{report_text, status_of}
-use Rattle.yl_report.specs.Written.{AppendsFront}
+use Rattle.yl_devices.specs.Written.{AppendsFront}
 use Rattle.yl_session.specs.declared.work.Work.{Work}
 use Rattle.yl_session.specs.Runs.{EditValue, text_after, text_after_all, AreAnswers}
 use Rattle.yl_lint.specs.TextReport.{report}
 use Rattle.yl_args.specs.declared.answer.Flags.{Flags}
-use Rattle.yl_cli.specs.declared.fault.RunFault.{RunFault}
-use Rattle.yl_cli.specs.declared.fault.RunFault.TheVariants as fault
-use Rattle.yl_cli.specs.Text.{without_mark, IsBadText}
+use Rattle.yl_devices.specs.declared.fault.RunFault.{RunFault}
+use Rattle.yl_devices.specs.declared.fault.RunFault.TheVariants as fault
+use Rattle.yl_devices.specs.Text.{without_mark, IsBadText}
 use Rattle.yl_cli.specs.Run.{Failures}
 use Rattle.yl_cli.specs.Command.{Next, Command, Bad, next_command}
 
@@ -73,8 +73,8 @@ replies c name flags text (e ∷ edits) [] = []
 replies c name flags text (e ∷ edits) (r ∷ answers) = reply c name flags (text_after text e r) r ++ replies c name flags (text_after text e r) edits answers
 
 -- all that is written of a text and its edits
-abbrev pub driven : Config → (name : List ℕ) → Flags → (text : List ℕ) → List EditValue → List (Result Work TextFault) → List ℕ
-driven c name flags text edits answers = shown_text c name flags text None ++ replies c name flags text edits answers
+abbrev pub text_of_run : Config → (name : List ℕ) → Flags → (text : List ℕ) → List EditValue → List (Result Work TextFault) → List ℕ
+text_of_run c name flags text edits answers = shown_text c name flags text None ++ replies c name flags text edits answers
 
 -- ---- a run
 
@@ -89,7 +89,7 @@ pub record Devices : Type 0 where
 pub record IsAnswered (c : Config) (name : List ℕ) (flags : Flags) (text : List ℕ) (d : Devices) (rest : Option (List ℕ)) (edits : List EditValue) (answers : List (Result Work TextFault)) : Type 0 where
   pub read : WereRead d.given rest edits
   pub answered : AreAnswers text edits answers
-  pub written : Appends d.before d.now (driven c name flags text edits answers)
+  pub written : Appends d.before d.now (text_of_run c name flags text edits answers)
 
 -- all commands up to the end were answered, and this is the status of the text that they left
 pub record IsDriven (c : Config) (name : List ℕ) (flags : Flags) (text : List ℕ) (d : Devices) (status : ℕ) : Type 0 where
@@ -120,7 +120,7 @@ pub record IsBegun (c : Config) (name : List ℕ) (flags : Flags) (text : List �
   pub edits : List EditValue
   pub answers : List (Result Work TextFault)
   pub answered : AreAnswers text edits answers
-  pub written : AppendsFront d.before d.now (driven c name flags text edits answers)
+  pub written : AppendsFront d.before d.now (text_of_run c name flags text edits answers)
 
 -- why a run may end early: for a device only where its failures rose. On a failed read and at a bad command all that the commands
 -- before it are answered is written

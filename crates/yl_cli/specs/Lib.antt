@@ -1,12 +1,11 @@
 pub mod Command
 pub mod Drive
-pub mod Fault
 pub mod Reading
 pub mod Run
-pub mod Text
 pub use Rattle.yl_config.specs.Config
 pub use Rattle.yl_report.specs.Report
-pub use Rattle.yl_report.specs.Written
+pub use Rattle.yl_devices.specs.Text
+pub use Rattle.yl_devices.specs.Written
 pub use Rattle.yl_lint.specs.TextReport
 pub use Rattle.yl_text.specs.Lines
 pub use Rattle.yl_text.specs.Watched

@@ -5,12 +5,12 @@ use Rattle.std.specs.Io.KnownBytes.{Appends}
 use Rattle.yl_text.specs.declared.fault.TextFault.{TextFault}
 use Rattle.yl_text.specs.Lines.{lines_of}
 use Rattle.yl_config.specs.declared.config.Config.{Config}
-use Rattle.yl_report.specs.Written.{AppendsFront}
+use Rattle.yl_devices.specs.Written.{AppendsFront}
 use Rattle.yl_session.specs.declared.work.Work.{Work}
 use Rattle.yl_session.specs.Runs.{EditValue, IsAnswer, Replayed, text_after}
 use Rattle.yl_session.specs.State.{SessionValue, Shows}
 use Rattle.yl_args.specs.declared.answer.Flags.{Flags}
-use Rattle.yl_cli.specs.Drive.{WereRead, driven, reply}
+use Rattle.yl_cli.specs.Drive.{WereRead, text_of_run, reply}
 use Rattle.yl_cli.specs.Command.{Command, first_line, next_command}
 
 -- so many bytes and then a line's
@@ -64,4 +64,4 @@ pub record SoFar (count : ℕ) (c : Config) (name : List ℕ) (flags : Flags) (t
   pub counted : length edits ≡ count
   pub read : WereRead given rest edits
   pub replayed : Replayed c text edits answers s
-  pub written : Appends before now (driven c name flags text edits answers)
+  pub written : Appends before now (text_of_run c name flags text edits answers)

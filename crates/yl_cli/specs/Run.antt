@@ -1,16 +1,8 @@
 -- Meaning: when a run may end early.
 use Rattle.std.specs.Prelude.{ℕ, ◌<◌, ◌==◌, ◌||◌, if◌then◌else◌, List, Option, IfSome}
-use Rattle.yl_cli.specs.declared.fault.RunFault.{RunFault}
-use Rattle.yl_cli.specs.declared.fault.RunFault.TheVariants.{Read, Text, Write, Command, Memory}
-use Rattle.yl_cli.specs.Text.{without_mark, IsBadText}
-
--- the reading of all that there is ends where the reader's failures rose, or for want of memory
-abbrev pub IsReadFault : ℕ → ℕ → RunFault → Type 0
-IsReadFault before after Read = before < after
-IsReadFault before after Memory = Unit {0}
-IsReadFault before after Write = ⊥
-IsReadFault before after Command = ⊥
-IsReadFault before after (Text fault) = ⊥
+use Rattle.yl_devices.specs.declared.fault.RunFault.{RunFault}
+use Rattle.yl_devices.specs.declared.fault.RunFault.TheVariants.{Read, Text, Write, Command, Memory}
+use Rattle.yl_devices.specs.Text.{without_mark, IsBadText}
 
 -- the reading of a command ends where the reader's failures rose, for want of memory, or since there stands none
 abbrev pub IsCommandFault : ℕ → ℕ → RunFault → Type 0

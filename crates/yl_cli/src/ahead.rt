@@ -3,9 +3,9 @@ ghost use Rattle.std.specs.Prelude.{◌≡◌, ◌≢◌, ◌-◌, ◌^◌, ◌<
 ghost use Rattle.std.specs.Io.KnownBytes.{Consumes, IsAtEnd, prepend_known};
 ghost use Rattle.yl_text.specs.Watched.{device_of, failures_of};
 
-use crate::fault::RunFault;
 use std::io::Read;
 use std::marker::Model;
+use yl_devices::RunFault;
 use yl_text::Watched;
 
 /// Bytes that were read and are still to be looked at.

@@ -1,13 +1,14 @@
 //! The line of a command.
 ghost use Rattle.std.specs.Prelude.{◌≡◌, ◌+◌, ◌<◌, ◌^◌, map, IfOk, IfSome};
-ghost use Rattle.yl_cli.specs.Command.{command_line, is_digit, line_of_numbers, line_of_words, number};
+ghost use Rattle.yl_cli.specs.Command.{command_line, line_of_numbers, line_of_words, number_of_word};
 
 use std::alloc::{AllocError, Allocator};
 
 /// The most bytes that a command puts into a text.
 const MOST_BYTES: u64 = 67_108_864;
 
-/// What a command asks for: `count` lines from `first` on, counted from 0, give way to `size` bytes.
+/// What a command asks for: `count` lines from `first` on, counted from 0, give way to `size`
+/// bytes.
 #[derive(Clone, Copy)]
 pub struct CommandLine {
     pub first: u64,
@@ -15,15 +16,9 @@ pub struct CommandLine {
     pub size: u64,
 }
 
-fn is_digit(c: u8) -> bool
-    ensures { result ≡ is_digit c }
-{
-    48 <= c && c <= 57
-}
-
 /// The number that a word of 1 to 10 decimal digits is.
 fn number(word: &[u8]) -> Option<u64>
-    ensures value { result ≡ number word.now }
+    ensures value { result ≡ number_of_word word.now }
     ensures bound { IfSome result (λ n. n < 10 ^ 10) }
 {
     if word.is_empty() || word.len() > 10 {
@@ -31,10 +26,10 @@ fn number(word: &[u8]) -> Option<u64>
     }
     let mut value = 0u64;
     for c in word {
-        if !is_digit(*c) {
+        if !c.is_ascii_digit() {
             return None;
         }
-        value = value * 10 + (*c - 48) as u64;
+        value = value * 10 + (*c - b'0') as u64;
     }
     Some(value)
 }

@@ -6,21 +6,20 @@ ghost use Rattle.yl_text.specs.declared.TheConstants.{MAX_BYTES};
 ghost use Rattle.yl_text.specs.declared.fault.TextFault.{TextFault};
 ghost use Rattle.yl_text.specs.Watched.{device_of, failures_of};
 ghost use Rattle.yl_config.specs.declared.config.Config.{Config};
-ghost use Rattle.yl_report.specs.Written.{AppendsFront};
+ghost use Rattle.yl_devices.specs.Written.{AppendsFront};
 ghost use Rattle.yl_session.specs.State.{Shows};
-ghost use Rattle.yl_cli.specs.Text.{without_mark};
+ghost use Rattle.yl_devices.specs.Text.{without_mark};
 ghost use Rattle.yl_cli.specs.Drive.{IsDriveFault, IsDriven, ok_line, refusal_name, refused_line, scanned_shown, shown_lines};
 ghost use Rattle.yl_cli.specs.Reading.{IsReply, IsReplyBegun};
 
 use crate::ahead::Ahead;
-use crate::fault::RunFault;
-use crate::input::text_of;
 use crate::stream::next_edit;
 use itoa::Buffer;
 use std::io::{Read, Write};
 use yl_args::Flags;
 use yl_config::Config;
-use yl_report::{WriteFault, write_parts, write_report};
+use yl_devices::{RunFault, WriteFault, text_of, write_parts};
+use yl_report::write_report;
 use yl_session::{Edit, Session, Work};
 use yl_text::{LineStore, TextFault, Watched};
 
@@ -154,9 +153,10 @@ fn answer<S: LineStore, W: Write>(
     }
 }
 
-/// Shows a text's report, then reads commands and answers each before the next: `replace FIRST COUNT BYTES`, a line
-/// feed and that many bytes put these in place of COUNT lines from FIRST on, counted from 0. Answers the status of the
-/// text that the accepted edits leave. One leading byte-order mark of `text` is dropped.
+/// Shows a text's report, then reads commands and answers each before the next: `replace FIRST
+/// COUNT BYTES`, a line feed and that many bytes put these in place of COUNT lines from FIRST on,
+/// counted from 0. Answers the status of the text that the accepted edits leave. One leading
+/// byte-order mark of `text` is dropped.
 pub fn drive<S: LineStore, R: Read, W: Write>(
     alloc: S::Alloc,
     name: &str,

@@ -4,26 +4,25 @@ ghost use Rattle.std.specs.Io.KnownBytes.{Appends};
 ghost use Rattle.yl_text.specs.Fault.{IsText};
 ghost use Rattle.yl_text.specs.Lines.{lines_of};
 ghost use Rattle.yl_text.specs.Watched.{device_of, failures_of};
-ghost use Rattle.yl_report.specs.Written.{AppendsFront};
+ghost use Rattle.yl_devices.specs.Written.{AppendsFront};
 ghost use Rattle.yl_report.specs.Report.{report_text, status_of};
 ghost use Rattle.yl_lint.specs.TextReport.{report};
-ghost use Rattle.yl_cli.specs.Text.{without_mark, TakesAtMost};
+ghost use Rattle.yl_devices.specs.Text.{without_mark, TakesAtMost};
 ghost use Rattle.yl_cli.specs.Run.{IsRunFault, joined_status};
 
-use crate::fault::RunFault;
-use crate::input::{MOST_READ, read_text, text_of};
 use std::alloc::Allocator;
 use std::io::{Read, Write};
 use yl_args::Flags;
 use yl_config::Config;
+use yl_devices::{MOST_READ, RunFault, read_text, text_of};
 use yl_lint::report_of_text;
 use yl_report::{status, write_report};
 use yl_text::Watched;
 
-/// Reads a text to its end, writes its report, and answers its status: 1 with an error, else 2 with a
-/// warning where `strict` is asked, else 0. The printed lines begin with `name`. It answers so only
-/// where the bytes, less a leading byte-order mark, are a text. On a fault a beginning of the report is
-/// out.
+/// Reads a text to its end, writes its report, and answers its status: 1 with an error, else 2 with
+/// a warning where `strict` is asked, else 0. The printed lines begin with `name`. It answers so
+/// only where the bytes, less a leading byte-order mark, are a text. On a fault a beginning of the
+/// report is out.
 pub fn lint<A: Allocator + Copy, R: Read, W: Write>(
     alloc: A,
     name: &str,

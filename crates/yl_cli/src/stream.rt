@@ -8,10 +8,10 @@ ghost use Rattle.yl_cli.specs.Run.{IsCommandFault};
 
 use crate::ahead::Ahead;
 use crate::command::command_line;
-use crate::fault::RunFault;
 use arrayvec::ArrayVec;
 use std::alloc::Allocator;
 use std::io::Read;
+use yl_devices::RunFault;
 use yl_session::Edit;
 use yl_text::Watched;
 

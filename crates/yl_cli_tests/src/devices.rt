@@ -6,14 +6,14 @@ use std::io::{ErrorKind, Read, Write};
 /// A reader over bytes in memory, which gives at most `most` bytes a call and fails at the call `fails_at`,
 /// counted from 1.
 #[derive(Drop)]
-pub struct Source<'a> {
+pub struct MemoryReader<'a> {
     bytes: &'a [u8],
     most: usize,
     calls: u64,
     fails_at: u64,
 }
 
-impl Read for Source<'_> {
+impl Read for MemoryReader<'_> {
     fn read(&mut self, buf: &mut [u8]) -> io::Result<usize> {
         self.calls = self.calls.saturating_add(1);
         if self.calls == self.fails_at {
@@ -45,14 +45,14 @@ impl Read for Repeated {
 
 /// A writer over memory, which takes at most `most` bytes a call and `room` in all, and then fails or takes none.
 #[derive(Drop)]
-pub struct Sink {
+pub struct MemoryWriter {
     pub bytes: Vec<u8>,
     most: usize,
     room: usize,
     fails: bool,
 }
 
-impl Write for Sink {
+impl Write for MemoryWriter {
     fn write(&mut self, piece: &[u8]) -> io::Result<usize> {
         let n = piece.len().min(self.most).min(self.room);
         if n == 0 && self.fails {
@@ -68,8 +68,8 @@ impl Write for Sink {
     }
 }
 
-pub fn make_source(bytes: &[u8], most: usize, fails_at: u64) -> Source<'_> {
-    Source {
+pub fn make_reader(bytes: &[u8], most: usize, fails_at: u64) -> MemoryReader<'_> {
+    MemoryReader {
         bytes,
         most,
         calls: 0,
@@ -77,8 +77,8 @@ pub fn make_source(bytes: &[u8], most: usize, fails_at: u64) -> Source<'_> {
     }
 }
 
-pub fn make_sink(alloc: Global, most: usize, room: usize, fails: bool) -> Sink {
-    Sink {
+pub fn make_writer(alloc: Global, most: usize, room: usize, fails: bool) -> MemoryWriter {
+    MemoryWriter {
         bytes: Vec::new(alloc),
         most,
         room,

@@ -1,8 +1,10 @@
-use crate::devices::{make_sink, make_source};
+use crate::devices::{make_reader, make_writer};
 use std::alloc::Global;
 use std::test::Fail;
-use yl_cli::{BadText, Flags, RunFault, drive};
+use yl_args::Flags;
+use yl_cli::drive;
 use yl_config::Config;
+use yl_devices::{BadText, RunFault};
 use yl_text::{PlainStore, Watched};
 
 const PLAIN: Flags = Flags {
@@ -25,8 +27,8 @@ struct Ran {
 
 // A run over `text` whose reader gives `most` bytes a call and fails at the call `fails_at`.
 fn run(alloc: Global, text: &[u8], commands: &[u8], most: usize, fails_at: u64) -> Ran {
-    let mut input = Watched::new(make_source(commands, most, fails_at));
-    let mut out = Watched::new(make_sink(alloc, 4096, 1_000_000, true));
+    let mut input = Watched::new(make_reader(commands, most, fails_at));
+    let mut out = Watched::new(make_writer(alloc, 4096, 1_000_000, true));
     let answer = drive::<PlainStore<Global>, _, _>(
         alloc,
         "f.yaml",
@@ -130,7 +132,7 @@ fn refuses_a_long_line_without_its_end(rt: HostRuntime) -> Result<(), Fail> {
         byte: b'r',
         left: 10_485_760,
     });
-    let mut out = Watched::new(make_sink(alloc, 4096, 1_000_000, true));
+    let mut out = Watched::new(make_writer(alloc, 4096, 1_000_000, true));
     let answer = drive::<PlainStore<Global>, _, _>(
         alloc,
         "f.yaml",
@@ -180,8 +182,8 @@ fn failing_writes_leave_a_beginning(rt: HostRuntime) -> Result<(), Fail> {
     let whole = run(alloc, TEXT, commands, 4, 0);
     for room in 0..whole.out.len() {
         for fails in [true, false] {
-            let mut input = Watched::new(make_source(commands, 100, 0));
-            let mut out = Watched::new(make_sink(alloc, 4, room, fails));
+            let mut input = Watched::new(make_reader(commands, 100, 0));
+            let mut out = Watched::new(make_writer(alloc, 4, room, fails));
             let answer = drive::<PlainStore<Global>, _, _>(
                 alloc,
                 "f.yaml",
@@ -208,8 +210,8 @@ fn tells_the_work(rt: HostRuntime) -> Result<(), Fail> {
         no_warnings: false,
         work: true,
     };
-    let mut input = Watched::new(make_source(b"replace 0 0 0\nreplace 9 0 0\n", 100, 0));
-    let mut out = Watched::new(make_sink(alloc, 4096, 1_000_000, true));
+    let mut input = Watched::new(make_reader(b"replace 0 0 0\nreplace 9 0 0\n", 100, 0));
+    let mut out = Watched::new(make_writer(alloc, 4096, 1_000_000, true));
     let answer = drive::<PlainStore<Global>, _, _>(
         alloc,
         "f.yaml",

@@ -1,4 +1,5 @@
-//! Tests of `lint`, `drive`, `say` and `joined` over devices that fail and memory that is refused.
+//! Tests of the words of a command line, and of `lint`, `drive`, `say` and `joined` over devices that fail
+//! and memory that is refused.
 #![tactic(auto)]
 
 #[cfg(test)]
@@ -9,3 +10,5 @@ mod editing;
 mod linting;
 #[cfg(test)]
 mod saying;
+#[cfg(test)]
+mod words;

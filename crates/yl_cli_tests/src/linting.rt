@@ -1,10 +1,12 @@
-use crate::devices::{Repeated, make_sink, make_source};
+use crate::devices::{Repeated, make_reader, make_writer};
 use refusing::Refusing;
 use std::alloc::{AllocError, Allocator, Global};
 use std::io::Read;
 use std::test::Fail;
-use yl_cli::{BadText, Flags, RunFault, joined, lint};
+use yl_args::Flags;
+use yl_cli::{joined, lint};
 use yl_config::Config;
+use yl_devices::{BadText, RunFault};
 use yl_text::Watched;
 
 const PLAIN: Flags = Flags {
@@ -38,7 +40,7 @@ fn run<A: Allocator + Copy, R: Read + Drop>(
     fails: bool,
 ) -> Ran {
     let mut input = Watched::new(reader);
-    let mut out = Watched::new(make_sink(global, most, room, fails));
+    let mut out = Watched::new(make_writer(global, most, room, fails));
     let answer = lint(alloc, "f.yaml", config, PLAIN, &mut input, &mut out);
     Ran {
         answer,
@@ -125,7 +127,7 @@ fn lints_texts(rt: HostRuntime) -> Result<(), Fail> {
                 &Config::standard(),
                 alloc,
                 alloc,
-                make_source(text, most, 0),
+                make_reader(text, most, 0),
                 most,
                 1000,
                 true,
@@ -166,7 +168,7 @@ fn lints_long_lines(rt: HostRuntime) -> Result<(), Fail> {
             &Config::standard(),
             alloc,
             alloc,
-            make_source(&text, 100, 0),
+            make_reader(&text, 100, 0),
             1000,
             1000,
             true,
@@ -196,7 +198,7 @@ fn lints_long_keys(rt: HostRuntime) -> Result<(), Fail> {
             &config,
             alloc,
             alloc,
-            make_source(&text, 100, 0),
+            make_reader(&text, 100, 0),
             1000,
             1000,
             true,
@@ -215,7 +217,7 @@ fn stops_at_each_write(rt: HostRuntime) -> Result<(), Fail> {
                 &Config::standard(),
                 alloc,
                 alloc,
-                make_source(TEXT, 100, 0),
+                make_reader(TEXT, 100, 0),
                 4,
                 room,
                 fails,
@@ -236,7 +238,7 @@ fn stops_at_each_read(rt: HostRuntime) -> Result<(), Fail> {
             &Config::standard(),
             alloc,
             alloc,
-            make_source(TEXT, 1, fails_at),
+            make_reader(TEXT, 1, fails_at),
             4,
             1000,
             true,
@@ -262,7 +264,7 @@ fn refuses_bytes(rt: HostRuntime) -> Result<(), Fail> {
             &Config::standard(),
             alloc,
             alloc,
-            make_source(bytes, 100, 0),
+            make_reader(bytes, 100, 0),
             1000,
             1000,
             true,
@@ -299,7 +301,7 @@ fn refuses_each_growth(rt: HostRuntime) -> Result<(), Fail> {
             &Config::standard(),
             rt.alloc(),
             &heap,
-            make_source(TEXT, 5, 0),
+            make_reader(TEXT, 5, 0),
             1000,
             1000,
             true,

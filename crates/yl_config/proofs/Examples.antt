@@ -8,13 +8,13 @@ use Rattle.yl_config.specs.declared.fault.ConfigFault.{ConfigFault}
 use Rattle.yl_config.specs.declared.fault.ConfigFault.TheVariants as fault
 use Rattle.yl_config.specs.declared.fault.FaultPlace.{FaultPlace}
 use Rattle.yl_config.specs.declared.misfit.Misfit.{Misfit}
-use Rattle.yl_config.specs.Faults.{fault_of}
+use Rattle.yl_config.specs.Faults.{fault_of_misfit}
 use Rattle.yl_config.specs.Document.{root_of}
 use Rattle.yl_config.specs.Misfits.{earliest, root_misfits}
 use Rattle.yl_settings.specs.Nodes.{levels_from}
 use Rattle.yl_settings.specs.Options.{option_of}
 use Rattle.yl_config.specs.Settings.{Settings, settings_of, with_entries, with_options, with_rules}
-use Rattle.yl_settings.specs.Standard.{standard_options}
+use Rattle.yl_settings.specs.Standard.{standard_rule_options}
 use Rattle.yl_settings.specs.Words.{digits_behind}
 
 -- events at places that count from 0
@@ -42,7 +42,7 @@ place line column = record { line = line; column = column }
 
 abbrev told : Option Misfit → Option ConfigFault
 told None = None
-told (Some m) = Some (fault_of m)
+told (Some m) = Some (fault_of_misfit m)
 
 -- `extends: relaxed`
 pub relaxed_row : told (first (mapping 0 0 (plain (codes "extends") 0 0 ∷ plain (codes "relaxed") 0 9 ∷ []))) ≡ Some (fault.UnknownExtends (place 1 10))
@@ -99,7 +99,7 @@ unfolding levels_from option_of with_entries with_rules with_options digits_behi
 stays_a_warning_row = refl
 
 pub one_space_row : near.options.comments.min_spaces_from_content ≡ Some 1
-unfolding levels_from option_of with_entries with_rules with_options digits_behind standard_options
+unfolding levels_from option_of with_entries with_rules with_options digits_behind standard_rule_options
 one_space_row = refl
 
 -- without `extends`: `comments: disable`, and `comments: enable` behind it

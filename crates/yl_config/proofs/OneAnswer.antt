@@ -12,8 +12,8 @@ use Rattle.yl_config.specs.declared.fault.ConfigFault.TheVariants as fault
 use Rattle.yl_config.specs.declared.misfit.Misfit.{Misfit}
 use Rattle.yl_config.specs.declared.misfit.MisfitKind.{MisfitKind}
 use Rattle.yl_config.specs.declared.misfit.MisfitKind.TheVariants.{NotAMapping, UnknownKey, UnknownRule, UnknownOption, BadValue, BadLevel, UnknownExtends}
-use Rattle.yl_config.specs.Document.{judged}
-use Rattle.yl_config.specs.Faults.{fault_by, from_one}
+use Rattle.yl_config.specs.Document.{judgement}
+use Rattle.yl_config.specs.Faults.{fault_by, place_from_one}
 use Rattle.yl_config.specs.Outcome.{IsConfigOf, OneAnswer, Says, from_own, judged_own, judged_text, judged_unless}
 use Rattle.yl_config.specs.Settings.{Settings}
 use Rattle.yl_documents.specs.Syntax.{text_fault}
@@ -28,7 +28,7 @@ one_said r a b h k = h.judged ∙ (ap (judged_text r) (all_same _ h.documents k.
 abbrev pub read_text : List ℕ → TextReading
 read_text t = reading_of (characters_of (lines_of t))
 
-by_kind : (t : List ℕ) (kind : MisfitKind) (p : Pos) → IsText t → Says (read_text t) (Err (fault_by kind (from_one p))) → IsConfigOf t (Err (fault_by kind (from_one p)))
+by_kind : (t : List ℕ) (kind : MisfitKind) (p : Pos) → IsText t → Says (read_text t) (Err (fault_by kind (place_from_one p))) → IsConfigOf t (Err (fault_by kind (place_from_one p)))
 by_kind t NotAMapping p h k = (h, k)
 by_kind t UnknownKey p h k = (h, k)
 by_kind t UnknownRule p h k = (h, k)
@@ -38,7 +38,7 @@ by_kind t BadLevel p h k = (h, k)
 by_kind t UnknownExtends p h k = (h, k)
 
 by_first : (t : List ℕ) (place : Option Pos) (s : Settings) (first : Option Misfit) → IsText t
-    → Says (read_text t) (judged_unless place (judged s first)) → IsConfigOf t (judged_unless place (judged s first))
+    → Says (read_text t) (judged_unless place (judgement s first)) → IsConfigOf t (judged_unless place (judgement s first))
 by_first t (Some place) s first h k = (h, k)
 by_first t None s None h k = (h, k)
 by_first t None s (Some m) h k = by_kind t m.kind m.place h k

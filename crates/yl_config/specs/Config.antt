@@ -16,5 +16,5 @@ abbrev pub row_options_of : Config → RowOptions
 row_options_of config = config.options.row
 
 -- a configuration, as definitions have it
-abbrev pub said : Config → Settings
-said config = record { levels = levels_of config; options = options_of config }
+abbrev pub config_settings : Config → Settings
+config_settings config = record { levels = levels_of config; options = options_of config }

@@ -5,7 +5,7 @@ use Rattle.yl_events.specs.Event.{EventValue}
 use Rattle.yl_config.specs.declared.fault.ConfigFault.{ConfigFault}
 use Rattle.yl_config.specs.declared.misfit.Misfit.{Misfit}
 use Rattle.yl_config.specs.declared.misfit.MisfitKind.TheVariants.{NotAMapping}
-use Rattle.yl_config.specs.Faults.{fault_of}
+use Rattle.yl_config.specs.Faults.{fault_of_misfit}
 use Rattle.yl_config.specs.Misfits.{at_key, earliest, root_misfits}
 use Rattle.yl_settings.specs.Nodes.{ItemValue, first_item, nodes_from}
 use Rattle.yl_config.specs.Settings.{Settings, settings_of}
@@ -20,9 +20,9 @@ next_misfits None = []
 next_misfits (Some place) = at_key NotAMapping place
 
 -- the first misfit, if there is one; else what is said
-abbrev pub judged : Settings → Option Misfit → Result Settings ConfigFault
-judged s None = Ok s
-judged s (Some m) = Err (fault_of m)
+abbrev pub judgement : Settings → Option Misfit → Result Settings ConfigFault
+judgement s None = Ok s
+judgement s (Some m) = Err (fault_of_misfit m)
 
-abbrev pub judged_document : List EventValue → Option Pos → Result Settings ConfigFault
-judged_document es next = judged (settings_of (root_of es)) (earliest None (root_misfits (root_of es) ++ next_misfits next))
+abbrev pub document_judgement : List EventValue → Option Pos → Result Settings ConfigFault
+document_judgement es next = judgement (settings_of (root_of es)) (earliest None (root_misfits (root_of es) ++ next_misfits next))

@@ -8,8 +8,8 @@ use Rattle.yl_config.specs.declared.misfit.Misfit.{Misfit}
 use Rattle.yl_config.specs.declared.misfit.MisfitKind.{MisfitKind}
 use Rattle.yl_config.specs.declared.misfit.MisfitKind.TheVariants.{NotAMapping, UnknownKey, UnknownRule, UnknownOption, BadValue, BadLevel, UnknownExtends}
 
-abbrev pub from_one : Pos → FaultPlace
-from_one p = record { line = p.line + 1; column = p.col + 1 }
+abbrev pub place_from_one : Pos → FaultPlace
+place_from_one p = record { line = p.line + 1; column = p.col + 1 }
 
 abbrev pub fault_name : ConfigFault → List ℕ
 fault_name fault.NotUtf8 = codes "NotUtf8"
@@ -47,5 +47,5 @@ fault_by BadLevel p = fault.BadLevel p
 fault_by UnknownExtends p = fault.UnknownExtends p
 
 -- of what does not fit
-abbrev pub fault_of : Misfit → ConfigFault
-fault_of m = fault_by m.kind (from_one m.place)
+abbrev pub fault_of_misfit : Misfit → ConfigFault
+fault_of_misfit m = fault_by m.kind (place_from_one m.place)

@@ -12,7 +12,8 @@ use Rattle.yl_config.specs.declared.misfit.MisfitKind.TheVariants.{NotAMapping, 
 use Rattle.yl_documents.specs.Syntax.{stands_before}
 use Rattle.yl_settings.specs.declared.table.Answer.{Answer}
 use Rattle.yl_settings.specs.declared.table.Answer.TheVariants.{UnknownName, WrongValue, Taken}
-use Rattle.yl_settings.specs.Nodes.{Nodes, ItemValue, EntryValue, entries_of, is_alias, starts_mapping}
+use Rattle.yl_tree.specs.Anchors.{is_alias_event}
+use Rattle.yl_settings.specs.Nodes.{Nodes, ItemValue, EntryValue, entries_of, starts_mapping}
 use Rattle.yl_settings.specs.Options.{option_of}
 use Rattle.yl_settings.specs.Values.{level_in}
 use Rattle.yl_settings.specs.Words.{is_one_of, plain_word, word, true_words, false_words}
@@ -55,7 +56,7 @@ at_key kind place = record { kind = kind; place = place } ∷ []
 
 -- at a value; an alias is none that is looked for
 abbrev pub at_value : MisfitKind → Pos → EventKindValue → Option Pos → List Misfit
-at_value misfit key kind place = record { kind = if is_alias kind then BadValue else misfit; place = place_or key place } ∷ []
+at_value misfit key kind place = record { kind = if is_alias_event kind then BadValue else misfit; place = place_or key place } ∷ []
 
 -- ---- the options of a rule
 

@@ -12,8 +12,8 @@ use Rattle.yl_events.specs.Event.{EventValue}
 use Rattle.yl_scan.specs.Scanner.{characters_of}
 use Rattle.yl_config.specs.declared.fault.ConfigFault.{ConfigFault}
 use Rattle.yl_config.specs.declared.fault.ConfigFault.TheVariants as fault
-use Rattle.yl_config.specs.Document.{judged_document}
-use Rattle.yl_config.specs.Faults.{from_one}
+use Rattle.yl_config.specs.Document.{document_judgement}
+use Rattle.yl_config.specs.Faults.{place_from_one}
 use Rattle.yl_config.specs.Settings.{Settings}
 use Rattle.yl_documents.specs.Syntax.{place_behind, text_fault}
 use Rattle.yl_documents.specs.TextDocuments.{BuiltDocumentValue, AreBuilt, documents_of}
@@ -33,14 +33,14 @@ from_own (d ∷ ds) = if is_lone_end d.lexemes then from_own ds else d ∷ ds
 
 -- the first is judged, and where the second begins, if there is one
 abbrev pub judged_own : List BuiltDocumentValue → Result Settings ConfigFault
-judged_own [] = judged_document [] None
-judged_own (d ∷ ds) = judged_document d.events (place_behind None (from_own ds))
+judged_own [] = document_judgement [] None
+judged_own (d ∷ ds) = document_judgement d.events (place_behind None (from_own ds))
 
 -- ---- a text
 
 abbrev pub judged_unless : Option Pos → Result Settings ConfigFault → Result Settings ConfigFault
 judged_unless None answer = answer
-judged_unless (Some place) answer = Err (fault.Syntax (from_one place))
+judged_unless (Some place) answer = Err (fault.Syntax (place_from_one place))
 
 -- what is said of a text with these documents
 abbrev pub judged_text : TextReading → List BuiltDocumentValue → Result Settings ConfigFault

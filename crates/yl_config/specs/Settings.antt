@@ -9,7 +9,7 @@ use Rattle.yl_settings.specs.declared.options.RuleOptions.{RuleOptions}
 use Rattle.yl_config.specs.Misfits.{is_free_option, rule_named, turns_off, turns_on}
 use Rattle.yl_settings.specs.Nodes.{ItemValue, EntryValue, entries_of, starts_mapping}
 use Rattle.yl_settings.specs.Options.{option_of, with_options_of}
-use Rattle.yl_settings.specs.Standard.{standard_options}
+use Rattle.yl_settings.specs.Standard.{standard_rule_options}
 use Rattle.yl_settings.specs.Values.{level_in}
 use Rattle.yl_settings.specs.Words.{word}
 
@@ -20,11 +20,11 @@ pub record Settings : Type 0 where
 
 -- yamllint's default configuration
 abbrev pub standard : Settings
-standard = record { levels = default_levels; options = standard_options }
+standard = record { levels = default_levels; options = standard_rule_options }
 
 -- no rule is on
 abbrev pub all_off : Settings
-all_off = record { levels = none_on; options = standard_options }
+all_off = record { levels = none_on; options = standard_rule_options }
 
 -- ---- a rule
 
@@ -32,15 +32,15 @@ abbrev pub at_level : RuleId → Option Level → Settings → Settings
 at_level rule level s = record { levels = set_level s.levels rule level; options = s.options }
 
 -- a level that is given
-abbrev pub with_level : RuleId → Option Level → Settings → Settings
-with_level rule None s = s
-with_level rule (Some level) s = at_level rule (Some level) s
+abbrev pub with_rule_level : RuleId → Option Level → Settings → Settings
+with_rule_level rule None s = s
+with_rule_level rule (Some level) s = at_level rule (Some level) s
 
 -- one entry of a rule's mapping laid over what is said so far
 abbrev pub with_option : RuleId → EntryValue → Settings → Settings
 with_option rule e s =
     if is_free_option (word e.key) then s
-    else if bytes_eq (word e.key) (codes "level") then with_level rule (level_in e.value.kind) s
+    else if bytes_eq (word e.key) (codes "level") then with_rule_level rule (level_in e.value.kind) s
     else record { levels = s.levels; options = (option_of rule (word e.key) e.value).change s.options }
 
 -- the later entries over the earlier ones

@@ -2,11 +2,11 @@
 ghost use Rattle.std.specs.Prelude.{◌≡◌, ◌≤◌, length};
 ghost use Rattle.yl_rules.specs.LevelOf.{level_of};
 ghost use Rattle.yl_rules.specs.Levels.{default_levels};
-ghost use Rattle.yl_config.specs.Config.{levels_of, options_of, row_options_of, said};
+ghost use Rattle.yl_config.specs.Config.{levels_of, options_of, row_options_of, config_settings};
 ghost use Rattle.yl_settings.specs.Item.{item_value};
 ghost use Rattle.yl_settings.specs.Options.{option_of};
 ghost use Rattle.yl_config.specs.Settings.{afresh, all_off, at_level, turned_on};
-ghost use Rattle.yl_settings.specs.Standard.{standard_options};
+ghost use Rattle.yl_settings.specs.Standard.{standard_rule_options};
 
 use yl_events::Event;
 use yl_indentation::IndentationOptions;
@@ -15,7 +15,7 @@ use yl_layout::{
     QuotedStringsOptions, TruthyOptions,
 };
 use yl_rules::{CommentsOptions, Level, RowOptions, RuleLevels, RunOptions};
-use yl_settings::{Answer, Item, RuleOptions, standard_options};
+use yl_settings::{Answer, Item, RuleOptions, standard_rule_options};
 use yl_text::RuleId;
 use yl_tree::{AnchorsOptions, KeyDuplicatesOptions};
 
@@ -27,31 +27,31 @@ pub struct Config {
 }
 
 impl Config {
-    /// yamllint's default configuration: all checked rules are on but key-ordering and quoted-strings, at level error, but
-    /// comments, document-start and truthy at level warning.
+    /// yamllint's default configuration: all checked rules are on but key-ordering and
+    /// quoted-strings, at level error, but comments, document-start and truthy at level warning.
     pub fn standard() -> Config
         ensures levels { levels_of result ≡ default_levels }
-        ensures options { options_of result ≡ standard_options }
+        ensures options { options_of result ≡ standard_rule_options }
     {
         Config {
             levels: RuleLevels::standard(),
-            options: standard_options(),
+            options: standard_rule_options(),
         }
     }
 
     /// No rule is on; the options are those of the default configuration.
     pub(crate) fn all_off() -> Config
-        ensures { said result ≡ all_off }
+        ensures { config_settings result ≡ all_off }
     {
         Config {
             levels: RuleLevels::none(),
-            options: standard_options(),
+            options: standard_rule_options(),
         }
     }
 
     /// Sets a rule's level.
     pub(crate) fn set_level(&mut self, rule: RuleId, level: Option<Level>)
-        ensures { said self.new ≡ at_level rule level (said self.old) }
+        ensures { config_settings self.new ≡ at_level rule level (config_settings self.old) }
     {
         self.levels = self.levels.with(rule, level);
     }
@@ -66,14 +66,14 @@ impl Config {
     ) -> Answer
         requires { item.now.inside ≤ length events.now }
         ensures answer { result ≡ (option_of rule name.now (item_value events.now item.now)).answer }
-        ensures said { said self.new ≡ record { levels = levels_of self.old; options = (option_of rule name.now (item_value events.now item.now)).change (options_of self.old) } }
+        ensures said { config_settings self.new ≡ record { levels = levels_of self.old; options = (option_of rule name.now (item_value events.now item.now)).change (options_of self.old) } }
     {
         self.options.set(rule, name, events, item)
     }
 
     /// Gives a rule this level and the options that it has in what is extended.
     pub(crate) fn start_afresh(&mut self, base: &Config, rule: RuleId, level: Option<Level>)
-        ensures { said self.new ≡ afresh (said base.now) rule level (said self.old) }
+        ensures { config_settings self.new ≡ afresh (config_settings base.now) rule level (config_settings self.old) }
     {
         self.levels = self.levels.with(rule, level);
         self.options.take(rule, &base.options);
@@ -81,7 +81,7 @@ impl Config {
 
     /// Turns a rule on, at its level in what is extended.
     pub(crate) fn turn_on(&mut self, base: &Config, rule: RuleId)
-        ensures { said self.new ≡ turned_on (said base.now) rule (said self.old) }
+        ensures { config_settings self.new ≡ turned_on (config_settings base.now) rule (config_settings self.old) }
     {
         let level = base.levels.level_of(rule).unwrap_or(Level::Error);
         self.start_afresh(base, rule, Some(level));

@@ -2,8 +2,8 @@
 ghost use Rattle.std.specs.Prelude.{◌≡◌, ◌≤◌, length, map};
 ghost use Rattle.yl_events.specs.Event.{event_value};
 ghost use Rattle.yl_settings.specs.Item.{item_value};
-ghost use Rattle.yl_config.specs.Document.{judged_document, next_misfits, root_of};
-ghost use Rattle.yl_config.specs.Answered.{answered};
+ghost use Rattle.yl_config.specs.Document.{document_judgement, next_misfits, root_of};
+ghost use Rattle.yl_config.specs.Answered.{settings_answer};
 ghost use Rattle.yl_config.specs.Misfits.{earliest};
 
 use crate::config::Config;
@@ -48,13 +48,15 @@ impl Reading {
 }
 
 impl Config {
-    /// What a configuration says whose first document has these events; where there is no document, there are none. `next` is the
-    /// place where a second document begins, if there is one, counted from 0.
+    /// What a configuration says whose first document has these events; where there is no document,
+    /// there are none. `next` is the place where a second document begins, if there is one, counted
+    /// from 0.
     ///
-    /// The fault is the first in the text of what does not fit; of two at one place the one that stands first among `NotAMapping`,
-    /// `UnknownKey`, `UnknownRule`, `UnknownOption`, `BadValue`, `BadLevel` and `UnknownExtends`.
+    /// The fault is the first in the text of what does not fit; of two at one place the one that
+    /// stands first among `NotAMapping`, `UnknownKey`, `UnknownRule`, `UnknownOption`, `BadValue`,
+    /// `BadLevel` and `UnknownExtends`.
     pub fn of_document(events: &[Event<'_>], next: Option<Pos>) -> Result<Config, ConfigFault>
-        ensures { answered result ≡ judged_document (map event_value events.now) next }
+        ensures { settings_answer result ≡ document_judgement (map event_value events.now) next }
     {
         let root = root_of(events);
         let mut reading = read_root(events, &root);

@@ -1,6 +1,6 @@
 //! Why a configuration is refused.
 ghost use Rattle.std.specs.Prelude.{◌≡◌};
-ghost use Rattle.yl_config.specs.Faults.{fault_name, fault_of, fault_place, from_one};
+ghost use Rattle.yl_config.specs.Faults.{fault_name, fault_of_misfit, fault_place, place_from_one};
 
 use crate::misfit::{Misfit, MisfitKind};
 use std::fmt;
@@ -62,7 +62,7 @@ pub enum ConfigFault {
 
 /// A place counted from 1.
 pub fn from_one(place: Pos) -> FaultPlace
-    ensures { result ≡ from_one place }
+    ensures { result ≡ place_from_one place }
 {
     FaultPlace {
         line: u64::from(place.line) + 1,
@@ -110,7 +110,7 @@ impl ConfigFault {
 
 /// The fault at what does not fit.
 pub fn fault_of(misfit: Misfit) -> ConfigFault
-    ensures { result ≡ fault_of misfit }
+    ensures { result ≡ fault_of_misfit misfit }
 {
     let place = from_one(misfit.place);
     match misfit.kind {

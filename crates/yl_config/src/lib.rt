@@ -1,7 +1,7 @@
 //! What a configuration says: which rules are on, at which level, with which options.
 //!
-//! `Config::read` reads bytes: their lines, the lexemes of these, the documents, and of the configuration's one document what it says.
-//! `specs/Outcome.antt` is the definition of all that.
+//! `Config::read` reads bytes: their lines, the lexemes of these, the documents, and of the
+//! configuration's one document what it says. `specs/Outcome.antt` is the definition of all that.
 #![tactic(auto)]
 
 ghost use Rattle.yl_config.specs.Outcome.{OneAnswer};

@@ -2,7 +2,7 @@
 ghost use Rattle.std.specs.Prelude.{◌≡◌, ◌<◌, ◌^◌, All, IfOk, length, ◌-◌};
 ghost use Rattle.std.specs.Str.{chars};
 ghost use Rattle.yl_scan.specs.Scanner.{characters_of};
-ghost use Rattle.yl_config.specs.Answered.{answered};
+ghost use Rattle.yl_config.specs.Answered.{settings_answer};
 ghost use Rattle.yl_config.specs.Outcome.{IsConfigOf, Says, from_own, is_lone_end, judged_own};
 ghost use Rattle.yl_documents.specs.TextReading.{reading_of};
 
@@ -46,7 +46,7 @@ fn from_own<'c, 'a, 'b, A: Allocator>(
 fn judge_documents<A: Allocator>(
     documents: &[BuiltDocument<'_, '_, A>],
 ) -> Result<Config, ConfigFault>
-    ensures { answered result ≡ judged_own (from_own documents.now) }
+    ensures { settings_answer result ≡ judged_own (from_own documents.now) }
 {
     match from_own(documents) {
         [] => Config::of_document(&[], None),
@@ -63,7 +63,7 @@ fn judge_rows<A: Allocator + Copy>(
 ) -> Result<Result<Config, ConfigFault>, AllocError>
     requires few { length rows.now < 2 ^ 32 - 1 }
     requires fits { All (λ row. length (chars row.text) < 2 ^ 31) rows.now }
-    ensures { IfOk result (λ answer. Says (reading_of (characters_of rows.now)) (answered answer)) }
+    ensures { IfOk result (λ answer. Says (reading_of (characters_of rows.now)) (settings_answer answer)) }
 {
     let scanned = scan(alloc, rows, &mut Meter::new())?;
     let scan_fault = place_of_scan_fault(scanned.fault)?;
@@ -78,11 +78,11 @@ fn judge_rows<A: Allocator + Copy>(
 impl Config {
     /// What a configuration says whose text is these bytes, in UTF-8.
     ///
-    /// The faults, in the order in which they are looked for: `TooLarge`; `NotUtf8`; `Syntax`, at the text's first fault; of all
-    /// that does not fit the first in the text, of two at one place the one that stands first among the others. `Memory` where a
-    /// growth was refused.
+    /// The faults, in the order in which they are looked for: `TooLarge`; `NotUtf8`; `Syntax`, at
+    /// the text's first fault; of all that does not fit the first in the text, of two at one place
+    /// the one that stands first among the others. `Memory` where a growth was refused.
     pub fn read<A: Allocator + Copy>(alloc: A, bytes: &[u8]) -> Result<Config, ConfigFault>
-        ensures { IsConfigOf bytes.now (answered result) }
+        ensures { IsConfigOf bytes.now (settings_answer result) }
     {
         if bytes.len() > MAX_BYTES {
             return Err(ConfigFault::TooLarge);

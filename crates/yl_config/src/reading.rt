@@ -5,9 +5,9 @@ ghost use Rattle.yl_events.specs.Event.{kind_value};
 ghost use Rattle.yl_settings.specs.Item.{item_value, entry_value, nodes_at};
 ghost use Rattle.yl_settings.specs.Nodes.{entries_of, starts_mapping};
 ghost use Rattle.yl_config.specs.Misfits.{earliest, at_key, at_value, answer_misfits, level_misfits, option_misfits, options_misfits, rule_misfits, rule_value_misfits, rules_misfits, extends_misfits, root_entry_misfits, root_misfits, place_or, is_free_option, is_unchecked_rule, is_ignored_key, rule_named, turns_on, turns_off};
-ghost use Rattle.yl_config.specs.Config.{said};
+ghost use Rattle.yl_config.specs.Config.{config_settings};
 ghost use Rattle.yl_settings.specs.Values.{level_in};
-ghost use Rattle.yl_config.specs.Settings.{Settings, with_level, with_option, with_options, with_value, with_rule, with_rules, with_entry, with_entries, afresh, turned_on, base_of, settings_of, is_extends};
+ghost use Rattle.yl_config.specs.Settings.{Settings, with_rule_level, with_option, with_options, with_value, with_rule, with_rules, with_entry, with_entries, afresh, turned_on, base_of, settings_of, is_extends};
 
 use crate::config::Config;
 use crate::misfit::{Misfit, MisfitKind, earlier};
@@ -132,7 +132,7 @@ impl Reading {
     /// Reads the level of a rule.
     fn read_level(&mut self, rule: RuleId, key: Pos, item: &Item<'_>)
         ensures first { self.new.first ≡ earliest self.old.first (level_misfits key (kind_value item.now.kind) item.now.place) }
-        ensures said { said self.new.config ≡ with_level rule (level_in (kind_value item.now.kind)) (said self.old.config) }
+        ensures said { config_settings self.new.config ≡ with_rule_level rule (level_in (kind_value item.now.kind)) (config_settings self.old.config) }
     {
         match level(item.kind) {
             Some(level) => self.config.set_level(rule, Some(level)),
@@ -144,7 +144,7 @@ impl Reading {
     fn read_option(&mut self, rule: RuleId, mapping: Pos, events: &[Event<'_>], entry: &EntryAt<'_>)
         requires { entry.now.value.inside ≤ length events.now }
         ensures first { self.new.first ≡ earliest self.old.first (option_misfits rule mapping (entry_value events.now entry.now)) }
-        ensures said { said self.new.config ≡ with_option rule (entry_value events.now entry.now) (said self.old.config) }
+        ensures said { config_settings self.new.config ≡ with_option rule (entry_value events.now entry.now) (config_settings self.old.config) }
     {
         let key = place_or(mapping, entry.key_place);
         match word(entry.key) {
@@ -161,7 +161,7 @@ impl Reading {
     fn read_options(&mut self, rule: RuleId, mapping: Pos, events: &[Event<'_>], inside: usize)
         requires { inside ≤ length events.now }
         ensures first { self.new.first ≡ earliest self.old.first (options_misfits (Some rule) mapping (nodes_at events.now inside)) }
-        ensures said { said self.new.config ≡ with_options rule (entries_of (nodes_at events.now inside)) (said self.old.config) }
+        ensures said { config_settings self.new.config ≡ with_options rule (entries_of (nodes_at events.now inside)) (config_settings self.old.config) }
     {
         let mut rest = inside;
         while let Some(entry) = first_entry(events, rest) {
@@ -181,7 +181,7 @@ impl Reading {
     )
         requires { item.now.inside ≤ length events.now }
         ensures first { self.new.first ≡ earliest self.old.first (rule_value_misfits (Some rule) key (item_value events.now item.now)) }
-        ensures said { said self.new.config ≡ with_value (said base.now) rule (item_value events.now item.now) (said self.old.config) }
+        ensures said { config_settings self.new.config ≡ with_value (config_settings base.now) rule (item_value events.now item.now) (config_settings self.old.config) }
     {
         if turns_on(item.kind) {
             self.config.turn_on(base, rule);
@@ -210,7 +210,7 @@ impl Reading {
     fn read_rule(&mut self, base: &Config, mapping: Pos, events: &[Event<'_>], entry: &EntryAt<'_>)
         requires { entry.now.value.inside ≤ length events.now }
         ensures first { self.new.first ≡ earliest self.old.first (rule_misfits mapping (entry_value events.now entry.now)) }
-        ensures said { said self.new.config ≡ with_rule (said base.now) (entry_value events.now entry.now) (said self.old.config) }
+        ensures said { config_settings self.new.config ≡ with_rule (config_settings base.now) (entry_value events.now entry.now) (config_settings self.old.config) }
     {
         let key = place_or(mapping, entry.key_place);
         let name = word(entry.key);
@@ -225,7 +225,7 @@ impl Reading {
     fn read_rules(&mut self, base: &Config, mapping: Pos, events: &[Event<'_>], inside: usize)
         requires { inside ≤ length events.now }
         ensures first { self.new.first ≡ earliest self.old.first (flat_map (rule_misfits mapping) (entries_of (nodes_at events.now inside))) }
-        ensures said { said self.new.config ≡ with_rules (said base.now) (entries_of (nodes_at events.now inside)) (said self.old.config) }
+        ensures said { config_settings self.new.config ≡ with_rules (config_settings base.now) (entries_of (nodes_at events.now inside)) (config_settings self.old.config) }
     {
         let mut rest = inside;
         while let Some(entry) = first_entry(events, rest) {
@@ -248,8 +248,8 @@ impl Reading {
     fn read_rules_value(&mut self, base: &Config, key: Pos, events: &[Event<'_>], item: &Item<'_>)
         requires { item.now.inside ≤ length events.now }
         ensures first { self.new.first ≡ earliest self.old.first (rules_misfits key (item_value events.now item.now)) }
-        ensures said { said self.new.config ≡ (if starts_mapping (kind_value item.now.kind)
-            then with_rules (said base.now) (entries_of (item_value events.now item.now).inside) (said base.now) else said self.old.config) }
+        ensures said { config_settings self.new.config ≡ (if starts_mapping (kind_value item.now.kind)
+            then with_rules (config_settings base.now) (entries_of (item_value events.now item.now).inside) (config_settings base.now) else config_settings self.old.config) }
     {
         if starts_mapping(item.kind) {
             self.config = *base;
@@ -263,7 +263,7 @@ impl Reading {
     fn read_entry(&mut self, base: &Config, mapping: Pos, events: &[Event<'_>], entry: &EntryAt<'_>)
         requires { entry.now.value.inside ≤ length events.now }
         ensures first { self.new.first ≡ earliest self.old.first (root_entry_misfits mapping (entry_value events.now entry.now)) }
-        ensures said { said self.new.config ≡ with_entry (said base.now) (entry_value events.now entry.now) (said self.old.config) }
+        ensures said { config_settings self.new.config ≡ with_entry (config_settings base.now) (entry_value events.now entry.now) (config_settings self.old.config) }
     {
         let key = place_or(mapping, entry.key_place);
         match word(entry.key) {
@@ -278,7 +278,7 @@ impl Reading {
     fn read_entries(&mut self, base: &Config, mapping: Pos, events: &[Event<'_>], inside: usize)
         requires { inside ≤ length events.now }
         ensures first { self.new.first ≡ earliest self.old.first (flat_map (root_entry_misfits mapping) (entries_of (nodes_at events.now inside))) }
-        ensures said { said self.new.config ≡ with_entries (said base.now) (entries_of (nodes_at events.now inside)) (said self.old.config) }
+        ensures said { config_settings self.new.config ≡ with_entries (config_settings base.now) (entries_of (nodes_at events.now inside)) (config_settings self.old.config) }
     {
         let mut rest = inside;
         while let Some(entry) = first_entry(events, rest) {
@@ -307,7 +307,7 @@ fn is_extended(events: &[Event<'_>], inside: usize) -> bool
 pub fn read_root(events: &[Event<'_>], root: &Item<'_>) -> Reading
     requires { root.now.inside ≤ length events.now }
     ensures first { result.first ≡ earliest None (root_misfits (item_value events.now root.now)) }
-    ensures said { said result.config ≡ settings_of (item_value events.now root.now) }
+    ensures said { config_settings result.config ≡ settings_of (item_value events.now root.now) }
 {
     let place = place_or(ORIGIN, root.place);
     if !starts_mapping(root.kind) {

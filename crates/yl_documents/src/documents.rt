@@ -37,7 +37,8 @@ fn build<'a, 'b, A: Allocator + Copy>(
     Ok(BuiltDocument { lexemes, built })
 }
 
-/// What the documents build that begin behind so many lexemes with the first of these, and with those of these indices.
+/// What the documents build that begin behind so many lexemes with the first of these, and with
+/// those of these indices.
 fn build_behind<'a, 'b, A: Allocator + Copy>(
     alloc: A,
     before: usize,

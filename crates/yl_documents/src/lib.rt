@@ -1,7 +1,8 @@
 //! The documents of a whole text, and its first fault.
 //!
-//! A text was scanned. Its lexemes are put at their lines (`in_text`) and cut into documents, each with what the grammar makes of it
-//! (`build_all`); `text_fault` says where the first fault of all stands.
+//! A text was scanned. Its lexemes are put at their lines (`in_text`) and cut into documents, each
+//! with what the grammar makes of it (`build_all`); `text_fault` says where the first fault of all
+//! stands.
 #![tactic(auto)]
 
 ghost use Rattle.yl_documents.specs.Law.{OneBuilding};

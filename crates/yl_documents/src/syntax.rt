@@ -41,7 +41,8 @@ pub fn place_behind<A: Allocator>(
     }
 }
 
-/// The first of the documents' faults; behind all of them stands this place, if a fault may stand there.
+/// The first of the documents' faults; behind all of them stands this place, if a fault may stand
+/// there.
 fn parse_fault<A: Allocator>(
     end: Option<Pos>,
     documents: &[BuiltDocument<'_, '_, A>],

@@ -28,7 +28,8 @@ pub fn in_text<'a, A: Allocator + Copy>(
     Ok(all)
 }
 
-/// Where a fault stands. A text has no place past those that a `Pos` counts, so that there is never an error.
+/// Where a fault stands. A text has no place past those that a `Pos` counts, so that there is never
+/// an error.
 fn place_of(fault: LineFault) -> Result<Pos, AllocError>
     ensures { IfOk result (λ place. place ≡ place_of_fault (fault.line, fault.fault)) }
 {

@@ -1,8 +1,9 @@
 -- The lines that are still to be read.
-use Rattle.std.proofs.Common.{◌≡◌, ℕ, ◌<◌, Bool, true, false, List, [], ◌∷◌, length, drop, refl, sym, ap, ◌∙◌, arith}
+use Rattle.std.proofs.Common.{◌≡◌, ℕ, ◌+◌, ◌<◌, Bool, true, false, List, [], ◌∷◌, length, drop, refl, sym, ap, ◌∙◌, arith}
 use Rattle.std.specs.Str.{chars}
 use Rattle.yl_text.specs.Lines.{RowValue, lines_of}
-use Rattle.yl_dump.specs.TextScan.{characters_of, rows_of, IsInText}
+use Rattle.yl_scan.specs.Scanner.{characters_of}
+use Rattle.yl_dump.specs.TextScan.{rows_of, IsInText}
 use Rattle.yl_dump.proofs.Bounds.{first_fits}
 
 -- a line is still to be read where not all were
@@ -25,3 +26,11 @@ characters-next false rest rows p ps qs e h first behind =
     let all : rows ≡ p ∷ ps = sym e ∙ first in
     let others : qs ≡ ps = behind ∙ ap (λ (l : List RowValue). drop 1 l) all in
     ap characters_of all ∙ ap (λ (l : List RowValue). chars p.text ∷ characters_of l) (sym others)
+
+-- behind a line that is not the last the scanner stands in the text again
+pub next_inside : (line counted : ℕ) (rest behind : List ℕ) (next_line next_counted : ℕ)
+    → IsInText line counted rest → length behind < length rest → next_line ≡ line + 1 → next_counted ≡ counted + 1 → IsInText next_line next_counted behind
+next_inside line counted rest behind next_line next_counted fits smaller one more = record {
+  few = omega (arith, fits.few, smaller, one);
+  each = omega (arith, fits.each, one, more);
+}

@@ -2,7 +2,7 @@
 use Rattle.std.specs.Prelude.{ℕ, List, ◌++◌, codes}
 use Rattle.yl_dump.specs.declared.fault.TextPlace.{TextPlace}
 use Rattle.yl_dump.specs.Place.{place_text}
-use Rattle.yl_dump.specs.Quoting.{quoted_text}
+use Rattle.yl_dump.specs.Quoting.{text_in_quotes}
 
-abbrev pub refused_line : TextPlace → List ℕ → List ℕ
-refused_line place text = codes "!DOC " ++ place_text place ++ codes " " ++ quoted_text text ++ codes "\n"
+abbrev pub document_fault_line : TextPlace → List ℕ → List ℕ
+document_fault_line place text = codes "!DOC " ++ place_text place ++ codes " " ++ text_in_quotes text ++ codes "\n"

@@ -2,6 +2,7 @@
 -- place of its content.
 use Rattle.std.specs.Prelude.{ℕ, ◌+◌, ◌-◌, Bool, true, false, nat_le, ◌==◌, if◌then◌else◌, List, [], ◌++◌, slice_get, codes, decimal, Option, Some, None}
 use Rattle.yl_lexeme.specs.Lexeme.{LexemeValue}
+use Rattle.yl_events.specs.Event.{value_of}
 use Rattle.yl_events.specs.declared.symbol.Outline.{Outline}
 use Rattle.yl_events.specs.declared.symbol.Shape.{Shape}
 use Rattle.yl_events.specs.declared.symbol.Shape.TheVariants as shape
@@ -28,10 +29,6 @@ earlier_at i (Some x) = if x.0 == i then Some x.1 else None
 abbrev pub lexeme_at : GroupValue → ℕ → Option LexemeValue
 lexeme_at h i = if nat_le h.first i then slice_get h.lexemes (i - h.first) else earlier_at i h.earlier
 
-abbrev pub value_of : Option LexemeValue → List ℕ
-value_of None = []
-value_of (Some x) = x.value
-
 abbrev pub column_text : List ℕ → Option LexemeValue → List ℕ
 column_text opening None = []
 column_text opening (Some x) = opening ++ decimal (x.start.col + 1)
@@ -40,13 +37,13 @@ column_text opening (Some x) = opening ++ decimal (x.start.col + 1)
 abbrev pub own_lexeme : GroupValue → ℕ → Option LexemeValue
 own_lexeme h i = if nat_le h.first i then slice_get h.lexemes (i - h.first) else None
 
-abbrev pub place_of : GroupValue → Option ℕ → List ℕ
-place_of h None = []
-place_of h (Some i) = column_text h.opening (own_lexeme h i)
+abbrev pub place_shown : GroupValue → Option ℕ → List ℕ
+place_shown h None = []
+place_shown h (Some i) = column_text h.opening (own_lexeme h i)
 
-abbrev pub name_of : GroupValue → Option ℕ → List ℕ
-name_of h None = []
-name_of h (Some i) = value_of (lexeme_at h i)
+abbrev pub name_at : GroupValue → Option ℕ → List ℕ
+name_at h None = []
+name_at h (Some i) = value_of (lexeme_at h i)
 
 abbrev pub anchor_text : GroupValue → Option ℕ → List ℕ
 anchor_text h None = []
@@ -69,10 +66,10 @@ sign_of shape.Empty = codes "=VAL"
 
 -- an alias's name or a scalar's value
 abbrev pub content_text : GroupValue → Shape → Option ℕ → List ℕ
-content_text h shape.Alias place = codes " *" ++ name_of h place
-content_text h (shape.Scalar style) place = value_opening style ++ escaped_text (name_of h place) ++ codes "\""
+content_text h shape.Alias place = codes " *" ++ name_at h place
+content_text h (shape.Scalar style) place = value_opening style ++ escaped_text (name_at h place) ++ codes "\""
 content_text h shape.Empty place = codes " :\"\""
 content_text h _ place = []
 
 abbrev pub event_line : GroupValue → Outline → List ℕ
-event_line h o = sign_of o.kind ++ anchor_text h o.anchor ++ tag_text o.is_tagged ++ content_text h o.kind o.place ++ place_of h o.place ++ codes "\n"
+event_line h o = sign_of o.kind ++ anchor_text h o.anchor ++ tag_text o.is_tagged ++ content_text h o.kind o.place ++ place_shown h o.place ++ codes "\n"

@@ -1,6 +1,5 @@
 -- Bridge: a scanner, and the lines of a text that it is still to be fed.
-use Rattle.std.specs.Prelude.{◌≡◌, ◌+◌, ◌≤◌, ℕ, Bool, true, false, List, [], map, length}
-use Rattle.std.specs.Str.{chars}
+use Rattle.std.specs.Prelude.{◌≡◌, ◌+◌, ◌≤◌, ℕ, Bool, true, false, List, [], length}
 use Rattle.yl_text.specs.declared.TheConstants.{MAX_BYTES}
 use Rattle.yl_text.specs.Lines.{RowValue, lines_of}
 use Rattle.yl_scan.specs.Output.{PhaseValue}
@@ -9,10 +8,6 @@ pub record TextScannerValue : Type 0 where
   pub line : ℕ  -- how many lines were read
   pub stand : PhaseValue  -- where the scanner stands before the next one
   pub rows : List RowValue  -- the lines that are still to be read
-
--- the characters of the lines
-abbrev pub characters_of : List RowValue → List (List ℕ)
-characters_of rows = map (λ row. chars row.text) rows
 
 -- the lines of the rest of a text; where its last line was read there is none
 abbrev pub rows_of : Bool → List ℕ → List RowValue

@@ -1,6 +1,6 @@
 //! Faults of documents.
 ghost use Rattle.std.specs.Prelude.{◌≡◌, ◌++◌, OnOk};
-ghost use Rattle.yl_dump.specs.DocumentLine.{refused_line};
+ghost use Rattle.yl_dump.specs.DocumentLine.{document_fault_line};
 
 use crate::fault::{FaultMessage, TextPlace};
 use crate::page::Page;
@@ -48,7 +48,7 @@ pub fn text_fault(fault: Option<DocumentFault>, behind: Behind) -> Option<FaultM
 
 /// Prints a document's fault as a line.
 pub fn print_fault<A: Allocator>(page: &mut Page<A>, fault: FaultMessage) -> Result<(), AllocError>
-    ensures { OnOk result (page.new ≡ page.old ++ refused_line fault.place fault.text.now) }
+    ensures { OnOk result (page.new ≡ page.old ++ document_fault_line fault.place fault.text.now) }
 {
     page.text("!DOC ")?;
     page.place(fault.place)?;

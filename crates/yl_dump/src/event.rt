@@ -1,7 +1,7 @@
 //! Events.
 ghost use Rattle.std.specs.Prelude.{◌≡◌, ◌++◌, OnOk};
 ghost use Rattle.std.specs.List.{flat_map};
-ghost use Rattle.yl_dump.specs.EventLine.{sign_of, content_text, anchor_text, tag_text, place_of, event_line};
+ghost use Rattle.yl_dump.specs.EventLine.{sign_of, content_text, anchor_text, tag_text, place_shown, event_line};
 
 use crate::group::Group;
 use crate::names::value_opening;
@@ -84,7 +84,7 @@ fn print_place<A: Allocator + Copy>(
     group: &Group<A>,
     place: Option<usize>,
 ) -> Result<(), AllocError>
-    ensures { OnOk result (page.new ≡ page.old ++ place_of group.now place) }
+    ensures { OnOk result (page.new ≡ page.old ++ place_shown group.now place) }
 {
     match place {
         Some(index) => group.print_place(page, index),

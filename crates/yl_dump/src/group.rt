@@ -1,6 +1,7 @@
 //! The lexemes of a document that begin in one line.
-ghost use Rattle.std.specs.Prelude.{◌≡◌, ◌++◌, Some, OnOk};
-ghost use Rattle.yl_dump.specs.EventLine.{lexeme_at, opening_of, place_of, value_of};
+ghost use Rattle.std.specs.Prelude.{◌≡◌, ◌++◌, Some, OnOk, option_map};
+ghost use Rattle.yl_dump.specs.EventLine.{lexeme_at, opening_of, own_lexeme, place_shown};
+ghost use Rattle.yl_events.specs.Event.{value_of};
 
 use crate::fault::TextPlace;
 use crate::page::Page;
@@ -113,14 +114,21 @@ impl<A: Allocator + Copy> Group<A> {
         }
     }
 
-    /// Prints where the group's lexeme of this index in the document begins in the text, ` @LINE:COLUMN`.
-    pub fn print_place(&self, page: &mut Page<A>, index: usize) -> Result<(), AllocError>
-        ensures { OnOk result (page.new ≡ page.old ++ place_of self.now (Some index)) }
+    /// The group's own lexeme of this index in the document.
+    fn own(&self, index: usize) -> Option<&Lexeme<A>>
+        ensures { option_map (λ x. x.now) result ≡ own_lexeme self.now index }
     {
         if index < self.first {
-            return Ok(());
+            return None;
         }
-        let Some(lexeme) = self.lexemes.get(index - self.first) else {
+        self.lexemes.get(index - self.first)
+    }
+
+    /// Prints where the group's lexeme of this index in the document begins in the text, ` @LINE:COLUMN`.
+    pub fn print_place(&self, page: &mut Page<A>, index: usize) -> Result<(), AllocError>
+        ensures { OnOk result (page.new ≡ page.old ++ place_shown self.now (Some index)) }
+    {
+        let Some(lexeme) = self.own(index) else {
             return Ok(());
         };
         page.bytes(self.place_opening.as_bytes())?;
@@ -129,10 +137,7 @@ impl<A: Allocator + Copy> Group<A> {
 
     /// Where the group's lexeme of this index in the document begins in the text.
     pub fn place(&self, index: usize) -> Option<TextPlace> {
-        if index < self.first {
-            return None;
-        }
-        let lexeme = self.lexemes.get(index - self.first)?;
+        let lexeme = self.own(index)?;
         Some(TextPlace {
             line: u64::from(self.line),
             column: u64::from(lexeme.start().col),

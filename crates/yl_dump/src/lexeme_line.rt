@@ -1,6 +1,6 @@
 //! The lines of lexemes, of comments and of the scan fault.
 ghost use Rattle.std.specs.Prelude.{◌≡◌, ◌++◌, OnOk};
-ghost use Rattle.yl_dump.specs.LexemeLine.{extent_line, lexeme_line, comment_line, fault_line};
+ghost use Rattle.yl_dump.specs.LexemeLine.{extent_line, lexeme_line, comment_line, scan_fault_line};
 
 use crate::characters::character_count;
 use crate::fault::{FaultMessage, TextPlace};
@@ -21,13 +21,13 @@ fn print_line<A: Allocator>(
     ensures { OnOk result (page.new ≡ page.old ++ extent_line start end name.now text.now) }
 {
     page.place(start)?;
-    page.text("-")?;
+    page.byte(b'-')?;
     page.place(end)?;
-    page.text(" ")?;
+    page.byte(b' ')?;
     page.text(name)?;
-    page.text(" ")?;
+    page.byte(b' ')?;
     print_quoted(page, text)?;
-    page.text("\n")
+    page.byte(b'\n')
 }
 
 /// Prints a lexeme that begins at this line, counted from 0.
@@ -70,10 +70,10 @@ pub fn print_comment<A: Allocator>(
 
 /// Prints a scan fault.
 pub fn print_fault<A: Allocator>(page: &mut Page<A>, fault: FaultMessage) -> Result<(), AllocError>
-    ensures { OnOk result (page.new ≡ page.old ++ fault_line fault.place fault.text.now) }
+    ensures { OnOk result (page.new ≡ page.old ++ scan_fault_line fault.place fault.text.now) }
 {
     page.place(fault.place)?;
     page.text(" fault ")?;
     print_quoted(page, fault.text)?;
-    page.text("\n")
+    page.byte(b'\n')
 }

@@ -5,7 +5,7 @@ ghost use Rattle.std.specs.List.{flat_map};
 ghost use Rattle.std.specs.Option.{option_map};
 ghost use Rattle.yl_row.specs.Entries.{Stopped};
 ghost use Rattle.yl_scan.specs.Scanner.{lexeme_above_at, fault_above_at, step_value};
-ghost use Rattle.yl_dump.specs.StepLines.{above_lines, comment_lines, failed_lines, step_lines};
+ghost use Rattle.yl_dump.specs.StepLines.{above_lines, lines_of_comment, failed_lines, step_lines};
 ghost use Rattle.yl_dump.specs.LexemeLine.{lexeme_line};
 
 use crate::fault::{DumpFault, scan_fault};
@@ -51,7 +51,7 @@ fn print_own_comment<A: Allocator>(
     line: u32,
     comment: &Option<Comment<A>>,
 ) -> Result<(), AllocError>
-    ensures { OnOk result (page.new ≡ page.old ++ comment_lines line comment.now) }
+    ensures { OnOk result (page.new ≡ page.old ++ lines_of_comment line comment.now) }
 {
     match comment {
         Some(comment) => print_comment(page, line, comment),

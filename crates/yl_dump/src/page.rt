@@ -1,5 +1,5 @@
 //! Printed text that waits to be written.
-ghost use Rattle.std.specs.Prelude.{◌≡◌, [], ◌++◌, length, take, decimal, OnOk};
+ghost use Rattle.std.specs.Prelude.{◌≡◌, [], ◌++◌, ◌∷◌, length, take, decimal, OnOk};
 ghost use Rattle.std.specs.Io.KnownBytes.{Appends};
 ghost use Rattle.yl_dump.specs.Place.{place_text};
 
@@ -61,6 +61,15 @@ impl<A: Allocator> Page<A> {
         self.text.extend_from_slice(piece)
     }
 
+    /// Prints one byte.
+    #[inline(always)]
+    pub fn byte(&mut self, byte: u8) -> Result<(), AllocError>
+        ensures { OnOk result (self.new ≡ self.old ++ byte ∷ []) }
+    {
+        self.text.push(byte)?;
+        Ok(())
+    }
+
     pub fn text(&mut self, text: &str) -> Result<(), AllocError>
         ensures { OnOk result (self.new ≡ self.old ++ text.now) }
     {
@@ -72,7 +81,7 @@ impl<A: Allocator> Page<A> {
         ensures { OnOk result (self.new ≡ self.old ++ decimal n) }
     {
         if n < 10 {
-            return self.bytes(&[b'0' + n as u8]);
+            return self.byte(b'0' + n as u8);
         }
         if n < 100 {
             return self.bytes(&[b'0' + (n / 10) as u8, b'0' + (n % 10) as u8]);
@@ -86,7 +95,7 @@ impl<A: Allocator> Page<A> {
         ensures { OnOk result (self.new ≡ self.old ++ place_text place) }
     {
         self.number(place.line.saturating_add(1))?;
-        self.text(":")?;
+        self.byte(b':')?;
         self.number(place.column.saturating_add(1))
     }
 

@@ -2,14 +2,14 @@
 ghost use Rattle.std.specs.Prelude.{◌≡◌, ◌≤◌, ◌<◌, ◌++◌, drop, length, true, OnOk};
 ghost use Rattle.std.specs.List.{list_all};
 ghost use Rattle.std.specs.Fmt.{digits, digit_glyph};
-ghost use Rattle.yl_dump.specs.Quoting.{is_plain, escaped_character, escaped_text, quoted_text};
+ghost use Rattle.yl_dump.specs.Quoting.{stands_for_itself, escaped_character, escaped_text, text_in_quotes};
 
 use crate::page::Page;
 use std::alloc::{AllocError, Allocator};
 
 // Whether a byte stands for itself between quotes.
 fn is_plain(byte: u8) -> bool
-    ensures { result ≡ is_plain byte }
+    ensures { result ≡ stands_for_itself byte }
 {
     byte >= b' ' && byte <= b'~' && byte != b'"' && byte != b'\\'
 }
@@ -68,7 +68,7 @@ fn print_character<A: Allocator>(page: &mut Page<A>, c: char) -> Result<(), Allo
 
 // Whether each byte stands for itself between quotes.
 fn is_plain_text(text: &str) -> bool
-    ensures { result ≡ list_all is_plain text.now }
+    ensures { result ≡ list_all stands_for_itself text.now }
 {
     text.as_bytes().iter().all(|byte| is_plain(*byte))
 }
@@ -89,9 +89,9 @@ pub fn print_escaped<A: Allocator>(page: &mut Page<A>, text: &str) -> Result<(),
 
 /// Prints a text in double quotes.
 pub fn print_quoted<A: Allocator>(page: &mut Page<A>, text: &str) -> Result<(), AllocError>
-    ensures { OnOk result (page.new ≡ page.old ++ quoted_text text.now) }
+    ensures { OnOk result (page.new ≡ page.old ++ text_in_quotes text.now) }
 {
-    page.text("\"")?;
+    page.byte(b'"')?;
     print_escaped(page, text)?;
-    page.text("\"")
+    page.byte(b'"')
 }

@@ -3,9 +3,8 @@ ghost use Rattle.std.specs.Prelude.{◌≡◌, ◌≢◌, ◌≤◌, ◌↔◌, 
 ghost use Rattle.yl_text.specs.declared.TheConstants.{MAX_BYTES};
 ghost use Rattle.yl_text.specs.Lines.{lines_of};
 ghost use Rattle.yl_scan.specs.Output.{Fresh, output_with_step, remaining_output};
-ghost use Rattle.yl_scan.specs.Scanner.{state_before, step_value};
+ghost use Rattle.yl_scan.specs.Scanner.{state_before, step_value, characters_of};
 ghost use Rattle.yl_lexeme.specs.Known.{no_surroundings};
-ghost use Rattle.yl_dump.specs.TextScan.{characters_of};
 
 use crate::characters::character_count;
 use crate::fault::TextPlace;

@@ -1,5 +1,5 @@
 -- A document is parsed line by line.
-use Rattle.std.specs.Prelude.{ℕ, ◌≡◌, ◌+◌, refl, Bool, true, false, List, [], take, drop, Option, Some, None}
+use Rattle.std.specs.Prelude.{ℕ, ◌≡◌, ◌+◌, refl, Bool, true, false, List, [], take, drop, reverse, Option, Some, None}
 use Rattle.std.proofs.Common.{sym, ◌∙◌, ap, subst, append-nil, arith}
 use Rattle.yl_marks.specs.declared.token.Token.{Token}
 use Rattle.yl_marks.specs.declared.symbol.Symbol.{Symbol}
@@ -13,11 +13,11 @@ use Rattle.yl_events.specs.Derives.{lexeme_count}
 use Rattle.yl_events.specs.Machine as m
 use Rattle.yl_events.specs.Machine.{ParserState, run, taken_count, finish, AnswersFinish}
 use Rattle.yl_events.specs.Trail.{TrailValue, trail_after, fault_behind, fault_from}
-use Rattle.yl_events.specs.DocumentOutcome.{Fails, document_outcome, outcome_by, steps}
+use Rattle.yl_events.specs.DocumentOutcome.{Fails, AnswersDocument, Walked, document_outcome, outcome_by, steps}
 use Rattle.yl_events.specs.Parsing.{ParserValue, document_outcome_of_lines, Feeds, Passes}
 use Rattle.yl_events.proofs.Answered.{taken_within}
 use Rattle.yl_events.proofs.Counts.{all_closed_count, line_count, line_whole}
-use Rattle.yl_events.proofs.Parts.{run_parts, none_left, told_on, told_stop}
+use Rattle.yl_events.proofs.Parts.{run_parts, taken_parts, none_left, told_on, told_stop}
 
 -- ---- a line
 
@@ -57,9 +57,41 @@ pub end_refused : (ws : List Symbol) (goals : List Goal) (out es : List Outline)
 end_refused ws goals out es e =
     subst (λ r. AnswersFinish r false es) (sym (run_all ws goals out ∙ ap (m.onward (λ s. finish s.goals s.events)) e)) refl
 
+finished : (r : Option (List Outline)) (es : List Outline) → AnswersFinish r true es → r ≡ Some es
+finished None es h = let e : true ≡ false = h in cc
+finished (Some fs) es h = ap Some (sym h.1)
+
+all_taken : (ws : List Symbol) (goals : List Goal) (out : List Outline) (s : ParserState) → steps ws goals out ≡ Some s → taken_count ws goals out ≡ lexeme_count ws
+all_taken ws goals out s e =
+    ap (λ l. taken_count l goals out) (sym (append-nil ws)) ∙ taken_parts ws [] goals out s e ∙ omega arith
+
 unfinished : (r : Option (List Outline)) (es : List Outline) → AnswersFinish r false es → r ≡ None
 unfinished None es h = refl
 unfinished (Some fs) es h = let e : false ≡ true = h.0 in cc
+
+-- all symbols of a document, and what is left
+
+pub all_left : (ws : List Symbol) (goals gs : List Goal) (out es fs : List Outline) (answer : Option ℕ) (whole : Bool) → Walked (steps ws goals out) (taken_count ws goals out) answer gs es →
+    answer ≡ None → AnswersFinish (finish (reverse gs) es) whole fs → whole ≡ true → AnswersDocument (run ws goals out) (taken_count ws goals out) None fs
+all_left ws goals gs out es fs (Some place) whole h e left is = cc
+all_left ws goals gs out es fs None whole h e left is =
+    finished (run ws goals out) fs (subst (λ b. AnswersFinish (run ws goals out) b fs) is (end_left ws goals (reverse gs) out es fs whole h left))
+
+pub not_left : (ws : List Symbol) (goals gs : List Goal) (out es fs : List Outline) (answer : Option ℕ) (whole : Bool) (place : ℕ) →
+    Walked (steps ws goals out) (taken_count ws goals out) answer gs es → answer ≡ None → AnswersFinish (finish (reverse gs) es) whole fs → whole ≡ false →
+    place ≡ lexeme_count ws → AnswersDocument (run ws goals out) (taken_count ws goals out) (Some place) fs
+not_left ws goals gs out es fs (Some n) whole place h e left is there = cc
+not_left ws goals gs out es fs None whole place h e left is there = (
+  unfinished (run ws goals out) fs (subst (λ b. AnswersFinish (run ws goals out) b fs) is (end_left ws goals (reverse gs) out es fs whole h left)),
+  there ∙ sym (all_taken ws goals out _ h),
+)
+
+pub not_walked : (ws : List Symbol) (goals gs : List Goal) (out es : List Outline) (answer : Option ℕ) (place : ℕ) → Walked (steps ws goals out) (taken_count ws goals out) answer gs es →
+    answer ≡ Some place → AnswersDocument (run ws goals out) (taken_count ws goals out) (Some place) es
+not_walked ws goals gs out es None place h e = cc
+not_walked ws goals gs out es (Some n) place h e =
+    let same : n ≡ place = cc in
+    (run_all ws goals out ∙ ap (m.onward (λ s. finish s.goals s.events)) h.0, sym same ∙ h.1)
 
 from_first : (t : TrailValue) (ws : List Symbol) (n : ℕ) → n ≡ 0 → fault_from t n ws ≡ fault_behind t ws
 from_first t ws n e = ap (λ k. fault_behind (trail_after t (take k ws)) (drop k ws)) (none_left n ws e)

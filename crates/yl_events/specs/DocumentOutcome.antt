@@ -39,3 +39,8 @@ steps (w ∷ ws) goals out = steps_onto (λ s. steps ws s.goals s.events) (step 
 abbrev pub Walked : Option ParserState → (taken : ℕ) → Option ℕ → List Goal → List Outline → Type 0
 Walked s taken None goals events = s ≡ Some (record { goals = reverse goals; events = events })
 Walked s taken (Some place) goals events = (s ≡ None) × (place ≡ taken)
+
+-- all symbols of a document are taken and all goals left, and the events are these; or the first so many lexemes are taken, and no more
+abbrev pub AnswersDocument : Option (List Outline) → (taken : ℕ) → Option ℕ → List Outline → Type 0
+AnswersDocument r taken None events = r ≡ Some events
+AnswersDocument r taken (Some place) events = (r ≡ None) × (place ≡ taken)

@@ -1,21 +1,25 @@
 //! The events of a document, or its parse fault.
 
-ghost use Rattle.std.specs.Prelude.{◌≡◌, ◌≤◌, ◌<◌, ◌+◌, ◌^◌, ◌-◌, ℕ, List, [], map, length, IfOk, IfSome};
-ghost use Rattle.yl_lexeme.specs.Lexeme.{LexemeValue};
-ghost use Rattle.yl_marks.specs.declared.symbol.Symbol.{Symbol as Marks};
+ghost use Rattle.std.specs.Prelude.{◌≡◌, ◌<◌, ◌+◌, ◌^◌, ◌-◌, map, reverse, IfOk};
 ghost use Rattle.yl_marks.specs.Keys.{lexeme_at_line};
-ghost use Rattle.yl_events.specs.Event.{EventValue, event_value, kind_value, value_at, start_at, content_value, kind_of, event_of_outline, AreEvents};
-ghost use Rattle.yl_events.specs.Built.{Builds, IsFaultOf};
-ghost use Rattle.yl_events.specs.Parsing.{parser_at_start, start_events, document_outcome_of_lines, IsOutcome};
-ghost use Rattle.yl_marks.specs.ByLine.{by_line};
+ghost use Rattle.yl_marks.specs.Marks.{symbols_of_lexemes};
+ghost use Rattle.yl_events.specs.Event.{event_value, kind_value, value_at, start_at, content_value, kind_of, event_of_outline};
+ghost use Rattle.yl_events.specs.Built.{Builds};
+ghost use Rattle.yl_events.specs.Derives.{lexeme_count};
+ghost use Rattle.yl_events.specs.DocumentOutcome.{AnswersDocument, outcome_by};
+ghost use Rattle.yl_events.specs.Machine.{goals_of_document, run, taken_count};
+ghost use Rattle.yl_events.specs.Parsing.{start_events, IsOutcome};
+ghost use Rattle.yl_events.specs.Trail.{no_trail};
 
 use crate::event::{Built, Event, EventAnchor, EventKind};
 use crate::fault::PlacedParseFault;
-use crate::parser::Parser;
-use crate::symbol::{Outline, Shape};
+use crate::machine::{bare, finish, walk};
+use crate::parser::begin_document;
+use crate::symbol::{Goal, Outline, Shape};
+use crate::trail::Trail;
 use std::alloc::{AllocError, Allocator};
 use yl_lexeme::{LexemeAtLine, Meter};
-use yl_marks::{Token, line_len, tokens};
+use yl_marks::{Symbol, document_marks};
 use yl_text::Pos;
 
 /// The value of the lexeme of this index.
@@ -97,45 +101,79 @@ fn fill_all<'a, A: Allocator + Copy>(
 ) -> Result<Vec<Event<'a>, A>, AllocError>
     ensures { IfOk result (λ v. map event_value v.items ≡ map (event_of_outline (map (λ x. lexeme_at_line x.line x.lexeme.now) lexemes.now)) outlines.now) }
 {
-    let mut events = Vec::new(alloc);
+    let mut events = Vec::with_capacity(alloc, outlines.len())?;
     for outline in outlines {
         events.push(fill(lexemes, outline))?;
     }
     Ok(events)
 }
 
-/// The outlines of a document's lexemes, or its fault.
-fn parse<A: Allocator + Copy>(
-    alloc: A,
-    tokens: &[Token],
-) -> Result<(Vec<Outline, A>, Option<PlacedParseFault>), AllocError>
-    ensures { IfOk result (λ r. IsOutcome (document_outcome_of_lines parser_at_start start_events (by_line tokens.now)) r.1 r.0.items) }
+/// How many lexemes there are among the symbols.
+fn lexeme_count(symbols: &[Symbol]) -> usize
+    ensures { result ≡ lexeme_count symbols.now }
 {
-    let mut parser = Parser::new(alloc);
-    let mut outlines = Vec::new(alloc);
-    parser.start(&mut outlines)?;
-    let mut rest = tokens;
-    while !rest.is_empty() {
-        let (line, below) = rest.split_at(line_len(rest));
-        if let Some(fault) = parser.feed(line, &mut outlines)? {
-            return Ok((outlines, Some(fault)));
+    let mut count = 0usize;
+    for symbol in symbols {
+        if let Symbol::One(_, _) = symbol {
+            count += 1;
         }
-        rest = below;
     }
-    let fault = parser.finish(&mut outlines)?;
-    Ok((outlines, fault))
+    count
 }
 
-/// The events of a document, or its fault.
+/// Takes all symbols of a document, and leaves what is still to be read; or answers how many lexemes are taken before the fault.
+fn take_document<A: Allocator>(
+    symbols: &[Symbol],
+    goals: &mut Vec<Goal, A>,
+    outlines: &mut Vec<Outline, A>,
+) -> Result<Option<usize>, AllocError>
+    ensures { IfOk result (λ place. AnswersDocument (run symbols.now (reverse goals.old.items) outlines.old.items)
+        (taken_count symbols.now (reverse goals.old.items) outlines.old.items) place outlines.new.items) }
+{
+    match walk(symbols, goals, outlines)? {
+        None => {
+            if finish(goals, outlines)? {
+                return Ok(None);
+            }
+            Ok(Some(lexeme_count(symbols)))
+        }
+        Some(place) => Ok(Some(place)),
+    }
+}
+
+/// The outlines of a document's symbols, or its fault.
+fn parse<A: Allocator + Copy>(
+    alloc: A,
+    symbols: &[Symbol],
+) -> Result<(Vec<Outline, A>, Option<PlacedParseFault>), AllocError>
+    ensures { IfOk result (λ r. IsOutcome (outcome_by no_trail 0 goals_of_document start_events symbols.now) r.1 r.0.items) }
+{
+    let mut goals = Vec::new(alloc);
+    let mut outlines = Vec::with_capacity(alloc, symbols.len())?;
+    begin_document(&mut goals, &mut outlines)?;
+    match take_document(symbols, &mut goals, &mut outlines)? {
+        None => {
+            outlines.push(bare(Shape::DocumentEnd, None))?;
+            Ok((outlines, None))
+        }
+        Some(place) => {
+            let kind = Trail::new(alloc).fault_from(place, symbols)?;
+            Ok((outlines, Some(PlacedParseFault { kind, place })))
+        }
+    }
+}
+
+/// The events of a document with these symbols, or its fault.
 #[tactic(auto, using(crate::proofs::Giving::told_events))]
 fn build<'a, A: Allocator + Copy>(
     alloc: A,
     lexemes: &[LexemeAtLine<'a, A>],
+    symbols: &[Symbol],
 ) -> Result<Built<'a, A>, AllocError>
+    requires { symbols.now ≡ symbols_of_lexemes (map (λ x. lexeme_at_line x.line x.lexeme.now) lexemes.now) }
     ensures { IfOk result (λ b. Builds (map (λ x. lexeme_at_line x.line x.lexeme.now) lexemes.now) (map event_value b.events.items) b.fault) }
 {
-    let tokens = tokens(alloc, lexemes)?;
-    let (outlines, fault) = parse(alloc, &tokens)?;
+    let (outlines, fault) = parse(alloc, symbols)?;
     match fault {
         None => {
             let events = fill_all(alloc, lexemes, &outlines)?;
@@ -151,8 +189,33 @@ fn build<'a, A: Allocator + Copy>(
     }
 }
 
-/// The events of one whole document's lexemes, or its parse fault and no events. Counts the document in the meter, also where
-/// memory is refused. The only error is memory.
+/// Counts a document.
+fn count(meter: &mut Meter)
+    requires { meter.old.documents < 2 ^ 32 - 1 }
+    ensures { meter.new ≡ record meter.old { documents = meter.old.documents + 1 } }
+{
+    meter.documents += 1;
+}
+
+/// The events of one whole document's lexemes, or its parse fault and no events. `symbols` are the lexemes with their marks, as
+/// `document_marks` gives them. Counts the document in the meter, also where memory is refused. The only error is memory.
+pub fn parse_marked<'a, A: Allocator + Copy>(
+    alloc: A,
+    lexemes: &[LexemeAtLine<'a, A>],
+    symbols: &[Symbol],
+    meter: &mut Meter,
+) -> Result<Built<'a, A>, AllocError>
+    requires symbols { symbols.now ≡ symbols_of_lexemes (map (λ x. lexeme_at_line x.line x.lexeme.now) lexemes.now) }
+    requires documents { meter.old.documents < 2 ^ 32 - 1 }
+    ensures built { IfOk result (λ b. Builds (map (λ x. lexeme_at_line x.line x.lexeme.now) lexemes.now) (map event_value b.events.items) b.fault) }
+    ensures counted { meter.new ≡ record meter.old { documents = meter.old.documents + 1 } }
+{
+    count(meter);
+    build(alloc, lexemes, symbols)
+}
+
+/// The same of a document whose lexemes have no marks yet: its events, or its parse fault and no events. Counts the document in the
+/// meter, also where memory is refused. The only error is memory.
 pub fn parse_document<'a, A: Allocator + Copy>(
     alloc: A,
     lexemes: &[LexemeAtLine<'a, A>],
@@ -162,6 +225,7 @@ pub fn parse_document<'a, A: Allocator + Copy>(
     ensures built { IfOk result (λ b. Builds (map (λ x. lexeme_at_line x.line x.lexeme.now) lexemes.now) (map event_value b.events.items) b.fault) }
     ensures counted { meter.new ≡ record meter.old { documents = meter.old.documents + 1 } }
 {
-    meter.documents += 1;
-    build(alloc, lexemes)
+    count(meter);
+    let marks = document_marks(alloc, lexemes)?;
+    build(alloc, lexemes, &marks.symbols)
 }

@@ -12,7 +12,7 @@ mod symbol;
 mod trail;
 
 pub use cuts::{begins_document, documents};
-pub use document::parse_document;
+pub use document::{parse_document, parse_marked};
 pub use event::{Built, Event, EventAnchor, EventKind};
 pub use fault::{ParseFault, PlacedParseFault};
 pub use laws::{documents_cut_by_two, one_derivation, one_fault, told_documents};

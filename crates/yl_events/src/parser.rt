@@ -3,7 +3,7 @@
 ghost use Rattle.std.specs.Prelude.{◌≡◌, ◌∷◌, [], ◌++◌, ◌+◌, ◌<◌, ◌-◌, ◌^◌, reverse, OnOk, IfOk};
 ghost use Rattle.yl_events.specs.Outlines.{bare_event};
 ghost use Rattle.yl_events.specs.Derives.{lexeme_count};
-ghost use Rattle.yl_events.specs.Machine.{run, AnswersFinish};
+ghost use Rattle.yl_events.specs.Machine.{goals_of_document, run, AnswersFinish};
 ghost use Rattle.yl_events.specs.Parsing.{no_document, parser_at_start, start_events, document_outcome_of_lines, Feeds, IsOutcome, Passes};
 
 use crate::fault::PlacedParseFault;
@@ -62,24 +62,9 @@ impl<A: Allocator + Copy> Parser<A> {
         ensures counted { meter.new ≡ record meter.old { documents = meter.old.documents + 1 } }
     {
         meter.documents += 1;
-        self.start(outlines)
-    }
-
-    /// Stands at the start of a document, which its caller has counted.
-    pub(crate) fn start(&mut self, outlines: &mut Vec<Outline, A>) -> Result<(), AllocError>
-        ensures start { OnOk result (self.new ≡ parser_at_start) }
-        ensures told { OnOk result (outlines.new.items ≡ outlines.old.items ++ start_events) }
-    {
         self.marker.clear();
         self.trail.clear();
-        self.goals.clear();
-        self.goals.extend_from_slice(&[
-            Goal::Ending,
-            Goal::Formed(Where::InBlock(false), None),
-            Goal::Prefix,
-        ])?;
-        outlines.push(bare(Shape::DocumentStart, None))?;
-        Ok(())
+        begin_document(&mut self.goals, outlines)
     }
 
     /// How many lexemes of the document were fed.
@@ -131,6 +116,24 @@ impl<A: Allocator + Copy> Parser<A> {
         outlines.push(bare(Shape::DocumentEnd, None))?;
         Ok(None)
     }
+}
+
+/// Puts what a document has to read in place of all goals, and tells the document's start.
+pub(crate) fn begin_document<A: Allocator>(
+    goals: &mut Vec<Goal, A>,
+    outlines: &mut Vec<Outline, A>,
+) -> Result<(), AllocError>
+    ensures goals { OnOk result (reverse goals.new.items ≡ goals_of_document) }
+    ensures told { OnOk result (outlines.new.items ≡ outlines.old.items ++ start_events) }
+{
+    goals.clear();
+    goals.extend_from_slice(&[
+        Goal::Ending,
+        Goal::Formed(Where::InBlock(false), None),
+        Goal::Prefix,
+    ])?;
+    outlines.push(bare(Shape::DocumentStart, None))?;
+    Ok(())
 }
 
 /// Takes a line's symbols, the first of whose lexemes has this index in the document; or answers the document's fault.

@@ -1,4 +1,5 @@
 pub mod Measured
 pub mod LookBack
+pub mod SlimElements
 pub mod Places
 pub mod Examples

@@ -14,7 +14,8 @@ use Rattle.yl_indentation.specs.declared.fact.Fact.{Fact}
 use Rattle.yl_indentation.specs.Expected.{expectation_of_items, expectation_in_brackets, expectation_in_block}
 use Rattle.yl_indentation.specs.Facts.{is_entry_after, fact_of, is_checked}
 
--- the open collections, the innermost first; the latest lexeme; whether a collection opened directly before the place
+-- the open collections, the innermost first; the latest lexeme; whether a collection opened
+-- directly before the place
 pub record ContextValue : Type 0 where
   pub open_ones : List OpenCollection
   pub latest : Option Token
@@ -24,10 +25,13 @@ abbrev pub nothing_open : ContextValue
 nothing_open = record { open_ones = []; latest = None; just_opened = false }
 
 abbrev pub brackets : Site → OpenCollection
-brackets site = Brackets site.indentation (expectation_of_items site.token.start.line site.indentation site.next)
+brackets site =
+    Brackets site.indentation
+    (expectation_of_items site.token.start.line site.indentation site.next)
 
 abbrev pub with_lexeme_in : Kind → OpenCollection → OpenCollection
-with_lexeme_in kind (Block collection column in_entries) = Block collection column (is_entry_after kind in_entries)
+with_lexeme_in kind (Block collection column in_entries) =
+    Block collection column (is_entry_after kind in_entries)
 with_lexeme_in kind (Brackets indentation items) = Brackets indentation items
 
 abbrev pub with_lexeme : Kind → List OpenCollection → List OpenCollection
@@ -62,7 +66,11 @@ is_opening (Other site) = false
 is_opening Nothing = false
 
 abbrev pub after : Element → ContextValue → ContextValue
-after e c = record { open_ones = open_after e c.open_ones; latest = latest_after e c.latest; just_opened = is_opening e }
+after e c = record {
+  open_ones = open_after e c.open_ones;
+  latest = latest_after e c.latest;
+  just_opened = is_opening e;
+}
 
 -- the innermost collection, without one that opened directly before the place
 abbrev pub around : Bool → List OpenCollection → Option OpenCollection
@@ -70,12 +78,16 @@ around just_opened os = if just_opened then first_of (all_but_first os) else fir
 
 abbrev pub expectation_around : Option OpenCollection → Option Token → Token → Option Expectation
 expectation_around None before x = Some (At 0)
-expectation_around (Some (Block collection column in_entries)) before x = expectation_in_block collection column in_entries x
-expectation_around (Some (Brackets indentation items)) before x = expectation_in_brackets indentation items before x
+expectation_around (Some (Block collection column in_entries)) before x =
+    expectation_in_block collection column in_entries x
+expectation_around (Some (Brackets indentation items)) before x =
+    expectation_in_brackets indentation items before x
 
 abbrev pub fact_here : ContextValue → Site → List Fact
 fact_here c site =
-    if is_checked site c.latest then fact_of site.token (expectation_around (around c.just_opened c.open_ones) c.latest site.token) else []
+    if is_checked site c.latest
+    then fact_of site.token
+    (expectation_around (around c.just_opened c.open_ones) c.latest site.token) else []
 
 abbrev pub fact_in : ContextValue → Element → List Fact
 fact_in c (Opening collection column) = []

@@ -1,4 +1,5 @@
--- Meaning: the elements of a document: its lexemes, each with what stands around it, and the marks between them.
+-- Meaning: the elements of a document: its lexemes, each with what stands around it, and the marks
+-- between them.
 use Rattle.std.specs.Prelude.{ℕ, nat_lt, List, ◌+◌, Option, Some, None, slice_get, slice_index}
 use Rattle.yl_lexeme.specs.declared.lexeme.Kind.{Kind}
 use Rattle.yl_lexeme.specs.declared.lexeme.Kind.TheVariants.{DocStart, DocEnd, SeqOpen, SeqClose, MapOpen, MapClose}
@@ -18,13 +19,20 @@ element_at SeqClose site = ClosingBracket site
 element_at MapClose site = ClosingBracket site
 element_at _ site = Other site
 
--- a lexeme of this index, with the one after it and the leading spaces of its line. It counts if it is one of the first `counted`
+-- a lexeme of this index, with the one after it and the leading spaces of its line. It counts if it
+-- is one of the first `counted`
 abbrev pub lexeme_element : List Token → ℕ → List ℕ → ℕ → Option Token → Element
 lexeme_element tokens counted indentations i None = Nothing
 lexeme_element tokens counted indentations i (Some x) =
-    element_at x.kind (record { token = x; next = slice_get tokens (i + 1); indentation = slice_index indentations x.start.line; counts = nat_lt i counted })
+    element_at x.kind (record {
+      token = x;
+      next = slice_get tokens (i + 1);
+      indentation = slice_index indentations x.start.line;
+      counts = nat_lt i counted;
+    })
 
 abbrev pub element_of : List Token → ℕ → List ℕ → Marked → Element
 element_of tokens counted indentations (Open collection column) = Opening collection column
 element_of tokens counted indentations Close = Closing
-element_of tokens counted indentations (Lexeme i begins) = lexeme_element tokens counted indentations i (slice_get tokens i)
+element_of tokens counted indentations (Lexeme i begins) =
+    lexeme_element tokens counted indentations i (slice_get tokens i)

@@ -1,4 +1,5 @@
--- Meaning: the checked places of a document (yamllint's rule indentation). Elements before a place are listed with the latest first.
+-- Meaning: the checked places of a document (yamllint's rule indentation). Elements before a place
+-- are listed with the latest first.
 use Rattle.std.specs.Prelude.{ℕ, zero, suc, Bool, true, false, ◌&&◌, if◌then◌else◌, List, [], ◌∷◌, ◌++◌, map, Option, Some, None}
 use Rattle.yl_lexeme.specs.declared.lexeme.Kind.{Kind}
 use Rattle.yl_lexeme.specs.Lexeme.{is_entry, is_key, is_value}
@@ -24,8 +25,8 @@ latest_lexeme (ClosingBracket site ∷ es) = Some site.token
 latest_lexeme (Other site ∷ es) = Some site.token
 latest_lexeme (Nothing ∷ es) = latest_lexeme es
 
--- what opened the innermost collection that is still open, in blocks and brackets alike. Looking back, each end of a collection skips
--- one beginning; skip counts those that are still to come
+-- what opened the innermost collection that is still open, in blocks and brackets alike. Looking
+-- back, each end of a collection skips one beginning; skip counts those that are still to come
 abbrev pub innermost_opening : ℕ → List Element → Option Element
 innermost_opening skip [] = None
 innermost_opening skip (Marker site ∷ es) = None
@@ -38,9 +39,11 @@ innermost_opening (suc skip) (OpeningBracket site ∷ es) = innermost_opening sk
 innermost_opening skip (Other site ∷ es) = innermost_opening skip es
 innermost_opening skip (Nothing ∷ es) = innermost_opening skip es
 
--- after one more lexeme: it is an entry; or it is neither key nor value, and the latest before was an entry
+-- after one more lexeme: it is an entry; or it is neither key nor value, and the latest before was
+-- an entry
 abbrev pub is_entry_after : Kind → Bool → Bool
-is_entry_after kind before = if is_entry kind then true else if is_key kind then false else if is_value kind then false else before
+is_entry_after kind before = if is_entry kind then true else if is_key kind then false
+    else if is_value kind then false else before
 
 -- of that collection: the latest of its own entries, keys and values is an entry
 abbrev pub is_in_entries : ℕ → List Element → Bool
@@ -67,12 +70,15 @@ before_opening (ClosingBracket site ∷ es) = ClosingBracket site ∷ es
 before_opening (Other site ∷ es) = Other site ∷ es
 before_opening (Nothing ∷ es) = Nothing ∷ es
 
--- where a lexeme is expected, by what opened the innermost collection around it: at column 0, if none is open
+-- where a lexeme is expected, by what opened the innermost collection around it: at column 0, if
+-- none is open
 abbrev pub expectation_by : Option Element → Bool → Option Token → Token → Option Expectation
 expectation_by None in_entries before x = Some (At 0)
-expectation_by (Some (Opening collection column)) in_entries before x = expectation_in_block collection column in_entries x
+expectation_by (Some (Opening collection column)) in_entries before x =
+    expectation_in_block collection column in_entries x
 expectation_by (Some (OpeningBracket site)) in_entries before x =
-    expectation_in_brackets site.indentation (expectation_of_items site.token.start.line site.indentation site.next) before x
+    expectation_in_brackets site.indentation
+    (expectation_of_items site.token.start.line site.indentation site.next) before x
 expectation_by (Some Closing) in_entries before x = None
 expectation_by (Some (Marker site)) in_entries before x = None
 expectation_by (Some (ClosingBracket site)) in_entries before x = None
@@ -81,7 +87,9 @@ expectation_by (Some Nothing) in_entries before x = None
 
 abbrev pub expectation_at : List Element → Token → Option Expectation
 expectation_at before x =
-    let around = before_opening before in expectation_by (innermost_opening zero around) (is_in_entries zero around) (latest_lexeme before) x
+    let around = before_opening before in
+    expectation_by (innermost_opening zero around) (is_in_entries zero around)
+    (latest_lexeme before) x
 
 abbrev pub fact_of : Token → Option Expectation → List Fact
 fact_of x None = []
@@ -92,7 +100,8 @@ abbrev pub is_checked : Site → Option Token → Bool
 is_checked site before = site.counts && is_content site.token.kind && begins_line site.token before
 
 abbrev pub fact_at_site : List Element → Site → List Fact
-fact_at_site before site = if is_checked site (latest_lexeme before) then fact_of site.token (expectation_at before site.token) else []
+fact_at_site before site = if is_checked site (latest_lexeme before)
+    then fact_of site.token (expectation_at before site.token) else []
 
 abbrev pub fact_at : List Element → Element → List Fact
 fact_at before (Opening collection column) = []
@@ -107,7 +116,8 @@ abbrev pub facts_after : List Element → List Element → List Fact
 facts_after before [] = []
 facts_after before (e ∷ es) = fact_at before e ++ facts_after (e ∷ before) es
 
--- the checked places of a document with these lexemes and marks: of the first `counted` lexemes, where these are the leading spaces of
--- the lines
+-- the checked places of a document with these lexemes and marks: of the first `counted` lexemes,
+-- where these are the leading spaces of the lines
 abbrev pub indent_facts : List Token → List Marked → ℕ → List ℕ → List Fact
-indent_facts tokens marks counted indentations = facts_after [] (map (element_of tokens counted indentations) marks)
+indent_facts tokens marks counted indentations =
+    facts_after [] (map (element_of tokens counted indentations) marks)

@@ -7,9 +7,12 @@ use Rattle.yl_indentation.specs.Problems.{facts_of_all, text_problems, document_
 
 -- the measure of facts one after another
 abbrev pub MeasureIsLocal : Type 0
-MeasureIsLocal = (earlier later : List Fact) → measure_of (earlier ++ later) ≡ and_later (measure_of earlier) (measure_of later)
+MeasureIsLocal = (earlier later : List Fact) → measure_of (earlier ++ later)
+    ≡ and_later (measure_of earlier) (measure_of later)
 
--- a text's problems, from the facts of all its documents, are those of its documents one after another
+-- a text's problems, from the facts of all its documents, are those of its documents one after
+-- another
 abbrev pub ProblemsAreByDocuments : Type 0
 ProblemsAreByDocuments = (options : IndentationOptions) (documents : List (List Fact))
-    → text_problems options (facts_of_all documents) ≡ document_problems options empty_measure (measure_of (facts_of_all documents)) documents
+    → text_problems options (facts_of_all documents)
+    ≡ document_problems options empty_measure (measure_of (facts_of_all documents)) documents

@@ -1,4 +1,5 @@
--- Meaning: what the facts of a text decide for all of it (yamllint's rule indentation, the options spaces and indent-sequences).
+-- Meaning: what the facts of a text decide for all of it (yamllint's rule indentation, the options
+-- spaces and indent-sequences).
 use Rattle.std.specs.Prelude.{ℕ, Bool, false, nat_lt, ◌==◌, if◌then◌else◌, List, [], ◌∷◌, ◌-◌, Option, Some, None}
 use Rattle.yl_indentation.specs.declared.fact.Expectation.{Expectation}
 use Rattle.yl_indentation.specs.declared.fact.Expectation.TheVariants.{At, Beyond, EntryIn}
@@ -25,8 +26,18 @@ positive_step n = if nat_lt 0 n then Some n else None
 -- of a lexeme at a column: how far it stands past its base, if it does
 abbrev pub measure_at : ℕ → Expectation → Measure
 measure_at column (At e) = empty_measure
-measure_at column (Beyond base) = record { step = positive_step (column - base); step_with_entries = positive_step (column - base); flush = None }
-measure_at column (EntryIn base) = record { step = None; step_with_entries = positive_step (column - base); flush = Some (column == base) }
+measure_at column (Beyond base) =
+    record {
+      step = positive_step (column - base);
+      step_with_entries = positive_step (column - base);
+      flush = None;
+    }
+measure_at column (EntryIn base) =
+    record {
+      step = None;
+      step_with_entries = positive_step (column - base);
+      flush = Some (column == base);
+    }
 
 -- the first of each
 abbrev pub measure_of : List Fact → Measure

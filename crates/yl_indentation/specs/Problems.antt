@@ -13,29 +13,35 @@ use Rattle.yl_indentation.specs.declared.options.IndentSequences.{IndentSequence
 use Rattle.yl_indentation.specs.declared.options.IndentSequences.TheVariants.{Indented, NotIndented, Whatever, Consistent}
 use Rattle.yl_indentation.specs.Measures.{empty_measure, and_later, measure_at, measure_of, is_flush}
 
--- an entry in a mapping is to be indented from it; flush: the text's first such entry stands in its mapping's column
+-- an entry in a mapping is to be indented from it; flush: the text's first such entry stands in its
+-- mapping's column
 abbrev pub is_indented : IndentSequences → Bool → Bool → Bool
 is_indented Indented flush at_base = true
 is_indented NotIndented flush at_base = false
 is_indented Whatever flush at_base = not at_base
 is_indented Consistent flush at_base = not flush
 
--- the width at a place: the number given, or the first step of the text up to it, of those places where a step is expected
-abbrev pub width_of : Spaces → Bool → Measure → Option ℕ
-width_of (Every n) with_entries here = Some n
-width_of _ with_entries here = if with_entries then here.step_with_entries else here.step
+-- the width at a place: the number given, or the first step of the text up to it, of those places
+-- where a step is expected
+abbrev pub width_by_spaces : Spaces → Bool → Measure → Option ℕ
+width_by_spaces (Every n) with_entries here = Some n
+width_by_spaces _ with_entries here = if with_entries then here.step_with_entries else here.step
 
-abbrev pub width : IndentationOptions → Measure → Bool → Option ℕ
-width options here flush = width_of options.spaces (is_indented options.indent_sequences flush false) here
+abbrev pub indentation_width : IndentationOptions → Measure → Bool → Option ℕ
+indentation_width options here flush =
+    width_by_spaces options.spaces (is_indented options.indent_sequences flush false) here
 
 abbrev pub not_as_expected : ℕ → Fact → List FindingValue
 not_as_expected e f =
     if e == f.column then []
-    else one_finding Indentation (f.line + 1) (f.column + 1) (codes "wrong indentation: expected " ++ (decimal e ++ (codes " but found " ++ decimal f.column)))
+    else one_finding Indentation (f.line + 1) (f.column + 1) (codes "wrong indentation: expected "
+    ++ (decimal e ++ (codes " but found " ++ decimal f.column)))
 
 abbrev pub not_beyond : ℕ → Fact → List FindingValue
 not_beyond e f =
-    if nat_lt f.column e then one_finding Indentation (f.line + 1) (f.column + 1) (codes "wrong indentation: expected at least " ++ decimal e) else []
+    if nat_lt f.column e
+    then one_finding Indentation (f.line + 1) (f.column + 1)
+    (codes "wrong indentation: expected at least " ++ decimal e) else []
 
 abbrev pub finding_by_width : Option ℕ → ℕ → Fact → List FindingValue
 finding_by_width None base f = not_beyond (base + 1) f
@@ -45,13 +51,16 @@ abbrev pub finding_by : IndentSequences → Bool → Option ℕ → Fact → Exp
 finding_by choice flush width f (At e) = not_as_expected e f
 finding_by choice flush width f (Beyond base) = finding_by_width width base f
 finding_by choice flush width f (EntryIn base) =
-    if is_indented choice flush (f.column == base) then finding_by_width width base f else not_as_expected base f
+    if is_indented choice flush (f.column == base) then finding_by_width width base f
+    else not_as_expected base f
 
 -- here: the measure of the text's facts up to this one
 abbrev pub finding_at : IndentationOptions → Measure → Bool → Fact → List FindingValue
-finding_at options here flush f = finding_by options.indent_sequences flush (width options here flush) f f.expectation
+finding_at options here flush f =
+    finding_by options.indent_sequences flush (indentation_width options here flush) f f.expectation
 
--- the problems of a document's facts, by the measure of the facts before them and that of the whole text
+-- the problems of a document's facts, by the measure of the facts before them and that of the whole
+-- text
 abbrev pub indent_problems : IndentationOptions → Measure → Measure → List Fact → List FindingValue
 indent_problems options before whole [] = []
 indent_problems options before whole (f ∷ fs) =
@@ -68,7 +77,9 @@ facts_of_all [] = []
 facts_of_all (d ∷ ds) = d ++ facts_of_all ds
 
 -- the problems of documents one after another, after facts of this measure
-abbrev pub document_problems : IndentationOptions → Measure → Measure → List (List Fact) → List FindingValue
+abbrev pub document_problems : IndentationOptions → Measure → Measure → List (List Fact)
+    → List FindingValue
 document_problems options before whole [] = []
 document_problems options before whole (d ∷ ds) =
-    indent_problems options before whole d ++ document_problems options (and_later before (measure_of d)) whole ds
+    indent_problems options before whole d
+    ++ document_problems options (and_later before (measure_of d)) whole ds

@@ -45,13 +45,18 @@ fn with_lexeme_in(kind: Kind, opened: OpenCollection) -> OpenCollection
     }
 }
 
-/// Notes a lexeme in the innermost collection.
+/// Notes a lexeme in the innermost collection: whether the latest of the collection's own entries,
+/// keys and values is an entry.
 fn note<A: Allocator>(
     kind: Kind,
     collections: &mut Vec<OpenCollection, A>,
 ) -> Result<(), AllocError>
-    ensures { OnOk result (reverse collections.new.items ≡ with_lexeme kind (reverse collections.old.items)) }
+    ensures { OnOk result (reverse collections.new.items
+        ≡ with_lexeme kind (reverse collections.old.items)) }
 {
+    if !matches!(kind, Kind::Entry | Kind::Key | Kind::Value) {
+        return Ok(());
+    }
     if let Some(opened) = collections.pop() {
         collections.push(with_lexeme_in(kind, opened))?;
     }
@@ -63,7 +68,8 @@ fn pass_open<A: Allocator>(
     element: Element,
     collections: &mut Vec<OpenCollection, A>,
 ) -> Result<(), AllocError>
-    ensures { OnOk result (reverse collections.new.items ≡ open_after element (reverse collections.old.items)) }
+    ensures { OnOk result (reverse collections.new.items
+        ≡ open_after element (reverse collections.old.items)) }
 {
     match element {
         Element::Opening(collection, column) => {
@@ -133,7 +139,11 @@ impl<A: Allocator> Model for Context<A> {
 
     ghost Value = { ContextValue };
 
-    ghost view = { λ c. record { open_ones = reverse c.collections.items; latest = c.latest; just_opened = c.just_opened } };
+    ghost view = { λ c. record {
+      open_ones = reverse c.collections.items;
+      latest = c.latest;
+      just_opened = c.just_opened;
+    } };
 }
 
 impl<A: Allocator> Context<A> {

@@ -2,7 +2,8 @@
 //! between them.
 ghost use Rattle.std.specs.Prelude.{◌≡◌, ◌<◌, ◌+◌, map, length, slice_get, slice_index};
 ghost use Rattle.yl_marks.specs.Keys.{lexeme_at_line, token_of};
-ghost use Rattle.yl_indentation.specs.Elements.{element_of, element_at};
+ghost use Rattle.yl_indentation.specs.Elements.{element_of, element_at, lexeme_element};
+ghost use Rattle.yl_indentation.specs.SlimElements.{slim_element};
 
 use std::alloc::Allocator;
 use yl_lexeme::{Kind, LexemeAtLine};
@@ -40,7 +41,8 @@ pub enum Element {
 }
 
 fn token_at<A: Allocator>(lexemes: &[LexemeAtLine<'_, A>], i: usize) -> Option<Token>
-    ensures { result ≡ slice_get (map token_of (map (λ x. lexeme_at_line x.line x.lexeme.now) lexemes.now)) i }
+    ensures { result
+        ≡ slice_get (map token_of (map (λ x. lexeme_at_line x.line x.lexeme.now) lexemes.now)) i }
 {
     match lexemes.get(i) {
         None => None,
@@ -68,27 +70,54 @@ fn element_at(site: Site) -> Element
     }
 }
 
-/// The element of a mark, in a document with these lexemes, of which the first `counted` count.
-/// `indentations` are the leading spaces of its lines.
+/// The element of the lexeme of this index. What stands around it is looked at only where it opens
+/// brackets: of no other element is it asked.
+fn element_of_lexeme<A: Allocator>(
+    lexemes: &[LexemeAtLine<'_, A>],
+    counted: usize,
+    indentations: &[u32],
+    i: usize,
+) -> Element
+    ensures { result ≡ slim_element (lexeme_element
+        (map token_of (map (λ x. lexeme_at_line x.line x.lexeme.now) lexemes.now))
+        counted indentations.now i (slice_get
+        (map token_of (map (λ x. lexeme_at_line x.line x.lexeme.now) lexemes.now)) i)) }
+{
+    let Some(token) = token_at(lexemes, i) else {
+        return Element::Nothing;
+    };
+    let counts = i < counted;
+    if !token.kind.is_opening() {
+        return element_at(Site {
+            token,
+            next: None,
+            indentation: 0,
+            counts,
+        });
+    }
+    Element::OpeningBracket(Site {
+        token,
+        next: token_at(lexemes, i.saturating_add(1)),
+        indentation: indentation_at(indentations, token.start.line),
+        counts,
+    })
+}
+
+/// The element of a mark, in a document with these lexemes, of which the first `counted` count, as
+/// far as it is asked for. `indentations` are the leading spaces of its lines.
 pub fn element_of<A: Allocator>(
     lexemes: &[LexemeAtLine<'_, A>],
     counted: usize,
     indentations: &[u32],
     mark: Marked,
 ) -> Element
-    ensures { result ≡ element_of (map token_of (map (λ x. lexeme_at_line x.line x.lexeme.now) lexemes.now)) counted indentations.now mark }
+    ensures { result ≡ slim_element (element_of
+        (map token_of (map (λ x. lexeme_at_line x.line x.lexeme.now) lexemes.now))
+        counted indentations.now mark) }
 {
     match mark {
         Marked::Open(collection, column) => Element::Opening(collection, column),
         Marked::Close => Element::Closing,
-        Marked::Lexeme(i, _) => match token_at(lexemes, i) {
-            None => Element::Nothing,
-            Some(token) => element_at(Site {
-                token,
-                next: token_at(lexemes, i.saturating_add(1)),
-                indentation: indentation_at(indentations, token.start.line),
-                counts: i < counted,
-            }),
-        },
+        Marked::Lexeme(i, _) => element_of_lexeme(lexemes, counted, indentations, i),
     }
 }

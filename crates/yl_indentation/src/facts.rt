@@ -3,6 +3,7 @@ ghost use Rattle.std.specs.Prelude.{◌≡◌, ◌++◌, map, OnOk, IfOk};
 ghost use Rattle.std.specs.Option.{option_to_list};
 ghost use Rattle.yl_marks.specs.Keys.{lexeme_at_line, token_of};
 ghost use Rattle.yl_indentation.specs.Elements.{element_of};
+ghost use Rattle.yl_indentation.specs.SlimElements.{slim_element};
 ghost use Rattle.yl_indentation.specs.Facts.{indent_facts};
 ghost use Rattle.yl_indentation.specs.Context.{nothing_open, facts_in, fact_in, after};
 
@@ -36,8 +37,9 @@ fn facts_in<A: Allocator + Copy>(
     counted: usize,
     indentations: &[u32],
 ) -> Result<Vec<Fact, A>, AllocError>
-    ensures { IfOk result (λ v. v.items ≡ facts_in nothing_open
-        (map (element_of (map token_of (map (λ x. lexeme_at_line x.line x.lexeme.now) lexemes.now)) counted indentations.now) marks.now)) }
+    ensures { IfOk result (λ v. v.items ≡ facts_in nothing_open (map (λ m. slim_element (element_of
+        (map token_of (map (λ x. lexeme_at_line x.line x.lexeme.now) lexemes.now))
+        counted indentations.now m)) marks.now)) }
 {
     let mut context = Context::new(alloc);
     let mut facts = Vec::new(alloc);
@@ -59,7 +61,9 @@ pub fn indent_facts<A: Allocator + Copy>(
     counted: usize,
     indentations: &[u32],
 ) -> Result<Vec<Fact, A>, AllocError>
-    ensures { IfOk result (λ v. v.items ≡ indent_facts (map token_of (map (λ x. lexeme_at_line x.line x.lexeme.now) lexemes.now)) marks.now counted indentations.now) }
+    ensures { IfOk result (λ v. v.items
+        ≡ indent_facts (map token_of (map (λ x. lexeme_at_line x.line x.lexeme.now) lexemes.now))
+        marks.now counted indentations.now) }
 {
     facts_in(alloc, lexemes, marks, counted, indentations)
 }

@@ -32,7 +32,10 @@ pub struct IndentationOptions {
 impl IndentationOptions {
     /// Those of yamllint's default configuration.
     pub fn standard() -> IndentationOptions
-        ensures { result ≡ record { spaces = Spaces.Consistent; indent_sequences = IndentSequences.Indented } }
+        ensures { result ≡ record {
+          spaces = Spaces.Consistent;
+          indent_sequences = IndentSequences.Indented;
+        } }
     {
         IndentationOptions {
             spaces: Spaces::Consistent,

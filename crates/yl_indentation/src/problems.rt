@@ -1,8 +1,7 @@
 //! The problems of the rule indentation.
-ghost use Rattle.std.specs.Prelude.{◌≡◌, ◌++◌, IfOk, OnOk};
-ghost use Rattle.std.specs.Option.{option_to_list};
+ghost use Rattle.std.specs.Prelude.{◌≡◌, ◌++◌, codes, decimal, IfOk, OnOk, string_bytes};
 ghost use Rattle.yl_indentation.specs.Measures.{is_flush};
-ghost use Rattle.yl_indentation.specs.Problems.{is_indented, width, not_as_expected, not_beyond, finding_by_width, finding_by, finding_at, indent_problems};
+ghost use Rattle.yl_indentation.specs.Problems.{is_indented, indentation_width, not_as_expected, not_beyond, finding_by_width, finding_by, finding_at, indent_problems};
 
 use crate::fact::{Expectation, Fact};
 use crate::measure::Measure;
@@ -35,7 +34,7 @@ fn is_flush(measure: Measure) -> bool
 
 /// The width at a place, where `here` is the measure of the facts up to it.
 fn width(options: &IndentationOptions, here: Measure, flush: bool) -> Option<u32>
-    ensures { result ≡ width options.now here flush }
+    ensures { result ≡ indentation_width options.now here flush }
 {
     match options.spaces {
         Spaces::Every(width) => Some(width),
@@ -46,74 +45,107 @@ fn width(options: &IndentationOptions, here: Measure, flush: bool) -> Option<u32
     }
 }
 
-fn not_as_expected<A: Allocator + Copy>(
+/// What is said of a lexeme that is not in the column in which it is expected.
+fn other_column_text<A: Allocator + Copy>(
+    alloc: A,
+    expected: u64,
+    column: u32,
+) -> Result<String<A>, AllocError>
+    ensures { IfOk result (λ text. string_bytes text
+        ≡ codes "wrong indentation: expected "
+        ++ (decimal expected ++ (codes " but found " ++ decimal column))) }
+{
+    format!(in alloc; "wrong indentation: expected {expected} but found {column}")
+}
+
+/// What is said of a lexeme before the first column in which it may be.
+fn least_column_text<A: Allocator + Copy>(alloc: A, least: u64) -> Result<String<A>, AllocError>
+    ensures { IfOk result (λ text. string_bytes text
+        ≡ codes "wrong indentation: expected at least " ++ decimal least) }
+{
+    format!(in alloc; "wrong indentation: expected at least {least}")
+}
+
+/// Adds the problem of a fact that is not in this column.
+fn push_not_as_expected<A: Allocator + Copy>(
     alloc: A,
     expected: u64,
     fact: Fact,
-) -> Result<Option<Finding<A>>, AllocError>
-    ensures { IfOk result (λ o. option_to_list o ≡ not_as_expected expected fact) }
+    found: &mut Vec<Finding<A>, A>,
+) -> Result<(), AllocError>
+    ensures { OnOk result (found.new.items ≡ found.old.items ++ not_as_expected expected fact) }
 {
     let Fact { line, column, .. } = fact;
     if expected == u64::from(column) {
-        return Ok(None);
+        return Ok(());
     }
-    let message = format!(in alloc; "wrong indentation: expected {expected} but found {column}")?;
+    let message = other_column_text(alloc, expected, column)?;
     let line = u64::from(line) + 1;
     let column = u64::from(column) + 1;
-    Ok(Some(Finding::new(line, column, RuleId::Indentation, message)))
+    found.push(Finding::new(line, column, RuleId::Indentation, message))?;
+    Ok(())
 }
 
-fn not_beyond<A: Allocator + Copy>(
+/// Adds the problem of a fact that is before this column.
+fn push_not_beyond<A: Allocator + Copy>(
     alloc: A,
     least: u64,
     fact: Fact,
-) -> Result<Option<Finding<A>>, AllocError>
-    ensures { IfOk result (λ o. option_to_list o ≡ not_beyond least fact) }
+    found: &mut Vec<Finding<A>, A>,
+) -> Result<(), AllocError>
+    ensures { OnOk result (found.new.items ≡ found.old.items ++ not_beyond least fact) }
 {
     let Fact { line, column, .. } = fact;
     if least <= u64::from(column) {
-        return Ok(None);
+        return Ok(());
     }
-    let message = format!(in alloc; "wrong indentation: expected at least {least}")?;
+    let message = least_column_text(alloc, least)?;
     let line = u64::from(line) + 1;
     let column = u64::from(column) + 1;
-    Ok(Some(Finding::new(line, column, RuleId::Indentation, message)))
+    found.push(Finding::new(line, column, RuleId::Indentation, message))?;
+    Ok(())
 }
 
-fn finding_by_width<A: Allocator + Copy>(
+/// Adds the problem of a fact that is not as far past its base as the width says.
+fn push_by_width<A: Allocator + Copy>(
     alloc: A,
     width: Option<u32>,
     base: u32,
     fact: Fact,
-) -> Result<Option<Finding<A>>, AllocError>
-    ensures { IfOk result (λ o. option_to_list o ≡ finding_by_width width base fact) }
+    found: &mut Vec<Finding<A>, A>,
+) -> Result<(), AllocError>
+    ensures { OnOk result (found.new.items ≡ found.old.items ++ finding_by_width width base fact) }
 {
+    let base = u64::from(base);
     match width {
-        None => not_beyond(alloc, u64::from(base) + 1, fact),
-        Some(width) => not_as_expected(alloc, u64::from(base) + u64::from(width), fact),
+        None => push_not_beyond(alloc, base + 1, fact, found),
+        Some(width) => push_not_as_expected(alloc, base + u64::from(width), fact, found),
     }
 }
 
-fn finding_by<A: Allocator + Copy>(
+/// Adds the problem of a fact, by the width of an indentation at its place.
+fn push_by<A: Allocator + Copy>(
     alloc: A,
     choice: IndentSequences,
     flush: bool,
     width: Option<u32>,
     fact: Fact,
-) -> Result<Option<Finding<A>>, AllocError>
-    ensures { IfOk result (λ o. option_to_list o ≡ finding_by choice flush width fact fact.expectation) }
+    found: &mut Vec<Finding<A>, A>,
+) -> Result<(), AllocError>
+    ensures { OnOk result (found.new.items
+        ≡ found.old.items ++ finding_by choice flush width fact fact.expectation) }
 {
     match fact.expectation {
-        Expectation::At(column) => not_as_expected(alloc, u64::from(column), fact),
-        Expectation::Beyond(base) => finding_by_width(alloc, width, base, fact),
+        Expectation::At(column) => push_not_as_expected(alloc, u64::from(column), fact, found),
+        Expectation::Beyond(base) => push_by_width(alloc, width, base, fact, found),
         Expectation::EntryIn(base) if is_indented(choice, flush, fact.column == base) => {
-            finding_by_width(alloc, width, base, fact)
+            push_by_width(alloc, width, base, fact, found)
         }
-        Expectation::EntryIn(base) => not_as_expected(alloc, u64::from(base), fact),
+        Expectation::EntryIn(base) => push_not_as_expected(alloc, u64::from(base), fact, found),
     }
 }
 
-/// Adds the problem of a fact, if it has one.
+/// Adds the problem of a fact, where `here` is the measure of the facts up to it.
 fn push_found<A: Allocator + Copy>(
     alloc: A,
     options: &IndentationOptions,
@@ -122,18 +154,16 @@ fn push_found<A: Allocator + Copy>(
     fact: Fact,
     found: &mut Vec<Finding<A>, A>,
 ) -> Result<(), AllocError>
-    ensures { OnOk result (found.new.items ≡ found.old.items ++ finding_at options.now here flush fact) }
+    ensures { OnOk result (found.new.items ≡ found.old.items
+        ++ finding_at options.now here flush fact) }
 {
     let width = width(options, here, flush);
-    if let Some(one) = finding_by(alloc, options.indent_sequences, flush, width, fact)? {
-        found.push(one)?;
-    }
-    Ok(())
+    push_by(alloc, options.indent_sequences, flush, width, fact, found)
 }
 
 /// The problems of one document's facts. `before` is the measure of the facts of all earlier
-/// documents of the text, `whole` that of all its facts. Lines and columns of problems count from 1.
-/// The only error is out of memory.
+/// documents of the text, `whole` that of all its facts. Lines and columns of problems count from
+/// 1. The only error is out of memory.
 pub fn indent_problems<A: Allocator + Copy>(
     alloc: A,
     facts: &[Fact],

@@ -1,5 +1,5 @@
 -- Short texts, as lexemes, and what the rules find in them, computed.
-use Rattle.std.specs.Prelude.{ℕ, Bool, ◌≡◌, refl, List, [], ◌∷◌, ◌++◌, ◌&&◌, codes, length, true, Some, None}
+use Rattle.std.specs.Prelude.{ℕ, Bool, ◌≡◌, refl, List, [], ◌∷◌, ◌++◌, ◌&&◌, codes, length, true, Some}
 use Rattle.std.specs.Ordering.{is_lt, nat_cmp}
 use Rattle.std.specs.Cmp.Lexicographic.{slice_cmp}
 use Rattle.yl_lexeme.specs.declared.lexeme.Style.TheVariants.{Plain, Double}

@@ -1,3 +1,4 @@
 pub mod Steps
+pub mod KindLemmas
 pub mod TruthyLemmas
 pub mod Examples

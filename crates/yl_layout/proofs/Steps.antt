@@ -12,6 +12,7 @@ use Rattle.yl_layout.specs.declared.span.Span.{Span}
 use Rattle.yl_layout.specs.declared.options.LexemeOptions.{LexemeOptions}
 use Rattle.yl_layout.specs.Spans.{span_of}
 use Rattle.yl_layout.specs.Lexemes.{findings_at, findings_behind, first_span, lexeme_findings}
+use Rattle.yl_layout.specs.Kinds.{findings_of}
 
 -- what begins at a place
 pub drop_here : {X : Type 0} (xs : List X) (i : ℕ) (x : X) → slice_get xs i ≡ Some x → drop i xs ≡ x ∷ drop (i + 1) xs
@@ -30,14 +31,20 @@ findings_here f o before xs keys i d e h g =
 
 -- what is found from the next lexeme on, by what was found at this one
 pub findings_more : {X : Type 0} (f : X → LexemeValue) (o : LexemeOptions) (before : Option Span) (xs behind : List X) (keys : List KeyFacts) (i : ℕ) (x d : X) (e key : KeyFacts)
-    (after : Option Span) (next : Span) (found new all : List FindingValue) → i < length xs → i < length keys
-    → x ≡ get_or xs i d → behind ≡ drop (i + 1) xs → after ≡ first_span (map f behind) → next ≡ span_of (f x)
-    → new ≡ found ++ findings_at o before (f x) key after → key ≡ get_or keys i e
+    (after : Option Span) (next : Span) (value : List ℕ) (found new all : List FindingValue)
+    → i < length xs → i < length keys
+    → x ≡ get_or xs i d → behind ≡ drop (i + 1) xs → after ≡ first_span (map f behind)
+    → next ≡ span_of (f x) → value ≡ (f x).value
+    → new ≡ found ++ findings_of o before next value key after → key ≡ get_or keys i e
     → found ++ findings_behind o before (map f (drop i xs)) (drop i keys) ≡ all
     → new ++ findings_behind o (Some next) (map f (drop (i + 1) xs)) (drop (i + 1) keys) ≡ all
-findings_more f o before xs behind keys i x d e key after next found new all h g x_is behind_is after_is next_is new_is key_is all_is =
+findings_more f o before xs behind keys i x d e key after next value found new all h g
+    x_is behind_is after_is next_is value_is found_is key_is all_is =
     let rest = drop (i + 1) xs in
     let y = get_or xs i d in
+    let new_is : new ≡ found ++ findings_at o before (f x) key after =
+    found_is ∙ ap (λ s. found ++ findings_of o before s value key after) next_is
+    ∙ ap (λ v. found ++ findings_of o before (span_of (f x)) v key after) value_is in
     ap (λ s. new ++ findings_behind o (Some s) (map f rest) (drop (i + 1) keys)) (next_is ∙ ap (λ z. span_of (f z)) x_is)
     ∙ ap (λ l. l ++ findings_behind o (Some (span_of (f y))) (map f rest) (drop (i + 1) keys)) (new_is ∙ ap (λ z. found ++ findings_at o before (f z) key after) x_is)
     ∙ append_assoc found _ _

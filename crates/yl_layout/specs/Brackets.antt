@@ -1,5 +1,7 @@
--- Meaning: yamllint's rules braces and brackets, which are one rule over two kinds of flow collections.
-use Rattle.std.specs.Prelude.{ℕ, Bool, true, false, if◌then◌else◌, List, [], ◌∷◌, ◌++◌, ◌+◌, codes, Option, Some, None}
+-- Meaning: yamllint's rules braces and brackets, which are one rule over two kinds of flow
+-- collections.
+use Rattle.std.specs.Prelude.{ℕ, Bool, true, false, if◌then◌else◌, List, [], ◌++◌, ◌+◌, codes, Option, Some, None}
+use Rattle.std.specs.Option.{option_or}
 use Rattle.yl_lexeme.specs.declared.lexeme.Kind.{Kind}
 use Rattle.yl_lexeme.specs.declared.lexeme.Kind.TheVariants.{SeqOpen, SeqClose, MapOpen, MapClose}
 use Rattle.yl_text.specs.declared.finding.RuleId.{RuleId}
@@ -53,44 +55,50 @@ too_many_empty_text Sequence = codes "too many spaces inside empty brackets"
 
 -- ---- the rule
 
-abbrev pub or_else : Option ℕ → Option ℕ → Option ℕ
-or_else None other = other
-or_else (Some n) other = Some n
-
--- the bounds on the distance of two lexemes of which one is a bracket, and on that of two brackets with nothing between
+-- the bounds on the distance of two lexemes of which one is a bracket, and on that of two brackets
+-- with nothing between
 abbrev pub inside : Flow → BracketsOptions → Span → Span → List FindingValue
 inside flow o x y =
-    too_few (rule_of flow) o.min_spaces_inside x y (too_few_text flow) ++ too_many (rule_of flow) o.max_spaces_inside x y (too_many_text flow)
+    too_few (rule_of flow) o.min_spaces_inside x y (too_few_text flow)
+    ++ too_many (rule_of flow) o.max_spaces_inside x y (too_many_text flow)
 
 abbrev pub inside_empty : Flow → BracketsOptions → Span → Span → List FindingValue
 inside_empty flow o x y =
-    too_few (rule_of flow) (or_else o.min_spaces_inside_empty o.min_spaces_inside) x y (too_few_empty_text flow)
-    ++ too_many (rule_of flow) (or_else o.max_spaces_inside_empty o.max_spaces_inside) x y (too_many_empty_text flow)
+    too_few (rule_of flow) (option_or o.min_spaces_inside_empty o.min_spaces_inside) x y
+    (too_few_empty_text flow)
+    ++ too_many (rule_of flow) (option_or o.max_spaces_inside_empty o.max_spaces_inside) x y
+    (too_many_empty_text flow)
 
 -- told of the character behind the bracket
-abbrev pub forbidden : Flow → Span → List FindingValue
-forbidden flow x = one_finding (rule_of flow) (x.start.line + 1) (x.start.col + 2) (forbidden_text flow)
+abbrev pub forbidden_finding : Flow → Span → List FindingValue
+forbidden_finding flow x =
+    one_finding (rule_of flow) (x.start.line + 1) (x.start.col + 2) (forbidden_text flow)
 
 -- at an opening bracket and the lexeme behind it
-abbrev pub behind_opening_at : Flow → BracketsOptions → Forbid → Span → Option Span → List FindingValue
-behind_opening_at flow o Everything x after = forbidden flow x
+abbrev pub behind_opening_at : Flow → BracketsOptions → Forbid → Span → Option Span
+    → List FindingValue
+behind_opening_at flow o Everything x after = forbidden_finding flow x
 behind_opening_at flow o NonEmpty x None = []
-behind_opening_at flow o NonEmpty x (Some y) = if closes flow y.kind then inside_empty flow o x y else forbidden flow x
+behind_opening_at flow o NonEmpty x (Some y) =
+    if closes flow y.kind then inside_empty flow o x y else forbidden_finding flow x
 behind_opening_at flow o Nothing x None = []
-behind_opening_at flow o Nothing x (Some y) = if closes flow y.kind then inside_empty flow o x y else inside flow o x y
+behind_opening_at flow o Nothing x (Some y) =
+    if closes flow y.kind then inside_empty flow o x y else inside flow o x y
 
 -- at a closing bracket and the lexeme before it
 abbrev pub before_closing : Flow → BracketsOptions → Option Span → Span → List FindingValue
 before_closing flow o None y = []
 before_closing flow o (Some x) y = if opens flow x.kind then [] else inside flow o x y
 
-abbrev pub brackets_by : Flow → BracketsOptions → Option Span → Span → Option Span → List FindingValue
+abbrev pub brackets_by : Flow → BracketsOptions → Option Span → Span → Option Span
+    → List FindingValue
 brackets_by flow o before x after =
     if opens flow x.kind then behind_opening_at flow o o.forbid x after
     else if closes flow x.kind then before_closing flow o before x
     else []
 
 -- at a lexeme between its neighbours, if the rule is on
-abbrev pub brackets : Flow → Option BracketsOptions → Option Span → Span → Option Span → List FindingValue
+abbrev pub brackets : Flow → Option BracketsOptions → Option Span → Span → Option Span
+    → List FindingValue
 brackets flow None before x after = []
 brackets flow (Some o) before x after = brackets_by flow o before x after

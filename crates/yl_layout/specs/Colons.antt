@@ -25,10 +25,12 @@ before_colon o (Some x) y =
     else too_many Colons o.max_spaces_before x y (codes "too many spaces before colon")
 
 abbrev pub behind_colon : ColonsOptions → Span → Option Span → List FindingValue
-behind_colon o x after = too_many_behind Colons o.max_spaces_after x after (codes "too many spaces after colon")
+behind_colon o x after =
+    too_many_behind Colons o.max_spaces_after x after (codes "too many spaces after colon")
 
 abbrev pub behind_question_mark : ColonsOptions → Span → Option Span → List FindingValue
-behind_question_mark o x after = too_many_behind Colons o.max_spaces_after x after (codes "too many spaces after question mark")
+behind_question_mark o x after =
+    too_many_behind Colons o.max_spaces_after x after (codes "too many spaces after question mark")
 
 abbrev pub round_colon : ColonsOptions → Option Span → Span → Option Span → List FindingValue
 round_colon o before x after = before_colon o before x ++ behind_colon o x after

@@ -1,5 +1,5 @@
 -- Meaning: yamllint's rule commas.
-use Rattle.std.specs.Prelude.{ℕ, Bool, nat_lt, if◌then◌else◌, List, [], ◌++◌, ◌+◌, max, codes, Option, Some, None, is_some}
+use Rattle.std.specs.Prelude.{nat_lt, if◌then◌else◌, List, [], ◌++◌, ◌+◌, max, codes, Option, Some, None, is_some}
 use Rattle.yl_lexeme.specs.Lexeme.{is_comma}
 use Rattle.yl_text.specs.declared.finding.RuleId.TheVariants.{Commas}
 use Rattle.yl_text.specs.Finding.{FindingValue, one_finding}
@@ -7,10 +7,13 @@ use Rattle.yl_layout.specs.declared.span.Span.{Span}
 use Rattle.yl_layout.specs.declared.commas.CommasOptions.{CommasOptions}
 use Rattle.yl_layout.specs.Spans.{too_many, too_few}
 
--- a comma whose line has nothing before it, where that is bounded: told of the column before it, or of the first
+-- a comma whose line has nothing before it, where that is bounded: told of the column before it, or
+-- of the first
 abbrev pub first_comma : CommasOptions → Span → List FindingValue
 first_comma o y =
-    if is_some o.max_spaces_before then one_finding Commas (y.start.line + 1) (max 1 y.start.col) (codes "too many spaces before comma") else []
+    if is_some o.max_spaces_before
+    then one_finding Commas (y.start.line + 1) (max 1 y.start.col)
+    (codes "too many spaces before comma") else []
 
 abbrev pub before_comma : CommasOptions → Option Span → Span → List FindingValue
 before_comma o None y = []
@@ -22,14 +25,16 @@ abbrev pub few_behind_comma : CommasOptions → Span → Span → List FindingVa
 few_behind_comma o x y = too_few Commas o.min_spaces_after x y (codes "too few spaces after comma")
 
 abbrev pub many_behind_comma : CommasOptions → Span → Span → List FindingValue
-many_behind_comma o x y = too_many Commas o.max_spaces_after x y (codes "too many spaces after comma")
+many_behind_comma o x y =
+    too_many Commas o.max_spaces_after x y (codes "too many spaces after comma")
 
 abbrev pub behind_comma : CommasOptions → Span → Option Span → List FindingValue
 behind_comma o x None = []
 behind_comma o x (Some y) = few_behind_comma o x y ++ many_behind_comma o x y
 
 abbrev pub commas_by : CommasOptions → Option Span → Span → Option Span → List FindingValue
-commas_by o before x after = if is_comma x.kind then before_comma o before x ++ behind_comma o x after else []
+commas_by o before x after =
+    if is_comma x.kind then before_comma o before x ++ behind_comma o x after else []
 
 -- at a lexeme between its neighbours, if the rule is on
 abbrev pub commas : Option CommasOptions → Option Span → Span → Option Span → List FindingValue

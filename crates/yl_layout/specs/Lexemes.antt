@@ -19,30 +19,38 @@ use Rattle.yl_layout.specs.Truthy.{truthy}
 -- the rules on flow collections, at a lexeme between its neighbours
 abbrev pub flow_findings : LexemeOptions → Option Span → Span → Option Span → List FindingValue
 flow_findings o before x after =
-    brackets Mapping o.braces before x after ++ (brackets Sequence o.brackets before x after ++ commas o.commas before x after)
+    brackets Mapping o.braces before x after ++ (brackets Sequence o.brackets before x after
+    ++ commas o.commas before x after)
 
 -- those on block collections and documents
 abbrev pub block_findings : LexemeOptions → Option Span → Span → Option Span → List FindingValue
 block_findings o before x after =
-    colons o.colons before x after ++ (hyphens o.hyphens x after ++ document_start o.document_start before x)
+    colons o.colons before x after ++ (hyphens o.hyphens x after
+    ++ document_start o.document_start before x)
 
 -- those on values
 abbrev pub value_findings : LexemeOptions → Span → List ℕ → KeyFacts → List FindingValue
-value_findings o x value key = truthy o.truthy x value key ++ quoted_strings o.quoted_strings x value key
+value_findings o x value key =
+    truthy o.truthy x value key ++ quoted_strings o.quoted_strings x value key
 
-abbrev pub findings_at : LexemeOptions → Option Span → LexemeValue → KeyFacts → Option Span → List FindingValue
+abbrev pub findings_at : LexemeOptions → Option Span → LexemeValue → KeyFacts → Option Span
+    → List FindingValue
 findings_at o before x key after =
-    flow_findings o before (span_of x) after ++ (block_findings o before (span_of x) after ++ value_findings o (span_of x) x.value key)
+    flow_findings o before (span_of x) after ++ (block_findings o before (span_of x) after
+    ++ value_findings o (span_of x) x.value key)
 
 abbrev pub first_span : List LexemeValue → Option Span
 first_span [] = None
 first_span (x ∷ xs) = Some (span_of x)
 
--- at each of these lexemes, which follow one more; beside each stands what the document's keys say of it
-abbrev pub findings_behind : LexemeOptions → Option Span → List LexemeValue → List KeyFacts → List FindingValue
+-- at each of these lexemes, which follow one more; beside each stands what the document's keys say
+-- of it
+abbrev pub findings_behind : LexemeOptions → Option Span → List LexemeValue → List KeyFacts
+    → List FindingValue
 findings_behind o before [] keys = []
 findings_behind o before (x ∷ xs) [] = []
-findings_behind o before (x ∷ xs) (key ∷ keys) = findings_at o before x key (first_span xs) ++ findings_behind o (Some (span_of x)) xs keys
+findings_behind o before (x ∷ xs) (key ∷ keys) =
+    findings_at o before x key (first_span xs) ++ findings_behind o (Some (span_of x)) xs keys
 
 -- in a document of which so many lexemes count; whether one is a key may show behind them
 abbrev pub lexeme_findings : LexemeOptions → ℕ → List LexemeValue → List FindingValue

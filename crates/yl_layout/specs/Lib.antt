@@ -5,6 +5,8 @@ pub mod Commas
 pub mod Hyphens
 pub mod DocumentStart
 pub mod Truthy
+pub mod TruthyLetters
 pub mod QuotedStrings
 pub mod Lexemes
+pub mod Kinds
 pub mod Standard

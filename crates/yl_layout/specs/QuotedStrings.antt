@@ -33,17 +33,19 @@ abbrev pub is_misquoted : QuotedStringsOptions → Kind → List ℕ → Bool
 is_misquoted o (Scalar s) value = is_misquoted_style o s value
 is_misquoted o _ value = false
 
-abbrev pub quoted_text : QuoteType → List ℕ
-quoted_text Any = codes "string value is not quoted with any quotes"
-quoted_text Single = codes "string value is not quoted with single quotes"
-quoted_text Double = codes "string value is not quoted with double quotes"
+abbrev pub misquoted_text : QuoteType → List ℕ
+misquoted_text Any = codes "string value is not quoted with any quotes"
+misquoted_text Single = codes "string value is not quoted with single quotes"
+misquoted_text Double = codes "string value is not quoted with double quotes"
 
 abbrev pub quoted_strings_by : QuotedStringsOptions → Span → List ℕ → KeyFacts → List FindingValue
 quoted_strings_by o x value key =
     if not key.has_tag && not key.is_key && is_misquoted o x.kind value
-    then one_finding QuotedStrings (x.start.line + 1) (x.start.col + 1) (quoted_text o.quote_type) else []
+    then one_finding QuotedStrings (x.start.line + 1) (x.start.col + 1) (misquoted_text o.quote_type)
+    else []
 
 -- at a lexeme and its value, if the rule is on
-abbrev pub quoted_strings : Option QuotedStringsOptions → Span → List ℕ → KeyFacts → List FindingValue
+abbrev pub quoted_strings : Option QuotedStringsOptions → Span → List ℕ → KeyFacts
+    → List FindingValue
 quoted_strings None x value key = []
 quoted_strings (Some o) x value key = quoted_strings_by o x value key

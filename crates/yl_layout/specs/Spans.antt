@@ -1,5 +1,5 @@
 -- Meaning: lexemes by their kinds and places, and the distances between them.
-use Rattle.std.specs.Prelude.{ℕ, Bool, true, false, ◌==◌, nat_lt, if◌then◌else◌, List, [], ◌∷◌, ◌+◌, ◌-◌, Option, Some, None}
+use Rattle.std.specs.Prelude.{ℕ, Bool, false, ◌==◌, nat_lt, if◌then◌else◌, List, [], ◌+◌, ◌-◌, Option, Some, None}
 use Rattle.yl_lexeme.specs.Lexeme.{LexemeValue}
 use Rattle.yl_text.specs.declared.finding.RuleId.{RuleId}
 use Rattle.yl_text.specs.Finding.{FindingValue, one_finding}
@@ -27,12 +27,14 @@ is_below (Some n) (Some least) = nat_lt n least
 -- told of the character directly before the second lexeme
 abbrev pub too_many : RuleId → Option ℕ → Span → Span → List ℕ → List FindingValue
 too_many rule most x y message =
-    if is_above (distance x y) most then one_finding rule (y.start.line + 1) y.start.col message else []
+    if is_above (distance x y) most then one_finding rule (y.start.line + 1) y.start.col message
+    else []
 
 -- told of the second lexeme
 abbrev pub too_few : RuleId → Option ℕ → Span → Span → List ℕ → List FindingValue
 too_few rule least x y message =
-    if is_below (distance x y) least then one_finding rule (y.start.line + 1) (y.start.col + 1) message else []
+    if is_below (distance x y) least
+    then one_finding rule (y.start.line + 1) (y.start.col + 1) message else []
 
 -- the same behind a lexeme, if another follows it
 abbrev pub too_many_behind : RuleId → Option ℕ → Span → Option Span → List ℕ → List FindingValue

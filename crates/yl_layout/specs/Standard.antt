@@ -28,7 +28,11 @@ standard_options = record {
   braces = Some standard_brackets;
   brackets = Some standard_brackets;
   colons = Some (record { max_spaces_before = Some 0; max_spaces_after = Some 1 });
-  commas = Some (record { max_spaces_before = Some 0; min_spaces_after = Some 1; max_spaces_after = Some 1 });
+  commas = Some (record {
+    max_spaces_before = Some 0;
+    min_spaces_after = Some 1;
+    max_spaces_after = Some 1;
+  });
   hyphens = Some (record { max_spaces_after = Some 1 });
   document_start = Some (record { present = true });
   truthy = Some standard_truthy;

@@ -1,5 +1,5 @@
 -- Meaning: yamllint's rule truthy.
-use Rattle.std.specs.Prelude.{ℕ, suc, Bool, true, false, not, ◌&&◌, ◌||◌, if◌then◌else◌, List, [], ◌∷◌, ◌++◌, ◌+◌, codes, Option, Some, None, bytes_eq, slice_index_or}
+use Rattle.std.specs.Prelude.{ℕ, Bool, true, false, not, ◌&&◌, ◌||◌, if◌then◌else◌, List, [], ◌∷◌, ◌++◌, ◌+◌, codes, Option, Some, None, bytes_eq, slice_index_or}
 use Rattle.yl_lexeme.specs.declared.lexeme.Style.TheVariants.{Plain}
 use Rattle.yl_lexeme.specs.declared.lexeme.Kind.{Kind}
 use Rattle.yl_lexeme.specs.declared.lexeme.Kind.TheVariants.{Scalar}
@@ -13,8 +13,10 @@ use Rattle.yl_layout.specs.declared.truthy.TruthyOptions.{TruthyOptions}
 -- in the order of ASCII
 abbrev pub truthy_words : List (List ℕ)
 truthy_words =
-    codes "FALSE" ∷ codes "False" ∷ codes "NO" ∷ codes "No" ∷ codes "OFF" ∷ codes "ON" ∷ codes "Off" ∷ codes "On" ∷ codes "TRUE"
-    ∷ codes "True" ∷ codes "YES" ∷ codes "Yes" ∷ codes "false" ∷ codes "no" ∷ codes "off" ∷ codes "on" ∷ codes "true" ∷ codes "yes" ∷ []
+    codes "FALSE" ∷ codes "False" ∷ codes "NO" ∷ codes "No" ∷ codes "OFF" ∷ codes "ON" ∷ codes "Off"
+    ∷ codes "On" ∷ codes "TRUE"
+    ∷ codes "True" ∷ codes "YES" ∷ codes "Yes" ∷ codes "false" ∷ codes "no" ∷ codes "off"
+    ∷ codes "on" ∷ codes "true" ∷ codes "yes" ∷ []
 
 -- the index of a word among these, of which the first has such an index
 abbrev pub index_from : ℕ → List (List ℕ) → List ℕ → Option ℕ
@@ -25,26 +27,27 @@ abbrev pub truthy_index : List ℕ → Option ℕ
 truthy_index word = index_from 0 truthy_words word
 
 -- the truthy word of this index is allowed
-abbrev pub is_allowed : TruthyWords → ℕ → Bool
-is_allowed words i = slice_index_or words.allowed i false
+abbrev pub is_allowed_word : TruthyWords → ℕ → Bool
+is_allowed_word words i = slice_index_or words.allowed i false
 
 abbrev pub is_wrong : TruthyWords → Option ℕ → Bool
 is_wrong words None = false
-is_wrong words (Some i) = not (is_allowed words i)
+is_wrong words (Some i) = not (is_allowed_word words i)
 
 -- the words for which the list of flags says so
-abbrev pub chosen : List (List ℕ) → List Bool → List (List ℕ)
-chosen [] bs = []
-chosen (w ∷ ws) [] = []
-chosen (w ∷ ws) (b ∷ bs) = if b then w ∷ chosen ws bs else chosen ws bs
+abbrev pub chosen_words : List (List ℕ) → List Bool → List (List ℕ)
+chosen_words [] bs = []
+chosen_words (w ∷ ws) [] = []
+chosen_words (w ∷ ws) (b ∷ bs) = if b then w ∷ chosen_words ws bs else chosen_words ws bs
 
 -- the words with a comma and a space before each, but for the first
-abbrev pub listed : Bool → List (List ℕ) → List ℕ
-listed is_first [] = []
-listed is_first (w ∷ ws) = (if is_first then w else codes ", " ++ w) ++ listed false ws
+abbrev pub word_list : Bool → List (List ℕ) → List ℕ
+word_list is_first [] = []
+word_list is_first (w ∷ ws) = (if is_first then w else codes ", " ++ w) ++ word_list false ws
 
 abbrev pub truthy_text : TruthyWords → List ℕ
-truthy_text words = codes "truthy value should be one of [" ++ (listed true (chosen truthy_words words.allowed) ++ codes "]")
+truthy_text words = codes "truthy value should be one of ["
+    ++ (word_list true (chosen_words truthy_words words.allowed) ++ codes "]")
 
 abbrev pub is_plain : Kind → Bool
 is_plain (Scalar Plain) = true
@@ -55,10 +58,12 @@ is_asked o key = o.check_keys || not key.is_key
 
 -- a plain scalar without tag whose value is a truthy word that is not allowed
 abbrev pub is_truthy : TruthyOptions → Kind → List ℕ → KeyFacts → Bool
-is_truthy o kind value key = is_plain kind && not key.has_tag && is_asked o key && is_wrong o.allowed_values (truthy_index value)
+is_truthy o kind value key = is_plain kind && not key.has_tag && is_asked o key
+    && is_wrong o.allowed_values (truthy_index value)
 
 abbrev pub truthy_found : TruthyOptions → Span → List FindingValue
-truthy_found o x = one_finding Truthy (x.start.line + 1) (x.start.col + 1) (truthy_text o.allowed_values)
+truthy_found o x =
+    one_finding Truthy (x.start.line + 1) (x.start.col + 1) (truthy_text o.allowed_values)
 
 abbrev pub truthy_by : TruthyOptions → Span → List ℕ → KeyFacts → List FindingValue
 truthy_by o x value key = if is_truthy o x.kind value key then truthy_found o x else []

@@ -1,12 +1,12 @@
 //! The rules braces and brackets: one rule over two kinds of flow collections.
 ghost use Rattle.std.specs.Prelude.{◌≡◌, ◌++◌, ◌+◌, ◌<◌, ◌^◌, OnOk};
-ghost use Rattle.yl_layout.specs.Brackets.{before_closing, behind_opening_at, brackets, brackets_by, forbidden, inside, inside_empty, or_else};
+ghost use Rattle.yl_layout.specs.Brackets.{before_closing, behind_opening_at, brackets, brackets_by, forbidden_finding, inside, inside_empty};
 
 use crate::report::{report, report_too_few, report_too_many};
-use crate::span::Span;
+use crate::span::{Place, Span};
 use std::alloc::{AllocError, Allocator};
 use yl_lexeme::Kind;
-use yl_text::{Finding, RuleId};
+use yl_text::{Finding, Pos, RuleId};
 
 /// Which flow collections are forbidden.
 #[derive(Clone, Copy, Debug, PartialEq, Eq)]
@@ -134,11 +134,12 @@ impl Flow {
 fn push_inside<A: Allocator>(
     problems: &mut Vec<Finding<A>, A>,
     flow: Flow,
-    options: BracketsOptions,
-    x: Span,
-    y: Span,
+    options: &BracketsOptions,
+    x: &Span,
+    y: &Span,
 ) -> Result<(), AllocError>
-    ensures { OnOk result (problems.new.items ≡ problems.old.items ++ inside flow options x y) }
+    ensures { OnOk result (problems.new.items ≡ problems.old.items
+        ++ inside flow options.now x.now y.now) }
 {
     let rule = flow.rule();
     report_too_few(
@@ -164,11 +165,12 @@ fn push_inside<A: Allocator>(
 fn push_inside_empty<A: Allocator>(
     problems: &mut Vec<Finding<A>, A>,
     flow: Flow,
-    options: BracketsOptions,
-    x: Span,
-    y: Span,
+    options: &BracketsOptions,
+    x: &Span,
+    y: &Span,
 ) -> Result<(), AllocError>
-    ensures { OnOk result (problems.new.items ≡ problems.old.items ++ inside_empty flow options x y) }
+    ensures { OnOk result (problems.new.items ≡ problems.old.items
+        ++ inside_empty flow options.now x.now y.now) }
 {
     let rule = flow.rule();
     let least = options
@@ -185,12 +187,14 @@ fn push_inside_empty<A: Allocator>(
 fn push_forbidden<A: Allocator>(
     problems: &mut Vec<Finding<A>, A>,
     flow: Flow,
-    x: Span,
+    x: &Span,
 ) -> Result<(), AllocError>
-    ensures { OnOk result (problems.new.items ≡ problems.old.items ++ forbidden flow x) }
+    ensures { OnOk result (problems.new.items ≡ problems.old.items
+        ++ forbidden_finding flow x.now) }
 {
-    let line = u64::from(x.start.line) + 1;
-    let column = u64::from(x.start.col) + 2;
+    let Pos { line, col } = x.start;
+    let line = u64::from(line) + 1;
+    let column = u64::from(col) + 2;
     report(problems, flow.rule(), line, column, flow.forbidden_text())
 }
 
@@ -198,13 +202,14 @@ fn push_forbidden<A: Allocator>(
 fn push_behind_opening<A: Allocator>(
     problems: &mut Vec<Finding<A>, A>,
     flow: Flow,
-    options: BracketsOptions,
-    x: Span,
-    after: Option<Span>,
+    options: &BracketsOptions,
+    place: &Place,
 ) -> Result<(), AllocError>
-    ensures { OnOk result (problems.new.items ≡ problems.old.items ++ behind_opening_at flow options options.forbid x after) }
+    ensures { OnOk result (problems.new.items ≡ problems.old.items
+        ++ behind_opening_at flow options.now options.now.forbid place.now.here place.now.after) }
 {
-    match (options.forbid, after) {
+    let x = &place.here;
+    match (options.forbid, &place.after) {
         (Forbid::Everything, _) => push_forbidden(problems, flow, x),
         (_, None) => Ok(()),
         (forbid, Some(y)) => {
@@ -223,19 +228,19 @@ fn push_behind_opening<A: Allocator>(
 fn push_before_closing<A: Allocator>(
     problems: &mut Vec<Finding<A>, A>,
     flow: Flow,
-    options: BracketsOptions,
-    before: Option<Span>,
-    y: Span,
+    options: &BracketsOptions,
+    place: &Place,
 ) -> Result<(), AllocError>
-    ensures { OnOk result (problems.new.items ≡ problems.old.items ++ before_closing flow options before y) }
+    ensures { OnOk result (problems.new.items ≡ problems.old.items
+        ++ before_closing flow options.now place.now.before place.now.here) }
 {
-    match before {
+    match &place.before {
         None => Ok(()),
         Some(x) => {
             if flow.opens(x.kind) {
                 Ok(())
             } else {
-                push_inside(problems, flow, options, x, y)
+                push_inside(problems, flow, options, x, &place.here)
             }
         }
     }
@@ -244,17 +249,17 @@ fn push_before_closing<A: Allocator>(
 fn push_brackets_by<A: Allocator>(
     problems: &mut Vec<Finding<A>, A>,
     flow: Flow,
-    options: BracketsOptions,
-    before: Option<Span>,
-    x: Span,
-    after: Option<Span>,
+    options: &BracketsOptions,
+    place: &Place,
 ) -> Result<(), AllocError>
-    ensures { OnOk result (problems.new.items ≡ problems.old.items ++ brackets_by flow options before x after) }
+    ensures { OnOk result (problems.new.items ≡ problems.old.items
+        ++ brackets_by flow options.now place.now.before place.now.here place.now.after) }
 {
-    if flow.opens(x.kind) {
-        push_behind_opening(problems, flow, options, x, after)
-    } else if flow.closes(x.kind) {
-        push_before_closing(problems, flow, options, before, x)
+    let kind = place.here.kind;
+    if flow.opens(kind) {
+        push_behind_opening(problems, flow, options, place)
+    } else if flow.closes(kind) {
+        push_before_closing(problems, flow, options, place)
     } else {
         Ok(())
     }
@@ -264,15 +269,14 @@ fn push_brackets_by<A: Allocator>(
 pub(crate) fn push_brackets<A: Allocator>(
     problems: &mut Vec<Finding<A>, A>,
     flow: Flow,
-    options: Option<BracketsOptions>,
-    before: Option<Span>,
-    x: Span,
-    after: Option<Span>,
+    options: &Option<BracketsOptions>,
+    place: &Place,
 ) -> Result<(), AllocError>
-    ensures { OnOk result (problems.new.items ≡ problems.old.items ++ brackets flow options before x after) }
+    ensures { OnOk result (problems.new.items ≡ problems.old.items
+        ++ brackets flow options.now place.now.before place.now.here place.now.after) }
 {
     match options {
         None => Ok(()),
-        Some(options) => push_brackets_by(problems, flow, options, before, x, after),
+        Some(options) => push_brackets_by(problems, flow, options, place),
     }
 }

@@ -3,12 +3,13 @@ ghost use Rattle.std.specs.Prelude.{◌≡◌, ◌++◌, Some, OnOk};
 ghost use Rattle.yl_layout.specs.Colons.{before_colon, behind_colon, behind_question_mark, colons, colons_by, round_colon};
 
 use crate::report::{report_too_many, report_too_many_behind};
-use crate::span::{Span, distance};
+use crate::span::{Place, distance};
 use std::alloc::{AllocError, Allocator};
 use yl_lexeme::Kind;
 use yl_text::{Finding, RuleId};
 
-/// How many characters may stand before and behind a `:`, and behind a `?`, in one line. `None` is no bound.
+/// How many characters may stand before and behind a `:`, and behind a `?`, in one line. `None` is
+/// no bound.
 #[derive(Clone, Copy, Debug, PartialEq, Eq)]
 pub struct ColonsOptions {
     pub max_spaces_before: Option<u32>,
@@ -29,15 +30,16 @@ impl ColonsOptions {
 
 fn push_before_colon<A: Allocator>(
     problems: &mut Vec<Finding<A>, A>,
-    options: ColonsOptions,
-    before: Option<Span>,
-    y: Span,
+    options: &ColonsOptions,
+    place: &Place,
 ) -> Result<(), AllocError>
-    ensures { OnOk result (problems.new.items ≡ problems.old.items ++ before_colon options before y) }
+    ensures { OnOk result (problems.new.items ≡ problems.old.items
+        ++ before_colon options.now place.now.before place.now.here) }
 {
-    let Some(x) = before else {
+    let Some(x) = &place.before else {
         return Ok(());
     };
+    let y = &place.here;
     // An alias needs one space: its name may hold a colon.
     if matches!(x.kind, Kind::Alias) && distance(x, y) == Some(1) {
         return Ok(());
@@ -55,56 +57,54 @@ fn push_before_colon<A: Allocator>(
 
 fn push_behind_colon<A: Allocator>(
     problems: &mut Vec<Finding<A>, A>,
-    options: ColonsOptions,
-    x: Span,
-    after: Option<Span>,
+    options: &ColonsOptions,
+    place: &Place,
 ) -> Result<(), AllocError>
-    ensures { OnOk result (problems.new.items ≡ problems.old.items ++ behind_colon options x after) }
+    ensures { OnOk result (problems.new.items ≡ problems.old.items
+        ++ behind_colon options.now place.now.here place.now.after) }
 {
     let most = options.max_spaces_after;
     let message = "too many spaces after colon";
-    report_too_many_behind(problems, RuleId::Colons, most, x, after, message)
+    report_too_many_behind(problems, RuleId::Colons, most, place, message)
 }
 
 fn push_behind_question_mark<A: Allocator>(
     problems: &mut Vec<Finding<A>, A>,
-    options: ColonsOptions,
-    x: Span,
-    after: Option<Span>,
+    options: &ColonsOptions,
+    place: &Place,
 ) -> Result<(), AllocError>
-    ensures { OnOk result (problems.new.items ≡ problems.old.items ++ behind_question_mark options x after) }
+    ensures { OnOk result (problems.new.items ≡ problems.old.items
+        ++ behind_question_mark options.now place.now.here place.now.after) }
 {
     let most = options.max_spaces_after;
     let message = "too many spaces after question mark";
-    report_too_many_behind(problems, RuleId::Colons, most, x, after, message)
+    report_too_many_behind(problems, RuleId::Colons, most, place, message)
 }
 
 fn push_round_colon<A: Allocator>(
     problems: &mut Vec<Finding<A>, A>,
-    options: ColonsOptions,
-    before: Option<Span>,
-    x: Span,
-    after: Option<Span>,
+    options: &ColonsOptions,
+    place: &Place,
 ) -> Result<(), AllocError>
-    ensures { OnOk result (problems.new.items ≡ problems.old.items ++ round_colon options before x after) }
+    ensures { OnOk result (problems.new.items ≡ problems.old.items
+        ++ round_colon options.now place.now.before place.now.here place.now.after) }
 {
-    push_before_colon(problems, options, before, x)?;
-    push_behind_colon(problems, options, x, after)?;
+    push_before_colon(problems, options, place)?;
+    push_behind_colon(problems, options, place)?;
     Ok(())
 }
 
 fn push_colons_by<A: Allocator>(
     problems: &mut Vec<Finding<A>, A>,
-    options: ColonsOptions,
-    before: Option<Span>,
-    x: Span,
-    after: Option<Span>,
+    options: &ColonsOptions,
+    place: &Place,
 ) -> Result<(), AllocError>
-    ensures { OnOk result (problems.new.items ≡ problems.old.items ++ colons_by options before x after) }
+    ensures { OnOk result (problems.new.items ≡ problems.old.items
+        ++ colons_by options.now place.now.before place.now.here place.now.after) }
 {
-    match x.kind {
-        Kind::Value => push_round_colon(problems, options, before, x, after),
-        Kind::Key => push_behind_question_mark(problems, options, x, after),
+    match place.here.kind {
+        Kind::Value => push_round_colon(problems, options, place),
+        Kind::Key => push_behind_question_mark(problems, options, place),
         _ => Ok(()),
     }
 }
@@ -112,15 +112,14 @@ fn push_colons_by<A: Allocator>(
 /// Puts behind the problems what the rule finds at a lexeme between its neighbours, if it is on.
 pub(crate) fn push_colons<A: Allocator>(
     problems: &mut Vec<Finding<A>, A>,
-    options: Option<ColonsOptions>,
-    before: Option<Span>,
-    x: Span,
-    after: Option<Span>,
+    options: &Option<ColonsOptions>,
+    place: &Place,
 ) -> Result<(), AllocError>
-    ensures { OnOk result (problems.new.items ≡ problems.old.items ++ colons options before x after) }
+    ensures { OnOk result (problems.new.items ≡ problems.old.items
+        ++ colons options.now place.now.before place.now.here place.now.after) }
 {
     match options {
         None => Ok(()),
-        Some(options) => push_colons_by(problems, options, before, x, after),
+        Some(options) => push_colons_by(problems, options, place),
     }
 }

@@ -3,7 +3,7 @@ ghost use Rattle.std.specs.Prelude.{◌≡◌, ◌++◌, ◌+◌, ◌<◌, ◌^�
 ghost use Rattle.yl_layout.specs.Commas.{before_comma, behind_comma, commas, commas_by, few_behind_comma, first_comma, many_behind_comma};
 
 use crate::report::{report, report_too_few, report_too_many};
-use crate::span::Span;
+use crate::span::{Place, Span};
 use std::alloc::{AllocError, Allocator};
 use yl_lexeme::Kind;
 use yl_text::{Finding, RuleId};
@@ -19,7 +19,11 @@ pub struct CommasOptions {
 impl CommasOptions {
     /// Those of yamllint's default configuration.
     pub fn standard() -> CommasOptions
-        ensures { result ≡ record { max_spaces_before = Some 0; min_spaces_after = Some 1; max_spaces_after = Some 1 } }
+        ensures { result ≡ record {
+          max_spaces_before = Some 0;
+          min_spaces_after = Some 1;
+          max_spaces_after = Some 1;
+        } }
     {
         CommasOptions {
             max_spaces_before: Some(0),
@@ -32,10 +36,11 @@ impl CommasOptions {
 /// At a comma whose line has nothing before it.
 fn push_first_comma<A: Allocator>(
     problems: &mut Vec<Finding<A>, A>,
-    options: CommasOptions,
-    y: Span,
+    options: &CommasOptions,
+    y: &Span,
 ) -> Result<(), AllocError>
-    ensures { OnOk result (problems.new.items ≡ problems.old.items ++ first_comma options y) }
+    ensures { OnOk result (problems.new.items ≡ problems.old.items
+        ++ first_comma options.now y.now) }
 {
     if options.max_spaces_before.is_none() {
         return Ok(());
@@ -53,15 +58,16 @@ fn push_first_comma<A: Allocator>(
 
 fn push_before_comma<A: Allocator>(
     problems: &mut Vec<Finding<A>, A>,
-    options: CommasOptions,
-    before: Option<Span>,
-    y: Span,
+    options: &CommasOptions,
+    place: &Place,
 ) -> Result<(), AllocError>
-    ensures { OnOk result (problems.new.items ≡ problems.old.items ++ before_comma options before y) }
+    ensures { OnOk result (problems.new.items ≡ problems.old.items
+        ++ before_comma options.now place.now.before place.now.here) }
 {
-    let Some(x) = before else {
+    let Some(x) = &place.before else {
         return Ok(());
     };
+    let y = &place.here;
     if x.end_line < u64::from(y.start.line) {
         return push_first_comma(problems, options, y);
     }
@@ -78,11 +84,12 @@ fn push_before_comma<A: Allocator>(
 
 fn push_few_behind_comma<A: Allocator>(
     problems: &mut Vec<Finding<A>, A>,
-    options: CommasOptions,
-    x: Span,
-    y: Span,
+    options: &CommasOptions,
+    x: &Span,
+    y: &Span,
 ) -> Result<(), AllocError>
-    ensures { OnOk result (problems.new.items ≡ problems.old.items ++ few_behind_comma options x y) }
+    ensures { OnOk result (problems.new.items ≡ problems.old.items
+        ++ few_behind_comma options.now x.now y.now) }
 {
     let least = options.min_spaces_after;
     report_too_few(
@@ -97,11 +104,12 @@ fn push_few_behind_comma<A: Allocator>(
 
 fn push_many_behind_comma<A: Allocator>(
     problems: &mut Vec<Finding<A>, A>,
-    options: CommasOptions,
-    x: Span,
-    y: Span,
+    options: &CommasOptions,
+    x: &Span,
+    y: &Span,
 ) -> Result<(), AllocError>
-    ensures { OnOk result (problems.new.items ≡ problems.old.items ++ many_behind_comma options x y) }
+    ensures { OnOk result (problems.new.items ≡ problems.old.items
+        ++ many_behind_comma options.now x.now y.now) }
 {
     let most = options.max_spaces_after;
     report_too_many(
@@ -116,15 +124,16 @@ fn push_many_behind_comma<A: Allocator>(
 
 fn push_behind_comma<A: Allocator>(
     problems: &mut Vec<Finding<A>, A>,
-    options: CommasOptions,
-    x: Span,
-    after: Option<Span>,
+    options: &CommasOptions,
+    place: &Place,
 ) -> Result<(), AllocError>
-    ensures { OnOk result (problems.new.items ≡ problems.old.items ++ behind_comma options x after) }
+    ensures { OnOk result (problems.new.items ≡ problems.old.items
+        ++ behind_comma options.now place.now.here place.now.after) }
 {
-    let Some(y) = after else {
+    let Some(y) = &place.after else {
         return Ok(());
     };
+    let x = &place.here;
     push_few_behind_comma(problems, options, x, y)?;
     push_many_behind_comma(problems, options, x, y)?;
     Ok(())
@@ -132,33 +141,31 @@ fn push_behind_comma<A: Allocator>(
 
 fn push_commas_by<A: Allocator>(
     problems: &mut Vec<Finding<A>, A>,
-    options: CommasOptions,
-    before: Option<Span>,
-    x: Span,
-    after: Option<Span>,
+    options: &CommasOptions,
+    place: &Place,
 ) -> Result<(), AllocError>
-    ensures { OnOk result (problems.new.items ≡ problems.old.items ++ commas_by options before x after) }
+    ensures { OnOk result (problems.new.items ≡ problems.old.items
+        ++ commas_by options.now place.now.before place.now.here place.now.after) }
 {
-    if !matches!(x.kind, Kind::Comma) {
+    if !matches!(place.here.kind, Kind::Comma) {
         return Ok(());
     }
-    push_before_comma(problems, options, before, x)?;
-    push_behind_comma(problems, options, x, after)?;
+    push_before_comma(problems, options, place)?;
+    push_behind_comma(problems, options, place)?;
     Ok(())
 }
 
 /// Puts behind the problems what the rule finds at a lexeme between its neighbours, if it is on.
 pub(crate) fn push_commas<A: Allocator>(
     problems: &mut Vec<Finding<A>, A>,
-    options: Option<CommasOptions>,
-    before: Option<Span>,
-    x: Span,
-    after: Option<Span>,
+    options: &Option<CommasOptions>,
+    place: &Place,
 ) -> Result<(), AllocError>
-    ensures { OnOk result (problems.new.items ≡ problems.old.items ++ commas options before x after) }
+    ensures { OnOk result (problems.new.items ≡ problems.old.items
+        ++ commas options.now place.now.before place.now.here place.now.after) }
 {
     match options {
         None => Ok(()),
-        Some(options) => push_commas_by(problems, options, before, x, after),
+        Some(options) => push_commas_by(problems, options, place),
     }
 }

@@ -1,12 +1,14 @@
 //! The rule document-start.
-ghost use Rattle.std.specs.Prelude.{◌≡◌, ◌++◌, ◌+◌, ◌<◌, ◌^◌, true, OnOk};
-ghost use Rattle.yl_layout.specs.DocumentStart.{document_start, forbidden, forbidden_start, is_bare, is_content, is_document_before, is_start, forbidden_text, missing, missing_start, missing_text};
+ghost use Rattle.std.specs.Prelude.{◌≡◌, not, ◌&&◌, ◌++◌, ◌+◌, ◌<◌, ◌^◌, true, OnOk};
+ghost use Rattle.yl_lexeme.specs.Directives.{is_directive};
+ghost use Rattle.yl_lexeme.specs.Lexeme.{is_document_marker};
+ghost use Rattle.yl_layout.specs.DocumentStart.{document_start, forbidden_finding, forbidden_start, is_bare, is_document_before, is_start_marker, forbidden_text, missing_finding, missing_start, missing_text};
 
 use crate::report::report;
-use crate::span::Span;
+use crate::span::{Place, Span};
 use std::alloc::{AllocError, Allocator};
 use yl_lexeme::Kind;
-use yl_text::{Finding, RuleId};
+use yl_text::{Finding, Pos, RuleId};
 
 /// Whether the marker `---` must stand before a document, or must not.
 #[derive(Clone, Copy, Debug, PartialEq, Eq)]
@@ -25,14 +27,14 @@ impl DocumentStartOptions {
 
 /// Whether the kind is no directive and no marker.
 fn is_content(kind: Kind) -> bool
-    ensures { result ≡ is_content kind }
+    ensures { result ≡ (not (is_directive kind) && not (is_document_marker kind)) }
 {
     !matches!(kind, Kind::Directive | Kind::DocStart | Kind::DocEnd)
 }
 
 /// Whether something of the document stands before.
-fn is_document_before(before: Option<Span>) -> bool
-    ensures { result ≡ is_document_before before }
+fn is_document_before(before: &Option<Span>) -> bool
+    ensures { result ≡ is_document_before before.now }
 {
     match before {
         None => false,
@@ -41,14 +43,14 @@ fn is_document_before(before: Option<Span>) -> bool
 }
 
 /// Whether a document begins with its content.
-fn is_bare(before: Option<Span>, x: Span) -> bool
-    ensures { result ≡ is_bare before x }
+fn is_bare(place: &Place) -> bool
+    ensures { result ≡ is_bare place.now.before place.now.here }
 {
-    is_content(x.kind) && !is_document_before(before)
+    is_content(place.here.kind) && !is_document_before(&place.before)
 }
 
 fn is_start(kind: Kind) -> bool
-    ensures { result ≡ is_start kind }
+    ensures { result ≡ is_start_marker kind }
 {
     matches!(kind, Kind::DocStart)
 }
@@ -67,9 +69,9 @@ fn forbidden_text() -> &'static str
 
 fn report_missing<A: Allocator>(
     problems: &mut Vec<Finding<A>, A>,
-    x: Span,
+    x: &Span,
 ) -> Result<(), AllocError>
-    ensures { OnOk result (problems.new.items ≡ problems.old.items ++ missing x) }
+    ensures { OnOk result (problems.new.items ≡ problems.old.items ++ missing_finding x.now) }
 {
     let line = u64::from(x.start.line) + 1;
     report(problems, RuleId::DocumentStart, line, 1, missing_text())
@@ -77,12 +79,13 @@ fn report_missing<A: Allocator>(
 
 fn report_forbidden<A: Allocator>(
     problems: &mut Vec<Finding<A>, A>,
-    x: Span,
+    x: &Span,
 ) -> Result<(), AllocError>
-    ensures { OnOk result (problems.new.items ≡ problems.old.items ++ forbidden x) }
+    ensures { OnOk result (problems.new.items ≡ problems.old.items ++ forbidden_finding x.now) }
 {
-    let line = u64::from(x.start.line) + 1;
-    let column = u64::from(x.start.col) + 1;
+    let Pos { line, col } = x.start;
+    let line = u64::from(line) + 1;
+    let column = u64::from(col) + 1;
     report(
         problems,
         RuleId::DocumentStart,
@@ -94,13 +97,13 @@ fn report_forbidden<A: Allocator>(
 
 fn push_missing_start<A: Allocator>(
     problems: &mut Vec<Finding<A>, A>,
-    before: Option<Span>,
-    x: Span,
+    place: &Place,
 ) -> Result<(), AllocError>
-    ensures { OnOk result (problems.new.items ≡ problems.old.items ++ missing_start before x) }
+    ensures { OnOk result (problems.new.items ≡ problems.old.items
+        ++ missing_start place.now.before place.now.here) }
 {
-    if is_bare(before, x) {
-        report_missing(problems, x)
+    if is_bare(place) {
+        report_missing(problems, &place.here)
     } else {
         Ok(())
     }
@@ -108,9 +111,9 @@ fn push_missing_start<A: Allocator>(
 
 fn push_forbidden_start<A: Allocator>(
     problems: &mut Vec<Finding<A>, A>,
-    x: Span,
+    x: &Span,
 ) -> Result<(), AllocError>
-    ensures { OnOk result (problems.new.items ≡ problems.old.items ++ forbidden_start x) }
+    ensures { OnOk result (problems.new.items ≡ problems.old.items ++ forbidden_start x.now) }
 {
     if is_start(x.kind) {
         report_forbidden(problems, x)
@@ -122,18 +125,18 @@ fn push_forbidden_start<A: Allocator>(
 /// Puts behind the problems what the rule finds at a lexeme and the one before it, if it is on.
 pub(crate) fn push_document_start<A: Allocator>(
     problems: &mut Vec<Finding<A>, A>,
-    options: Option<DocumentStartOptions>,
-    before: Option<Span>,
-    x: Span,
+    options: &Option<DocumentStartOptions>,
+    place: &Place,
 ) -> Result<(), AllocError>
-    ensures { OnOk result (problems.new.items ≡ problems.old.items ++ document_start options before x) }
+    ensures { OnOk result (problems.new.items ≡ problems.old.items
+        ++ document_start options.now place.now.before place.now.here) }
 {
     let Some(options) = options else {
         return Ok(());
     };
     if options.present {
-        push_missing_start(problems, before, x)
+        push_missing_start(problems, place)
     } else {
-        push_forbidden_start(problems, x)
+        push_forbidden_start(problems, &place.here)
     }
 }

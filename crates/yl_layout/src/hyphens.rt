@@ -3,7 +3,7 @@ ghost use Rattle.std.specs.Prelude.{◌≡◌, ◌++◌, Some, OnOk};
 ghost use Rattle.yl_layout.specs.Hyphens.{hyphens};
 
 use crate::report::report_too_many_behind;
-use crate::span::Span;
+use crate::span::Place;
 use std::alloc::{AllocError, Allocator};
 use yl_lexeme::Kind;
 use yl_text::{Finding, RuleId};
@@ -28,19 +28,19 @@ impl HyphensOptions {
 /// Puts behind the problems what the rule finds at a lexeme and the one behind it, if it is on.
 pub(crate) fn push_hyphens<A: Allocator>(
     problems: &mut Vec<Finding<A>, A>,
-    options: Option<HyphensOptions>,
-    x: Span,
-    after: Option<Span>,
+    options: &Option<HyphensOptions>,
+    place: &Place,
 ) -> Result<(), AllocError>
-    ensures { OnOk result (problems.new.items ≡ problems.old.items ++ hyphens options x after) }
+    ensures { OnOk result (problems.new.items ≡ problems.old.items
+        ++ hyphens options.now place.now.here place.now.after) }
 {
     let Some(options) = options else {
         return Ok(());
     };
-    if !matches!(x.kind, Kind::Entry) {
+    if !matches!(place.here.kind, Kind::Entry) {
         return Ok(());
     }
     let most = options.max_spaces_after;
     let message = "too many spaces after hyphen";
-    report_too_many_behind(problems, RuleId::Hyphens, most, x, after, message)
+    report_too_many_behind(problems, RuleId::Hyphens, most, place, message)
 }

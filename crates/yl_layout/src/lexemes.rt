@@ -2,7 +2,8 @@
 ghost use Rattle.std.specs.Prelude.{◌≡◌, ◌++◌, ◌+◌, ◌<◌, ◌≤◌, map, length, None, IfOk, OnOk};
 ghost use Rattle.yl_marks.specs.Keys.{lexeme_at_line};
 ghost use Rattle.yl_marks.specs.Facts.{key_facts};
-ghost use Rattle.yl_layout.specs.Lexemes.{block_findings, findings_at, findings_behind, first_span, flow_findings, lexeme_findings, value_findings};
+ghost use Rattle.yl_layout.specs.Lexemes.{findings_behind, first_span, lexeme_findings, value_findings};
+ghost use Rattle.yl_layout.specs.Kinds.{findings_of, indicator_findings};
 
 use crate::brackets::{Flow, push_brackets};
 use crate::colons::push_colons;
@@ -11,57 +12,56 @@ use crate::document_start::push_document_start;
 use crate::hyphens::push_hyphens;
 use crate::options::LexemeOptions;
 use crate::quoted_strings::push_quoted_strings;
-use crate::span::{Span, span_of};
+use crate::span::{Place, Span, span_of};
 use crate::truthy::push_truthy;
 use std::alloc::{AllocError, Allocator};
-use yl_lexeme::LexemeAtLine;
+use yl_lexeme::{Kind, LexemeAtLine};
 use yl_marks::KeyFacts;
 use yl_text::Finding;
 
-/// The rules on flow collections.
-fn push_flow<A: Allocator + Copy>(
+/// The rules on indicators: at a lexeme of each kind at most one of them finds something.
+fn push_at_indicator<A: Allocator>(
     problems: &mut Vec<Finding<A>, A>,
     options: &LexemeOptions,
-    before: Option<Span>,
-    x: Span,
-    after: Option<Span>,
+    place: &Place,
 ) -> Result<(), AllocError>
-    ensures { OnOk result (problems.new.items ≡ problems.old.items ++ flow_findings options.now before x after) }
+    ensures { OnOk result (problems.new.items ≡ problems.old.items
+        ++ indicator_findings place.now.here.kind options.now
+        place.now.before place.now.here place.now.after) }
 {
-    push_brackets(problems, Flow::Mapping, options.braces, before, x, after)?;
-    push_brackets(problems, Flow::Sequence, options.brackets, before, x, after)?;
-    push_commas(problems, options.commas, before, x, after)?;
-    Ok(())
-}
-
-/// The rules on block collections and documents.
-fn push_block<A: Allocator + Copy>(
-    problems: &mut Vec<Finding<A>, A>,
-    options: &LexemeOptions,
-    before: Option<Span>,
-    x: Span,
-    after: Option<Span>,
-) -> Result<(), AllocError>
-    ensures { OnOk result (problems.new.items ≡ problems.old.items ++ block_findings options.now before x after) }
-{
-    push_colons(problems, options.colons, before, x, after)?;
-    push_hyphens(problems, options.hyphens, x, after)?;
-    push_document_start(problems, options.document_start, before, x)?;
-    Ok(())
+    match place.here.kind {
+        Kind::MapOpen | Kind::MapClose => {
+            push_brackets(problems, Flow::Mapping, &options.braces, place)
+        }
+        Kind::SeqOpen | Kind::SeqClose => {
+            push_brackets(problems, Flow::Sequence, &options.brackets, place)
+        }
+        Kind::Comma => push_commas(problems, &options.commas, place),
+        Kind::Value | Kind::Key => push_colons(problems, &options.colons, place),
+        Kind::Entry => push_hyphens(problems, &options.hyphens, place),
+        Kind::Directive
+        | Kind::DocStart
+        | Kind::DocEnd
+        | Kind::Alias
+        | Kind::Anchor
+        | Kind::Tag
+        | Kind::Scalar(_) => Ok(()),
+    }
 }
 
 /// The rules on values.
 fn push_values<A: Allocator + Copy>(
     problems: &mut Vec<Finding<A>, A>,
     options: &LexemeOptions,
-    x: Span,
+    x: &Span,
     value: &str,
     key: KeyFacts,
 ) -> Result<(), AllocError>
-    ensures { OnOk result (problems.new.items ≡ problems.old.items ++ value_findings options.now x value.now key) }
+    ensures { OnOk result (problems.new.items
+        ≡ problems.old.items ++ value_findings options.now x.now value.now key) }
 {
     push_truthy(problems, &options.truthy, x, value, key)?;
-    push_quoted_strings(problems, options.quoted_strings, x, value, key)?;
+    push_quoted_strings(problems, &options.quoted_strings, x, value, key)?;
     Ok(())
 }
 
@@ -69,18 +69,16 @@ fn push_values<A: Allocator + Copy>(
 fn push_at<A: Allocator + Copy>(
     problems: &mut Vec<Finding<A>, A>,
     options: &LexemeOptions,
-    before: Option<Span>,
-    at: &LexemeAtLine<'_, A>,
+    place: &Place,
+    value: &str,
     key: KeyFacts,
-    after: Option<Span>,
 ) -> Result<(), AllocError>
     ensures { OnOk result (problems.new.items ≡ problems.old.items
-        ++ findings_at options.now before (lexeme_at_line at.now.line at.now.lexeme.now) key after) }
+        ++ findings_of options.now place.now.before place.now.here value.now key place.now.after) }
 {
-    let x = span_of(at);
-    push_flow(problems, options, before, x, after)?;
-    push_block(problems, options, before, x, after)?;
-    push_values(problems, options, x, at.lexeme.value(), key)?;
+    push_at_indicator(problems, options, place)?;
+    push_document_start(problems, &options.document_start, place)?;
+    push_values(problems, options, &place.here, value, key)?;
     Ok(())
 }
 
@@ -103,29 +101,30 @@ fn problems_of<A: Allocator + Copy>(
 ) -> Result<Vec<Finding<A>, A>, AllocError>
     requires { length lexemes.now ≤ length keys.now }
     ensures { IfOk result (λ v. v.items
-        ≡ findings_behind options.now None (map (λ x. lexeme_at_line x.line x.lexeme.now) lexemes.now) keys.now) }
+        ≡ findings_behind options.now None
+        (map (λ x. lexeme_at_line x.line x.lexeme.now) lexemes.now) keys.now) }
 {
     let mut problems = Vec::new(alloc);
     let mut before = None;
     for (i, at) in lexemes.iter().enumerate() {
         let (_, behind) = lexemes.split_at(i + 1);
-        push_at(
-            &mut problems,
-            options,
+        let here = span_of(at);
+        let place = Place {
             before,
-            at,
-            keys[i],
-            first_span(behind),
-        )?;
-        before = Some(span_of(at));
+            here,
+            after: first_span(behind),
+        };
+        push_at(&mut problems, options, &place, at.lexeme.value(), keys[i])?;
+        before = Some(here);
     }
     Ok(problems)
 }
 
-/// What the rules on lexemes find in a whole document of which the first `counted` lexemes count, lexeme by lexeme. `keys` are the
-/// document's, of `key_facts`: whether a lexeme is a key may show behind those that count. A problem's line counts from 1 from where
-/// the lexemes' lines count from 0, its column from 1 in characters. The only error is memory, which is taken for what is found and
-/// nothing else.
+/// What the rules on lexemes find in a whole document of which the first `counted` lexemes count,
+/// lexeme by lexeme. `keys` are the document's, of `key_facts`: whether a lexeme is a key may show
+/// behind those that count. A problem's line counts from 1 from where the lexemes' lines count from
+/// 0, its column from 1 in characters. The only error is memory, which is taken for what is found
+/// and nothing else.
 pub fn lexeme_problems<A: Allocator + Copy>(
     alloc: A,
     lexemes: &[LexemeAtLine<'_, A>],
@@ -134,9 +133,11 @@ pub fn lexeme_problems<A: Allocator + Copy>(
     options: &LexemeOptions,
 ) -> Result<Vec<Finding<A>, A>, AllocError>
     requires counted { counted ≤ length lexemes.now }
-    requires keys { keys.now ≡ key_facts (map (λ x. lexeme_at_line x.line x.lexeme.now) lexemes.now) }
+    requires keys { keys.now
+        ≡ key_facts (map (λ x. lexeme_at_line x.line x.lexeme.now) lexemes.now) }
     ensures { IfOk result (λ v. v.items
-        ≡ lexeme_findings options.now counted (map (λ x. lexeme_at_line x.line x.lexeme.now) lexemes.now)) }
+        ≡ lexeme_findings options.now counted
+        (map (λ x. lexeme_at_line x.line x.lexeme.now) lexemes.now)) }
 {
     let (lexemes, _) = lexemes.split_at(counted);
     problems_of(alloc, lexemes, keys, options)

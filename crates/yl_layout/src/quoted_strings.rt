@@ -8,7 +8,7 @@ use std::alloc::{AllocError, Allocator};
 use yl_lexeme::{Kind, Style};
 use yl_marks::KeyFacts;
 use yl_plain::is_string;
-use yl_text::{Finding, RuleId};
+use yl_text::{Finding, Pos, RuleId};
 
 /// The quotes that strings are to have.
 #[derive(Clone, Copy, Debug, PartialEq, Eq)]
@@ -20,11 +20,11 @@ pub enum QuoteType {
 
 impl QuoteType {
     ghost use Rattle.std.specs.Prelude.{◌≡◌};
-    ghost use Rattle.yl_layout.specs.QuotedStrings.{quoted_text};
+    ghost use Rattle.yl_layout.specs.QuotedStrings.{misquoted_text};
 
     /// What is said of a string that has other quotes, or none.
     fn text(self) -> &'static str
-        ensures { result.now ≡ quoted_text self }
+        ensures { result.now ≡ misquoted_text self }
     {
         match self {
             QuoteType::Any => "string value is not quoted with any quotes",
@@ -54,8 +54,8 @@ impl QuotedStringsOptions {
 }
 
 /// Whether a scalar written so is quoted otherwise than the options ask.
-fn is_misquoted_style(options: QuotedStringsOptions, style: Style, value: &[u8]) -> bool
-    ensures { result ≡ is_misquoted_style options style value.now }
+fn is_misquoted_style(options: &QuotedStringsOptions, style: Style, value: &[u8]) -> bool
+    ensures { result ≡ is_misquoted_style options.now style value.now }
 {
     match style {
         Style::Plain => options.required && is_string(value),
@@ -65,8 +65,8 @@ fn is_misquoted_style(options: QuotedStringsOptions, style: Style, value: &[u8])
     }
 }
 
-fn is_misquoted(options: QuotedStringsOptions, kind: Kind, value: &[u8]) -> bool
-    ensures { result ≡ is_misquoted options kind value.now }
+fn is_misquoted(options: &QuotedStringsOptions, kind: Kind, value: &[u8]) -> bool
+    ensures { result ≡ is_misquoted options.now kind value.now }
 {
     match kind {
         Kind::Scalar(style) => is_misquoted_style(options, style, value),
@@ -76,18 +76,20 @@ fn is_misquoted(options: QuotedStringsOptions, kind: Kind, value: &[u8]) -> bool
 
 fn push_quoted_strings_by<A: Allocator>(
     problems: &mut Vec<Finding<A>, A>,
-    options: QuotedStringsOptions,
-    x: Span,
+    options: &QuotedStringsOptions,
+    x: &Span,
     value: &str,
     key: KeyFacts,
 ) -> Result<(), AllocError>
-    ensures { OnOk result (problems.new.items ≡ problems.old.items ++ quoted_strings_by options x value.now key) }
+    ensures { OnOk result (problems.new.items ≡ problems.old.items
+        ++ quoted_strings_by options.now x.now value.now key) }
 {
     if key.has_tag || key.is_key || !is_misquoted(options, x.kind, value.as_bytes()) {
         return Ok(());
     }
-    let line = u64::from(x.start.line) + 1;
-    let column = u64::from(x.start.col) + 1;
+    let Pos { line, col } = x.start;
+    let line = u64::from(line) + 1;
+    let column = u64::from(col) + 1;
     report(
         problems,
         RuleId::QuotedStrings,
@@ -100,12 +102,13 @@ fn push_quoted_strings_by<A: Allocator>(
 /// Puts behind the problems what the rule finds at a lexeme and its value, if it is on.
 pub(crate) fn push_quoted_strings<A: Allocator>(
     problems: &mut Vec<Finding<A>, A>,
-    options: Option<QuotedStringsOptions>,
-    x: Span,
+    options: &Option<QuotedStringsOptions>,
+    x: &Span,
     value: &str,
     key: KeyFacts,
 ) -> Result<(), AllocError>
-    ensures { OnOk result (problems.new.items ≡ problems.old.items ++ quoted_strings options x value.now key) }
+    ensures { OnOk result (problems.new.items ≡ problems.old.items
+        ++ quoted_strings options.now x.now value.now key) }
 {
     match options {
         None => Ok(()),

@@ -3,7 +3,7 @@ ghost use Rattle.std.specs.Prelude.{◌≡◌, ◌++◌, ◌+◌, ◌<◌, ◌^�
 ghost use Rattle.yl_text.specs.Finding.{one_finding};
 ghost use Rattle.yl_layout.specs.Spans.{too_few, too_many, too_many_behind};
 
-use crate::span::{Span, distance, is_above, is_below};
+use crate::span::{Place, Span, distance, is_above, is_below};
 use std::alloc::{AllocError, Allocator};
 use yl_text::{Finding, RuleId};
 
@@ -15,22 +15,25 @@ pub(crate) fn report<A: Allocator>(
     column: u64,
     message: &'static str,
 ) -> Result<(), AllocError>
-    ensures { OnOk result (problems.new.items ≡ problems.old.items ++ one_finding rule line column message.now) }
+    ensures { OnOk result (problems.new.items ≡ problems.old.items
+        ++ one_finding rule line column message.now) }
 {
     problems.push(Finding::fixed(line, column, rule, message))?;
     Ok(())
 }
 
-/// Puts a problem behind the others if more characters stand between two lexemes of a line than may.
+/// Puts a problem behind the others if more characters stand between two lexemes of a line than
+/// may.
 pub(crate) fn report_too_many<A: Allocator>(
     problems: &mut Vec<Finding<A>, A>,
     rule: RuleId,
     most: Option<u32>,
-    x: Span,
-    y: Span,
+    x: &Span,
+    y: &Span,
     message: &'static str,
 ) -> Result<(), AllocError>
-    ensures { OnOk result (problems.new.items ≡ problems.old.items ++ too_many rule most x y message.now) }
+    ensures { OnOk result (problems.new.items ≡ problems.old.items
+        ++ too_many rule most x.now y.now message.now) }
 {
     if !is_above(distance(x, y), most) {
         return Ok(());
@@ -44,11 +47,12 @@ pub(crate) fn report_too_few<A: Allocator>(
     problems: &mut Vec<Finding<A>, A>,
     rule: RuleId,
     least: Option<u32>,
-    x: Span,
-    y: Span,
+    x: &Span,
+    y: &Span,
     message: &'static str,
 ) -> Result<(), AllocError>
-    ensures { OnOk result (problems.new.items ≡ problems.old.items ++ too_few rule least x y message.now) }
+    ensures { OnOk result (problems.new.items ≡ problems.old.items
+        ++ too_few rule least x.now y.now message.now) }
 {
     if !is_below(distance(x, y), least) {
         return Ok(());
@@ -63,14 +67,14 @@ pub(crate) fn report_too_many_behind<A: Allocator>(
     problems: &mut Vec<Finding<A>, A>,
     rule: RuleId,
     most: Option<u32>,
-    x: Span,
-    after: Option<Span>,
+    place: &Place,
     message: &'static str,
 ) -> Result<(), AllocError>
-    ensures { OnOk result (problems.new.items ≡ problems.old.items ++ too_many_behind rule most x after message.now) }
+    ensures { OnOk result (problems.new.items ≡ problems.old.items
+        ++ too_many_behind rule most place.now.here place.now.after message.now) }
 {
-    match after {
+    match &place.after {
         None => Ok(()),
-        Some(y) => report_too_many(problems, rule, most, x, y, message),
+        Some(y) => report_too_many(problems, rule, most, &place.here, y, message),
     }
 }

@@ -19,6 +19,14 @@ pub(crate) struct Span {
     pub(crate) end_col: u32,
 }
 
+/// A lexeme between its neighbours.
+#[derive(Clone, Copy)]
+pub(crate) struct Place {
+    pub(crate) before: Option<Span>,
+    pub(crate) here: Span,
+    pub(crate) after: Option<Span>,
+}
+
 /// The span of a lexeme at a line.
 pub(crate) fn span_of<A: Allocator>(at: &LexemeAtLine<'_, A>) -> Span
     ensures { result ≡ span_of (lexeme_at_line at.now.line at.now.lexeme.now) }
@@ -33,8 +41,8 @@ pub(crate) fn span_of<A: Allocator>(at: &LexemeAtLine<'_, A>) -> Span
 }
 
 /// How many characters stand between two lexemes of one line.
-pub(crate) fn distance(x: Span, y: Span) -> Option<u32>
-    ensures { result ≡ distance x y }
+pub(crate) fn distance(x: &Span, y: &Span) -> Option<u32>
+    ensures { result ≡ distance x.now y.now }
 {
     if x.end_line == u64::from(y.start.line) {
         Some(y.start.col.saturating_sub(x.end_col))

@@ -7,7 +7,7 @@ use crate::words::{truthy_text, word_index};
 use std::alloc::{AllocError, Allocator};
 use yl_lexeme::{Kind, Style};
 use yl_marks::KeyFacts;
-use yl_text::{Finding, RuleId};
+use yl_text::{Finding, Pos, RuleId};
 
 /// A set of truthy words. A word goes by its index, which `index_of` tells.
 #[derive(Clone, Copy, Debug, PartialEq, Eq)]
@@ -18,7 +18,7 @@ pub struct TruthyWords {
 
 impl TruthyWords {
     ghost use Rattle.std.specs.Prelude.{◌≡◌, ◌<◌, false, true, replicate, slice_set};
-    ghost use Rattle.yl_layout.specs.Truthy.{is_allowed, truthy_index};
+    ghost use Rattle.yl_layout.specs.Truthy.{is_allowed_word, truthy_index};
 
     /// None of them.
     pub fn none() -> TruthyWords
@@ -49,7 +49,7 @@ impl TruthyWords {
     /// Whether the word of this index is in the set.
     pub fn has(&self, index: usize) -> bool
         requires { index < 18 }
-        ensures { result ≡ is_allowed self.now index }
+        ensures { result ≡ is_allowed_word self.now index }
     {
         self.allowed[index]
     }
@@ -118,13 +118,15 @@ fn is_truthy(options: &TruthyOptions, kind: Kind, value: &str, key: KeyFacts) ->
 fn report_truthy<A: Allocator + Copy>(
     problems: &mut Vec<Finding<A>, A>,
     options: &TruthyOptions,
-    x: Span,
+    x: &Span,
 ) -> Result<(), AllocError>
-    ensures { OnOk result (problems.new.items ≡ problems.old.items ++ truthy_found options.now x) }
+    ensures { OnOk result (problems.new.items ≡ problems.old.items
+        ++ truthy_found options.now x.now) }
 {
     let message = truthy_text(*problems.allocator(), &options.allowed_values)?;
-    let line = u64::from(x.start.line) + 1;
-    let column = u64::from(x.start.col) + 1;
+    let Pos { line, col } = x.start;
+    let line = u64::from(line) + 1;
+    let column = u64::from(col) + 1;
     problems.push(Finding::new(line, column, RuleId::Truthy, message))?;
     Ok(())
 }
@@ -132,11 +134,12 @@ fn report_truthy<A: Allocator + Copy>(
 fn push_truthy_by<A: Allocator + Copy>(
     problems: &mut Vec<Finding<A>, A>,
     options: &TruthyOptions,
-    x: Span,
+    x: &Span,
     value: &str,
     key: KeyFacts,
 ) -> Result<(), AllocError>
-    ensures { OnOk result (problems.new.items ≡ problems.old.items ++ truthy_by options.now x value.now key) }
+    ensures { OnOk result (problems.new.items ≡ problems.old.items
+        ++ truthy_by options.now x.now value.now key) }
 {
     if is_truthy(options, x.kind, value, key) {
         report_truthy(problems, options, x)
@@ -149,11 +152,12 @@ fn push_truthy_by<A: Allocator + Copy>(
 pub(crate) fn push_truthy<A: Allocator + Copy>(
     problems: &mut Vec<Finding<A>, A>,
     options: &Option<TruthyOptions>,
-    x: Span,
+    x: &Span,
     value: &str,
     key: KeyFacts,
 ) -> Result<(), AllocError>
-    ensures { OnOk result (problems.new.items ≡ problems.old.items ++ truthy options.now x value.now key) }
+    ensures { OnOk result (problems.new.items ≡ problems.old.items
+        ++ truthy options.now x.now value.now key) }
 {
     match options {
         None => Ok(()),

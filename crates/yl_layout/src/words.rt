@@ -1,7 +1,8 @@
 //! The truthy words and the text that lists them.
 ghost use Rattle.std.specs.Prelude.{◌≡◌, ◌++◌, ◌<◌, ◌∷◌, ℕ, List, bytes_eq, codes, Some, IfOk, OnOk, string_bytes, if◌then◌else◌};
 ghost use Rattle.std.specs.List.{slice_get};
-ghost use Rattle.yl_layout.specs.Truthy.{listed, truthy_index, truthy_text, truthy_words};
+ghost use Rattle.yl_layout.specs.Truthy.{word_list, truthy_index, truthy_text, truthy_words};
+ghost use Rattle.yl_layout.specs.TruthyLetters.{is_first_letter, may_be_truthy};
 
 use crate::truthy::TruthyWords;
 use std::alloc::{AllocError, Allocator};
@@ -36,6 +37,26 @@ fn word_at(index: usize) -> &'static str
     }
 }
 
+/// Whether some truthy word begins with this letter.
+fn is_first_letter(letter: u8) -> bool
+    ensures { result ≡ is_first_letter letter }
+{
+    matches!(
+        letter,
+        b'F' | b'N' | b'O' | b'T' | b'Y' | b'f' | b'n' | b'o' | b't' | b'y'
+    )
+}
+
+/// What the length and the first letter say: whether a word may be truthy.
+fn may_be_truthy(word: &[u8]) -> bool
+    ensures { result ≡ may_be_truthy word.now }
+{
+    match word {
+        [] => false,
+        [first, rest @ ..] => !rest.is_empty() && rest.len() <= 4 && is_first_letter(*first),
+    }
+}
+
 fn is_word(word: &str, text: &[u8]) -> bool
     ensures { result ≡ bytes_eq word.now text.now }
 {
@@ -46,6 +67,9 @@ fn is_word(word: &str, text: &[u8]) -> bool
 pub(crate) fn word_index(word: &[u8]) -> Option<usize>
     ensures { result ≡ truthy_index word.now }
 {
+    if !may_be_truthy(word) {
+        return None;
+    }
     for i in 0..WORDS {
         if is_word(word_at(i), word) {
             return Some(i);
@@ -60,7 +84,8 @@ fn push_word<A: Allocator>(
     is_first: bool,
     word: &str,
 ) -> Result<(), AllocError>
-    ensures { OnOk result (string_bytes text.new ≡ string_bytes text.old ++ (if is_first then word.now else codes ", " ++ word.now)) }
+    ensures { OnOk result (string_bytes text.new
+        ≡ string_bytes text.old ++ (if is_first then word.now else codes ", " ++ word.now)) }
 {
     if !is_first {
         text.push_str(", ")?;
@@ -76,8 +101,10 @@ fn push_if_allowed<A: Allocator>(
     is_allowed: bool,
     word: &str,
 ) -> Result<bool, AllocError>
-    ensures { IfOk result (λ next. (rest : List (List ℕ)) → string_bytes text.new ++ listed next rest
-        ≡ string_bytes text.old ++ listed is_first (if is_allowed then word.now ∷ rest else rest)) }
+    ensures { IfOk result (λ next. (rest : List (List ℕ))
+        → string_bytes text.new ++ word_list next rest
+        ≡ string_bytes text.old ++ word_list is_first (if is_allowed then word.now ∷ rest
+        else rest)) }
 {
     if !is_allowed {
         return Ok(is_first);

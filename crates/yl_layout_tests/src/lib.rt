@@ -1,5 +1,10 @@
-//! Tests of the rules on lexemes over several crates, some with an allocator that refuses.
+//! Tests of the rules on lexemes and of indentation, over the lexemes of texts, some with an allocator
+//! that refuses.
 #![tactic(auto)]
 
 #[cfg(test)]
-mod tests;
+mod indentation;
+#[cfg(test)]
+mod layout;
+#[cfg(test)]
+mod lexemes;

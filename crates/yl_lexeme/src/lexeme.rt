@@ -2,6 +2,7 @@
 
 use std::alloc::Allocator;
 use std::marker::Model;
+use yl_inline::InlineString;
 use yl_text::Pos;
 
 /// How a scalar is written: YAML 1.2.2, 7.3 and 8.1.
@@ -101,30 +102,32 @@ impl Kind {
 #[derive(Drop)]
 pub struct Lexeme<A: Allocator> {
     kind: Kind,
-    start: Pos,
+    /// Where it begins.
+    column: u32,
     end: Pos,
-    value: String<A>,
+    value: InlineString<A>,
 }
 
 impl<A: Allocator> Model for Lexeme<A> {
-    ghost use Rattle.std.specs.Prelude.{string_bytes};
+    ghost use Rattle.std.specs.Str.{encode_utf8_all};
     ghost use Rattle.yl_lexeme.specs.Lexeme.{LexemeValue};
 
     ghost Value = { LexemeValue };
 
-    ghost view = { λ x. record { kind = x.kind; start = x.start; end = x.end; value = string_bytes x.value } };
+    ghost view = { λ x. record { kind = x.kind; start = record { line = 0; col = x.column }; end = x.end; value = encode_utf8_all x.value } };
 }
 
 impl<A: Allocator> Lexeme<A> {
-    ghost use Rattle.std.specs.Prelude.{◌≡◌, string_bytes};
+    ghost use Rattle.std.specs.Prelude.{◌≡◌};
+    ghost use Rattle.std.specs.Str.{encode_utf8_all};
 
-    /// A lexeme of these parts.
-    pub fn new(kind: Kind, start: Pos, end: Pos, value: String<A>) -> Lexeme<A>
-        ensures { result ≡ record { kind = kind; start = start; end = end; value = string_bytes value } }
+    /// A lexeme that begins at this column, of these parts.
+    pub fn new(kind: Kind, column: u32, end: Pos, value: InlineString<A>) -> Lexeme<A>
+        ensures { result ≡ record { kind = kind; start = record { line = 0; col = column }; end = end; value = encode_utf8_all value } }
     {
         Lexeme {
             kind,
-            start,
+            column,
             end,
             value,
         }
@@ -140,7 +143,10 @@ impl<A: Allocator> Lexeme<A> {
     pub fn start(&self) -> Pos
         ensures { result ≡ self.now.start }
     {
-        self.start
+        Pos {
+            line: 0,
+            col: self.column,
+        }
     }
 
     /// Where it ends, behind its last character.

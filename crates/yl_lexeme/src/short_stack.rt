@@ -73,6 +73,7 @@ impl<'a, T: Copy + Default, A: Allocator + Copy> ShortStack<'a, T, A> {
     }
 
     /// The top item, if there is one.
+    #[inline(always)]
     pub fn top(&self) -> Option<T>
         ensures { result ≡ first_of self.now }
     {

@@ -53,6 +53,7 @@ pub fn near(column: usize, start: Option<usize>) -> Option<usize>
 }
 
 /// Drops the columns greater than this one.
+#[inline(always)]
 fn cut<A: Allocator + Copy>(
     levels: &mut ColumnStack<'_, A>,
     column: usize,
@@ -69,6 +70,7 @@ fn cut<A: Allocator + Copy>(
 }
 
 /// Adds a column, if it is greater than all.
+#[inline(always)]
 fn add_column<A: Allocator + Copy>(
     levels: &mut ColumnStack<'_, A>,
     column: usize,

@@ -21,7 +21,7 @@ abbrev finding : ℕ → ℕ → RuleId → List ℕ → FindingValue
 finding line column rule message = record { line = line; column = column; rule = rule; message = message }
 
 abbrev section : ℕ → List FindingValue → List Fact → Option SectionFaultValue → KeptValue
-section rows found facts fault = record { rows = rows; first = 0; found = found; facts = facts; comments = []; fault = fault }
+section rows found facts fault = record { rows = rows; first = 0; found = found; facts = facts; comments = []; fault = fault; hidden = []; parse_fault = fault }
 
 abbrev options : IndentationOptions
 options = record { spaces = Consistent; indent_sequences = Indented }
@@ -70,6 +70,6 @@ unfolding digits
 width = refl
 
 -- a comment of the second section, by its line in the text
-comment : comments_in_sections 0 (twice ∷ record { rows = 1; first = 0; found = []; facts = []; comments = record { line = 0; column = 4; text = codes "# yamllint disable"; behind = Some 3 } ∷ []; fault = None } ∷ [])
+comment : comments_in_sections 0 (twice ∷ record { rows = 1; first = 0; found = []; facts = []; comments = record { line = 0; column = 4; text = codes "# yamllint disable"; behind = Some 3 } ∷ []; fault = None; hidden = []; parse_fault = None } ∷ [])
     ≡ record { line = 3; column = 4; text = codes "# yamllint disable"; behind = Some 3 } ∷ []
 comment = refl

@@ -1,4 +1,5 @@
 pub mod Examples
+pub mod Passed
 pub mod Reported
 pub mod Rows
 pub mod Streamed

@@ -7,7 +7,7 @@ use Rattle.yl_sections.specs.Kept.{KeptValue}
 use Rattle.yl_sections.specs.Judge.{kept_of_section}
 use Rattle.yl_sections.specs.Laws.{OneKept, KeptIsComputed}
 use Rattle.yl_sections.specs.Sections.{sections}
-use Rattle.yl_lint.specs.TextReport.{findings_in_lines, first_text, end_of, records_of, kept_of_text, report_of_kept, report}
+use Rattle.yl_lint.specs.TextReport.{findings_in_lines, first_text, end_of_lines, records_of, kept_of_text, report_of_kept, report}
 use Rattle.yl_lint.specs.Laws.{AreKept, OneReport, ReportReports}
 
 both : {X : Type 0} (x y : X) (xs ys : List X) → x ≡ y → xs ≡ ys → x ∷ xs ≡ y ∷ ys
@@ -28,7 +28,7 @@ are_computed computed config (s ∷ ss) = (computed config s, are_computed compu
 pub one_report : OneKept → OneReport
 one_report one config rows xs ys h k =
     h.put
-    ∙ (ap (report_of_kept config (findings_in_lines (options_of config) rows) (first_text rows) (end_of rows)) (are_one one config (sections (records_of rows)) h.kept k.kept h.are k.are)
+    ∙ (ap (report_of_kept config (findings_in_lines (options_of config) rows) (first_text rows) (end_of_lines rows)) (are_one one config (sections (records_of rows)) h.kept k.kept h.are k.are)
     ∙ sym k.put)
 
 pub report_reports : KeptIsComputed → ReportReports

@@ -1,14 +1,13 @@
 -- Records that come row by row, and the sections that are judged among them.
 use Rattle.std.proofs.Common.{◌≡◌, ℕ, ◌+◌, ◌≤◌, Result, Ok, Err, List, [], ◌++◌, length, map, take, drop, ap, sym, refl, ◌∙◌, append-nil, arith}
 use Rattle.std.proofs.lemmas.List.{take-append-drop, drop-append-le, length-map}
-use Rattle.std.specs.Prelude.{IfOk}
+use Rattle.std.specs.Prelude.{IfOk, OnOk}
 use Rattle.yl_text.specs.Character.{indentation}
 use Rattle.yl_lexeme.specs.declared.meter.Meter.{Meter}
 use Rattle.yl_record.specs.Parts.{entries_in, indentations_in, indentation_in}
 use Rattle.yl_record.specs.Records.{RecordValue}
 use Rattle.yl_record.specs.Recorded.{RecorderValue, recorded, if_wanted, entries_with_rest}
-use Rattle.yl_sections.specs.Kept.{KeptValue}
-use Rattle.yl_sections.specs.Judge.{documents_in}
+use Rattle.yl_sections.specs.Kept.{KeptValue, documents_in}
 use Rattle.yl_sections.specs.Sections.{sections}
 use Rattle.yl_lint.proofs.Rows.{few_with}
 
@@ -61,3 +60,8 @@ counted_at_end m lines documents a b = rw (sym a, sym b) refl
 pub few_if : {T E : Type 0} (r : Result T E) (items : T → List RecordValue) (told : List RecordValue) (n : ℕ) → IfOk r (λ x. items x ≡ told) → length told ≤ n → IfOk r (λ x. length (items x) ≤ n)
 few_if (Ok x) items told n is few = rw is few
 few_if (Err e) items told n is few = tt
+
+-- an answer, by what follows from it
+pub on_ok : {T E P Q : Type 0} (r : Result T E) → (P → Q) → OnOk r P → OnOk r Q
+on_ok (Ok x) f p = f p
+on_ok (Err e) f p = tt

@@ -7,7 +7,7 @@ use Rattle.yl_config.specs.Config.{options_of}
 use Rattle.yl_record.specs.Records.{RecordValue}
 use Rattle.yl_sections.specs.Kept.{KeptValue, IsKept}
 use Rattle.yl_sections.specs.Sections.{sections}
-use Rattle.yl_lint.specs.TextReport.{findings_in_lines, first_text, end_of, records_of, report_of_kept, report}
+use Rattle.yl_lint.specs.TextReport.{findings_in_lines, first_text, end_of_lines, records_of, report_of_kept, report}
 
 -- this is kept of these sections: their documents derive so
 abbrev pub AreKept : Config → List (List RecordValue) → List KeptValue → Type 0
@@ -20,7 +20,7 @@ AreKept config (s ∷ ss) [] = ⊥
 pub record Reports (config : Config) (rows : List RowValue) (problems : List ProblemValue) : Type 0 where
   pub kept : List KeptValue
   pub are : AreKept config (sections (records_of rows)) kept
-  pub put : problems ≡ report_of_kept config (findings_in_lines (options_of config) rows) (first_text rows) (end_of rows) kept
+  pub put : problems ≡ report_of_kept config (findings_in_lines (options_of config) rows) (first_text rows) (end_of_lines rows) kept
 
 -- no text has two reports
 abbrev pub OneReport : Type 0

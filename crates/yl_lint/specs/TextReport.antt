@@ -22,8 +22,8 @@ use Rattle.yl_config.specs.declared.config.Config.{Config}
 use Rattle.yl_settings.specs.declared.options.RuleOptions.{RuleOptions}
 use Rattle.yl_config.specs.Config.{levels_of, options_of}
 use Rattle.yl_record.specs.Records.{RecordValue, characters_in, records}
-use Rattle.yl_sections.specs.Kept.{KeptValue, SectionFaultValue, Here, Behind}
-use Rattle.yl_sections.specs.Judge.{documents_in, kept_of_section}
+use Rattle.yl_sections.specs.Kept.{KeptValue, SectionFaultValue, Here, Behind, documents_in}
+use Rattle.yl_sections.specs.Judge.{kept_of_section}
 use Rattle.yl_sections.specs.Sections.{sections}
 
 -- ---- lines
@@ -44,13 +44,13 @@ text_in (Some row) = row.text
 abbrev pub first_text : List RowValue → List ℕ
 first_text rows = text_in (slice_get rows 0)
 
-abbrev pub width_of : Option RowValue → ℕ
-width_of None = 0
-width_of (Some row) = length (chars row.text)
+abbrev pub width_of_line : Option RowValue → ℕ
+width_of_line None = 0
+width_of_line (Some row) = length (chars row.text)
 
 -- after the last character of the last line
-abbrev pub end_of : List RowValue → Pos
-end_of rows = record { line = length rows - 1; col = width_of (slice_get rows (length rows - 1)) }
+abbrev pub end_of_lines : List RowValue → Pos
+end_of_lines rows = record { line = length rows - 1; col = width_of_line (slice_get rows (length rows - 1)) }
 
 -- ---- the text's fault
 
@@ -131,9 +131,9 @@ abbrev pub kept_of_text : Config → List RowValue → List KeptValue
 kept_of_text config rows = map (kept_of_section config) (sections (records_of rows))
 
 -- how many documents a text has
-abbrev pub document_count : List RowValue → ℕ
-document_count rows = documents_in (sections (records_of rows))
+abbrev pub document_total : List RowValue → ℕ
+document_total rows = documents_in (sections (records_of rows))
 
 -- the report of the lines of a text under a configuration
 unfoldable pub report : Config → List RowValue → List ProblemValue
-report config rows = report_of_kept config (findings_in_lines (options_of config) rows) (first_text rows) (end_of rows) (kept_of_text config rows)
+report config rows = report_of_kept config (findings_in_lines (options_of config) rows) (first_text rows) (end_of_lines rows) (kept_of_text config rows)

@@ -39,7 +39,7 @@ fn measure_of<A: Allocator>(kept: &[&Kept<A>]) -> Measure
 
 /// Puts what is found in a section that begins at `line` behind the rest. `before` is the measure of the facts of the sections before it,
 /// `whole` that of all facts that are shown.
-fn push_section<A: Allocator + Copy>(
+pub fn push_section<A: Allocator + Copy>(
     alloc: A,
     options: &IndentationOptions,
     whole: Measure,

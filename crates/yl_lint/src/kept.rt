@@ -1,10 +1,15 @@
 //! The records of a text, and what is kept of its sections.
-ghost use Rattle.std.specs.Prelude.{◌≡◌, ◌<◌, ◌≤◌, ◌+◌, ◌++◌, ◌-◌, ◌^◌, false, ℕ, List, length, map, IfOk, OnOk};
+ghost use Rattle.std.specs.Prelude.{◌≡◌, ◌<◌, ◌≤◌, ◌+◌, ◌++◌, ◌-◌, ◌^◌, ◌∷◌, [], false, ℕ, List, length, map, IfOk, OnOk};
+ghost use Rattle.std.specs.Str.{chars};
 ghost use Rattle.yl_text.specs.Store.{AreLines};
+ghost use Rattle.yl_config.specs.declared.config.Config.{Config};
 ghost use Rattle.yl_record.specs.Recorded.{recorded};
-ghost use Rattle.yl_sections.specs.Judge.{documents_in, kept_of_section};
+ghost use Rattle.yl_record.specs.Records.{records};
+ghost use Rattle.yl_sections.specs.Judge.{kept_of_section};
+ghost use Rattle.yl_sections.specs.Kept.{documents_in};
 ghost use Rattle.yl_sections.specs.Sections.{sections};
-ghost use Rattle.yl_lint.specs.TextReport.{document_count, kept_of_text, records_of};
+ghost use Rattle.yl_lint.specs.Left.{documents_left, kept_left};
+ghost use Rattle.yl_lint.specs.TextReport.{document_total, kept_of_text, records_of};
 
 use std::alloc::{AllocError, Allocator};
 use yl_config::Config;
@@ -98,7 +103,91 @@ fn judge_complete<A: Allocator + Copy>(
     Ok(ROOM.max(open.saturating_mul(2)))
 }
 
-/// What is kept of the sections of these lines. The records of a section go once it is judged.
+/// A reader that is fed a text's rows one after another, and judges each section once it is complete.
+/// The records of a section go once it is judged.
+#[derive(Drop)]
+pub struct SectionReader<'a, A: Allocator + Copy> {
+    alloc: A,
+    recorder: Recorder<'a, A>,
+    /// How many records are to be complete before sections are looked for among them.
+    room: usize,
+    /// What is kept of the sections that were judged.
+    kept: Vec<Kept<A>, A>,
+}
+
+impl<'a, A: Allocator + Copy> SectionReader<'a, A> {
+    /// A reader at a text's start.
+    pub fn start(alloc: &'a A) -> SectionReader<'a, A>
+        ensures kept { (config : Config) (rows : List (List ℕ)) → kept_left config result.kept.items result.recorder rows ≡ map (kept_of_section config) (sections (records rows)) }
+        ensures documents { (documents : ℕ) (rows : List (List ℕ)) → documents_left documents result.recorder rows ≡ documents + documents_in (sections (records rows)) }
+        ensures whole { result.recorder.refused ≡ false }
+        ensures fed { result.recorder.taken + length result.recorder.records ≡ 0 }
+    {
+        SectionReader {
+            alloc: *alloc,
+            recorder: Recorder::start_without_states(alloc),
+            room: ROOM,
+            kept: Vec::new(*alloc),
+        }
+    }
+
+    /// Passes the next row, given as its text without its break. Counts it in the meter, and the
+    /// documents of the sections that it judges. The only error is out of memory, and then the reader
+    /// is of no more use.
+    pub fn pass(&mut self, config: &Config, text: &str, meter: &mut Meter) -> Result<(), AllocError>
+        requires fits { length (chars text.now) < 2 ^ 31 }
+        requires whole { self.old.recorder.refused ≡ false }
+        requires few { self.old.recorder.taken + length self.old.recorder.records < 2 ^ 32 - 2 }
+        requires lines { meter.old.lines < 2 ^ 32 - 1 }
+        requires documents { meter.old.documents + length self.old.recorder.records < 2 ^ 32 - 2 }
+        ensures kept { OnOk result ((rows : List (List ℕ))
+            → kept_left config.now self.new.kept.items self.new.recorder rows
+            ≡ kept_left config.now self.old.kept.items self.old.recorder (chars text.now ∷ rows)) }
+        ensures documents { OnOk result ((rows : List (List ℕ))
+            → documents_left meter.new.documents self.new.recorder rows
+            ≡ documents_left meter.old.documents self.old.recorder (chars text.now ∷ rows)) }
+        ensures whole { OnOk result (self.new.recorder.refused ≡ false) }
+        ensures fed { OnOk result (self.new.recorder.taken + length self.new.recorder.records ≡ self.old.recorder.taken + length self.old.recorder.records + 1) }
+        ensures few { OnOk result (meter.new.documents + self.old.recorder.taken ≤ meter.old.documents + self.new.recorder.taken) }
+        ensures lines { OnOk result (meter.new.lines ≡ meter.old.lines + 1) }
+    {
+        self.recorder.feed_text(text, meter)?;
+        self.room = judge_complete(
+            self.alloc,
+            config,
+            &mut self.recorder,
+            self.room,
+            &mut self.kept,
+            meter,
+        )?;
+        Ok(())
+    }
+
+    /// What is kept of the sections of all rows, where no row follows. Counts the documents of those
+    /// that were not judged. The only error is out of memory.
+    pub fn finish(self, config: &Config, meter: &mut Meter) -> Result<Vec<Kept<A>, A>, AllocError>
+        requires rows { length self.recorder.records < 2 ^ 32 }
+        requires documents { meter.old.documents + length self.recorder.records < 2 ^ 32 - 1 }
+        ensures kept { IfOk result (λ v. v.items ≡ kept_left config.now self.entry.kept.items self.entry.recorder []) }
+        ensures counted { OnOk result (meter.new ≡ record {
+          lines = meter.old.lines;
+          documents = documents_left meter.old.documents self.entry.recorder [];
+        }) }
+    {
+        let SectionReader {
+            alloc,
+            recorder,
+            mut kept,
+            ..
+        } = self;
+        let records = recorder.finish()?;
+        let mut last = kept_of_records(alloc, config, &records, meter)?;
+        kept.append(&mut last)?;
+        Ok(kept)
+    }
+}
+
+/// What is kept of the sections of these lines.
 pub fn kept_of_lines<L: Lines>(
     alloc: L::Alloc,
     config: &Config,
@@ -111,19 +200,13 @@ pub fn kept_of_lines<L: Lines>(
     ensures kept { IfOk result (λ v. v.items ≡ kept_of_text config.now (L.rows lines.now)) }
     ensures counted { OnOk result (meter.new ≡ record {
       lines = meter.old.lines + length (L.rows lines.now);
-      documents = meter.old.documents + document_count (L.rows lines.now);
+      documents = meter.old.documents + document_total (L.rows lines.now);
     }) }
 {
     rows_fit(lines);
-    let mut kept = Vec::new(alloc);
-    let mut recorder = Recorder::start_without_states(&alloc);
-    let mut room = ROOM;
+    let mut reader = SectionReader::start(&alloc);
     for i in 0..lines.len() {
-        recorder.feed_text(lines.row(i).as_str(), meter)?;
-        room = judge_complete(alloc, config, &mut recorder, room, &mut kept, meter)?;
+        reader.pass(config, lines.row(i).as_str(), meter)?;
     }
-    let records = recorder.finish()?;
-    let mut last = kept_of_records(alloc, config, &records, meter)?;
-    kept.append(&mut last)?;
-    Ok(kept)
+    reader.finish(config, meter)
 }

@@ -16,7 +16,9 @@ mod lines;
 mod lint;
 mod moving;
 
-pub use assembling::report_of_kept;
+pub use assembling::{push_section, report_of_kept};
 pub use kept::{kept_of_records, records_of_lines};
 pub use laws::one_report;
+pub use lines::find_in_lines;
 pub use lint::{report_of_lines, report_of_text, report_with_kept};
+pub use moving::line_below;

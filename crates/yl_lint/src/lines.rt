@@ -1,28 +1,94 @@
 //! What the rules on lines find in a text, and where it ends.
-ghost use Rattle.std.specs.Prelude.{◌≡◌, IfOk, length};
+ghost use Rattle.std.specs.Prelude.{◌≡◌, ◌+◌, ◌-◌, ◌<◌, ◌^◌, ◌∷◌, [], List, IfOk, OnOk, length};
 ghost use Rattle.std.specs.Str.{chars};
 ghost use Rattle.yl_config.specs.Config.{options_of};
+ghost use Rattle.yl_text.specs.Lines.{RowValue};
 ghost use Rattle.yl_text.specs.Store.{AreLines};
-ghost use Rattle.yl_lint.specs.TextReport.{end_of, findings_from, findings_in_lines, first_text};
+ghost use Rattle.yl_lint.specs.Left.{lines_left};
+ghost use Rattle.yl_lint.specs.TextReport.{end_of_lines, findings_in_lines, first_text};
 
-use std::alloc::AllocError;
+use std::alloc::{AllocError, Allocator};
+use std::marker::Model;
 use yl_config::Config;
-use yl_rules::{RowOptions, push_row_problems, run_problems};
-use yl_text::{Finding, Lines, Pos, rows_fit};
+use yl_rules::{RowOptions, RunReader, character_count, push_line_problems};
+use yl_text::{Break, Finding, Lines, Pos, rows_fit};
 
-/// What the rules that look at one line find in the rows.
-fn find_in_rows<L: Lines>(
-    alloc: L::Alloc,
-    options: &RowOptions,
-    lines: &L,
-) -> Result<Vec<Finding<L::Alloc>, L::Alloc>, AllocError>
-    ensures { IfOk result (λ found. found.items ≡ findings_from options.now 1 (L.rows lines.now)) }
-{
-    let mut found = Vec::new(alloc);
-    for i in 0..lines.len() {
-        push_row_problems(alloc, i as u64 + 1, lines.row(i), options, &mut found)?;
+/// A reader that is fed a text's lines one after another, and tells what the rules on lines find in
+/// them. Of the lines that it passed it keeps the last one.
+#[derive(Drop)]
+pub struct LineReader<'a, A: Allocator + Copy> {
+    alloc: A,
+    options: RowOptions,
+    runs: RunReader<'a>,
+    /// What the rules that look at one line found.
+    found: Vec<Finding<A>, A>,
+    /// What those found that look at the lines of a whole text.
+    found_in_runs: Vec<Finding<A>, A>,
+}
+
+impl<'a, A: Allocator + Copy> Model for LineReader<'a, A> {
+    ghost use Rattle.yl_lint.specs.Left.{LineReaderValue};
+
+    ghost Value = { LineReaderValue };
+
+    ghost view = { λ r. record { options = r.options; runs = r.runs; found = r.found.items; found_in_runs = r.found_in_runs.items } };
+}
+
+impl<'a, A: Allocator + Copy> LineReader<'a, A> {
+    /// A reader at a text's start.
+    pub fn start(alloc: A, config: &Config) -> LineReader<'a, A>
+        ensures left { (rows : List RowValue) → lines_left result rows ≡ findings_in_lines (options_of config.now) rows }
+        ensures count { result.runs.count ≡ 0 }
+        ensures last { result.runs.last ≡ [] }
+    {
+        LineReader {
+            alloc,
+            options: *config.row_options(),
+            runs: RunReader::start(config.run_options()),
+            found: Vec::new(alloc),
+            found_in_runs: Vec::new(alloc),
+        }
     }
-    Ok(found)
+
+    /// Passes the next line. The only error is out of memory, and then the reader is of no more use.
+    pub fn pass(&mut self, text: &'a str, end: Break) -> Result<(), AllocError>
+        requires { self.old.runs.count < 2 ^ 64 - 1 }
+        ensures left { OnOk result ((rows : List RowValue)
+            → lines_left self.new rows ≡ lines_left self.old (record { text = text.now; end = end } ∷ rows)) }
+        ensures count { OnOk result (self.new.runs.count ≡ self.old.runs.count + 1) }
+        ensures last { OnOk result (self.new.runs.last ≡ text.now) }
+    {
+        let line = self.runs.count() + 1;
+        push_line_problems(self.alloc, line, text, &self.options, &mut self.found)?;
+        self.runs
+            .pass(self.alloc, text, end, &mut self.found_in_runs)?;
+        Ok(())
+    }
+
+    /// The place behind the last character of the lines that were passed.
+    pub fn end(&self) -> Pos
+        requires count { self.now.runs.count < 2 ^ 32 }
+        requires last { length self.now.runs.last < 2 ^ 32 }
+        ensures { result ≡ record { line = self.now.runs.count - 1; col = length (chars self.now.runs.last) } }
+    {
+        self.runs.end()
+    }
+
+    /// What the rules on lines found, where no line follows. The only error is out of memory.
+    pub fn finish(self) -> Result<Vec<Finding<A>, A>, AllocError>
+        ensures { IfOk result (λ found. found.items ≡ lines_left self.entry []) }
+    {
+        let LineReader {
+            alloc,
+            runs,
+            mut found,
+            mut found_in_runs,
+            ..
+        } = self;
+        runs.finish(alloc, &mut found_in_runs)?;
+        found.append(&mut found_in_runs)?;
+        Ok(found)
+    }
 }
 
 /// What the rules on lines find in a text.
@@ -33,23 +99,12 @@ pub fn find_in_lines<L: Lines>(
 ) -> Result<Vec<Finding<L::Alloc>, L::Alloc>, AllocError>
     ensures { IfOk result (λ found. found.items ≡ findings_in_lines (options_of config.now) (L.rows lines.now)) }
 {
-    let mut found = find_in_rows(alloc, config.row_options(), lines)?;
-    let mut runs = run_problems(alloc, lines, config.run_options())?;
-    found.append(&mut runs)?;
-    Ok(found)
-}
-
-/// How many characters the text has: how many of its bytes begin one.
-fn width(text: &str) -> usize
-    ensures { result ≡ length (chars text.now) }
-{
-    let mut count = 0;
-    for byte in text.as_bytes() {
-        if *byte < 0x80 || *byte >= 0xc0 {
-            count += 1;
-        }
+    let mut reader = LineReader::start(alloc, config);
+    for i in 0..lines.len() {
+        let row = lines.row(i);
+        reader.pass(row.as_str(), row.end())?;
     }
-    count
+    reader.finish()
 }
 
 /// The text of the first line.
@@ -65,7 +120,7 @@ pub fn first_text<L: Lines>(lines: &L) -> &str
 /// The place after the last character of the last line.
 pub fn end_of<L: Lines>(lines: &L) -> Pos
     requires { AreLines (L.rows lines.now) }
-    ensures { result ≡ end_of (L.rows lines.now) }
+    ensures { result ≡ end_of_lines (L.rows lines.now) }
 {
     rows_fit(lines);
     let count = lines.len();
@@ -75,6 +130,6 @@ pub fn end_of<L: Lines>(lines: &L) -> Pos
     let last = lines.row(count - 1).as_str();
     Pos {
         line: (count - 1) as u32,
-        col: width(last) as u32,
+        col: character_count(last) as u32,
     }
 }

@@ -1,18 +1,20 @@
 //! The report of the lines of a text.
-ghost use Rattle.std.specs.Prelude.{◌≡◌, ◌<◌, ◌≤◌, ◌+◌, ◌-◌, ◌^◌, length, map, IfOk, OnOk};
+ghost use Rattle.std.specs.Prelude.{◌≡◌, ◌<◌, ◌≤◌, ◌+◌, ◌-◌, ◌^◌, [], length, map, IfOk, OnOk};
+ghost use Rattle.std.specs.Str.{chars};
 ghost use Rattle.yl_text.specs.Lines.{lines_of};
 ghost use Rattle.yl_text.specs.Store.{AreLines};
-ghost use Rattle.yl_lint.specs.TextReport.{document_count, kept_of_text, report};
+ghost use Rattle.yl_lint.specs.Left.{kept_left, lines_left};
+ghost use Rattle.yl_lint.specs.TextReport.{document_total, kept_of_text, report, report_of_kept};
 
 use crate::assembling::report_of_kept;
-use crate::kept::{kept_of_lines, lent};
-use crate::lines::{end_of, find_in_lines, first_text};
+use crate::kept::{SectionReader, kept_of_lines, lent};
+use crate::lines::{LineReader, end_of, find_in_lines, first_text};
 use std::alloc::{AllocError, Allocator};
 use yl_config::Config;
 use yl_lexeme::Meter;
 use yl_report::Problem;
 use yl_sections::Kept;
-use yl_text::{LineStore, Lines, MAX_BYTES, PlainStore, rows_fit, split};
+use yl_text::{Break, Lines, MAX_BYTES, cut_line};
 
 /// The report of the lines of a text under a configuration, in order, where this is kept of its sections, in order. The only error is out
 /// of memory.
@@ -44,14 +46,40 @@ pub fn report_of_lines<L: Lines>(
     ensures report { IfOk result (λ problems. problems.items ≡ report config.now (L.rows lines.now)) }
     ensures counted { OnOk result (meter.new ≡ record {
       lines = meter.old.lines + length (L.rows lines.now);
-      documents = meter.old.documents + document_count (L.rows lines.now);
+      documents = meter.old.documents + document_total (L.rows lines.now);
     }) }
 {
     let kept = kept_of_lines(alloc, config, lines, meter)?;
     report_with_kept(alloc, config, lines, &lent(alloc, &kept)?)
 }
 
-/// The report of a text under a configuration, in order. The only error is out of memory.
+/// The report of a text whose first line is `first`, where all its lines were passed. Counts the documents of the sections that were not
+/// judged. The only error is out of memory.
+fn report_of_read<A: Allocator + Copy>(
+    alloc: A,
+    config: &Config,
+    first: &str,
+    lines: LineReader<'_, A>,
+    sections: SectionReader<'_, A>,
+    meter: &mut Meter,
+) -> Result<Vec<Problem<A>, A>, AllocError>
+    requires count { lines.runs.count < 2 ^ 32 }
+    requires last { length lines.runs.last < 2 ^ 32 }
+    requires rows { length sections.recorder.records < 2 ^ 32 }
+    requires documents { meter.old.documents + length sections.recorder.records < 2 ^ 32 - 1 }
+    ensures { IfOk result (λ problems. problems.items ≡ report_of_kept config.now (lines_left lines.entry []) first.now
+        (record { line = lines.entry.runs.count - 1; col = length (chars lines.entry.runs.last) })
+        (kept_left config.now sections.entry.kept.items sections.entry.recorder [])) }
+{
+    let end = lines.end();
+    let found = lines.finish()?;
+    let kept = sections.finish(config, meter)?;
+    report_of_kept(alloc, config, found, first, end, &lent(alloc, &kept)?)
+}
+
+/// The report of a text under a configuration, in order. It is read line by line, and of the lines
+/// nothing is kept but the problems and what is kept of their sections. The only error is out of
+/// memory.
 pub fn report_of_text<A: Allocator + Copy>(
     alloc: A,
     config: &Config,
@@ -60,10 +88,18 @@ pub fn report_of_text<A: Allocator + Copy>(
     requires { length text.now ≤ MAX_BYTES }
     ensures { IfOk result (λ problems. problems.items ≡ report config.now (lines_of text.now)) }
 {
-    let Ok(mut rows) = split(alloc, text.as_bytes()) else {
-        return Err(AllocError);
-    };
-    let store = PlainStore::from_rows(&mut rows)?;
-    rows_fit(&store);
-    report_of_lines(alloc, config, &store, &mut Meter::new())
+    let mut meter = Meter::new();
+    let mut lines = LineReader::start(alloc, config);
+    let mut sections = SectionReader::start(&alloc);
+    let mut rest = text;
+    loop {
+        let next = cut_line(rest);
+        lines.pass(next.line, next.end)?;
+        sections.pass(config, next.line, &mut meter)?;
+        if next.end == Break::No {
+            let first = cut_line(text).line;
+            return report_of_read(alloc, config, first, lines, sections, &mut meter);
+        }
+        rest = next.rest;
+    }
 }

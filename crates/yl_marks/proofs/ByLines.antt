@@ -19,19 +19,19 @@ use Rattle.yl_marks.proofs.Runs.{InLine, IsOther, AreLines, joined, are_lines, j
 -- ---- the pieces of a line among those of the document
 
 -- the pieces behind these ones, the latest first
-abbrev behind : List KeyedToken → List KeyedToken → List KeyedToken
+abbrev pub behind : List KeyedToken → List KeyedToken → List KeyedToken
 behind [] before = before
 behind (p ∷ ps) before = behind ps (p ∷ before)
 
-abbrev line_of : Option KeyedToken → Option ℕ
+abbrev pub line_of : Option KeyedToken → Option ℕ
 line_of None = None
 line_of (Some p) = Some p.start.line
 
 -- the pieces of a line behind these, of which so many are the line's
-abbrev line_behind : List KeyedToken → List (Spot KeyStart) → List Token → List KeyedToken
+abbrev pub line_behind : List KeyedToken → List (Spot KeyStart) → List Token → List KeyedToken
 line_behind before line xs = line_pieces (length before) (depth before) (first_of before) line xs
 
-nothing_here : (line : ℕ) (before : List KeyedToken) → IsOther (line_of (first_of before)) line → tokens_of_line line before ≡ []
+pub nothing_here : (line : ℕ) (before : List KeyedToken) → IsOther (line_of (first_of before)) line → tokens_of_line line before ≡ []
 nothing_here line [] h = refl
 nothing_here line (p ∷ before) h = ap (λ b. cond b (record { kind = p.kind; start = place_of (length before) p } ∷ tokens_of_line line before) []) (ne_eqb p.start.line line h)
 
@@ -48,7 +48,7 @@ pieces_of_line line before spots (x ∷ xs) rest h g =
     ∙ ap (λ ps. p ∷ ps) (pieces_of_line line (p ∷ before) (record { kind = p.kind; start = place_of (length before) p } ∷ spots) xs rest
     (one_more_here line p before g.0 ∙ ap (λ l. record { kind = p.kind; start = place_of (length before) p } ∷ l) h) g.1)
 
-length-line_pieces : (count depth : ℕ) (latest : Option KeyedToken) (line : List (Spot KeyStart)) (xs : List Token) → length (line_pieces count depth latest line xs) ≡ length xs
+pub length-line_pieces : (count depth : ℕ) (latest : Option KeyedToken) (line : List (Spot KeyStart)) (xs : List Token) → length (line_pieces count depth latest line xs) ≡ length xs
 length-line_pieces count depth latest line [] = refl
 length-line_pieces count depth latest line (x ∷ xs) = ap suc (length-line_pieces (suc count) _ _ _ xs)
 
@@ -56,13 +56,13 @@ length-behind : (ps before : List KeyedToken) → length (behind ps before) ≡ 
 length-behind [] before = omega arith
 length-behind (p ∷ ps) before = omega (arith, length-behind ps (p ∷ before))
 
-depth-behind : (before : List KeyedToken) (line : List (Spot KeyStart)) (xs : List Token) → depth (behind (line_behind before line xs) before) ≡ depth_behind_all (depth before) xs
+pub depth-behind : (before : List KeyedToken) (line : List (Spot KeyStart)) (xs : List Token) → depth (behind (line_behind before line xs) before) ≡ depth_behind_all (depth before) xs
 depth-behind before line [] = refl
 depth-behind before line (x ∷ xs) =
     let p = keyed_token_at x (depth before) (first_of before) (key_start line) in
     depth-behind (p ∷ before) (record { kind = p.kind; start = place_of (length before) p } ∷ line) xs
 
-first-behind : (ps before : List KeyedToken) → first_of (behind ps before) ≡ latest_of (first_of before) ps
+pub first-behind : (ps before : List KeyedToken) → first_of (behind ps before) ≡ latest_of (first_of before) ps
 first-behind [] before = refl
 first-behind (p ∷ ps) before = first-behind ps (p ∷ before)
 
@@ -76,27 +76,27 @@ line-behind line before spots (x ∷ xs) h g =
 -- ---- a whole line behind those before
 
 module _ (before : List KeyedToken) (x : Token) (xs : List Token) (other : IsOther (line_of (first_of before)) x.start.line) (same : InLine x.start.line xs) where
-  abbrev own : List KeyedToken
+  abbrev pub own : List KeyedToken
   own = line_behind before [] (x ∷ xs)
 
-  abbrev now : List KeyedToken
+  abbrev pub now : List KeyedToken
   now = behind own before
 
-  split : (rest : List Token) → keyed_tokens before ((x ∷ xs) ++ rest) ≡ own ++ keyed_tokens now rest
+  pub split : (rest : List Token) → keyed_tokens before ((x ∷ xs) ++ rest) ≡ own ++ keyed_tokens now rest
   split rest = pieces_of_line x.start.line before [] (x ∷ xs) rest (nothing_here x.start.line before other) (refl, same)
 
-  latest : line_of (first_of now) ≡ Some x.start.line
+  pub latest : line_of (first_of now) ≡ Some x.start.line
   latest = line-behind x.start.line (keyed_token_at x (depth before) (first_of before) None ∷ before) _ xs refl same
 
-  count : length now ≡ length before + length own
+  pub count : length now ≡ length before + length own
   count = length-behind own before
 
-  within : KeysAreWithin (length before) (length now) own
+  pub within : KeysAreWithin (length before) (length now) own
   within = line_within (length before) (length now) (length before) (depth before) (first_of before) [] (x ∷ xs) (omega arith)
       (omega (arith, count, length-line_pieces (length before) (depth before) (first_of before) [] (x ∷ xs))) tt
 
 -- no key of later lines begins in earlier ones
-none_later : (ls : List (List Token)) (before : List KeyedToken) → AreLines (line_of (first_of before)) ls → (i : ℕ) → i < length before → begins_key i (keyed_tokens before (joined ls)) ≡ false
+pub none_later : (ls : List (List Token)) (before : List KeyedToken) → AreLines (line_of (first_of before)) ls → (i : ℕ) → i < length before → begins_key i (keyed_tokens before (joined ls)) ≡ false
 none_later [] before h i below = refl
 none_later ([] ∷ ls) before h i below = absurd h
 none_later ((x ∷ xs) ∷ ls) before h i below =
@@ -109,10 +109,10 @@ none_later ((x ∷ xs) ∷ ls) before h i below =
 
 -- ---- marks
 
-abbrev Agree : List KeyedToken → List KeyedToken → ℕ → ℕ → Type 0
+abbrev pub Agree : List KeyedToken → List KeyedToken → ℕ → ℕ → Type 0
 Agree all some from to = (i : ℕ) → from ≤ i → i < to → begins_key i all ≡ begins_key i some
 
-same_marking : (all some : List KeyedToken) (i : ℕ) (p : KeyedToken) → begins_key i all ≡ begins_key i some → marking all i p ≡ marking some i p
+pub same_marking : (all some : List KeyedToken) (i : ℕ) (p : KeyedToken) → begins_key i all ≡ begins_key i some → marking all i p ≡ marking some i p
 same_marking all some i p e = ap (λ b. record { piece = p; begins_key = b }) e
 
 same_marks : (all some : List KeyedToken) (cs : List OpenBlock) (i to : ℕ) (ps : List KeyedToken) → i + length ps ≤ to → Agree all some i to → marks all cs i ps ≡ marks some cs i ps
@@ -155,10 +155,10 @@ to_end-append all cs i ps qs =
     ∙ ap (λ os. (marks all cs i ps ++ marks all (open_behind_all all cs i ps) (i + length ps) qs) ++ closings_of_all os) (open-append all cs i ps qs)
     ∙ append_assoc (marks all cs i ps) (marks all (open_behind_all all cs i ps) (i + length ps) qs) _
 
-abbrev at : List KeyedToken → List OpenBlock → MarkerValue
+abbrev pub at : List KeyedToken → List OpenBlock → MarkerValue
 at before cs = record { count = length before; depth = depth before; latest = first_of before; open_ones = cs }
 
-at_of : (n d : ℕ) (latest : Option KeyedToken) (cs : List OpenBlock) (before : List KeyedToken) → length before ≡ n → depth before ≡ d → first_of before ≡ latest →
+pub at_of : (n d : ℕ) (latest : Option KeyedToken) (cs : List OpenBlock) (before : List KeyedToken) → length before ≡ n → depth before ≡ d → first_of before ≡ latest →
     at before cs ≡ record { count = n; depth = d; latest = latest; open_ones = cs }
 at_of n d latest cs before c e l = cc
 

@@ -4,3 +4,6 @@ pub mod Runs
 pub mod ByLines
 pub mod Closed
 pub mod KeptFacts
+pub mod FactsByLines
+pub mod WholeLines
+pub mod Columns

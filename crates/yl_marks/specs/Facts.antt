@@ -1,5 +1,5 @@
 -- Meaning: what the keys of a document say of its lexemes (YAML 1.2.2, 6.9 and 7.4.2). Earlier lexemes are listed with the latest first.
-use Rattle.std.specs.Prelude.{ℕ, suc, Bool, true, false, not, ◌&&◌, ◌||◌, if◌then◌else◌, List, [], ◌∷◌, map, Option, Some, None, is_some}
+use Rattle.std.specs.Prelude.{ℕ, suc, Bool, true, false, not, ◌&&◌, ◌||◌, if◌then◌else◌, List, [], ◌∷◌, map, is_some}
 use Rattle.yl_lexeme.specs.declared.lexeme.Kind.{Kind}
 use Rattle.yl_lexeme.specs.declared.lexeme.Kind.TheVariants.{Tag}
 use Rattle.yl_lexeme.specs.Lexeme.{LexemeValue, is_key, is_property}

@@ -1,16 +1,16 @@
--- Bridge: the facts of lexemes by what is kept of those before them.
-use Rattle.std.specs.Prelude.{ℕ, Bool, true, false, not, ◌&&◌, ◌||◌, ◌==◌, if◌then◌else◌, Option, Some, None, is_some}
+-- Bridge: the facts of lexemes by what is kept of those before them, line by line. A key and its Value begin in one line (YAML 1.2.2,
+-- 7.4.2 and 8.2.2), so whether a key begins or ends at a lexeme shows in the lexeme's own line.
+use Rattle.std.specs.Prelude.{ℕ, suc, Bool, false, not, ◌&&◌, ◌||◌, if◌then◌else◌, List, [], ◌∷◌, ◌++◌, Option, Some, None, is_some}
 use Rattle.yl_lexeme.specs.declared.lexeme.Kind.{Kind}
 use Rattle.yl_lexeme.specs.Lexeme.{is_key, is_property}
+use Rattle.yl_lexeme.specs.Kept.{first_of}
+use Rattle.yl_marks.specs.declared.token.Token.{Token}
 use Rattle.yl_marks.specs.declared.symbol.KeyedToken.{KeyedToken}
 use Rattle.yl_marks.specs.declared.symbol.Marking.{Marking}
 use Rattle.yl_marks.specs.declared.facts.KeyFacts.{KeyFacts}
+use Rattle.yl_marks.specs.Marks.{marking}
+use Rattle.yl_marks.specs.ByLine.{MarkerValue, marker_at_start, keyed_tokens_of_line, behind_line}
 use Rattle.yl_marks.specs.Facts.{is_tag}
-
--- the latest lexeme begins in another line
-abbrev pub is_other_line : Option KeyedToken → ℕ → Bool
-is_other_line None line = false
-is_other_line (Some p) line = not (p.start.line == line)
 
 -- behind one more lexeme: a tag is among the properties that the lexemes end in; they end in a Key and properties
 abbrev pub has_tag_behind : Bool → Marking → Bool
@@ -24,6 +24,48 @@ abbrev pub has_key : Option KeyedToken → Bool
 has_key None = false
 has_key (Some p) = is_some p.key
 
--- of a lexeme behind those, before the next one
-abbrev pub fact_by : Bool → Bool → Marking → Option KeyedToken → KeyFacts
-fact_by is_key has_tag m next = record { is_key = has_key next || is_key; has_tag = not m.begins_key && has_tag }
+-- `ahead` is what the lexemes so far say of the one ahead of them, where no key begins or ends with it
+
+-- of a lexeme ahead of those, before the next one
+abbrev pub fact_by : KeyFacts → Marking → Option KeyedToken → KeyFacts
+fact_by ahead m next = record { is_key = has_key next || ahead.is_key; has_tag = not m.begins_key && ahead.has_tag }
+
+-- behind it
+abbrev pub next_ahead : KeyFacts → Marking → KeyFacts
+next_ahead ahead m = record { is_key = is_key_behind ahead.is_key m.piece.kind; has_tag = has_tag_behind ahead.has_tag m }
+
+abbrev pub nothing_ahead : KeyFacts
+nothing_ahead = record { is_key = false; has_tag = false }
+
+-- the facts of the lexemes from this index on
+abbrev pub facts_ahead : KeyFacts → List KeyedToken → ℕ → List KeyedToken → List KeyFacts
+facts_ahead ahead all i [] = []
+facts_ahead ahead all i (p ∷ ps) = fact_by ahead (marking all i p) (first_of ps) ∷ facts_ahead (next_ahead ahead (marking all i p)) all (suc i) ps
+
+-- behind them
+abbrev pub ahead_of_all : KeyFacts → List KeyedToken → ℕ → List KeyedToken → KeyFacts
+ahead_of_all ahead all i [] = ahead
+ahead_of_all ahead all i (p ∷ ps) = ahead_of_all (next_ahead ahead (marking all i p)) all (suc i) ps
+
+-- what counts of the lexemes of earlier lines
+pub record KeyMarkerValue : Type 0 where
+  pub marks : MarkerValue
+  pub ahead : KeyFacts
+
+abbrev pub key_marker_at_start : KeyMarkerValue
+key_marker_at_start = record { marks = marker_at_start; ahead = nothing_ahead }
+
+-- the facts of the lexemes of a line
+abbrev pub facts_of_line : KeyMarkerValue → List Token → List KeyFacts
+facts_of_line b xs = let all = keyed_tokens_of_line b.marks xs in facts_ahead b.ahead all b.marks.count all
+
+abbrev pub behind_keyed_line : KeyMarkerValue → List Token → KeyMarkerValue
+behind_keyed_line b xs = let all = keyed_tokens_of_line b.marks xs in record {
+  marks = behind_line b.marks xs;
+  ahead = ahead_of_all b.ahead all b.marks.count all;
+}
+
+-- the facts of the lexemes of these lines
+abbrev pub facts_by_lines : KeyMarkerValue → List (List Token) → List KeyFacts
+facts_by_lines b [] = []
+facts_by_lines b (x ∷ xs) = facts_of_line b x ++ facts_by_lines (behind_keyed_line b x) xs

@@ -1,44 +1,53 @@
-//! The marks of a whole document.
+//! The marks of a whole document, and what its keys say of its lexemes.
 
-ghost use Rattle.std.specs.Prelude.{◌≡◌, false, map, IfOk};
+ghost use Rattle.std.specs.Prelude.{◌≡◌, ◌≤◌, ◌<◌, ◌∷◌, false, map, length, take, drop, IfOk};
+ghost use Rattle.yl_marks.specs.ByLine.{by_line};
+ghost use Rattle.yl_marks.specs.Facts.{key_facts};
 ghost use Rattle.yl_marks.specs.Keys.{lexeme_at_line, token_of};
-ghost use Rattle.yl_marks.specs.Marks.{symbols_of_tokens, column_at, as_marked, marked_lexemes};
+ghost use Rattle.yl_marks.specs.Marks.{as_marked, column_at, marked_lexemes, symbols_of_lexemes};
 
-use crate::lines::line_len;
-use crate::marker::Marker;
+use crate::facts::KeyFacts;
+use crate::key_marker::KeyMarker;
 use crate::symbol::{Collection, Marked, Symbol};
-use crate::token::{Token, token_of};
 use std::alloc::{AllocError, Allocator};
 use yl_lexeme::LexemeAtLine;
 
-fn column_at(tokens: &[Token], i: usize) -> u32
-    ensures { result ≡ column_at tokens.now i }
+/// A document's lexemes with their marks, and what its keys say of each lexeme.
+#[derive(Drop)]
+pub struct DocumentMarks<A: Allocator> {
+    pub symbols: Vec<Symbol, A>,
+    pub keys: Vec<KeyFacts, A>,
+}
+
+/// The column of the lexeme of this index.
+fn column_at<A: Allocator>(lexemes: &[LexemeAtLine<'_, A>], i: usize) -> u32
+    ensures { result ≡ column_at (map token_of (map (λ x. lexeme_at_line x.line x.lexeme.now) lexemes.now)) i }
 {
-    match tokens.get(i) {
+    match lexemes.get(i) {
         None => 0,
-        Some(token) => token.start.col,
+        Some(at) => at.lexeme.start().col,
     }
 }
 
 /// The same marks, where whether a key unit begins at a lexeme stands with the lexeme.
-fn as_marked<A: Allocator>(
+fn as_marked<A: Allocator + Copy>(
     alloc: A,
-    tokens: &[Token],
+    lexemes: &[LexemeAtLine<'_, A>],
     symbols: &[Symbol],
 ) -> Result<Vec<Marked, A>, AllocError>
-    ensures { IfOk result (λ v. v.items ≡ as_marked tokens.now false symbols.now) }
+    ensures { IfOk result (λ v. v.items ≡ as_marked (map token_of (map (λ x. lexeme_at_line x.line x.lexeme.now) lexemes.now)) false symbols.now) }
 {
-    let mut marked = Vec::new(alloc);
+    let mut marked = Vec::with_capacity(alloc, symbols.len())?;
     let mut begins_key = false;
     for symbol in symbols {
         match *symbol {
             Symbol::OpenSequence(i) => marked.push(Marked::Open(
                 Collection::Sequence,
-                column_at(tokens, i),
+                column_at(lexemes, i),
             ))?,
             Symbol::OpenMapping(i) => marked.push(Marked::Open(
                 Collection::Mapping,
-                column_at(tokens, i),
+                column_at(lexemes, i),
             ))?,
             Symbol::BeginKey(_) => begins_key = true,
             Symbol::Close => marked.push(Marked::Close)?,
@@ -51,37 +60,59 @@ fn as_marked<A: Allocator>(
     Ok(marked)
 }
 
-/// The lexemes of a document without their values. The only error is memory.
-pub fn tokens<A: Allocator + Copy>(
-    alloc: A,
-    lexemes: &[LexemeAtLine<'_, A>],
-) -> Result<Vec<Token, A>, AllocError>
-    ensures { IfOk result (λ v. v.items ≡ map token_of (map (λ x. lexeme_at_line x.line x.lexeme.now) lexemes.now)) }
+/// How many of the lexemes, from the first on, begin in the line of the first.
+fn line_len<A: Allocator>(lexemes: &[LexemeAtLine<'_, A>]) -> usize
+    ensures most { result ≤ length lexemes.now }
+    ensures some { 0 < length lexemes.now → 0 < result }
+    ensures line { 0 < length lexemes.now → by_line (map token_of (map (λ x. lexeme_at_line x.line x.lexeme.now) lexemes.now))
+        ≡ map token_of (map (λ x. lexeme_at_line x.line x.lexeme.now) (take result lexemes.now))
+        ∷ by_line (map token_of (map (λ x. lexeme_at_line x.line x.lexeme.now) (drop result lexemes.now))) }
 {
-    let mut tokens = Vec::new(alloc);
-    for at in lexemes {
-        tokens.push(token_of(at))?;
+    let Some(first) = lexemes.first() else {
+        return 0;
+    };
+    let line = first.line;
+    for (len, at) in lexemes.iter().enumerate() {
+        if at.line != line {
+            return len;
+        }
     }
-    Ok(tokens)
+    lexemes.len()
 }
 
-/// The tokens of a document with their marks, line by line.
-fn mark_tokens<A: Allocator + Copy>(
+/// The marks of one whole document, and what its keys say of each of its lexemes, in one pass over them. The only error is memory.
+pub fn document_marks<A: Allocator + Copy>(
     alloc: A,
-    tokens: &[Token],
-) -> Result<Vec<Symbol, A>, AllocError>
-    ensures { IfOk result (λ v. v.items ≡ symbols_of_tokens tokens.now) }
+    lexemes: &[LexemeAtLine<'_, A>],
+) -> Result<DocumentMarks<A>, AllocError>
+    ensures symbols { IfOk result (λ m. m.symbols.items ≡ symbols_of_lexemes (map (λ x. lexeme_at_line x.line x.lexeme.now) lexemes.now)) }
+    ensures keys { IfOk result (λ m. m.keys.items ≡ key_facts (map (λ x. lexeme_at_line x.line x.lexeme.now) lexemes.now)) }
 {
-    let mut marker = Marker::new(alloc);
-    let mut symbols = Vec::new(alloc);
-    let mut rest = tokens;
-    while !rest.is_empty() {
-        let (line, below) = rest.split_at(line_len(rest));
-        marker.read(line, &mut symbols)?;
-        rest = below;
+    let mut marker = KeyMarker::new(alloc);
+    let mut symbols = Vec::with_capacity(alloc, lexemes.len())?;
+    let mut keys = Vec::with_capacity(alloc, lexemes.len())?;
+    let mut read = 0;
+    while read < lexemes.len() {
+        let (_, rest) = lexemes.split_at(read);
+        let count = line_len(rest);
+        let (line, _) = rest.split_at(count);
+        marker.read(line, &mut symbols, &mut keys)?;
+        read += count;
     }
     marker.close(&mut symbols)?;
-    Ok(symbols)
+    Ok(DocumentMarks { symbols, keys })
+}
+
+/// The lexemes of one whole document with the marks between them, as `document_marks` gives these. The only error is memory.
+pub fn marked<A: Allocator + Copy>(
+    alloc: A,
+    lexemes: &[LexemeAtLine<'_, A>],
+    symbols: &[Symbol],
+) -> Result<Vec<Marked, A>, AllocError>
+    requires { symbols.now ≡ symbols_of_lexemes (map (λ x. lexeme_at_line x.line x.lexeme.now) lexemes.now) }
+    ensures { IfOk result (λ v. v.items ≡ marked_lexemes (map (λ x. lexeme_at_line x.line x.lexeme.now) lexemes.now)) }
+{
+    as_marked(alloc, lexemes, symbols)
 }
 
 /// The lexemes of one whole document, in order, with the marks between them. The only error is memory.
@@ -91,7 +122,17 @@ pub fn mark<A: Allocator + Copy>(
 ) -> Result<Vec<Marked, A>, AllocError>
     ensures { IfOk result (λ v. v.items ≡ marked_lexemes (map (λ x. lexeme_at_line x.line x.lexeme.now) lexemes.now)) }
 {
-    let tokens = tokens(alloc, lexemes)?;
-    let symbols = mark_tokens(alloc, &tokens)?;
-    as_marked(alloc, &tokens, &symbols)
+    let marks = document_marks(alloc, lexemes)?;
+    marked(alloc, lexemes, &marks.symbols)
+}
+
+/// What the keys of a whole document say of each of its lexemes. The only error is memory.
+pub fn key_facts<A: Allocator + Copy>(
+    alloc: A,
+    lexemes: &[LexemeAtLine<'_, A>],
+) -> Result<Vec<KeyFacts, A>, AllocError>
+    ensures { IfOk result (λ v. v.items ≡ key_facts (map (λ x. lexeme_at_line x.line x.lexeme.now) lexemes.now)) }
+{
+    let marks = document_marks(alloc, lexemes)?;
+    Ok(marks.keys)
 }

@@ -5,6 +5,7 @@
 
 mod document;
 mod facts;
+mod key_marker;
 mod keys;
 mod lines;
 mod marker;
@@ -12,8 +13,8 @@ mod marks;
 mod symbol;
 mod token;
 
-pub use document::{mark, tokens};
-pub use facts::{KeyFacts, key_facts};
+pub use document::{DocumentMarks, document_marks, key_facts, mark, marked};
+pub use facts::KeyFacts;
 pub use lines::{line_len, marked_by_lines};
 pub use marker::Marker;
 pub use symbol::{Collection, Marked, Symbol};

@@ -1,7 +1,8 @@
 //! Which plain scalars are strings.
 ghost use Rattle.std.specs.Prelude.{◌≡◌, ◌≤◌, [], ◌∷◌, length, bytes_eq};
 ghost use Rattle.std.specs.List.{list_all, prefix_len};
-ghost use Rattle.yl_plain.specs.Strings.{all_and_some, begins_with_digit, is_based, is_digit, is_exponent, is_false_word, is_hexadecimal, is_infinity, is_not_a_number, is_null, is_number, is_octal, is_reserved_word, is_signed, is_string, is_true_word, is_word_of, past_digits, past_fraction, unsigned};
+ghost use Rattle.yl_plain.specs.FirstBytes.{begins_no_string, may_be_no_string};
+ghost use Rattle.yl_plain.specs.Strings.{all_and_some, begins_with_digit, is_based, is_digit, is_exponent, is_false_word, is_hexadecimal, is_infinity, is_not_a_number, is_null, is_number, is_octal, is_reserved_word, is_signed, is_string, is_true_word, is_word_of, past_digits, past_fraction, unsigned_text};
 
 fn is_digit(byte: u8) -> bool
     ensures { result ≡ is_digit byte }
@@ -108,7 +109,7 @@ fn are_hexadecimal(text: &[u8]) -> bool
 
 /// The text behind a sign.
 fn unsigned(text: &[u8]) -> &[u8]
-    ensures { result.now ≡ unsigned text.now }
+    ensures { result.now ≡ unsigned_text text.now }
 {
     match text {
         [b'+' | b'-', rest @ ..] => rest,
@@ -196,9 +197,32 @@ fn is_signed(text: &[u8]) -> bool
     is_number(text) || is_infinity(text)
 }
 
+/// Whether some plain scalar that begins with this byte is no string.
+fn begins_no_string(first: u8) -> bool
+    ensures { result ≡ begins_no_string first }
+{
+    match first {
+        b'~' | b'.' | b'+' | b'-' | b'n' | b'N' | b't' | b'T' | b'f' | b'F' => true,
+        _ => is_digit(first),
+    }
+}
+
+/// What the first byte says: whether it may be no string.
+fn may_be_no_string(value: &[u8]) -> bool
+    ensures { result ≡ may_be_no_string value.now }
+{
+    match value {
+        [] => false,
+        [first, ..] => begins_no_string(*first),
+    }
+}
+
 /// Whether a plain scalar of this value is a string.
 pub fn is_string(value: &[u8]) -> bool
     ensures { result ≡ is_string value.now }
 {
+    if !may_be_no_string(value) {
+        return true;
+    }
     !(is_reserved_word(value) || is_based(value) || is_signed(unsigned(value)))
 }

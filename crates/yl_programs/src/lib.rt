@@ -1,11 +1,11 @@
-//! What the programs share: their words, their configuration, how they read a file, and how they end.
+//! What the programs share: their words, how they read a file, and how they end.
 #![tactic(auto)]
 
 ghost use Rattle.std.specs.Prelude.{◌≡◌};
 
 use std::{env, fs};
-use yl_cli::{Program, ProgramFault, RunFault, Source, Stop, read_text, say, without_mark};
-use yl_config::Config;
+use yl_args::Stop;
+use yl_devices::{Program, ProgramFault, RunFault, read_text, say};
 use yl_text::Watched;
 
 /// The exit status where a fault ended a program.
@@ -31,7 +31,8 @@ pub fn words(rt: &HostRuntime) -> Result<Vec<String>, ProgramFault<'static>> {
     }
 }
 
-/// Ends a program whose words ask for no run: prints the help that is asked for, or says the fault. Answers the exit status.
+/// Ends a program whose words ask for no run: prints the help that is asked for, or says the fault.
+/// Answers the exit status.
 pub fn ended(rt: &HostRuntime, program: Program, stop: Stop) -> u8 {
     match stop {
         Stop::Help(text) => match rt.print(text) {
@@ -48,24 +49,5 @@ pub fn bytes_of(rt: &HostRuntime, file: &str) -> Result<Vec<u8>, RunFault> {
     match fs::open(rt, file) {
         Ok(opened) => read_text(rt.alloc(), &mut Watched::new(opened)),
         Err(_) => Err(RunFault::Read),
-    }
-}
-
-/// The configuration that is asked for. One leading byte-order mark of a file is dropped, of a text that the words give none.
-pub fn config_of<'a>(rt: &HostRuntime, source: &'a Source) -> Result<Config, ProgramFault<'a>> {
-    let read = match source {
-        Source::Standard => return Ok(Config::standard()),
-        Source::Data(text) => Config::read(rt.alloc(), text.as_bytes()),
-        Source::File(name) => {
-            let bytes = match bytes_of(rt, name.as_str()) {
-                Ok(bytes) => bytes,
-                Err(fault) => return Err(ProgramFault::Run(name.as_str(), fault)),
-            };
-            Config::read(rt.alloc(), without_mark(bytes.as_slice()))
-        }
-    };
-    match read {
-        Ok(config) => Ok(config),
-        Err(fault) => Err(ProgramFault::Config(fault)),
     }
 }

@@ -6,12 +6,12 @@ use Rattle.std.proofs.lemmas.List.{same_lists, places, length-take, length-drop,
 use Rattle.yl_lexeme.specs.declared.lexeme.Kind.{Kind}
 use Rattle.yl_record.specs.Records.{RecordValue}
 use Rattle.yl_sections.specs.Sections.{lexemes_of, sections}
-use Rattle.yl_sections.specs.Local.{kind_after, is_start, is_start_at, row_total}
-use Rattle.yl_sections.specs.Kept.{document_count}
-use Rattle.yl_sections.specs.Judge.{documents_in}
+use Rattle.yl_sections.specs.Local.{kind_after, begins_section, is_start_at, row_total}
+use Rattle.yl_sections.specs.Kept.{document_count, documents_in}
 use Rattle.yl_sections.proofs.Cuts.{last_anew}
-use Rattle.yl_rejudge.specs.Places.{GoOnAlike, changed_sections}
-use Rattle.yl_rejudge.specs.Documents.{EndsAnew, documents_holding}
+use Rattle.yl_rejudge.specs.Places.{changed_sections}
+use Rattle.yl_rejudge.specs.Alike.{GoOnAlike}
+use Rattle.yl_rejudge.specs.Documents.{documents_holding}
 use Rattle.yl_rejudge.proofs.SectionStarts.{starts_after, start_there, start_found, IsPlaceIn, rows_ordered, rows_apart, same_before, not_first, front_same, starts_past, quiet, from_row}
 use Rattle.yl_rejudge.proofs.SectionsEdited.{AreCut, rows_of_sections, some_judged, ends, within_new, changed_none, changed_some}
 
@@ -46,7 +46,7 @@ holding_back (x ∷ xs) ys line r m =
     omega (arith, f, holding_back xs ys (line + length x) r m)
 
 -- some sections of many
-holding_part : (ss xs : List (List RecordValue)) (p q x r m : ℕ) → x ≡ row_total (take p ss) → documents_holding x r m xs ≤ documents_holding 0 r m (splice ss p q xs)
+pub holding_part : (ss xs : List (List RecordValue)) (p q x r m : ℕ) → x ≡ row_total (take p ss) → documents_holding x r m xs ≤ documents_holding 0 r m (splice ss p q xs)
 holding_part ss xs p q x r m e =
     let n : x ≡ 0 + row_total (take p ss) = omega (arith, e) in
     let f = ap (λ k. documents_holding k r m xs) n in
@@ -59,7 +59,7 @@ drop_take : (xs : List RecordValue) (x z : ℕ) → x ≤ z → drop x (take z x
 drop_take xs x z o = same_lists _ _ (search (rules, places)) (λ k d h. grind (arith, places))
 
 -- what comes before does not count
-alone : (last : Option Kind) (rs : List RecordValue) (i : ℕ) → 0 < i → is_start last rs ≡ true → starts_after last rs i ≡ starts_after None rs i
+alone : (last : Option Kind) (rs : List RecordValue) (i : ℕ) → 0 < i → begins_section last rs ≡ true → starts_after last rs i ≡ starts_after None rs i
 alone last rs zero l b = absurd (omega (arith, l))
 alone last [] (suc i) l b = absurd (cc)
 alone last (r ∷ rs) (suc i) l b = ap (λ (k : Option Kind). starts_after k rs i) (last_anew last r.entry.lexemes b)
@@ -68,7 +68,7 @@ alone_or : (new : List RecordValue) (x i : ℕ) → 0 < i → (x ≡ 0) ⊎ (is_
 alone_or new x i l (inl e) = ap (λ n. starts_after (kind_after None (take n new)) (drop x new) i) e
 alone_or new x i l (inr b) = alone (kind_after None (take x new)) (drop x new) i l b
 
-cut_starts : (new : List RecordValue) (x z i : ℕ) → 0 < i → x + i < z → (x ≡ 0) ⊎ (is_start_at new x ≡ true) → is_start_at (drop x (take z new)) i ≡ is_start_at new (x + i)
+pub cut_starts : (new : List RecordValue) (x z i : ℕ) → 0 < i → x + i < z → (x ≡ 0) ⊎ (is_start_at new x ≡ true) → is_start_at (drop x (take z new)) i ≡ is_start_at new (x + i)
 cut_starts new x z i some l b =
     ap (λ (es : List RecordValue). starts_after None es i) (drop_take new x z (omega (arith, l)))
     ∙ (front_same None (drop x new) (z - x) i (omega (arith, l)) ∙ (sym (alone_or new x i some b) ∙ sym (from_row None new x i)))
@@ -110,7 +110,7 @@ module _ (rs : List RecordValue) (x r m : ℕ) (first : x ≤ m) (last : r < x +
         omega (arith, e, last)
   ]
 
-  held : documents_in (sections rs) ≤ documents_holding x r m (sections rs)
+  pub held : documents_in (sections rs) ≤ documents_holding x r m (sections rs)
   held = holding_all (sections rs) x r m (λ j l. (low j l, high j l))
 
 -- ---- no section is judged in vain
@@ -126,13 +126,13 @@ pub record AreNext (old new : List RecordValue) (p p0 q from old_end end : ℕ) 
   pub within : end ≤ length new
   pub alike : GoOnAlike old new old_end end
 
-is_false : (b : Bool) → (b ≡ true → ⊥) → b ≡ false
+pub is_false : (b : Bool) → (b ≡ true → ⊥) → b ≡ false
 is_false true h = absurd (h refl)
 is_false false h = refl
 
 module _ (old new : List RecordValue) (p p0 q x y z from old_end end : ℕ) (c : AreCut old new p q x y z from old_end end) (d : AreNext old new p p0 q from old_end end) where
   -- a section that begins at row `from` or before it in both is judged from, or stays
-  in_front : (i : ℕ) → i ≤ from → is_start_at old i ≡ true → is_start_at new i ≡ true → i ≤ x
+  pub in_front : (i : ℕ) → i ≤ from → is_start_at old i ≡ true → is_start_at new i ≡ true → i ≤ x
   in_front i o a b =
       let h = start_found old i a in
       elim (cases_lt p h.j) [
@@ -146,7 +146,7 @@ module _ (old new : List RecordValue) (p p0 q x y z from old_end end : ℕ) (c :
         ]
       ]
 
-  no_start_before : (i : ℕ) → x < i → i < from → is_start_at new i ≡ false
+  pub no_start_before : (i : ℕ) → x < i → i < from → is_start_at new i ≡ false
   no_start_before i l o = is_false (is_start_at new i) (λ b. let a = same_before old new from i c.before o ∙ b in let k = in_front i (omega (arith, o)) a b in omega (arith, l, k))
 
   -- so many rows after the end
@@ -178,12 +178,12 @@ module _ (old new : List RecordValue) (p p0 q x y z from old_end end : ℕ) (c :
   after e o l (inr (inr w)) = from_row None new end e ∙ quiet (kind_after None (take end new)) (drop end new) e w
   after e o l (inr (inl w)) = is_false (is_start_at new (end + e)) (λ b. not_kept e o l b (start_found old (old_end + e) (at_old e w b)))
 
-  no_start_after : (i : ℕ) → x ≤ i → end ≤ i → i < z → is_start_at new i ≡ false
+  pub no_start_after : (i : ℕ) → x ≤ i → end ≤ i → i < z → is_start_at new i ≡ false
   no_start_after i o a l =
       let n : end + (i - end) ≡ i = omega (arith, a) in
       ap (λ k. is_start_at new k) (sym n) ∙ after (i - end) (omega (arith, n, o)) (omega (arith, n, l)) d.alike
 
-  first_or : (x ≡ 0) ⊎ (is_start_at new x ≡ true)
+  pub first_or : (x ≡ 0) ⊎ (is_start_at new x ≡ true)
   first_or = elim c.first [
     | inl e ↦ inl (c.x_is ∙ ap (λ n. row_total (take n (sections old))) e)
     | inr b ↦ inr b
@@ -222,18 +222,17 @@ module _ (old new : List RecordValue) (p p0 q x y z from old_end end : ℕ) (c :
     | inr n ↦ let at = c.z_is ∙ ap (λ (t : Bool). cond t (length new) (y - old_end + end)) (ne_eqb q (length (sections old)) n) in omega (arith, at)
   ]
 
-  pub judged_few : (m : ℕ) → x < z → end ≤ m + 1 → documents_in (sections (drop x (take z new))) ≤ documents_holding 0 (from - 1) m (sections new)
-  judged_few m some o = judged_from (from - 1) m some o (omega (arith, z_high, d.range, some)) (λ i l k. no_start_before i l (omega (arith, l, k)))
-
   -- of a section that ends before row `from`
-  judged_near : (bo bn : Bool) (m : ℕ) → is_start_at old from ≡ bo → is_start_at new from ≡ bn → x < z → end ≤ m + 1
-      → (documents_in (sections (drop x (take z new))) ≤ documents_holding 0 from m (sections new))
-      ⊎ (EndsAnew old new from × (documents_in (sections (drop x (take z new))) ≤ documents_holding 0 (from - 1) m (sections new)))
-  judged_near true true m eo en some o =
+  judged_near : (bo bn : Bool) (m : ℕ) → is_start_at old from ≡ bo → is_start_at new from ≡ bn → from < length new → x < z → end ≤ m + 1
+      → (documents_in (sections (drop x (take z new))) ≤ documents_holding 0 from m (sections new)) ⊎ ((is_start_at old from ≡ false) × ((is_start_at new from ≡ true) × (x < from)))
+  judged_near true true m eo en row some o =
       let at = in_front from (omega arith) eo en in
       inl (judged_from from m some o (omega (arith, c.front, some, at)) (λ i l k. absurd (omega (arith, l, k, at))))
-  judged_near false true m eo en some o = inr (inl (eo, en), judged_few m some o)
-  judged_near bo false m eo en some o = elim (cases_lt from z) [
+  judged_near false true m eo en row some o = elim (cases_lt x from) [
+    | inl l ↦ inr (eo, (en, l))
+    | inr l ↦ inl (judged_from from m some o (omega (arith, c.front, some, l)) (λ i a k. absurd (omega (arith, a, k, l))))
+  ]
+  judged_near bo false m eo en row some o = elim (cases_lt from z) [
     | inl l ↦ inl (judged_from from m some o l (λ i a k. elim (cases_lt i from) [
       | inl w ↦ no_start_before i a w
       | inr w ↦ let e : i ≡ from = omega (arith, w, k) in ap (λ n. is_start_at new n) e ∙ en
@@ -243,7 +242,7 @@ module _ (old new : List RecordValue) (p p0 q x y z from old_end end : ℕ) (c :
         elim (cases_eq q (length (sections old))) [
           | inl e ↦
               let is = c.z_is ∙ ap (λ (t : Bool). cond t (length new) (y - old_end + end)) (eq-eqb q (length (sections old)) e) in
-              inr (inr (at ∙ is), judged_few m some o)
+              absurd (omega (arith, at, is, row))
           | inr n ↦ elim (ends old new p q x y z from old_end end c).1 [
             | inl e ↦ absurd (n e)
             | inr b ↦ let f : true ≡ false = sym b ∙ (ap (λ k. is_start_at new k) (sym at) ∙ en) in absurd (cc)
@@ -251,18 +250,12 @@ module _ (old new : List RecordValue) (p p0 q x y z from old_end end : ℕ) (c :
         ]
   ]
 
-  pub documents_few : (m : ℕ) → end ≤ m + 1 → documents_in (changed_sections p x z new) ≤ documents_holding 0 (from - 1) m (sections new)
-  documents_few m o = elim (cases_lt x z) [
-    | inl l ↦ let e = ap documents_in (changed_some p x z new l) in omega (arith, e, judged_few m l o)
-    | inr l ↦ let e = changed_none p x z new (omega (arith, l, c.front, z_high, d.range)) in omega (arith, e)
-  ]
-
-  pub documents_near : (m : ℕ) → end ≤ m + 1 → (documents_in (changed_sections p x z new) ≤ documents_holding 0 from m (sections new))
-      ⊎ (EndsAnew old new from × (documents_in (changed_sections p x z new) ≤ documents_holding 0 (from - 1) m (sections new)))
-  documents_near m o = elim (cases_lt x z) [
-    | inl l ↦ let e = ap documents_in (changed_some p x z new l) in elim (judged_near (is_start_at old from) (is_start_at new from) m refl refl l o) [
+  pub documents_near : (m : ℕ) → end ≤ m + 1 → from < length new → (documents_in (changed_sections p x z new) ≤ documents_holding 0 from m (sections new))
+      ⊎ ((is_start_at old from ≡ false) × ((is_start_at new from ≡ true) × (x < from)))
+  documents_near m o row = elim (cases_lt x z) [
+    | inl l ↦ let e = ap documents_in (changed_some p x z new l) in elim (judged_near (is_start_at old from) (is_start_at new from) m refl refl row l o) [
       | inl h ↦ inl (omega (arith, e, h))
-      | inr h ↦ inr (h.0, omega (arith, e, h.1))
+      | inr h ↦ inr h
     ]
     | inr l ↦ let e = changed_none p x z new (omega (arith, l, c.front, z_high, d.range)) in inl (omega (arith, e))
   ]

@@ -2,4 +2,5 @@ pub mod SectionStarts
 pub mod KeptRows
 pub mod SectionsEdited
 pub mod Bound
+pub mod Anew
 pub mod Outcome

@@ -1,25 +1,31 @@
 -- The sections that are judged again, from where the code finds them.
-use Rattle.std.proofs.Common.{◌≡◌, ℕ, ◌+◌, ◌-◌, ◌<◌, ◌≤◌, ◌==◌, ◌⊎◌, true, false, List, length, map, take, drop, ap, sym, ◌∙◌, arith, cond, inl, inr}
+use Rattle.std.proofs.Common.{◌≡◌, ℕ, ◌∷◌, ◌+◌, ◌-◌, ◌<◌, ◌≤◌, ◌==◌, ◌⊎◌, true, false, List, length, map, take, drop, get_or, ap, sym, subst, ◌∙◌, arith, cond, inl, inr}
 use Rattle.std.specs.List.{splice}
 use Rattle.yl_config.specs.declared.config.Config.{Config}
 use Rattle.yl_record.specs.Records.{RecordValue}
 use Rattle.yl_sections.specs.Sections.{sections}
 use Rattle.yl_sections.specs.Local.{is_start_at, row_total}
-use Rattle.yl_sections.specs.Kept.{KeptValue}
-use Rattle.yl_sections.specs.Judge.{documents_in, kept_of_section}
-use Rattle.yl_rejudge.specs.Places.{GoOnAlike, changed_sections, rows_kept}
-use Rattle.yl_rejudge.specs.Documents.{EndsAnew, documents_holding}
+use Rattle.yl_sections.specs.Kept.{KeptValue, documents_in}
+use Rattle.yl_sections.specs.Judge.{kept_of_section}
+use Rattle.yl_rejudge.specs.Places.{changed_sections, rows_kept}
+use Rattle.yl_rejudge.specs.Alike.{GoOnAlike}
+use Rattle.yl_rejudge.specs.Documents.{TakesNothing, AreFront, EndsAnew, documents_holding}
 use Rattle.yl_rejudge.proofs.KeptRows.{rows_front}
-use Rattle.yl_rejudge.proofs.SectionsEdited.{AreCut, rows_of_kept, rows_to, count_kept, within_new, changed}
-use Rattle.yl_rejudge.proofs.Bound.{AreNext, z_high, documents_few, documents_near}
+use Rattle.yl_rejudge.proofs.SectionsEdited.{AreCut, rows_of_kept, rows_to, count_kept, within_new, changed, kept_spliced}
+use Rattle.yl_rejudge.proofs.Bound.{AreNext, z_high, documents_near}
+use Rattle.yl_rejudge.proofs.Anew.{high, changed_anew, documents_anew, kept_anew, section_there, section_reaches}
+use Rattle.yl_sections.specs.Front.{IsFront}
 
 pub record Outcome (old new : List RecordValue) (p q x z from end : ℕ) : Type 0 where
   pub ordered : x ≤ z
   pub within : z ≤ length new
   pub changed : splice (sections old) p q (changed_sections p x z new) ≡ sections new
-  pub few : (m : ℕ) → end ≤ m + 1 → documents_in (changed_sections p x z new) ≤ documents_holding 0 (from - 1) m (sections new)
-  pub near : (m : ℕ) → end ≤ m + 1 → (documents_in (changed_sections p x z new) ≤ documents_holding 0 from m (sections new))
-      ⊎ (EndsAnew old new from × (documents_in (changed_sections p x z new) ≤ documents_holding 0 (from - 1) m (sections new)))
+  pub near : (m : ℕ) → end ≤ m + 1 → from < length new → (documents_in (changed_sections p x z new) ≤ documents_holding 0 from m (sections new))
+      ⊎ ((is_start_at old from ≡ false) × ((is_start_at new from ≡ true) × (x < from)))
+  pub last : is_start_at old from ≡ false → is_start_at new from ≡ true → x < from → (p < length (sections old)) × (from < row_total (take (p + 1) (sections old)))
+  pub anew : is_start_at new from ≡ true → x < from → from ≤ z
+  pub changed_anew : is_start_at new from ≡ true → x < from → splice (sections old) p q (drop x (take from new) ∷ changed_sections (p + 1) from z new) ≡ sections new
+  pub few_anew : is_start_at new from ≡ true → x < from → (m : ℕ) → end ≤ m + 1 → documents_in (changed_sections (p + 1) from z new) ≤ documents_holding 0 from m (sections new)
 
 module _ (config : Config) (old new : List RecordValue) (kept : List KeptValue) (from old_end end : ℕ) (is : kept ≡ map (kept_of_section config) (sections old)) where
   at : (j : ℕ) → rows_kept (take j kept) ≡ row_total (take j (sections old))
@@ -67,8 +73,8 @@ module _ (config : Config) (old new : List RecordValue) (kept : List KeptValue) 
         → (q ≡ length kept) ⊎ ((old_end ≤ y) × (is_start_at new (y - old_end + end) ≡ true))
         → ((j : ℕ) → p < j → j ≤ p0 → is_start_at new (rows_kept (take j kept)) ≡ false) → (p0 ≡ length kept) ⊎ (from < rows_kept (take (p0 + 1) kept))
         → ((j : ℕ) → p ≤ j → j < q → old_end ≤ rows_kept (take j kept) → is_start_at new (rows_kept (take j kept) - old_end + end) ≡ false)
-        → from ≤ old_end → from ≤ end → end ≤ length new → GoOnAlike old new old_end end → Outcome old new p q x z from end
-    outcome before behind xf pq ql xe ye ze first last front after back old_range range within alike =
+        → from ≤ old_end → from ≤ end → end ≤ length new → GoOnAlike old new old_end end → p ≤ p0 → p0 ≤ length kept → rows_kept (take p0 kept) ≤ from → from ≤ length old → Outcome old new p q x z from end
+    outcome before behind xf pq ql xe ye ze first last front after back old_range range within alike order few reached there =
         let c = cut before behind xf pq ql xe ye ze first last in
         let d = next front after back old_range range within alike in
         let o : x ≤ z = let h = z_high old new p p0 q x y z from old_end end c d in omega (arith, h, xf, range) in
@@ -76,6 +82,45 @@ module _ (config : Config) (old new : List RecordValue) (kept : List KeptValue) 
           ordered = o;
           within = within_new old new p q x y z from old_end end c;
           changed = changed old new p q x y z from old_end end c o;
-          few = documents_few old new p p0 q x y z from old_end end c d;
           near = documents_near old new p p0 q x y z from old_end end c d;
+          last = λ lost start l.
+              let r : row_total (take p0 (sections old)) ≤ from = omega (arith, reached, at p0) in
+              let f : p0 ≤ length (sections old) = omega (arith, few, count) in
+              (section_there old new p p0 q x y z from old_end end c d start l lost r order f there, section_reaches old new p p0 q x y z from old_end end c d start l lost r order f there);
+          anew = λ start l. high old new p p0 q x y z from old_end end c d start l;
+          changed_anew = λ start l. changed_anew old new p p0 q x y z from old_end end c d start l;
+          few_anew = λ start l m w. documents_anew old new p p0 q x y z from old_end end c d start l m w;
         }
+
+  -- where nothing was read of the rows that leave the last section above, it is seen to end anew; else what is judged is few
+  pub seen_anew : (p q x z : ℕ) → x ≡ rows_kept (take p kept) → Outcome old new p q x z from end → TakesNothing old new from → ¬ (EndsAnew kept old new p from)
+      → (m : ℕ) → end ≤ m + 1 → documents_in (changed_sections p x z new) ≤ documents_holding 0 from m (sections new)
+  seen_anew p q x z xe o h not_seen m w = elim (o.near m w h.within) [
+    | inl few ↦ few
+    | inr g ↦
+        let there = o.last g.0 g.1.0 g.1.1 in
+        let front = h.front g.0 g.1.0 in
+        absurd (not_seen (record {
+          section = omega (arith, there.0, count);
+          before = omega (arith, g.1.1, xe);
+          after = omega (arith, there.1, at (p + 1));
+          start = g.1.0;
+          front = λ i r a b e. (λ l. front.sound i r l e, λ l. front.bare i r l e);
+        }))
+  ]
+
+  pub kept_rows : rows_kept kept ≡ length old
+  kept_rows = rows_of_kept config old kept is
+
+  -- what is kept where the section above ends anew
+  pub anew_spliced : (p q x z : ℕ) → x ≡ rows_kept (take p kept) → take from old ≡ take from new → Outcome old new p q x z from end → EndsAnew kept old new p from
+      → (k : KeptValue) → k ≡ get_or kept p k → (ks : List KeptValue)
+      → ((rs : List RecordValue) → from - x ≤ length rs → IsFront (from - x) rs → k ≡ kept_of_section config rs
+      → ks ≡ kept_of_section config (take (from - x) rs) ∷ map (kept_of_section config) (changed_sections (p + 1) from z new))
+      → splice kept p q ks ≡ map (kept_of_section config) (sections new)
+  anew_spliced p q x z xe same o e k at_p ks put =
+      let before : x < from = omega (arith, e.before, xe) in
+      let few : rows_kept (take (p + 1) kept) ≤ length old = omega (arith, rows_front kept (p + 1), rows_of_kept config old kept is) in
+      let front : AreFront old x from (rows_kept (take (p + 1) kept)) = subst (λ n. AreFront old n from (rows_kept (take (p + 1) kept))) (sym xe) e.front in
+      let judged = kept_anew config old new p x (rows_kept (take (p + 1) kept)) from k kept ks (changed_sections (p + 1) from z new) is (omega (arith, e.section, count)) (xe ∙ at p) (at (p + 1)) few before e.after same front at_p put in
+      kept_spliced config old new kept ks (drop x (take from new) ∷ changed_sections (p + 1) from z new) p q is judged (o.changed_anew e.start before)

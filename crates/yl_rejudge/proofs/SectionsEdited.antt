@@ -8,10 +8,10 @@ use Rattle.std.proofs.Math.ListN.{drop_of_length-le}
 use Rattle.yl_lexeme.specs.declared.lexeme.Kind.{Kind}
 use Rattle.yl_config.specs.declared.config.Config.{Config}
 use Rattle.yl_record.specs.Records.{RecordValue}
-use Rattle.yl_sections.specs.Sections.{Parts, last_kind, is_section_start, with_row, parts, sections}
+use Rattle.yl_sections.specs.Sections.{Parts, last_kind_from, is_section_start, with_row, parts, sections}
 use Rattle.yl_sections.specs.Local.{is_start_at, row_total, all_rows}
-use Rattle.yl_sections.specs.Kept.{KeptValue}
-use Rattle.yl_sections.specs.Judge.{documents_in, kept_of_section}
+use Rattle.yl_sections.specs.Kept.{KeptValue, documents_in}
+use Rattle.yl_sections.specs.Judge.{kept_of_section}
 use Rattle.yl_sections.proofs.Rows.{seen}
 use Rattle.yl_sections.proofs.Local.{sections_local, sections_then, joined_parts, take_joined, drop_joined, front_sections, back_sections}
 use Rattle.yl_rejudge.specs.Places.{rows_kept, changed_sections}
@@ -26,8 +26,8 @@ few_onto false r p = omega arith
 few_parts : (last : Option Kind) (rs : List RecordValue) → length (parts last rs).later ≤ length rs
 few_parts last [] = omega arith
 few_parts last (r ∷ rs) =
-    let p = parts (last_kind last r.entry.lexemes) rs in
-    omega (arith, few_parts (last_kind last r.entry.lexemes) rs, few_onto (is_section_start last r.entry.lexemes) r p)
+    let p = parts (last_kind_from last r.entry.lexemes) rs in
+    omega (arith, few_parts (last_kind_from last r.entry.lexemes) rs, few_onto (is_section_start last r.entry.lexemes) r p)
 
 pub few_sections : (rs : List RecordValue) → length (sections rs) ≤ length rs + 1
 few_sections rs = omega (arith, few_parts None rs)

@@ -1,9 +1,11 @@
 -- Meaning: the documents of a text that stand at some of its lines.
-use Rattle.std.specs.Prelude.{◌≡◌, ◌⊎◌, ℕ, true, false, ◌+◌, ◌&&◌, if◌then◌else◌, leb, ltb, List, [], ◌∷◌, length}
+use Rattle.std.specs.Prelude.{◌≡◌, ◌<◌, ◌≤◌, ℕ, true, false, ◌+◌, ◌&&◌, if◌then◌else◌, leb, ltb, List, [], ◌∷◌, length, take, slice_get, Some, None}
 use Rattle.yl_record.specs.Records.{RecordValue}
 use Rattle.yl_sections.specs.Sections.{lexemes_of}
 use Rattle.yl_sections.specs.Local.{is_start_at}
-use Rattle.yl_sections.specs.Kept.{document_count}
+use Rattle.yl_sections.specs.Kept.{document_count, KeptValue}
+use Rattle.yl_sections.specs.Front.{IsBare, IsFront}
+use Rattle.yl_rejudge.specs.Places.{rows_kept}
 
 -- how many documents of these sections, of which the first begins at this line, hold one of the lines from r to m
 abbrev pub documents_holding : ℕ → ℕ → ℕ → List (List RecordValue) → ℕ
@@ -11,7 +13,22 @@ documents_holding line r m [] = 0
 documents_holding line r m (s ∷ ss) =
     (if leb line m && ltb r (line + length s) then document_count (lexemes_of s) else 0) + documents_holding (line + length s) r m ss
 
--- the new text's section before row `from` ends there: with that row a section begins that did not begin in the old text, or no row
--- follows
-abbrev pub EndsAnew : List RecordValue → List RecordValue → ℕ → Type 0
-EndsAnew old new from = ((is_start_at old from ≡ false) × (is_start_at new from ≡ true)) ⊎ (from ≡ length new)
+-- row `from` is there in the new text, and where a section begins with it that did not begin in the old text, nothing was read of the
+-- old rows from it on: so the section above it, which ends there now, has all that it had
+pub record TakesNothing (old new : List RecordValue) (from : ℕ) : Type 0 where
+  pub within : from < length new
+  pub front : is_start_at old from ≡ false → is_start_at new from ≡ true → IsFront from old
+
+-- of the rows from x on to before `end` all that is read begins before row `from`, and no scan fault does
+abbrev pub AreFront : List RecordValue → (x from end : ℕ) → Type 0
+AreFront rs x from end =
+    (i : ℕ) (r : RecordValue) → x ≤ i → i < end → slice_get rs i ≡ Some r → (i < from → r.entry.fault ≡ None) × (from ≤ i → IsBare r)
+
+-- the old section of index p ends before row `from` in the new text, and did not in the old one; nothing was read of the rows that it
+-- loses
+pub record EndsAnew (kept : List KeptValue) (old new : List RecordValue) (p from : ℕ) : Type 0 where
+  pub section : p < length kept
+  pub before : rows_kept (take p kept) < from
+  pub after : from < rows_kept (take (p + 1) kept)
+  pub start : is_start_at new from ≡ true
+  pub front : AreFront old (rows_kept (take p kept)) from (rows_kept (take (p + 1) kept))

@@ -6,6 +6,8 @@
 
 mod places;
 mod rejudging;
+mod shortened;
 mod starts;
 
+pub use places::Place;
 pub use rejudging::{Rejudged, rejudge};

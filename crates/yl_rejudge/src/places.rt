@@ -1,11 +1,11 @@
 //! The sections before and after an edit that stay as they are.
 ghost use Rattle.std.specs.Prelude.{◌≡◌, ◌+◌, ◌-◌, ◌<◌, ◌≤◌, ◌^◌, ◌⊎◌, ◌↔◌, ◌==◌, if◌then◌else◌, IsTrue, ℕ, true, false, length, take};
 ghost use Rattle.yl_sections.specs.Local.{is_start_at};
-ghost use Rattle.yl_rejudge.specs.Places.{rows_kept};
+ghost use Rattle.yl_rejudge.specs.Places.{IsAt, rows_kept};
 
 use crate::starts::is_start_at;
 use std::alloc::Allocator;
-use yl_chunks::Spliced;
+use yl_chunks::{Chunks, Spliced};
 use yl_record::Record;
 use yl_sections::Kept;
 
@@ -16,17 +16,20 @@ pub struct Place {
     pub row: usize,
 }
 
-/// The last section that begins at or before a row; the end, where all rows come before it.
-pub fn section_of<A: Allocator>(kept: &[Kept<A>], row: usize) -> Place
-    requires { length kept.now < 2 ^ 31 }
-    ensures section { result.section ≤ length kept.now }
-    ensures at { result.row ≡ rows_kept (take result.section kept.now) }
+/// The last section that begins at or before a row; the end, where all rows come before it. It is looked for from a section at or before
+/// it.
+pub fn section_of<A: Allocator + Copy>(kept: &Chunks<Kept<A>, A>, near: Place, row: usize) -> Place
+    requires few { row < 2 ^ 63 }
+    requires near { IsAt kept.now.items near }
+    requires above { near.row ≤ row }
+    ensures section { result.section ≤ length kept.now.items }
+    ensures at { result.row ≡ rows_kept (take result.section kept.now.items) }
     ensures row { result.row ≤ row }
-    ensures last { (result.section ≡ length kept.now) ⊎ (row < rows_kept (take (result.section + 1) kept.now)) }
+    ensures last { (result.section ≡ length kept.now.items) ⊎ (row < rows_kept (take (result.section + 1) kept.now.items)) }
 {
-    let mut place = Place { section: 0, row: 0 };
-    for i in 0..kept.len() {
-        let next = place.row + kept[i].rows() as usize;
+    let mut place = near;
+    for i in near.section..kept.len() {
+        let next = place.row + kept.get(i).rows() as usize;
         if next > row {
             return place;
         }
@@ -40,23 +43,23 @@ pub fn section_of<A: Allocator>(kept: &[Kept<A>], row: usize) -> Place
 
 /// The same section, or the last one before it that begins in the new records too, or the first.
 pub fn front_of<A: Allocator + Copy>(
-    kept: &[Kept<A>],
+    kept: &Chunks<Kept<A>, A>,
     records: &Spliced<'_, Record<A>, A>,
     from: Place,
 ) -> Place
-    requires section { from.section ≤ length kept.now }
-    requires at { from.row ≡ rows_kept (take from.section kept.now) }
+    requires section { from.section ≤ length kept.now.items }
+    requires at { from.row ≡ rows_kept (take from.section kept.now.items) }
     ensures section { result.section ≤ from.section }
-    ensures at { result.row ≡ rows_kept (take result.section kept.now) }
+    ensures at { result.row ≡ rows_kept (take result.section kept.now.items) }
     ensures row { result.row ≤ from.row }
     ensures start { (result.section ≡ 0) ⊎ (is_start_at records.now result.row ≡ true) }
-    ensures passed { (j : ℕ) → result.section < j → j ≤ from.section → is_start_at records.now (rows_kept (take j kept.now)) ≡ false }
+    ensures passed { (j : ℕ) → result.section < j → j ≤ from.section → is_start_at records.now (rows_kept (take j kept.now.items)) ≡ false }
 {
     let mut section = from.section;
     let mut row = from.row;
     while section > 0 && !is_start_at(records, row) {
         section -= 1;
-        row -= kept[section].rows() as usize;
+        row -= kept.get(section).rows() as usize;
     }
     Place { section, row }
 }
@@ -76,40 +79,41 @@ fn is_back<A: Allocator + Copy>(
 
 /// The same section, or the first one after it that begins at `old_end` or after it, and in the new records too; else the end.
 pub fn back_of<A: Allocator + Copy>(
-    kept: &[Kept<A>],
+    kept: &Chunks<Kept<A>, A>,
     records: &Spliced<'_, Record<A>, A>,
     from: Place,
     old_end: usize,
     end: usize,
 ) -> Place
-    requires section { from.section ≤ length kept.now }
-    requires at { from.row ≡ rows_kept (take from.section kept.now) }
-    requires few { rows_kept kept.now + end < 2 ^ 63 }
-    ensures section { (from.section ≤ result.section) × (result.section ≤ length kept.now) }
-    ensures at { result.row ≡ rows_kept (take result.section kept.now) }
-    ensures start { (result.section ≡ length kept.now) ⊎ ((old_end ≤ result.row) × (is_start_at records.now (result.row - old_end + end) ≡ true)) }
-    ensures passed { (j : ℕ) → from.section ≤ j → j < result.section → old_end ≤ rows_kept (take j kept.now)
-        → is_start_at records.now (rows_kept (take j kept.now) - old_end + end) ≡ false }
+    requires section { from.section ≤ length kept.now.items }
+    requires at { from.row ≡ rows_kept (take from.section kept.now.items) }
+    requires few { rows_kept kept.now.items + end < 2 ^ 63 }
+    ensures section { (from.section ≤ result.section) × (result.section ≤ length kept.now.items) }
+    ensures at { result.row ≡ rows_kept (take result.section kept.now.items) }
+    ensures start { (result.section ≡ length kept.now.items) ⊎ ((old_end ≤ result.row) × (is_start_at records.now (result.row - old_end + end) ≡ true)) }
+    ensures passed { (j : ℕ) → from.section ≤ j → j < result.section → old_end ≤ rows_kept (take j kept.now.items)
+        → is_start_at records.now (rows_kept (take j kept.now.items) - old_end + end) ≡ false }
 {
+    let count = kept.len();
     let mut section = from.section;
     let mut row = from.row;
-    while section < kept.len() && !is_back(records, row, old_end, end) {
-        row += kept[section].rows() as usize;
+    while section < count && !is_back(records, row, old_end, end) {
+        row += kept.get(section).rows() as usize;
         section += 1;
     }
     Place { section, row }
 }
 
 /// Where the section of a place, which stays as it is, begins in the new records; where there is none, their number.
-pub fn new_row<A: Allocator>(
-    kept: &[Kept<A>],
+pub fn new_row<A: Allocator + Copy>(
+    kept: &Chunks<Kept<A>, A>,
     len: usize,
     place: Place,
     old_end: usize,
     end: usize,
 ) -> usize
-    requires { (place.section ≡ length kept.now) ⊎ ((old_end ≤ place.row) × (place.row + end < 2 ^ 64)) }
-    ensures { result ≡ (if place.section == length kept.now then len else place.row - old_end + end) }
+    requires { (place.section ≡ length kept.now.items) ⊎ ((old_end ≤ place.row) × (place.row + end < 2 ^ 64)) }
+    ensures { result ≡ (if place.section == length kept.now.items then len else place.row - old_end + end) }
 {
     if place.section == kept.len() {
         len

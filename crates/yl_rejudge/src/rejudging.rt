@@ -1,25 +1,34 @@
 //! Judging the sections that an edit changed.
-ghost use Rattle.std.specs.Prelude.{◌≡◌, ◌+◌, ◌-◌, ◌<◌, ◌≤◌, ◌^◌, ◌⊎◌, ℕ, length, map, take, drop, IfOk, OnOk};
+ghost use Rattle.std.specs.Prelude.{◌≡◌, ◌+◌, ◌-◌, ◌<◌, ◌≤◌, ◌^◌, ◌∷◌, ℕ, List, length, map, take, drop, IfOk, OnOk};
 ghost use Rattle.std.specs.List.{splice};
 ghost use Rattle.yl_text.specs.Store.{IsRange};
 ghost use Rattle.yl_sections.specs.Sections.{sections};
-ghost use Rattle.yl_sections.specs.Judge.{documents_in, kept_of_section};
-ghost use Rattle.yl_rejudge.specs.Places.{GoOnAlike, changed_sections};
-ghost use Rattle.yl_rejudge.specs.Documents.{EndsAnew, documents_holding};
+ghost use Rattle.yl_sections.specs.Judge.{kept_of_section};
+ghost use Rattle.yl_sections.specs.Kept.{documents_in};
+ghost use Rattle.yl_rejudge.specs.Places.{IsAt, changed_sections, rows_kept};
+ghost use Rattle.yl_rejudge.specs.Alike.{GoOnAlike};
+ghost use Rattle.yl_record.specs.Records.{RecordValue};
+ghost use Rattle.yl_sections.specs.Front.{IsFront};
+ghost use Rattle.yl_rejudge.specs.Documents.{TakesNothing, documents_holding};
 
 use crate::places::{Place, back_of, front_of, new_row, section_of};
+use crate::shortened::ends_anew;
 use std::alloc::{AllocError, Allocator};
 use yl_chunks::{Chunks, Spliced};
 use yl_config::Config;
 use yl_lexeme::Meter;
 use yl_record::Record;
-use yl_sections::{Kept, judge_all};
+use yl_sections::{Kept, judge_all, kept_of_front};
 
-/// What is kept of the sections from one on to before `end`, both counted from 0, becomes this.
+/// What is kept of the sections from one on to before `end`, both counted from 0, becomes this. They begin with `from_row`, and the next one
+/// with `end_row`. Over `walked` sections the first one was looked for.
 #[derive(Drop)]
 pub struct Rejudged<A: Allocator> {
     pub from: usize,
     pub end: usize,
+    pub from_row: usize,
+    pub end_row: usize,
+    pub walked: usize,
     pub kept: Vec<Kept<A>, A>,
 }
 
@@ -87,13 +96,48 @@ fn judge_changed<A: Allocator + Copy>(
     }
 }
 
+/// What is kept of a section from `first` on of which the rows before `from` alone are left, by what is kept of all of it, and of each
+/// section of the records from there on to before z. Counts the documents of the latter in the meter.
+fn judge_behind<A: Allocator + Copy>(
+    alloc: A,
+    config: &Config,
+    kept: &Kept<A>,
+    records: &Spliced<'_, Record<A>, A>,
+    first: Place,
+    from: usize,
+    z: usize,
+    meter: &mut Meter,
+) -> Result<Vec<Kept<A>, A>, AllocError>
+    requires section { first.section < 2 ^ 32 }
+    requires ordered { (first.row ≤ from) × (from ≤ z) }
+    requires within { z ≤ length records.now }
+    requires few { length records.now < 2 ^ 30 }
+    requires meter { meter.old.documents + length records.now < 2 ^ 32 - 1 }
+    ensures kept { IfOk result (λ v. (rs : List RecordValue) → from - first.row ≤ length rs → IsFront (from - first.row) rs → kept.now ≡ kept_of_section config.now rs
+        → v.items ≡ kept_of_section config.now (take (from - first.row) rs) ∷ map (kept_of_section config.now) (changed_sections (first.section + 1) from z records.now)) }
+    ensures documents { OnOk result (meter.new.documents ≡ meter.old.documents + documents_in (changed_sections (first.section + 1) from z records.now)) }
+    ensures lines { OnOk result (meter.new.lines ≡ meter.old.lines) }
+{
+    let mut all = Vec::new(alloc);
+    all.push(kept_of_front(alloc, kept, (from - first.row) as u32)?)?;
+    let rest = Place {
+        section: first.section + 1,
+        row: from,
+    };
+    let mut judged = judge_changed(alloc, config, records, rest, z, meter)?;
+    all.append(&mut judged)?;
+    Ok(all)
+}
+
 /// What is kept of the sections of the new records, from what is kept of those of the old ones: the new records are the old ones before
 /// row `from`, and from row `end` on the old ones from `old_end` on, rows counted from 0. Judges no section but those that hold a row
-/// from the one before `from` on to before `end`, and counts their documents in the meter. The only error is out of memory.
+/// from `from` on to before `end`, if the section above loses nothing but empty rows, and counts their documents in the meter. The first
+/// one is looked for from a section at or before it. The only error is out of memory.
 pub fn rejudge<A: Allocator + Copy>(
     alloc: A,
     config: &Config,
-    kept: &[Kept<A>],
+    kept: &Chunks<Kept<A>, A>,
+    near: Place,
     old: &Chunks<Record<A>, A>,
     records: &Spliced<'_, Record<A>, A>,
     from: usize,
@@ -101,7 +145,9 @@ pub fn rejudge<A: Allocator + Copy>(
     end: usize,
     meter: &mut Meter,
 ) -> Result<Rejudged<A>, AllocError>
-    requires kept { kept.now ≡ map (kept_of_section config.now) (sections old.now.items) }
+    requires kept { kept.now.items ≡ map (kept_of_section config.now) (sections old.now.items) }
+    requires near { IsAt kept.now.items near }
+    requires above { near.row ≤ from }
     requires before { take from old.now.items ≡ take from records.now }
     requires behind { drop old_end old.now.items ≡ drop end records.now }
     requires old_range { IsRange from old_end (length old.now.items) }
@@ -109,19 +155,38 @@ pub fn rejudge<A: Allocator + Copy>(
     requires alike { GoOnAlike old.now.items records.now old_end end }
     requires few { (length old.now.items < 2 ^ 30) × (length records.now < 2 ^ 30) }
     requires meter { meter.old.documents + length records.now < 2 ^ 32 - 1 }
-    ensures range { IfOk result (λ r. IsRange r.from r.end (length kept.now)) }
-    ensures kept { IfOk result (λ r. splice kept.now r.from r.end r.kept.items ≡ map (kept_of_section config.now) (sections records.now)) }
-    ensures documents { OnOk result ((m : ℕ) → end ≤ m + 1 → (meter.new.documents ≤ meter.old.documents + documents_holding 0 from m (sections records.now))
-        ⊎ (EndsAnew old.now.items records.now from × (meter.new.documents ≤ meter.old.documents + documents_holding 0 (from - 1) m (sections records.now)))) }
+    ensures range { IfOk result (λ r. IsRange r.from r.end (length kept.now.items)) }
+    ensures kept { IfOk result (λ r. splice kept.now.items r.from r.end r.kept.items ≡ map (kept_of_section config.now) (sections records.now)) }
+    ensures from_row { IfOk result (λ r. r.from_row ≡ rows_kept (take r.from kept.now.items)) }
+    ensures end_row { IfOk result (λ r. r.end_row ≡ rows_kept (take r.end kept.now.items)) }
+    ensures documents { OnOk result (TakesNothing old.now.items records.now from → (m : ℕ) → end ≤ m + 1
+        → meter.new.documents ≤ meter.old.documents + documents_holding 0 from m (sections records.now)) }
     ensures lines { OnOk result (meter.new.lines ≡ meter.old.lines) }
 {
-    let first = front_of(kept, records, section_of(kept, from));
+    let here = section_of(kept, near, from);
+    let first = front_of(kept, records, here);
     let last = back_of(kept, records, first, old_end, end);
     let z = new_row(kept, records.len(), last, old_end, end);
+    let walked = here.section.saturating_sub(near.section);
+    if ends_anew(kept, old, records, first, from) {
+        let section = kept.get(first.section);
+        let kept = judge_behind(alloc, config, section, records, first, from, z, meter)?;
+        return Ok(Rejudged {
+            from: first.section,
+            end: last.section,
+            from_row: first.row,
+            end_row: last.row,
+            walked,
+            kept,
+        });
+    }
     let kept = judge_changed(alloc, config, records, first, z, meter)?;
     Ok(Rejudged {
         from: first.section,
         end: last.section,
+        from_row: first.row,
+        end_row: last.row,
+        walked,
         kept,
     })
 }

@@ -7,7 +7,7 @@ use Rattle.yl_text.specs.Character.{is_blank, without_end}
 use Rattle.yl_text.specs.declared.finding.RuleId.{RuleId}
 use Rattle.yl_lexeme.specs.declared.placed.PlacedComment.{PlacedComment}
 use Rattle.yl_lexeme.specs.PlacedComments.{placed_comment_value}
-use Rattle.yl_report.specs.Addressed.{is_addressed}
+use Rattle.yl_report.specs.Addressed.{is_addressed_comment}
 use Rattle.yl_report.specs.Directive.{says, disables, enables, switches, is_disabled_by, disables_line, is_silenced}
 
 abbrev begins : List ℕ → List ℕ → Bool
@@ -32,17 +32,17 @@ begins_whole (x ∷ xs) (n ∷ ns) e = at (is_blank (x ∷ xs)) (begins_whole xs
 abbrev address : List ℕ
 address = codes "# yamllint "
 
-not_said : (words : List ℕ) (rule : RuleId) (x : PlacedComment) → is_addressed x ≡ false → says (address ++ words) rule (placed_comment_value x) ≡ false
+not_said : (words : List ℕ) (rule : RuleId) (x : PlacedComment) → is_addressed_comment x ≡ false → says (address ++ words) rule (placed_comment_value x) ≡ false
 not_said words rule x e =
     let apart : begins (without_end x.text.now) (address ++ words) ≡ false =
     false_from_ne_true _ (λ h. let wrong : true ≡ false = sym (begins_front x.text.now address words (begins_whole x.text.now (address ++ words) h)) ∙ e in cc) in
     rw apart refl
 
-not_switched : (rule : RuleId) (line : ℕ) (x : PlacedComment) → is_addressed x ≡ false → switches rule line (placed_comment_value x) ≡ false
+not_switched : (rule : RuleId) (line : ℕ) (x : PlacedComment) → is_addressed_comment x ≡ false → switches rule line (placed_comment_value x) ≡ false
 not_switched rule line x e =
     and_right (nat_le x.line line) _ (or_from (disables rule (placed_comment_value x)) (enables rule (placed_comment_value x)) (not_said (codes "disable") rule x e) (not_said (codes "enable") rule x e))
 
-not_line : (rule : RuleId) (line : ℕ) (x : PlacedComment) → is_addressed x ≡ false → disables_line rule line (placed_comment_value x) ≡ false
+not_line : (rule : RuleId) (line : ℕ) (x : PlacedComment) → is_addressed_comment x ≡ false → disables_line rule line (placed_comment_value x) ≡ false
 not_line rule line x e = rw (not_said (codes "disable-line") rule x e) refl
 
 -- ---- what does not pass a test may be left out
@@ -63,8 +63,8 @@ module _ {X Y : Type 0} (f : X → Y) (keep : X → Bool) (p : Y → Bool) (none
       at true e h = ap (λ r. p (f x) || r) h
       at false e h = rw (none x e) h
 
-pub is_silenced-addressed : (xs : List PlacedComment) (rule : RuleId) (line : ℕ) → is_silenced (map placed_comment_value (filter is_addressed xs)) rule line ≡ is_silenced (map placed_comment_value xs) rule line
+pub is_silenced-addressed : (xs : List PlacedComment) (rule : RuleId) (line : ℕ) → is_silenced (map placed_comment_value (filter is_addressed_comment xs)) rule line ≡ is_silenced (map placed_comment_value xs) rule line
 is_silenced-addressed xs rule line =
-    let switched = filter_kept placed_comment_value is_addressed (switches rule line) (not_switched rule line) xs in
-    let owned = any_kept placed_comment_value is_addressed (disables_line rule line) (not_line rule line) xs in
+    let switched = filter_kept placed_comment_value is_addressed_comment (switches rule line) (not_switched rule line) xs in
+    let owned = any_kept placed_comment_value is_addressed_comment (disables_line rule line) (not_line rule line) xs in
     λ i. is_disabled_by rule (last_or None (switched i)) || owned i

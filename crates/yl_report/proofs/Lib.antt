@@ -9,4 +9,3 @@ pub mod Places
 mod Examples
 pub mod Unique
 pub mod With
-pub mod Writing

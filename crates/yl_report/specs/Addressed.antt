@@ -1,8 +1,8 @@
--- Bridge: which comments can say something of a rule.
-use Rattle.std.specs.Prelude.{Bool, ◌==◌, codes}
-use Rattle.std.specs.List.{starts_with}
+-- Bridge: which comments speak to the linter, of those that are handed in.
+use Rattle.std.specs.Prelude.{Bool}
 use Rattle.yl_lexeme.specs.declared.placed.PlacedComment.{PlacedComment}
+use Rattle.yl_lexeme.specs.PlacedComments.{placed_comment_value}
+use Rattle.yl_rules.specs.Addressed.{is_addressed}
 
--- the comment begins as each does that silences a rule
-abbrev pub is_addressed : PlacedComment → Bool
-is_addressed c = starts_with (λ a b. a == b) c.text.now (codes "# yamllint ")
+abbrev pub is_addressed_comment : PlacedComment → Bool
+is_addressed_comment c = is_addressed (placed_comment_value c)

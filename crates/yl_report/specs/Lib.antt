@@ -4,9 +4,9 @@ pub mod Directive
 pub mod Report
 pub mod Silence
 pub mod Switched
-pub mod Written
 pub use Rattle.yl_rules.specs.LevelOf
 pub use Rattle.yl_rules.specs.Levels
 pub use Rattle.yl_text.specs.Character
 pub use Rattle.yl_text.specs.Finding
 pub use Rattle.yl_text.specs.Watched
+pub use Rattle.yl_devices.specs.Written

@@ -69,7 +69,8 @@ fn names(words: &[u8], rule: &[u8]) -> bool
     all & any
 }
 
-// Whether a text is these words, followed by nothing or by words of rules of which one names this one.
+// Whether a text is these words, followed by nothing or by words of rules of which one names this
+// one.
 pub fn speaks(text: &[u8], words: &[u8], rule: &[u8]) -> bool
     ensures { result ≡ spec.speaks text.now words.now rule.now }
 {

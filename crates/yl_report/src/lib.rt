@@ -1,4 +1,5 @@
-//! The report of a text: its problems in order, silenced and with levels; its status; its printed lines.
+//! The report of a text: its problems in order, silenced and with levels; its status; its printed
+//! lines.
 #![tactic(auto)]
 
 mod arranging;
@@ -11,6 +12,6 @@ mod problem;
 mod silence;
 
 pub use arranging::{arrange, compare, one_arrangement};
-pub use printing::{WriteFault, write_parts, write_report};
+pub use printing::write_report;
 pub use problem::{Problem, status};
 pub use silence::Silences;

@@ -13,7 +13,8 @@ pub struct Switch {
     pub is_off: bool,
 }
 
-// Puts a switch behind the others, without those that it makes void: that stand at or behind its line.
+// Puts a switch behind the others, without those that it makes void: that stand at or behind its
+// line.
 pub fn push_switch<A: Allocator>(
     switches: &mut Vec<Switch, A>,
     line: u64,

@@ -4,7 +4,7 @@ ghost use Rattle.std.specs.List.{filter};
 ghost use Rattle.std.specs.List.Sorted.{IsNonDecreasingBy};
 ghost use Rattle.yl_report.specs.Switched.{is_off_at};
 ghost use Rattle.yl_lexeme.specs.PlacedComments.{placed_comment_value};
-ghost use Rattle.yl_report.specs.Addressed as addressed;
+ghost use Rattle.yl_report.specs.Addressed.{is_addressed_comment};
 ghost use Rattle.yl_report.specs.Directive.{is_silenced};
 ghost use Rattle.yl_report.specs.Directive as spec;
 ghost use Rattle.yl_report.specs.Silence.{is_silenced_in};
@@ -15,6 +15,7 @@ use crate::comment::{disables, enables, own_line, says};
 use crate::marks::{SilencedLines, Switch, push_switch};
 use std::alloc::{AllocError, Allocator};
 use yl_lexeme::PlacedComment;
+use yl_rules::is_addressed;
 use yl_text::RuleId;
 
 // Notes what a comment switches of the rule.
@@ -71,19 +72,12 @@ fn marks_of<A: Allocator + Copy>(
     Ok(SilencedLines { switches, lines })
 }
 
-// Whether a comment begins as each does that silences a rule.
-fn is_addressed(comment: &PlacedComment<'_>) -> bool
-    ensures { result ≡ addressed.is_addressed comment.now }
-{
-    comment.text.as_bytes().starts_with(b"# yamllint ")
-}
-
 // The comments that may silence a rule.
 fn addressed<'a, A: Allocator + Copy>(
     alloc: A,
     comments: &[PlacedComment<'a>],
 ) -> Result<Vec<PlacedComment<'a>, A>, AllocError>
-    ensures { IfOk result (λ v. v.items ≡ filter addressed.is_addressed comments.now) }
+    ensures { IfOk result (λ v. v.items ≡ filter is_addressed_comment comments.now) }
 {
     comments
         .iter()

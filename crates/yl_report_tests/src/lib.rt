@@ -1,5 +1,18 @@
-//! Tests of `yl_report`, some with an allocator or a writer that refuses.
+//! Tests of configurations, of the rules on lines and comments, and of reports, with devices that fail and
+//! an allocator that refuses.
 #![tactic(auto)]
 
 #[cfg(test)]
-mod tests;
+mod config;
+#[cfg(test)]
+mod devices;
+#[cfg(test)]
+mod pieces;
+#[cfg(test)]
+mod printing;
+#[cfg(test)]
+mod refused;
+#[cfg(test)]
+mod rules;
+#[cfg(test)]
+mod silencing;

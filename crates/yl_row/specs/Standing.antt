@@ -1,5 +1,6 @@
 -- Bridge: what the scanner finds at a place, and what the rows below make of it.
-use Rattle.std.specs.Prelude.{◌≡◌, ◌<◌, ◌^◌, ℕ, List, string_bytes, Option, Some, None}
+use Rattle.std.specs.Prelude.{◌≡◌, ◌<◌, ◌^◌, ℕ, List, Option, Some, None}
+use Rattle.std.specs.Str.{encode_utf8_all}
 use Rattle.yl_scalar.specs.Reading.{ScalarStepValue, GoesOn, EndsIn, EndedAbove, Fails}
 use Rattle.yl_row.specs.declared.found.FoundLexeme as code
 use Rattle.yl_row.specs.declared.found.Standing.{Standing}
@@ -10,7 +11,7 @@ use Rattle.yl_row.specs.Reader.{scalar_reader_value}
 use Rattle.yl_row.specs.Begins.{Rests}
 
 abbrev pub found_lexeme_value : {A : Type 0} → code.FoundLexeme A → FoundLexemeValue
-found_lexeme_value f = found_in_row f.kind f.column (string_bytes f.value) f.fault
+found_lexeme_value f = found_in_row f.kind f.column (encode_utf8_all f.value) f.fault
 
 abbrev pub standing_value : {A : Type 0} → ℕ → List (List ℕ) → Standing A → FoundLexemeValue
 standing_value at rows (Ended f) = found_lexeme_value f

@@ -25,9 +25,11 @@ use crate::word::{
     is_space_next, name_len, tag_len,
 };
 use std::alloc::{AllocError, Allocator};
+use yl_inline::InlineString;
 use yl_lexeme::{Kind, Style, Surroundings, near};
 use yl_scalar::{
-    BlockReader, PlainReader, QuotedReader, ScalarStep, first_bad, is_blank, leading_white, text_of,
+    BlockReader, PlainReader, QuotedReader, ScalarStep, first_bad, inline_text_of, is_blank,
+    leading_white,
 };
 
 /// A lexeme that ends in its row, before a column.
@@ -35,7 +37,7 @@ use yl_scalar::{
 pub struct FoundLexeme<A: Allocator> {
     pub kind: Kind,
     pub column: u32,
-    pub value: String<A>,
+    pub value: InlineString<A>,
     /// The first fault in it.
     pub fault: Option<PlacedScanFault>,
 }
@@ -75,18 +77,13 @@ fn behind_end(column: usize, text: &[char]) -> Option<PlacedScanFault>
 }
 
 /// A lexeme with no value.
-fn sign<A: Allocator>(
-    alloc: A,
-    kind: Kind,
-    column: u32,
-    fault: Option<PlacedScanFault>,
-) -> FoundLexeme<A>
+fn sign<A: Allocator>(kind: Kind, column: u32, fault: Option<PlacedScanFault>) -> FoundLexeme<A>
     ensures { found_lexeme_value result ≡ found_in_row kind column [] fault }
 {
     FoundLexeme {
         kind,
         column,
-        value: String::new(alloc),
+        value: InlineString::new(),
         fault,
     }
 }
@@ -114,7 +111,7 @@ fn document_at<A: Allocator + Copy>(
     ensures { IfOk result (λ found. document_at c rest.now (context_of (surroundings_value surroundings.now)) ≡ found_option found) }
 {
     if is_marker_of('-', text) {
-        return Ok(Some(sign(alloc, Kind::DocStart, 3, None)));
+        return Ok(Some(sign(Kind::DocStart, 3, None)));
     }
     if is_marker_of('.', text) {
         let fault = if rest.len() < 2 {
@@ -122,14 +119,14 @@ fn document_at<A: Allocator + Copy>(
         } else {
             behind_end(3, &rest[2..])
         };
-        return Ok(Some(sign(alloc, Kind::DocEnd, 3, fault)));
+        return Ok(Some(sign(Kind::DocEnd, 3, fault)));
     }
     if c == '%' && is_directive_place(surroundings.last) {
         let directive = directive(text);
         return Ok(Some(FoundLexeme {
             kind: Kind::Directive,
             column: directive.len() as u32,
-            value: text_of(alloc, directive)?,
+            value: inline_text_of(alloc, directive)?,
             fault: bad_in(0, directive),
         }));
     }
@@ -151,7 +148,7 @@ fn name_found<A: Allocator + Copy>(
     Ok(FoundLexeme {
         kind,
         column: (at + 1 + len) as u32,
-        value: text_of(alloc, name)?,
+        value: inline_text_of(alloc, name)?,
         fault: or_else(
             when(len == 0, ScanFault::EmptyName, at),
             bad_in(at + 1, name),
@@ -160,19 +157,13 @@ fn name_found<A: Allocator + Copy>(
 }
 
 /// A tag, by the text behind its indicator.
-fn tag_found<A: Allocator + Copy>(alloc: A, at: usize, text: &[char]) -> FoundLexeme<A>
+fn tag_found<A: Allocator>(at: usize, text: &[char]) -> FoundLexeme<A>
     requires fits { at + length text.now < 2 ^ 31 }
     ensures { found_lexeme_value result ≡ tag_found at text.now (tag_len text.now) }
 {
     match tag_len(text) {
-        None => sign(
-            alloc,
-            Kind::Tag,
-            at as u32 + 1,
-            when(true, ScanFault::BadTag, at),
-        ),
+        None => sign(Kind::Tag, at as u32 + 1, when(true, ScanFault::BadTag, at)),
         Some(len) => sign(
-            alloc,
             Kind::Tag,
             (at + 1 + len) as u32,
             bad_in(at + 1, &text[..len]),
@@ -197,7 +188,7 @@ fn named_at<A: Allocator + Copy>(
     if c == '*' {
         return name_found(alloc, Kind::Alias, at, rest);
     }
-    Ok(tag_found(alloc, at, rest))
+    Ok(tag_found(at, rest))
 }
 
 /// A scalar whose first row has been read.
@@ -228,7 +219,7 @@ fn begun<A: Allocator + Copy>(
         ScalarStep::Fails(fault, place) => Ok(Standing::Ended(FoundLexeme {
             kind: Kind::Scalar(style),
             column: at as u32,
-            value: String::new(alloc),
+            value: InlineString::new(),
             fault: Some(PlacedScanFault {
                 fault: of_scalar(fault),
                 down: place.down,
@@ -290,7 +281,7 @@ fn plain_found<A: Allocator + Copy>(
 {
     if !is_plain_start(flow, c, rest) {
         let fault = when(true, ScanFault::NotAllowed, at);
-        return Ok(Standing::Ended(sign(alloc, Kind::Scalar(Style::Plain), at as u32, fault)));
+        return Ok(Standing::Ended(sign(Kind::Scalar(Style::Plain), at as u32, fault)));
     }
     let (reader, line) = PlainReader::begin(alloc, flow, least, at, text)?;
     begun(alloc, Style::Plain, at, ScalarReader::Plain(reader), line)

@@ -1,11 +1,11 @@
 //! A scalar that may go on in the row below, of any style.
 
-ghost use Rattle.std.specs.Prelude.{◌≡◌, ◌≤◌, ◌<◌, ◌+◌, ◌^◌, IfOk, string_bytes};
-ghost use Rattle.std.specs.Str.{encode_utf8_all};
+ghost use Rattle.std.specs.Prelude.{◌≡◌, ◌≤◌, ◌<◌, ◌+◌, ◌^◌, IfOk};
 ghost use Rattle.yl_row.specs.ScalarReader.{reader_step, reader_finish};
 ghost use Rattle.yl_row.specs.Reader.{scalar_reader_value, rows_of, value_of, reader_step_value, reader_outcome_value};
 
 use std::alloc::{AllocError, Allocator};
+use yl_inline::InlineString;
 use yl_scalar::{BlockReader, PlainReader, QuotedReader, ScalarOutcome, ScalarStep};
 
 /// The reader of a scalar that may go on below.
@@ -56,15 +56,15 @@ impl<A: Allocator + Copy> ScalarReader<A> {
         }
     }
 
-    /// The scalar's value so far, in UTF-8; a block scalar's is not read.
+    /// The scalar's value so far; a block scalar's is not read.
     #[inline(always)]
-    pub fn into_value(self, alloc: A) -> Result<String<A>, AllocError>
-        ensures { IfOk result (λ text. string_bytes text ≡ encode_utf8_all (value_of self)) }
+    pub fn into_value(self, alloc: A) -> Result<InlineString<A>, AllocError>
+        ensures { IfOk result (λ text. text ≡ value_of self) }
     {
         match self {
             ScalarReader::Plain(reader) => Ok(reader.into_value()),
             ScalarReader::Quoted(reader) => reader.to_value(alloc),
-            ScalarReader::Block(_) => Ok(String::new(alloc)),
+            ScalarReader::Block(_) => Ok(InlineString::new()),
         }
     }
 }

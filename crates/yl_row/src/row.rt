@@ -19,6 +19,7 @@ use crate::reader::ScalarReader;
 use crate::sign::{place_fault, sign_at, sign_fault};
 use crate::word::begins_comment;
 use std::alloc::{AllocError, Allocator};
+use yl_inline::InlineString;
 use yl_lexeme::{Comment, Kind, Lexeme, Style, Surroundings};
 use yl_scalar::{is_white, text_of};
 use yl_text::Pos;
@@ -64,18 +65,15 @@ fn lexeme_of<A: Allocator>(at: usize, found: FoundLexeme<A>) -> Lexeme<A>
         value,
         fault: _,
     } = found;
-    let start = Pos {
-        line: 0,
-        col: at as u32,
-    };
     let end = Pos {
         line: 0,
         col: column,
     };
-    Lexeme::new(kind, start, end, value)
+    Lexeme::new(kind, at as u32, end, value)
 }
 
 /// Adds a lexeme of the row. Room for sixteen is made at once.
+#[inline(always)]
 fn add<A: Allocator>(lexemes: &mut Vec<Lexeme<A>, A>, lexeme: Lexeme<A>) -> Result<(), AllocError>
     ensures { IfOk result (λ _. lexemes.new.items ≡ lexemes.old.items ++ lexeme ∷ []) }
 {
@@ -87,19 +85,16 @@ fn add<A: Allocator>(lexemes: &mut Vec<Lexeme<A>, A>, lexeme: Lexeme<A>) -> Resu
 }
 
 /// The lexeme of one character at a column.
-fn sign<A: Allocator>(alloc: A, kind: Kind, at: usize) -> Lexeme<A>
+fn sign<A: Allocator>(kind: Kind, at: usize) -> Lexeme<A>
     requires { at < 2 ^ 31 }
     ensures { result ≡ lexeme_of at (found_in_row kind (at + 1) [] None) }
 {
-    let start = Pos {
-        line: 0,
-        col: at as u32,
-    };
+    let column = at as u32;
     let end = Pos {
         line: 0,
-        col: at as u32 + 1,
+        col: column + 1,
     };
-    Lexeme::new(kind, start, end, String::new(alloc))
+    Lexeme::new(kind, column, end, InlineString::new())
 }
 
 /// Passes a scalar that may go on below, unless there is a fault before it.
@@ -176,7 +171,6 @@ fn ends_document(kind: Kind) -> bool
 /// Passes a lexeme of one character, of this kind, or answers the first fault before it and in it.
 #[tactic(auto, using(crate::proofs::Took::ended_goes, crate::proofs::Took::ended_stops))]
 fn take_sign<A: Allocator + Copy>(
-    alloc: A,
     surroundings: &mut Surroundings<'_, A>,
     lexemes: &mut Vec<Lexeme<A>, A>,
     tab: Option<usize>,
@@ -195,7 +189,7 @@ fn take_sign<A: Allocator + Copy>(
         Some(fault) => Ok(Some(fault)),
         None => {
             surroundings.pass(kind, first, at)?;
-            add(lexemes, sign(alloc, kind, at))?;
+            add(lexemes, sign(kind, at))?;
             Ok(None)
         }
     }
@@ -282,7 +276,7 @@ pub fn read_row<A: Allocator + Copy>(
         behind_space = false;
         surroundings.reach(is_first, at)?;
         if let Some(kind) = sign_at(surroundings, c, rest) {
-            if let Some(fault) = take_sign(alloc, surroundings, lexemes, tab, is_first, at, kind)? {
+            if let Some(fault) = take_sign(surroundings, lexemes, tab, is_first, at, kind)? {
                 return Ok(RowEnd::Stops(fault));
             }
             at += 1;

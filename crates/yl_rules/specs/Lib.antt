@@ -1,3 +1,4 @@
+pub mod Addressed
 pub mod Comments
 pub mod EmptyLines
 pub mod EndOfFile
@@ -7,4 +8,5 @@ pub mod LineLength
 pub mod NewLines
 pub mod Rows
 pub mod Runs
+pub mod RunsLeft
 pub mod TrailingSpaces

@@ -10,14 +10,14 @@ use Rattle.yl_rules.specs.declared.new_lines.NewLine.{NewLine}
 use Rattle.yl_rules.specs.declared.new_lines.NewLine.TheVariants.{Unix, Dos}
 
 -- a break that is there and is not the one wanted
-abbrev pub is_wrong : NewLine → Break → Bool
-is_wrong wanted No = false
-is_wrong Unix Lf = false
-is_wrong Unix CrLf = true
-is_wrong Unix Cr = true
-is_wrong Dos Lf = true
-is_wrong Dos CrLf = false
-is_wrong Dos Cr = true
+abbrev pub is_wrong_break : NewLine → Break → Bool
+is_wrong_break wanted No = false
+is_wrong_break Unix Lf = false
+is_wrong_break Unix CrLf = true
+is_wrong_break Unix Cr = true
+is_wrong_break Dos Lf = true
+is_wrong_break Dos CrLf = false
+is_wrong_break Dos Cr = true
 
 -- the break that is wanted stands in backslash letters
 abbrev pub wrong_break : NewLine → List ℕ
@@ -28,7 +28,7 @@ wrong_break Dos = codes "wrong new line character: expected \\r\\n"
 abbrev pub new_lines_at : NewLine → Option RowValue → List FindingValue
 new_lines_at wanted None = []
 new_lines_at wanted (Some row) =
-    if is_wrong wanted row.end
+    if is_wrong_break wanted row.end
     then one_finding NewLines 1 (length (chars row.text) + 1) (wrong_break wanted)
     else []
 

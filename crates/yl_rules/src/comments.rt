@@ -117,7 +117,8 @@ fn starting_space_problem<A: Allocator>(
     ))
 }
 
-/// Puts behind `found` what the rule comments finds in a comment. Where there is no memory nothing is added.
+/// Puts behind `found` what the rule comments finds in a comment. Where there is no memory nothing
+/// is added.
 pub fn push_comment_problems<A: Allocator>(
     comment: &PlacedComment<'_>,
     options: &CommentsOptions,

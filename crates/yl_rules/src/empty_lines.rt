@@ -1,11 +1,12 @@
 //! The rule empty-lines.
-ghost use Rattle.std.specs.Prelude.{◌≡◌, ◌+◌, ◌<◌, ◌≤◌, ◌^◌, ◌++◌, ◌∷◌, [], length, drop, if◌then◌else◌, IfOk, OnOk};
+ghost use Rattle.std.specs.Prelude.{◌≡◌, ◌+◌, ◌<◌, ◌≤◌, ◌^◌, ◌++◌, ◌∷◌, [], IfOk, OnErr, OnOk};
 ghost use Rattle.std.specs.Option.{option_to_list};
-ghost use Rattle.yl_rules.specs.EmptyLines.{at_end_of_run, empty_lines, goes_on, is_break_only, is_end, run_findings_of, max_run, too_many};
+ghost use Rattle.yl_rules.specs.EmptyLines.{at_end_of_run, is_break_only, is_text_end, run_findings_of, max_run, too_many_blank_lines};
+ghost use Rattle.yl_rules.specs.RunsLeft.{next_run};
 
 use crate::pushes::push_found;
 use std::alloc::{AllocError, Allocator};
-use yl_text::{Break, Finding, Lines, Row, RuleId};
+use yl_text::{Break, Finding, RuleId};
 
 /// How many lines that are nothing but a break may follow each other.
 #[derive(Clone, Copy, Debug, PartialEq, Eq)]
@@ -18,30 +19,17 @@ pub struct EmptyLinesOptions {
 }
 
 /// Whether the line is nothing but a break.
-fn is_break_only<A: Allocator>(row: &Row<A>) -> bool
-    ensures { result ≡ is_break_only row.now }
+fn is_break_only(text: &str, end: Break) -> bool
+    ensures { result ≡ is_break_only (record { text = text.now; end = end }) }
 {
-    row.as_str().is_empty() && row.end() != Break::No
+    text.is_empty() && end != Break::No
 }
 
-/// Whether line `next` is nothing but a break.
-fn goes_on<L: Lines>(lines: &L, next: usize) -> bool
-    ensures { result ≡ goes_on (drop next (L.rows lines.now)) }
+/// Whether the line is the last one, and empty.
+fn is_end(text: &str, end: Break) -> bool
+    ensures { result ≡ is_text_end (record { text = text.now; end = end } ∷ []) }
 {
-    next < lines.len() && is_break_only(lines.row(next))
-}
-
-fn is_empty_end<A: Allocator>(row: &Row<A>) -> bool
-    ensures { result ≡ is_end (row.now ∷ []) }
-{
-    row.as_str().is_empty() && row.end() == Break::No
-}
-
-/// Whether line `next` is the last one, and empty.
-fn is_end<L: Lines>(lines: &L, next: usize) -> bool
-    ensures { result ≡ is_end (drop next (L.rows lines.now)) }
-{
-    next < lines.len() && is_empty_end(lines.row(next))
+    text.is_empty() && end == Break::No
 }
 
 fn most(options: &EmptyLinesOptions, at_start: bool, at_end: bool) -> u32
@@ -63,7 +51,7 @@ fn too_many<A: Allocator + Copy>(
     most: u32,
     line: usize,
 ) -> Result<Option<Finding<A>>, AllocError>
-    ensures { IfOk result (λ o. option_to_list o ≡ too_many run most line) }
+    ensures { IfOk result (λ o. option_to_list o ≡ too_many_blank_lines run most line) }
 {
     if run <= most as usize {
         return Ok(None);
@@ -88,48 +76,48 @@ fn judge<A: Allocator + Copy>(
     too_many(alloc, run, most(options, run == line, at_end), line)
 }
 
-/// How many such lines end with this one, from how many end with the line before.
-fn next_run<A: Allocator>(run: usize, row: &Row<A>) -> usize
+/// In how many such lines the lines end with this one, from those before it.
+pub(crate) fn next_run(run: usize, text: &str, end: Break) -> usize
     requires { run + 1 < 2 ^ 64 }
-    ensures value { result ≡ (if is_break_only row.now then run + 1 else 0) }
+    ensures value { result ≡ next_run run (record { text = text.now; end = end }) }
     ensures small { result ≤ run + 1 }
 {
-    if is_break_only(row) { run + 1 } else { 0 }
+    if is_break_only(text, end) { run + 1 } else { 0 }
 }
 
-/// Puts behind `found` the problem of the run of so many lines, if it ends with the line of this number.
-fn push_run<L: Lines>(
-    alloc: L::Alloc,
-    lines: &L,
+/// Puts behind `found` the problem of the run of so many lines that the lines end in, of which
+/// there are `count`, if it goes no further with the next line.
+pub(crate) fn push_run_before<A: Allocator + Copy>(
+    alloc: A,
     options: &EmptyLinesOptions,
     run: usize,
-    line: usize,
-    found: &mut Vec<Finding<L::Alloc>, L::Alloc>,
+    count: usize,
+    text: &str,
+    end: Break,
+    found: &mut Vec<Finding<A>, A>,
 ) -> Result<(), AllocError>
-    ensures { OnOk result (found.new.items ≡ found.old.items ++ at_end_of_run options.now run line (drop line (L.rows lines.now))) }
+    ensures ok { OnOk result (found.new.items ≡ found.old.items ++ at_end_of_run options.now run count (record { text = text.now; end = end } ∷ [])) }
+    ensures err { OnErr result (found.new.items ≡ found.old.items) }
+    ensures some { OnErr result (0 < run) }
 {
-    if run == 0 || goes_on(lines, line) {
+    if run == 0 || is_break_only(text, end) {
         return Ok(());
     }
-    push_found(
-        found,
-        judge(alloc, options, run, line, is_end(lines, line))?,
-    )
+    push_found(found, judge(alloc, options, run, count, is_end(text, end))?)
 }
 
-/// Puts behind `found` the problem of each run of such lines that is too long.
-pub(crate) fn push_empty_lines<L: Lines>(
-    alloc: L::Alloc,
-    lines: &L,
+/// The same at the end of the lines.
+pub(crate) fn push_last_run<A: Allocator + Copy>(
+    alloc: A,
     options: &EmptyLinesOptions,
-    found: &mut Vec<Finding<L::Alloc>, L::Alloc>,
+    run: usize,
+    count: usize,
+    found: &mut Vec<Finding<A>, A>,
 ) -> Result<(), AllocError>
-    ensures { OnOk result (found.new.items ≡ found.old.items ++ empty_lines options.now (L.rows lines.now)) }
+    ensures { OnOk result (found.new.items ≡ found.old.items ++ at_end_of_run options.now run count []) }
 {
-    let mut run = 0;
-    for i in 0..lines.len() {
-        run = next_run(run, lines.row(i));
-        push_run(alloc, lines, options, run, i + 1, found)?;
+    if run == 0 {
+        return Ok(());
     }
-    Ok(())
+    push_found(found, judge(alloc, options, run, count, false)?)
 }

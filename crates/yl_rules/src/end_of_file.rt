@@ -1,24 +1,21 @@
 //! The rule new-line-at-end-of-file.
-ghost use Rattle.std.specs.Prelude.{◌≡◌};
+ghost use Rattle.std.specs.Prelude.{◌≡◌, Some};
 ghost use Rattle.std.specs.Option.{option_to_list};
-ghost use Rattle.yl_rules.specs.EndOfFile.{end_of_file};
+ghost use Rattle.yl_rules.specs.EndOfFile.{end_of_file_at};
+ghost use Rattle.yl_text.specs.declared.row.Break.TheVariants.{No};
 
-use crate::width::width;
-use yl_text::{Finding, Lines, RuleId};
+use crate::width::character_count;
+use std::alloc::Allocator;
+use yl_text::{Finding, RuleId};
 
-/// The problem of a text, if its last line is not empty.
-pub(crate) fn end_of_file_problem<L: Lines>(lines: &L) -> Option<Finding<L::Alloc>>
-    ensures { option_to_list result ≡ end_of_file (L.rows lines.now) }
+/// The problem of a text of so many lines, if its last line is not empty.
+pub(crate) fn end_of_file_problem<A: Allocator>(count: usize, last: &str) -> Option<Finding<A>>
+    ensures { option_to_list result ≡ end_of_file_at count (Some (record { text = last.now; end = No })) }
 {
-    let count = lines.len();
-    if count == 0 {
+    if last.is_empty() {
         return None;
     }
-    let text = lines.row(count - 1).as_str();
-    if text.is_empty() {
-        return None;
-    }
-    let column = width(text) as u64 + 1;
+    let column = character_count(last) as u64 + 1;
     Some(Finding::fixed(
         count as u64,
         column,

@@ -1,6 +1,7 @@
 //! The rules of the linter.
 #![tactic(auto)]
 
+mod addressed;
 mod bytes;
 mod comments;
 mod empty_lines;
@@ -15,13 +16,15 @@ mod runs;
 mod trailing_spaces;
 mod width;
 
-pub use comments::{CommentsOptions, comment_problems, push_comment_problems};
+pub use addressed::is_addressed;
+pub use comments::{CommentsOptions, comment_problems};
 pub use empty_lines::EmptyLinesOptions;
 pub use level::{Level, RuleLevels};
 pub use new_lines::NewLine;
 pub use options::{RowOptions, RunOptions};
 pub use rows::{push_line_problems, push_row_problems, row_problems};
-pub use runs::run_problems;
+pub use runs::{RunReader, run_problems};
+pub use width::character_count;
 pub use yl_layout::{
     BracketsOptions, ColonsOptions, CommasOptions, DocumentStartOptions, Forbid, HyphensOptions,
     LexemeOptions, QuoteType, QuotedStringsOptions, TruthyOptions, TruthyWords, lexeme_problems,

@@ -6,7 +6,7 @@ ghost use Rattle.yl_rules.specs.LineLength.{is_non_breakable, is_one_word, line_
 
 use crate::bytes::{count_front, past};
 use crate::options::RowOptions;
-use crate::width::width;
+use crate::width::character_count;
 use std::alloc::{AllocError, Allocator};
 use yl_text::{Finding, RuleId};
 
@@ -27,7 +27,8 @@ fn is_one_word(bytes: &[u8]) -> bool
     !bytes.is_empty() && !past_mark(bytes).contains(&b' ')
 }
 
-/// Whether the line has no space at which it could be broken. Its bytes tell, since each byte that counts is ASCII.
+/// Whether the line has no space at which it could be broken. Its bytes tell, since each byte that
+/// counts is ASCII.
 fn is_non_breakable(text: &str) -> bool
     ensures { result ≡ is_non_breakable (chars text.now) }
 {
@@ -45,7 +46,7 @@ pub(crate) fn line_length_problem<A: Allocator + Copy>(
 ) -> Result<Option<Finding<A>>, AllocError>
     ensures { IfOk result (λ o. option_to_list o ≡ line_length options.now line (chars text.now)) }
 {
-    let width = width(text);
+    let width = character_count(text);
     let max = options.max;
     if width <= max as usize || options.allow_non_breakable_words && is_non_breakable(text) {
         return Ok(None);

@@ -10,15 +10,17 @@ use crate::trailing_spaces::{end_white, trailing_spaces_problem};
 use std::alloc::{AllocError, Allocator};
 use yl_text::{Finding, Row};
 
-/// Whether the line needs a closer look: it ends in white space, or has more bytes than it may have characters.
+/// Whether the line needs a closer look: it ends in white space, or has more bytes than it may have
+/// characters.
 fn is_suspect(text: &str, options: &RowOptions) -> bool
     ensures { result ≡ false → (line : ℕ) → line_findings options.now line (chars text.now) ≡ [] }
 {
     text.len() > options.max as usize || end_white(text.as_bytes()) > 0
 }
 
-/// Puts behind `found` what the rules that look at one line find in a line of this text, whose number
-/// counts from 1. Where there is no memory nothing is added; where nothing is found none is taken.
+/// Puts behind `found` what the rules that look at one line find in a line of this text, whose
+/// number counts from 1. Where there is no memory nothing is added; where nothing is found none is
+/// taken.
 pub fn push_line_problems<A: Allocator + Copy>(
     alloc: A,
     line: u64,

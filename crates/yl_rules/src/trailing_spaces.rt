@@ -5,7 +5,7 @@ ghost use Rattle.std.specs.Str.{chars};
 ghost use Rattle.yl_text.specs.Character.{is_white};
 ghost use Rattle.yl_rules.specs.TrailingSpaces.{end_white, trailing_spaces};
 
-use crate::width::width;
+use crate::width::character_count;
 use std::alloc::Allocator;
 use yl_text::{Finding, RuleId};
 
@@ -34,6 +34,6 @@ pub(crate) fn trailing_spaces_problem<A: Allocator>(line: u64, text: &str) -> Op
     if white == 0 {
         return None;
     }
-    let column = (width(text) - white) as u64 + 1;
+    let column = (character_count(text) - white) as u64 + 1;
     Some(Finding::fixed(line, column, RuleId::TrailingSpaces, "trailing spaces"))
 }

@@ -1,9 +1,9 @@
-//! The width of a line.
+//! How many characters a line has.
 ghost use Rattle.std.specs.Prelude.{◌≡◌, ◌<◌, ◌≤◌, ◌^◌, length};
 ghost use Rattle.std.specs.Str.{chars};
 
 /// How many characters the text has: how many of its bytes begin one.
-pub(crate) fn width(text: &str) -> usize
+pub fn character_count(text: &str) -> usize
     ensures exact { result ≡ length (chars text.now) }
     ensures within { result ≤ length text.now }
 {

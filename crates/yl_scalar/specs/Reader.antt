@@ -1,6 +1,5 @@
 -- Bridge: what the readers of scalars and their answers say.
-use Rattle.std.specs.Prelude.{ℕ, ◌+◌, Bool, List, string_bytes}
-use Rattle.std.specs.Str.{chars}
+use Rattle.std.specs.Prelude.{ℕ, ◌+◌, Bool, List}
 use Rattle.yl_scalar.specs.Reading.{Extent, ScalarOutcomeValue, Whole, Refused, ScalarStepValue, GoesOn, EndsIn, EndedAbove, Fails}
 use Rattle.yl_scalar.specs.PlainSteps.{PlainReaderValue}
 use Rattle.yl_scalar.specs.QuotedSteps.{QuotedReaderValue}
@@ -30,7 +29,7 @@ outcome_value (OutcomeWhole place) value = Whole (extent_at place value)
 outcome_value (OutcomeRefused fault place) value = Refused fault place.down place.column
 
 abbrev pub plain_reader_value : {A : Type 0} → PlainReader A → PlainReaderValue
-plain_reader_value r = record { flow = r.flow; least = r.least; down = r.down; column = r.column; blanks = r.blanks; value = chars (string_bytes r.value) }
+plain_reader_value r = record { flow = r.flow; least = r.least; down = r.down; column = r.column; blanks = r.blanks; value = r.value }
 
 -- how many lines below the first one it has read
 abbrev pub plain_rows : {A : Type 0} → PlainReader A → ℕ

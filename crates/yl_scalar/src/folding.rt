@@ -4,6 +4,7 @@ ghost use Rattle.std.specs.Str.{chars, encode_utf8_all, IsAscii};
 ghost use Rattle.yl_scalar.specs.Folding.{break_of, joint};
 
 use std::alloc::{AllocError, Allocator};
+use yl_inline::InlineString;
 
 /// Adds what a break with this many blank rows behind it stands for.
 pub fn push_break<A: Allocator>(value: &mut Vec<char, A>, blanks: usize) -> Result<(), AllocError>
@@ -87,6 +88,21 @@ pub fn text_of<A: Allocator>(alloc: A, characters: &[char]) -> Result<String<A>,
     let mut text = String::new(alloc);
     add_characters(&mut text, characters)?;
     Ok(text)
+}
+
+/// The same text. It takes an allocation only where there are more than 16 characters, or one is not ASCII.
+pub fn inline_text_of<A: Allocator>(
+    alloc: A,
+    characters: &[char],
+) -> Result<InlineString<A>, AllocError>
+    ensures { IfOk result (λ text. text ≡ characters.now) }
+{
+    if is_ascii(characters)
+        && let Some(text) = InlineString::of_ascii(characters)
+    {
+        return Ok(text);
+    }
+    Ok(InlineString::of_string(text_of(alloc, characters)?))
 }
 
 /// Whether all characters are ASCII.

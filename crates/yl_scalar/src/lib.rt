@@ -26,7 +26,7 @@ pub use character::{
     first_bad, indentation, is_allowed, is_blank, is_flow_indicator, is_marker, is_plain_safe,
     is_white, leading_white, without_end,
 };
-pub use folding::text_of;
+pub use folding::{inline_text_of, text_of};
 pub use plain::{PlainReader, is_safe_next};
 pub use quoted::QuotedReader;
 pub use whole::{read_block, read_plain, read_quoted};

@@ -1,6 +1,5 @@
 //! Plain scalars: YAML 1.2.2, 7.3.3.
-ghost use Rattle.std.specs.Prelude.{◌≡◌, ◌≤◌, ◌<◌, ◌+◌, ◌^◌, IfOk, OnErr, OnOk, IsErr, IsTrue, true, false, length, string_bytes};
-ghost use Rattle.std.specs.Str.{encode_utf8_all};
+ghost use Rattle.std.specs.Prelude.{◌≡◌, ◌≤◌, ◌<◌, ◌+◌, ◌^◌, IfOk, OnErr, OnOk, IsErr, IsTrue, true, false, length};
 ghost use Rattle.yl_scalar.specs.Reading.{Whole};
 ghost use Rattle.yl_scalar.specs.Plain.{is_safe_next, stop};
 ghost use Rattle.yl_scalar.specs.PlainSteps.{plain_begin, plain_step, plain_finish};
@@ -11,18 +10,21 @@ use crate::character::{
     first_bad, indentation, is_blank, is_flow_indicator, is_marker, is_plain_safe, is_white,
     leading_white, without_end,
 };
-use crate::folding::{add_break, add_characters, text_of};
+use crate::folding::{add_break, add_characters, inline_text_of};
 use std::alloc::{AllocError, Allocator};
+use std::mem;
+use yl_inline::InlineString;
 
 /// A plain scalar that may go on below the rows that were read.
 #[derive(Debug, Drop)]
 pub struct PlainReader<A: Allocator> {
+    alloc: A,
     flow: bool,
     least: usize,
     down: usize,
     column: usize,
     blanks: usize,
-    value: String<A>,
+    value: InlineString<A>,
     failed: bool,
 }
 
@@ -75,9 +77,10 @@ impl<A: Allocator + Copy> PlainReader<A> {
     {
         let taken = stop(flow, false, text);
         let part = without_end(&text[..taken]);
-        let value = text_of(alloc, part)?;
+        let value = inline_text_of(alloc, part)?;
         let column = at + part.len();
         let reader = PlainReader {
+            alloc,
             flow,
             least,
             down: 0,
@@ -132,8 +135,11 @@ impl<A: Allocator + Copy> PlainReader<A> {
             return Ok(ScalarStep::Fails(ScalarFault::NotAllowed, ScalarPlace { down, column }));
         }
         self.failed = true;
-        add_break(&mut self.value, self.blanks)?;
-        add_characters(&mut self.value, part)?;
+        let value = mem::replace(&mut self.value, InlineString::new());
+        let mut value = value.into_string(self.alloc)?;
+        add_break(&mut value, self.blanks)?;
+        add_characters(&mut value, part)?;
+        self.value = InlineString::of_string(value);
         self.failed = false;
         self.down = down;
         self.column = white + part.len();
@@ -155,9 +161,9 @@ impl<A: Allocator + Copy> PlainReader<A> {
         }
     }
 
-    /// The scalar's value so far, in UTF-8; the whole value once it has ended.
-    pub fn into_value(self) -> String<A>
-        ensures { string_bytes result ≡ encode_utf8_all (plain_reader_value self).value }
+    /// The scalar's value so far; the whole value once it has ended.
+    pub fn into_value(self) -> InlineString<A>
+        ensures { result ≡ (plain_reader_value self).value }
     {
         self.value
     }

@@ -1,6 +1,5 @@
 //! Quoted scalars: YAML 1.2.2, 7.3.1 and 7.3.2.
-ghost use Rattle.std.specs.Prelude.{◌≡◌, ◌≤◌, ◌<◌, ◌+◌, ◌^◌, ◌++◌, ◌&&◌, ◌==◌, not, ℕ, List, IfOk, IfSome, OnErr, OnOk, IsErr, true, false, length, string_bytes};
-ghost use Rattle.std.specs.Str.{encode_utf8_all};
+ghost use Rattle.std.specs.Prelude.{◌≡◌, ◌≤◌, ◌<◌, ◌+◌, ◌^◌, ◌++◌, ◌&&◌, ◌==◌, not, ℕ, List, IfOk, IfSome, OnErr, OnOk, IsErr, true, false, length};
 ghost use Rattle.yl_scalar.specs.Reading.{Refused};
 ghost use Rattle.yl_scalar.specs.Quoted.{Closes, stretch, quote, begins_with};
 ghost use Rattle.yl_scalar.specs.QuotedSteps.{quoted_begin, quoted_step, quoted_finish, quoted_step_behind};
@@ -10,8 +9,9 @@ ghost use Rattle.yl_scalar.specs.Part.{gives, IsWithin, FitsBehind};
 use crate::answer::{ScalarFault, ScalarPlace, ScalarStep};
 use crate::character::{is_blank, is_marker, is_quoted_character, is_white, leading_white};
 use crate::escape::escape;
-use crate::folding::{push_joint, text_of};
+use crate::folding::{inline_text_of, push_joint};
 use std::alloc::{AllocError, Allocator};
+use yl_inline::InlineString;
 
 /// A quoted scalar that goes on below the rows that were read.
 #[derive(Debug, Drop)]
@@ -228,10 +228,10 @@ impl<A: Allocator + Copy> QuotedReader<A> {
     }
 
     /// The scalar's value so far; the whole value once it has ended.
-    pub fn to_value(&self, alloc: A) -> Result<String<A>, AllocError>
-        ensures { IfOk result (λ text. string_bytes text ≡ encode_utf8_all (quoted_reader_value self.now).value) }
+    pub fn to_value(&self, alloc: A) -> Result<InlineString<A>, AllocError>
+        ensures { IfOk result (λ text. text ≡ (quoted_reader_value self.now).value) }
     {
-        text_of(alloc, &self.value)
+        inline_text_of(alloc, &self.value)
     }
 
     /// What a row read from this column on is to the scalar.

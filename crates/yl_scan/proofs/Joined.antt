@@ -1,6 +1,6 @@
 -- What rows told, and what further rows tell.
 use Rattle.std.proofs.Common.{◌≡◌, ℕ, ◌+◌, ◌<◌, ◌≤◌, List, [], ◌∷◌, ◌++◌, length, get_or, drop, map, Option, Some, None, true, false, arith, refl, ap, sym, ◌∙◌, append_assoc}
-use Rattle.std.specs.Prelude.{option_to_list, is_some}
+use Rattle.std.specs.Prelude.{option_to_list, option_map, is_some}
 use Rattle.std.specs.Str.{chars}
 use Rattle.std.proofs.lemmas.List.{append-nil, drop_more, drop_all}
 use Rattle.yl_text.specs.Lines.{RowValue}
@@ -25,6 +25,30 @@ faults_joined : (f g h : Option (ℕ × PlacedScanFault)) → first_fault (first
 faults_joined None None h = refl
 faults_joined None (Some g) h = refl
 faults_joined (Some f) g h = refl
+
+comment_added : (xs : List (ℕ × CommentValue)) (line : ℕ) (c : Option CommentValue) → xs ++ option_to_list (option_map (at_line line) c) ≡ xs ++ with_comment line c []
+comment_added xs line None = refl
+comment_added xs line (Some c) = refl
+
+fault_added : (f g : Option (ℕ × PlacedScanFault)) → first_fault f g ≡ first_fault f (first_fault g None)
+fault_added f None = refl
+fault_added f (Some g) = refl
+
+-- a text's answer to which a row's was added part by part
+pub row_added : (o o' : ScannedTextValue) (line : ℕ) (t : StepValue) (mid : List (ℕ × LexemeValue))
+    → mid ≡ o.lexemes ++ option_to_list t.above → o'.lexemes ≡ mid ++ map (at_line line) t.lexemes → o'.comments ≡ o.comments ++ option_to_list (option_map (at_line line) t.comment)
+    → o'.sound ≡ o.sound ++ is_some t.state ∷ [] → o'.fault ≡ first_fault o.fault t.fault
+    → o' ≡ text_value_then o (output_with_step line t no_output)
+row_added o o' line t mid above row comment sound fault =
+    let row_of = map (at_line line) t.lexemes in
+    let lexemes : o'.lexemes ≡ o.lexemes ++ (option_to_list t.above ++ (row_of ++ [])) =
+    row ∙ ap (λ xs. xs ++ row_of) above ∙ append_assoc o.lexemes (option_to_list t.above) row_of ∙ ap (λ ys. o.lexemes ++ (option_to_list t.above ++ ys)) (sym (append-nil row_of)) in
+    λ i. record {
+      lexemes = lexemes i;
+      comments = (comment ∙ comment_added o.comments line t.comment) i;
+      sound = sound i;
+      fault = (fault ∙ fault_added o.fault t.fault) i;
+    }
 
 -- a row's answer, and then what the rows below tell
 pub row_joined : (o : ScannedTextValue) (line : ℕ) (t : StepValue) (p : ScanOutput) → text_value_then (text_value_then o (output_with_step line t no_output)) p ≡ text_value_then o (output_with_step line t p)

@@ -163,11 +163,28 @@ fn stopped_if(is_sound: bool) -> Soundness
     }
 }
 
+/// The lexemes of a list, in no more room than they take. The list keeps its room.
+#[inline(always)]
+fn fitted<A: Allocator + Copy>(
+    alloc: A,
+    list: &mut Vec<Lexeme<A>, A>,
+) -> Result<Vec<Lexeme<A>, A>, AllocError>
+    ensures { IfOk result (λ lexemes. lexemes.items ≡ list.old.items) }
+{
+    if list.is_empty() {
+        return Ok(Vec::new(alloc));
+    }
+    let mut lexemes = Vec::with_capacity(alloc, list.len())?;
+    lexemes.append(list)?;
+    Ok(lexemes)
+}
+
 /// Reads a row from a column on, at its start or behind a lexeme that began above.
 #[inline(always)]
 fn read_on<A: Allocator + Copy>(
     alloc: A,
     surroundings: &mut Surroundings<'_, A>,
+    list: &mut Vec<Lexeme<A>, A>,
     line: u32,
     skip: usize,
     fresh: bool,
@@ -186,15 +203,18 @@ fn read_on<A: Allocator + Copy>(
 {
     surroundings.new_row();
     let tab = tab_of(fresh, row);
-    let mut lexemes = Vec::new(alloc);
-    let end = read_row(alloc, surroundings, &mut lexemes, tab, skip, fresh, row)?;
+    list.clear();
+    let end = read_row(alloc, surroundings, list, tab, skip, fresh, row)?;
+    let lexemes = fitted(alloc, list)?;
     Ok(row_end(line, sound, lexemes, end))
 }
 
 /// Reads a row that begins inside no lexeme.
+#[inline(always)]
 fn fresh_row<A: Allocator + Copy>(
     alloc: A,
     surroundings: &mut Surroundings<'_, A>,
+    list: &mut Vec<Lexeme<A>, A>,
     line: u32,
     row: &[char],
 ) -> Result<(Step<A>, Phase<A>), AllocError>
@@ -209,7 +229,7 @@ fn fresh_row<A: Allocator + Copy>(
     ensures halts { IfOk result (λ r. (k : SurroundingsValue) → is_halted (phase_value false k r.1) ≡ is_some r.0.failed) }
 {
     let sound = sound_start(line, row);
-    let read = read_on(alloc, surroundings, line, 0, true, sound, row)?;
+    let read = read_on(alloc, surroundings, list, line, 0, true, sound, row)?;
     Ok(read)
 }
 
@@ -225,15 +245,16 @@ fn scalar_lexeme<A: Allocator + Copy>(
     requires place { (place.down < 2 ^ 32) × (place.column ≤ 2 ^ 31) }
     ensures { IfOk result (λ lexeme. lexeme ≡ scalar_lexeme style at place (value_of reader)) }
 {
-    let start = Pos {
-        line: 0,
-        col: at as u32,
-    };
     let end = Pos {
         line: place.down as u32,
         col: place.column as u32,
     };
-    Ok(Lexeme::new(Kind::Scalar(style), start, end, reader.into_value(alloc)?))
+    Ok(Lexeme::new(
+        Kind::Scalar(style),
+        at as u32,
+        end,
+        reader.into_value(alloc)?,
+    ))
 }
 
 /// A scalar's fault.
@@ -254,6 +275,7 @@ fn scalar_failed(ago: u32, fault: ScalarFault, place: ScalarPlace) -> FaultAbove
 fn within_row<A: Allocator + Copy>(
     alloc: A,
     surroundings: &mut Surroundings<'_, A>,
+    list: &mut Vec<Lexeme<A>, A>,
     line: u32,
     begun: u32,
     scalar: OpenScalar<A>,
@@ -285,6 +307,7 @@ fn within_row<A: Allocator + Copy>(
             let (mut step, resting) = read_on(
                 alloc,
                 surroundings,
+                list,
                 line,
                 place.column,
                 false,
@@ -296,7 +319,7 @@ fn within_row<A: Allocator + Copy>(
         }
         ScalarStep::EndedAbove(place) => {
             let lexeme = scalar_lexeme(alloc, style, at, reader, place)?;
-            let (mut step, resting) = fresh_row(alloc, surroundings, line, row)?;
+            let (mut step, resting) = fresh_row(alloc, surroundings, list, line, row)?;
             step.ended = Some(LexemeAbove { ago, lexeme });
             Ok((step, resting))
         }
@@ -332,10 +355,12 @@ fn halted_row<A: Allocator + Copy>(alloc: A, reach: Reach, row: &[char]) -> (Ste
     (step, Phase::Halted(reach))
 }
 
-/// Reads a row.
+/// Reads a row, its lexemes into a list that is kept from row to row for its room.
+#[inline(always)]
 pub fn fed_row<A: Allocator + Copy>(
     alloc: A,
     surroundings: &mut Surroundings<'_, A>,
+    list: &mut Vec<Lexeme<A>, A>,
     line: u32,
     resting: Phase<A>,
     row: &[char],
@@ -352,11 +377,11 @@ pub fn fed_row<A: Allocator + Copy>(
 {
     match resting {
         Phase::Between => {
-            let read = fresh_row(alloc, surroundings, line, row)?;
+            let read = fresh_row(alloc, surroundings, list, line, row)?;
             Ok(read)
         }
         Phase::Within(begun, scalar) => {
-            within_row(alloc, surroundings, line, begun, scalar, row)
+            within_row(alloc, surroundings, list, line, begun, scalar, row)
         }
         Phase::Halted(reach) => Ok(halted_row(alloc, reach, row)),
     }

@@ -18,7 +18,7 @@ use crate::step::Step;
 use std::alloc::{AllocError, Allocator};
 use std::marker::Model;
 use std::mem;
-use yl_lexeme::{BracketStack, ColumnStack, Kind, Meter, Surroundings};
+use yl_lexeme::{BracketStack, ColumnStack, Kind, Lexeme, Meter, Surroundings};
 use yl_text::{Row, characters_of};
 
 /// A scanner. It is fed a text's rows from the first on, and tells what each row tells.
@@ -28,6 +28,8 @@ pub struct Scanner<'a, A: Allocator + Copy> {
     surroundings: Surroundings<'a, A>,
     /// The characters of the row.
     characters: Vec<char, A>,
+    /// Into what the lexemes of a row are read.
+    lexemes: Vec<Lexeme<A>, A>,
     resting: Phase<A>,
     /// How many rows were fed.
     line: u32,
@@ -67,6 +69,7 @@ impl<'a, A: Allocator + Copy> Scanner<'a, A> {
             alloc: *alloc,
             surroundings,
             characters: Vec::new(*alloc),
+            lexemes: Vec::new(*alloc),
             resting,
             line: 0,
             states,
@@ -117,6 +120,7 @@ impl<'a, A: Allocator + Copy> Scanner<'a, A> {
         }
     }
 
+    #[inline(always)]
     fn read(&mut self, text: &str) -> Result<Step<A>, AllocError>
         requires fits { length (chars text.now) < 2 ^ 31 }
         requires few { self.old.line < 2 ^ 32 - 1 }
@@ -143,6 +147,7 @@ impl<'a, A: Allocator + Copy> Scanner<'a, A> {
         let (mut step, resting) = fed_row(
             self.alloc,
             &mut self.surroundings,
+            &mut self.lexemes,
             self.line,
             resting,
             &self.characters,

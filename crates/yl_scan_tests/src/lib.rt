@@ -1,5 +1,21 @@
-//! Tests of the scanner over several crates.
+//! Tests of the scanner and of the recorder, over several crates.
 #![tactic(auto)]
 
 #[cfg(test)]
-mod tests;
+mod bounds;
+#[cfg(test)]
+mod deep;
+#[cfg(test)]
+mod faults;
+#[cfg(test)]
+mod growths;
+#[cfg(test)]
+mod large;
+#[cfg(test)]
+mod records;
+#[cfg(test)]
+mod scans;
+#[cfg(test)]
+mod steps;
+#[cfg(test)]
+mod texts;

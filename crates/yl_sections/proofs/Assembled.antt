@@ -1,5 +1,5 @@
 -- What is kept of a section, put together.
-use Rattle.std.proofs.Common.{◌≡◌, ◌++◌, ℕ, true, List, [], ◌∷◌, map, length, refl, ap, ◌∙◌, Option}
+use Rattle.std.proofs.Common.{◌≡◌, ◌++◌, ℕ, true, List, [], ◌∷◌, map, length, refl, ap, ◌∙◌, Option, None}
 use Rattle.std.specs.Prelude.{slice_get}
 use Rattle.std.specs.List.{filter, flat_map}
 use Rattle.yl_text.specs.declared.finding.RuleId.TheVariants.{Comments, Indentation}
@@ -17,12 +17,13 @@ use Rattle.yl_layout.specs.Lexemes.{lexeme_findings}
 use Rattle.yl_config.specs.declared.config.Config.{Config}
 use Rattle.yl_record.specs.Records.{RecordValue}
 use Rattle.yl_sections.specs.Sections.{lexemes_of}
-use Rattle.yl_sections.specs.Kept.{BuiltValue, SectionFaultValue, KeptValue, scan_fault_from, section_fault, shown_events, counted_of, comment_lines, shown_comments, is_addressed, lexeme_options_of, shown_comment_findings, tree_findings, facts_of, column_or, kept_of, is_on}
+use Rattle.yl_sections.specs.Kept.{BuiltValue, SectionFaultValue, KeptValue, scan_fault_from, section_fault, shown_events, hidden_events, counted_of, comment_lines, shown_comments, lexeme_options_of, shown_comment_findings, tree_findings, facts_of, column_or, kept_of, is_on}
+use Rattle.yl_rules.specs.Addressed.{is_addressed}
 
 pub kept_is :
-    (config : Config) (rs : List RecordValue) (b : BuiltValue) (xs : List LexemeValue) (scanned fault : Option SectionFaultValue) (events : List EventValue) (counted rows lines first : ℕ)
-    (comments kept : List PlacedCommentValue) (found : List FindingValue) (facts : List Fact) (k : KeptValue)
-    → k ≡ record { rows = rows; first = first; found = found; facts = facts; comments = kept; fault = fault }
+    (config : Config) (rs : List RecordValue) (b : BuiltValue) (xs : List LexemeValue) (scanned fault parse_fault : Option SectionFaultValue) (events behind : List EventValue) (counted rows lines first : ℕ)
+    (comments kept : List PlacedCommentValue) (found hidden : List FindingValue) (facts : List Fact) (k : KeptValue)
+    → k ≡ record { rows = rows; first = first; found = found; facts = facts; comments = kept; fault = fault; hidden = hidden; parse_fault = parse_fault }
     → found ≡ lexeme_findings (lexeme_options_of config) counted xs ++ (shown_comment_findings config comments ++ tree_findings config events)
     → facts ≡ facts_of config rs xs counted
     → kept ≡ filter is_addressed comments
@@ -35,9 +36,12 @@ pub kept_is :
     → scanned ≡ scan_fault_from 0 rs
     → rows ≡ length rs
     → xs ≡ lexemes_of rs
+    → hidden ≡ tree_findings config behind
+    → behind ≡ hidden_events fault parse_fault b.events
+    → parse_fault ≡ section_fault xs b.fault None
     → k ≡ kept_of config rs b
-kept_is config rs b xs scanned fault events counted rows lines first comments kept found facts k h1 h2 h3 h4 h5 h6 h7 h8 h9 h10 h11 h12 h13 =
-    rw (h1, h2, h3, h4, h5, h6, h7, h8, h9, h10, h11, h12, h13) refl
+kept_is config rs b xs scanned fault parse_fault events behind counted rows lines first comments kept found hidden facts k h1 h2 h3 h4 h5 h6 h7 h8 h9 h10 h11 h12 h13 h14 h15 h16 =
+    rw (h1, h14, h15, h16, h2, h3, h4, h5, h6, h7, h8, h9, h10, h11, h12, h13) refl
 
 -- ---- rules that are on
 

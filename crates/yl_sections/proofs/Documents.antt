@@ -13,7 +13,7 @@ use Rattle.yl_events.proofs.Complete.{one_derivation}
 use Rattle.yl_events.proofs.Answered.{one_fault, no_fault}
 use Rattle.yl_events.proofs.Counts.{fault_inside}
 use Rattle.yl_events.proofs.Giving.{gives}
-use Rattle.yl_sections.specs.Kept.{BuiltValue, IsBuilt, counted_of}
+use Rattle.yl_sections.specs.Kept.{BuiltValue, IsSectionBuilt, counted_of}
 use Rattle.yl_sections.specs.Judge.{built_by, document_of}
 
 placed : (k l : ParseFault) (i j : ℕ) → k ≡ l → i ≡ j → (let f : PlacedParseFault = record { kind = k; place = i } in let g : PlacedParseFault = record { kind = l; place = j } in f ≡ g)
@@ -34,7 +34,7 @@ by_outcome xs (Fails f) es None g h = absurd (no_fault (symbols_of_lexemes xs) h
 by_outcome xs (Fails f) es (Some e) g h = made es [] (Some e) (Some f) h.1 (ap Some (same_fault xs e f h.0 g))
 
 -- one value
-pub document_is : (xs : List LexemeValue) (b : BuiltValue) → IsBuilt xs b → b ≡ document_of xs
+pub document_is : (xs : List LexemeValue) (b : BuiltValue) → IsSectionBuilt xs b → b ≡ document_of xs
 document_is [] b h = h
 document_is (x ∷ xs) b h = by_outcome (x ∷ xs) _ b.events b.fault (gives (x ∷ xs)) h
 
@@ -43,7 +43,7 @@ outcome_builds xs (Events os) g = record { outlines = os; derived = g; filled = 
 outcome_builds xs (Fails f) g = (g, refl)
 
 -- and there is one
-pub document_built : (xs : List LexemeValue) → IsBuilt xs (document_of xs)
+pub document_built : (xs : List LexemeValue) → IsSectionBuilt xs (document_of xs)
 document_built [] = refl
 document_built (x ∷ xs) = outcome_builds (x ∷ xs) _ (gives (x ∷ xs))
 
@@ -55,6 +55,6 @@ fault_within xs es (Some f) h = fault_inside xs f.place h.0.place
 pub counted_within : (xs : List LexemeValue) (b : BuiltValue) → b ≡ document_of xs → counted_of xs b.fault ≤ length xs
 counted_within xs b e = by_built xs b (rw e (document_built xs))
   where
-    by_built : (ys : List LexemeValue) (d : BuiltValue) → IsBuilt ys d → counted_of ys d.fault ≤ length ys
+    by_built : (ys : List LexemeValue) (d : BuiltValue) → IsSectionBuilt ys d → counted_of ys d.fault ≤ length ys
     by_built [] d h = rw h (omega arith)
     by_built (y ∷ ys) d h = fault_within (y ∷ ys) d.events d.fault h

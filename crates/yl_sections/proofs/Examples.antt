@@ -9,7 +9,7 @@ use Rattle.yl_row.specs.declared.fault.ScanFault.TheVariants.{NotAllowed}
 use Rattle.yl_row.specs.Entries.{pos_at}
 use Rattle.yl_events.specs.declared.fault.ParseFault.TheVariants.{CommaOrBracketExpected, SecondNode}
 use Rattle.yl_config.specs.declared.config.Config.{Config}
-use Rattle.yl_settings.specs.Standard.{standard_options}
+use Rattle.yl_settings.specs.Standard.{standard_rule_options}
 use Rattle.yl_record.specs.Records.{RecordValue}
 use Rattle.yl_sections.specs.Sections.{sections}
 use Rattle.yl_sections.specs.Kept.{Here, Behind, nothing_built, kept_of, scan_fault_from, section_fault}
@@ -35,7 +35,7 @@ bad = row_with [] None (Some (record { fault = NotAllowed; down = 0; column = 2 
 
 -- no rule is on
 abbrev off : Config
-off = record { levels = record { levels = [] }; options = standard_options }
+off = record { levels = record { levels = [] }; options = standard_rule_options }
 
 abbrev row_counts : List RecordValue → List ℕ
 row_counts rs = map length (sections rs)

@@ -1,11 +1,10 @@
 -- Sections of rows that others may follow.
-use Rattle.std.proofs.Common.{◌≡◌, ℕ, zero, suc, ◌+◌, ◌-◌, ◌<◌, ◌≤◌, Bool, true, false, cond, List, [], ◌∷◌, ◌++◌, length, map, take, take_all, drop, Option, None, refl, ap, sym, ◌∙◌, append-nil, append_assoc, arith, Bor}
+use Rattle.std.proofs.Common.{◌≡◌, ℕ, zero, suc, ◌+◌, ◌-◌, ◌<◌, ◌≤◌, Bool, true, false, cond, List, [], ◌∷◌, ◌++◌, length, map, take, take_all, drop, Option, None, refl, ap, sym, ◌∙◌, append-nil, arith, Bor}
 use Rattle.std.proofs.lemmas.List.{take-append-le, drop-append-le, drop-drop, take-map, drop-map, length-drop}
 use Rattle.yl_lexeme.specs.declared.lexeme.Kind.{Kind}
 use Rattle.yl_record.specs.Records.{RecordValue}
-use Rattle.yl_sections.specs.Sections.{is_section_start, last_kind, sections, later_sections, row_count, lexemes_of}
-use Rattle.yl_sections.specs.Kept.{KeptValue, document_count}
-use Rattle.yl_sections.specs.Judge.{documents_in}
+use Rattle.yl_sections.specs.Sections.{is_section_start, last_kind_from, sections, later_sections, row_count, lexemes_of}
+use Rattle.yl_sections.specs.Kept.{KeptValue, document_count, documents_in}
 use Rattle.yl_sections.proofs.Rows.{seen, length-seen}
 use Rattle.yl_sections.proofs.Cuts.{first_section, some_rows}
 
@@ -20,7 +19,7 @@ by_start false n m len f l = ap suc (f (omega (arith, l)))
 pub count_before : (last : Option Kind) (rs more : List RecordValue) → row_count last rs < length rs → row_count last (rs ++ more) ≡ row_count last rs
 count_before last [] more l = absurd (omega (arith, l))
 count_before last (r ∷ rs) more l =
-    let k = last_kind last r.entry.lexemes in
+    let k = last_kind_from last r.entry.lexemes in
     by_start (is_section_start last r.entry.lexemes) (row_count k rs) (row_count k (rs ++ more)) (length rs) (count_before k rs more) l
 
 some_sections : (xs more : List RecordValue) → 0 < length xs → later_sections (xs ++ more) ≡ sections (xs ++ more)

@@ -16,7 +16,7 @@ use Rattle.yl_row.proofs.Agree.{run-entries}
 use Rattle.yl_scan.specs.Restart.{state_at, IsQuiet}
 use Rattle.yl_scan.proofs.Restarts.{shift}
 use Rattle.yl_record.specs.Records.{records_with}
-use Rattle.yl_sections.specs.Sections.{last_kind}
+use Rattle.yl_sections.specs.Sections.{last_kind_from}
 use Rattle.yl_sections.specs.Local.{kind_after}
 use Rattle.yl_sections.specs.Last.{HasNoLexeme, LastLaw, StoppedLaw}
 
@@ -24,7 +24,7 @@ use Rattle.yl_sections.specs.Last.{HasNoLexeme, LastLaw, StoppedLaw}
 
 -- what is known behind a row that no fault stops holds the kind of its last lexeme, or of the last one before
 abbrev HoldsLast : Option Kind → RowReading SurroundingsValue → Type 0
-HoldsLast last r = r.fault ≡ None → r.behind.last ≡ last_kind last r.lexemes
+HoldsLast last r = r.fault ≡ None → r.behind.last ≡ last_kind_from last r.lexemes
 
 holds_if : (last : Option Kind) (b : Bool) (x y : RowReading SurroundingsValue) → HoldsLast last x → HoldsLast last y → HoldsLast last (cond b x y)
 holds_if last true x y p q = p
@@ -63,7 +63,7 @@ read_holds rows tab skip bs first at k (c ∷ cs) =
 -- the kind of the last lexeme, after what these rows hold too
 abbrev kind_below : Option Kind → List RowEntry → Option Kind
 kind_below last [] = last
-kind_below last (e ∷ es) = kind_below (last_kind last e.lexemes) es
+kind_below last (e ∷ es) = kind_below (last_kind_from last e.lexemes) es
 
 -- a sound row that no fault stands before has the last kind in its state
 abbrev KeepLast : Option Kind → List RowEntry → Type 0
@@ -73,7 +73,7 @@ stands_sound : (b : Bool) (a : Context) (levels : List ℕ) (brackets : List Kin
 stands_sound true a levels brackets z h = cc
 stands_sound false a levels brackets z h = cc
 
-none_stands : (b : Bool) (levels : List ℕ) (brackets : List Kind) (z : Option Kind) (P : Type 0) → cond b None (Some Stopped) ≡ Some (Stands levels brackets z) → P
+pub none_stands : (b : Bool) (levels : List ℕ) (brackets : List Kind) (z : Option Kind) (P : Type 0) → cond b None (Some Stopped) ≡ Some (Stands levels brackets z) → P
 none_stands true levels brackets z P h = cc
 none_stands false levels brackets z P h = cc
 
@@ -89,11 +89,11 @@ abbrev rows_below : List (List ℕ) → RowReading SurroundingsValue → Option 
 rows_below rows r f = entries_below (λ down column k. entries_by false down column k rows) rows r f
 
 below_keep : (last : Option Kind) (rows : List (List ℕ)) (r : RowReading SurroundingsValue) (state : Option LineStateValue) (f : Option PlacedScanFault) → r.fault ≡ f → HoldsLast last r
-    → ((down column : ℕ) (k : SurroundingsValue) → KeepLast k.last (entries_by false down column k rows)) → KeepLast (last_kind last (entry_of state r).lexemes) (rows_below rows r f)
+    → ((down column : ℕ) (k : SurroundingsValue) → KeepLast k.last (entries_by false down column k rows)) → KeepLast (last_kind_from last (entry_of state r).lexemes) (rows_below rows r f)
 below_keep last rows r state None e held more i levels brackets z h =
-    let lexemes : last_kind last (lexemes_up_to_fault r.fault r.lexemes) ≡ r.behind.last = ap (λ f. last_kind last (lexemes_up_to_fault f r.lexemes)) e ∙ sym (held e) in
+    let lexemes : last_kind_from last (lexemes_up_to_fault r.fault r.lexemes) ≡ r.behind.last = ap (λ f. last_kind_from last (lexemes_up_to_fault f r.lexemes)) e ∙ sym (held e) in
     ap (λ k. kind_below k (take i (entries_by false r.down r.column r.behind rows))) lexemes ∙ more r.down r.column r.behind i levels brackets z h
-below_keep last rows r state (Some f) e held more i levels brackets z h = stopped_keep (last_kind last (entry_of state r).lexemes) (is_unclosed f.fault) f.down rows i levels brackets z h
+below_keep last rows r state (Some f) e held more i levels brackets z h = stopped_keep (last_kind_from last (entry_of state r).lexemes) (is_unclosed f.fault) f.down rows i levels brackets z h
 
 run_keep : (start : Bool) (down column : ℕ) (k : SurroundingsValue) (rows : List (List ℕ)) → KeepLast k.last (entries_by start down column k rows)
 run_keep start down column k [] i levels brackets z h = cc
@@ -110,7 +110,7 @@ run_keep start (suc (suc down)) column k (row ∷ rows) (suc i) levels brackets 
 
 -- ---- as many as rows
 
-stopped_count : (to_end : Bool) (down : ℕ) (rows : List (List ℕ)) → length (stopped_rows to_end down rows) ≡ length rows
+pub stopped_count : (to_end : Bool) (down : ℕ) (rows : List (List ℕ)) → length (stopped_rows to_end down rows) ≡ length rows
 stopped_count to_end down [] = refl
 stopped_count to_end zero (row ∷ rows) = ap suc (stopped_count to_end 0 rows)
 stopped_count to_end (suc down) (row ∷ rows) = ap suc (stopped_count to_end down rows)
@@ -120,7 +120,7 @@ below_count : (rows : List (List ℕ)) (r : RowReading SurroundingsValue) (f : O
 below_count rows r None more = more r.down r.column r.behind
 below_count rows r (Some f) more = stopped_count (is_unclosed f.fault) f.down rows
 
-run_count : (start : Bool) (down column : ℕ) (k : SurroundingsValue) (rows : List (List ℕ)) → length (entries_by start down column k rows) ≡ length rows
+pub run_count : (start : Bool) (down column : ℕ) (k : SurroundingsValue) (rows : List (List ℕ)) → length (entries_by start down column k rows) ≡ length rows
 run_count start down column k [] = refl
 run_count start zero column k (row ∷ rows) =
     let r = row_reading_by rows (first_tab false row) 0 true true 0 k row in
@@ -137,7 +137,7 @@ kind_of_records last zero ns es h = refl
 kind_of_records last (suc i) [] [] h = refl
 kind_of_records last (suc i) [] (e ∷ es) h = absurd (omega (arith, h))
 kind_of_records last (suc i) (n ∷ ns) [] h = refl
-kind_of_records last (suc i) (n ∷ ns) (e ∷ es) h = kind_of_records (last_kind last e.lexemes) i ns es (omega (arith, h))
+kind_of_records last (suc i) (n ∷ ns) (e ∷ es) h = kind_of_records (last_kind_from last e.lexemes) i ns es (omega (arith, h))
 
 pub last_kept : LastLaw
 last_kept t i levels brackets last h =

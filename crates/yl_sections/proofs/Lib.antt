@@ -4,6 +4,8 @@ pub mod Rows
 pub mod Assembled
 pub mod Sequence
 pub mod Local
+pub mod FrontRows
+pub mod Lost
 pub mod Last
 pub mod Fronts
 pub mod Stateless

@@ -7,17 +7,17 @@ use Rattle.std.proofs.Math.ListN.{drop_of_length-le}
 use Rattle.std.specs.List.{splice}
 use Rattle.yl_lexeme.specs.declared.lexeme.Kind.{Kind}
 use Rattle.yl_record.specs.Records.{RecordValue}
-use Rattle.yl_sections.specs.Sections.{Parts, last_kind, is_section_start, with_row, parts, all_parts, sections}
+use Rattle.yl_sections.specs.Sections.{Parts, last_kind_from, is_section_start, with_row, parts, all_parts, sections}
 use Rattle.yl_sections.proofs.Cuts.{last_anew, none_begins}
-use Rattle.yl_sections.specs.Local.{kind_after, is_start, is_start_at, row_total, all_rows}
+use Rattle.yl_sections.specs.Local.{kind_after, begins_section, is_start_at, row_total, all_rows}
 
 -- rows that begin a section, after others
-anew : (last : Option Kind) (ys : List RecordValue) → is_start last ys ≡ true → parts last ys ≡ record { here = []; later = sections ys }
+anew : (last : Option Kind) (ys : List RecordValue) → begins_section last ys ≡ true → parts last ys ≡ record { here = []; later = sections ys }
 anew last [] b = absurd (cc)
 anew last (y ∷ ys) b =
-    ap (λ (t : Bool). with_row t y (parts (last_kind last y.entry.lexemes) ys)) b
+    ap (λ (t : Bool). with_row t y (parts (last_kind_from last y.entry.lexemes) ys)) b
     ∙ (ap (λ (l : Option Kind). with_row true y (parts l ys)) (last_anew last y.entry.lexemes b)
-    ∙ ap (λ (t : Bool). let p : Parts = record { here = []; later = all_parts (with_row t y (parts (last_kind None y.entry.lexemes) ys)) } in p) (sym (none_begins y.entry.lexemes)))
+    ∙ ap (λ (t : Bool). let p : Parts = record { here = []; later = all_parts (with_row t y (parts (last_kind_from None y.entry.lexemes) ys)) } in p) (sym (none_begins y.entry.lexemes)))
 
 -- with further sections
 abbrev and_then : Parts → List (List RecordValue) → Parts
@@ -27,14 +27,14 @@ onto_then : (b : Bool) (e : RecordValue) (p : Parts) (ss : List (List RecordValu
 onto_then true e p ss = refl
 onto_then false e p ss = refl
 
-parted_then : (last : Option Kind) (xs ys : List RecordValue) → is_start (kind_after last xs) ys ≡ true → parts last (xs ++ ys) ≡ and_then (parts last xs) (sections ys)
+parted_then : (last : Option Kind) (xs ys : List RecordValue) → begins_section (kind_after last xs) ys ≡ true → parts last (xs ++ ys) ≡ and_then (parts last xs) (sections ys)
 parted_then last [] ys b = anew last ys b
 parted_then last (x ∷ xs) ys b =
-    ap (λ (p : Parts). with_row (is_section_start last x.entry.lexemes) x p) (parted_then (last_kind last x.entry.lexemes) xs ys b)
-    ∙ onto_then (is_section_start last x.entry.lexemes) x (parts (last_kind last x.entry.lexemes) xs) (sections ys)
+    ap (λ (p : Parts). with_row (is_section_start last x.entry.lexemes) x p) (parted_then (last_kind_from last x.entry.lexemes) xs ys b)
+    ∙ onto_then (is_section_start last x.entry.lexemes) x (parts (last_kind_from last x.entry.lexemes) xs) (sections ys)
 
 -- sections of rows and of rows after them that begin one
-pub sections_then : (xs ys : List RecordValue) → is_start (kind_after None xs) ys ≡ true → sections (xs ++ ys) ≡ sections xs ++ sections ys
+pub sections_then : (xs ys : List RecordValue) → begins_section (kind_after None xs) ys ≡ true → sections (xs ++ ys) ≡ sections xs ++ sections ys
 sections_then xs ys b = ap all_parts (parted_then None xs ys b)
 
 -- the rows are those of their sections
@@ -44,7 +44,7 @@ onto_joined false e p es h = ap (λ (xs : List RecordValue). e ∷ xs) h
 
 pub joined_parts : (last : Option Kind) (es : List RecordValue) → all_rows (all_parts (parts last es)) ≡ es
 joined_parts last [] = refl
-joined_parts last (e ∷ es) = onto_joined (is_section_start last e.entry.lexemes) e (parts (last_kind last e.entry.lexemes) es) es (joined_parts (last_kind last e.entry.lexemes) es)
+joined_parts last (e ∷ es) = onto_joined (is_section_start last e.entry.lexemes) e (parts (last_kind_from last e.entry.lexemes) es) es (joined_parts (last_kind_from last e.entry.lexemes) es)
 
 -- the first sections are those of their rows
 abbrev cut : Parts → ℕ → Parts
@@ -53,7 +53,7 @@ cut p n = record { here = p.here; later = take n p.later }
 abbrev FrontHolds : Option Kind → List RecordValue → Parts → Type 0
 FrontHolds last es p = (n : ℕ) → parts last (p.here ++ all_rows (take n p.later)) ≡ cut p n
 
-front_onto : (last : Option Kind) (b : Bool) (e : RecordValue) (es : List RecordValue) (p : Parts) → is_section_start last e.entry.lexemes ≡ b → FrontHolds (last_kind last e.entry.lexemes) es p → FrontHolds last (e ∷ es) (with_row b e p)
+front_onto : (last : Option Kind) (b : Bool) (e : RecordValue) (es : List RecordValue) (p : Parts) → is_section_start last e.entry.lexemes ≡ b → FrontHolds (last_kind_from last e.entry.lexemes) es p → FrontHolds last (e ∷ es) (with_row b e p)
 front_onto last true e es p b h zero = refl
 front_onto last true e es p b h (suc n) = ap (λ (q : Parts). with_row (is_section_start last e.entry.lexemes) e q) (h n) ∙ ap (λ (t : Bool). with_row t e (cut p n)) b
 front_onto last false e es p b h n = ap (λ (q : Parts). with_row (is_section_start last e.entry.lexemes) e q) (h n) ∙ ap (λ (t : Bool). with_row t e (cut p n)) b
@@ -61,17 +61,17 @@ front_onto last false e es p b h n = ap (λ (q : Parts). with_row (is_section_st
 front : (last : Option Kind) (es : List RecordValue) → FrontHolds last es (parts last es)
 front last [] zero = refl
 front last [] (suc n) = refl
-front last (e ∷ es) n = front_onto last (is_section_start last e.entry.lexemes) e es (parts (last_kind last e.entry.lexemes) es) refl (front (last_kind last e.entry.lexemes) es) n
+front last (e ∷ es) n = front_onto last (is_section_start last e.entry.lexemes) e es (parts (last_kind_from last e.entry.lexemes) es) refl (front (last_kind_from last e.entry.lexemes) es) n
 
 -- the last sections are those of their rows
 abbrev BackHolds : Parts → Type 0
 BackHolds p = (n : ℕ) → n < length p.later → sections (all_rows (drop n p.later)) ≡ drop n p.later
 
-back_onto : (last : Option Kind) (b : Bool) (e : RecordValue) (es : List RecordValue) (p : Parts) → is_section_start last e.entry.lexemes ≡ b → p ≡ parts (last_kind last e.entry.lexemes) es → BackHolds p → BackHolds (with_row b e p)
+back_onto : (last : Option Kind) (b : Bool) (e : RecordValue) (es : List RecordValue) (p : Parts) → is_section_start last e.entry.lexemes ≡ b → p ≡ parts (last_kind_from last e.entry.lexemes) es → BackHolds p → BackHolds (with_row b e p)
 back_onto last true e es p b is h zero l =
-    let rows : p.here ++ all_rows p.later ≡ es = ap (λ (q : Parts). all_rows (all_parts q)) is ∙ joined_parts (last_kind last e.entry.lexemes) es in
+    let rows : p.here ++ all_rows p.later ≡ es = ap (λ (q : Parts). all_rows (all_parts q)) is ∙ joined_parts (last_kind_from last e.entry.lexemes) es in
     ap (λ (xs : List RecordValue). sections (e ∷ xs)) rows
-    ∙ (ap (λ (t : Bool). all_parts (with_row t e (parts (last_kind None e.entry.lexemes) es))) (none_begins e.entry.lexemes)
+    ∙ (ap (λ (t : Bool). all_parts (with_row t e (parts (last_kind_from None e.entry.lexemes) es))) (none_begins e.entry.lexemes)
     ∙ (ap (λ (k : Option Kind). all_parts (with_row false e (parts k es))) (sym (last_anew last e.entry.lexemes b))
     ∙ ap (λ (q : Parts). all_parts (with_row false e q)) (sym is)))
 back_onto last true e es p b is h (suc n) l = h n (omega (arith, l))
@@ -79,7 +79,7 @@ back_onto last false e es p b is h n l = h n l
 
 back : (last : Option Kind) (es : List RecordValue) → BackHolds (parts last es)
 back last [] n l = absurd (omega (arith, l))
-back last (e ∷ es) n l = back_onto last (is_section_start last e.entry.lexemes) e es (parts (last_kind last e.entry.lexemes) es) refl refl (back (last_kind last e.entry.lexemes) es) n l
+back last (e ∷ es) n l = back_onto last (is_section_start last e.entry.lexemes) e es (parts (last_kind_from last e.entry.lexemes) es) refl refl (back (last_kind_from last e.entry.lexemes) es) n l
 
 -- ---- places
 
@@ -102,7 +102,7 @@ pub back_sections : (old : List RecordValue) (q : ℕ) → q < length (sections 
 back_sections old zero l = ap sections (joined_parts None old)
 back_sections old (suc q) l = back None old q (omega (arith, l))
 
-starts_front : (last : Option Kind) (ys : List RecordValue) (n : ℕ) → 0 < n → is_start last (take n ys) ≡ is_start last ys
+starts_front : (last : Option Kind) (ys : List RecordValue) (n : ℕ) → 0 < n → begins_section last (take n ys) ≡ begins_section last ys
 starts_front last [] zero l = refl
 starts_front last [] (suc n) l = refl
 starts_front last (y ∷ ys) zero l = absurd (omega (arith, l))
@@ -147,9 +147,9 @@ module _ (old new : List RecordValue) (p q x y z : ℕ) (ordered : p ≤ q) (wit
   with_before (inr b) = elim (cases_lt 0 p) [
     | inl l ↦
         let same : take x (take z new) ≡ take x new = take_take new x z (omega (arith, some)) in
-        let starts_here : is_start (kind_after None (take x (take z new))) (drop x (take z new)) ≡ true =
-        ap (λ (es : List RecordValue). is_start (kind_after None es) (drop x (take z new))) same
-        ∙ (ap (λ (es : List RecordValue). is_start (kind_after None (take x new)) es) (drop_take new x z (omega (arith, some)))
+        let starts_here : begins_section (kind_after None (take x (take z new))) (drop x (take z new)) ≡ true =
+        ap (λ (es : List RecordValue). begins_section (kind_after None es) (drop x (take z new))) same
+        ∙ (ap (λ (es : List RecordValue). begins_section (kind_after None (take x new)) es) (drop_take new x z (omega (arith, some)))
         ∙ (starts_front (kind_after None (take x new)) (drop x new) (z - x) (omega (arith, some)) ∙ b)) in
         ap sections (sym (take-append-drop x (take z new)))
         ∙ (sections_then (take x (take z new)) (drop x (take z new)) starts_here

@@ -12,8 +12,8 @@ use Rattle.yl_record.specs.Records.{RecordValue}
 use Rattle.yl_sections.specs.declared.comments.LexemeEnd.{LexemeEnd}
 use Rattle.yl_sections.specs.declared.fault.SectionFault.{SectionFault}
 use Rattle.yl_sections.specs.Owned.{section_fault_value}
-use Rattle.yl_sections.specs.Sections.{last_kind, is_section_start, row_count, lexemes_from}
-use Rattle.yl_sections.specs.Kept.{SectionFaultValue, scan_fault_or, scan_fault_from, last_end, comment_at, comments_from}
+use Rattle.yl_sections.specs.Sections.{last_kind_from, is_section_start, row_count, lexemes_from}
+use Rattle.yl_sections.specs.Kept.{SectionFaultValue, scan_fault_or, scan_fault_from, last_lexeme_end, comment_at, comments_from}
 
 -- rows behind references
 abbrev pub seen : List (Bor RecordValue) → List RecordValue
@@ -74,10 +74,10 @@ module _ (rs : List (Bor RecordValue)) (i : ℕ) (x : Bor RecordValue) (within :
       ∙ (ap (λ (zs : List LexemeValue). ys ++ (map (lexeme_at_line i) zs ++ rest)) e
       ∙ (ap (λ (es : List RecordValue). ys ++ lexemes_from i es) (sym (next rs i x within is)) ∙ whole)))
 
-  pub comments_more : (last end : Option LexemeEnd) (row : List LexemeValue) (c : Option CommentValue) (ys new total : List PlacedCommentValue) → row ≡ x.now.entry.lexemes → end ≡ last_end last i row
+  pub comments_more : (last end : Option LexemeEnd) (row : List LexemeValue) (c : Option CommentValue) (ys new total : List PlacedCommentValue) → row ≡ x.now.entry.lexemes → end ≡ last_lexeme_end last i row
       → c ≡ x.now.entry.comment → new ≡ ys ++ comment_at i end c → ys ++ comments_from last i (drop i (seen rs)) ≡ total → new ++ comments_from end (i + 1) (drop (i + 1) (seen rs)) ≡ total
   comments_more last end row c ys new total e ended commented pushed whole =
-      let ends : end ≡ last_end last i x.now.entry.lexemes = ended ∙ ap (λ (zs : List LexemeValue). last_end last i zs) e in
+      let ends : end ≡ last_lexeme_end last i x.now.entry.lexemes = ended ∙ ap (λ (zs : List LexemeValue). last_lexeme_end last i zs) e in
       ap (λ (zs : List PlacedCommentValue). zs ++ comments_from end (i + 1) (drop (i + 1) (seen rs))) pushed
       ∙ (append_assoc ys (comment_at i end c) (comments_from end (i + 1) (drop (i + 1) (seen rs)))
       ∙ (ap (λ (d : Option CommentValue). ys ++ (comment_at i end d ++ comments_from end (i + 1) (drop (i + 1) (seen rs)))) commented
@@ -86,15 +86,15 @@ module _ (rs : List (Bor RecordValue)) (i : ℕ) (x : Bor RecordValue) (within :
 
   -- ---- rows of the first section
 
-  pub counted_more : (last : Option Kind) (row : List LexemeValue) (behind : Option Kind) (total : ℕ) → row ≡ x.now.entry.lexemes → is_section_start last row ≡ false → behind ≡ last_kind last row
+  pub counted_more : (last : Option Kind) (row : List LexemeValue) (behind : Option Kind) (total : ℕ) → row ≡ x.now.entry.lexemes → is_section_start last row ≡ false → behind ≡ last_kind_from last row
       → i + row_count last (drop i (seen rs)) ≡ total → (i + 1) + row_count behind (drop (i + 1) (seen rs)) ≡ total
   counted_more last row behind total e start kind whole =
       let here : is_section_start last x.now.entry.lexemes ≡ false = ap (λ (zs : List LexemeValue). is_section_start last zs) (sym e) ∙ start in
-      let kinds : behind ≡ last_kind last x.now.entry.lexemes = kind ∙ ap (λ (zs : List LexemeValue). last_kind last zs) e in
+      let kinds : behind ≡ last_kind_from last x.now.entry.lexemes = kind ∙ ap (λ (zs : List LexemeValue). last_kind_from last zs) e in
       let rest = drop (i + 1) (seen rs) in
       let one : row_count last (drop i (seen rs)) ≡ suc (row_count behind rest) =
       ap (λ (es : List RecordValue). row_count last es) (next rs i x within is)
-      ∙ (ap (λ (b : Bool). counted_if b (row_count (last_kind last x.now.entry.lexemes) rest)) here ∙ ap (λ (k : Option Kind). suc (row_count k rest)) (sym kinds)) in
+      ∙ (ap (λ (b : Bool). counted_if b (row_count (last_kind_from last x.now.entry.lexemes) rest)) here ∙ ap (λ (k : Option Kind). suc (row_count k rest)) (sym kinds)) in
       omega (arith, one, whole)
 
   pub counted_here : (last : Option Kind) (row : List LexemeValue) (total : ℕ) → row ≡ x.now.entry.lexemes → is_section_start last row ≡ true
@@ -102,7 +102,7 @@ module _ (rs : List (Bor RecordValue)) (i : ℕ) (x : Bor RecordValue) (within :
   counted_here last row total e start whole =
       let here : is_section_start last x.now.entry.lexemes ≡ true = ap (λ (zs : List LexemeValue). is_section_start last zs) (sym e) ∙ start in
       let none : row_count last (drop i (seen rs)) ≡ 0 =
-      ap (λ (es : List RecordValue). row_count last es) (next rs i x within is) ∙ ap (λ (b : Bool). counted_if b (row_count (last_kind last x.now.entry.lexemes) (drop (i + 1) (seen rs)))) here in
+      ap (λ (es : List RecordValue). row_count last es) (next rs i x within is) ∙ ap (λ (b : Bool). counted_if b (row_count (last_kind_from last x.now.entry.lexemes) (drop (i + 1) (seen rs)))) here in
       omega (arith, none, whole)
 
 -- after the last row

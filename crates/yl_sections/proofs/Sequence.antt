@@ -1,6 +1,6 @@
 -- The loop over sections.
-use Rattle.std.proofs.Common.{◌≡◌, ℕ, zero, suc, ◌+◌, ◌-◌, ◌<◌, ◌≤◌, false, Result, Ok, Err, List, [], ◌∷◌, ◌++◌, length, map, take, drop, Option, None, refl, ap, sym, ◌∙◌, append_assoc, append-nil, arith, Bor}
-use Rattle.std.proofs.lemmas.List.{take-map, drop-map, length-map, length-drop}
+use Rattle.std.proofs.Common.{◌≡◌, ℕ, zero, suc, ◌+◌, ◌<◌, ◌≤◌, false, Result, Ok, Err, List, [], ◌∷◌, ◌++◌, length, map, Option, refl, ap, sym, ◌∙◌, append_assoc, arith}
+use Rattle.std.proofs.lemmas.List.{length-map}
 use Rattle.std.specs.Prelude.{◌==◌, IfOk}
 use Rattle.std.specs.declared.alloc.AllocError.{AllocError}
 use Rattle.yl_lexeme.specs.Lexeme.{LexemeValue}
@@ -10,11 +10,9 @@ use Rattle.yl_events.specs.Built.{Builds}
 use Rattle.yl_events.specs.declared.fault.PlacedParseFault.{PlacedParseFault}
 use Rattle.yl_config.specs.declared.config.Config.{Config}
 use Rattle.yl_record.specs.Records.{RecordValue}
-use Rattle.yl_sections.specs.Sections.{sections, later_sections, row_count, lexemes_of}
-use Rattle.yl_sections.specs.Kept.{KeptValue, document_count, counted_of, kept_of}
-use Rattle.yl_sections.specs.Judge.{built_value, document_of, documents_in, kept_of_section}
-use Rattle.yl_sections.proofs.Rows.{seen}
-use Rattle.yl_sections.proofs.Cuts.{first_section, some_rows}
+use Rattle.yl_sections.specs.Sections.{lexemes_of}
+use Rattle.yl_sections.specs.Kept.{KeptValue, document_count, counted_of, kept_of, documents_in}
+use Rattle.yl_sections.specs.Judge.{built_value, document_of, kept_of_section}
 use Rattle.yl_sections.proofs.Documents.{document_is, counted_within}
 
 -- ---- a document

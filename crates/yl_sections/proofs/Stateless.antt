@@ -1,5 +1,5 @@
 -- What is kept of sections does not depend on the states of their rows.
-use Rattle.std.proofs.Common.{◌≡◌, ℕ, suc, ◌+◌, Bool, true, false, List, [], ◌∷◌, ◌++◌, length, map, take, Option, None, refl, ap, sym, ◌∙◌}
+use Rattle.std.proofs.Common.{◌≡◌, ℕ, ◌+◌, Bool, true, false, List, [], ◌∷◌, ◌++◌, length, map, take, Option, None, refl, ap, ◌∙◌}
 use Rattle.std.proofs.lemmas.List.{length-map}
 use Rattle.std.specs.List.{take-map}
 use Rattle.yl_text.specs.Character.{indentation}
@@ -11,9 +11,9 @@ use Rattle.yl_config.specs.declared.config.Config.{Config}
 use Rattle.yl_record.specs.Records.{RecordValue, records, records_with}
 use Rattle.yl_record.specs.Recorded.{without_state, records_without_states}
 use Rattle.yl_sections.specs.declared.comments.LexemeEnd.{LexemeEnd}
-use Rattle.yl_sections.specs.Kept.{KeptValue, BuiltValue, SectionFaultValue, scan_fault_or, scan_fault_from, comment_lines, last_end, comment_at, comments_from, shown_comments, document_count, kept_of}
-use Rattle.yl_sections.specs.Judge.{document_of, documents_in, kept_of_section}
-use Rattle.yl_sections.specs.Sections.{Parts, last_kind, is_section_start, with_row, parts, sections, lexemes_from, lexemes_of}
+use Rattle.yl_sections.specs.Kept.{KeptValue, BuiltValue, SectionFaultValue, scan_fault_or, scan_fault_from, comment_lines, last_lexeme_end, comment_at, comments_from, shown_comments, document_count, kept_of, documents_in}
+use Rattle.yl_sections.specs.Judge.{document_of, kept_of_section}
+use Rattle.yl_sections.specs.Sections.{Parts, last_kind_from, is_section_start, with_row, parts, sections, lexemes_from, lexemes_of}
 
 -- the record without its state
 abbrev pub bare : RecordValue → RecordValue
@@ -39,7 +39,7 @@ bare_row false r p = refl
 parts_bare : (last : Option Kind) (rs : List RecordValue) → parts last (map bare rs) ≡ bare_parts (parts last rs)
 parts_bare last [] = refl
 parts_bare last (r ∷ rs) =
-    let k = last_kind last r.entry.lexemes in
+    let k = last_kind_from last r.entry.lexemes in
     ap (with_row (is_section_start last r.entry.lexemes) (bare r)) (parts_bare k rs) ∙ bare_row (is_section_start last r.entry.lexemes) r (parts k rs)
 
 sections_bare : (rs : List RecordValue) → sections (map bare rs) ≡ map (λ (s : List RecordValue). map bare s) (sections rs)
@@ -54,7 +54,7 @@ scan_bare line (r ∷ rs) = ap (λ (f : Option SectionFaultValue). scan_fault_or
 comments_bare : (last : Option LexemeEnd) (line : ℕ) (rs : List RecordValue) → comments_from last line (map bare rs) ≡ comments_from last line rs
 comments_bare last line [] = refl
 comments_bare last line (r ∷ rs) =
-    let end = last_end last line r.entry.lexemes in ap (λ (cs : List PlacedCommentValue). comment_at line end r.entry.comment ++ cs) (comments_bare end (line + 1) rs)
+    let end = last_lexeme_end last line r.entry.lexemes in ap (λ (cs : List PlacedCommentValue). comment_at line end r.entry.comment ++ cs) (comments_bare end (line + 1) rs)
 
 shown_bare : (n : ℕ) (rs : List RecordValue) → shown_comments n (map bare rs) ≡ shown_comments n rs
 shown_bare n rs = ap (λ (xs : List RecordValue). comments_from None 0 xs) (take-map bare n rs) ∙ comments_bare None 0 (take n rs)

@@ -1,5 +1,5 @@
 -- Bridge: what is kept of a section, computed: by what is told of its document while the lexemes are read.
-use Rattle.std.specs.Prelude.{ℕ, List, [], ◌∷◌, ◌+◌, map, Some, None}
+use Rattle.std.specs.Prelude.{List, [], ◌∷◌, map, Some, None}
 use Rattle.yl_lexeme.specs.Lexeme.{LexemeValue}
 use Rattle.yl_marks.specs.Keys.{token_of}
 use Rattle.yl_marks.specs.ByLine.{by_line}
@@ -10,7 +10,7 @@ use Rattle.yl_events.specs.Parsing.{parser_at_start, start_events, document_outc
 use Rattle.yl_config.specs.declared.config.Config.{Config}
 use Rattle.yl_record.specs.Records.{RecordValue}
 use Rattle.yl_sections.specs.Sections.{lexemes_of}
-use Rattle.yl_sections.specs.Kept.{BuiltValue, nothing_built, document_count, KeptValue, kept_of}
+use Rattle.yl_sections.specs.Kept.{BuiltValue, nothing_built, KeptValue, kept_of}
 
 -- what a document gives, as the code has it
 abbrev pub built_value : {A : Type 0} → Built A → BuiltValue
@@ -28,8 +28,3 @@ document_of (x ∷ xs) = built_by (x ∷ xs) (document_outcome_of_lines parser_a
 -- what is kept of the section of these rows
 unfoldable pub kept_of_section : Config → List RecordValue → KeptValue
 kept_of_section config rs = kept_of config rs (document_of (lexemes_of rs))
-
--- how many documents these sections hold
-abbrev pub documents_in : List (List RecordValue) → ℕ
-documents_in [] = 0
-documents_in (s ∷ ss) = document_count (lexemes_of s) + documents_in ss

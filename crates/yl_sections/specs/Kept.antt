@@ -2,8 +2,8 @@
 -- says of a section follows from the sections' own faults: a section after one with a fault is hidden whole, and one without fault shows
 -- all that it has. So what is kept is what the section shows, and no problem needs to know on which lexemes it rests. Rules that look at
 -- rows hide nothing, and are no part of it.
-use Rattle.std.specs.Prelude.{◌≡◌, ℕ, Bool, true, false, ◌==◌, if◌then◌else◌, List, [], ◌∷◌, ◌++◌, ◌+◌, ◌-◌, ◌^◌, min, map, length, take, codes, Option, Some, None, slice_get, is_some}
-use Rattle.std.specs.List.{filter, flat_map, starts_with}
+use Rattle.std.specs.Prelude.{◌≡◌, ℕ, Bool, true, false, ◌==◌, if◌then◌else◌, List, [], ◌∷◌, ◌++◌, ◌+◌, ◌-◌, ◌^◌, min, map, length, take, Option, Some, None, slice_get, is_some}
+use Rattle.std.specs.List.{filter, flat_map}
 use Rattle.yl_text.specs.declared.position.Pos.{Pos}
 use Rattle.yl_text.specs.declared.finding.RuleId.{RuleId}
 use Rattle.yl_text.specs.declared.finding.RuleId.TheVariants.{Anchors, Braces, Brackets, Colons, Commas, Comments, DocumentStart, Hyphens, Indentation, KeyDuplicates, KeyOrdering, QuotedStrings, Truthy}
@@ -24,6 +24,7 @@ use Rattle.yl_indentation.specs.declared.fact.Fact.{Fact}
 use Rattle.yl_indentation.specs.Facts.{indent_facts}
 use Rattle.yl_tree.specs.Anchors.{anchors}
 use Rattle.yl_tree.specs.KeyRules.{key_duplicates, key_ordering}
+use Rattle.yl_rules.specs.Addressed.{is_addressed}
 use Rattle.yl_rules.specs.Comments.{comment_findings}
 use Rattle.yl_config.specs.declared.config.Config.{Config}
 use Rattle.yl_config.specs.Config.{levels_of, options_of}
@@ -42,14 +43,19 @@ abbrev pub nothing_built : BuiltValue
 nothing_built = record { events = []; fault = None }
 
 -- what the document of these lexemes gives; no lexemes are no document
-abbrev pub IsBuilt : List LexemeValue → BuiltValue → Type 0
-IsBuilt [] b = b ≡ nothing_built
-IsBuilt (x ∷ xs) b = Builds (x ∷ xs) b.events b.fault
+abbrev pub IsSectionBuilt : List LexemeValue → BuiltValue → Type 0
+IsSectionBuilt [] b = b ≡ nothing_built
+IsSectionBuilt (x ∷ xs) b = Builds (x ∷ xs) b.events b.fault
 
 -- how many documents they are
 abbrev pub document_count : List LexemeValue → ℕ
 document_count [] = 0
 document_count (x ∷ xs) = 1
+
+-- how many documents these sections hold
+abbrev pub documents_in : List (List RecordValue) → ℕ
+documents_in [] = 0
+documents_in (s ∷ ss) = document_count (lexemes_of s) + documents_in ss
 
 -- ---- the section's fault
 
@@ -103,9 +109,9 @@ comment_lines rows xs (Some f) = line_or rows (slice_get xs f.place)
 -- ---- comments
 
 -- where the last lexeme ends, after those of the row at this line too
-abbrev pub last_end : Option LexemeEnd → ℕ → List LexemeValue → Option LexemeEnd
-last_end last line [] = last
-last_end last line (x ∷ xs) = last_end (Some (record { line = line + x.end.line; col = x.end.col })) line xs
+abbrev pub last_lexeme_end : Option LexemeEnd → ℕ → List LexemeValue → Option LexemeEnd
+last_lexeme_end last line [] = last
+last_lexeme_end last line (x ∷ xs) = last_lexeme_end (Some (record { line = line + x.end.line; col = x.end.col })) line xs
 
 -- in which column, if it is in this line
 abbrev pub column_in : ℕ → Option LexemeEnd → Option ℕ
@@ -120,15 +126,11 @@ comment_at line last (Some c) = record { line = line; column = c.column; text = 
 abbrev pub comments_from : Option LexemeEnd → ℕ → List RecordValue → List PlacedCommentValue
 comments_from last line [] = []
 comments_from last line (r ∷ rs) =
-    let end = last_end last line r.entry.lexemes in comment_at line end r.entry.comment ++ comments_from end (line + 1) rs
+    let end = last_lexeme_end last line r.entry.lexemes in comment_at line end r.entry.comment ++ comments_from end (line + 1) rs
 
 -- those before this line
 abbrev pub shown_comments : ℕ → List RecordValue → List PlacedCommentValue
 shown_comments line rs = comments_from None 0 (take line rs)
-
--- it is one that may silence rules
-abbrev pub is_addressed : PlacedCommentValue → Bool
-is_addressed c = starts_with (λ a b. a == b) c.text (codes "# yamllint ")
 
 -- ---- the rules
 
@@ -170,6 +172,12 @@ abbrev pub shown_events : Option SectionFaultValue → List EventValue → List 
 shown_events None es = es
 shown_events (Some f) es = []
 
+-- those that a scan fault alone hides: without it the section has this fault
+abbrev pub hidden_events : Option SectionFaultValue → Option SectionFaultValue → List EventValue → List EventValue
+hidden_events None parse_fault es = []
+hidden_events (Some f) None es = es
+hidden_events (Some f) (Some g) es = []
+
 -- ---- what is kept
 
 pub record KeptValue : Type 0 where
@@ -183,6 +191,10 @@ pub record KeptValue : Type 0 where
   -- the comments that are shown and may silence rules
   pub comments : List PlacedCommentValue
   pub fault : Option SectionFaultValue
+  -- of the events that a scan fault alone hides
+  pub hidden : List FindingValue
+  -- the fault without a scan fault in these rows
+  pub parse_fault : Option SectionFaultValue
 
 abbrev pub column_or : ℕ → Option LexemeValue → ℕ
 column_or column None = column
@@ -206,6 +218,8 @@ kept_with config rs xs b fault =
       facts = facts_of config rs xs counted;
       comments = filter is_addressed comments;
       fault = fault;
+      hidden = tree_findings config (hidden_events fault (section_fault xs b.fault None) b.events);
+      parse_fault = section_fault xs b.fault None;
     }
 
 abbrev pub kept_of : Config → List RecordValue → BuiltValue → KeptValue
@@ -214,5 +228,5 @@ kept_of config rs b = let xs = lexemes_of rs in kept_with config rs xs b (sectio
 -- k is what is kept of the section of these rows: its document gives so
 pub record IsKept (config : Config) (rs : List RecordValue) (k : KeptValue) : Type 0 where
   pub document : BuiltValue
-  pub built : IsBuilt (lexemes_of rs) document
+  pub built : IsSectionBuilt (lexemes_of rs) document
   pub kept : k ≡ kept_of config rs document

@@ -3,5 +3,6 @@ pub mod Kept
 pub mod Judge
 pub mod Owned
 pub mod Local
+pub mod Front
 pub mod Last
 pub mod Laws

@@ -3,21 +3,21 @@ use Rattle.std.specs.Prelude.{◌≡◌, ◌⊎◌, ◌<◌, ◌≤◌, ◌+◌,
 use Rattle.std.specs.List.{splice}
 use Rattle.yl_lexeme.specs.declared.lexeme.Kind.{Kind}
 use Rattle.yl_record.specs.Records.{RecordValue}
-use Rattle.yl_sections.specs.Sections.{last_kind, is_section_start, sections}
+use Rattle.yl_sections.specs.Sections.{last_kind_from, is_section_start, sections}
 
 -- the kind of the last lexeme, after these rows too
 abbrev pub kind_after : Option Kind → List RecordValue → Option Kind
 kind_after last [] = last
-kind_after last (r ∷ rs) = kind_after (last_kind last r.entry.lexemes) rs
+kind_after last (r ∷ rs) = kind_after (last_kind_from last r.entry.lexemes) rs
 
 -- a section begins with the first of these rows
-abbrev pub is_start : Option Kind → List RecordValue → Bool
-is_start last [] = false
-is_start last (r ∷ rs) = is_section_start last r.entry.lexemes
+abbrev pub begins_section : Option Kind → List RecordValue → Bool
+begins_section last [] = false
+begins_section last (r ∷ rs) = is_section_start last r.entry.lexemes
 
 -- a section begins with the row of this index
 abbrev pub is_start_at : List RecordValue → ℕ → Bool
-is_start_at rs i = is_start (kind_after None (take i rs)) (drop i rs)
+is_start_at rs i = begins_section (kind_after None (take i rs)) (drop i rs)
 
 -- how many rows these sections have, and which
 abbrev pub row_total : List (List RecordValue) → ℕ

@@ -10,9 +10,9 @@ use Rattle.yl_events.specs.Cut.{is_beginning}
 use Rattle.yl_record.specs.Records.{RecordValue}
 
 -- the kind of the last lexeme, after these too
-abbrev pub last_kind : Option Kind → List LexemeValue → Option Kind
-last_kind last [] = last
-last_kind last (x ∷ xs) = last_kind (Some x.kind) xs
+abbrev pub last_kind_from : Option Kind → List LexemeValue → Option Kind
+last_kind_from last [] = last
+last_kind_from last (x ∷ xs) = last_kind_from (Some x.kind) xs
 
 -- a document begins with a lexeme of this kind after one of that kind, and is not the text's first
 abbrev pub is_next_document : Option Kind → Kind → Bool
@@ -35,7 +35,7 @@ with_row false r p = record { here = r ∷ p.here; later = p.later }
 
 abbrev pub parts : Option Kind → List RecordValue → Parts
 parts last [] = record { here = []; later = [] }
-parts last (r ∷ rs) = with_row (is_section_start last r.entry.lexemes) r (parts (last_kind last r.entry.lexemes) rs)
+parts last (r ∷ rs) = with_row (is_section_start last r.entry.lexemes) r (parts (last_kind_from last r.entry.lexemes) rs)
 
 abbrev pub all_parts : Parts → List (List RecordValue)
 all_parts p = p.here ∷ p.later
@@ -46,7 +46,7 @@ sections rs = all_parts (parts None rs)
 -- how many rows come before the next section's first
 abbrev pub row_count : Option Kind → List RecordValue → ℕ
 row_count last [] = 0
-row_count last (r ∷ rs) = if is_section_start last r.entry.lexemes then 0 else suc (row_count (last_kind last r.entry.lexemes) rs)
+row_count last (r ∷ rs) = if is_section_start last r.entry.lexemes then 0 else suc (row_count (last_kind_from last r.entry.lexemes) rs)
 
 -- the sections of rows that begin one, if there are any
 abbrev pub later_sections : List RecordValue → List (List RecordValue)

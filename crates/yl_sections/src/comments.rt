@@ -3,12 +3,14 @@ ghost use Rattle.std.specs.Prelude.{◌≡◌, ◌<◌, ◌^◌, ◌++◌, ◌�
 ghost use Rattle.std.specs.Option.{option_map};
 ghost use Rattle.std.specs.List.{filter};
 ghost use Rattle.yl_lexeme.specs.PlacedComments.{placed_comment_value};
-ghost use Rattle.yl_sections.specs.Kept.{column_in, comment_at, comments_from, is_addressed, last_end, shown_comments};
+ghost use Rattle.yl_rules.specs.Addressed as addressed;
+ghost use Rattle.yl_sections.specs.Kept.{column_in, comment_at, comments_from, last_lexeme_end, shown_comments};
 
 use crate::kept::KeptComment;
 use std::alloc::{AllocError, Allocator};
 use yl_lexeme::{Comment, Lexeme, PlacedComment};
 use yl_record::Record;
+use yl_rules::is_addressed;
 
 /// Where a lexeme ends: at this line, from 0 from the section's first row, and behind its last character, from 0 in characters.
 #[derive(Clone, Copy, Debug, PartialEq, Eq)]
@@ -23,7 +25,7 @@ fn last_end<A: Allocator>(
     line: u32,
     lexemes: &[Lexeme<A>],
 ) -> Option<LexemeEnd>
-    ensures { result ≡ last_end last line lexemes.now }
+    ensures { result ≡ last_lexeme_end last line lexemes.now }
 {
     let mut last = last;
     for lexeme in lexemes {
@@ -107,20 +109,13 @@ pub fn shown_comments<'a, A: Allocator + Copy>(
     }
 }
 
-/// Whether it is one that may silence rules.
-fn is_addressed(comment: &PlacedComment<'_>) -> bool
-    ensures { result ≡ is_addressed (placed_comment_value comment.now) }
-{
-    comment.text.as_bytes().starts_with(b"# yamllint ")
-}
-
 /// Puts a comment after those that are kept, if it may silence rules.
 fn push_addressed<A: Allocator + Copy>(
     alloc: A,
     kept: &mut Vec<KeptComment<A>, A>,
     comment: &PlacedComment<'_>,
 ) -> Result<(), AllocError>
-    ensures { OnOk result (kept.new.items ≡ kept.old.items ++ filter is_addressed (placed_comment_value comment.now ∷ [])) }
+    ensures { OnOk result (kept.new.items ≡ kept.old.items ++ filter addressed.is_addressed (placed_comment_value comment.now ∷ [])) }
 {
     if is_addressed(comment) {
         kept.push(KeptComment::new(alloc, comment)?)?;
@@ -133,7 +128,7 @@ pub fn kept_comments<A: Allocator + Copy>(
     alloc: A,
     comments: &[PlacedComment<'_>],
 ) -> Result<Vec<KeptComment<A>, A>, AllocError>
-    ensures { IfOk result (λ v. v.items ≡ filter is_addressed (map placed_comment_value comments.now)) }
+    ensures { IfOk result (λ v. v.items ≡ filter addressed.is_addressed (map placed_comment_value comments.now)) }
 {
     let mut kept = Vec::new(alloc);
     for comment in comments {

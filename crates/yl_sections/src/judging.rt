@@ -3,31 +3,36 @@ ghost use Rattle.std.specs.Prelude.{◌≡◌, ◌≤◌, ◌<◌, ◌-◌, ◌+
 ghost use Rattle.yl_record.specs.Records.{RecordValue};
 ghost use Rattle.std.specs.Option.{option_map};
 ghost use Rattle.yl_events.specs.Event.{event_value};
+ghost use Rattle.yl_marks.specs.Facts.{key_facts};
 ghost use Rattle.yl_marks.specs.Keys.{lexeme_at_line};
+ghost use Rattle.yl_marks.specs.Marks.{symbols_of_lexemes};
 ghost use Rattle.yl_sections.specs.Sections.{lexemes_of, sections};
-ghost use Rattle.yl_sections.specs.Kept.{column_or, counted_of, document_count, kept_of, scan_fault_from, section_fault, shown_events};
-ghost use Rattle.yl_sections.specs.Judge.{built_value, document_of, documents_in, kept_of_section};
+ghost use Rattle.yl_sections.specs.Kept.{column_or, counted_of, document_count, hidden_events, kept_of, scan_fault_from, section_fault, shown_events, documents_in};
+ghost use Rattle.yl_sections.specs.Judge.{built_value, document_of, kept_of_section};
 ghost use Rattle.yl_sections.specs.Owned.{section_fault_value};
 
 use crate::comments::{kept_comments, shown_comments};
 use crate::fault::{SectionFault, comment_lines, counted, scan_fault, section_fault};
 use crate::kept::Kept;
 use crate::lexemes::lexemes_of;
-use crate::rules::{facts, found};
+use crate::rules::{facts, found, tree_found};
 use crate::sections::section_len;
 use std::alloc::{AllocError, Allocator};
 use yl_config::Config;
-use yl_events::{Built, Event, parse_document};
+use yl_events::{Built, Event, parse_marked};
 use yl_lexeme::{LexemeAtLine, Meter};
+use yl_marks::{DocumentMarks, Symbol, document_marks};
 use yl_record::Record;
 
-/// What the document of these lexemes gives; no lexemes are no document.
+/// What the document of these lexemes with these marks gives; no lexemes are no document.
 fn document_of<'a, A: Allocator + Copy>(
     alloc: A,
     lexemes: &[LexemeAtLine<'a, A>],
+    symbols: &[Symbol],
     meter: &mut Meter,
 ) -> Result<Built<'a, A>, AllocError>
-    requires { meter.old.documents < 2 ^ 32 - 1 }
+    requires symbols { symbols.now ≡ symbols_of_lexemes (map (λ x. lexeme_at_line x.line x.lexeme.now) lexemes.now) }
+    requires documents { meter.old.documents < 2 ^ 32 - 1 }
     ensures built { IfOk result (λ b. built_value b ≡ document_of (map (λ x. lexeme_at_line x.line x.lexeme.now) lexemes.now)) }
     ensures counted { meter.new
         ≡ record meter.old { documents = meter.old.documents + document_count (map (λ x. lexeme_at_line x.line x.lexeme.now) lexemes.now) } }
@@ -38,7 +43,7 @@ fn document_of<'a, A: Allocator + Copy>(
             fault: None,
         });
     }
-    parse_document(alloc, lexemes, meter)
+    parse_marked(alloc, lexemes, symbols, meter)
 }
 
 /// The events where the section has no fault.
@@ -46,6 +51,22 @@ fn shown_events<'b, 'a>(fault: Option<SectionFault>, events: &'b [Event<'a>]) ->
     ensures { map event_value result.now ≡ shown_events (option_map section_fault_value fault) (map event_value events.now) }
 {
     if fault.is_some() { &[] } else { events }
+}
+
+/// The events that a scan fault alone hides, in a section with this fault, which has that one without the scan fault.
+fn hidden_events<'b, 'a>(
+    fault: Option<SectionFault>,
+    parse_fault: Option<SectionFault>,
+    events: &'b [Event<'a>],
+) -> &'b [Event<'a>]
+    ensures { map event_value result.now
+        ≡ hidden_events (option_map section_fault_value fault) (option_map section_fault_value parse_fault) (map event_value events.now) }
+{
+    if fault.is_some() && parse_fault.is_none() {
+        events
+    } else {
+        &[]
+    }
 }
 
 /// The column of the first lexeme, or 0.
@@ -58,27 +79,41 @@ fn first_column<A: Allocator>(lexemes: &[LexemeAtLine<'_, A>]) -> u32
     }
 }
 
-/// What is kept of the section of these rows with these lexemes, whose document gives this.
+/// What is kept of the section of these rows with these lexemes and their marks, whose document gives this.
 fn keep<'a, A: Allocator + Copy>(
     alloc: A,
     config: &Config,
     records: &[&'a Record<A>],
     lexemes: &[LexemeAtLine<'a, A>],
+    marks: &DocumentMarks<A>,
     document: &Built<'a, A>,
 ) -> Result<Kept<A>, AllocError>
     requires few { length records.now < 2 ^ 32 }
     requires lexemes { map (λ x. lexeme_at_line x.line x.lexeme.now) lexemes.now ≡ lexemes_of (map (λ r. r.now) records.now) }
+    requires symbols { marks.now.symbols.items ≡ symbols_of_lexemes (map (λ x. lexeme_at_line x.line x.lexeme.now) lexemes.now) }
+    requires keys { marks.now.keys.items ≡ key_facts (map (λ x. lexeme_at_line x.line x.lexeme.now) lexemes.now) }
     requires inside { counted_of (map (λ x. lexeme_at_line x.line x.lexeme.now) lexemes.now) document.now.fault ≤ length lexemes.now }
     ensures { IfOk result (λ k. k ≡ kept_of config.now (map (λ r. r.now) records.now) (built_value document.now)) }
 {
     let parsed = document.fault;
+    let parse_fault = section_fault(lexemes, parsed, None);
     let fault = section_fault(lexemes, parsed, scan_fault(records));
     let events = shown_events(fault, document.events.as_slice());
+    let hidden_events = hidden_events(fault, parse_fault, document.events.as_slice());
     let counted = counted(lexemes, parsed);
     let lines = comment_lines(records.len(), lexemes, parsed);
     let comments = shown_comments(alloc, records, lines)?;
-    let found = found(alloc, config, lexemes, counted, &comments, events)?;
-    let facts = facts(alloc, config, records, lexemes, counted)?;
+    let found = found(
+        alloc,
+        config,
+        lexemes,
+        &marks.keys,
+        counted,
+        &comments,
+        events,
+    )?;
+    let hidden = tree_found(alloc, config, hidden_events)?;
+    let facts = facts(alloc, config, records, lexemes, &marks.symbols, counted)?;
     let comments = kept_comments(alloc, &comments)?;
     Ok(Kept::new(
         records.len() as u32,
@@ -87,6 +122,8 @@ fn keep<'a, A: Allocator + Copy>(
         facts,
         comments,
         fault,
+        hidden,
+        parse_fault,
     ))
 }
 
@@ -104,8 +141,9 @@ pub fn judge<A: Allocator + Copy>(
         ≡ record meter.old { documents = meter.old.documents + document_count (lexemes_of (map (λ r. r.now) records.now)) }) }
 {
     let lexemes = lexemes_of(alloc, records)?;
-    let document = document_of(alloc, &lexemes, meter)?;
-    keep(alloc, config, records, &lexemes, &document)
+    let marks = document_marks(alloc, &lexemes)?;
+    let document = document_of(alloc, &lexemes, &marks.symbols, meter)?;
+    keep(alloc, config, records, &lexemes, &marks, &document)
 }
 
 /// Judges the sections of these rows but the last one, to which rows that follow may belong, and puts what is kept of each after the

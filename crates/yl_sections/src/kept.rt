@@ -41,6 +41,19 @@ impl<A: Allocator + Copy> KeptComment<A> {
             text,
         })
     }
+
+    /// The same comment.
+    pub(crate) fn copied(&self, alloc: A) -> Result<KeptComment<A>, AllocError>
+        ensures { IfOk result (λ c. c ≡ self.now) }
+    {
+        let text = String::from_str(alloc, self.text.as_str())?;
+        Ok(KeptComment {
+            line: self.line,
+            col: self.col,
+            behind: self.behind,
+            text,
+        })
+    }
 }
 
 impl<A: Allocator> KeptComment<A> {
@@ -77,7 +90,7 @@ impl<A: Allocator> KeptComment<A> {
 
 /// What is kept of a section, a run of a text's rows that holds one document: how many rows it has, what the rules on lexemes, comments
 /// and keys find in it, what the rule indentation has to know of it, its comments that may silence rules, and its fault. What its fault
-/// hides is left out.
+/// hides is left out, but for what a scan fault alone hides, which is kept beside the rest.
 #[derive(Drop)]
 pub struct Kept<A: Allocator> {
     rows: u32,
@@ -87,6 +100,8 @@ pub struct Kept<A: Allocator> {
     measure: Measure,
     comments: Vec<KeptComment<A>, A>,
     fault: Option<SectionFault>,
+    hidden: Vec<Finding<A>, A>,
+    parse_fault: Option<SectionFault>,
 }
 
 impl<A: Allocator> Model for Kept<A> {
@@ -105,6 +120,8 @@ impl<A: Allocator> Model for Kept<A> {
       facts = k.facts.items;
       comments = k.comments.items;
       fault = option_map section_fault_value k.fault;
+      hidden = k.hidden.items;
+      parse_fault = option_map section_fault_value k.parse_fault;
     } };
 
     ghost invariant = { λ k. k.measure ≡ measure_of k.facts.items };
@@ -124,8 +141,19 @@ impl<A: Allocator> Kept<A> {
         facts: Vec<Fact, A>,
         comments: Vec<KeptComment<A>, A>,
         fault: Option<SectionFault>,
+        hidden: Vec<Finding<A>, A>,
+        parse_fault: Option<SectionFault>,
     ) -> Kept<A>
-        ensures { result ≡ record { rows = rows; first = first; found = found.items; facts = facts.items; comments = comments.items; fault = option_map section_fault_value fault } }
+        ensures { result ≡ record {
+          rows = rows;
+          first = first;
+          found = found.items;
+          facts = facts.items;
+          comments = comments.items;
+          fault = option_map section_fault_value fault;
+          hidden = hidden.items;
+          parse_fault = option_map section_fault_value parse_fault;
+        } }
     {
         let measure = Measure::of(&facts);
         Kept {
@@ -136,6 +164,8 @@ impl<A: Allocator> Kept<A> {
             measure,
             comments,
             fault,
+            hidden,
+            parse_fault,
         }
     }
 
@@ -186,5 +216,19 @@ impl<A: Allocator> Kept<A> {
         ensures { option_map section_fault_value result ≡ self.now.fault }
     {
         self.fault
+    }
+
+    /// What the rules on keys find in it, where a scan fault alone hides that; then `found` has nothing of it.
+    pub fn hidden(&self) -> &[Finding<A>]
+        ensures { result.now ≡ self.now.hidden }
+    {
+        self.hidden.as_slice()
+    }
+
+    /// The fault that it would have without the scan fault in its rows.
+    pub fn parse_fault(&self) -> Option<SectionFault>
+        ensures { option_map section_fault_value result ≡ self.now.parse_fault }
+    {
+        self.parse_fault
     }
 }

@@ -1,4 +1,5 @@
 //! What the definitions say of each section. No function here calls anything.
+ghost use Rattle.yl_sections.specs.Front.{LostLaw};
 ghost use Rattle.yl_sections.specs.Last.{LastLaw, StoppedLaw};
 ghost use Rattle.yl_sections.specs.Local.{SectionsAreLocal, SectionsAreRows};
 ghost use Rattle.yl_sections.specs.Laws.{FirstSection, KeptIsComputed, OneKept};
@@ -24,4 +25,9 @@ pub fn sections_are_local()
 pub fn states_tell_kinds()
     ensures last { LastLaw }
     ensures stopped { StoppedLaw }
+{}
+
+/// Where an edit below a row makes a section begin there, nothing was read from that row on before.
+pub fn lost_rows()
+    ensures { LostLaw }
 {}

@@ -45,7 +45,7 @@ pub fn indentations<A: Allocator + Copy>(
 ) -> Result<Vec<u32, A>, AllocError>
     ensures { IfOk result (λ v. v.items ≡ map (λ r. r.indentation) (map (λ r. r.now) records.now)) }
 {
-    let mut indentations = Vec::new(alloc);
+    let mut indentations = Vec::with_capacity(alloc, records.len())?;
     for record in records {
         indentations.push(record.indentation())?;
     }

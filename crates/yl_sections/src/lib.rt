@@ -6,6 +6,7 @@
 
 mod comments;
 mod fault;
+mod front;
 mod judging;
 mod kept;
 mod laws;
@@ -14,7 +15,8 @@ mod rules;
 mod sections;
 
 pub use fault::SectionFault;
+pub use front::kept_of_front;
 pub use judging::{judge, judge_all, judge_whole};
 pub use kept::{Kept, KeptComment};
-pub use laws::{first_section, one_kept, sections_are_local, states_tell_kinds};
+pub use laws::{first_section, lost_rows, one_kept, sections_are_local, states_tell_kinds};
 pub use sections::{is_section_start, last_kind, section_len};

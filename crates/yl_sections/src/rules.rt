@@ -1,7 +1,9 @@
 //! What the rules find in a section.
 ghost use Rattle.std.specs.Prelude.{◌≡◌, ◌≤◌, ◌++◌, map, length, IfOk};
 ghost use Rattle.yl_lexeme.specs.PlacedComments.{placed_comment_value};
+ghost use Rattle.yl_marks.specs.Facts.{key_facts};
 ghost use Rattle.yl_marks.specs.Keys.{lexeme_at_line};
+ghost use Rattle.yl_marks.specs.Marks.{symbols_of_lexemes};
 ghost use Rattle.yl_events.specs.Event.{event_value};
 ghost use Rattle.yl_layout.specs.Lexemes.{lexeme_findings};
 ghost use Rattle.yl_tree.specs.Anchors.{anchors};
@@ -16,7 +18,7 @@ use yl_events::Event;
 use yl_indentation::{Fact, indent_facts};
 use yl_layout::{LexemeOptions, lexeme_problems};
 use yl_lexeme::{LexemeAtLine, PlacedComment};
-use yl_marks::{key_facts, mark};
+use yl_marks::{KeyFacts, Symbol, marked};
 use yl_record::Record;
 use yl_rules::comment_problems;
 use yl_text::{Finding, RuleId};
@@ -58,19 +60,20 @@ fn lexeme_options(config: &Config) -> LexemeOptions
     }
 }
 
-/// What the rules on lexemes find, where the first `counted` of these count.
+/// What the rules on lexemes find, where the first `counted` of these count. `keys` are the whole document's.
 fn lexemes_found<A: Allocator + Copy>(
     alloc: A,
     config: &Config,
     lexemes: &[LexemeAtLine<'_, A>],
+    keys: &[KeyFacts],
     counted: usize,
 ) -> Result<Vec<Finding<A>, A>, AllocError>
-    requires { counted ≤ length lexemes.now }
+    requires keys { keys.now ≡ key_facts (map (λ x. lexeme_at_line x.line x.lexeme.now) lexemes.now) }
+    requires counted { counted ≤ length lexemes.now }
     ensures { IfOk result (λ v. v.items
         ≡ lexeme_findings (lexeme_options_of config.now) counted (map (λ x. lexeme_at_line x.line x.lexeme.now) lexemes.now)) }
 {
-    let keys = key_facts(alloc, lexemes)?;
-    lexeme_problems(alloc, lexemes, &keys, counted, &lexeme_options(config))
+    lexeme_problems(alloc, lexemes, keys, counted, &lexeme_options(config))
 }
 
 /// What the rule comments finds.
@@ -132,7 +135,7 @@ fn anchors_found<'a, A: Allocator + Copy>(
 }
 
 /// What the rules on keys and anchors find.
-fn tree_found<'a, A: Allocator + Copy>(
+pub fn tree_found<'a, A: Allocator + Copy>(
     alloc: A,
     config: &Config,
     events: &[Event<'a>],
@@ -147,21 +150,24 @@ fn tree_found<'a, A: Allocator + Copy>(
     Ok(found)
 }
 
-/// What the rules find in a section of which the first `counted` lexemes, these comments and these events are shown.
+/// What the rules find in a section of which the first `counted` lexemes, these comments and these events are shown. `keys` are those
+/// of all lexemes.
 pub fn found<'a, A: Allocator + Copy>(
     alloc: A,
     config: &Config,
     lexemes: &[LexemeAtLine<'_, A>],
+    keys: &[KeyFacts],
     counted: usize,
     comments: &[PlacedComment<'_>],
     events: &[Event<'a>],
 ) -> Result<Vec<Finding<A>, A>, AllocError>
-    requires { counted ≤ length lexemes.now }
+    requires keys { keys.now ≡ key_facts (map (λ x. lexeme_at_line x.line x.lexeme.now) lexemes.now) }
+    requires counted { counted ≤ length lexemes.now }
     ensures { IfOk result (λ v. v.items
         ≡ lexeme_findings (lexeme_options_of config.now) counted (map (λ x. lexeme_at_line x.line x.lexeme.now) lexemes.now)
         ++ (shown_comment_findings config.now (map placed_comment_value comments.now) ++ tree_findings config.now (map event_value events.now))) }
 {
-    let mut found = lexemes_found(alloc, config, lexemes, counted)?;
+    let mut found = lexemes_found(alloc, config, lexemes, keys, counted)?;
     let mut of_comments = comments_found(alloc, config, comments)?;
     let mut of_events = tree_found(alloc, config, events)?;
     found.append(&mut of_comments)?;
@@ -169,21 +175,24 @@ pub fn found<'a, A: Allocator + Copy>(
     Ok(found)
 }
 
-/// What the rule indentation checks in a section of which the first `counted` lexemes are shown.
+/// What the rule indentation checks in a section of which the first `counted` lexemes are shown. `symbols` are all lexemes with their
+/// marks.
 pub fn facts<A: Allocator + Copy>(
     alloc: A,
     config: &Config,
     records: &[&Record<A>],
     lexemes: &[LexemeAtLine<'_, A>],
+    symbols: &[Symbol],
     counted: usize,
 ) -> Result<Vec<Fact, A>, AllocError>
+    requires { symbols.now ≡ symbols_of_lexemes (map (λ x. lexeme_at_line x.line x.lexeme.now) lexemes.now) }
     ensures { IfOk result (λ v. v.items
         ≡ facts_of config.now (map (λ r. r.now) records.now) (map (λ x. lexeme_at_line x.line x.lexeme.now) lexemes.now) counted) }
 {
     if !is_on(config, RuleId::Indentation) {
         return Ok(Vec::new(alloc));
     }
-    let marks = mark(alloc, lexemes)?;
+    let marks = marked(alloc, lexemes, symbols)?;
     let indentations = indentations(alloc, records)?;
     indent_facts(alloc, lexemes, &marks, counted, &indentations)
 }

@@ -1,6 +1,6 @@
 //! Where sections begin.
 ghost use Rattle.std.specs.Prelude.{◌≡◌, ◌≤◌, map, length, None};
-ghost use Rattle.yl_sections.specs.Sections.{is_section_start, last_kind, parts, row_count};
+ghost use Rattle.yl_sections.specs.Sections.{is_section_start, last_kind_from, parts, row_count};
 
 use std::alloc::Allocator;
 use yl_events::begins_document;
@@ -9,7 +9,7 @@ use yl_record::Record;
 
 /// The kind of the last lexeme, where it was `last` before these.
 pub fn last_kind<A: Allocator>(last: Option<Kind>, lexemes: &[Lexeme<A>]) -> Option<Kind>
-    ensures { result ≡ last_kind last lexemes.now }
+    ensures { result ≡ last_kind_from last lexemes.now }
 {
     let mut last = last;
     for lexeme in lexemes {

@@ -1,4 +1,6 @@
 mod Bounds
+mod Read
 mod Renewed
+mod Places
 pub mod Goes
 pub mod Nothing

@@ -1,20 +1,24 @@
 -- What is renewed of a session's text, and what it took.
-use Rattle.std.proofs.Common.{◌≡◌, ◌≤◌, ◌<◌, ◌+◌, ◌-◌, ◌⊎◌, inl, inr, ℕ, zero, suc, List, length, take, drop, map, [], ◌∷◌, Option, Some, None, refl, arith, ap, sym, subst, ◌∙◌}
+use Rattle.std.proofs.Common.{◌≡◌, ◌≤◌, ◌<◌, ◌+◌, ◌⊎◌, inl, inr, ℕ, zero, suc, List, length, take, [], ◌∷◌, Option, Some, None, refl, arith, ap, sym, subst, ◌∙◌}
 use Rattle.std.specs.Prelude.{IsSome}
+use Rattle.std.specs.List.{splice}
+use Rattle.std.specs.Str.{chars}
+use Rattle.std.proofs.lemmas.List.{length-map}
 use Rattle.yl_text.specs.Lines.{RowValue}
 use Rattle.yl_text.specs.Store.{AreLines}
 use Rattle.yl_row.specs.Entries.{RowEntry, LineStateValue, Stopped, Stands, entries}
 use Rattle.yl_scan.specs.Restart.{state_at}
-use Rattle.yl_record.specs.Records.{RecordValue, records}
-use Rattle.yl_sections.specs.Local.{kind_after}
+use Rattle.yl_scan.proofs.Edits.{above}
+use Rattle.yl_record.specs.Records.{RecordValue, records, characters_in}
 use Rattle.yl_sections.specs.Sections.{sections}
 use Rattle.yl_sections.proofs.Last.{last_kept, stopped_empty}
+use Rattle.yl_sections.proofs.Lost.{lost_rows}
 use Rattle.yl_rescan.specs.Rescan.{IsRescan, IsRestart}
 use Rattle.yl_rescan.proofs.Rows.{each_row, records_length}
-use Rattle.yl_rejudge.specs.Places.{GoOnAlike}
-use Rattle.yl_rejudge.specs.Documents.{documents_holding, EndsAnew}
-use Rattle.yl_session.specs.declared.work.Work.{Work}
-use Rattle.yl_session.specs.Work.{IsWork, BeginsAnew, count_holding}
+use Rattle.yl_rescan.proofs.Edits.{characters_spliced}
+use Rattle.yl_rejudge.specs.Alike.{GoOnAlike}
+use Rattle.yl_rejudge.specs.Documents.{documents_holding, TakesNothing}
+use Rattle.yl_session.specs.Work.{IsWork}
 
 by_state : (old new : List (List ℕ)) (i j : ℕ) (s : LineStateValue) → state_at (entries old) i ≡ Some s → state_at (entries new) j ≡ Some s → GoOnAlike (records old) (records new) i j
 by_state old new i j Stopped x y = inr (inr (stopped_empty new j y))
@@ -26,11 +30,6 @@ go_on_alike old new rs us rs_are us_are a b k r i j n h = elim h.ended [
   | inl e ↦ inl (e.1 ∙ sym (ap (λ (vs : List RecordValue). length vs) us_are ∙ records_length new))
   | inr s ↦ rw (rs_are, us_are) (by_state old new i j s.state s.before s.after)
 ]
-
--- the row at which scanning began is in the text, so a document that ends there ends before a row
-begins_anew : (old new : List (List ℕ)) (r : ℕ) → r < length new → EndsAnew (records old) (records new) r → BeginsAnew old new r
-begins_anew old new r within (inl h) = h
-begins_anew old new r within (inr h) = absurd (omega (arith, within, h, records_length new))
 
 -- the state at a row that is there
 state_within : (es : List RowEntry) (i : ℕ) (s : LineStateValue) → state_at es i ≡ Some s → i < length es
@@ -53,26 +52,40 @@ restart_within t a r some h = elim h.place [
   | inr p ↦ let s = some_of (state_at (entries t) r) p.1 in omega (arith, state_within (entries t) r s.0 s.1, each_row t)
 ]
 
-bounded : (old new : List (List ℕ)) (rs us : List RecordValue) (r m documents : ℕ) → rs ≡ records old → us ≡ records new → r < length new
-    → ((documents ≤ documents_holding 0 r m (sections us)) ⊎ (EndsAnew rs us r × (documents ≤ documents_holding 0 (r - 1) m (sections us))))
-    → (documents ≤ count_holding new r m) ⊎ (BeginsAnew old new r × (documents ≤ count_holding new (r - 1) m))
-bounded old new rs us r m documents rs_are us_are within (inl l) = inl (subst (λ (vs : List RecordValue). documents ≤ documents_holding 0 r m (sections vs)) us_are l)
-bounded old new rs us r m documents rs_are us_are within (inr p) = inr (
-  begins_anew old new r within (subst (λ (vs : List RecordValue). EndsAnew vs (records new) r) rs_are (subst (λ (vs : List RecordValue). EndsAnew rs vs r) us_are p.0)),
-  subst (λ (vs : List RecordValue). documents ≤ documents_holding 0 (r - 1) m (sections vs)) us_are p.1,
-)
+-- where a section begins at that row anew, nothing was read of the old rows from there on
+takes_nothing : (old new : List (List ℕ)) (a r : ℕ) → r < length new → (r < a → take (r + 1) old ≡ take (r + 1) new) → IsRestart new a r → TakesNothing (records old) (records new) r
+takes_nothing old new a r within same h = record {
+  within = omega (arith, within, records_length new);
+  front = lost_rows old new r (above h.place) (sound h.place);
+} where
+  above : (r ≡ 0) ⊎ ((r < a) × IsSome (state_at (entries new) r)) → (r ≡ 0) ⊎ (take (r + 1) old ≡ take (r + 1) new)
+  above (inl z) = inl z
+  above (inr p) = inr (same p.0)
+
+  sound : (r ≡ 0) ⊎ ((r < a) × IsSome (state_at (entries new) r)) → (r ≡ 0) ⊎ IsSome (state_at (entries new) r)
+  sound (inl z) = inl z
+  sound (inr p) = inr p.1
+
+-- rows above the edit stay
+pub stays : (ps ns : List RowValue) (a b r : ℕ) → a ≤ length ps → r < a → take (r + 1) (characters_in ps) ≡ take (r + 1) (characters_in (splice ps a b ns))
+stays ps ns a b r within l =
+    let xs = characters_in ps in
+    let few : a ≤ length xs = omega (arith, within, length-map ps (λ (row : RowValue). chars row.text)) in
+    above xs (characters_in ns) a b r few l ∙ ap (λ (us : List (List ℕ)). take (r + 1) us) (sym (characters_spliced ps ns a b))
 
 -- the rows that were scanned, and the documents that were derived
-pub is_work : (old new : List (List ℕ)) (rs us : List RecordValue) (a b k r i j n scanned documents : ℕ) → rs ≡ records old → us ≡ records new → 0 < length new → IsRescan old new a b k r i j n
-    → scanned ≡ n
-    → ((m : ℕ) → j ≤ m + 1 → (documents ≤ documents_holding 0 r m (sections us)) ⊎ (EndsAnew rs us r × (documents ≤ documents_holding 0 (r - 1) m (sections us))))
+pub is_work : (old new : List (List ℕ)) (rs us : List RecordValue) (a b k r i j n scanned documents : ℕ) → rs ≡ records old → us ≡ records new → 0 < length new
+    → (r < a → take (r + 1) old ≡ take (r + 1) new) → IsRescan old new a b k r i j n → scanned ≡ n
+    → (TakesNothing rs us r → (m : ℕ) → j ≤ m + 1 → documents ≤ documents_holding 0 r m (sections us))
     → IsWork old new a b k (record { scanned = scanned; documents = documents })
-is_work old new rs us a b k r i j n scanned documents rs_are us_are row h s few = record {
-  r = r;
-  m = h.m;
-  restart = h.restart;
-  stop = h.stop;
-  some = omega (arith, h.some, s);
-  few = omega (arith, h.few, s);
-  documents = bounded old new rs us r h.m documents rs_are us_are (restart_within new a r row h.restart) (few h.m h.within);
-}
+is_work old new rs us a b k r i j n scanned documents rs_are us_are row same h s few =
+    let taken : TakesNothing rs us r = rw (rs_are, us_are) (takes_nothing old new a r (restart_within new a r row h.restart) same h.restart) in
+    record {
+      r = r;
+      m = h.m;
+      restart = h.restart;
+      stop = h.stop;
+      some = omega (arith, h.some, s);
+      few = omega (arith, h.few, s);
+      documents = subst (λ (vs : List RecordValue). documents ≤ documents_holding 0 r h.m (sections vs)) us_are (few taken h.m h.within);
+    }

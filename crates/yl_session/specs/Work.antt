@@ -1,15 +1,10 @@
 -- Meaning: how much of a text an edit may scan, and of how many documents it may derive events.
-use Rattle.std.specs.Prelude.{◌≡◌, ◌⊎◌, ℕ, ◌+◌, ◌-◌, ◌≤◌, false, true, List}
+use Rattle.std.specs.Prelude.{ℕ, ◌+◌, ◌-◌, ◌≤◌, List}
 use Rattle.yl_record.specs.Records.{records}
 use Rattle.yl_sections.specs.Sections.{sections}
-use Rattle.yl_sections.specs.Local.{is_start_at}
 use Rattle.yl_rescan.specs.Rescan.{IsRestart, IsStop}
 use Rattle.yl_rejudge.specs.Documents.{documents_holding}
 use Rattle.yl_session.specs.declared.work.Work.{Work}
-
--- row r begins a document (but the first) in the new text that it did not begin in the old one: so the document above it ends anew
-abbrev pub BeginsAnew : (old new : List (List ℕ)) (r : ℕ) → Type 0
-BeginsAnew old new r = (is_start_at (records old) r ≡ false) × (is_start_at (records new) r ≡ true)
 
 -- so many documents of the text hold one of the rows from r to m
 abbrev pub count_holding : List (List ℕ) → ℕ → ℕ → ℕ
@@ -17,8 +12,7 @@ count_holding t r m = documents_holding 0 r m (sections (records t))
 
 -- An edit of a text of these old rows, each given as its characters, put k lines in place of the lines a to b. Row r is the greatest
 -- sound one above row a of the new text, or the first; m is the least row from a + k on at which the texts agree, or the last. Then
--- the rows from r to m are scanned at the most, and events are derived at the most of the documents that hold one of these rows; and
--- of the document above r, where r begins one anew.
+-- the rows from r to m are scanned at the most, and events are derived at the most of the documents that hold one of these rows.
 pub record IsWork (old new : List (List ℕ)) (a b k : ℕ) (work : Work) : Type 0 where
   pub r : ℕ
   pub m : ℕ
@@ -26,4 +20,4 @@ pub record IsWork (old new : List (List ℕ)) (a b k : ℕ) (work : Work) : Type
   pub stop : IsStop old new (a + k) b m
   pub some : k ≤ work.scanned
   pub few : work.scanned ≤ m - r + 1
-  pub documents : (work.documents ≤ count_holding new r m) ⊎ (BeginsAnew old new r × (work.documents ≤ count_holding new (r - 1) m))
+  pub documents : work.documents ≤ count_holding new r m

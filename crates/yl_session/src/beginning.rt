@@ -2,19 +2,25 @@
 ghost use Rattle.std.specs.Prelude.{◌≡◌, ◌++◌, map, IfOk, OnOk};
 ghost use Rattle.yl_text.specs.Store.{AreLines};
 ghost use Rattle.yl_lint.specs.TextReport.{kept_of_text, records_of, report};
+ghost use Rattle.std.specs.List.{AllByRecursion};
+ghost use Rattle.yl_patch.specs.Plain.{IsOverviewOf};
+ghost use Rattle.yl_rejudge.specs.Places.{IsAt};
 
+use crate::guide::places_of;
+use crate::reading::{in_chunks, read};
 use std::alloc::{AllocError, Allocator};
 use yl_chunks::Chunks;
 use yl_config::Config;
-use yl_lexeme::Meter;
-use yl_lint::{kept_of_records, records_of_lines, report_with_kept};
+use yl_lint::report_with_kept;
+use yl_patch::{Overview, overview_of};
 use yl_record::Record;
+use yl_rejudge::Place;
 use yl_report::Problem;
 use yl_sections::Kept;
 use yl_text::LineStore;
 
 /// These values, and what is kept of these sections after them, lent.
-pub fn with_lent<'a, A: Allocator + Copy>(
+fn with_lent<'a, A: Allocator + Copy>(
     all: Vec<&'a Kept<A>, A>,
     kept: &'a [Kept<A>],
 ) -> Result<Vec<&'a Kept<A>, A>, AllocError>
@@ -27,11 +33,13 @@ pub fn with_lent<'a, A: Allocator + Copy>(
     Ok(lent)
 }
 
-/// The records of a text, what is kept of its sections, and its report.
+/// The records of a text, what is kept of its sections and known of all of them, places among them, and its report.
 #[derive(Drop)]
 pub struct Beginning<A: Allocator> {
     pub records: Chunks<Record<A>, A>,
-    pub kept: Vec<Kept<A>, A>,
+    pub kept: Chunks<Kept<A>, A>,
+    pub places: Vec<Place, A>,
+    pub overview: Overview,
     pub problems: Vec<Problem<A>, A>,
 }
 
@@ -59,17 +67,20 @@ pub fn begin<S: LineStore>(
     requires { AreLines (S.rows store.now) }
     ensures records { IfOk result (λ b. b.records.items ≡ records_of (S.rows store.now)) }
     ensures kept { IfOk result (λ b. b.kept.items ≡ kept_of_text config.now (S.rows store.now)) }
+    ensures places { IfOk result (λ b. AllByRecursion (IsAt b.kept.items) b.places.items) }
+    ensures overview { IfOk result (λ b. IsOverviewOf b.kept.items b.overview) }
     ensures problems { IfOk result (λ b. b.problems.items ≡ report config.now (S.rows store.now)) }
 {
-    let mut meter = Meter::new();
-    let mut rows = records_of_lines(alloc, store, &mut meter)?;
-    let kept = kept_of_records(alloc, config, &rows, &mut meter)?;
-    let problems = report_with(alloc, config, store, &kept)?;
-    let mut records = Chunks::new(alloc);
-    records.splice(0, 0, &mut rows)?;
+    let (records, mut sections) = read(alloc, config, store)?;
+    let problems = report_with(alloc, config, store, &sections)?;
+    let overview = overview_of(&sections);
+    let kept = in_chunks(alloc, &mut sections)?;
+    let places = places_of(alloc, &kept)?;
     Ok(Beginning {
         records,
         kept,
+        places,
+        overview,
         problems,
     })
 }

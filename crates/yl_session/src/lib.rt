@@ -1,12 +1,13 @@
 //! The report of a text, and of a text that is kept open and edited.
 //!
 //! A session keeps a record of each row and what is kept of each section. An edit scans the rows that it can have changed, judges the
-//! sections that hold them, and puts the report together anew.
+//! sections that hold them, and patches the report, or puts it together anew.
 #![tactic(auto)]
 
 mod beginning;
+mod guide;
 mod planning;
-mod putting;
+mod reading;
 mod replaying;
 mod session;
 mod work;

@@ -1,37 +1,42 @@
 //! A text that is kept open, with its report.
-ghost use Rattle.std.specs.Prelude.{◌≡◌, ◌<◌, ◌≤◌, ◌^◌, ◌↔◌, IsTrue, length, slice_get, Some, Ok, MatchOption, MatchResult, IfOk, OnOk, OnErr};
-ghost use Rattle.std.specs.List.{splice};
+ghost use Rattle.std.specs.Prelude.{◌≡◌, ◌<◌, ◌≤◌, ◌+◌, ◌^◌, ◌↔◌, IsTrue, length, drop, slice_get, vec_len, vec_capacity, Some, Ok, MatchOption, MatchResult, IfOk, IfSome, OnOk, OnErr};
+ghost use Rattle.std.specs.List.{AllByRecursion, splice};
 ghost use Rattle.yl_text.specs.Lines.{RowValue};
 ghost use Rattle.yl_text.specs.Fault.{IsText, IsFaultOf};
 ghost use Rattle.yl_text.specs.Store.{AreLines, IsRange};
 ghost use Rattle.yl_text.specs.Edit.{CanEdit, edited_text, incoming_lines, inserted_rows};
 ghost use Rattle.yl_session.specs.State.{OneState};
 ghost use Rattle.yl_record.specs.Records.{characters_in};
+ghost use Rattle.yl_patch.specs.Patched.{IsLow, patched};
 ghost use Rattle.yl_session.specs.Runs.{IsNothing};
 ghost use Rattle.yl_session.specs.Work.{IsWork};
 
 use crate::beginning::{Beginning, begin};
-use crate::planning::{make_room, planned};
-use crate::putting::put;
+use crate::guide::put_kept;
+use crate::planning::{Renewal, make_room, planned};
 use crate::work::Work;
 use std::alloc::{AllocError, Allocator};
 use std::marker::Model;
 use yl_chunks::Chunks;
 use yl_config::Config;
+use yl_patch::{Overview, put_patch};
 use yl_record::Record;
+use yl_rejudge::Place;
 use yl_report::{Problem, status};
 use yl_sections::Kept;
 use yl_text::{LineStore, Row, TextFault, split};
 
-/// The lines of a text, with a record of each, what is kept of its sections, and its report under a
-/// configuration.
+/// The lines of a text, with a record of each, what is kept of its sections and known of all of them, places
+/// among them, and its report under a configuration.
 #[derive(Drop)]
 pub struct Session<S: LineStore> {
     alloc: S::Alloc,
     config: Config,
     store: S,
     records: Chunks<Record<S::Alloc>, S::Alloc>,
-    kept: Vec<Kept<S::Alloc>, S::Alloc>,
+    kept: Chunks<Kept<S::Alloc>, S::Alloc>,
+    places: Vec<Place, S::Alloc>,
+    overview: Overview,
     problems: Vec<Problem<S::Alloc>, S::Alloc>,
 }
 
@@ -39,6 +44,9 @@ impl<S: LineStore> Model for Session<S> {
     ghost use Rattle.std.specs.Prelude.{◌≡◌};
     ghost use Rattle.yl_session.specs.State.{SessionValue};
     ghost use Rattle.yl_lint.specs.TextReport.{kept_of_text, records_of, report};
+    ghost use Rattle.std.specs.List.{AllByRecursion};
+    ghost use Rattle.yl_patch.specs.Plain.{IsOverviewOf};
+    ghost use Rattle.yl_rejudge.specs.Places.{IsAt};
     ghost use Rattle.yl_text.specs.Store.{AreLines};
 
     ghost Value = { SessionValue };
@@ -48,7 +56,9 @@ impl<S: LineStore> Model for Session<S> {
     ghost invariant = { λ s. AreLines (S.rows s.store)
         × (s.records.items ≡ records_of (S.rows s.store))
         × (s.kept.items ≡ kept_of_text s.config (S.rows s.store))
-        × (s.problems.items ≡ report s.config (S.rows s.store)) };
+        × (s.problems.items ≡ report s.config (S.rows s.store))
+        × IsOverviewOf s.kept.items s.overview
+        × AllByRecursion (IsAt s.kept.items) s.places.items };
 }
 
 impl<S: LineStore> Session<S> {
@@ -66,12 +76,15 @@ impl<S: LineStore> Session<S> {
         let Ok(store) = S::from_rows(&mut rows) else {
             return Err(TextFault::Memory);
         };
+        drop(rows);
         let Ok(begun) = begin(alloc, &config, &store) else {
             return Err(TextFault::Memory);
         };
         let Beginning {
             records,
             kept,
+            places,
+            overview,
             problems,
         } = begun;
         Ok(Session {
@@ -80,6 +93,8 @@ impl<S: LineStore> Session<S> {
             store,
             records,
             kept,
+            places,
+            overview,
             problems,
         })
     }
@@ -136,24 +151,30 @@ impl<S: LineStore> Session<S> {
             &self.store,
             &self.records,
             &self.kept,
+            &self.places,
+            self.overview,
+            &self.problems,
             a,
             b,
             rows.as_slice(),
         )?;
-        make_room(&mut self.records, &mut self.kept, &plan)?;
+        make_room(
+            self.alloc,
+            &mut self.records,
+            &mut self.kept,
+            &mut self.places,
+            &mut self.problems,
+            &plan,
+        )?;
         self.store.splice(a, b, rows)?;
         self.records.fill_room(
             plan.rescan.from,
             plan.rescan.old_end,
             &mut plan.rescan.records,
         );
-        put(
-            &mut self.kept,
-            plan.rejudged.from,
-            plan.rejudged.end,
-            &mut plan.rejudged.kept,
-        );
-        renew(&mut self.problems, plan.problems);
+        put_kept(&mut self.kept, &mut self.places, &mut plan.rejudged);
+        self.overview = plan.renewal.overview;
+        renew(&mut self.problems, plan.renewal);
         Ok(plan.work)
     }
 
@@ -205,12 +226,24 @@ pub fn one_state()
     ensures { OneState }
 {}
 
-/// Puts the new report in place of the old one, where there is a new one.
-fn renew<A: Allocator>(problems: &mut Vec<Problem<A>, A>, new: Option<Vec<Problem<A>, A>>)
-    ensures { MatchOption new (problems.new.items ≡ problems.old.items) (λ v. problems.new.items ≡ v.items) }
+/// Puts the new report in place of the old one, or patches it, where there is room; where there is neither, it stays.
+fn renew<A: Allocator>(problems: &mut Vec<Problem<A>, A>, renewal: Renewal<A>)
+    requires range { IfSome renewal.patch (λ p. IsRange p.from p.end (length problems.old.items)) }
+    requires low { IfSome renewal.patch (λ p. AllByRecursion IsLow (drop p.end problems.old.items)) }
+    requires room { IfSome renewal.patch (λ p. vec_len problems.old + vec_len p.problems ≤ vec_capacity problems.old) }
+    ensures { MatchOption renewal.whole
+        (MatchOption renewal.patch (problems.new.items ≡ problems.old.items) (λ p. problems.new.items ≡ patched p.from p.end p.problems.items p.up p.down problems.old.items))
+        (λ v. problems.new.items ≡ v.items) }
 {
-    if let Some(new) = new {
-        *problems = new;
+    let Renewal {
+        patch,
+        whole,
+        overview: _,
+    } = renewal;
+    match (whole, patch) {
+        (Some(whole), _) => *problems = whole,
+        (None, Some(mut patch)) => put_patch(problems, &mut patch),
+        (None, None) => {}
     }
 }
 

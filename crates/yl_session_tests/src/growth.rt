@@ -1,10 +1,11 @@
 //! Opening and lists of edits where one growth is refused: each in turn, up to the first run that meets none.
+use crate::rows::edit_of;
 use crate::shown::show_same;
 use refusing::Refusing;
 use std::alloc::Global;
 use std::test::Fail;
 use yl_config::Config;
-use yl_session::{Edit, Session, replay};
+use yl_session::{Session, replay};
 use yl_text::{PlainStore, TextFault};
 
 type Heap<'a> = &'a Refusing<Global>;
@@ -39,14 +40,6 @@ fn each_growth_of_open(rt: HostRuntime) -> Result<(), Fail> {
     Ok(())
 }
 
-fn edit<'a>(heap: Heap<'a>, a: u64, b: u64, bytes: &[u8]) -> Result<Edit<Heap<'a>>, Fail> {
-    Ok(Edit {
-        a,
-        b,
-        bytes: Vec::from_slice(heap, bytes)?,
-    })
-}
-
 // What the session of a replay shows whose second edit is out of range, where the first and the third
 // were accepted or not.
 fn wanted<'a>(heap: Heap<'a>, first: bool, third: bool) -> Result<Plain<'a>, TextFault> {
@@ -66,9 +59,9 @@ fn wanted<'a>(heap: Heap<'a>, first: bool, third: bool) -> Result<Plain<'a>, Tex
 fn each_growth_of_a_replay(rt: HostRuntime) -> Result<(), Fail> {
     let heap = Refusing::new(rt.alloc());
     let edits = [
-        edit(&heap, 1, 2, PIECE)?,
-        edit(&heap, 9, 9, b"")?,
-        edit(&heap, 0, 1, b"z\n")?,
+        edit_of(&heap, 1, 2, PIECE)?,
+        edit_of(&heap, 9, 9, b"")?,
+        edit_of(&heap, 0, 1, b"z\n")?,
     ];
     let mut as_a_whole = 0;
     for n in 1..u64::MAX {

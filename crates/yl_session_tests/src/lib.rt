@@ -1,9 +1,16 @@
-//! Tests of sessions, over a store and an allocator.
+//! Tests of sessions, over both stores: what edits are answered, what is shown then, and what becomes of
+//! them where memory is refused.
 #![tactic(auto)]
 
+#[cfg(test)]
+mod edits;
 #[cfg(test)]
 mod growth;
 #[cfg(test)]
 mod refused;
+#[cfg(test)]
+mod rows;
+#[cfg(test)]
+mod seams;
 #[cfg(test)]
 mod shown;

@@ -1,7 +1,7 @@
 -- Meaning: the nodes of a document (YAML 1.2.2, 3.2.1), by its events.
 use Rattle.std.specs.Prelude.{Bool, true, false, List, [], ◌∷◌, Option, None, if◌then◌else◌}
 use Rattle.yl_text.specs.declared.position.Pos.{Pos}
-use Rattle.yl_events.specs.Event.{EventValue, EventKindValue, DocumentStart, DocumentEnd, SequenceStart, SequenceEnd, MappingStart, MappingEnd, AliasOf}
+use Rattle.yl_events.specs.Event.{EventValue, EventKindValue, DocumentStart, DocumentEnd, SequenceStart, SequenceEnd, MappingStart, MappingEnd}
 
 -- nodes that follow each other: of the first its kind, its place and what is in it, and then the others
 pub data Nodes : Type 0 where
@@ -28,10 +28,6 @@ starts_sequence _ = false
 abbrev pub starts_mapping : EventKindValue → Bool
 starts_mapping MappingStart = true
 starts_mapping _ = false
-
-abbrev pub is_alias : EventKindValue → Bool
-is_alias (AliasOf name) = true
-is_alias _ = false
 
 -- of nodes by the collections that hold them, the innermost first
 abbrev pub innermost : List Nodes → Nodes

@@ -7,8 +7,8 @@ use Rattle.yl_indentation.specs.declared.options.Spaces.TheVariants.{Consistent}
 use Rattle.yl_indentation.specs.declared.options.IndentSequences.TheVariants.{Indented}
 use Rattle.yl_settings.specs.declared.options.RuleOptions.{RuleOptions}
 
-unfoldable pub standard_options : RuleOptions
-standard_options = record {
+unfoldable pub standard_rule_options : RuleOptions
+standard_rule_options = record {
   anchors = record { forbid_undeclared_aliases = true; forbid_duplicated_anchors = false; forbid_unused_anchors = false };
   braces = standard_brackets;
   brackets = standard_brackets;

@@ -1,7 +1,8 @@
 //! The nodes of a document, walked over its events. A node goes by the index of its first event.
 ghost use Rattle.std.specs.Prelude.{◌≡◌, ◌<◌, ◌≤◌, ◌∷◌, [], map, length, MatchOption, IfSome, drop};
 ghost use Rattle.yl_events.specs.Event.{event_value, kind_value};
-ghost use Rattle.yl_settings.specs.Nodes.{ends, entries_of, innermost, is_alias, levels_from, outer, starts, starts_mapping, starts_sequence, NoNode, Node};
+ghost use Rattle.yl_tree.specs.Anchors.{is_alias_event};
+ghost use Rattle.yl_settings.specs.Nodes.{ends, entries_of, innermost, levels_from, outer, starts, starts_mapping, starts_sequence, NoNode, Node};
 ghost use Rattle.yl_settings.specs.Item.{entry_value, nodes_at};
 
 use yl_events::{Event, EventKind};
@@ -64,7 +65,7 @@ pub fn starts_sequence(kind: EventKind<'_>) -> bool
 }
 
 pub fn is_alias(kind: EventKind<'_>) -> bool
-    ensures { result ≡ is_alias (kind_value kind.entry) }
+    ensures { result ≡ is_alias_event (kind_value kind.entry) }
 {
     matches!(kind, EventKind::Alias(_))
 }

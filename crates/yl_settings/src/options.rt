@@ -1,6 +1,6 @@
 //! The options of all rules.
 ghost use Rattle.std.specs.Prelude.{◌≡◌};
-ghost use Rattle.yl_settings.specs.Standard.{standard_options};
+ghost use Rattle.yl_settings.specs.Standard.{standard_rule_options};
 
 use yl_indentation::IndentationOptions;
 use yl_layout::{
@@ -10,7 +10,8 @@ use yl_layout::{
 use yl_rules::{CommentsOptions, RowOptions, RunOptions};
 use yl_tree::{AnchorsOptions, KeyDuplicatesOptions};
 
-/// The options of each rule that has some; those of empty-lines and new-lines are in `run`, those of line-length in `row`.
+/// The options of each rule that has some; those of empty-lines and new-lines are in `run`, those
+/// of line-length in `row`.
 #[derive(Clone, Copy, Debug, PartialEq, Eq)]
 pub struct RuleOptions {
     pub anchors: AnchorsOptions,
@@ -30,9 +31,9 @@ pub struct RuleOptions {
 }
 
 /// Those of yamllint's default configuration.
-#[tactic(auto, unfolding(crate::specs::Standard::standard_options))]
-pub fn standard_options() -> RuleOptions
-    ensures { result ≡ standard_options }
+#[tactic(auto, unfolding(crate::specs::Standard::standard_rule_options))]
+pub fn standard_rule_options() -> RuleOptions
+    ensures { result ≡ standard_rule_options }
 {
     RuleOptions {
         anchors: AnchorsOptions::standard(),

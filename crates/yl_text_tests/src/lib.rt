@@ -1,5 +1,18 @@
-//! Tests of `yl_text` that need an allocator which refuses, or devices of their own.
+//! Tests of texts, of stores of their lines and of scalars, with an allocator that refuses and devices
+//! that fail.
 #![tactic(auto)]
 
 #[cfg(test)]
-mod tests;
+mod chunks;
+#[cfg(test)]
+mod devices;
+#[cfg(test)]
+mod growths;
+#[cfg(test)]
+mod scalars;
+#[cfg(test)]
+mod seams;
+#[cfg(test)]
+mod stores;
+#[cfg(test)]
+mod texts;

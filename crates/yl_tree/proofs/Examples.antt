@@ -1,12 +1,11 @@
 -- Worked rows of the tree rules.
-use Rattle.std.proofs.Common.{ℕ, ◌≡◌, refl, List, [], ◌∷◌, ◌++◌, Bool, false, true, Option, Some, None}
+use Rattle.std.proofs.Common.{ℕ, ◌≡◌, refl, List, [], ◌∷◌, ◌++◌, Bool, false, true, Some, None}
 use Rattle.std.specs.Prelude.{codes}
 use Rattle.std.specs.Str.{chars}
-use Rattle.yl_text.specs.declared.position.Pos.{Pos}
 use Rattle.yl_text.specs.declared.finding.RuleId.TheVariants.{Anchors, KeyDuplicates, KeyOrdering}
 use Rattle.yl_text.specs.Finding.{FindingValue, one_finding}
 use Rattle.yl_lexeme.specs.declared.lexeme.Style.TheVariants.{Plain, Double}
-use Rattle.yl_events.specs.Event.{EventValue, EventAnchorValue, EventKindValue, DocumentStart, DocumentEnd, SequenceStart, SequenceEnd, MappingStart, MappingEnd, AliasOf, ScalarOf}
+use Rattle.yl_events.specs.Event.{EventValue, EventKindValue, DocumentStart, DocumentEnd, SequenceStart, SequenceEnd, MappingStart, MappingEnd, AliasOf, ScalarOf}
 use Rattle.yl_tree.specs.declared.options.KeyDuplicatesOptions.{KeyDuplicatesOptions}
 use Rattle.yl_tree.specs.declared.options.AnchorsOptions.{AnchorsOptions}
 use Rattle.yl_tree.specs.KeyRules.{key_duplicates, key_ordering}

@@ -1,14 +1,13 @@
 -- Opening and closing on the list of outer collections, and what a frame says of a key.
-use Rattle.std.proofs.Common.{◌≡◌, ℕ, List, [], ◌∷◌, ◌++◌, length, reverse, refl, sym, ◌∙◌, ap, Bool, true, false, not, ◌&&◌, ◌||◌, Option, Some, None}
+use Rattle.std.proofs.Common.{◌≡◌, ℕ, List, [], ◌∷◌, ◌++◌, length, reverse, refl, sym, ◌∙◌, ap, Bool, true, false, ◌&&◌}
 use Rattle.std.specs.Prelude.{if◌then◌else◌}
 use Rattle.std.specs.List.{list_any}
-use Rattle.std.specs.Option.{option_to_list}
 use Rattle.std.proofs.lemmas.List.{reverse-append}
 use Rattle.yl_events.specs.Event.{EventValue}
 use Rattle.yl_tree.specs.declared.walk.Frame.{Frame}
 use Rattle.yl_tree.specs.declared.walk.Walk.{Walk}
-use Rattle.yl_tree.specs.Keys.{earlier_keys, is_start, is_end, name_of}
-use Rattle.yl_tree.specs.OpenCollections.{OpenCollection, OpenCollections, new_collection, with_node, first_or_new, without_first, with_event, collections_behind, keys_if_next}
+use Rattle.yl_tree.specs.Keys.{earlier_keys, is_collection_start, is_collection_end, name_of}
+use Rattle.yl_tree.specs.OpenNodes.{OpenCollection, OpenNodes, new_collection, with_node, first_or_new, without_first, with_event, collections_behind}
 use Rattle.yl_tree.specs.Frames.{Agrees, AllAgree, IsBehind}
 use Rattle.yl_tree.proofs.Keys.{earlier}
 
@@ -35,10 +34,10 @@ module _ {M : Type 0} (against : List ℕ → List ℕ → Bool) (test : M → L
   opened_one old new f o os e a h = rw (e, reverse-append old (f ∷ [])) (a, h)
 
 -- an event that neither starts nor ends a collection
-with_leaf : (e : EventValue) (s : OpenCollections) → is_end e.kind ≡ false → is_start e.kind ≡ false → with_event e s ≡ record { innermost = with_node (name_of e) s.innermost; outer = s.outer }
+with_leaf : (e : EventValue) (s : OpenNodes) → is_collection_end e.kind ≡ false → is_collection_start e.kind ≡ false → with_event e s ≡ record { innermost = with_node (name_of e) s.innermost; outer = s.outer }
 with_leaf e s off none = rw (off, none) refl
 
-pub leaf_more : {M A : Type 0} (against : List ℕ → List ℕ → Bool) (test : M → List ℕ → Bool) (w : Walk M A) (before : List EventValue) (e : EventValue) → is_end e.kind ≡ false → is_start e.kind ≡ false
+pub leaf_more : {M A : Type 0} (against : List ℕ → List ℕ → Bool) (test : M → List ℕ → Bool) (w : Walk M A) (before : List EventValue) (e : EventValue) → is_collection_end e.kind ≡ false → is_collection_start e.kind ≡ false
     → Agrees against test w.innermost (with_node (name_of e) (collections_behind before).innermost) → AllAgree against test (reverse w.outer.items) (collections_behind before).outer → IsBehind against test w (e ∷ before)
 leaf_more against test w before e off none a h =
     let leaf = with_leaf e (collections_behind before) off none in

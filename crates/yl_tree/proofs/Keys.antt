@@ -1,11 +1,11 @@
 -- The keys that one finds by looking back are those of the innermost open collection.
-use Rattle.std.proofs.Common.{◌≡◌, ℕ, zero, suc, List, [], ◌∷◌, ◌++◌, Bool, true, false, not, ◌&&◌, ◌||◌, cond, refl, sym, ◌∙◌, ap, Option, Some, None}
+use Rattle.std.proofs.Common.{◌≡◌, ℕ, zero, suc, List, [], ◌∷◌, ◌++◌, Bool, true, false, not, ◌&&◌, cond, refl, ◌∙◌, ap, Option, Some, None}
 use Rattle.std.specs.Prelude.{if◌then◌else◌}
 use Rattle.std.specs.Option.{option_to_list}
 use Rattle.std.specs.List.{filter_map, cons_option}
 use Rattle.yl_events.specs.Event.{EventValue}
-use Rattle.yl_tree.specs.Keys.{is_start, is_end, is_mapping_start, nodes_so_far, is_in_mapping, is_key_next, keys_among, name_of, earlier_keys}
-use Rattle.yl_tree.specs.OpenCollections.{OpenCollection, OpenCollections, new_collection, with_node, first_or_new, without_first, with_event, collections_behind, keys_if_next}
+use Rattle.yl_tree.specs.Keys.{is_collection_start, is_collection_end, is_mapping_start, nodes_so_far, is_mapping_open, is_key_next, keys_among, name_of, earlier_keys}
+use Rattle.yl_tree.specs.OpenNodes.{OpenCollection, OpenNodes, new_collection, with_node, first_or_new, without_first, with_event, collections_behind, keys_if_next}
 
 -- the open collection outside which so many others stand
 abbrev pub nth : ℕ → List OpenCollection → OpenCollection
@@ -13,7 +13,7 @@ nth skip [] = new_collection false
 nth zero (o ∷ os) = o
 nth (suc skip) (o ∷ os) = nth skip os
 
-abbrev pub at : ℕ → OpenCollections → OpenCollection
+abbrev pub at : ℕ → OpenNodes → OpenCollection
 at zero s = s.innermost
 at (suc skip) s = nth skip s.outer
 
@@ -26,7 +26,7 @@ abbrev pub open_of : Bool → List EventValue → OpenCollection
 open_of mapping nodes = record { is_mapping = mapping; is_key_next = is_key_next nodes; keys = keys_in mapping nodes }
 
 abbrev pub looked_at : ℕ → List EventValue → OpenCollection
-looked_at skip es = open_of (is_in_mapping skip es) (nodes_so_far skip es)
+looked_at skip es = open_of (is_mapping_open skip es) (nodes_so_far skip es)
 
 names : (o : Option (List ℕ)) (xs : List (List ℕ)) → cons_option o xs ≡ option_to_list o ++ xs
 names None xs = refl
@@ -52,19 +52,19 @@ opened true = refl
 opened false = refl
 
 -- an event that starts a collection
-started : (skip : ℕ) (e : EventValue) (es : List EventValue) → ((k : ℕ) → looked_at k es ≡ at k (collections_behind es)) → is_end e.kind ≡ false → is_start e.kind ≡ true
+started : (skip : ℕ) (e : EventValue) (es : List EventValue) → ((k : ℕ) → looked_at k es ≡ at k (collections_behind es)) → is_collection_end e.kind ≡ false → is_collection_start e.kind ≡ true
     → looked_at skip (e ∷ es) ≡ at skip (with_event e (collections_behind es))
 started zero e es ih off on = rw (off, on) (opened (is_mapping_start e.kind))
-started (suc zero) e es ih off on = rw (off, on) (node_more e (is_in_mapping zero es) (nodes_so_far zero es) ∙ ap (with_node (name_of e)) (ih zero))
+started (suc zero) e es ih off on = rw (off, on) (node_more e (is_mapping_open zero es) (nodes_so_far zero es) ∙ ap (with_node (name_of e)) (ih zero))
 started (suc (suc skip)) e es ih off on = rw (off, on) (ih (suc skip))
 
 -- one that is a node by itself
-stood : (skip : ℕ) (e : EventValue) (es : List EventValue) → ((k : ℕ) → looked_at k es ≡ at k (collections_behind es)) → is_end e.kind ≡ false → is_start e.kind ≡ false
+stood : (skip : ℕ) (e : EventValue) (es : List EventValue) → ((k : ℕ) → looked_at k es ≡ at k (collections_behind es)) → is_collection_end e.kind ≡ false → is_collection_start e.kind ≡ false
     → looked_at skip (e ∷ es) ≡ at skip (with_event e (collections_behind es))
-stood zero e es ih off none = rw (off, none) (node_more e (is_in_mapping zero es) (nodes_so_far zero es) ∙ ap (with_node (name_of e)) (ih zero))
+stood zero e es ih off none = rw (off, none) (node_more e (is_mapping_open zero es) (nodes_so_far zero es) ∙ ap (with_node (name_of e)) (ih zero))
 stood (suc skip) e es ih off none = rw (off, none) (ih (suc skip))
 
-by_kind : (skip : ℕ) (e : EventValue) (es : List EventValue) → ((k : ℕ) → looked_at k es ≡ at k (collections_behind es)) → (b c : Bool) → is_end e.kind ≡ b → is_start e.kind ≡ c
+by_kind : (skip : ℕ) (e : EventValue) (es : List EventValue) → ((k : ℕ) → looked_at k es ≡ at k (collections_behind es)) → (b c : Bool) → is_collection_end e.kind ≡ b → is_collection_start e.kind ≡ c
     → looked_at skip (e ∷ es) ≡ at skip (with_event e (collections_behind es))
 by_kind skip e es ih true c on _ = rw on (ih (suc skip) ∙ popped skip (collections_behind es).outer)
 by_kind skip e es ih false true off on = started skip e es ih off on
@@ -76,11 +76,11 @@ none_open (suc skip) = refl
 
 looked_back : (skip : ℕ) (es : List EventValue) → looked_at skip es ≡ at skip (collections_behind es)
 looked_back skip [] = none_open skip
-looked_back skip (e ∷ es) = by_kind skip e es (λ k. looked_back k es) (is_end e.kind) (is_start e.kind) refl refl
+looked_back skip (e ∷ es) = by_kind skip e es (λ k. looked_back k es) (is_collection_end e.kind) (is_collection_start e.kind) refl refl
 
 keys_next : (m d : Bool) (nodes : List EventValue) → (if m && d then filter_map name_of (keys_among nodes) else []) ≡ (if m && d then keys_in m nodes else [])
 keys_next true d nodes = refl
 keys_next false d nodes = refl
 
 pub earlier : (es : List EventValue) → earlier_keys es ≡ keys_if_next (collections_behind es).innermost
-earlier es = keys_next (is_in_mapping zero es) (is_key_next (nodes_so_far zero es)) (nodes_so_far zero es) ∙ ap keys_if_next (looked_back zero es)
+earlier es = keys_next (is_mapping_open zero es) (is_key_next (nodes_so_far zero es)) (nodes_so_far zero es) ∙ ap keys_if_next (looked_back zero es)

@@ -3,5 +3,7 @@ pub mod CodePoints
 mod Examples
 pub mod Frames
 pub mod Keys
+pub mod KeyTold
 pub mod Names
+pub mod References
 pub mod Unused

@@ -2,12 +2,13 @@
 use Rattle.std.specs.Prelude.{ℕ, ◌≡◌, Bool, List, [], ◌∷◌, reverse}
 use Rattle.std.specs.List.{list_any}
 use Rattle.yl_events.specs.Event.{EventValue}
-use Rattle.yl_tree.specs.OpenCollections.{OpenCollection, collections_behind}
+use Rattle.yl_tree.specs.OpenNodes.{OpenCollection, collections_behind}
 use Rattle.yl_tree.specs.declared.walk.Frame.{Frame}
 use Rattle.yl_tree.specs.declared.walk.Walk.{Walk}
 
 -- which earlier key speaks against which key, and what the memory of the earlier ones says of a key
-module _ {M : Type 0} (speaks_against : List ℕ → List ℕ → Bool) (is_against : M → List ℕ → Bool) where
+module _ {M : Type 0} (speaks_against : List ℕ → List ℕ → Bool) (is_against : M → List ℕ
+    → Bool) where
   -- a frame stands for an open collection
   pub record Agrees (f : Frame M) (o : OpenCollection) : Type 0 where
     pub mapping : f.is_mapping ≡ o.is_mapping

@@ -1,19 +1,20 @@
--- Meaning: the keys of mappings (YAML 1.2.2, 3.2.1.1), read off the events that come before an event, the latest first.
+-- Meaning: the keys of mappings (YAML 1.2.2, 3.2.1.1), read off the events that come before an
+-- event, the latest first.
 use Rattle.std.specs.Prelude.{ℕ, zero, suc, Bool, true, false, not, ◌&&◌, if◌then◌else◌, List, [], ◌∷◌, Option, Some, None}
 use Rattle.std.specs.List.{filter_map}
 use Rattle.yl_lexeme.specs.declared.lexeme.Style.{Style}
 use Rattle.yl_lexeme.specs.declared.lexeme.Style.TheVariants.{Plain, Single, Double, Literal, Folded}
 use Rattle.yl_events.specs.Event.{EventValue, EventKindValue, SequenceStart, SequenceEnd, MappingStart, MappingEnd, ScalarOf}
 
-abbrev pub is_start : EventKindValue → Bool
-is_start SequenceStart = true
-is_start MappingStart = true
-is_start _ = false
+abbrev pub is_collection_start : EventKindValue → Bool
+is_collection_start SequenceStart = true
+is_collection_start MappingStart = true
+is_collection_start _ = false
 
-abbrev pub is_end : EventKindValue → Bool
-is_end SequenceEnd = true
-is_end MappingEnd = true
-is_end _ = false
+abbrev pub is_collection_end : EventKindValue → Bool
+is_collection_end SequenceEnd = true
+is_collection_end MappingEnd = true
+is_collection_end _ = false
 
 abbrev pub is_mapping_start : EventKindValue → Bool
 is_mapping_start MappingStart = true
@@ -51,8 +52,8 @@ nodes_at_leaf (suc skip) e earlier = earlier (suc skip)
 abbrev pub nodes_so_far : ℕ → List EventValue → List EventValue
 nodes_so_far skip [] = []
 nodes_so_far skip (e ∷ es) =
-    if is_end e.kind then nodes_so_far (suc skip) es
-    else if is_start e.kind then nodes_at_start skip e (λ n. nodes_so_far n es)
+    if is_collection_end e.kind then nodes_so_far (suc skip) es
+    else if is_collection_start e.kind then nodes_at_start skip e (λ n. nodes_so_far n es)
     else nodes_at_leaf skip e (λ n. nodes_so_far n es)
 
 abbrev pub mapping_at_start : ℕ → EventValue → (ℕ → Bool) → Bool
@@ -60,12 +61,12 @@ mapping_at_start zero e outer = is_mapping_start e.kind
 mapping_at_start (suc skip) e outer = outer skip
 
 -- the innermost open collection is a mapping
-abbrev pub is_in_mapping : ℕ → List EventValue → Bool
-is_in_mapping skip [] = false
-is_in_mapping skip (e ∷ es) =
-    if is_end e.kind then is_in_mapping (suc skip) es
-    else if is_start e.kind then mapping_at_start skip e (λ n. is_in_mapping n es)
-    else is_in_mapping skip es
+abbrev pub is_mapping_open : ℕ → List EventValue → Bool
+is_mapping_open skip [] = false
+is_mapping_open skip (e ∷ es) =
+    if is_collection_end e.kind then is_mapping_open (suc skip) es
+    else if is_collection_start e.kind then mapping_at_start skip e (λ n. is_mapping_open n es)
+    else is_mapping_open skip es
 
 -- ---- the nodes of a mapping are a key, its value, a key, its value ..
 
@@ -79,8 +80,10 @@ keys_among [] = []
 keys_among (n ∷ nodes) = if is_key_next nodes then n ∷ keys_among nodes else keys_among nodes
 
 abbrev pub is_key_after : List EventValue → Bool
-is_key_after before = is_in_mapping 0 before && is_key_next (nodes_so_far 0 before)
+is_key_after before = is_mapping_open 0 before && is_key_next (nodes_so_far 0 before)
 
--- the names of the earlier keys of the mapping in which the event after these is a key; none where it is no key
+-- the names of the earlier keys of the mapping in which the event after these is a key; none where
+-- it is no key
 abbrev pub earlier_keys : List EventValue → List (List ℕ)
-earlier_keys before = if is_key_after before then filter_map name_of (keys_among (nodes_so_far 0 before)) else []
+earlier_keys before =
+    if is_key_after before then filter_map name_of (keys_among (nodes_so_far 0 before)) else []

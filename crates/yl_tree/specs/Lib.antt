@@ -5,6 +5,7 @@ pub mod Keys
 pub mod KeyRules
 pub mod Messages
 pub mod NameSets
-pub mod OpenCollections
+pub mod OpenNodes
 pub mod Order
+pub mod References
 pub mod Unused

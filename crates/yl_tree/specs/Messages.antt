@@ -3,12 +3,10 @@ use Rattle.std.specs.Prelude.{ℕ, Bool, false, ◌||◌, ◌==◌, nat_lt, if�
 use Rattle.std.specs.List.{flat_map}
 use Rattle.std.specs.Fmt.{digit_glyph}
 use Rattle.std.specs.Str.{chars}
+use Rattle.yl_text.specs.Char.{space}
 use Rattle.yl_text.specs.declared.finding.RuleId.{RuleId}
 use Rattle.yl_text.specs.declared.position.Pos.{Pos}
 use Rattle.yl_text.specs.Finding.{FindingValue, one_finding}
-
-abbrev pub space : ℕ
-space = 0x20
 
 abbrev pub delete : ℕ
 delete = 0x7F
@@ -22,7 +20,8 @@ hexadecimal n = digit_glyph false n
 
 -- a control character as `\x` and two hexadecimal digits, any other as it is, in UTF-8
 abbrev pub printed_character : ℕ → List ℕ
-printed_character c = if is_control c then codes "\\x" ++ hexadecimal (c / 16) ∷ hexadecimal (c % 16) ∷ [] else encode_utf8 c
+printed_character c = if is_control c then codes "\\x" ++ hexadecimal (c / 16)
+    ∷ hexadecimal (c % 16) ∷ [] else encode_utf8 c
 
 abbrev pub printed_name : List ℕ → List ℕ
 printed_name name = flat_map printed_character (chars name)

@@ -1,5 +1,5 @@
 -- Bridge: for each event of a document, whether it has an anchor that no alias refers to.
-use Rattle.std.specs.Prelude.{ℕ, Bool, false, not, if◌then◌else◌, List, [], ◌∷◌, codes, Option, Some, None}
+use Rattle.std.specs.Prelude.{Bool, false, not, if◌then◌else◌, List, [], ◌∷◌, codes, Option, Some, None}
 use Rattle.yl_text.specs.declared.finding.RuleId.TheVariants.{Anchors}
 use Rattle.yl_text.specs.Finding.{FindingValue}
 use Rattle.yl_events.specs.Event.{EventValue, EventAnchorValue}
@@ -17,5 +17,6 @@ unused_flags (e ∷ es) = is_unused e.anchor es ∷ unused_flags es
 abbrev pub unused_if : Bool → EventAnchorValue → List FindingValue
 unused_if is_told anchor =
     if is_told
-    then name_finding Anchors (Some anchor.place) (message_of (codes "found unused anchor \"") anchor.name (codes "\""))
+    then name_finding Anchors (Some anchor.place)
+    (message_of (codes "found unused anchor \"") anchor.name (codes "\""))
     else []

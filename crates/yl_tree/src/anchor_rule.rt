@@ -4,6 +4,8 @@ ghost use Rattle.std.specs.Option.{option_to_list};
 ghost use Rattle.yl_events.specs.Event.{EventValue, event_value, kind_value, anchor_value};
 ghost use Rattle.yl_tree.specs.Anchors.{is_anchor_of, is_alias_of, is_declared, is_used, undeclared_alias, duplicated_anchor, anchor_findings, anchors_at, anchors};
 ghost use Rattle.yl_tree.specs.NameSets.{has_name};
+ghost use Rattle.std.specs.List.{list_any};
+ghost use Rattle.yl_tree.specs.References.{is_reference};
 ghost use Rattle.yl_tree.specs.Unused.{is_unused as unused_spec, unused_flags, unused_if};
 
 use crate::messages::{name_problem, push_found};
@@ -16,7 +18,8 @@ use yl_text::{Finding, RuleId};
 
 /// Whether the event has an anchor whose name is not among these.
 fn is_unused<A: Allocator>(event: &Event<'_>, used: &NameSet<'_, A>) -> bool
-    ensures { (after : List EventValue) → ((q : List ℕ) → has_name used.now q ≡ is_used after q) → result ≡ unused_spec (event_value event.now).anchor after }
+    ensures { (after : List EventValue) → ((q : List ℕ) → has_name used.now q ≡ is_used after q)
+        → result ≡ unused_spec (event_value event.now).anchor after }
 {
     match event.anchor {
         None => false,
@@ -29,7 +32,9 @@ fn use_event<'a, A: Allocator + Copy>(
     event: &Event<'a>,
     used: &mut NameSet<'a, A>,
 ) -> Result<(), AllocError>
-    ensures { OnOk result ((q : List ℕ) → has_name used.new q ≡ not (is_anchor_of q (event_value event.now).anchor) && (is_alias_of q (event_value event.now).kind || has_name used.old q)) }
+    ensures { OnOk result ((q : List ℕ) → has_name used.new q
+        ≡ not (is_anchor_of q (event_value event.now).anchor)
+        && (is_alias_of q (event_value event.now).kind || has_name used.old q)) }
 {
     if let EventKind::Alias(name) = event.kind {
         insert_name(used, name)?;
@@ -59,7 +64,8 @@ fn unused_flags<'a, A: Allocator + Copy>(
 
 /// Takes the last of the flags.
 fn next_flag<A: Allocator>(flags: &mut Vec<bool, A>) -> bool
-    ensures { (flag : Bool) (later : List Bool) → flags.old.items ≡ reverse (flag ∷ later) → (result ≡ flag) × (flags.new.items ≡ reverse later) }
+    ensures { (flag : Bool) (later : List Bool) → flags.old.items ≡ reverse (flag ∷ later)
+        → (result ≡ flag) × (flags.new.items ≡ reverse later) }
 {
     flags.pop().unwrap_or(false)
 }
@@ -69,7 +75,8 @@ fn declare<'a, A: Allocator + Copy>(
     event: &Event<'a>,
     declared: &mut NameSet<'a, A>,
 ) -> Result<(), AllocError>
-    ensures { OnOk result ((q : List ℕ) → has_name declared.new q ≡ is_anchor_of q (event_value event.now).anchor || has_name declared.old q) }
+    ensures { OnOk result ((q : List ℕ) → has_name declared.new q
+        ≡ is_anchor_of q (event_value event.now).anchor || has_name declared.old q) }
 {
     if let Some(anchor) = event.anchor {
         insert_name(declared, anchor.name)?;
@@ -84,7 +91,11 @@ fn undeclared_alias<A: Allocator>(
     options: &AnchorsOptions,
     declared: &NameSet<'_, A>,
 ) -> Result<Option<Finding<A>>, AllocError>
-    ensures { (before : List EventValue) → ((q : List ℕ) → has_name declared.now q ≡ is_declared before q) → IfOk result (λ o. option_to_list o ≡ undeclared_alias options.now before (event_value event.now) (event_value event.now).kind) }
+    ensures { (before : List EventValue) → ((q : List ℕ)
+        → has_name declared.now q ≡ is_declared before q)
+        → IfOk result (λ o. option_to_list o
+        ≡ undeclared_alias options.now before
+        (event_value event.now) (event_value event.now).kind) }
 {
     let EventKind::Alias(name) = event.kind else {
         return Ok(None);
@@ -109,7 +120,13 @@ fn duplicated_anchor<A: Allocator>(
     options: &AnchorsOptions,
     declared: &NameSet<'_, A>,
 ) -> Result<Option<Finding<A>>, AllocError>
-    ensures { (before : List EventValue) → ((q : List ℕ) → has_name declared.now q ≡ is_declared before q) → IfOk result (λ o. option_to_list o ≡ duplicated_anchor options.now before (record { name = anchor.now.name.now; place = anchor.now.place })) }
+    ensures { (before : List EventValue) → ((q : List ℕ)
+        → has_name declared.now q ≡ is_declared before q)
+        → IfOk result (λ o. option_to_list o
+        ≡ duplicated_anchor options.now before (record {
+          name = anchor.now.name.now;
+          place = anchor.now.place;
+        })) }
 {
     if !options.forbid_duplicated_anchors || !has_name(declared, anchor.name) {
         return Ok(None);
@@ -132,7 +149,9 @@ fn unused_anchor<A: Allocator>(
     options: &AnchorsOptions,
     is_unused: bool,
 ) -> Result<Option<Finding<A>>, AllocError>
-    ensures { IfOk result (λ o. option_to_list o ≡ unused_if (options.now.forbid_unused_anchors && is_unused) (record { name = anchor.now.name.now; place = anchor.now.place })) }
+    ensures { IfOk result (λ o. option_to_list o
+        ≡ unused_if (options.now.forbid_unused_anchors
+        && is_unused) (record { name = anchor.now.name.now; place = anchor.now.place })) }
 {
     if !options.forbid_unused_anchors || !is_unused {
         return Ok(None);
@@ -157,7 +176,11 @@ fn push_anchor_problems<A: Allocator + Copy>(
     is_unused: bool,
     found: &mut Vec<Finding<A>, A>,
 ) -> Result<(), AllocError>
-    ensures { (before after : List EventValue) → ((q : List ℕ) → has_name declared.now q ≡ is_declared before q) → is_unused ≡ unused_spec (event_value event.now).anchor after → OnOk result (found.new.items ≡ found.old.items ++ anchor_findings options.now before (event_value event.now).anchor after) }
+    ensures { (before after : List EventValue)
+        → ((q : List ℕ) → has_name declared.now q ≡ is_declared before q)
+        → is_unused ≡ unused_spec (event_value event.now).anchor after
+        → OnOk result (found.new.items ≡ found.old.items
+        ++ anchor_findings options.now before (event_value event.now).anchor after) }
 {
     let Some(anchor) = event.anchor else {
         return Ok(());
@@ -175,10 +198,28 @@ fn push_problems<A: Allocator + Copy>(
     is_unused: bool,
     found: &mut Vec<Finding<A>, A>,
 ) -> Result<(), AllocError>
-    ensures { (before after : List EventValue) → ((q : List ℕ) → has_name declared.now q ≡ is_declared before q) → is_unused ≡ unused_spec (event_value event.now).anchor after → OnOk result (found.new.items ≡ found.old.items ++ anchors_at options.now before (event_value event.now) after) }
+    ensures { (before after : List EventValue)
+        → ((q : List ℕ) → has_name declared.now q ≡ is_declared before q)
+        → is_unused ≡ unused_spec (event_value event.now).anchor after
+        → OnOk result (found.new.items ≡ found.old.items
+        ++ anchors_at options.now before (event_value event.now) after) }
 {
     push_found(found, undeclared_alias(alloc, event, options, declared)?)?;
     push_anchor_problems(alloc, event, options, declared, is_unused, found)
+}
+
+/// Whether the event has an anchor or is an alias.
+fn is_reference(event: &Event<'_>) -> bool
+    ensures { result ≡ is_reference (event_value event.now) }
+{
+    event.anchor.is_some() || matches!(event.kind, EventKind::Alias(_))
+}
+
+/// Whether one of the events has an anchor or is an alias.
+fn has_references(events: &[Event<'_>]) -> bool
+    ensures { result ≡ list_any (λ e. is_reference (event_value e)) events.now }
+{
+    events.iter().any(|event| is_reference(event))
 }
 
 /// What the rule anchors finds in one document, in the order of the events: undeclared aliases,
@@ -193,6 +234,9 @@ pub fn anchors<'a, A: Allocator + Copy>(
     ensures { IfOk result (λ v. v.items ≡ anchors options.now (map event_value events.now)) }
 {
     let mut found = Vec::new(alloc);
+    if !has_references(events) {
+        return Ok(found);
+    }
     let mut flags = unused_flags(alloc, events)?;
     let mut declared = IndexSet::new(alloc);
     for event in events {

@@ -1,24 +1,29 @@
 //! The rule key-duplicates.
-ghost use Rattle.std.specs.Prelude.{◌≡◌, ◌||◌, ℕ, List, [], map, not, false, IfOk, bytes_eq};
-ghost use Rattle.std.specs.Option.{option_to_list};
+ghost use Rattle.std.specs.Prelude.{◌≡◌, ◌++◌, ◌||◌, ℕ, List, [], map, not, false, IfOk, OnOk, bytes_eq};
 ghost use Rattle.yl_events.specs.Event.{EventValue, event_value};
-ghost use Rattle.yl_tree.specs.KeyRules.{duplicate_at, is_judged, key_duplicates};
-ghost use Rattle.yl_tree.specs.NameSets.{has_name};
+ghost use Rattle.yl_tree.specs.Keys.{earlier_keys};
+ghost use Rattle.yl_tree.specs.KeyRules.{duplicate_at, is_duplicate, is_judged, key_duplicates};
+ghost use Rattle.yl_tree.specs.NameSets.{has_name, is_among};
 ghost use Rattle.yl_tree.specs.Frames.{IsBehind};
 
 use crate::messages::{name_problem, push_found};
-use crate::name_set::{NameSet, has_name, insert_name};
+use crate::name_set::{NameSet, has_name, insert_name, is_among};
 use crate::options::KeyDuplicatesOptions;
 use crate::walk::{self, KeyMemory, Walk};
+use arrayvec::ArrayVec;
 use indexmap::IndexSet;
 use std::alloc::{AllocError, Allocator};
 use yl_events::Event;
 use yl_text::{Finding, RuleId};
 
-/// The earlier keys of a mapping.
+/// How many keys of a mapping are kept with it and take no memory of their own.
+const FEW: usize = 8;
+
+/// The earlier keys of a mapping: the first few, and a set of the others.
 #[derive(Drop)]
 struct KeySet<'a, A: Allocator + Copy> {
-    names: NameSet<'a, A>,
+    first: ArrayVec<&'a str, FEW>,
+    others: NameSet<'a, A>,
 }
 
 impl<'a, A: Allocator + Copy> KeyMemory<'a> for KeySet<'a, A> {
@@ -26,20 +31,25 @@ impl<'a, A: Allocator + Copy> KeyMemory<'a> for KeySet<'a, A> {
 
     ghost speaks_against = { λ key q. bytes_eq key q };
 
-    ghost is_against = { λ s q. has_name s.names q };
+    ghost is_against = { λ s q. is_among s.first.items q || has_name s.others q };
 
     fn empty(alloc: A) -> Self {
         KeySet {
-            names: IndexSet::new(alloc),
+            first: ArrayVec::new(),
+            others: IndexSet::new(alloc),
         }
     }
 
     fn remember(&mut self, key: &'a str) -> Result<(), AllocError> {
-        insert_name(&mut self.names, key)
+        if self.first.is_full() {
+            return insert_name(&mut self.others, key);
+        }
+        self.first.push(key);
+        Ok(())
     }
 
     fn is_against(&self, key: &str) -> bool {
-        has_name(&self.names, key)
+        is_among(&self.first, key) || has_name(&self.others, key)
     }
 }
 
@@ -49,30 +59,49 @@ fn is_judged(options: &KeyDuplicatesOptions, name: &str) -> bool
     options.forbid_duplicated_merge_keys || name != "<<"
 }
 
-/// The problem of an event that repeats a key of its mapping.
-fn duplicate<'a, A: Allocator + Copy>(
-    alloc: A,
+/// Whether this name repeats a key, if a key comes next.
+fn is_duplicate<'a, A: Allocator + Copy>(
+    walk: &Walk<KeySet<'a, A>, A>,
+    options: &KeyDuplicatesOptions,
+    name: &str,
+) -> bool
+    ensures { (before : List EventValue)
+        → IsBehind (λ key q. bytes_eq key q)
+        (λ s q. is_among s.first.items q || has_name s.others q) walk.now before
+        → result ≡ is_duplicate options.now (earlier_keys before) name.now }
+{
+    is_judged(options, name) && walk::is_spoken_against(walk, name)
+}
+
+/// Puts behind `found` the problem of an event that repeats a key of its mapping.
+fn push_duplicate<'a, A: Allocator + Copy>(
     walk: &Walk<KeySet<'a, A>, A>,
     event: &Event<'a>,
     options: &KeyDuplicatesOptions,
-) -> Result<Option<Finding<A>>, AllocError>
-    ensures { (before after : List EventValue) → IsBehind (λ key q. bytes_eq key q) (λ s q. has_name s.names q) walk.now before → IfOk result (λ o. option_to_list o ≡ duplicate_at options.now before (event_value event.now) after) }
+    found: &mut Vec<Finding<A>, A>,
+) -> Result<(), AllocError>
+    ensures { (before after : List EventValue)
+        → IsBehind (λ key q. bytes_eq key q)
+        (λ s q. is_among s.first.items q || has_name s.others q) walk.now before
+        → OnOk result (found.new.items
+        ≡ found.old.items ++ duplicate_at options.now before (event_value event.now) after) }
 {
     let Some(name) = walk::name_of(event) else {
-        return Ok(None);
+        return Ok(());
     };
-    if !is_judged(options, name) || !walk::is_spoken_against(walk, name) {
-        return Ok(None);
+    if !is_duplicate(walk, options, name) {
+        return Ok(());
     }
-    let front = "duplication of key \"";
-    name_problem(
-        alloc,
+    let problem = name_problem(
+        *found.allocator(),
         RuleId::KeyDuplicates,
         event.place,
-        front,
+        "duplication of key \"",
         name,
         "\" in mapping",
-    )
+    )?;
+    push_found(found, problem)?;
+    Ok(())
 }
 
 /// What the rule key-duplicates finds in one document: each key that is equal to an earlier one of
@@ -88,7 +117,7 @@ pub fn key_duplicates<'a, A: Allocator + Copy>(
     let mut found = Vec::new(alloc);
     let mut walk = walk::start::<KeySet<'a, A>>(alloc);
     for event in events {
-        push_found(&mut found, duplicate(alloc, &walk, event, options)?)?;
+        push_duplicate(&walk, event, options, &mut found)?;
         walk::step(alloc, &mut walk, event)?;
     }
     Ok(found)

@@ -27,7 +27,9 @@ fn digit(n: u32) -> char
 /// Puts `\x` and two digits behind the text.
 fn push_number<A: Allocator>(text: &mut String<A>, n: u32) -> Result<(), AllocError>
     requires { n < 128 }
-    ensures { OnOk result (string_bytes text.new ≡ string_bytes text.old ++ (codes "\\x" ++ hexadecimal (n / 16) ∷ hexadecimal (n % 16) ∷ [])) }
+    ensures { OnOk result (string_bytes text.new
+        ≡ string_bytes text.old ++ (codes "\\x" ++ hexadecimal (n / 16) ∷ hexadecimal (n % 16)
+        ∷ [])) }
 {
     text.push_str("\\x")?;
     text.push(digit(n / 16))?;
@@ -79,7 +81,8 @@ pub(crate) fn name_problem<A: Allocator>(
     name: &str,
     back: &str,
 ) -> Result<Option<Finding<A>>, AllocError>
-    ensures { IfOk result (λ o. option_to_list o ≡ name_finding rule place (message_of front.now name.now back.now)) }
+    ensures { IfOk result (λ o. option_to_list o
+        ≡ name_finding rule place (message_of front.now name.now back.now)) }
 {
     let Some(place) = place else {
         return Ok(None);

@@ -36,7 +36,11 @@ impl AnchorsOptions {
 
     /// Those of yamllint's default configuration.
     pub fn standard() -> AnchorsOptions
-        ensures { result ≡ record { forbid_undeclared_aliases = true; forbid_duplicated_anchors = false; forbid_unused_anchors = false } }
+        ensures { result ≡ record {
+          forbid_undeclared_aliases = true;
+          forbid_duplicated_anchors = false;
+          forbid_unused_anchors = false;
+        } }
     {
         AnchorsOptions {
             forbid_undeclared_aliases: true,

@@ -1,6 +1,5 @@
 //! The rule key-ordering.
-ghost use Rattle.std.specs.Prelude.{◌≡◌, ℕ, List, [], map, IfOk};
-ghost use Rattle.std.specs.Option.{option_to_list};
+ghost use Rattle.std.specs.Prelude.{◌≡◌, ◌++◌, ℕ, List, [], map, IfOk, OnOk};
 ghost use Rattle.yl_events.specs.Event.{EventValue, event_value};
 ghost use Rattle.yl_tree.specs.KeyRules.{is_greater, misplaced_at, key_ordering};
 ghost use Rattle.yl_tree.specs.Greatest.{is_some_greater};
@@ -13,34 +12,38 @@ use std::alloc::{AllocError, Allocator};
 use yl_events::Event;
 use yl_text::{Finding, RuleId};
 
-/// The problem of an event that is a key behind a greater one of its mapping.
-fn misplaced<'a, A: Allocator + Copy>(
-    alloc: A,
+/// Puts behind `found` the problem of an event that is a key behind a greater one of its mapping.
+fn push_misplaced<'a, A: Allocator + Copy>(
     walk: &Walk<Greatest<'a, A>, A>,
     event: &Event<'a>,
-) -> Result<Option<Finding<A>>, AllocError>
-    ensures { (before after : List EventValue) → IsBehind is_greater (λ g q. is_some_greater g.key q) walk.now before → IfOk result (λ o. option_to_list o ≡ misplaced_at before (event_value event.now) after) }
+    found: &mut Vec<Finding<A>, A>,
+) -> Result<(), AllocError>
+    ensures { (before after : List EventValue)
+        → IsBehind is_greater (λ g q. is_some_greater g.key q) walk.now before
+        → OnOk result (found.new.items
+        ≡ found.old.items ++ misplaced_at before (event_value event.now) after) }
 {
     let Some(name) = walk::name_of(event) else {
-        return Ok(None);
+        return Ok(());
     };
     if !walk::is_spoken_against(walk, name) {
-        return Ok(None);
+        return Ok(());
     }
-    let front = "wrong ordering of key \"";
-    name_problem(
-        alloc,
+    let problem = name_problem(
+        *found.allocator(),
         RuleId::KeyOrdering,
         event.place,
-        front,
+        "wrong ordering of key \"",
         name,
         "\" in mapping",
-    )
+    )?;
+    push_found(found, problem)?;
+    Ok(())
 }
 
 /// What the rule key-ordering finds in one document: each key that has a greater one before it in
-/// its mapping, by code points, in the order of the events. Lines are those of the events, and count
-/// from 1 as columns do. The only error is memory.
+/// its mapping, by code points, in the order of the events. Lines are those of the events, and
+/// count from 1 as columns do. The only error is memory.
 pub fn key_ordering<'a, A: Allocator + Copy>(
     alloc: A,
     events: &[Event<'a>],
@@ -50,7 +53,7 @@ pub fn key_ordering<'a, A: Allocator + Copy>(
     let mut found = Vec::new(alloc);
     let mut walk = walk::start::<Greatest<'a, A>>(alloc);
     for event in events {
-        push_found(&mut found, misplaced(alloc, &walk, event)?)?;
+        push_misplaced(&walk, event, &mut found)?;
         walk::step(alloc, &mut walk, event)?;
     }
     Ok(found)

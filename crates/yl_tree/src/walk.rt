@@ -3,8 +3,8 @@
 ghost use Rattle.std.specs.Prelude.{◌≡◌, ℕ, List, [], ◌∷◌, Bool, false, ◌||◌, ◌&&◌, reverse, OnOk, option_copied, option_to_list};
 ghost use Rattle.std.specs.List.{list_any};
 ghost use Rattle.yl_events.specs.Event.{EventValue, event_value, kind_value};
-ghost use Rattle.yl_tree.specs.Keys.{is_start, is_end, is_mapping_start, compared_value, name_of, earlier_keys};
-ghost use Rattle.yl_tree.specs.OpenCollections.{OpenCollection, OpenCollections, new_collection, with_node, first_or_new, without_first, with_event, collections_behind, keys_if_next};
+ghost use Rattle.yl_tree.specs.Keys.{is_collection_start, is_collection_end, is_mapping_start, compared_value, name_of, earlier_keys};
+ghost use Rattle.yl_tree.specs.OpenNodes.{OpenCollection, OpenNodes, new_collection, with_node, first_or_new, without_first, with_event, collections_behind, keys_if_next};
 ghost use Rattle.yl_tree.specs.Frames.{Agrees, AllAgree, IsBehind};
 
 use std::alloc::{AllocError, Allocator};
@@ -30,7 +30,8 @@ pub(crate) trait KeyMemory<'a>: Drop {
 
     /// Remembers a key.
     fn remember(&mut self, key: &'a str) -> Result<(), AllocError>
-        ensures { OnOk result ((q : List ℕ) → is_against self.new q ≡ speaks_against key.now q || is_against self.old q) };
+        ensures { OnOk result ((q : List ℕ) → is_against self.new q
+            ≡ speaks_against key.now q || is_against self.old q) };
 
     /// Whether a remembered key speaks against this one.
     fn is_against(&self, key: &str) -> bool
@@ -66,7 +67,9 @@ fn remember_some<'a, M: KeyMemory<'a>>(
     memory: &mut M,
     name: Option<&'a str>,
 ) -> Result<(), AllocError>
-    ensures { OnOk result ((q : List ℕ) → M.is_against memory.new q ≡ list_any (λ k. M.speaks_against k q) (option_to_list (option_copied name.entry)) || M.is_against memory.old q) }
+    ensures { OnOk result ((q : List ℕ) → M.is_against memory.new q
+        ≡ list_any (λ k. M.speaks_against k q) (option_to_list (option_copied name.entry))
+        || M.is_against memory.old q) }
 {
     if let Some(name) = name {
         memory.remember(name)?;
@@ -85,7 +88,9 @@ fn add_node<'a, M: KeyMemory<'a>>(
     frame: &mut Frame<M>,
     name: Option<&'a str>,
 ) -> Result<(), AllocError>
-    ensures { (o : OpenCollection) → Agrees M.speaks_against M.is_against frame.old o → OnOk result (Agrees M.speaks_against M.is_against frame.new (with_node (option_copied name.entry) o)) }
+    ensures { (o : OpenCollection) → Agrees M.speaks_against M.is_against frame.old o
+        → OnOk result
+        (Agrees M.speaks_against M.is_against frame.new (with_node (option_copied name.entry) o)) }
 {
     let is_key = is_key_next(frame);
     frame.is_key_next = !frame.is_key_next;
@@ -98,7 +103,10 @@ fn close<'a, M: KeyMemory<'a>>(
     innermost: &mut Frame<M>,
     outer: &mut Vec<Frame<M>, M::Alloc>,
 )
-    ensures { (s : OpenCollections) → AllAgree M.speaks_against M.is_against (reverse outer.old.items) s.outer → Agrees M.speaks_against M.is_against innermost.new (first_or_new s.outer) × AllAgree M.speaks_against M.is_against (reverse outer.new.items) (without_first s.outer) }
+    ensures { (s : OpenNodes)
+        → AllAgree M.speaks_against M.is_against (reverse outer.old.items) s.outer
+        → Agrees M.speaks_against M.is_against innermost.new (first_or_new s.outer)
+        × AllAgree M.speaks_against M.is_against (reverse outer.new.items) (without_first s.outer) }
 {
     *innermost = match outer.pop() {
         Some(frame) => frame,
@@ -114,7 +122,12 @@ fn open<'a, M: KeyMemory<'a>>(
     innermost: &mut Frame<M>,
     outer: &mut Vec<Frame<M>, M::Alloc>,
 ) -> Result<(), AllocError>
-    ensures { (s : OpenCollections) → Agrees M.speaks_against M.is_against innermost.old s.innermost → AllAgree M.speaks_against M.is_against (reverse outer.old.items) s.outer → OnOk result (Agrees M.speaks_against M.is_against innermost.new (new_collection is_mapping) × AllAgree M.speaks_against M.is_against (reverse outer.new.items) (with_node (option_copied name.entry) s.innermost ∷ s.outer)) }
+    ensures { (s : OpenNodes) → Agrees M.speaks_against M.is_against innermost.old s.innermost
+        → AllAgree M.speaks_against M.is_against (reverse outer.old.items) s.outer
+        → OnOk result
+        (Agrees M.speaks_against M.is_against innermost.new (new_collection is_mapping)
+        × AllAgree M.speaks_against M.is_against (reverse outer.new.items)
+        (with_node (option_copied name.entry) s.innermost ∷ s.outer)) }
 {
     add_node(innermost, name)?;
     let before = mem::replace(innermost, new_frame(alloc, is_mapping));
@@ -123,13 +136,13 @@ fn open<'a, M: KeyMemory<'a>>(
 }
 
 fn is_end(kind: &EventKind<'_>) -> bool
-    ensures { result ≡ is_end (kind_value kind.now) }
+    ensures { result ≡ is_collection_end (kind_value kind.now) }
 {
     matches!(kind, EventKind::SequenceEnd | EventKind::MappingEnd)
 }
 
 fn is_start(kind: &EventKind<'_>) -> bool
-    ensures { result ≡ is_start (kind_value kind.now) }
+    ensures { result ≡ is_collection_start (kind_value kind.now) }
 {
     matches!(kind, EventKind::SequenceStart | EventKind::MappingStart)
 }
@@ -166,7 +179,9 @@ pub(crate) fn step<'a, M: KeyMemory<'a>>(
     walk: &mut Walk<M, M::Alloc>,
     event: &Event<'a>,
 ) -> Result<(), AllocError>
-    ensures { (before : List EventValue) → IsBehind M.speaks_against M.is_against walk.old before → OnOk result (IsBehind M.speaks_against M.is_against walk.new (event_value event.now ∷ before)) }
+    ensures { (before : List EventValue) → IsBehind M.speaks_against M.is_against walk.old before
+        → OnOk result (IsBehind M.speaks_against M.is_against walk.new (event_value event.now
+        ∷ before)) }
 {
     if is_end(&event.kind) {
         close(alloc, &mut walk.innermost, &mut walk.outer);
@@ -189,7 +204,8 @@ pub(crate) fn step<'a, M: KeyMemory<'a>>(
 
 /// Whether an earlier key of its mapping speaks against this name, if a key comes next.
 pub(crate) fn is_spoken_against<'a, M: KeyMemory<'a>>(walk: &Walk<M, M::Alloc>, name: &str) -> bool
-    ensures { (before : List EventValue) → IsBehind M.speaks_against M.is_against walk.now before → result ≡ list_any (λ key. M.speaks_against key name.now) (earlier_keys before) }
+    ensures { (before : List EventValue) → IsBehind M.speaks_against M.is_against walk.now before
+        → result ≡ list_any (λ key. M.speaks_against key name.now) (earlier_keys before) }
 {
     if !is_key_next(&walk.innermost) {
         return false;

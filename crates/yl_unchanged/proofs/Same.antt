@@ -12,7 +12,7 @@ use Rattle.yl_text.specs.declared.row.Break.TheVariants.{No}
 use Rattle.yl_rules.specs.declared.empty_lines.EmptyLinesOptions.{EmptyLinesOptions}
 use Rattle.yl_rules.specs.declared.options.RowOptions.{RowOptions}
 use Rattle.yl_rules.specs.declared.options.RunOptions.{RunOptions}
-use Rattle.yl_rules.specs.EmptyLines.{is_break_only, goes_on, is_end, empty_lines_at, empty_lines, run_findings_of}
+use Rattle.yl_rules.specs.EmptyLines.{is_break_only, goes_on, is_text_end, empty_lines_at, empty_lines, run_findings_of}
 use Rattle.yl_rules.specs.EndOfFile.{end_of_file_at, end_of_file}
 use Rattle.yl_rules.specs.NewLines.{new_lines_at, new_lines}
 use Rattle.yl_rules.specs.Rows.{row_findings}
@@ -20,7 +20,7 @@ use Rattle.yl_rules.specs.Runs.{run_findings}
 use Rattle.yl_config.specs.declared.config.Config.{Config}
 use Rattle.yl_config.specs.Config.{options_of}
 use Rattle.yl_sections.specs.Kept.{KeptValue}
-use Rattle.yl_lint.specs.TextReport.{findings_from, findings_in_lines, first_text, text_in, width_of, end_of, kept_of_text, report, report_of_kept}
+use Rattle.yl_lint.specs.TextReport.{findings_from, findings_in_lines, first_text, text_in, width_of_line, end_of_lines, kept_of_text, report, report_of_kept}
 use Rattle.yl_lint.proofs.Rows.{rows_at}
 use Rattle.yl_unchanged.specs.Alike.{IsAlike, AreAlike}
 
@@ -64,7 +64,7 @@ goes_shape : (rows : List RowValue) → goes_on (map shape rows) ≡ goes_on row
 goes_shape [] = refl
 goes_shape (row ∷ rows) = break_shape row
 
-end_shape : (rows : List RowValue) → is_end (map shape rows) ≡ is_end rows
+end_shape : (rows : List RowValue) → is_text_end (map shape rows) ≡ is_text_end rows
 end_shape [] = refl
 end_shape (row ∷ rows) = rw (empty_shape row.text) refl
 
@@ -78,9 +78,9 @@ run_at o run line on end = if run == 0 || on then [] else run_findings_of o run 
 step_shape : (o : EmptyLinesOptions) (before : List RowValue) (row : RowValue) (after : List RowValue)
     → empty_lines_at o (map shape before) (shape row) (map shape after) ≡ empty_lines_at o before row after
 step_shape o before row after =
-    ap (λ n. run_at o n (length (map shape before) + 1) (goes_on (map shape after)) (is_end (map shape after))) (prefix_shape (row ∷ before))
-    ∙ (ap (λ n. run_at o (prefix_len is_break_only (row ∷ before)) (n + 1) (goes_on (map shape after)) (is_end (map shape after))) (length-map before shape)
-    ∙ (ap (λ b. run_at o (prefix_len is_break_only (row ∷ before)) (length before + 1) b (is_end (map shape after))) (goes_shape after)
+    ap (λ n. run_at o n (length (map shape before) + 1) (goes_on (map shape after)) (is_text_end (map shape after))) (prefix_shape (row ∷ before))
+    ∙ (ap (λ n. run_at o (prefix_len is_break_only (row ∷ before)) (n + 1) (goes_on (map shape after)) (is_text_end (map shape after))) (length-map before shape)
+    ∙ (ap (λ b. run_at o (prefix_len is_break_only (row ∷ before)) (length before + 1) b (is_text_end (map shape after))) (goes_shape after)
     ∙ ap (λ b. run_at o (prefix_len is_break_only (row ∷ before)) (length before + 1) (goes_on after) b) (end_shape after)))
 
 each_shape : (o : EmptyLinesOptions) (before rows : List RowValue) → at_each (empty_lines_at o) (map shape before) (map shape rows) ≡ at_each (empty_lines_at o) before rows
@@ -177,10 +177,10 @@ runs_same config o old new s =
     ∙ (ap (λ (r : Option RowValue). new_lines o.new_line old ++ (empty_lines o.empty_lines old ++ end_of_file_at (length new) r)) s.last
     ∙ ap (λ n. new_lines o.new_line old ++ (empty_lines o.empty_lines old ++ end_of_file_at n (slice_get old (length old - 1)))) s.count))
 
-end_same : (config : Config) (old new : List RowValue) → AreSame config old new → end_of new ≡ end_of old
+end_same : (config : Config) (old new : List RowValue) → AreSame config old new → end_of_lines new ≡ end_of_lines old
 end_same config old new s =
-    ap (λ n. place (n - 1) (width_of (slice_get new (length new - 1)))) s.count
-    ∙ ap (λ (r : Option RowValue). place (length old - 1) (width_of r)) s.last
+    ap (λ n. place (n - 1) (width_of_line (slice_get new (length new - 1)))) s.count
+    ∙ ap (λ (r : Option RowValue). place (length old - 1) (width_of_line r)) s.last
 
 report_same : (config : Config) (old new : List RowValue) → AreSame config old new → kept_of_text config new ≡ kept_of_text config old → report config new ≡ report config old
 unfolding report
@@ -188,10 +188,10 @@ report_same config old new s k =
     let o = options_of config in
     let lines : findings_in_lines o new ≡ findings_in_lines o old =
     ap (λ (fs : List FindingValue). fs ++ run_findings o.run new) s.found ∙ ap (λ (fs : List FindingValue). findings_from o.row 1 old ++ fs) (runs_same config o.run old new s) in
-    ap (λ (fs : List FindingValue). report_of_kept config fs (first_text new) (end_of new) (kept_of_text config new)) lines
-    ∙ (ap (λ (r : Option RowValue). report_of_kept config (findings_in_lines o old) (text_in r) (end_of new) (kept_of_text config new)) s.first
+    ap (λ (fs : List FindingValue). report_of_kept config fs (first_text new) (end_of_lines new) (kept_of_text config new)) lines
+    ∙ (ap (λ (r : Option RowValue). report_of_kept config (findings_in_lines o old) (text_in r) (end_of_lines new) (kept_of_text config new)) s.first
     ∙ (ap (λ (p : Pos). report_of_kept config (findings_in_lines o old) (first_text old) p (kept_of_text config new)) (end_same config old new s)
-    ∙ ap (λ (ks : List KeptValue). report_of_kept config (findings_in_lines o old) (first_text old) (end_of old) ks) k))
+    ∙ ap (λ (ks : List KeptValue). report_of_kept config (findings_in_lines o old) (first_text old) (end_of_lines old) ks) k))
 
 -- an edit within a text
 pub edit_leaves : (config : Config) (rows new : List RowValue) (a b : ℕ) → 0 < a → b < length rows → b ≡ a + length new → AreAlike (options_of config).row (a + 1) (drop a rows) new

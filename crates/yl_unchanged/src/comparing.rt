@@ -1,9 +1,11 @@
 //! Whether what is kept of two sections is the same.
-ghost use Rattle.std.specs.Prelude.{◌≡◌, true};
+ghost use Rattle.std.specs.Prelude.{◌≡◌, ◌-◌, true, length, take, drop};
+ghost use Rattle.yl_text.specs.Store.{IsRange};
 ghost use Rattle.std.specs.Option.{option_map};
 ghost use Rattle.yl_sections.specs.Owned.{section_fault_value};
 
 use std::alloc::Allocator;
+use yl_chunks::Chunks;
 use yl_indentation::{Expectation, Fact};
 use yl_sections::{Kept, KeptComment, SectionFault};
 use yl_text::Finding;
@@ -121,17 +123,25 @@ fn is_same<A: Allocator>(one: &Kept<A>, other: &Kept<A>) -> bool
         && are_same_facts(one.facts(), other.facts())
         && are_same_comments(one.comments(), other.comments())
         && is_same_fault(one.fault(), other.fault())
+        && are_same_findings(one.hidden(), other.hidden())
+        && is_same_fault(one.parse_fault(), other.parse_fault())
 }
 
-/// Whether what is kept of these sections is the same.
-pub fn are_same<A: Allocator>(one: &[Kept<A>], other: &[Kept<A>]) -> bool
-    ensures { result ≡ true → one.now ≡ other.now }
+/// Whether what is kept of the sections from one on, before `end`, is the same as this.
+pub fn are_same<A: Allocator + Copy>(
+    kept: &Chunks<Kept<A>, A>,
+    from: usize,
+    end: usize,
+    other: &[Kept<A>],
+) -> bool
+    requires { IsRange from end (length kept.now.items) }
+    ensures { result ≡ true → take (end - from) (drop from kept.now.items) ≡ other.now }
 {
-    if one.len() != other.len() {
+    if end - from != other.len() {
         return false;
     }
-    for i in 0..one.len() {
-        if !is_same(&one[i], &other[i]) {
+    for i in 0..other.len() {
+        if !is_same(kept.get(from + i), &other[i]) {
             return false;
         }
     }

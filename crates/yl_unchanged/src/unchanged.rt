@@ -7,6 +7,7 @@ ghost use Rattle.yl_lint.specs.TextReport.{kept_of_text, report};
 use crate::comparing::are_same;
 use crate::lines::are_alike;
 use std::alloc::{AllocError, Allocator};
+use yl_chunks::Chunks;
 use yl_config::Config;
 use yl_sections::Kept;
 use yl_text::{LineStore, Row};
@@ -21,11 +22,16 @@ fn is_inner(a: usize, b: usize, count: usize, lines: usize) -> bool
 }
 
 /// Whether what is kept of the sections from `from` on, before `end`, is this.
-fn stays<A: Allocator>(kept: &[Kept<A>], from: usize, end: usize, new: &[Kept<A>]) -> bool
-    requires { IsRange from end (length kept.now) }
-    ensures { result ≡ true → splice kept.now from end new.now ≡ kept.now }
+fn stays<A: Allocator + Copy>(
+    kept: &Chunks<Kept<A>, A>,
+    from: usize,
+    end: usize,
+    new: &[Kept<A>],
+) -> bool
+    requires { IsRange from end (length kept.now.items) }
+    ensures { result ≡ true → splice kept.now.items from end new.now ≡ kept.now.items }
 {
-    are_same(&kept[from..end], new)
+    are_same(kept, from, end, new)
 }
 
 /// Whether the edit that puts these rows in place of the lines a to b, b not included, leaves the report as it is, as far as the edited
@@ -38,7 +44,7 @@ pub fn leaves_report<S: LineStore>(
     a: usize,
     b: usize,
     rows: &[Row<S::Alloc>],
-    kept: &[Kept<S::Alloc>],
+    kept: &Chunks<Kept<S::Alloc>, S::Alloc>,
     from: usize,
     end: usize,
     new: &[Kept<S::Alloc>],
@@ -46,9 +52,9 @@ pub fn leaves_report<S: LineStore>(
     requires range { IsRange a b (length (S.rows store.now)) }
     requires old { AreLines (S.rows store.now) }
     requires lines { AreLines (splice (S.rows store.now) a b rows.now) }
-    requires kept { kept.now ≡ kept_of_text config.now (S.rows store.now) }
-    requires kept_range { IsRange from end (length kept.now) }
-    requires new { splice kept.now from end new.now ≡ kept_of_text config.now (splice (S.rows store.now) a b rows.now) }
+    requires kept { kept.now.items ≡ kept_of_text config.now (S.rows store.now) }
+    requires kept_range { IsRange from end (length kept.now.items) }
+    requires new { splice kept.now.items from end new.now ≡ kept_of_text config.now (splice (S.rows store.now) a b rows.now) }
     ensures { IfOk result (λ same. same ≡ true → report config.now (splice (S.rows store.now) a b rows.now) ≡ report config.now (S.rows store.now)) }
 {
     if !is_inner(a, b, rows.len(), store.len()) || !stays(kept, from, end, new) {

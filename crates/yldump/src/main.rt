@@ -2,7 +2,8 @@
 #![tactic(auto)]
 
 use std::process::ExitCode;
-use yl_cli::{AskedDump, Program, ProgramFault, RunFault, View, asked_dump, read_text, text_of};
+use yl_args::{AskedDump, View, asked_dump};
+use yl_devices::{Program, ProgramFault, RunFault, read_text, text_of};
 use yl_dump::{DumpFault, write_events, write_lexemes, write_lines};
 use yl_programs::{bytes_of, ended, stopped, words};
 use yl_text::Watched;

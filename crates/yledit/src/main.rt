@@ -2,10 +2,13 @@
 #![tactic(auto)]
 
 use std::process::ExitCode;
+use yl_args::{Asked, asked};
 use yl_chunks::ChunkStore;
-use yl_cli::{Asked, Program, ProgramFault, RunFault, asked, drive};
+use yl_cli::drive;
 use yl_config::Config;
-use yl_programs::{bytes_of, config_of, ended, stopped, words};
+use yl_devices::{Program, ProgramFault, RunFault};
+use yl_programs::{bytes_of, ended, stopped, words};
+use yl_sources::config_of;
 use yl_text::Watched;
 
 // A fault of the run over a file: what cannot be read after its text was, are the commands.
@@ -45,9 +48,9 @@ fn answered(rt: &HostRuntime) -> u8 {
         Ok(asked) => asked,
         Err(stop) => return ended(rt, Program::Yledit, stop),
     };
-    let config = match config_of(rt, &asked.config) {
+    let config = match config_of(rt, Program::Yledit, &asked.config) {
         Ok(config) => config,
-        Err(fault) => return stopped(rt, Program::Yledit, &fault),
+        Err(status) => return status,
     };
     match asked.files.first() {
         Some(file) => edited(rt, file.as_str(), &asked, config),

@@ -3,8 +3,13 @@ use Rattle.std.proofs.lemmas.Result.{IfOk-at_ok}
 use Rattle.std.proofs.lemmas.Iterator.Consumers.{map_from_collect}
 use Rattle.std.proofs.lemmas.Iterator.Splits.{YieldsList-from_slice_split}
 use Rattle.std.specs.List.{slice_split}
-use Rattle.yl_cli.specs.Command.{is_space, line_of_words}
+use Rattle.std.specs.Prelude.{ℕ, Bool, ◌==◌}
+use Rattle.yl_text.specs.Char.{space}
+use Rattle.yl_cli.specs.Command.{line_of_words}
 use Rattle.yl_cli.proofs.command.command_line.Goals as goal
+
+abbrev is_space : ℕ → Bool
+is_space c = c == space
 
 pub returns-clause-value : goal.returns-clause-value
 returns-clause-value g c =

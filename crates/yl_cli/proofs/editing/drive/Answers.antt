@@ -1,10 +1,10 @@
 use Rattle.std.proofs.Common.{◌∙◌, sym, subst, rules, List, ℕ, Option, None}
 use Rattle.std.specs.Io.KnownBytes.{Appends}
 use Rattle.yl_text.specs.Watched.{device_of, failures_of}
-use Rattle.yl_report.specs.Written.{AppendsFront}
+use Rattle.yl_devices.specs.Written.{AppendsFront}
 use Rattle.yl_session.specs.State.{Shows}
 use Rattle.yl_session.specs.Runs.{text_after_all}
-use Rattle.yl_cli.specs.Text.{without_mark}
+use Rattle.yl_devices.specs.Text.{without_mark}
 use Rattle.yl_cli.specs.Reading.{SoFar}
 use Rattle.yl_cli.proofs.Begun.{none_written}
 use Rattle.yl_cli.proofs.Driven.{all_driven, begun_more, begun_opened, from_err, from_ok, nothing_ahead, so_far_more, so_far_opened, stopped, text_shown}

@@ -1,7 +1,7 @@
 use Rattle.std.proofs.Common.{◌≡◌}
 use Rattle.std.specs.Io.KnownBytes.{prepend_known}
 use Rattle.yl_text.specs.Watched.{device_of, failures_of}
-use Rattle.yl_cli.specs.Text.{without_mark}
+use Rattle.yl_devices.specs.Text.{without_mark}
 use Rattle.yl_cli.specs.Reading.{SoFar}
 use Rattle.yl_cli.proofs.editing.drive.Given as goal
 

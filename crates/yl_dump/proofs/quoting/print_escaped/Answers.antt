@@ -3,13 +3,13 @@ use Rattle.std.specs.List.{flat_map, list_all}
 use Rattle.std.proofs.lemmas.Iterator.{YieldsList-from_chars}
 use Rattle.std.proofs.lemmas.Iterator.Consumers.{YieldsList-end}
 use Rattle.std.proofs.lemmas.List.{map-id}
-use Rattle.yl_dump.specs.Quoting.{is_plain, escaped_character}
+use Rattle.yl_dump.specs.Quoting.{stands_for_itself, escaped_character}
 use Rattle.yl_dump.proofs.Plain.{plain_text}
 use Rattle.yl_dump.proofs.quoting.print_escaped.Goals as goal
 
 pub returns-then-is_plain_text : goal.returns-then-is_plain_text
 returns-then-is_plain_text g c =
-    let plain : list_all is_plain c.args.text.now ≡ true = cc in
+    let plain : list_all stands_for_itself c.args.text.now ≡ true = cc in
     rw (plain_text c.args.text.now plain) c.text.ensures
 
 pub returns : goal.returns

@@ -1,5 +1,5 @@
 use Rattle.yl_marks.specs.Keys.{lexeme_at_line}
-use Rattle.yl_layout.proofs.Steps.{counted_findings, keys_suffice}
+use Rattle.yl_layout.proofs.Steps.{keys_suffice}
 use Rattle.yl_layout.proofs.lexemes.lexeme_problems.Goals as goal
 
 pub problems_of-requires : goal.problems_of-requires

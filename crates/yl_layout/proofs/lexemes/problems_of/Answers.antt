@@ -5,8 +5,13 @@ use Rattle.yl_layout.proofs.lexemes.problems_of.Goals as goal
 
 pub loop-i-preserved : goal.loop-i-preserved
 loop-i-preserved g c =
-    findings_more (λ x. lexeme_at_line x.line x.lexeme.now) c.args.options.now c.loop-i.before c.args.lexemes.now _ c.args.keys.now c.loop-i.i c.index-lexemes-i.result _ _ _ _ _ c.loop-i.problems.items _ _
-    c.loop-i-test.true (omega arith) c.index-lexemes-i.is c.split_at.ensures.back c.first_span.ensures c.span_of.ensures c.in_ok-push_at.ensures refl c.loop-i.invariant
+    findings_more (λ x. lexeme_at_line x.line x.lexeme.now) c.args.options.now c.loop-i.before
+    c.args.lexemes.now _ c.args.keys.now c.loop-i.i c.index-lexemes-i.result _ _ _ _ _ _
+    c.loop-i.problems.items _ _ c.loop-i-test.true (omega arith) c.index-lexemes-i.is
+    c.split_at.ensures.back c.first_span.ensures c.span_of-here.ensures c.value.ensures
+    c.in_ok-push_at.ensures refl c.loop-i.invariant
 
 pub returns : goal.returns
-returns g c = all_found (λ x. lexeme_at_line x.line x.lexeme.now) c.args.options.now c.loop-i.before c.args.lexemes.now c.args.keys.now c.loop-i.i _ _ (omega arith) c.loop-i.invariant
+returns g c =
+    all_found (λ x. lexeme_at_line x.line x.lexeme.now) c.args.options.now c.loop-i.before
+    c.args.lexemes.now c.args.keys.now c.loop-i.i _ _ (omega arith) c.loop-i.invariant

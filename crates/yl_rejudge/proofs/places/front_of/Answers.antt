@@ -2,7 +2,7 @@ use Rattle.std.proofs.Common.{◌≡◌, ◌+◌, ◌-◌, ◌<◌, ◌≤◌, �
 use Rattle.yl_sections.specs.Local.{is_start_at}
 use Rattle.yl_sections.specs.Kept.{KeptValue}
 use Rattle.yl_rejudge.specs.Places.{rows_kept}
-use Rattle.yl_rejudge.proofs.KeptRows.{rows_more, passed_back}
+use Rattle.yl_rejudge.proofs.KeptRows.{got, rows_more, passed_back}
 use Rattle.yl_rejudge.proofs.places.front_of.Goals as goal
 
 -- one section back
@@ -14,12 +14,12 @@ back js s row n j l m at is whole =
 
 pub overflow_sub-row : goal.overflow_sub-row
 overflow_sub-row g c =
-    (back c.args.kept.now c.loop-section.section c.loop-section.row c.rows.result c.index-kept-section.result c.loop-section-test.true (omega (arith, c.loop-section.invariant.section, c.requires.section)) c.index-kept-section.is c.rows.ensures c.loop-section.invariant.at).0
+    (back c.args.kept.now.items c.loop-section.section c.loop-section.row c.rows.result c.get.result.now c.loop-section-test.true (omega (arith, c.loop-section.invariant.section, c.requires.section)) (got c.args.kept.now.items (c.loop-section.section - 1) c.get.result.now c.get.ensures) c.rows.ensures c.loop-section.invariant.at).0
 
 pub loop-section-preserved : goal.loop-section-preserved
 loop-section-preserved g c =
-    let js = c.args.kept.now in
-    let b = back js c.loop-section.section c.loop-section.row c.rows.result c.index-kept-section.result c.loop-section-test.true (omega (arith, c.loop-section.invariant.section, c.requires.section)) c.index-kept-section.is c.rows.ensures c.loop-section.invariant.at in
+    let js = c.args.kept.now.items in
+    let b = back js c.loop-section.section c.loop-section.row c.rows.result c.get.result.now c.loop-section-test.true (omega (arith, c.loop-section.invariant.section, c.requires.section)) (got c.args.kept.now.items (c.loop-section.section - 1) c.get.result.now c.get.ensures) c.rows.ensures c.loop-section.invariant.at in
     let here : is_start_at c.args.records.now (rows_kept (take c.loop-section.section js)) ≡ false =
     ap (λ n. is_start_at c.args.records.now n) (sym c.loop-section.invariant.at) ∙ (sym c.is_start_at.ensures ∙ c.if-not-is_start_at.true) in
     record {

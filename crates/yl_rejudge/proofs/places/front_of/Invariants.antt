@@ -6,9 +6,9 @@ use Rattle.yl_rejudge.proofs.places.front_of.Given as goal
 abbrev pub invariant-loop-section : goal.invariant-loop-section
 invariant-loop-section g l = record {
   section : l.section ≤ l.fn.from.section;
-  at : l.row ≡ rows_kept (take l.section l.kept);
+  at : l.row ≡ rows_kept (take l.section l.kept.items);
   row : l.row ≤ l.fn.from.row;
-  passed : (j : ℕ) → l.section < j → j ≤ l.fn.from.section → is_start_at l.records (rows_kept (take j l.kept)) ≡ false;
+  passed : (j : ℕ) → l.section < j → j ≤ l.fn.from.section → is_start_at l.records (rows_kept (take j l.kept.items)) ≡ false;
 }
 
 abbrev pub decreases-loop-section : goal.decreases-loop-section

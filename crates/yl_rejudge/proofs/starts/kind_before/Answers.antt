@@ -2,17 +2,17 @@ use Rattle.std.proofs.Common.{◌≡◌, ◌+◌, ◌-◌, ◌<◌, ℕ, List, S
 use Rattle.std.specs.List.{slice_get}
 use Rattle.yl_lexeme.specs.Lexeme.{LexemeValue}
 use Rattle.yl_record.specs.Records.{RecordValue}
-use Rattle.yl_sections.specs.Sections.{last_kind}
+use Rattle.yl_sections.specs.Sections.{last_kind_from}
 use Rattle.yl_sections.specs.Local.{kind_after}
 use Rattle.yl_rejudge.proofs.KeptRows.{last_step, last_none, last_some}
 use Rattle.yl_rejudge.proofs.starts.kind_before.Goals as goal
 
 -- the row before
 step : (es : List RecordValue) (row i : ℕ) (e : RecordValue) (xs : List LexemeValue) → 0 < row → slice_get es (row - 1) ≡ Some e → xs ≡ e.entry.lexemes → kind_after None (take row es) ≡ kind_after None (take i es)
-    → last_kind (kind_after None (take (row - 1) es)) xs ≡ kind_after None (take i es)
+    → last_kind_from (kind_after None (take (row - 1) es)) xs ≡ kind_after None (take i es)
 step es row i e xs l at is whole =
     let n : row - 1 + 1 ≡ row = omega (arith, l) in
-    ap (λ (ys : List LexemeValue). last_kind (kind_after None (take (row - 1) es)) ys) is
+    ap (λ (ys : List LexemeValue). last_kind_from (kind_after None (take (row - 1) es)) ys) is
     ∙ (sym (last_step None es (row - 1) e at) ∙ (ap (λ k. kind_after None (take k es)) n ∙ whole))
 
 pub returns-then-lexemes-gt0 : goal.returns-then-lexemes-gt0

@@ -1,6 +1,6 @@
 use Rattle.std.proofs.Common.{arith, rules}
 use Rattle.yl_report.specs.Report.{problem_text}
-use Rattle.yl_report.proofs.Writing.{items_break, items_go_on, on_err}
+use Rattle.yl_devices.proofs.Pieces.{items_break, items_go_on, on_err}
 use Rattle.yl_report.proofs.printing.put_problems.Goals as goal
 
 pub returns-in_err-put_problem-clause-err : goal.returns-in_err-put_problem-clause-err

@@ -1,7 +1,7 @@
 use Rattle.std.proofs.Common.{◌≡◌, take}
 use Rattle.yl_text.specs.Watched.{device_of, failures_of}
 use Rattle.yl_report.specs.Report.{report_text}
-use Rattle.yl_report.specs.Written.{Passes}
+use Rattle.yl_devices.specs.Written.{Passes}
 use Rattle.yl_report.proofs.printing.put_problems.Given as goal
 
 abbrev pub invariant-loop-problem : goal.invariant-loop-problem

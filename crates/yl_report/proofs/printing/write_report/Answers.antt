@@ -1,4 +1,4 @@
-use Rattle.yl_report.proofs.Writing.{passes_break_end, err_then}
+use Rattle.yl_devices.proofs.Pieces.{passes_break_end, err_then}
 use Rattle.yl_report.proofs.printing.write_report.Goals as goal
 
 pub returns-clause-err : goal.returns-clause-err

@@ -11,9 +11,9 @@ pub overflow_sub-column : goal.overflow_sub-column
 overflow_sub-column g c =
     let white : c.end_white-white.result ≡ end_white c.args.text.now = c.end_white-white.ensures ∙ ap end_white c.as_bytes.ensures.value in
     let within = white_within c.args.text.now c.utf8.text in
-    omega (arith, white, within, c.width.ensures.exact)
+    omega (arith, white, within, c.character_count.ensures.exact)
 
 pub returns : goal.returns
 returns g c =
     let white : c.end_white-white.result ≡ end_white c.args.text.now = c.end_white-white.ensures ∙ ap end_white c.as_bytes.ensures.value in
-    some_trailing c.args.text.now _ c.args.line c.end_white-white.result c.width.result c.fixed.result c.utf8.text white c.if-white-eq0.false c.width.ensures.exact refl c.fixed.ensures
+    some_trailing c.args.text.now _ c.args.line c.end_white-white.result c.character_count.result c.fixed.result c.utf8.text white c.if-white-eq0.false c.character_count.ensures.exact refl c.fixed.ensures

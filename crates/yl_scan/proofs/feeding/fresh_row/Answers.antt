@@ -1,4 +1,4 @@
-use Rattle.std.proofs.Common.{false, true, eqb, ap, sym, ◌∙◌}
+use Rattle.std.proofs.Common.{false, true, ap, sym, ◌∙◌}
 use Rattle.yl_lexeme.specs.Known.{context_of, new_row}
 use Rattle.yl_lexeme.specs.Surroundings.{surroundings_value}
 use Rattle.yl_row.specs.Entries.{state_of}

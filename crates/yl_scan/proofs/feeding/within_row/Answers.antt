@@ -1,4 +1,4 @@
-use Rattle.std.proofs.Common.{◌≡◌, inl, inr, rules, ap, sym, subst, refl, ◌∙◌, ◌+◌, ◌-◌, [], Option, None, false, arith}
+use Rattle.std.proofs.Common.{inl, inr, rules, ap, sym, refl, ◌∙◌, ◌+◌, ◌-◌, [], Option, None, false, arith}
 use Rattle.yl_scalar.specs.Reader.{extent_at}
 use Rattle.yl_lexeme.specs.Known.{new_row}
 use Rattle.yl_lexeme.specs.Surroundings.{surroundings_value}
@@ -9,7 +9,6 @@ use Rattle.yl_scan.specs.Output.{StepValue, Within, Halted, output_with_lexeme_a
 use Rattle.yl_scan.specs.Scanner.{begun_at, scalar_lexeme, phase_value}
 use Rattle.yl_scan.proofs.Feed.{carry_on, carry_ends, carry_above}
 use Rattle.yl_scan.proofs.Stepping.{not_first, carry_fails, goes_under_way, ends_within, ended_within, with_ended, with_failed}
-use Rattle.std.specs.Prelude.{IsSome}
 use Rattle.yl_scan.proofs.Stepping.{is_above, not_below, ends_open, next_here}
 use Rattle.yl_scan.proofs.feeding.within_row.Goals as goal
 

@@ -5,4 +5,4 @@ use Rattle.yl_sections.proofs.judging.document_of.Goals as goal
 
 pub returns-clause-built : goal.returns-clause-built
 returns-clause-built g c =
-    built_ok (λ x. lexeme_at_line x.line x.lexeme.now) c.args.lexemes.now c.parse_document.result (sym c.is_empty.ensures ∙ c.if-is_empty.false) c.parse_document.ensures.built
+    built_ok (λ x. lexeme_at_line x.line x.lexeme.now) c.args.lexemes.now c.parse_marked.result (sym c.is_empty.ensures ∙ c.if-is_empty.false) c.parse_marked.ensures.built

@@ -1,9 +1,9 @@
 use Rattle.std.proofs.Common.{◌≡◌, ◌∙◌, ◌+◌, ℕ, List, [], ap, sym, refl, drop}
 use Rattle.yl_lexeme.specs.declared.meter.Meter.{Meter}
 use Rattle.yl_record.specs.Records.{RecordValue}
-use Rattle.yl_sections.specs.Kept.{document_count}
+use Rattle.yl_sections.specs.Kept.{document_count, documents_in}
 use Rattle.yl_sections.specs.Sections.{lexemes_of, sections}
-use Rattle.yl_sections.specs.Judge.{documents_in, kept_of_section}
+use Rattle.yl_sections.specs.Judge.{kept_of_section}
 use Rattle.yl_sections.proofs.Rows.{seen}
 use Rattle.yl_sections.proofs.Fronts.{last_seen, kept_with_last, documents_with_last}
 use Rattle.yl_sections.proofs.judging.judge_all.Goals as goal

@@ -1,9 +1,9 @@
-use Rattle.std.proofs.Common.{◌≡◌, ◌+◌, ◌-◌, ◌++◌, ◌<◌, ◌≤◌, ◌∙◌, List, None, Bor, arith, ap, map, length, drop}
+use Rattle.std.proofs.Common.{◌≡◌, ◌+◌, ◌++◌, ◌≤◌, ◌∙◌, List, None, Bor, arith, ap, map, drop}
 use Rattle.yl_lexeme.specs.declared.meter.Meter.{Meter}
 use Rattle.yl_record.specs.Records.{RecordValue}
 use Rattle.yl_sections.specs.Sections.{sections, lexemes_of, row_count}
-use Rattle.yl_sections.specs.Kept.{document_count}
-use Rattle.yl_sections.specs.Judge.{kept_of_section, documents_in}
+use Rattle.yl_sections.specs.Kept.{document_count, documents_in}
+use Rattle.yl_sections.specs.Judge.{kept_of_section}
 use Rattle.yl_sections.proofs.Rows.{seen}
 use Rattle.yl_sections.proofs.Fronts.{all_from, section, cut, some_row, last_one}
 use Rattle.yl_sections.proofs.Sequence.{few_documents, kept_more, documents_more}

@@ -1,7 +1,8 @@
 use Rattle.std.proofs.Common.{◌≡◌, ◌≤◌, ◌+◌, ◌-◌, ◌++◌, List, length, map, drop, None}
 use Rattle.yl_record.specs.Records.{RecordValue}
 use Rattle.yl_sections.specs.Sections.{sections, row_count}
-use Rattle.yl_sections.specs.Judge.{kept_of_section, documents_in}
+use Rattle.yl_sections.specs.Judge.{kept_of_section}
+use Rattle.yl_sections.specs.Kept.{documents_in}
 use Rattle.yl_sections.proofs.Rows.{seen}
 use Rattle.yl_sections.proofs.judging.judge_whole.Given as goal
 

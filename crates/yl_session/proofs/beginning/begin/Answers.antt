@@ -1,23 +1,13 @@
-use Rattle.std.proofs.Common.{◌+◌, List, length, arith, ap, ◌∙◌}
-use Rattle.yl_lexeme.specs.declared.meter.Meter.{Meter}
-use Rattle.yl_record.specs.Records.{RecordValue}
-use Rattle.yl_session.proofs.Bounds.{few_lines, few_records}
+use Rattle.std.proofs.Common.{List, arith, subst, sym, ◌∙◌}
+use Rattle.yl_sections.specs.Kept.{KeptValue}
+use Rattle.yl_patch.specs.Plain.{IsOverviewOf}
+use Rattle.yl_session.proofs.Bounds.{few_rows}
 use Rattle.yl_session.proofs.beginning.begin.Goals as goal
 
-pub records_of_lines-requires-clause-rows : goal.records_of_lines-requires-clause-rows
-records_of_lines-requires-clause-rows g c = omega (arith, few_lines (g.S.Lines.rows c.args.store.now) c.requires, ap (λ (m : Meter). m.lines) c.new-meter.ensures)
+pub places_of-requires : goal.places_of-requires
+places_of-requires g c =
+    omega (arith, few_rows c.args.config.now (g.S.Lines.rows c.args.store.now) c.in_ok-kept.kept.items c.requires (c.in_ok-kept.ensures ∙ c.in_ok-records.ensures.kept))
 
-pub kept_of_records-requires-clause-rows : goal.kept_of_records-requires-clause-rows
-kept_of_records-requires-clause-rows g c =
-    omega (arith, few_lines (g.S.Lines.rows c.args.store.now) c.requires, few_records (g.S.Lines.rows c.args.store.now), ap (λ (rs : List RecordValue). length rs) (c.deref.ensures.value ∙ c.in_ok-rows.ensures.records))
-
-pub kept_of_records-requires-clause-documents : goal.kept_of_records-requires-clause-documents
-kept_of_records-requires-clause-documents g c =
-    omega (
-      arith,
-      few_lines (g.S.Lines.rows c.args.store.now) c.requires,
-      few_records (g.S.Lines.rows c.args.store.now),
-      ap (λ (rs : List RecordValue). length rs) (c.deref.ensures.value ∙ c.in_ok-rows.ensures.records),
-      ap (λ (m : Meter). m.documents) c.in_ok-rows.ensures.counted,
-      ap (λ (m : Meter). m.documents) c.new-meter.ensures,
-    )
+pub returns-clause-overview : goal.returns-clause-overview
+returns-clause-overview g c =
+    subst (λ (ks : List KeptValue). IsOverviewOf ks c.overview_of-overview.result) (c.deref-2.ensures.value ∙ sym c.in_ok-kept.ensures) c.overview_of-overview.ensures

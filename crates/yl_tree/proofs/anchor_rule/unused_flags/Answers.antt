@@ -1,4 +1,4 @@
-use Rattle.std.proofs.Common.{◌≡◌, ◌+◌, ◌-◌, ◌<◌, length, drop, map, get_or, arith}
+use Rattle.std.proofs.Common.{◌-◌, drop, map, get_or, arith}
 use Rattle.yl_events.specs.Event.{event_value}
 use Rattle.yl_tree.specs.NameSets.{has_name}
 use Rattle.yl_tree.proofs.AtEach.{no_event, drop_before}

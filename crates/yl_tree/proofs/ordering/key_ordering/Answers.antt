@@ -1,5 +1,4 @@
-use Rattle.std.proofs.Common.{◌≡◌, ◌+◌, ◌++◌, ◌<◌, ◌∙◌, ap, length, take, drop, reverse, map, arith, List}
-use Rattle.yl_text.specs.Finding.{FindingValue}
+use Rattle.std.proofs.Common.{◌+◌, ◌<◌, length, take, drop, reverse, map, arith}
 use Rattle.yl_events.specs.Event.{event_value}
 use Rattle.yl_tree.specs.KeyRules.{misplaced_at}
 use Rattle.yl_tree.proofs.AtEach.{no_event, before_more, found_more}
@@ -11,10 +10,10 @@ loop-event-preserved g c =
     let i = c.loop-event.event-index in
     let inside : i < length es = omega arith in
     let before = reverse (take i (map event_value es)) in
-    let told = c.in_ok-misplaced.ensures before (drop (i + 1) (map event_value es)) c.loop-event.invariant.walk in
+    let told = c.in_ok-push_misplaced.ensures before (drop (i + 1) (map event_value es)) c.loop-event.invariant.walk in
     record {
       walk = rw (before_more event_value es i no_event inside) (c.in_ok-step.ensures before c.loop-event.invariant.walk);
       found =
           found_more event_value es i no_event inside (misplaced_at) _ _ _
-          (c.in_ok-push_found.ensures ∙ ap (λ (fs : List FindingValue). c.loop-event.found.items ++ fs) told) c.loop-event.invariant.found;
+          told c.loop-event.invariant.found;
     }

@@ -1,6 +1,6 @@
-use Rattle.std.proofs.Common.{sym, ◌∙◌}
+use Rattle.std.proofs.Common.{sym}
 use Rattle.yl_events.specs.Event.{event_value}
-use Rattle.yl_tree.specs.OpenCollections.{collections_behind}
+use Rattle.yl_tree.specs.OpenNodes.{collections_behind}
 use Rattle.yl_tree.proofs.Frames.{leaf_more}
 use Rattle.yl_tree.proofs.walk.step.Goals as goal
 

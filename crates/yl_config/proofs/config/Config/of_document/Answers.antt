@@ -3,8 +3,8 @@ use Rattle.yl_text.specs.declared.position.Pos.{Pos}
 use Rattle.yl_events.specs.Event.{event_value}
 use Rattle.yl_config.specs.declared.fault.ConfigFault.{ConfigFault}
 use Rattle.yl_config.specs.declared.misfit.Misfit.{Misfit}
-use Rattle.yl_config.specs.Config.{said}
-use Rattle.yl_config.specs.Document.{judged, next_misfits, root_of}
+use Rattle.yl_config.specs.Config.{config_settings}
+use Rattle.yl_config.specs.Document.{judgement, next_misfits, root_of}
 use Rattle.yl_config.specs.Misfits.{earliest, root_misfits}
 use Rattle.yl_settings.specs.Nodes.{ItemValue}
 use Rattle.yl_config.specs.Settings.{Settings, settings_of}
@@ -23,12 +23,12 @@ returns-in-Some c =
     let es = map event_value c.args.events.now in
     let first = noted (root_of es) _ c.args.next c.read_root-reading.result.first c.note_next.new.self.first c.root_of-root.ensures.root c.read_root-reading.ensures.first c.note_next.ensures.first in
     let failing : ConfigFault → Result Settings ConfigFault = λ f. Err f in
-    ap failing c.fault_of.ensures ∙ ap (judged (settings_of (root_of es))) (sym c.in-Some.is ∙ first)
+    ap failing c.fault_of.ensures ∙ ap (judgement (settings_of (root_of es))) (sym c.in-Some.is ∙ first)
 
 pub returns-in-None : goal.returns-in-None
 returns-in-None c =
     let es = map event_value c.args.events.now in
     let first = noted (root_of es) _ c.args.next c.read_root-reading.result.first c.note_next.new.self.first c.root_of-root.ensures.root c.read_root-reading.ensures.first c.note_next.ensures.first in
     let saying : Settings → Result Settings ConfigFault = λ s. Ok s in
-    ap saying (ap said c.note_next.ensures.config ∙ (c.read_root-reading.ensures.said ∙ ap settings_of c.root_of-root.ensures.root))
-    ∙ ap (judged (settings_of (root_of es))) (sym c.in-None.is ∙ first)
+    ap saying (ap config_settings c.note_next.ensures.config ∙ (c.read_root-reading.ensures.said ∙ ap settings_of c.root_of-root.ensures.root))
+    ∙ ap (judgement (settings_of (root_of es))) (sym c.in-None.is ∙ first)

@@ -5,7 +5,7 @@ use Rattle.yl_text.specs.Lines.{RowValue, IsLines}
 use Rattle.yl_text.proofs.Fitting.{lines_are_few, lines_are_short}
 use Rattle.yl_scan.specs.Scanner.{characters_of}
 use Rattle.yl_documents.specs.TextReading.{reading_of}
-use Rattle.yl_config.specs.Answered.{answered}
+use Rattle.yl_config.specs.Answered.{settings_answer}
 use Rattle.yl_config.specs.Outcome.{Says}
 use Rattle.yl_config.proofs.Saying.{are_lines, no_utf8, said_of_rows}
 use Rattle.yl_config.proofs.config.Config.read.Goals as goal
@@ -26,6 +26,6 @@ judge_rows-requires-clause-fits g c =
 
 pub returns-in-Ok-judge_rows : goal.returns-in-Ok-judge_rows
 returns-in-Ok-judge_rows g c =
-    let P : List RowValue → Type 0 = λ ps. Says (reading_of (characters_of ps)) (answered c.in-Ok-judge_rows.answer) in
-    said_of_rows c.args.bytes.now c.in-Ok.rows.items (answered c.in-Ok-judge_rows.answer) c.in-Ok.ensures.text c.in-Ok.ensures.lines
+    let P : List RowValue → Type 0 = λ ps. Says (reading_of (characters_of ps)) (settings_answer c.in-Ok-judge_rows.answer) in
+    said_of_rows c.args.bytes.now c.in-Ok.rows.items (settings_answer c.in-Ok-judge_rows.answer) c.in-Ok.ensures.text c.in-Ok.ensures.lines
     (subst P c.deref.ensures.value c.in-Ok-judge_rows.ensures)

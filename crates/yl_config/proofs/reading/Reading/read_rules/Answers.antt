@@ -1,7 +1,7 @@
 use Rattle.std.proofs.Common.{◌≡◌, [], Option, ap, sym, ◌∙◌}
 use Rattle.std.specs.List.{flat_map}
 use Rattle.yl_config.specs.declared.misfit.Misfit.{Misfit}
-use Rattle.yl_config.specs.Config.{said}
+use Rattle.yl_config.specs.Config.{config_settings}
 use Rattle.yl_settings.specs.Item.{entry_value, nodes_at}
 use Rattle.yl_config.specs.Misfits.{earliest, rule_misfits}
 use Rattle.yl_settings.specs.Nodes.{entries_of}
@@ -20,12 +20,12 @@ loop-entry-preserved c =
       within = c.in-Some.ensures.within;
       first = ap (λ (o : Option Misfit). earliest o (flat_map f more)) c.read_rule.ensures.first
           ∙ (earliest-entries f c.loop-entry.self.first e more es c.in-Some.ensures.entry ∙ c.loop-entry.invariant.first);
-      said = ap (λ (o : Settings). with_rules (said c.args.base.now) more o) c.read_rule.ensures.said
-          ∙ (with_rules-entries (said c.args.base.now) (said c.loop-entry.self.config) e more es c.in-Some.ensures.entry ∙ c.loop-entry.invariant.said);
+      said = ap (λ (o : Settings). with_rules (config_settings c.args.base.now) more o) c.read_rule.ensures.said
+          ∙ (with_rules-entries (config_settings c.args.base.now) (config_settings c.loop-entry.self.config) e more es c.in-Some.ensures.entry ∙ c.loop-entry.invariant.said);
     }
 
 pub returns-clause-said : goal.returns-clause-said
 returns-clause-said c =
     let es = entries_of (nodes_at c.args.events.now c.loop-entry.rest) in
     let nothing : es ≡ [] = at_none c.first_entry.result _ _ c.in_default.not-Some c.first_entry.ensures.entry in
-    sym (with_rules-no_entry (said c.args.base.now) (said c.loop-entry.self.config) es nothing) ∙ c.loop-entry.invariant.said
+    sym (with_rules-no_entry (config_settings c.args.base.now) (config_settings c.loop-entry.self.config) es nothing) ∙ c.loop-entry.invariant.said

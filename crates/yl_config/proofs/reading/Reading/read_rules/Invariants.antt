@@ -1,7 +1,7 @@
 use Rattle.std.proofs.Common.{◌≡◌, ◌≤◌, ◌-◌, length}
 use Rattle.std.specs.List.{flat_map}
 use Rattle.yl_settings.specs.Item.{nodes_at}
-use Rattle.yl_config.specs.Config.{said}
+use Rattle.yl_config.specs.Config.{config_settings}
 use Rattle.yl_config.specs.Misfits.{earliest, rule_misfits}
 use Rattle.yl_settings.specs.Nodes.{entries_of}
 use Rattle.yl_config.specs.Settings.{with_rules}
@@ -12,8 +12,8 @@ invariant-loop-entry l = record {
   within : l.rest ≤ length l.events;
   first : earliest l.self.first (flat_map (rule_misfits l.mapping) (entries_of (nodes_at l.events l.rest)))
       ≡ earliest l.fn.self.first (flat_map (rule_misfits l.mapping) (entries_of (nodes_at l.events l.inside)));
-  said : with_rules (said l.base) (entries_of (nodes_at l.events l.rest)) (said l.self.config)
-      ≡ with_rules (said l.base) (entries_of (nodes_at l.events l.inside)) (said l.fn.self.config);
+  said : with_rules (config_settings l.base) (entries_of (nodes_at l.events l.rest)) (config_settings l.self.config)
+      ≡ with_rules (config_settings l.base) (entries_of (nodes_at l.events l.inside)) (config_settings l.fn.self.config);
 }
 
 abbrev pub decreases-loop-entry : goal.decreases-loop-entry

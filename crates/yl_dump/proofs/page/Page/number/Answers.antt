@@ -6,10 +6,10 @@ use Rattle.yl_dump.proofs.page.Page.number.Goals as goal
 pub returns-then-n-lt10 : goal.returns-then-n-lt10
 returns-then-n-lt10 g c =
     let one : c.args.n < 10 = c.if-n-lt10.true in
-    rw (decimal_digit c.args.n one) c.bytes.ensures
+    rw (decimal_digit c.args.n one) c.byte.ensures
 
 pub returns-then-n-lt100 : goal.returns-then-n-lt100
 returns-then-n-lt100 g c =
     let more : 10 ≤ c.args.n = c.if-n-lt10.false in
     let two : c.args.n < 100 = c.if-n-lt100.true in
-    rw (decimal_two c.args.n more two) c.bytes-then-n-lt100.ensures
+    rw (decimal_two c.args.n more two) c.bytes.ensures

@@ -3,9 +3,10 @@ use Rattle.std.specs.Str.{chars}
 use Rattle.std.proofs.lemmas.Grind.{common_steps}
 use Rattle.yl_text.proofs.Computed.{line}
 use Rattle.yl_scan.specs.Output.{output_with_step, remaining_output}
-use Rattle.yl_scan.specs.Scanner.{state_before, step_value}
-use Rattle.yl_dump.specs.TextScan.{TextScannerValue, characters_of, rows_of}
-use Rattle.yl_dump.proofs.Rows.{next_fits, characters-next}
+use Rattle.yl_scan.specs.Scanner.{state_before, step_value, characters_of}
+use Rattle.yl_dump.specs.TextScan.{TextScannerValue, rows_of}
+use Rattle.yl_dump.proofs.Rows.{next_fits, next_inside, not_done, characters-next}
+use Rattle.yl_text.specs.declared.row.Break.TheVariants.{No}
 use Rattle.yl_dump.proofs.text_scanner.TextScanner.read_line.Goals as goal
 
 pub feed_text-requires-clause-fits : goal.feed_text-requires-clause-fits
@@ -19,10 +20,19 @@ returns-clause-told g c =
     let s = c.self.inside in
     let left_over = rows_of c.eq-self-inside.result c.cut_line-first.result.rest.now in
     let rows : rows_of s.is_done s.rest.now ≡ c.args.self.now.rows = ap (λ (v : TextScannerValue). v.rows) c.self.view_is in
-    let passed : left_over ≡ drop 1 c.args.self.now.rows = grind (arith, common_steps) in
+    let passed : left_over ≡ drop 1 c.args.self.now.rows = grind (arith, common_steps) steps 40000000 in
     let read = characters-next s.is_done s.rest.now c.args.self.now.rows (line c.cut_line-first.result.line.now c.cut_line-first.result.end) _ left_over rows c.requires c.cut_line-first.ensures.first passed in
     let from = chars c.cut_line-first.result.line.now ∷ characters_of left_over in
     ap (λ (l : List (List ℕ)). remaining_output c.args.self.now.line c.args.self.now.stand l) read
     ∙ ap (λ (v : TextScannerValue). remaining_output v.line v.stand from) (sym c.self.view_is)
     ∙ c.in_ok-step.ensures.told (characters_of left_over)
     ∙ ap (λ (v : TextScannerValue). output_with_step v.line (step_value v.line (state_before v.stand) c.in_ok-step.step) (remaining_output c.feed_text.new.self.line c.feed_text.new.self.stand (characters_of left_over))) c.self.view_is
+
+pub invariant_of-self-2 : goal.invariant_of-self-2
+invariant_of-self-2 g c not_last =
+    let s = c.self.inside in
+    let rows : rows_of s.is_done s.rest.now ≡ c.args.self.now.rows = ap (λ (v : TextScannerValue). v.rows) c.self.view_is in
+    let fits = c.self.invariant (not_done s.is_done s.rest.now c.args.self.now.rows rows c.requires) in
+    let some : c.cut_line-first.result.end ≡ No → ⊥ = λ e. grind (arith, common_steps, e, not_last, c.eq-self-inside.ensures) in
+    next_inside s.scanner.line s.meter.lines s.rest.now c.cut_line-first.result.rest.now c.feed_text.new.self.line c.feed_text.new.meter.lines
+    fits (c.cut_line-first.ensures.smaller some) c.in_ok-step.ensures.line (ap (λ m. m.lines) c.in_ok-step.ensures.meter)

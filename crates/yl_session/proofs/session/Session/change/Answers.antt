@@ -1,14 +1,19 @@
-use Rattle.std.proofs.Common.{◌≡◌, ◌+◌, ℕ, refl, Option, Some, None, List, Result, Ok, Err, length, arith, ap, sym, subst, ◌∙◌}
-use Rattle.std.specs.List.{splice}
-use Rattle.yl_text.specs.Store.{AreLines}
+use Rattle.std.proofs.Common.{◌≡◌, ℕ, refl, Option, Some, None, List, Result, Ok, Err, drop, take, length, arith, ap, sym, subst, ◌∙◌}
+use Rattle.std.specs.List.{AllByRecursion, splice}
+use Rattle.yl_text.specs.Store.{AreLines, IsRange}
 use Rattle.yl_record.specs.Records.{RecordValue}
 use Rattle.yl_sections.specs.Kept.{KeptValue}
 use Rattle.yl_lint.specs.TextReport.{kept_of_text, records_of, report}
-use Rattle.yl_session.proofs.Bounds.{few_lines, few_records}
-use Rattle.std.specs.Prelude.{OnErr, MatchOption}
+use Rattle.yl_session.proofs.Bounds.{few_kept, few_lines, few_records, few_rows, few_rows_put}
+use Rattle.std.specs.Prelude.{OnErr, MatchOption, IfSome}
 use Rattle.yl_text.specs.Lines.{RowValue}
 use Rattle.yl_config.specs.declared.config.Config.{Config}
 use Rattle.yl_report.specs.Report.{ProblemValue}
+use Rattle.yl_patch.specs.Plain.{IsOverviewOf}
+use Rattle.yl_patch.specs.Patched.{IsLow, patched}
+use Rattle.yl_patch.specs.declared.shifting.ReportPatch.{ReportPatch}
+use Rattle.yl_rejudge.specs.declared.places.Place.{Place}
+use Rattle.yl_rejudge.specs.Places.{IsAt, rows_kept}
 use Rattle.yl_session.specs.State.{SessionValue}
 use Rattle.yl_session.proofs.session.Session.change.Goals as goal
 
@@ -21,39 +26,108 @@ abbrev state : Config → List RowValue → List ProblemValue → SessionValue
 state c ps problems = record { config = c; rows = ps; problems = problems }
 
 pub returns-in_err-make_room-clause-err : goal.returns-in_err-make_room-clause-err
-returns-in_err-make_room-clause-err g c = held c.from_residual-in_err-make_room.result c.self.view_is
+returns-in_err-make_room-clause-err g c =
+    held c.from_residual-in_err-make_room.result (ap (λ (ps : List ProblemValue). state c.self.inside.config (g.S.Lines.rows c.self.inside.store) ps) c.make_room.ensures.problems ∙ c.self.view_is)
 
 pub returns-in_err-splice-clause-err : goal.returns-in_err-splice-clause-err
 returns-in_err-splice-clause-err g c =
-    held c.from_residual-in_err-splice.result (ap (λ (ps : List RowValue). state c.self.inside.config ps c.self.inside.problems.items) c.in_err-splice.ensures.err ∙ c.self.view_is)
+    held c.from_residual-in_err-splice.result
+    (ap (λ (ps : List RowValue). state c.self.inside.config ps c.make_room.new.problems.items) c.in_err-splice.ensures.err
+    ∙ (ap (λ (ps : List ProblemValue). state c.self.inside.config (g.S.Lines.rows c.self.inside.store) ps) c.make_room.ensures.problems ∙ c.self.view_is))
 
 -- a list that was renewed of new lines
 renewed : {X : Type 0} {all : List X} {rows new : List RowValue} (held old items : List X) (i j : ℕ) (f : List RowValue → List X) → rows ≡ new → all ≡ splice held i j items → held ≡ old → splice old i j items ≡ f rows → all ≡ f new
 renewed held old items i j f e is same made = rw (is, same, made, e) refl
 
--- a report that was renewed, or stays
-shown_so : {X V : Type 0} {shown old : List X} {rows before new : List RowValue} (items : V → List X) (f : List RowValue → List X) → rows ≡ new → (o : Option V) → old ≡ f before
-    → MatchOption o (shown ≡ old) (λ v. shown ≡ items v) → MatchOption o (f rows ≡ f before) (λ v. items v ≡ f rows) → shown ≡ f new
-shown_so items f e None h stays same = stays ∙ (h ∙ (sym same ∙ ap f e))
-shown_so items f e (Some v) h is made = is ∙ (made ∙ ap f e)
+-- a report that was patched or renewed, or stays
+shown_so : {X V P : Type 0} {shown old lent : List X} {rows before new : List RowValue} (items : V → List X) (put : P → List X → List X) (f : List RowValue → List X) → rows ≡ new → (patch : Option P) (whole : Option V) → old ≡ f before → old ≡ lent
+    → MatchOption whole (MatchOption patch (shown ≡ old) (λ p. shown ≡ put p old)) (λ v. shown ≡ items v)
+    → IfSome patch (λ p. put p lent ≡ f rows) → IfSome whole (λ v. items v ≡ f rows) → (patch ≡ None → whole ≡ None → f rows ≡ f before) → shown ≡ f new
+shown_so items put f e None None h l is patched made stays = is ∙ (h ∙ (sym (stays refl refl) ∙ ap f e))
+shown_so items put f e (Some p) None h l is patched made stays = is ∙ (ap (put p) l ∙ (patched ∙ ap f e))
+shown_so items put f e patch (Some v) h l is patched made stays = is ∙ (made ∙ ap f e)
+
+abbrev put_of : {A : Type 0} → ReportPatch A → List ProblemValue → List ProblemValue
+put_of p old = patched p.from p.end p.problems.items p.up p.down old
+
+-- what is lent is what is kept
+pub planned-requires-clause-at : goal.planned-requires-clause-at
+planned-requires-clause-at g c = subst (λ (ps : List Place). AllByRecursion (IsAt c.self.inside.kept.items) ps) (sym c.deref.ensures.value) c.self.invariant.5
+
+pub renew-requires-clause-range : goal.renew-requires-clause-range
+renew-requires-clause-range g c =
+    subst (λ (ps : List ProblemValue). IfSome c.in_ok-plan.plan.renewal.patch (λ p. IsRange p.from p.end (length ps))) (c.deref-2.ensures.value ∙ sym c.make_room.ensures.problems) c.in_ok-plan.ensures.patch_range
+
+pub renew-requires-clause-low : goal.renew-requires-clause-low
+renew-requires-clause-low g c =
+    subst (λ (ps : List ProblemValue). IfSome c.in_ok-plan.plan.renewal.patch (λ p. AllByRecursion IsLow (drop p.end ps))) (c.deref-2.ensures.value ∙ sym c.make_room.ensures.problems) c.in_ok-plan.ensures.patch_low
 
 pub make_room-requires-clause-few : goal.make_room-requires-clause-few
 make_room-requires-clause-few g c =
     let rows = g.S.Lines.rows c.self.inside.store in
     omega (arith, few_lines rows c.self.invariant.0, few_records rows, ap (λ (rs : List RecordValue). length rs) c.self.invariant.1, c.in_ok-plan.plan.rescan.records.small)
 
+pub make_room-requires-clause-kept_few : goal.make_room-requires-clause-kept_few
+make_room-requires-clause-kept_few g c =
+    omega (arith, few_kept c.self.inside.config (g.S.Lines.rows c.self.inside.store) c.self.inside.kept.items c.self.invariant.0 c.self.invariant.2, c.in_ok-plan.plan.rejudged.kept.small)
+
+pub make_room-requires-clause-few_rows : goal.make_room-requires-clause-few_rows
+make_room-requires-clause-few_rows g c = omega (arith, few_rows c.self.inside.config (g.S.Lines.rows c.self.inside.store) c.self.inside.kept.items c.self.invariant.0 c.self.invariant.2)
+
 pub invariant_of-self : goal.invariant_of-self
-invariant_of-self g c = (c.self.invariant.0, c.make_room.ensures.records ∙ c.self.invariant.1, c.make_room.ensures.kept ∙ c.self.invariant.2, c.self.invariant.3)
+invariant_of-self g c = (
+  c.self.invariant.0,
+  c.make_room.ensures.records ∙ c.self.invariant.1,
+  c.make_room.ensures.kept ∙ c.self.invariant.2,
+  c.make_room.ensures.problems ∙ c.self.invariant.3,
+  subst (λ (ks : List KeptValue). IsOverviewOf ks c.self.inside.overview) (sym c.make_room.ensures.kept) c.self.invariant.4,
+  subst (λ (ks : List KeptValue). AllByRecursion (IsAt ks) c.make_room.new.places.items) (sym c.make_room.ensures.kept) c.make_room.ensures.places,
+)
 
 pub invariant_of-self-in_err-splice : goal.invariant_of-self-in_err-splice
 invariant_of-self-in_err-splice g c =
-    let e = sym c.in_err-splice.ensures.err in
-    let P : List RowValue → Type 0 = λ rows. AreLines rows in (
+    let e : g.S.Lines.rows c.self.inside.store ≡ g.S.Lines.rows c.splice.new.self = sym c.in_err-splice.ensures.err in
+    let P : List RowValue → Type 0 = λ ps. AreLines ps in (
       subst P e c.self.invariant.0,
       c.make_room.ensures.records ∙ (c.self.invariant.1 ∙ ap records_of e),
       c.make_room.ensures.kept ∙ (c.self.invariant.2 ∙ ap (kept_of_text c.self.inside.config) e),
-      c.self.invariant.3 ∙ ap (report c.self.inside.config) e,
+      c.make_room.ensures.problems ∙ (c.self.invariant.3 ∙ ap (report c.self.inside.config) e),
+      subst (λ (ks : List KeptValue). IsOverviewOf ks c.self.inside.overview) (sym c.make_room.ensures.kept) c.self.invariant.4,
+      subst (λ (ks : List KeptValue). AllByRecursion (IsAt ks) c.make_room.new.places.items) (sym c.make_room.ensures.kept) c.make_room.ensures.places,
     )
+
+-- what room was made in is what was kept
+pub put_kept-requires-clause-range : goal.put_kept-requires-clause-range
+put_kept-requires-clause-range g c =
+    let new = c.in_ok-plan.plan.rejudged in
+    subst (λ (ks : List KeptValue). IsRange new.from new.end (length ks)) (sym c.make_room.ensures.kept) c.in_ok-plan.ensures.kept_range
+
+pub put_kept-requires-clause-from_row : goal.put_kept-requires-clause-from_row
+put_kept-requires-clause-from_row g c = c.in_ok-plan.ensures.from_row ∙ ap (λ (ks : List KeptValue). rows_kept (take c.in_ok-plan.plan.rejudged.from ks)) (sym c.make_room.ensures.kept)
+
+pub put_kept-requires-clause-end_row : goal.put_kept-requires-clause-end_row
+put_kept-requires-clause-end_row g c = c.in_ok-plan.ensures.end_row ∙ ap (λ (ks : List KeptValue). rows_kept (take c.in_ok-plan.plan.rejudged.end ks)) (sym c.make_room.ensures.kept)
+
+pub put_kept-requires-clause-few : goal.put_kept-requires-clause-few
+put_kept-requires-clause-few g c =
+    let same : length c.make_room.new.kept.items ≡ length c.self.inside.kept.items = ap (λ (ks : List KeptValue). length ks) c.make_room.ensures.kept in
+    omega (arith, same, few_kept c.self.inside.config (g.S.Lines.rows c.self.inside.store) c.self.inside.kept.items c.self.invariant.0 c.self.invariant.2, c.in_ok-plan.plan.rejudged.kept.small)
+
+pub put_kept-requires-clause-few_rows : goal.put_kept-requires-clause-few_rows
+put_kept-requires-clause-few_rows g c =
+    let rows = g.S.Lines.rows c.self.inside.store in
+    let ks = c.self.inside.kept.items in
+    let new = c.in_ok-plan.plan.rejudged in
+    let same : rows_kept c.make_room.new.kept.items ≡ rows_kept ks = ap rows_kept c.make_room.ensures.kept in
+    let Q : List RowValue → Type 0 = λ ps. AreLines (splice ps c.args.a c.args.b c.args.rows.now.items) in
+    let R : List RowValue → Type 0 = λ ps. AreLines (splice rows c.args.a c.args.b ps) in
+    let lines = subst R (sym c.as_slice.ensures.value) (subst Q (sym (ap (λ (s : SessionValue). s.rows) c.self.view_is)) c.requires.lines) in (
+      omega (arith, same, few_rows c.self.inside.config rows ks c.self.invariant.0 c.self.invariant.2),
+      omega (arith, few_rows_put c.self.inside.config (splice rows c.args.a c.args.b c.as_slice.result.now) ks new.kept.items new.from new.end lines c.in_ok-plan.ensures.kept),
+    )
+
+pub put_kept-requires-clause-at : goal.put_kept-requires-clause-at
+put_kept-requires-clause-at g c = subst (λ (ks : List KeptValue). AllByRecursion (IsAt ks) c.make_room.new.places.items) (sym c.make_room.ensures.kept) c.make_room.ensures.places
 
 pub invariant_of-self-2 : goal.invariant_of-self-2
 invariant_of-self-2 g c =
@@ -67,12 +141,15 @@ invariant_of-self-2 g c =
     let put : splice rows c.args.a c.args.b c.as_slice.result.now ≡ g.S.Lines.rows c.splice.new.self = ap (λ (ps : List RowValue). splice rows c.args.a c.args.b ps) c.as_slice.ensures.value ∙ e in (
       subst P e (subst Q here c.requires.lines),
       renewed c.make_room.new.records.items c.self.inside.records.items plan.rescan.records.items plan.rescan.from plan.rescan.old_end records_of put c.fill_room.ensures.items c.make_room.ensures.records c.in_ok-plan.ensures.records,
-      renewed c.make_room.new.kept.items c.deref.result.now plan.rejudged.kept.items plan.rejudged.from plan.rejudged.end (kept_of_text c.self.inside.config) put c.put.ensures.items (c.make_room.ensures.kept ∙ sym c.deref.ensures.value) c.in_ok-plan.ensures.kept,
-      shown_so (λ v. v.items) (report c.self.inside.config) put plan.problems c.self.invariant.3 c.renew.ensures c.in_ok-plan.ensures.problems,
+      renewed c.make_room.new.kept.items c.self.inside.kept.items plan.rejudged.kept.items plan.rejudged.from plan.rejudged.end (kept_of_text c.self.inside.config) put c.put_kept.ensures.items c.make_room.ensures.kept c.in_ok-plan.ensures.kept,
+      shown_so (λ v. v.items) put_of (report c.self.inside.config) put plan.renewal.patch plan.renewal.whole (c.make_room.ensures.problems ∙ c.self.invariant.3) (c.make_room.ensures.problems ∙ sym c.deref-2.ensures.value) c.renew.ensures c.in_ok-plan.ensures.patch c.in_ok-plan.ensures.whole c.in_ok-plan.ensures.stays,
+      subst (λ (ks : List KeptValue). IsOverviewOf ks plan.renewal.overview) (sym (c.put_kept.ensures.items ∙ ap (λ (ks : List KeptValue). splice ks plan.rejudged.from plan.rejudged.end plan.rejudged.kept.items) c.make_room.ensures.kept)) c.in_ok-plan.ensures.overview,
+      c.put_kept.ensures.places,
     )
 
 pub returns-clause-problems : goal.returns-clause-problems
 returns-clause-problems g c =
     let rows = g.S.Lines.rows c.self.inside.store in
     let put : splice rows c.args.a c.args.b c.as_slice.result.now ≡ g.S.Lines.rows c.splice.new.self = ap (λ (ps : List RowValue). splice rows c.args.a c.args.b ps) c.as_slice.ensures.value ∙ sym c.in_ok-splice.ensures.ok in
-    shown_so (λ v. v.items) (report c.self.inside.config) put c.in_ok-plan.plan.problems c.self.invariant.3 c.renew.ensures c.in_ok-plan.ensures.problems
+    let plan = c.in_ok-plan.plan in
+    shown_so (λ v. v.items) put_of (report c.self.inside.config) put plan.renewal.patch plan.renewal.whole (c.make_room.ensures.problems ∙ c.self.invariant.3) (c.make_room.ensures.problems ∙ sym c.deref-2.ensures.value) c.renew.ensures c.in_ok-plan.ensures.patch c.in_ok-plan.ensures.whole c.in_ok-plan.ensures.stays

@@ -1,5 +1,0 @@
-use Rattle.std.proofs.Common.{◌≡◌, ◌≤◌, vec_len, vec_capacity}
-use Rattle.yl_chunks_tests.proofs.tests.lists.numbers.Given as goal
-
-abbrev pub invariant-loop-i : goal.invariant-loop-i
-invariant-loop-i l = (vec_len l.numbers ≡ l.i) × (l.count ≤ vec_capacity l.numbers)

@@ -1,5 +1,0 @@
-//! Tests of `yl_chunks`, some with an allocator that refuses.
-#![tactic(auto)]
-
-#[cfg(test)]
-mod tests;

@@ -1,5 +1,0 @@
-//! Tests of `yl_config`, over texts.
-#![tactic(auto)]
-
-#[cfg(test)]
-mod tests;

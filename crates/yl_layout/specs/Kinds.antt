@@ -1,0 +1,41 @@
+-- Bridge: what the rules on lexemes find at a lexeme, by its kind.
+use Rattle.std.specs.Prelude.{ℕ, List, [], ◌++◌, Option}
+use Rattle.yl_lexeme.specs.declared.lexeme.Kind.{Kind}
+use Rattle.yl_lexeme.specs.declared.lexeme.Kind.TheVariants.{Directive, DocStart, DocEnd, Entry, Key, Value, Comma, SeqOpen, SeqClose, MapOpen, MapClose, Alias, Anchor, Tag, Scalar}
+use Rattle.yl_marks.specs.declared.facts.KeyFacts.{KeyFacts}
+use Rattle.yl_text.specs.Finding.{FindingValue}
+use Rattle.yl_layout.specs.declared.span.Span.{Span}
+use Rattle.yl_layout.specs.declared.brackets.Flow.TheVariants.{Mapping, Sequence}
+use Rattle.yl_layout.specs.declared.options.LexemeOptions.{LexemeOptions}
+use Rattle.yl_layout.specs.Brackets.{brackets}
+use Rattle.yl_layout.specs.Colons.{colons}
+use Rattle.yl_layout.specs.Commas.{commas}
+use Rattle.yl_layout.specs.Hyphens.{hyphens}
+use Rattle.yl_layout.specs.Lexemes.{block_findings, flow_findings, value_findings}
+
+-- at a lexeme of this kind: one rule at most finds something but for the rules on documents and
+-- values
+abbrev pub indicator_findings :
+    Kind → LexemeOptions → Option Span → Span → Option Span → List FindingValue
+indicator_findings MapOpen o before x after = brackets Mapping o.braces before x after
+indicator_findings MapClose o before x after = brackets Mapping o.braces before x after
+indicator_findings SeqOpen o before x after = brackets Sequence o.brackets before x after
+indicator_findings SeqClose o before x after = brackets Sequence o.brackets before x after
+indicator_findings Comma o before x after = commas o.commas before x after
+indicator_findings Value o before x after = colons o.colons before x after
+indicator_findings Key o before x after = colons o.colons before x after
+indicator_findings Entry o before x after = hyphens o.hyphens x after
+indicator_findings Directive o before x after = []
+indicator_findings DocStart o before x after = []
+indicator_findings DocEnd o before x after = []
+indicator_findings Alias o before x after = []
+indicator_findings Anchor o before x after = []
+indicator_findings Tag o before x after = []
+indicator_findings (Scalar style) o before x after = []
+
+-- at a lexeme between its neighbours, by its span and its value
+abbrev pub findings_of :
+    LexemeOptions → Option Span → Span → List ℕ → KeyFacts → Option Span → List FindingValue
+findings_of o before x value key after =
+    flow_findings o before x after
+    ++ (block_findings o before x after ++ value_findings o x value key)

@@ -1,0 +1,32 @@
+-- Bridge: what the lines to come still bring to the report of a text, by what is kept of those that were passed.
+use Rattle.std.specs.Prelude.{ℕ, ◌+◌, List, ◌++◌, map}
+use Rattle.yl_text.specs.Finding.{FindingValue}
+use Rattle.yl_text.specs.Lines.{RowValue}
+use Rattle.yl_rules.specs.declared.options.RowOptions.{RowOptions}
+use Rattle.yl_rules.specs.RunsLeft.{RunReaderValue, runs_left}
+use Rattle.yl_config.specs.declared.config.Config.{Config}
+use Rattle.yl_record.specs.Recorded.{RecorderValue, recorded}
+use Rattle.yl_sections.specs.Judge.{kept_of_section}
+use Rattle.yl_sections.specs.Kept.{documents_in, KeptValue}
+use Rattle.yl_sections.specs.Sections.{sections}
+use Rattle.yl_lint.specs.TextReport.{findings_from}
+
+-- of the lines that were passed: what the rules that look at one line found in them, and those that look at the lines of a
+-- whole text
+pub record LineReaderValue : Type 0 where
+  pub options : RowOptions
+  pub runs : RunReaderValue
+  pub found : List FindingValue
+  pub found_in_runs : List FindingValue
+
+-- all that the rules on lines find, if these lines follow
+abbrev pub lines_left : LineReaderValue → List RowValue → List FindingValue
+lines_left r rows = (r.found ++ findings_from r.options (r.runs.count + 1) rows) ++ (r.found_in_runs ++ runs_left r.runs rows)
+
+-- all that is kept of sections, if these rows follow, each given as its characters
+abbrev pub kept_left : Config → List KeptValue → RecorderValue → List (List ℕ) → List KeptValue
+kept_left config kept r rows = kept ++ map (kept_of_section config) (sections (recorded r rows))
+
+-- how many documents there are
+abbrev pub documents_left : ℕ → RecorderValue → List (List ℕ) → ℕ
+documents_left documents r rows = documents + documents_in (sections (recorded r rows))

@@ -1,0 +1,123 @@
+//! The marks of a document and what its keys say of its lexemes, line by line.
+
+ghost use Rattle.std.specs.Prelude.{◌≡◌, ◌++◌, map, OnOk};
+ghost use Rattle.yl_marks.specs.ByLine.{marks_of_line};
+ghost use Rattle.yl_marks.specs.FactsByLine.{behind_keyed_line, facts_of_line, key_marker_at_start};
+ghost use Rattle.yl_marks.specs.Keys.{lexeme_at_line, token_of};
+ghost use Rattle.yl_marks.specs.Marks.{closings_of_all};
+
+use crate::facts::{KeyFacts, push_facts};
+use crate::keys::line_pieces;
+use crate::marks::{close_all, marks, note_keys};
+use crate::symbol::{Earlier, KeyStart, KeyedToken, OpenBlock, Symbol};
+use crate::token::{Token, token_of};
+use std::alloc::{AllocError, Allocator};
+use std::marker::Model;
+use yl_lexeme::{KeyUnit, LexemeAtLine};
+
+/// Marks a document line by line, and says what its keys say of each lexeme: what counts of the lines read so far.
+#[derive(Drop)]
+pub struct KeyMarker<A: Allocator + Copy> {
+    earlier: Earlier,
+    /// What the lexemes so far say of the one ahead, where no key begins or ends with it.
+    ahead: KeyFacts,
+    /// The open block collections, the outermost first.
+    collections: Vec<OpenBlock, A>,
+    /// Room for a line: its tokens, the unit that may become a key, the lexemes, and whether a key begins with each.
+    tokens: Vec<Token, A>,
+    unit: KeyUnit<KeyStart, A>,
+    pieces: Vec<KeyedToken, A>,
+    begins: Vec<bool, A>,
+}
+
+impl<A: Allocator + Copy> Model for KeyMarker<A> {
+    ghost use Rattle.std.specs.Prelude.{◌≤◌, reverse};
+    ghost use Rattle.yl_marks.specs.FactsByLine.{KeyMarkerValue};
+
+    ghost Value = { KeyMarkerValue };
+
+    ghost view = { λ m. record {
+      marks = record { count = m.earlier.count; depth = m.earlier.depth; latest = m.earlier.latest; open_ones = reverse m.collections.items };
+      ahead = m.ahead;
+    } };
+
+    ghost invariant = { λ m. m.earlier.depth ≤ m.earlier.count };
+}
+
+impl<A: Allocator + Copy> KeyMarker<A> {
+    /// At the start of a document.
+    pub fn new(alloc: A) -> KeyMarker<A>
+        ensures { result ≡ key_marker_at_start }
+    {
+        KeyMarker {
+            earlier: Earlier {
+                count: 0,
+                depth: 0,
+                latest: None,
+            },
+            ahead: KeyFacts {
+                is_key: false,
+                has_tag: false,
+            },
+            collections: Vec::new(alloc),
+            tokens: Vec::new(alloc),
+            unit: KeyUnit::new(alloc),
+            pieces: Vec::new(alloc),
+            begins: Vec::new(alloc),
+        }
+    }
+
+    /// Reads the lexemes that begin in the next line, all of them, and puts them with their marks behind the symbols, and what keys say
+    /// of them behind `keys`. The only error is memory, or that the document has more than `usize::MAX` lexemes.
+    pub fn read(
+        &mut self,
+        line: &[LexemeAtLine<'_, A>],
+        symbols: &mut Vec<Symbol, A>,
+        keys: &mut Vec<KeyFacts, A>,
+    ) -> Result<(), AllocError>
+        ensures marks { OnOk result (symbols.new.items
+            ≡ symbols.old.items ++ marks_of_line self.old.marks (map token_of (map (λ x. lexeme_at_line x.line x.lexeme.now) line.now))) }
+        ensures keys { OnOk result (keys.new.items
+            ≡ keys.old.items ++ facts_of_line self.old (map token_of (map (λ x. lexeme_at_line x.line x.lexeme.now) line.now))) }
+        ensures behind { OnOk result (self.new ≡ behind_keyed_line self.old (map token_of (map (λ x. lexeme_at_line x.line x.lexeme.now) line.now))) }
+    {
+        let first = self.earlier.count;
+        if line.len() > usize::MAX - first {
+            return Err(AllocError);
+        }
+        read_tokens(line, &mut self.tokens)?;
+        let earlier = line_pieces(&self.tokens, self.earlier, &mut self.unit, &mut self.pieces)?;
+        note_keys(&mut self.begins, first, &self.pieces)?;
+        marks(
+            &self.pieces,
+            &self.begins,
+            first,
+            &mut self.collections,
+            symbols,
+        )?;
+        self.ahead = push_facts(&self.pieces, &self.begins, first, self.ahead, keys)?;
+        self.earlier = earlier;
+        Ok(())
+    }
+
+    /// The document ends: closes the collections that are open. The only error is memory.
+    pub fn close(&self, symbols: &mut Vec<Symbol, A>) -> Result<(), AllocError>
+        ensures { OnOk result (symbols.new.items ≡ symbols.old.items ++ closings_of_all self.now.marks.open_ones) }
+    {
+        close_all(&self.collections, symbols)
+    }
+}
+
+/// The lexemes of a line without their values, in room that is used again.
+fn read_tokens<A: Allocator>(
+    line: &[LexemeAtLine<'_, A>],
+    tokens: &mut Vec<Token, A>,
+) -> Result<(), AllocError>
+    ensures { OnOk result (tokens.new.items ≡ map token_of (map (λ x. lexeme_at_line x.line x.lexeme.now) line.now)) }
+{
+    tokens.clear();
+    for at in line {
+        tokens.push(token_of(at))?;
+    }
+    Ok(())
+}

@@ -1,0 +1,222 @@
+-- Lists of problems whose lines are apart are arranged one after another; moved lists are arranged as they are.
+use Rattle.std.proofs.Common.{◌≡◌, ℕ, ◌+◌, ◌-◌, ◌<◌, ◌≤◌, Bool, true, false, List, [], ◌∷◌, ◌++◌, map, Option, Some, None, refl, ap, sym, ◌∙◌, arith, ◌⊎◌, inl, inr, cond}
+use Rattle.std.specs.Prelude.{◌&&◌, ◌||◌, not, is_some}
+use Rattle.std.specs.List.{AllByRecursion, filter, filter_map, cons_option, Contains}
+use Rattle.std.specs.Option.{option_map}
+use Rattle.std.specs.Ordering.{nat_cmp, MatchOrdering, ordering_then}
+use Rattle.std.specs.Cmp.{nat_cmp_is, ranked}
+use Rattle.std.proofs.lemmas.List.Elements.{filter-append, filter_map-append}
+use Rattle.std.specs.declared.cmp.Ordering.{Ordering}
+use Rattle.std.specs.declared.cmp.Ordering.TheVariants.{Less, Equal, Greater}
+use Rattle.yl_text.specs.Finding.{FindingValue}
+use Rattle.yl_text.specs.declared.finding.RuleId.{RuleId}
+use Rattle.yl_rules.specs.declared.level.Level.{Level}
+use Rattle.yl_rules.specs.Levels.{LevelTable}
+use Rattle.yl_report.specs.Report.{ProblemValue, finding_order, order_in_line, insert_by, insert_once, sorted_once, is_reported, with_level, report_of, is_syntax}
+use Rattle.yl_report.specs.Arranged.{IsArranged}
+use Rattle.yl_report.proofs.Unique.{one_arrangement}
+use Rattle.yl_report.proofs.Inserted.{sorted_once_arranged}
+use Rattle.yl_report.proofs.Unique.{In, in_from, from_in}
+use Rattle.yl_lint.specs.TextReport.{moved}
+
+-- ---- in order, one after another
+
+by_part : (o : Ordering) (x a : FindingValue) (ps qs behind more : List FindingValue) → more ≡ behind ++ qs → insert_by o x a (ps ++ qs) more ≡ insert_by o x a ps behind ++ qs
+by_part Less x a ps qs behind more h = refl
+by_part Equal x a ps qs behind more h = refl
+by_part Greater x a ps qs behind more h = ap (λ (ys : List FindingValue). a ∷ ys) h
+
+insert_front : (x : FindingValue) (ps qs : List FindingValue) → AllByRecursion (λ y. finding_order x y ≡ Less) qs → insert_once x (ps ++ qs) ≡ insert_once x ps ++ qs
+insert_front x [] [] h = refl
+insert_front x [] (b ∷ qs) h = ap (λ (o : Ordering). insert_by o x b qs (insert_once x qs)) h.0
+insert_front x (a ∷ ps) qs h = by_part (finding_order x a) x a ps qs (insert_once x ps) (insert_once x (ps ++ qs)) (insert_front x ps qs h)
+
+all_by : (P : FindingValue → Type 0) (o : Ordering) (x y : FindingValue) (ys behind : List FindingValue) → P x → P y → AllByRecursion P ys → AllByRecursion P behind → AllByRecursion P (insert_by o x y ys behind)
+all_by P Less x y ys behind p q h b = (p, (q, h))
+all_by P Equal x y ys behind p q h b = (q, h)
+all_by P Greater x y ys behind p q h b = (q, b)
+
+all_insert : (P : FindingValue → Type 0) (x : FindingValue) (ys : List FindingValue) → P x → AllByRecursion P ys → AllByRecursion P (insert_once x ys)
+all_insert P x [] p h = (p, tt)
+all_insert P x (y ∷ ys) p h = all_by P (finding_order x y) x y ys (insert_once x ys) p h.0 h.1 (all_insert P x ys p h.1)
+
+all_sorted : (P : FindingValue → Type 0) (xs : List FindingValue) → AllByRecursion P xs → AllByRecursion P (sorted_once xs)
+all_sorted P [] h = tt
+all_sorted P (x ∷ xs) h = all_insert P x (sorted_once xs) h.0 (all_sorted P xs h.1)
+
+less_line : (x y : FindingValue) → x.line < y.line → finding_order x y ≡ Less
+less_line x y l = ap (λ (o : Ordering). ordering_then o (order_in_line x y)) (sym (nat_cmp_is x.line y.line Less l))
+
+above : (n : ℕ) (x : FindingValue) (ys : List FindingValue) → x.line ≤ n → AllByRecursion (λ f. n < f.line) ys → AllByRecursion (λ y. finding_order x y ≡ Less) ys
+above n x [] l h = tt
+above n x (y ∷ ys) l h = (less_line x y (omega (arith, l, h.0)), above n x ys l h.1)
+
+sorted_apart : (n : ℕ) (xs ys : List FindingValue) → AllByRecursion (λ f. f.line ≤ n) xs → AllByRecursion (λ f. n < f.line) ys → sorted_once (xs ++ ys) ≡ sorted_once xs ++ sorted_once ys
+sorted_apart n [] ys h k = refl
+sorted_apart n (x ∷ xs) ys h k =
+    ap (insert_once x) (sorted_apart n xs ys h.1 k)
+    ∙ insert_front x (sorted_once xs) (sorted_once ys) (above n x (sorted_once ys) h.0 (all_sorted (λ f. n < f.line) ys k))
+
+-- ---- moved
+
+compared : (n a b : ℕ) (o : Ordering) → MatchOrdering o (a < b) (a ≡ b) (b < a) → MatchOrdering o (n + a < n + b) (n + a ≡ n + b) (n + b < n + a)
+compared n a b Less l = omega (arith, l)
+compared n a b Equal e = ap (λ (m : ℕ). n + m) e
+compared n a b Greater l = omega (arith, l)
+
+cmp_moved : (n a b : ℕ) → nat_cmp (n + a) (n + b) ≡ nat_cmp a b
+cmp_moved n a b = sym (nat_cmp_is (n + a) (n + b) (nat_cmp a b) (compared n a b (nat_cmp a b) (ranked a b (nat_cmp a b) refl)))
+
+order_moved : (n : ℕ) (x y : FindingValue) → finding_order (moved n x) (moved n y) ≡ finding_order x y
+order_moved n x y = ap (λ (o : Ordering). ordering_then o (order_in_line x y)) (cmp_moved n x.line y.line)
+
+by_moved : (n : ℕ) (o : Ordering) (x y : FindingValue) (ys behind more : List FindingValue) → more ≡ map (moved n) behind
+    → insert_by o (moved n x) (moved n y) (map (moved n) ys) more ≡ map (moved n) (insert_by o x y ys behind)
+by_moved n Less x y ys behind more h = refl
+by_moved n Equal x y ys behind more h = refl
+by_moved n Greater x y ys behind more h = ap (λ (fs : List FindingValue). moved n y ∷ fs) h
+
+insert_moved : (n : ℕ) (x : FindingValue) (ys : List FindingValue) → insert_once (moved n x) (map (moved n) ys) ≡ map (moved n) (insert_once x ys)
+insert_moved n x [] = refl
+insert_moved n x (y ∷ ys) =
+    ap (λ (o : Ordering). insert_by o (moved n x) (moved n y) (map (moved n) ys) (insert_once (moved n x) (map (moved n) ys))) (order_moved n x y)
+    ∙ by_moved n (finding_order x y) x y ys (insert_once x ys) (insert_once (moved n x) (map (moved n) ys)) (insert_moved n x ys)
+
+sorted_moved : (n : ℕ) (xs : List FindingValue) → sorted_once (map (moved n) xs) ≡ map (moved n) (sorted_once xs)
+sorted_moved n [] = refl
+sorted_moved n (x ∷ xs) = ap (insert_once (moved n x)) (sorted_moved n xs) ∙ insert_moved n x (sorted_once xs)
+
+-- ---- reported, where nothing is silenced
+
+abbrev pub nothing_silenced : RuleId → ℕ → Bool
+nothing_silenced rule line = false
+
+abbrev reported : LevelTable → FindingValue → Bool
+reported levels f = is_reported levels nothing_silenced f
+
+abbrev pub arranged : LevelTable → List FindingValue → List ProblemValue
+arranged levels fs = report_of levels false nothing_silenced fs
+
+cond_moved : (n : ℕ) (b : Bool) (x : FindingValue) (ys : List FindingValue) → cond b (moved n x ∷ map (moved n) ys) (map (moved n) ys) ≡ map (moved n) (cond b (x ∷ ys) ys)
+cond_moved n true x ys = refl
+cond_moved n false x ys = refl
+
+filter_moved : (levels : LevelTable) (n : ℕ) (xs : List FindingValue) → filter (reported levels) (map (moved n) xs) ≡ map (moved n) (filter (reported levels) xs)
+filter_moved levels n [] = refl
+filter_moved levels n (x ∷ xs) =
+    ap (λ (fs : List FindingValue). cond (reported levels x) (moved n x ∷ fs) fs) (filter_moved levels n xs) ∙ cond_moved n (reported levels x) x (filter (reported levels) xs)
+
+-- so many lines further down
+abbrev pub lower : ℕ → ProblemValue → ProblemValue
+lower n p = record { line = n + p.line; column = p.column; level = p.level; rule = p.rule; message = p.message }
+
+abbrev with : Option Level → FindingValue → Option ProblemValue
+with o f = option_map (λ level. record { line = f.line; column = f.column; level = level; rule = f.rule; message = f.message }) o
+
+with_moved : (n : ℕ) (o : Option Level) (f : FindingValue) (fs : List FindingValue) (ps : List ProblemValue) → cons_option (with o (moved n f)) (map (lower n) ps) ≡ map (lower n) (cons_option (with o f) ps)
+with_moved n None f fs ps = refl
+with_moved n (Some level) f fs ps = refl
+
+levels_moved : (levels : LevelTable) (n : ℕ) (xs : List FindingValue) → filter_map (with_level levels) (map (moved n) xs) ≡ map (lower n) (filter_map (with_level levels) xs)
+levels_moved levels n [] = refl
+levels_moved levels n (x ∷ xs) =
+    ap (λ (ps : List ProblemValue). cons_option (with (levels x.rule) (moved n x)) ps) (levels_moved levels n xs) ∙ with_moved n (levels x.rule) x xs (filter_map (with_level levels) xs)
+
+pub arranged_moved : (levels : LevelTable) (n : ℕ) (xs : List FindingValue) → arranged levels (map (moved n) xs) ≡ map (lower n) (arranged levels xs)
+arranged_moved levels n xs =
+    ap (λ (fs : List FindingValue). filter_map (with_level levels) (sorted_once fs)) (filter_moved levels n xs)
+    ∙ (ap (λ (fs : List FindingValue). filter_map (with_level levels) fs) (sorted_moved n (filter (reported levels) xs)) ∙ levels_moved levels n (sorted_once (filter (reported levels) xs)))
+
+-- ---- lines apart
+
+all_cond : (P : FindingValue → Type 0) (b : Bool) (x : FindingValue) (ys : List FindingValue) → P x → AllByRecursion P ys → AllByRecursion P (cond b (x ∷ ys) ys)
+all_cond P true x ys p h = (p, h)
+all_cond P false x ys p h = h
+
+all_filter : (P : FindingValue → Type 0) (p : FindingValue → Bool) (xs : List FindingValue) → AllByRecursion P xs → AllByRecursion P (filter p xs)
+all_filter P p [] h = tt
+all_filter P p (x ∷ xs) h = all_cond P (p x) x (filter p xs) h.0 (all_filter P p xs h.1)
+
+pub arranged_apart : (levels : LevelTable) (n : ℕ) (xs ys : List FindingValue) → AllByRecursion (λ f. f.line ≤ n) xs → AllByRecursion (λ f. n < f.line) ys → arranged levels (xs ++ ys) ≡ arranged levels xs ++ arranged levels ys
+arranged_apart levels n xs ys h k =
+    let p = reported levels in
+    ap (λ (fs : List FindingValue). filter_map (with_level levels) (sorted_once fs)) (filter-append p xs ys)
+    ∙ (ap (λ (fs : List FindingValue). filter_map (with_level levels) fs) (sorted_apart n (filter p xs) (filter p ys) (all_filter (λ f. f.line ≤ n) p xs h) (all_filter (λ f. n < f.line) p ys k))
+    ∙ filter_map-append (with_level levels) (sorted_once (filter p xs)) (sorted_once (filter p ys)))
+
+-- the lines of what is arranged
+all_with : (P : ℕ → Type 0) (o : Option Level) (f : FindingValue) (ps : List ProblemValue) → P f.line → AllByRecursion (λ p. P p.line) ps → AllByRecursion (λ p. P p.line) (cons_option (with o f) ps)
+all_with P None f ps p h = h
+all_with P (Some level) f ps p h = (p, h)
+
+all_levels : (P : ℕ → Type 0) (levels : LevelTable) (xs : List FindingValue) → AllByRecursion (λ f. P f.line) xs → AllByRecursion (λ p. P p.line) (filter_map (with_level levels) xs)
+all_levels P levels [] h = tt
+all_levels P levels (x ∷ xs) h = all_with P (levels x.rule) x (filter_map (with_level levels) xs) h.0 (all_levels P levels xs h.1)
+
+pub arranged_lines : (P : ℕ → Type 0) (levels : LevelTable) (xs : List FindingValue) → AllByRecursion (λ f. P f.line) xs → AllByRecursion (λ p. P p.line) (arranged levels xs)
+arranged_lines P levels xs h =
+    let p = reported levels in
+    all_levels P levels (sorted_once (filter p xs)) (all_sorted (λ f. P f.line) (filter p xs) (all_filter (λ f. P f.line) p xs h))
+
+-- ---- the members alone count
+
+pub record AreSame (xs ys : List FindingValue) : Type 0 where
+  pub there : (f : FindingValue) → In f xs → In f ys
+  pub back : (f : FindingValue) → In f ys → In f xs
+
+sorted_same : (xs ys : List FindingValue) → AreSame xs ys → sorted_once xs ≡ sorted_once ys
+sorted_same xs ys s =
+    let a = sorted_once_arranged ys in
+    one_arrangement xs (sorted_once xs) (sorted_once ys) (sorted_once_arranged xs) (record {
+      sorted = a.sorted;
+      all = λ f h. a.all f (from_in f ys (s.there f (in_from f xs h)));
+      only = λ f h. from_in f xs (s.back f (in_from f ys (a.only f h)));
+    })
+
+in_cond : (b : Bool) (f x : FindingValue) (ys : List FindingValue) → In f (cond b (x ∷ ys) ys) → ((f ≡ x) × (b ≡ true)) ⊎ In f ys
+in_cond true f x ys (inl e) = inl (e, refl)
+in_cond true f x ys (inr h) = inr h
+in_cond false f x ys h = inr h
+
+cond_in : (b : Bool) (f x : FindingValue) (ys : List FindingValue) → ((f ≡ x) × (b ≡ true)) ⊎ In f ys → In f (cond b (x ∷ ys) ys)
+cond_in true f x ys (inl e) = inl e.0
+cond_in true f x ys (inr h) = inr h
+cond_in false f x ys (inl e) = absurd (cc)
+cond_in false f x ys (inr h) = h
+
+in_filter : (p : FindingValue → Bool) (f : FindingValue) (xs : List FindingValue) → In f (filter p xs) → In f xs × (p f ≡ true)
+in_filter p f [] h = absurd h
+in_filter p f (x ∷ xs) h = deeper (in_cond (p x) f x (filter p xs) h) (in_filter p f xs)
+  where
+    deeper : ((f ≡ x) × (p x ≡ true)) ⊎ In f (filter p xs) → (In f (filter p xs) → In f xs × (p f ≡ true)) → In f (x ∷ xs) × (p f ≡ true)
+    deeper (inl e) b = (inl e.0, ap p e.0 ∙ e.1)
+    deeper (inr g) b = let r = b g in (inr r.0, r.1)
+
+filter_in : (p : FindingValue → Bool) (f : FindingValue) (xs : List FindingValue) → In f xs → p f ≡ true → In f (filter p xs)
+filter_in p f [] h t = absurd h
+filter_in p f (x ∷ xs) (inl e) t = cond_in (p x) f x (filter p xs) (inl (e, sym (ap p e) ∙ t))
+filter_in p f (x ∷ xs) (inr h) t = cond_in (p x) f x (filter p xs) (inr (filter_in p f xs h t))
+
+filter_same : (p : FindingValue → Bool) (xs ys : List FindingValue) → AreSame xs ys → AreSame (filter p xs) (filter p ys)
+filter_same p xs ys s = record {
+  there = λ f h. let r = in_filter p f xs h in filter_in p f ys (s.there f r.0) r.1;
+  back = λ f h. let r = in_filter p f ys h in filter_in p f xs (s.back f r.0) r.1;
+}
+
+pub arranged_same : (levels : LevelTable) (xs ys : List FindingValue) → AreSame xs ys → arranged levels xs ≡ arranged levels ys
+arranged_same levels xs ys s = ap (λ (fs : List FindingValue). filter_map (with_level levels) fs) (sorted_same (filter (reported levels) xs) (filter (reported levels) ys) (filter_same (reported levels) xs ys s))
+
+-- members of lists one after another
+pub in_front : (f : FindingValue) (xs ys : List FindingValue) → In f xs → In f (xs ++ ys)
+in_front f [] ys h = absurd h
+in_front f (x ∷ xs) ys (inl e) = inl e
+in_front f (x ∷ xs) ys (inr h) = inr (in_front f xs ys h)
+
+pub in_behind : (f : FindingValue) (xs ys : List FindingValue) → In f ys → In f (xs ++ ys)
+in_behind f [] ys h = h
+in_behind f (x ∷ xs) ys h = inr (in_behind f xs ys h)
+
+pub in_either : {G : Type 0} (f : FindingValue) (xs ys : List FindingValue) → In f (xs ++ ys) → (In f xs → G) → (In f ys → G) → G
+in_either f [] ys h a b = b h
+in_either f (x ∷ xs) ys (inl e) a b = a (inl e)
+in_either f (x ∷ xs) ys (inr h) a b = in_either f xs ys h (λ g. a (inr g)) b

@@ -1,0 +1,9 @@
+pub mod Arranged
+pub mod Ends
+pub mod Lines
+pub mod Parts
+pub mod Renewed
+pub mod Sections
+pub mod Shifted
+pub mod Walks
+pub mod Given

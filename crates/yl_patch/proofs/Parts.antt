@@ -1,0 +1,298 @@
+-- The problems of lines and sections one after another are those of each part, one after another; so a part can be replaced by itself.
+use Rattle.std.proofs.Common.{◌≡◌, ℕ, suc, ◌+◌, ◌-◌, ◌<◌, ◌≤◌, ◌==◌, Bool, true, false, List, [], ◌∷◌, ◌++◌, length, map, take, drop, refl, ap, sym, ◌∙◌, arith, rules, append_assoc, append-nil, length-append, cond, nat_le}
+use Rattle.std.specs.List.{AllByRecursion, prefix_len}
+use Rattle.std.proofs.lemmas.List.{map-append, length-map, same_lists, places}
+use Rattle.std.proofs.lemmas.Bool.{le-leb, lt-leb}
+use Rattle.yl_text.specs.Finding.{FindingValue}
+use Rattle.yl_text.specs.Lines.{RowValue}
+use Rattle.yl_rules.specs.declared.new_lines.NewLine.{NewLine}
+use Rattle.yl_rules.specs.EmptyLines.{empty_lines}
+use Rattle.yl_rules.specs.EndOfFile.{end_of_file}
+use Rattle.yl_rules.specs.NewLines.{new_lines}
+use Rattle.yl_rules.specs.Levels.{LevelTable}
+use Rattle.yl_indentation.specs.declared.measure.Measure.{Measure}
+use Rattle.yl_indentation.specs.Measures.{and_later}
+use Rattle.yl_settings.specs.declared.options.RuleOptions.{RuleOptions}
+use Rattle.yl_report.specs.Report.{ProblemValue}
+use Rattle.yl_report.proofs.Unique.{In}
+use Rattle.yl_sections.specs.Kept.{KeptValue, items_if}
+use Rattle.yl_lint.specs.TextReport.{moved, findings_from, findings_in_sections}
+use Rattle.yl_patch.specs.Plain.{IsPlain, row_sum}
+use Rattle.yl_patch.proofs.Arranged.{AreSame, arranged, arranged_same, arranged_apart, arranged_moved, arranged_lines, lower, in_front, in_behind, in_either}
+use Rattle.yl_patch.proofs.Lines.{Between, between_both, rows_apart, rows_between, empty_lines_apart, empty_lines_between, new_lines_between, end_of_file_between, end_of_file_apart}
+use Rattle.yl_patch.proofs.Sections.{between_wider, between_moved, measured, sections_apart, sections_between}
+use Rattle.yl_patch.specs.Patched.{is_upto, patched, shifted}
+
+-- ---- what is found in a part of a text
+
+-- in these lines, which begin the text or not and end it or not, and in these sections of them, behind facts of this measure
+abbrev pub part : RuleOptions → Measure → Bool → Bool → Measure → List RowValue → List KeptValue → List FindingValue
+part o whole begins ends before rows ks =
+    findings_from o.row 1 rows
+    ++ (items_if begins (new_lines o.run.new_line rows)
+    ++ (empty_lines o.run.empty_lines rows ++ (items_if ends (end_of_file rows) ++ findings_in_sections o.indentation whole 0 before ks)))
+
+if_between : (low high : ℕ) (b : Bool) (fs : List FindingValue) → Between low high fs → Between low high (items_if b fs)
+if_between low high true fs h = h
+if_between low high false fs h = tt
+
+if_moved : (n : ℕ) (b : Bool) (fs gs : List FindingValue) → gs ≡ map (moved n) fs → items_if b gs ≡ map (moved n) (items_if b fs)
+if_moved n true fs gs h = h
+if_moved n false fs gs h = refl
+
+pub part_between : (o : RuleOptions) (whole : Measure) (begins ends : Bool) (before : Measure) (rows : List RowValue) (ks : List KeptValue) (high : ℕ) → AllByRecursion IsPlain ks → length rows ≤ high → row_sum ks ≤ high
+    → Between 0 high (part o whole begins ends before rows ks)
+part_between o whole begins ends before rows ks high h l m =
+    let n = length rows in
+    between_both 0 high (findings_from o.row 1 rows) _ (rows_between o.row 0 high 1 rows (omega arith) (omega (arith, l)))
+    (between_both 0 high (items_if begins (new_lines o.run.new_line rows)) _ (if_between 0 high begins (new_lines o.run.new_line rows) (between_wider 0 n 0 high (new_lines o.run.new_line rows) (omega arith) l (new_lines_between o.run.new_line rows)))
+    (between_both 0 high (empty_lines o.run.empty_lines rows) _ (empty_lines_between o.run.empty_lines 0 high [] rows (omega arith) (omega (arith, l)))
+    (between_both 0 high (items_if ends (end_of_file rows)) _ (if_between 0 high ends (end_of_file rows) (between_wider 0 n 0 high (end_of_file rows) (omega arith) l (end_of_file_between rows)))
+    (sections_between o.indentation whole before 0 high ks h (omega (arith, m))))))
+
+-- ---- the members of two parts
+
+module _ (r₁ r₂ n e₁ e₂ z s₁ s₂ : List FindingValue) where
+  abbrev together : List FindingValue
+  together = (r₁ ++ r₂) ++ (n ++ ((e₁ ++ e₂) ++ (z ++ (s₁ ++ s₂))))
+
+  abbrev front : List FindingValue
+  front = r₁ ++ (n ++ (e₁ ++ s₁))
+
+  abbrev back : List FindingValue
+  back = r₂ ++ (e₂ ++ (z ++ s₂))
+
+  to_front : (f : FindingValue) → In f front → In f (front ++ back)
+  to_front f h = in_front f front back h
+
+  to_back : (f : FindingValue) → In f back → In f (front ++ back)
+  to_back f h = in_behind f front back h
+
+  there : (f : FindingValue) → In f together → In f (front ++ back)
+  there f h =
+      in_either f (r₁ ++ r₂) _ h
+      (λ a. in_either f r₁ r₂ a (λ p. to_front f (in_front f r₁ _ p)) (λ p. to_back f (in_front f r₂ _ p)))
+      (λ a. in_either f n _ a (λ p. to_front f (in_behind f r₁ _ (in_front f n _ p)))
+      (λ b. in_either f (e₁ ++ e₂) _ b
+      (λ c. in_either f e₁ e₂ c (λ p. to_front f (in_behind f r₁ _ (in_behind f n _ (in_front f e₁ s₁ p)))) (λ p. to_back f (in_behind f r₂ _ (in_front f e₂ _ p))))
+      (λ c. in_either f z _ c (λ p. to_back f (in_behind f r₂ _ (in_behind f e₂ _ (in_front f z s₂ p))))
+      (λ d. in_either f s₁ s₂ d (λ p. to_front f (in_behind f r₁ _ (in_behind f n _ (in_behind f e₁ s₁ p)))) (λ p. to_back f (in_behind f r₂ _ (in_behind f e₂ _ (in_behind f z s₂ p))))))))
+
+  at_r : (f : FindingValue) → In f (r₁ ++ r₂) → In f together
+  at_r f h = in_front f (r₁ ++ r₂) _ h
+
+  at_n : (f : FindingValue) → In f n → In f together
+  at_n f h = in_behind f (r₁ ++ r₂) _ (in_front f n _ h)
+
+  at_e : (f : FindingValue) → In f (e₁ ++ e₂) → In f together
+  at_e f h = in_behind f (r₁ ++ r₂) _ (in_behind f n _ (in_front f (e₁ ++ e₂) _ h))
+
+  at_z : (f : FindingValue) → In f z → In f together
+  at_z f h = in_behind f (r₁ ++ r₂) _ (in_behind f n _ (in_behind f (e₁ ++ e₂) _ (in_front f z _ h)))
+
+  at_s : (f : FindingValue) → In f (s₁ ++ s₂) → In f together
+  at_s f h = in_behind f (r₁ ++ r₂) _ (in_behind f n _ (in_behind f (e₁ ++ e₂) _ (in_behind f z _ h)))
+
+  from : (f : FindingValue) → In f (front ++ back) → In f together
+  from f h =
+      in_either f front back h
+      (λ a. in_either f r₁ _ a (λ p. at_r f (in_front f r₁ r₂ p))
+      (λ b. in_either f n _ b (λ p. at_n f p) (λ c. in_either f e₁ s₁ c (λ p. at_e f (in_front f e₁ e₂ p)) (λ p. at_s f (in_front f s₁ s₂ p)))))
+      (λ a. in_either f r₂ _ a (λ p. at_r f (in_behind f r₁ r₂ p))
+      (λ b. in_either f e₂ _ b (λ p. at_e f (in_behind f e₁ e₂ p)) (λ c. in_either f z s₂ c (λ p. at_z f p) (λ p. at_s f (in_behind f s₁ s₂ p)))))
+
+  members : AreSame together (front ++ back)
+  members = record { there = there; back = from }
+
+lines_at_most : (n : ℕ) (fs : List FindingValue) → Between 0 n fs → AllByRecursion (λ f. f.line ≤ n) fs
+lines_at_most n [] h = tt
+lines_at_most n (f ∷ fs) h = (h.0.1, lines_at_most n fs h.1)
+
+lines_above : (n high : ℕ) (fs : List FindingValue) → Between n high fs → AllByRecursion (λ f. n < f.line) fs
+lines_above n high [] h = tt
+lines_above n high (f ∷ fs) h = (h.0.0, lines_above n high fs h.1)
+
+module _ (levels : LevelTable) (o : RuleOptions) (whole : Measure) (begins ends : Bool) (before : Measure) (xs ys : List RowValue) (y : RowValue) (ks ls : List KeptValue)
+    (plain : AllByRecursion IsPlain ks) (plain' : AllByRecursion IsPlain ls) (fit : row_sum ks ≡ length xs) (some : (length y.text == 0) ≡ false)
+    (same : items_if begins (new_lines o.run.new_line (xs ++ y ∷ ys)) ≡ items_if begins (new_lines o.run.new_line xs)) where
+  abbrev m : List FindingValue → List FindingValue
+  m fs = map (moved (length xs)) fs
+
+  abbrev later : Measure
+  later = and_later before (measured ks)
+
+  abbrev r₂ : List FindingValue
+  r₂ = findings_from o.row 1 (y ∷ ys)
+
+  abbrev e₂ : List FindingValue
+  e₂ = empty_lines o.run.empty_lines (y ∷ ys)
+
+  abbrev z₂ : List FindingValue
+  z₂ = items_if ends (end_of_file (y ∷ ys))
+
+  abbrev s₂ : List FindingValue
+  s₂ = findings_in_sections o.indentation whole 0 later ls
+
+  abbrev r₁ : List FindingValue
+  r₁ = findings_from o.row 1 xs
+
+  abbrev n₁ : List FindingValue
+  n₁ = items_if begins (new_lines o.run.new_line xs)
+
+  abbrev e₁ : List FindingValue
+  e₁ = empty_lines o.run.empty_lines xs
+
+  abbrev s₁ : List FindingValue
+  s₁ = findings_in_sections o.indentation whole 0 before ks
+
+  sections_are : findings_in_sections o.indentation whole 0 before (ks ++ ls) ≡ s₁ ++ m s₂
+  sections_are = sections_apart o.indentation whole before ks ls ∙ ap (λ k. s₁ ++ map (moved k) s₂) fit
+
+  whole_is : part o whole begins ends before (xs ++ y ∷ ys) (ks ++ ls) ≡ together r₁ (m r₂) n₁ e₁ (m e₂) (m z₂) s₁ (m s₂)
+  whole_is =
+      rw (rows_apart o.row xs (y ∷ ys), same, empty_lines_apart o.run.empty_lines xs ys y some, if_moved (length xs) ends (end_of_file (y ∷ ys)) (end_of_file (xs ++ y ∷ ys)) (end_of_file_apart xs ys y), sections_are)
+      refl
+
+  back_is : back r₁ (m r₂) n₁ e₁ (m e₂) (m z₂) s₁ (m s₂) ≡ m (part o whole false ends later (y ∷ ys) ls)
+  back_is =
+      sym (map-append (moved (length xs)) r₂ (e₂ ++ (z₂ ++ s₂))
+      ∙ ap (λ (fs : List FindingValue). m r₂ ++ fs) (map-append (moved (length xs)) e₂ (z₂ ++ s₂) ∙ ap (λ (fs : List FindingValue). m e₂ ++ fs) (map-append (moved (length xs)) z₂ s₂)))
+
+  front_low : Between 0 (length xs) (part o whole begins false before xs ks)
+  front_low = part_between o whole begins false before xs ks (length xs) plain (omega arith) (omega (arith, fit))
+
+  back_high : AllByRecursion (λ f. length xs < f.line) (m (part o whole false ends later (y ∷ ys) ls))
+  back_high =
+      let high = length (y ∷ ys) + row_sum ls in
+      let fs = part o whole false ends later (y ∷ ys) ls in
+      let b = between_moved (length xs) 0 high fs (part_between o whole false ends later (y ∷ ys) ls high plain' (omega arith) (omega arith)) in
+      lines_above (length xs) (length xs + high) (m fs) (between_wider (length xs + 0) (length xs + high) (length xs) (length xs + high) (m fs) (omega arith) (omega arith) b)
+
+  pub parts_apart : arranged levels (part o whole begins ends before (xs ++ y ∷ ys) (ks ++ ls))
+      ≡ arranged levels (part o whole begins false before xs ks) ++ map (lower (length xs)) (arranged levels (part o whole false ends later (y ∷ ys) ls))
+  parts_apart =
+      ap (arranged levels) whole_is
+      ∙ (arranged_same levels (together r₁ (m r₂) n₁ e₁ (m e₂) (m z₂) s₁ (m s₂)) (front r₁ (m r₂) n₁ e₁ (m e₂) (m z₂) s₁ (m s₂) ++ back r₁ (m r₂) n₁ e₁ (m e₂) (m z₂) s₁ (m s₂)) (members r₁ (m r₂) n₁ e₁ (m e₂) (m z₂) s₁ (m s₂))
+      ∙ (ap (λ (fs : List FindingValue). arranged levels (part o whole begins false before xs ks ++ fs)) back_is
+      ∙ (arranged_apart levels (length xs) (part o whole begins false before xs ks) (m (part o whole false ends later (y ∷ ys) ls)) (lines_at_most (length xs) (part o whole begins false before xs ks) front_low) back_high
+      ∙ ap (λ (ps : List ProblemValue). arranged levels (part o whole begins false before xs ks) ++ ps) (arranged_moved levels (length xs) (part o whole false ends later (y ∷ ys) ls)))))
+
+-- ---- a list of problems, patched
+
+prefix_by : (p : ProblemValue → Bool) (xs ys : List ProblemValue) → AllByRecursion (λ x. p x ≡ true) xs → AllByRecursion (λ x. p x ≡ false) ys → prefix_len p (xs ++ ys) ≡ length xs
+prefix_by p [] [] h k = refl
+prefix_by p [] (y ∷ ys) h k = ap (λ b. cond b (1 + prefix_len p ys) 0) k.0
+prefix_by p (x ∷ xs) ys h k = ap (λ b. cond b (1 + prefix_len p (xs ++ ys)) 0) h.0 ∙ omega (arith, prefix_by p xs ys h.1 k)
+
+take_front : {X : Type 0} (xs ys : List X) → take (length xs) (xs ++ ys) ≡ xs
+take_front xs ys = same_lists _ _ (search (rules, places)) (λ k d h. grind (arith, places))
+
+drop_front : {X : Type 0} (xs ys : List X) → drop (length xs) (xs ++ ys) ≡ ys
+drop_front xs ys = same_lists _ _ (search (rules, places)) (λ k d h. grind (arith, places))
+
+abbrev InLines : ℕ → ℕ → List ProblemValue → Type 0
+InLines low high ps = AllByRecursion (λ p. (low < p.line) × (p.line ≤ high)) ps
+
+abbrev Above : ℕ → List ProblemValue → Type 0
+Above n ps = AllByRecursion (λ p. n < p.line) ps
+
+upto_true : (n low high : ℕ) (ps : List ProblemValue) → high ≤ n → InLines low high ps → AllByRecursion (λ p. is_upto n p ≡ true) ps
+upto_true n low high [] l h = tt
+upto_true n low high (p ∷ ps) l h = (le-leb p.line n (omega (arith, l, h.0.1)), upto_true n low high ps l h.1)
+
+upto_false : (n m : ℕ) (ps : List ProblemValue) → n ≤ m → Above m ps → AllByRecursion (λ p. is_upto n p ≡ false) ps
+upto_false n m [] l h = tt
+upto_false n m (p ∷ ps) l h = (lt-leb p.line n (omega (arith, l, h.0)), upto_false n m ps l h.1)
+
+above_both : (n : ℕ) (ps qs : List ProblemValue) → Above n ps → Above n qs → Above n (ps ++ qs)
+above_both n [] qs h k = k
+above_both n (p ∷ ps) qs h k = (h.0, above_both n ps qs h.1 k)
+
+in_both : (low high : ℕ) (ps qs : List ProblemValue) → InLines low high ps → InLines low high qs → InLines low high (ps ++ qs)
+in_both low high [] qs h k = k
+in_both low high (p ∷ ps) qs h k = (h.0, in_both low high ps qs h.1 k)
+
+above_lower : (n : ℕ) (ps : List ProblemValue) → Above 0 ps → Above n (map (lower n) ps)
+above_lower n [] h = tt
+above_lower n (p ∷ ps) h = (omega (arith, h.0), above_lower n ps h.1)
+
+above_low : (n high : ℕ) (ps : List ProblemValue) → InLines n high ps → Above n ps
+above_low n high [] h = tt
+above_low n high (p ∷ ps) h = (h.0.0, above_low n high ps h.1)
+
+in_lower : (n low high : ℕ) (ps : List ProblemValue) → InLines low high ps → InLines (n + low) (n + high) (map (lower n) ps)
+in_lower n low high [] h = tt
+in_lower n low high (p ∷ ps) h = ((omega (arith, h.0.0), omega (arith, h.0.1)), in_lower n low high ps h.1)
+
+in_wider : (low high low' high' : ℕ) (ps : List ProblemValue) → low' ≤ low → high ≤ high' → InLines low high ps → InLines low' high' ps
+in_wider low high low' high' [] l h b = tt
+in_wider low high low' high' (p ∷ ps) l h b = ((omega (arith, l, b.0.0), omega (arith, h, b.0.1)), in_wider low high low' high' ps l h b.1)
+
+same_problem : (up down n m line : ℕ) (p : ProblemValue) → up ≡ n + m → down ≡ n + line → shifted up down (lower n (lower m p)) ≡ lower n (lower line p)
+same_problem up down n m line p e d =
+    let l : n + (m + p.line) - up + down ≡ n + (line + p.line) = omega (arith, e, d) in
+    λ i. record { line = l i; column = p.column; level = p.level; rule = p.rule; message = p.message }
+
+shift_back : (up down n m line : ℕ) (ps : List ProblemValue) → up ≡ n + m → down ≡ n + line → map (shifted up down) (map (lower n) (map (lower m) ps)) ≡ map (lower n) (map (lower line) ps)
+shift_back up down n m line [] e d = refl
+shift_back up down n m line (p ∷ ps) e d =
+    ap (λ (q : ProblemValue). q ∷ map (shifted up down) (map (lower n) (map (lower m) ps))) (same_problem up down n m line p e d)
+    ∙ ap (λ (qs : List ProblemValue). lower n (lower line p) ∷ qs) (shift_back up down n m line ps e d)
+
+-- a report of three parts of n, m and the other lines, of which the second becomes another, of `line` lines
+module _ (a b c b' old new put : List ProblemValue) (n m line i j up down : ℕ)
+    (old_is : old ≡ a ++ map (lower n) (b ++ map (lower m) c)) (new_is : new ≡ a ++ map (lower n) (b' ++ map (lower line) c)) (put_is : put ≡ map (lower n) b')
+    (a_in : InLines 0 n a) (b_in : InLines 0 m b) (c_in : Above 0 c)
+    (i_is : i ≡ prefix_len (is_upto n) old) (j_is : j ≡ prefix_len (is_upto up) old) (up_is : up ≡ n + m) (down_is : down ≡ n + line) where
+  abbrev middle : List ProblemValue
+  middle = map (lower n) b
+
+  abbrev behind : List ProblemValue
+  behind = map (lower n) (map (lower m) c)
+
+  parted : old ≡ a ++ (middle ++ behind)
+  parted = old_is ∙ ap (λ (ps : List ProblemValue). a ++ ps) (map-append (lower n) b (map (lower m) c))
+
+  middle_in : InLines n up middle
+  middle_in = in_wider (n + 0) (n + m) n up middle (omega arith) (omega (arith, up_is)) (in_lower n 0 m b b_in)
+
+  behind_above : Above up behind
+  behind_above = above_wider (n + m) up behind (omega (arith, up_is)) (above_low_by n m (map (lower m) c) (above_lower m c c_in))
+    where
+      above_wider : (x z : ℕ) (ps : List ProblemValue) → z ≤ x → Above x ps → Above z ps
+      above_wider x z [] l h = tt
+      above_wider x z (p ∷ ps) l h = (omega (arith, l, h.0), above_wider x z ps l h.1)
+
+      above_low_by : (x z : ℕ) (ps : List ProblemValue) → Above z ps → Above (x + z) (map (lower x) ps)
+      above_low_by x z [] h = tt
+      above_low_by x z (p ∷ ps) h = (omega (arith, h.0), above_low_by x z ps h.1)
+
+  above_weaker : (x z : ℕ) (ps : List ProblemValue) → z ≤ x → Above x ps → Above z ps
+  above_weaker x z [] l h = tt
+  above_weaker x z (p ∷ ps) l h = (omega (arith, l, h.0), above_weaker x z ps l h.1)
+
+  front_count : i ≡ length a
+  front_count =
+      i_is ∙ (ap (prefix_len (is_upto n)) parted
+      ∙ prefix_by (is_upto n) a (middle ++ behind) (upto_true n 0 n a (omega arith) a_in)
+      (upto_false n n (middle ++ behind) (omega arith) (above_both n middle behind (above_low n up middle middle_in) (above_weaker up n behind (omega (arith, up_is)) behind_above))))
+
+  parted_back : old ≡ (a ++ middle) ++ behind
+  parted_back = parted ∙ sym (append_assoc a middle behind)
+
+  back_count : j ≡ length (a ++ middle)
+  back_count =
+      j_is ∙ (ap (prefix_len (is_upto up)) parted_back
+      ∙ prefix_by (is_upto up) (a ++ middle) behind
+      (upto_true up 0 up (a ++ middle) (omega arith) (in_both 0 up a middle (in_wider 0 n 0 up a (omega arith) (omega (arith, up_is)) a_in) (in_wider n up 0 up middle (omega arith) (omega arith) middle_in)))
+      (upto_false up up behind (omega arith) behind_above))
+
+  pub patched_so : patched i j put up down old ≡ new
+  patched_so =
+      let front : take i old ≡ a = ap (λ k. take k old) front_count ∙ (ap (take (length a)) parted ∙ take_front a (middle ++ behind)) in
+      let rest : drop j old ≡ behind = ap (λ k. drop k old) back_count ∙ (ap (drop (length (a ++ middle))) parted_back ∙ drop_front (a ++ middle) behind) in
+      ap (λ (ps : List ProblemValue). ps ++ (put ++ map (shifted up down) (drop j old))) front
+      ∙ (ap (λ (ps : List ProblemValue). a ++ (put ++ map (shifted up down) ps)) rest
+      ∙ (ap (λ (ps : List ProblemValue). a ++ (put ++ ps)) (shift_back up down n m line c up_is down_is)
+      ∙ (ap (λ (ps : List ProblemValue). a ++ (ps ++ map (lower n) (map (lower line) c))) put_is
+      ∙ (ap (λ (ps : List ProblemValue). a ++ ps) (sym (map-append (lower n) b' (map (lower line) c))) ∙ sym new_is))))

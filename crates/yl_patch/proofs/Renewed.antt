@@ -1,0 +1,266 @@
+-- The report of an edited text, from that of the old text and what is found in the touched lines.
+use Rattle.std.proofs.Common.{◌≡◌, ℕ, zero, suc, ◌+◌, ◌-◌, ◌<◌, ◌≤◌, ◌==◌, Bool, true, false, List, [], ◌∷◌, ◌++◌, length, map, take, drop, Option, Some, None, refl, ap, sym, subst, ◌∙◌, arith, rules, append_assoc, length-append, not}
+use Rattle.std.specs.List.{AllByRecursion, splice, slice_get, prefix_len}
+use Rattle.std.proofs.lemmas.List.{same_lists, places, take-append-drop, length-take-le, length-drop}
+use Rattle.yl_text.specs.Finding.{FindingValue}
+use Rattle.yl_text.specs.Lines.{RowValue}
+use Rattle.yl_text.specs.declared.position.Pos.{Pos}
+use Rattle.yl_rules.specs.EmptyLines.{empty_lines}
+use Rattle.yl_rules.specs.NewLines.{new_lines}
+use Rattle.yl_rules.specs.EndOfFile.{end_of_file}
+use Rattle.yl_rules.specs.Runs.{run_findings}
+use Rattle.yl_rules.specs.Levels.{LevelTable}
+use Rattle.yl_indentation.specs.declared.measure.Measure.{Measure}
+use Rattle.yl_indentation.specs.Measures.{and_later, empty_measure}
+use Rattle.yl_settings.specs.declared.options.RuleOptions.{RuleOptions}
+use Rattle.yl_config.specs.declared.config.Config.{Config}
+use Rattle.yl_config.specs.Config.{levels_of, options_of}
+use Rattle.yl_report.specs.Directive.{disables_file, is_silenced}
+use Rattle.yl_report.specs.Report.{ProblemValue, report_of}
+use Rattle.yl_sections.specs.Kept.{KeptValue}
+use Rattle.yl_lint.specs.TextReport.{findings_from, findings_in_lines, findings_in_sections, facts_in_sections, fault_in_sections, comments_in_sections, shown, first_text, end_of_lines, kept_of_text, report, report_of_kept}
+use Rattle.yl_patch.specs.Cut.{IsInner, is_filled}
+use Rattle.yl_patch.specs.Patched.{is_upto, patched, shifted}
+use Rattle.yl_patch.specs.Plain.{IsPlain, row_sum}
+use Rattle.yl_patch.specs.There.{found_there}
+use Rattle.yl_patch.specs.declared.touched.Touched.{Touched}
+use Rattle.yl_patch.proofs.Arranged.{arranged, arranged_lines, lower, nothing_silenced}
+use Rattle.yl_patch.proofs.Parts.{part, part_between, parts_apart, patched_so}
+use Rattle.yl_patch.proofs.Sections.{measured, measured_both, no_comments, no_fault, plain_back, plain_both, plain_front, shown_plain}
+
+-- ---- the report of plain sections
+
+module _ (config : Config) (first : List ℕ) (end : Pos) (rows : List RowValue) (ks : List KeptValue) (plain : AllByRecursion IsPlain ks) (loud : disables_file first ≡ false) where
+  abbrev o : RuleOptions
+  o = options_of config
+
+  abbrev found : List KeptValue → List FindingValue → List FindingValue
+  found seen faults = findings_in_lines o rows ++ (faults ++ findings_in_sections o.indentation (measured seen) 0 empty_measure seen)
+
+  whole_part : found ks [] ≡ part o (measured ks) true true empty_measure rows ks
+  whole_part =
+      let r = findings_from o.row 1 rows in
+      let n = new_lines o.run.new_line rows in
+      let e = empty_lines o.run.empty_lines rows in
+      let z = end_of_file rows in
+      let s = findings_in_sections o.indentation (measured ks) 0 empty_measure ks in
+      append_assoc r (n ++ (e ++ z)) s ∙ ap (λ (fs : List FindingValue). r ++ fs) (append_assoc n (e ++ z) s ∙ ap (λ (fs : List FindingValue). n ++ fs) (append_assoc e z s))
+
+  plain_report : report_of_kept config (findings_in_lines o rows) first end ks ≡ arranged (levels_of config) (part o (measured ks) true true empty_measure rows ks)
+  unfolding report_of_kept
+  plain_report =
+      ap (λ (b : Bool). report_of (levels_of config) b (is_silenced (comments_in_sections 0 (shown ks))) (found (shown ks) (fault_in_sections 0 end ks))) loud
+      ∙ (ap (λ (seen : List KeptValue). report_of (levels_of config) false (is_silenced (comments_in_sections 0 seen)) (found seen (fault_in_sections 0 end ks))) (shown_plain ks plain)
+      ∙ (ap (λ cs. report_of (levels_of config) false (is_silenced cs) (found ks (fault_in_sections 0 end ks))) (no_comments 0 ks plain)
+      ∙ (ap (λ (fs : List FindingValue). arranged (levels_of config) (found ks fs)) (no_fault 0 end ks plain) ∙ ap (arranged (levels_of config)) whole_part)))
+
+report_is : (config : Config) (rows : List RowValue) (ks : List KeptValue) → ks ≡ kept_of_text config rows → AllByRecursion IsPlain ks → disables_file (first_text rows) ≡ false
+    → report config rows ≡ arranged (levels_of config) (part (options_of config) (measured ks) true true empty_measure rows ks)
+unfolding report
+report_is config rows ks e plain loud =
+    ap (λ (ls : List KeptValue). report_of_kept config (findings_in_lines (options_of config) rows) (first_text rows) (end_of_lines rows) ls) (sym e)
+    ∙ plain_report config (first_text rows) (end_of_lines rows) rows ks plain loud
+
+-- ---- three parts, of which the second becomes another
+
+module _ (levels : LevelTable) (o : RuleOptions) (x p r : RowValue) (xs ps rs : List RowValue) (ks ls ms : List KeptValue) (whole : Measure)
+    (plain : AllByRecursion IsPlain ks) (plain' : AllByRecursion IsPlain ls) (plain'' : AllByRecursion IsPlain ms)
+    (fit : row_sum ks ≡ length (x ∷ xs)) (fit' : row_sum ls ≡ length (p ∷ ps)) (some : (length p.text == 0) ≡ false) (some' : (length r.text == 0) ≡ false) where
+  abbrev front : List ProblemValue
+  front = arranged levels (part o whole true false empty_measure (x ∷ xs) ks)
+
+  abbrev middle : List ProblemValue
+  middle = arranged levels (part o whole false false (measured ks) (p ∷ ps) ls)
+
+  abbrev behind : Measure → List ProblemValue
+  behind before = arranged levels (part o whole false true before (r ∷ rs) ms)
+
+  three_parts : arranged levels (part o whole true true empty_measure ((x ∷ xs) ++ ((p ∷ ps) ++ r ∷ rs)) (ks ++ (ls ++ ms)))
+      ≡ front ++ map (lower (length (x ∷ xs))) (middle ++ map (lower (length (p ∷ ps))) (behind (and_later (measured ks) (measured ls))))
+  three_parts =
+      parts_apart levels o whole true true empty_measure (x ∷ xs) (ps ++ r ∷ rs) p ks (ls ++ ms) plain (plain_both ls ms plain' plain'') fit some refl
+      ∙ ap (λ (qs : List ProblemValue). front ++ map (lower (length (x ∷ xs))) qs) (parts_apart levels o whole false true (measured ks) (p ∷ ps) rs r ls ms plain' plain'' fit' some' refl)
+
+  in_front_lines : AllByRecursion (λ q. (0 < q.line) × (q.line ≤ length (x ∷ xs))) front
+  in_front_lines = arranged_lines (λ l. (0 < l) × (l ≤ length (x ∷ xs))) levels (part o whole true false empty_measure (x ∷ xs) ks) (part_between o whole true false empty_measure (x ∷ xs) ks (length (x ∷ xs)) plain (omega arith) (omega (arith, fit)))
+
+  in_middle_lines : AllByRecursion (λ q. (0 < q.line) × (q.line ≤ length (p ∷ ps))) middle
+  in_middle_lines = arranged_lines (λ l. (0 < l) × (l ≤ length (p ∷ ps))) levels (part o whole false false (measured ks) (p ∷ ps) ls) (part_between o whole false false (measured ks) (p ∷ ps) ls (length (p ∷ ps)) plain' (omega arith) (omega (arith, fit')))
+
+  in_back_lines : (before : Measure) → AllByRecursion (λ q. 0 < q.line) (behind before)
+  in_back_lines before =
+      let high = length (r ∷ rs) + row_sum ms in
+      let fs = part o whole false true before (r ∷ rs) ms in
+      arranged_lines (λ l. 0 < l) levels fs (firsts 0 high fs (part_between o whole false true before (r ∷ rs) ms high plain'' (omega arith) (omega arith)))
+    where
+      firsts : (low high : ℕ) (fs : List FindingValue) → AllByRecursion (λ f. (low < f.line) × (f.line ≤ high)) fs → AllByRecursion (λ f. low < f.line) fs
+      firsts low high [] h = tt
+      firsts low high (f ∷ fs) h = (h.0.0, firsts low high fs h.1)
+
+found_is_part : (o : RuleOptions) (whole before : Measure) (rows : List RowValue) (ks : List KeptValue) → found_there o whole before rows ks ≡ part o whole false false before rows ks
+found_is_part o whole before rows ks = append_assoc (findings_from o.row 1 rows) (empty_lines o.run.empty_lines rows) (findings_in_sections o.indentation whole 0 before ks)
+
+same_lower : (n : ℕ) (ps : List ProblemValue) → map (shifted 0 n) ps ≡ map (lower n) ps
+same_lower n [] = refl
+same_lower n (p ∷ ps) = ap (λ (q : ProblemValue). q ∷ map (shifted 0 n) ps) one ∙ ap (λ (qs : List ProblemValue). lower n p ∷ qs) (same_lower n ps)
+  where
+    line : p.line - 0 + n ≡ n + p.line
+    line = omega arith
+
+    one : shifted 0 n p ≡ lower n p
+    one = λ i. record { line = line i; column = p.column; level = p.level; rule = p.rule; message = p.message }
+
+not_empty : (b : Bool) → not b ≡ true → b ≡ false
+not_empty true h = sym h
+not_empty false h = refl
+
+-- a text of three parts, the second of which becomes another
+module _ (config : Config) (ks ls news ms : List KeptValue) (plain : AllByRecursion IsPlain ks) (plain' : AllByRecursion IsPlain ls) (plainₙ : AllByRecursion IsPlain news) (plain'' : AllByRecursion IsPlain ms)
+    (same : measured ls ≡ measured news) where
+  abbrev opts : RuleOptions
+  opts = options_of config
+
+  abbrev wholly : Measure
+  wholly = measured (ks ++ (ls ++ ms))
+
+  abbrev levels : LevelTable
+  levels = levels_of config
+
+  same_whole : measured (ks ++ (news ++ ms)) ≡ wholly
+  same_whole =
+      measured_both ks (news ++ ms)
+      ∙ (ap (λ (m : Measure). and_later (measured ks) m) (measured_both news ms ∙ (ap (λ (m : Measure). and_later m (measured ms)) (sym same) ∙ sym (measured_both ls ms))) ∙ sym (measured_both ks (ls ++ ms)))
+
+  renewed_parts : (fs ps qs bs : List RowValue) → row_sum ks ≡ length fs → row_sum ls ≡ length ps → row_sum news ≡ length qs
+      → 0 < length fs → is_filled (slice_get ps 0) ≡ true → is_filled (slice_get qs 0) ≡ true → is_filled (slice_get bs 0) ≡ true
+      → ks ++ (ls ++ ms) ≡ kept_of_text config (fs ++ (ps ++ bs)) → ks ++ (news ++ ms) ≡ kept_of_text config (fs ++ (qs ++ bs)) → disables_file (first_text (fs ++ (ps ++ bs))) ≡ false
+      → (i j up down : ℕ) (put old : List ProblemValue) → old ≡ report config (fs ++ (ps ++ bs)) → i ≡ prefix_len (is_upto (length fs)) old → j ≡ prefix_len (is_upto up) old → up ≡ length fs + length ps → down ≡ length fs + length qs
+      → put ≡ map (shifted 0 (length fs)) (arranged levels (found_there opts wholly (measured ks) qs news))
+      → patched i j put up down old ≡ report config (fs ++ (qs ++ bs))
+  renewed_parts [] ps qs bs f g h some _ _ _ _ _ _ _ _ _ _ _ _ _ _ _ _ _ _ = absurd (omega (arith, some))
+  renewed_parts (x ∷ xs) [] qs bs f g h some s _ _ _ _ _ _ _ _ _ _ _ _ _ _ _ _ _ = absurd (cc)
+  renewed_parts (x ∷ xs) (p ∷ ps) [] bs f g h some s t _ _ _ _ _ _ _ _ _ _ _ _ _ _ _ _ = absurd (cc)
+  renewed_parts (x ∷ xs) (p ∷ ps) (q ∷ qs) [] f g h some s t u _ _ _ _ _ _ _ _ _ _ _ _ _ _ _ = absurd (cc)
+  renewed_parts (x ∷ xs) (p ∷ ps) (q ∷ qs) (r ∷ rs) f g h some s t u is is' loud i j up down put old old_is i_is j_is up_is down_is put_is =
+      let all = plain_both ks (ls ++ ms) plain (plain_both ls ms plain' plain'') in
+      let all' = plain_both ks (news ++ ms) plain (plain_both news ms plainₙ plain'') in
+      let sp = not_empty (length p.text == 0) s in
+      let sq = not_empty (length q.text == 0) t in
+      let sr = not_empty (length r.text == 0) u in
+      let a = front levels opts x p r xs ps rs ks ls ms wholly plain plain' plain'' f g sp sr in
+      let b = middle levels opts x p r xs ps rs ks ls ms wholly plain plain' plain'' f g sp sr in
+      let c = behind levels opts x p r xs ps rs ks ls ms wholly plain plain' plain'' f g sp sr (and_later (measured ks) (measured ls)) in
+      let b' = middle levels opts x q r xs qs rs ks news ms wholly plain plainₙ plain'' f h sq sr in
+      let old_parts = report_is config ((x ∷ xs) ++ ((p ∷ ps) ++ r ∷ rs)) (ks ++ (ls ++ ms)) is all loud ∙ three_parts levels opts x p r xs ps rs ks ls ms wholly plain plain' plain'' f g sp sr in
+      let new_rows = (x ∷ xs) ++ ((q ∷ qs) ++ r ∷ rs) in
+      let new_parts =
+      report_is config new_rows (ks ++ (news ++ ms)) is' all' loud
+      ∙ (ap (λ (m : Measure). arranged levels (part opts m true true empty_measure new_rows (ks ++ (news ++ ms)))) same_whole
+      ∙ (three_parts levels opts x q r xs qs rs ks news ms wholly plain plainₙ plain'' f h sq sr
+      ∙ ap (λ (m : Measure). a ++ map (lower (length (x ∷ xs))) (b' ++ map (lower (length (q ∷ qs))) (behind levels opts x q r xs qs rs ks news ms wholly plain plainₙ plain'' f h sq sr (and_later (measured ks) m)))) (sym same))) in
+      patched_so a b c b' old (report config new_rows) put (length (x ∷ xs)) (length (p ∷ ps)) (length (q ∷ qs)) i j up down (old_is ∙ old_parts) new_parts
+      (put_is ∙ (same_lower (length (x ∷ xs)) _ ∙ ap (λ (fs : List FindingValue). map (lower (length (x ∷ xs))) (arranged levels fs)) (found_is_part opts wholly (measured ks) (q ∷ qs) news)))
+      (in_front_lines levels opts x p r xs ps rs ks ls ms wholly plain plain' plain'' f g sp sr)
+      (in_middle_lines levels opts x p r xs ps rs ks ls ms wholly plain plain' plain'' f g sp sr)
+      (in_back_lines levels opts x p r xs ps rs ks ls ms wholly plain plain' plain'' f g sp sr (and_later (measured ks) (measured ls)))
+      i_is j_is up_is down_is
+
+-- ---- an edit
+
+-- a line at the head of what is left
+head_dropped : (rows : List RowValue) (i : ℕ) → slice_get (drop i rows) 0 ≡ slice_get rows i
+head_dropped rows zero = refl
+head_dropped [] (suc i) = refl
+head_dropped (r ∷ rs) (suc i) = head_dropped rs i
+
+head_taken : (rows : List RowValue) (n : ℕ) → 0 < n → slice_get (take n rows) 0 ≡ slice_get rows 0
+head_taken rows zero l = absurd (omega (arith, l))
+head_taken [] (suc n) l = refl
+head_taken (r ∷ rs) (suc n) l = refl
+
+filled_there : (rows : List RowValue) (i n : ℕ) → 0 < n → is_filled (slice_get rows i) ≡ true → is_filled (slice_get (take n (drop i rows)) 0) ≡ true
+filled_there rows i n l h = ap is_filled (head_taken (drop i rows) n l ∙ head_dropped rows i) ∙ h
+
+three : {X : Type 0} (xs : List X) (i j : ℕ) → i ≤ j → j ≤ length xs → xs ≡ take i xs ++ (take (j - i) (drop i xs) ++ drop j xs)
+three xs i j l h = same_lists _ _ (search (rules, places)) (λ n d m. grind (arith, places))
+
+spliced_front : {X : Type 0} (xs ns : List X) (a b i : ℕ) → a ≤ b → b ≤ length xs → i ≤ a → take i (splice xs a b ns) ≡ take i xs
+spliced_front xs ns a b i l h e = same_lists _ _ (search (rules, places)) (λ n d m. grind (arith, places))
+
+spliced_back : {X : Type 0} (xs ns : List X) (a b i j : ℕ) → a ≤ b → b ≤ i → i ≤ length xs → j + b ≡ i + a + length ns → drop j (splice xs a b ns) ≡ drop i xs
+spliced_back xs ns a b i j l h m e = same_lists _ _ (search (rules, places)) (λ n d o. grind (arith, places))
+
+pub spliced_length : {X : Type 0} (xs ns : List X) (a b : ℕ) → a ≤ b → b ≤ length xs → length (splice xs a b ns) + b ≡ length xs + a + length ns
+spliced_length xs ns a b l h = grind (arith, places)
+
+spliced_three : {X : Type 0} (xs ns : List X) (a b i j k : ℕ) → a ≤ b → b ≤ j → j ≤ length xs → i ≤ a → i ≤ k → k + b ≡ j + a + length ns
+    → splice xs a b ns ≡ take i xs ++ (take (k - i) (drop i (splice xs a b ns)) ++ drop j xs)
+spliced_three xs ns a b i j k l h m f g e =
+    let n : length (splice xs a b ns) + b ≡ length xs + a + length ns = spliced_length xs ns a b l (omega (arith, h, m)) in
+    three (splice xs a b ns) i k g (omega (arith, n, e, m))
+    ∙ (ap (λ ys. ys ++ (take (k - i) (drop i (splice xs a b ns)) ++ drop k (splice xs a b ns))) (spliced_front xs ns a b i l (omega (arith, h, m)) f)
+    ∙ ap (λ ys. take i xs ++ (take (k - i) (drop i (splice xs a b ns)) ++ ys)) (spliced_back xs ns a b j k l h m e))
+
+module _ (config : Config) (rows ins : List RowValue) (kept new : List KeptValue) (a b from end : ℕ) (t : Touched)
+    (ordered : a ≤ b) (within : from ≤ end) (within' : end ≤ length kept) (inner : IsInner t a b (length ins) (length rows)) where
+  abbrev rows' : List RowValue
+  rows' = splice rows a b ins
+
+  abbrev ks : List KeptValue
+  ks = take from kept
+
+  abbrev ls : List KeptValue
+  ls = take (end - from) (drop from kept)
+
+  abbrev ms : List KeptValue
+  ms = drop end kept
+
+  abbrev fs : List RowValue
+  fs = take t.first rows
+
+  abbrev ps : List RowValue
+  ps = take (t.old_end - t.first) (drop t.first rows)
+
+  abbrev qs : List RowValue
+  qs = take (t.new_end - t.first) (drop t.first rows')
+
+  abbrev bs : List RowValue
+  bs = drop t.old_end rows
+
+  rows_three : rows ≡ fs ++ (ps ++ bs)
+  rows_three = three rows t.first t.old_end (omega (arith, inner.old_some)) (omega (arith, inner.back))
+
+  rows_three' : rows' ≡ fs ++ (qs ++ bs)
+  rows_three' = spliced_three rows ins a b t.first t.old_end t.new_end ordered inner.ends (omega (arith, inner.back)) inner.begins (omega (arith, inner.new_some)) inner.fits
+
+  kept_three : kept ≡ ks ++ (ls ++ ms)
+  kept_three = three kept from end within within'
+
+  fs_length : length fs ≡ t.first
+  fs_length = length-take-le t.first rows (omega (arith, inner.back, inner.old_some))
+
+  ps_length : length ps ≡ t.old_end - t.first
+  ps_length = length-take-le (t.old_end - t.first) (drop t.first rows) (omega (arith, inner.back, inner.old_some, length-drop t.first rows))
+
+  qs_length : length qs ≡ t.new_end - t.first
+  qs_length =
+      length-take-le (t.new_end - t.first) (drop t.first rows')
+      (omega (arith, inner.back, inner.fits, inner.new_some, inner.old_some, length-drop t.first rows', spliced_length rows ins a b ordered (omega (arith, inner.ends, inner.back))))
+
+  pub report_renewed : kept ≡ kept_of_text config rows → splice kept from end new ≡ kept_of_text config rows' → AllByRecursion IsPlain kept → AllByRecursion IsPlain new → disables_file (first_text rows) ≡ false
+      → t.first ≡ row_sum ks → t.old_end ≡ t.first + row_sum ls → t.new_end ≡ t.first + row_sum new
+      → is_filled (slice_get rows t.first) ≡ true → is_filled (slice_get rows' t.first) ≡ true → is_filled (slice_get rows t.old_end) ≡ true → measured ls ≡ measured new
+      → (i j : ℕ) (put old : List ProblemValue) → old ≡ report config rows → i ≡ prefix_len (is_upto t.first) old → j ≡ prefix_len (is_upto t.old_end) old
+      → put ≡ map (shifted 0 t.first) (arranged (levels_of config) (found_there (options_of config) (measured kept) (measured ks) qs new))
+      → patched i j put t.old_end t.new_end old ≡ report config rows'
+  report_renewed is is' plain plainₙ loud first old_end new_end filled filled' filled'' same i j put old old_is i_is j_is put_is =
+      let split = subst (λ xs. AllByRecursion IsPlain xs) kept_three plain in
+      let rest = plain_back ks (ls ++ ms) split in
+      renewed_parts config ks ls new ms (plain_front ks (ls ++ ms) split) (plain_front ls ms rest) plainₙ (plain_back ls ms rest) same fs ps qs bs
+      (omega (arith, first, fs_length)) (omega (arith, old_end, ps_length)) (omega (arith, new_end, qs_length)) (omega (arith, fs_length, inner.front))
+      (filled_there rows t.first (t.old_end - t.first) (omega (arith, inner.old_some)) filled) (filled_there rows' t.first (t.new_end - t.first) (omega (arith, inner.new_some)) filled')
+      (ap is_filled (head_dropped rows t.old_end) ∙ filled'') (sym kept_three ∙ (is ∙ ap (kept_of_text config) rows_three)) (is' ∙ ap (kept_of_text config) rows_three') (ap (λ xs. disables_file (first_text xs)) (sym rows_three) ∙ loud)
+      i j t.old_end t.new_end put old (old_is ∙ ap (report config) rows_three) (i_is ∙ ap (λ n. prefix_len (is_upto n) old) (sym fs_length)) j_is (omega (arith, fs_length, ps_length, inner.old_some)) (omega (arith, fs_length, qs_length, inner.new_some))
+      (put_is ∙ (ap (λ n. map (shifted 0 n) (arranged (levels_of config) (found_there (options_of config) (measured kept) (measured ks) qs new))) (sym fs_length)
+      ∙ ap (λ xs. map (shifted 0 (length fs)) (arranged (levels_of config) (found_there (options_of config) (measured xs) (measured ks) qs new))) kept_three))
+      ∙ ap (report config) (sym rows_three')

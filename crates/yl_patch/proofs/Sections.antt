@@ -1,0 +1,167 @@
+-- What is found in sections one after another: each part by itself, behind the measure of the parts before it.
+use Rattle.std.proofs.Common.{◌≡◌, ℕ, ◌+◌, ◌<◌, ◌≤◌, Bool, true, false, List, [], ◌∷◌, ◌++◌, map, Option, Some, None, refl, ap, sym, ◌∙◌, arith, append_assoc, if◌then◌else◌}
+use Rattle.std.specs.List.{AllByRecursion, flat_map}
+use Rattle.std.proofs.lemmas.List.{map-append}
+use Rattle.yl_text.specs.declared.position.Pos.{Pos}
+use Rattle.yl_text.specs.declared.finding.RuleId.{RuleId}
+use Rattle.yl_text.specs.Finding.{FindingValue, one_finding}
+use Rattle.yl_lexeme.specs.Lexeme.{PlacedCommentValue}
+use Rattle.yl_indentation.specs.declared.fact.Expectation.{Expectation}
+use Rattle.yl_indentation.specs.declared.fact.Expectation.TheVariants.{At, Beyond, EntryIn}
+use Rattle.yl_indentation.specs.declared.fact.Fact.{Fact}
+use Rattle.yl_indentation.specs.declared.measure.Measure.{Measure}
+use Rattle.yl_indentation.specs.declared.options.IndentationOptions.{IndentationOptions}
+use Rattle.yl_indentation.specs.declared.options.IndentSequences.{IndentSequences}
+use Rattle.yl_indentation.specs.Measures.{empty_measure, and_later, first, measure_at, measure_of, is_flush}
+use Rattle.yl_indentation.specs.Problems.{finding_at, finding_by, finding_by_width, indent_problems, is_indented, not_as_expected, not_beyond, indentation_width}
+use Rattle.yl_indentation.proofs.Measured.{and_later_assoc, measure_is_local}
+use Rattle.yl_sections.specs.Kept.{KeptValue, SectionFaultValue}
+use Rattle.yl_lint.specs.TextReport.{moved, shown, unless_fault, fault_or_later, fault_in_sections, comments_in_sections, moved_comment, findings_in_section, findings_in_sections, facts_in_sections}
+use Rattle.yl_patch.specs.Plain.{IsPlain, row_sum}
+use Rattle.yl_patch.proofs.Lines.{Between, between_both}
+
+-- ---- sections that have no fault and silence nothing
+
+pub shown_plain : (ks : List KeptValue) → AllByRecursion IsPlain ks → shown ks ≡ ks
+shown_plain [] h = refl
+shown_plain (k ∷ ks) h = ap (λ (f : Option SectionFaultValue). k ∷ unless_fault f (shown ks)) h.0.sound ∙ ap (λ (ls : List KeptValue). k ∷ ls) (shown_plain ks h.1)
+
+pub no_fault : (line : ℕ) (end : Pos) (ks : List KeptValue) → AllByRecursion IsPlain ks → fault_in_sections line end ks ≡ []
+no_fault line end [] h = refl
+no_fault line end (k ∷ ks) h = ap (λ (f : Option SectionFaultValue). fault_or_later line k.rows end ks f (fault_in_sections (line + k.rows) end ks)) h.0.sound ∙ no_fault (line + k.rows) end ks h.1
+
+pub no_comments : (line : ℕ) (ks : List KeptValue) → AllByRecursion IsPlain ks → comments_in_sections line ks ≡ []
+no_comments line [] h = refl
+no_comments line (k ∷ ks) h =
+    ap (λ (cs : List PlacedCommentValue). map (moved_comment line) cs ++ comments_in_sections (line + k.rows) ks) h.0.silent ∙ no_comments (line + k.rows) ks h.1
+
+pub plain_both : (ks ls : List KeptValue) → AllByRecursion IsPlain ks → AllByRecursion IsPlain ls → AllByRecursion IsPlain (ks ++ ls)
+plain_both [] ls h g = g
+plain_both (k ∷ ks) ls h g = (h.0, plain_both ks ls h.1 g)
+
+pub plain_front : (ks ls : List KeptValue) → AllByRecursion IsPlain (ks ++ ls) → AllByRecursion IsPlain ks
+plain_front [] ls h = tt
+plain_front (k ∷ ks) ls h = (h.0, plain_front ks ls h.1)
+
+pub plain_back : (ks ls : List KeptValue) → AllByRecursion IsPlain (ks ++ ls) → AllByRecursion IsPlain ls
+plain_back [] ls h = h
+plain_back (k ∷ ks) ls h = plain_back ks ls h.1
+
+-- ---- measures
+
+pub facts_both : (ks ls : List KeptValue) → facts_in_sections (ks ++ ls) ≡ facts_in_sections ks ++ facts_in_sections ls
+facts_both [] ls = refl
+facts_both (k ∷ ks) ls = ap (λ (fs : List Fact). k.facts ++ fs) (facts_both ks ls) ∙ sym (append_assoc k.facts (facts_in_sections ks) (facts_in_sections ls))
+
+abbrev pub measured : List KeptValue → Measure
+measured ks = measure_of (facts_in_sections ks)
+
+pub measured_both : (ks ls : List KeptValue) → measured (ks ++ ls) ≡ and_later (measured ks) (measured ls)
+measured_both ks ls = ap measure_of (facts_both ks ls) ∙ measure_is_local (facts_in_sections ks) (facts_in_sections ls)
+
+-- ---- parts
+
+same_place : (n line there : ℕ) (f : FindingValue) → there ≡ n + line → moved there f ≡ moved n (moved line f)
+same_place n line there f e =
+    let l : there + f.line ≡ n + (line + f.line) = omega (arith, e) in
+    λ i. record { line = l i; column = f.column; rule = f.rule; message = f.message }
+
+all_moved : (n line there : ℕ) (fs : List FindingValue) → there ≡ n + line → map (moved there) fs ≡ map (moved n) (map (moved line) fs)
+all_moved n line there [] e = refl
+all_moved n line there (f ∷ fs) e =
+    ap (λ (g : FindingValue). g ∷ map (moved there) fs) (same_place n line there f e) ∙ ap (λ (gs : List FindingValue). moved n (moved line f) ∷ gs) (all_moved n line there fs e)
+
+sections_moved : (o : IndentationOptions) (whole before : Measure) (n line there : ℕ) (ks : List KeptValue) → there ≡ n + line
+    → findings_in_sections o whole there before ks ≡ map (moved n) (findings_in_sections o whole line before ks)
+sections_moved o whole before n line there [] e = refl
+sections_moved o whole before n line there (k ∷ ks) e =
+    let later = and_later before (measure_of k.facts) in
+    ap (λ (fs : List FindingValue). findings_in_section o whole there before k ++ fs) (sections_moved o whole later n (line + k.rows) (there + k.rows) ks (omega (arith, e)))
+    ∙ (ap (λ (fs : List FindingValue). fs ++ map (moved n) (findings_in_sections o whole (line + k.rows) later ks)) (all_moved n line there (k.found ++ indent_problems o before whole k.facts) e)
+    ∙ sym (map-append (moved n) (findings_in_section o whole line before k) (findings_in_sections o whole (line + k.rows) later ks)))
+
+sections_both : (o : IndentationOptions) (whole before : Measure) (line there : ℕ) (ks ls : List KeptValue) → there ≡ line + row_sum ks
+    → findings_in_sections o whole line before (ks ++ ls) ≡ findings_in_sections o whole line before ks ++ findings_in_sections o whole there (and_later before (measured ks)) ls
+sections_both o whole before line there [] ls e =
+    ap (λ k. findings_in_sections o whole k before ls) (omega (arith, e)) ∙ ap (λ (m : Measure). findings_in_sections o whole there m ls) (sym (unknown before))
+  where
+    known : {X : Type 0} (o : Option X) → first o None ≡ o
+    known None = refl
+    known (Some x) = refl
+
+    unknown : (m : Measure) → and_later m empty_measure ≡ m
+    unknown m = λ i. record { step = known m.step i; step_with_entries = known m.step_with_entries i; flush = known m.flush i }
+sections_both o whole before line there (k ∷ ks) ls e =
+    let later = and_later before (measure_of k.facts) in
+    let m : and_later later (measured ks) ≡ and_later before (measured (k ∷ ks)) =
+    and_later_assoc before (measure_of k.facts) (measured ks) ∙ ap (and_later before) (sym (measure_is_local k.facts (facts_in_sections ks))) in
+    ap (λ (fs : List FindingValue). findings_in_section o whole line before k ++ fs) (sections_both o whole later (line + k.rows) there ks ls (omega (arith, e)))
+    ∙ (sym (append_assoc (findings_in_section o whole line before k) (findings_in_sections o whole (line + k.rows) later ks) (findings_in_sections o whole there (and_later later (measured ks)) ls))
+    ∙ ap (λ (b : Measure). findings_in_sections o whole line before (k ∷ ks) ++ findings_in_sections o whole there b ls) m)
+
+pub sections_apart : (o : IndentationOptions) (whole before : Measure) (ks ls : List KeptValue)
+    → findings_in_sections o whole 0 before (ks ++ ls) ≡ findings_in_sections o whole 0 before ks ++ map (moved (row_sum ks)) (findings_in_sections o whole 0 (and_later before (measured ks)) ls)
+sections_apart o whole before ks ls =
+    sections_both o whole before 0 (row_sum ks) ks ls (omega arith)
+    ∙ ap (λ (fs : List FindingValue). findings_in_sections o whole 0 before ks ++ fs) (sections_moved o whole (and_later before (measured ks)) (row_sum ks) 0 (row_sum ks) ls (omega arith))
+
+-- ---- the lines of what is found
+
+pub between_wider : (low high low' high' : ℕ) (fs : List FindingValue) → low' ≤ low → high ≤ high' → Between low high fs → Between low' high' fs
+between_wider low high low' high' [] l h b = tt
+between_wider low high low' high' (f ∷ fs) l h b = ((omega (arith, l, b.0.0), omega (arith, h, b.0.1)), between_wider low high low' high' fs l h b.1)
+
+pub between_moved : (n low high : ℕ) (fs : List FindingValue) → Between low high fs → Between (n + low) (n + high) (map (moved n) fs)
+between_moved n low high [] b = tt
+between_moved n low high (f ∷ fs) b = ((omega (arith, b.0.0), omega (arith, b.0.1)), between_moved n low high fs b.1)
+
+-- a problem at a fact's line
+unless_there : (rows line column : ℕ) (r : RuleId) (m : List ℕ) (b : Bool) → line < rows → Between 0 rows (if b then [] else one_finding r (line + 1) column m)
+unless_there rows line column r m true l = tt
+unless_there rows line column r m false l = ((omega arith, omega (arith, l)), tt)
+
+when_there : (rows line column : ℕ) (r : RuleId) (m : List ℕ) (b : Bool) → line < rows → Between 0 rows (if b then one_finding r (line + 1) column m else [])
+when_there rows line column r m true l = ((omega arith, omega (arith, l)), tt)
+when_there rows line column r m false l = tt
+
+by_width : (rows base : ℕ) (w : Option ℕ) (f : Fact) → f.line < rows → Between 0 rows (finding_by_width w base f)
+by_width rows base None f l = when_there rows f.line _ _ _ _ l
+by_width rows base (Some w) f l = unless_there rows f.line _ _ _ _ l
+
+either_there : (rows : ℕ) (b : Bool) (xs ys : List FindingValue) → Between 0 rows xs → Between 0 rows ys → Between 0 rows (if b then xs else ys)
+either_there rows true xs ys h k = h
+either_there rows false xs ys h k = k
+
+by_there : (rows : ℕ) (c : IndentSequences) (flush : Bool) (w : Option ℕ) (f : Fact) (e : Expectation) → f.line < rows → Between 0 rows (finding_by c flush w f e)
+by_there rows c flush w f (At e) l = unless_there rows f.line _ _ _ _ l
+by_there rows c flush w f (Beyond base) l = by_width rows base w f l
+by_there rows c flush w f (EntryIn base) l = either_there rows _ (finding_by_width w base f) (not_as_expected base f) (by_width rows base w f l) (unless_there rows f.line _ _ _ _ l)
+
+indented_there : (rows : ℕ) (o : IndentationOptions) (before whole : Measure) (fs : List Fact) → AllByRecursion (λ f. f.line < rows) fs → Between 0 rows (indent_problems o before whole fs)
+indented_there rows o before whole [] h = tt
+indented_there rows o before whole (f ∷ fs) h =
+    let here = and_later before (measure_at f.column f.expectation) in
+    between_both 0 rows (finding_at o here (is_flush whole) f) (indent_problems o here whole fs) (by_there rows o.indent_sequences (is_flush whole) (indentation_width o here (is_flush whole)) f f.expectation h.0) (indented_there rows o here whole fs h.1)
+
+pub sections_between : (o : IndentationOptions) (whole before : Measure) (line high : ℕ) (ks : List KeptValue) → AllByRecursion IsPlain ks → line + row_sum ks ≤ high → Between line high (findings_in_sections o whole line before ks)
+sections_between o whole before line high [] h l = tt
+sections_between o whole before line high (k ∷ ks) h l =
+    let later = and_later before (measure_of k.facts) in
+    let all = k.found ++ indent_problems o before whole k.facts in
+    between_both line high (findings_in_section o whole line before k) (findings_in_sections o whole (line + k.rows) later ks)
+    (between_wider (line + 0) (line + k.rows) line high (map (moved line) all) (omega arith) (omega (arith, l)) (between_moved line 0 k.rows all (between_both 0 k.rows k.found (indent_problems o before whole k.facts) h.0.found (indented_there k.rows o before whole k.facts h.0.facts))))
+    (between_wider (line + k.rows) high line high (findings_in_sections o whole (line + k.rows) later ks) (omega arith) (omega arith) (sections_between o whole later (line + k.rows) high ks h.1 (omega (arith, l))))
+
+-- ---- a measure that no later fact changes
+
+known_so : {X : Type 0} (a b c : Option X) → first a (first b c) ≡ a → first a b ≡ a
+known_so None None c e = refl
+known_so None (Some x) c e = e
+known_so (Some x) b c e = refl
+
+pub and_later_so : (p q r : Measure) → and_later p (and_later q r) ≡ p → and_later p q ≡ p
+and_later_so p q r e =
+    let a = known_so p.step q.step r.step (ap (λ (m : Measure). m.step) e) in
+    let b = known_so p.step_with_entries q.step_with_entries r.step_with_entries (ap (λ (m : Measure). m.step_with_entries) e) in
+    let c = known_so p.flush q.flush r.flush (ap (λ (m : Measure). m.flush) e) in
+    λ i. record { step = a i; step_with_entries = b i; flush = c i }

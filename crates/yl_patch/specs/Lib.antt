@@ -1,0 +1,4 @@
+pub mod Cut
+pub mod Patched
+pub mod Plain
+pub mod There

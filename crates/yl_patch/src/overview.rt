@@ -1,0 +1,163 @@
+//! What is known of all sections of a text without a walk over them.
+ghost use Rattle.std.specs.Prelude.{◌≡◌, ◌≤◌, ◌-◌, true, length, take, drop};
+ghost use Rattle.std.specs.List.{AllByRecursion, splice};
+ghost use Rattle.yl_text.specs.Store.{IsRange};
+ghost use Rattle.yl_indentation.specs.Measures.{measure_of};
+ghost use Rattle.yl_lint.specs.TextReport.{facts_in_sections};
+ghost use Rattle.yl_patch.specs.Plain.{IsOverviewOf, IsPlain};
+
+use crate::plain::{are_all_plain, are_plain};
+use std::alloc::Allocator;
+use yl_chunks::{Chunks, Spliced};
+use yl_indentation::Measure;
+use yl_sections::Kept;
+
+/// What is known of all sections of a text: where they are plain, so that each has its own part in the report, the measure of them all.
+#[derive(Clone, Copy, Debug)]
+pub struct Overview {
+    pub is_plain: bool,
+    pub whole: Measure,
+}
+
+fn is_same_step(one: Option<u32>, other: Option<u32>) -> bool
+    ensures { result ≡ true → one ≡ other }
+{
+    match (one, other) {
+        (None, None) => true,
+        (Some(m), Some(n)) => m == n,
+        _ => false,
+    }
+}
+
+fn is_same_flush(one: Option<bool>, other: Option<bool>) -> bool
+    ensures { result ≡ true → one ≡ other }
+{
+    match (one, other) {
+        (None, None) => true,
+        (Some(m), Some(n)) => m == n,
+        _ => false,
+    }
+}
+
+/// Whether two measures are the same.
+pub fn is_same_measure(one: Measure, other: Measure) -> bool
+    ensures { result ≡ true → one ≡ other }
+{
+    is_same_step(one.step, other.step)
+        && is_same_step(one.step_with_entries, other.step_with_entries)
+        && is_same_flush(one.flush, other.flush)
+}
+
+/// The measure of the facts of these sections.
+pub fn measure_of<A: Allocator>(kept: &[Kept<A>]) -> Measure
+    ensures { result ≡ measure_of (facts_in_sections kept.now) }
+{
+    let mut measure = Measure::empty();
+    for one in kept {
+        measure = measure.and_later(one.measure());
+    }
+    measure
+}
+
+/// The measure of the facts of all these sections.
+fn measure_of_all<A: Allocator + Copy>(sections: &Spliced<'_, Kept<A>, A>) -> Measure
+    ensures { result ≡ measure_of (facts_in_sections sections.now) }
+{
+    let mut measure = Measure::empty();
+    for i in 0..sections.len() {
+        measure = measure.and_later(sections.get(i).measure());
+    }
+    measure
+}
+
+/// The measure of the facts of the sections from one on, before `end`.
+fn measure_between<A: Allocator + Copy>(
+    kept: &Chunks<Kept<A>, A>,
+    from: usize,
+    end: usize,
+) -> Measure
+    requires { IsRange from end (length kept.now.items) }
+    ensures { result ≡ measure_of (facts_in_sections (take (end - from) (drop from kept.now.items))) }
+{
+    let mut measure = Measure::empty();
+    for i in 0..end - from {
+        measure = measure.and_later(kept.get(from + i).measure());
+    }
+    measure
+}
+
+/// The measure of the facts of the sections before one, where that of all is this. It looks no further once it is found.
+pub fn measure_before<A: Allocator + Copy>(
+    kept: &Chunks<Kept<A>, A>,
+    from: usize,
+    whole: Measure,
+) -> Measure
+    requires range { from ≤ length kept.now.items }
+    requires whole { whole ≡ measure_of (facts_in_sections kept.now.items) }
+    ensures { result ≡ measure_of (facts_in_sections (take from kept.now.items)) }
+{
+    let mut measure = Measure::empty();
+    for i in 0..from {
+        if is_same_measure(measure, whole) {
+            return measure;
+        }
+        measure = measure.and_later(kept.get(i).measure());
+    }
+    measure
+}
+
+/// The overview of these sections.
+pub fn overview_of<A: Allocator>(kept: &[Kept<A>]) -> Overview
+    ensures { IsOverviewOf kept.now result }
+{
+    Overview {
+        is_plain: are_plain(kept),
+        whole: measure_of(kept),
+    }
+}
+
+/// The overview of all sections, once others are kept in place of some.
+pub fn overview_renewed<A: Allocator + Copy>(sections: &Spliced<'_, Kept<A>, A>) -> Overview
+    ensures { IsOverviewOf sections.now result }
+{
+    Overview {
+        is_plain: are_all_plain(sections),
+        whole: measure_of_all(sections),
+    }
+}
+
+/// Whether the new sections are plain and have the measure of those from one on, before `end`.
+pub fn is_alike<A: Allocator + Copy>(
+    kept: &Chunks<Kept<A>, A>,
+    from: usize,
+    end: usize,
+    new: &[Kept<A>],
+) -> bool
+    requires { IsRange from end (length kept.now.items) }
+    ensures plain { result ≡ true → AllByRecursion IsPlain new.now }
+    ensures measure { result ≡ true → measure_of (facts_in_sections (take (end - from) (drop from kept.now.items))) ≡ measure_of (facts_in_sections new.now) }
+{
+    are_plain(new) && is_same_measure(measure_between(kept, from, end), measure_of(new))
+}
+
+/// The overview once this is kept in place of what is kept of the sections from one on, before `end`. It looks at these alone, and
+/// says that sections are plain only where they were.
+pub fn overview_after<A: Allocator + Copy>(
+    overview: Overview,
+    kept: &Chunks<Kept<A>, A>,
+    from: usize,
+    end: usize,
+    new: &[Kept<A>],
+) -> Overview
+    requires range { IsRange from end (length kept.now.items) }
+    requires overview { IsOverviewOf kept.now.items overview }
+    ensures { IsOverviewOf (splice kept.now.items from end new.now) result }
+{
+    if is_alike(kept, from, end, new) {
+        return overview;
+    }
+    Overview {
+        is_plain: false,
+        whole: overview.whole,
+    }
+}

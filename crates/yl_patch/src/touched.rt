@@ -1,0 +1,81 @@
+//! Where in a text the sections stand that an edit touches.
+ghost use Rattle.std.specs.Prelude.{◌≡◌, ◌+◌, ◌<◌, ◌^◌, true, slice_get, IfSome};
+ghost use Rattle.yl_patch.specs.Cut.{IsInner, is_filled};
+ghost use Rattle.yl_patch.specs.Plain.{row_sum};
+
+use std::alloc::Allocator;
+use yl_sections::Kept;
+use yl_text::Lines;
+
+/// How many lines stand before the touched sections, and how many up to their end, in the old text and in the new one.
+#[derive(Clone, Copy, Debug)]
+pub struct Touched {
+    pub first: u32,
+    pub old_end: u32,
+    pub new_end: u32,
+}
+
+/// How many lines these sections have.
+fn count_rows<A: Allocator>(kept: &[Kept<A>]) -> Option<u32>
+    ensures { IfSome result (λ n. n ≡ row_sum kept.now) }
+{
+    let mut sum: u32 = 0;
+    for one in kept {
+        sum = sum.checked_add(one.rows())?;
+    }
+    Some(sum)
+}
+
+/// The number in fewer bits, if it fits.
+fn narrow(n: usize) -> Option<u32>
+    ensures { IfSome result (λ m. m ≡ n) }
+{
+    if n < 1 << 32 { Some(n as u32) } else { None }
+}
+
+/// Where the sections stand that begin with one row and end before another, and this in their place; none where their lines are too many
+/// to be counted.
+pub fn find_touched<A: Allocator>(
+    from_row: usize,
+    end_row: usize,
+    new: &[Kept<A>],
+) -> Option<Touched>
+    ensures first { IfSome result (λ t. t.first ≡ from_row) }
+    ensures old_end { IfSome result (λ t. t.old_end ≡ end_row) }
+    ensures new_end { IfSome result (λ t. t.new_end ≡ t.first + row_sum new.now) }
+{
+    let first = narrow(from_row)?;
+    let old_end = narrow(end_row)?;
+    let new_end = first.checked_add(count_rows(new)?)?;
+    Some(Touched {
+        first,
+        old_end,
+        new_end,
+    })
+}
+
+/// Whether the edit that puts so many lines in place of the lines a to b of so many lies in the touched lines, with others before and
+/// behind them.
+pub fn is_inner(touched: Touched, a: usize, b: usize, count: usize, lines: usize) -> bool
+    requires few { lines + count < 2 ^ 64 }
+    ensures { result ≡ true → IsInner touched a b count lines }
+{
+    let first = touched.first as usize;
+    let old_end = touched.old_end as usize;
+    let new_end = touched.new_end as usize;
+    0 < first
+        && first <= a
+        && b <= old_end
+        && old_end < lines
+        && first < old_end
+        && first < new_end
+        && a <= b
+        && new_end + (b - a) == old_end + count
+}
+
+/// Whether there is such a line, and it is not empty.
+pub fn is_filled<L: Lines>(lines: &L, i: usize) -> bool
+    ensures { result ≡ is_filled (slice_get (L.rows lines.now) i) }
+{
+    i < lines.len() && !lines.row(i).as_str().is_empty()
+}

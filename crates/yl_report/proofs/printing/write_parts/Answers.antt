@@ -1,6 +1,0 @@
-use Rattle.yl_report.proofs.Writing.{passes_break_end, err_then}
-use Rattle.yl_report.proofs.printing.write_parts.Goals as goal
-
-pub returns-clause-err : goal.returns-clause-err
-returns-clause-err g c =
-    err_then c.flush.result (passes_break_end _ _ _ c.new-waiting.result.items _ _ c.new-waiting.ensures c.in_ok-put_parts.ensures.ok) c.flush.ensures.err

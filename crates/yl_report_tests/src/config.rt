@@ -1,0 +1,32 @@
+//! Configurations: what their texts say, or the first fault.
+
+mod growth;
+mod large;
+mod rows;
+mod settings;
+mod standard;
+
+use std::alloc::{AllocError, Global};
+use std::test::Fail;
+use yl_config::Config;
+
+/// What is told of a text: the fault, or nothing.
+fn told(alloc: Global, text: &str) -> Result<String, AllocError> {
+    told_of_bytes(alloc, text.as_bytes())
+}
+
+/// What is told of bytes: the fault, or nothing.
+fn told_of_bytes(alloc: Global, bytes: &[u8]) -> Result<String, AllocError> {
+    match Config::read(alloc, bytes) {
+        Ok(_) => Ok(String::new(alloc)),
+        Err(fault) => format!(in alloc; "{fault}"),
+    }
+}
+
+/// What a text says that has no fault.
+fn accepted(alloc: Global, text: &str) -> Result<Config, Fail> {
+    match Config::read(alloc, text.as_bytes()) {
+        Ok(config) => Ok(config),
+        Err(_) => Err("a fault")?,
+    }
+}

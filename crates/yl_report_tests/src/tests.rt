@@ -1,4 +1,0 @@
-mod devices;
-mod printing;
-mod refused;
-mod silencing;

@@ -1,0 +1,174 @@
+//! The records of a text that is opened, and what is kept of its sections.
+//!
+//! Rows are recorded one after another. Now and then, at a sound row, the records above it move into chunks,
+//! and a recorder goes on from that row by its state. So no two lists hold the records of a text.
+ghost use Rattle.std.specs.Prelude.{◌≡◌, ◌+◌, ◌-◌, ◌<◌, ◌≤◌, ◌^◌, ◌++◌, length, map, IfOk, OnOk};
+ghost use Rattle.yl_text.specs.Store.{AreLines};
+ghost use Rattle.yl_sections.specs.Judge.{kept_of_section};
+ghost use Rattle.yl_sections.specs.Sections.{sections};
+ghost use Rattle.yl_lint.specs.TextReport.{kept_of_text, records_of};
+ghost use Rattle.yl_session.specs.Reading.{IsReadTo};
+
+use std::alloc::{AllocError, Allocator};
+use yl_chunks::Chunks;
+use yl_config::Config;
+use yl_lexeme::Meter;
+use yl_record::{Record, Recorder};
+use yl_sections::{Kept, judge_all};
+use yl_text::{Lines, rows_fit};
+
+/// How many records wait at least before they move into chunks.
+const PIECE: usize = 4096;
+
+/// How many records wait before they move behind so many. With each move the places of all chunks are
+/// counted, so the more there are, the more wait.
+fn piece(moved: usize) -> usize {
+    PIECE.max(moved / 64)
+}
+
+/// Puts the items, which it takes out of their `Vec`, behind the others.
+fn put_behind<T: Drop, A: Allocator + Copy>(
+    items: &mut Chunks<T, A>,
+    new: &mut Vec<T, A>,
+) -> Result<(), AllocError>
+    requires { length items.old.items + length new.old.items < 2 ^ 64 }
+    ensures { OnOk result (items.new.items ≡ items.old.items ++ new.old.items) }
+{
+    let len = items.len();
+    items.splice(len, len, new)
+}
+
+/// The items in chunks; they are taken out of their `Vec`.
+pub fn in_chunks<T: Drop, A: Allocator + Copy>(
+    alloc: A,
+    items: &mut Vec<T, A>,
+) -> Result<Chunks<T, A>, AllocError>
+    ensures { IfOk result (λ list. list.items ≡ items.old.items) }
+{
+    let mut list = Chunks::new(alloc);
+    list.splice(0, 0, items)?;
+    Ok(list)
+}
+
+/// Where the row that was fed last, row `i`, is sound, moves the records of the rows above it behind the
+/// others, and goes on from that row. The only error is out of memory.
+fn moved_on<'a, L: Lines>(
+    alloc: &'a L::Alloc,
+    lines: &L,
+    i: usize,
+    recorder: Recorder<'a, L::Alloc>,
+    records: &mut Chunks<Record<L::Alloc>, L::Alloc>,
+    meter: &mut Meter,
+) -> Result<Recorder<'a, L::Alloc>, AllocError>
+    requires lines { AreLines (L.rows lines.now) }
+    requires row { i < length (L.rows lines.now) }
+    requires read { IsReadTo (L.rows lines.now) (i + 1) records.old.items recorder }
+    requires meter { meter.old.lines < 2 ^ 32 - 1 }
+    ensures read { IfOk result (λ r. IsReadTo (L.rows lines.now) (i + 1) records.new.items r) }
+    ensures meter { OnOk result (meter.new.lines ≤ meter.old.lines + 1) }
+{
+    rows_fit(lines);
+    let mut next = match recorder.state() {
+        None => return Ok(recorder),
+        Some(state) => Recorder::resume(alloc, state)?,
+    };
+    let mut above = recorder.cut();
+    put_behind(records, &mut above)?;
+    next.feed_text(lines.row(i).as_str(), meter)?;
+    Ok(next)
+}
+
+/// Records row `i`, and moves on where many records wait. The only error is out of memory.
+fn read_row<'a, L: Lines>(
+    alloc: &'a L::Alloc,
+    lines: &L,
+    i: usize,
+    recorder: Recorder<'a, L::Alloc>,
+    records: &mut Chunks<Record<L::Alloc>, L::Alloc>,
+    meter: &mut Meter,
+) -> Result<Recorder<'a, L::Alloc>, AllocError>
+    requires lines { AreLines (L.rows lines.now) }
+    requires row { i < length (L.rows lines.now) }
+    requires read { IsReadTo (L.rows lines.now) i records.old.items recorder }
+    requires meter { meter.old.lines < 2 ^ 31 }
+    ensures read { IfOk result (λ r. IsReadTo (L.rows lines.now) (i + 1) records.new.items r) }
+    ensures meter { OnOk result (meter.new.lines ≤ meter.old.lines + 2) }
+{
+    rows_fit(lines);
+    let mut recorder = recorder;
+    recorder.feed_text(lines.row(i).as_str(), meter)?;
+    let moved = records.len();
+    if i - moved < piece(moved) {
+        return Ok(recorder);
+    }
+    moved_on(alloc, lines, i, recorder, records, meter)
+}
+
+/// The records of the lines of a text, with the states of the sound ones. The only error is out of memory.
+fn records_of_lines<L: Lines>(
+    alloc: L::Alloc,
+    lines: &L,
+) -> Result<Chunks<Record<L::Alloc>, L::Alloc>, AllocError>
+    requires { AreLines (L.rows lines.now) }
+    ensures { IfOk result (λ c. c.items ≡ records_of (L.rows lines.now)) }
+{
+    rows_fit(lines);
+    let mut meter = Meter::new();
+    let mut records = Chunks::new(alloc);
+    let mut recorder = Recorder::start(&alloc);
+    for i in 0..lines.len() {
+        recorder = read_row(&alloc, lines, i, recorder, &mut records, &mut meter)?;
+    }
+    let mut last = recorder.finish()?;
+    put_behind(&mut records, &mut last)?;
+    Ok(records)
+}
+
+/// The items, each lent.
+fn lent<T: Drop, A: Allocator + Copy>(
+    alloc: A,
+    items: &Chunks<T, A>,
+) -> Result<Vec<&T, A>, AllocError>
+    ensures items { IfOk result (λ v. map (λ x. x.now) v.items ≡ items.now.items) }
+    ensures len { IfOk result (λ v. length v.items ≡ length items.now.items) }
+{
+    let mut all = Vec::with_capacity(alloc, items.len())?;
+    for i in 0..items.len() {
+        all.push(items.get(i))?;
+    }
+    Ok(all)
+}
+
+/// What is kept of each section of these records. The only error is out of memory.
+fn kept_of_records<A: Allocator + Copy>(
+    alloc: A,
+    config: &Config,
+    records: &Chunks<Record<A>, A>,
+) -> Result<Vec<Kept<A>, A>, AllocError>
+    requires { length records.now.items < 2 ^ 30 }
+    ensures { IfOk result (λ v. v.items ≡ map (kept_of_section config.now) (sections records.now.items)) }
+{
+    let mut meter = Meter::new();
+    judge_all(alloc, config, &lent(alloc, records)?, &mut meter)
+}
+
+/// The records of these lines, and what is kept of their sections. The only error is out of memory.
+pub fn read<L: Lines>(
+    alloc: L::Alloc,
+    config: &Config,
+    lines: &L,
+) -> Result<
+    (
+        Chunks<Record<L::Alloc>, L::Alloc>,
+        Vec<Kept<L::Alloc>, L::Alloc>,
+    ),
+    AllocError,
+>
+    requires { AreLines (L.rows lines.now) }
+    ensures records { IfOk result (λ r. r.0.items ≡ records_of (L.rows lines.now)) }
+    ensures kept { IfOk result (λ r. r.1.items ≡ kept_of_text config.now (L.rows lines.now)) }
+{
+    let records = records_of_lines(alloc, lines)?;
+    let kept = kept_of_records(alloc, config, &records)?;
+    Ok((records, kept))
+}

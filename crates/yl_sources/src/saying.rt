@@ -1,0 +1,95 @@
+//! The line of a configuration's fault.
+ghost use Rattle.std.specs.Prelude.{◌≡◌, ◌-◌, ◌^◌, ◌<◌, ◌++◌, codes, OnOk, OnErr, Some};
+ghost use Rattle.std.specs.List.{flat_map};
+ghost use Rattle.std.specs.Io.KnownBytes.{Appends};
+ghost use Rattle.yl_text.specs.Watched.{device_of, failures_of};
+ghost use Rattle.yl_devices.specs.Fault.{line_with};
+ghost use Rattle.yl_devices.specs.Written.{AppendsFront};
+ghost use Rattle.yl_sources.specs.Fault.{config_line, place_words};
+
+use itoa::Buffer;
+use std::io::Write;
+use yl_config::{ConfigFault, FaultPlace};
+use yl_devices::{Program, WriteFault, write_parts};
+use yl_text::Watched;
+
+// The pieces of the line of a fault that has no place.
+fn parts_of<'a>(program: &'a str, fault: &'a str) -> [&'a [u8]; 4]
+    ensures { flat_map (λ part. part.now) result
+        ≡ program.now ++ codes ": " ++ (codes "configuration: " ++ fault.now) ++ codes "\n" }
+{
+    // Each of these is lent for as long as the other pieces, which an array of them asks.
+    let start: &'a [u8] = b": configuration: ";
+    let end: &'a [u8] = b"\n";
+    [program.as_bytes(), start, fault.as_bytes(), end]
+}
+
+// The pieces of the line of a fault that has a place.
+fn placed_parts_of<'a>(
+    program: &'a str,
+    fault: &'a str,
+    line: &'a str,
+    column: &'a str,
+) -> [&'a [u8]; 8]
+    ensures { flat_map (λ part. part.now) result
+        ≡ program.now ++ codes ": " ++ (codes "configuration: " ++ (fault.now ++ (codes " at " ++ (line.now ++ (codes ":" ++ column.now))))) ++ codes "\n" }
+{
+    let start: &'a [u8] = b": configuration: ";
+    let at: &'a [u8] = b" at ";
+    let colon: &'a [u8] = b":";
+    let end: &'a [u8] = b"\n";
+    [
+        program.as_bytes(),
+        start,
+        fault.as_bytes(),
+        at,
+        line.as_bytes(),
+        colon,
+        column.as_bytes(),
+        end,
+    ]
+}
+
+// Writes the line of a fault at a place.
+fn say_place<W: Write>(
+    program: &str,
+    fault: &str,
+    place: FaultPlace,
+    out: &mut Watched<W>,
+) -> Result<(), WriteFault>
+    requires { failures_of out.old < 2 ^ 64 - 1 }
+    ensures ok { OnOk result (Appends (W.contents (device_of out.old)) (W.contents (device_of out.new))
+        (line_with program.now (codes "configuration: " ++ (fault.now ++ place_words (Some place))))) }
+    ensures quiet { OnOk result (failures_of out.new ≡ failures_of out.old) }
+    ensures err { OnErr result (AppendsFront (W.contents (device_of out.old)) (W.contents (device_of out.new))
+        (line_with program.now (codes "configuration: " ++ (fault.now ++ place_words (Some place))))) }
+    ensures failed { OnErr result (failures_of out.old < failures_of out.new) }
+{
+    let mut line = Buffer::new();
+    let mut column = Buffer::new();
+    let line = line.format(place.line);
+    let column = column.format(place.column);
+    write_parts(out, &placed_parts_of(program, fault, line, column))
+}
+
+/// Writes the line of a configuration's fault, as it goes to standard error, and takes no memory.
+/// On a fault of the writer a beginning of the line is out.
+pub fn say_config<W: Write>(
+    program: Program,
+    fault: ConfigFault,
+    out: &mut Watched<W>,
+) -> Result<(), WriteFault>
+    requires { failures_of out.old < 2 ^ 64 - 1 }
+    ensures ok { OnOk result (Appends (W.contents (device_of out.old)) (W.contents (device_of out.new))
+        (config_line program fault)) }
+    ensures quiet { OnOk result (failures_of out.new ≡ failures_of out.old) }
+    ensures err { OnErr result (AppendsFront (W.contents (device_of out.old)) (W.contents (device_of out.new))
+        (config_line program fault)) }
+    ensures failed { OnErr result (failures_of out.old < failures_of out.new) }
+{
+    let name = program.name();
+    match fault.place() {
+        Some(place) => say_place(name, fault.name(), place, out),
+        None => write_parts(out, &parts_of(name, fault.name())),
+    }
+}

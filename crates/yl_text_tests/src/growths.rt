@@ -1,0 +1,105 @@
+//! Each growth refused in turn, up to the first run that meets no refusal.
+
+use crate::stores::{Heap, edit, opened};
+use refusing::Refusing;
+use std::alloc::{AllocError, Global};
+use std::process::Abort;
+use std::test::Fail;
+use yl_text::{Break, LineStore, Lines, PlainStore, Row, TextFault, characters, split};
+
+#[test]
+fn of_split(rt: HostRuntime) -> Result<(), Fail> {
+    let heap = Refusing::new(rt.alloc());
+    for n in 1..u64::MAX {
+        heap.refuse(n);
+        let answer = split(&heap, b"a: 1\r\nb\rc\n");
+        if heap.is_armed() {
+            heap.refuse(0);
+            let rows = answer?;
+            assert_eq!(rt; rows.len(), 4);
+            assert!(rt; n > 3, "{n} growths");
+            return Ok(());
+        }
+        assert!(rt; answer.err() == Some(TextFault::Memory), "the {n}th growth");
+    }
+    Ok(())
+}
+
+#[test]
+fn of_a_row(rt: HostRuntime) -> Result<(), Fail> {
+    let heap = Refusing::new(rt.alloc());
+    heap.refuse(1);
+    assert!(rt; Row::new(&heap, "a", Break::Lf).is_err());
+    let row = Row::new(&heap, "a", Break::Lf)?;
+    assert_eq!(rt; row.as_str(), "a");
+    Ok(())
+}
+
+// The buffer is empty after a refusal, and serves again.
+#[test]
+fn of_characters(rt: HostRuntime) -> Result<(), Fail> {
+    let heap = Refusing::new(rt.alloc());
+    let row = Row::new(rt.alloc(), "aé", Break::No)?;
+    let mut buffer = Vec::new(&heap);
+    heap.refuse(1);
+    assert!(rt; characters(&row, &mut buffer).is_err());
+    assert_eq!(rt; buffer.len(), 0);
+    characters(&row, &mut buffer)?;
+    assert_eq!(rt; buffer.as_slice(), ['a', 'é'].as_slice());
+    heap.refuse(1);
+    characters(&row, &mut buffer)?;
+    assert!(rt; heap.is_armed());
+    assert_eq!(rt; buffer.len(), 2);
+    Ok(())
+}
+
+// A plain store takes the rows with no growth at all.
+#[test]
+fn of_from_rows(rt: HostRuntime) -> Result<(), Fail> {
+    let heap = Refusing::new(rt.alloc());
+    let mut rows = split(&heap, b"a\nb")?;
+    heap.refuse(1);
+    let store = PlainStore::from_rows(&mut rows)?;
+    assert!(rt; heap.is_armed());
+    heap.refuse(0);
+    assert_eq!(rt; store.len(), 2);
+    assert_eq!(rt; rows.len(), 0);
+    Ok(())
+}
+
+// The text of a store.
+fn shown<S: Lines>(alloc: Global, lines: &S) -> Result<String, AllocError> {
+    let mut text = String::new(alloc);
+    for i in 0..lines.len() {
+        text.push_str(lines.row(i).as_str())?;
+        text.push('|')?;
+    }
+    Ok(text)
+}
+
+// Makes an edit whose nth growth is refused. A refusal changes nothing, and the same edit is made
+// when it is asked again. Whether it was made at once.
+fn is_made_at_once(rt: &impl Abort, alloc: Global, heap: Heap<'_>, n: u64) -> Result<bool, Fail> {
+    let mut store: PlainStore<Heap<'_>> = opened(heap, b"a \nb\nc \n")?;
+    let answer = edit(rt, heap, n, &mut store, 1, 2, b"x\r\ny\r\nz\n");
+    if answer.is_err() {
+        assert!(rt; answer == Err(TextFault::Memory), "the {n}th growth");
+        assert_eq!(rt; shown(alloc, &store)?.as_str(), "a |b|c ||");
+        assert_eq!(rt; store.bytes(), 8);
+        edit(rt, heap, 0, &mut store, 1, 2, b"x\r\ny\r\nz\n")?;
+    }
+    assert_eq!(rt; shown(alloc, &store)?.as_str(), "a |x|y|z|c ||");
+    Ok(answer.is_ok())
+}
+
+#[test]
+fn of_splice(rt: HostRuntime) -> Result<(), Fail> {
+    let heap = Refusing::new(rt.alloc());
+    for n in 1..u64::MAX {
+        if is_made_at_once(&rt, rt.alloc(), &heap, n)? {
+            assert!(rt; n > 1, "{n} growths");
+            return Ok(());
+        }
+    }
+    Ok(())
+}

@@ -1,0 +1,53 @@
+-- Bridge: the collections that are open behind a document's first events, with their keys so far.
+use Rattle.std.specs.Prelude.{ℕ, Bool, true, false, not, ◌&&◌, if◌then◌else◌, List, [], ◌∷◌, ◌++◌, Option}
+use Rattle.std.specs.Option.{option_to_list}
+use Rattle.yl_events.specs.Event.{EventValue}
+use Rattle.yl_tree.specs.Keys.{is_collection_start, is_collection_end, is_mapping_start, name_of}
+
+pub record OpenCollection : Type 0 where
+  pub is_mapping : Bool
+  pub is_key_next : Bool
+  -- the latest first
+  pub keys : List (List ℕ)
+
+pub record OpenNodes : Type 0 where
+  pub innermost : OpenCollection
+  pub outer : List OpenCollection
+
+abbrev pub new_collection : Bool → OpenCollection
+new_collection is_mapping = record { is_mapping = is_mapping; is_key_next = true; keys = [] }
+
+-- with one node more
+abbrev pub with_node : Option (List ℕ) → OpenCollection → OpenCollection
+with_node name o = record {
+  is_mapping = o.is_mapping;
+  is_key_next = not o.is_key_next;
+  keys = if o.is_mapping && o.is_key_next then option_to_list name ++ o.keys else o.keys;
+}
+
+abbrev pub first_or_new : List OpenCollection → OpenCollection
+first_or_new [] = new_collection false
+first_or_new (o ∷ os) = o
+
+abbrev pub without_first : List OpenCollection → List OpenCollection
+without_first [] = []
+without_first (o ∷ os) = os
+
+-- with one event more
+abbrev pub with_event : EventValue → OpenNodes → OpenNodes
+with_event e s =
+    if is_collection_end e.kind then record { innermost = first_or_new s.outer; outer = without_first s.outer }
+    else if is_collection_start e.kind then record {
+      innermost = new_collection (is_mapping_start e.kind);
+      outer = with_node (name_of e) s.innermost ∷ s.outer;
+    }
+    else record { innermost = with_node (name_of e) s.innermost; outer = s.outer }
+
+-- behind these events, the latest first
+abbrev pub collections_behind : List EventValue → OpenNodes
+collections_behind [] = record { innermost = new_collection false; outer = [] }
+collections_behind (e ∷ es) = with_event e (collections_behind es)
+
+-- the earlier keys where a key comes next, else none
+abbrev pub keys_if_next : OpenCollection → List (List ℕ)
+keys_if_next o = if o.is_mapping && o.is_key_next then o.keys else []
