@@ -1,12 +1,12 @@
 //! Names of kinds.
 ghost use Rattle.std.specs.Prelude.{◌≡◌};
-ghost use Rattle.yl_dump.specs.Names.{kind_name as name_of, scalar_name as scalar_name_of, value_opening as opening_of};
+ghost use Rattle.yl_dump.specs.Names.{kind_name, scalar_name, value_opening};
 
 use yl_lexeme::{Kind, Style};
 
 /// The name of a lexeme's kind.
 pub fn kind_name(kind: Kind) -> &'static str
-    ensures { result.now ≡ name_of kind }
+    ensures { result.now ≡ kind_name kind }
 {
     match kind {
         Kind::Directive => "Directive",
@@ -28,7 +28,7 @@ pub fn kind_name(kind: Kind) -> &'static str
 }
 
 fn scalar_name(style: Style) -> &'static str
-    ensures { result.now ≡ scalar_name_of style }
+    ensures { result.now ≡ scalar_name style }
 {
     match style {
         Style::Plain => "Scalar(Plain)",
@@ -41,7 +41,7 @@ fn scalar_name(style: Style) -> &'static str
 
 /// What stands before a scalar's value in an event stream: a space, the sign of its style, and a quote.
 pub fn value_opening(style: Style) -> &'static str
-    ensures { result.now ≡ opening_of style }
+    ensures { result.now ≡ value_opening style }
 {
     match style {
         Style::Plain => " :\"",

@@ -1,7 +1,7 @@
 //! What must be known at a line.
 ghost use Rattle.std.specs.Prelude.{◌≡◌, ◌++◌, reverse, IfOk, OnOk};
 ghost use Rattle.std.specs.List.{flat_map};
-ghost use Rattle.yl_dump.specs.StateLine.{next_column, columns_text, brackets_text, bracket_sign as sign_of, last_text as text_of, line_text, state_text};
+ghost use Rattle.yl_dump.specs.StateLine.{next_column, columns_text, brackets_text, bracket_sign, last_text, line_text, state_text};
 
 use crate::names::kind_name;
 use crate::page::Page;
@@ -44,7 +44,7 @@ fn print_brackets<A: Allocator>(page: &mut Page<A>, brackets: &[Kind]) -> Result
 }
 
 fn bracket_sign(bracket: Kind) -> &'static str
-    ensures { result.now ≡ sign_of bracket }
+    ensures { result.now ≡ bracket_sign bracket }
 {
     match bracket {
         Kind::MapOpen => "{",
@@ -53,7 +53,7 @@ fn bracket_sign(bracket: Kind) -> &'static str
 }
 
 fn last_text(last: Option<Kind>) -> &'static str
-    ensures { result.now ≡ text_of last }
+    ensures { result.now ≡ last_text last }
 {
     match last {
         Some(kind) => kind_name(kind),

@@ -1,16 +1,11 @@
 //! The words of comments that silence rules.
 ghost use Rattle.std.specs.Prelude.{◌≡◌, ◌==◌, ◌&&◌};
 ghost use Rattle.std.specs.List.{list_all, list_any, slice_split};
-ghost use Rattle.yl_text.specs.Character.{is_non_space};
-ghost use Rattle.yl_text.specs.Character as character;
+ghost use Rattle.yl_text.specs.Character.{is_non_space, without_end};
 ghost use Rattle.yl_report.specs.Directive.{rest_speaks};
 ghost use Rattle.yl_report.specs.Directive as spec;
 
-fn is_white(c: u8) -> bool
-    ensures { result ≡ character.is_white c }
-{
-    c == b' ' || c == b'\t'
-}
+use yl_rules::is_white;
 
 fn all_non_space(word: &[u8]) -> bool
     ensures { result ≡ list_all is_non_space word.now }
@@ -20,7 +15,7 @@ fn all_non_space(word: &[u8]) -> bool
 
 // The text without the white space at its end.
 pub fn without_end(text: &[u8]) -> &[u8]
-    ensures { result.now ≡ character.without_end text.now }
+    ensures { result.now ≡ without_end text.now }
 {
     let mut end = text.len();
     while end > 0 && is_white(text[end - 1]) {

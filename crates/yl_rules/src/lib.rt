@@ -24,6 +24,7 @@ pub use new_lines::NewLine;
 pub use options::{RowOptions, RunOptions};
 pub use rows::{push_line_problems, push_row_problems, row_problems};
 pub use runs::{RunReader, run_problems};
+pub use trailing_spaces::is_white;
 pub use width::character_count;
 pub use yl_layout::{
     BracketsOptions, ColonsOptions, CommasOptions, DocumentStartOptions, Forbid, HyphensOptions,

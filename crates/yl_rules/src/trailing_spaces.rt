@@ -9,7 +9,8 @@ use crate::width::character_count;
 use std::alloc::Allocator;
 use yl_text::{Finding, RuleId};
 
-fn is_white(byte: u8) -> bool
+/// Whether a byte is white space: a space or a tab.
+pub fn is_white(byte: u8) -> bool
     ensures { result ≡ is_white byte }
 {
     byte == b' ' || byte == b'\t'

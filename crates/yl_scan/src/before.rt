@@ -3,7 +3,7 @@
 ghost use Rattle.std.specs.Prelude.{◌≡◌, if◌then◌else◌, IfOk, Some, None, Bool};
 ghost use Rattle.yl_lexeme.specs.Known.{new_row};
 ghost use Rattle.yl_lexeme.specs.Surroundings.{surroundings_value};
-ghost use Rattle.yl_scan.specs.Scanner.{phase_value, state_before as standing_before, state_for as found_state};
+ghost use Rattle.yl_scan.specs.Scanner.{phase_value, state_before, state_for};
 
 use crate::phase::Phase;
 use crate::state::LineState;
@@ -20,7 +20,7 @@ pub fn state_before<A: Allocator + Copy>(
     resting: &Phase<A>,
 ) -> Result<Option<LineState<A>>, AllocError>
     ensures { IfOk result (λ before. (start : Bool) →
-        before ≡ (if is_wanted then Some (standing_before (phase_value start (new_row (surroundings_value surroundings.now)) resting.now)) else None)) }
+        before ≡ (if is_wanted then Some (state_before (phase_value start (new_row (surroundings_value surroundings.now)) resting.now)) else None)) }
 {
     if !is_wanted {
         return Ok(None);
@@ -38,7 +38,7 @@ pub fn state_for<A: Allocator + Copy>(
     before: Option<LineState<A>>,
     sound: Soundness,
 ) -> Option<LineState<A>>
-    ensures { result ≡ found_state before sound }
+    ensures { result ≡ state_for before sound }
 {
     match before {
         None => None,

@@ -8,7 +8,7 @@ ghost use Rattle.yl_lexeme.specs.Surroundings.{surroundings_value};
 ghost use Rattle.yl_row.specs.Entries.{LineStateValue};
 ghost use Rattle.yl_scan.specs.Output.{Fresh, output_with_step, remaining_output, output_of_entries};
 ghost use Rattle.yl_scan.specs.Restart.{from_state, phase_at};
-ghost use Rattle.yl_scan.specs.Scanner.{BeginsInText, EndsOpen, IsInOrder, IsInStep, at_end, begun_at, is_halted, surroundings_in, phase_value, state_before as standing_before, state_by, step_value};
+ghost use Rattle.yl_scan.specs.Scanner.{BeginsInText, EndsOpen, IsInOrder, IsInStep, at_end, begun_at, is_halted, surroundings_in, phase_value, state_before, state_by, step_value};
 
 use crate::before::{state_before, state_for};
 use crate::feeding::{ended_text, fed_row};
@@ -126,8 +126,8 @@ impl<'a, A: Allocator + Copy> Scanner<'a, A> {
         requires few { self.old.line < 2 ^ 32 - 1 }
         ensures told { IfOk result (λ step. (rows : List (List ℕ)) →
             remaining_output self.old.line self.old.stand (chars text.now ∷ rows)
-            ≡ output_with_step self.old.line (step_value self.old.line (standing_before self.old.stand) step) (remaining_output self.new.line self.new.stand rows)) }
-        ensures state { IfOk result (λ step. step.state ≡ (if self.old.states then state_by (standing_before self.old.stand) step.sound else None)) }
+            ≡ output_with_step self.old.line (step_value self.old.line (state_before self.old.stand) step) (remaining_output self.new.line self.new.stand rows)) }
+        ensures state { IfOk result (λ step. step.state ≡ (if self.old.states then state_by (state_before self.old.stand) step.sound else None)) }
         ensures in_text { IfOk result (λ step. BeginsInText self.old.line step) }
         ensures in_order { IfOk result (λ step. IsInOrder self.old.line (begun_at self.old.stand) (begun_at self.new.stand) step) }
         ensures halts { IfOk result (λ step. is_halted self.new.stand ≡ (is_halted self.old.stand || is_some step.failed)) }
@@ -165,8 +165,8 @@ impl<'a, A: Allocator + Copy> Scanner<'a, A> {
         requires meter { meter.old.lines < 2 ^ 32 - 1 }
         ensures told { IfOk result (λ step. (rows : List (List ℕ)) →
             remaining_output self.old.line self.old.stand (chars row.now.text ∷ rows)
-            ≡ output_with_step self.old.line (step_value self.old.line (standing_before self.old.stand) step) (remaining_output self.new.line self.new.stand rows)) }
-        ensures state { IfOk result (λ step. step.state ≡ (if self.old.states then state_by (standing_before self.old.stand) step.sound else None)) }
+            ≡ output_with_step self.old.line (step_value self.old.line (state_before self.old.stand) step) (remaining_output self.new.line self.new.stand rows)) }
+        ensures state { IfOk result (λ step. step.state ≡ (if self.old.states then state_by (state_before self.old.stand) step.sound else None)) }
         ensures in_text { IfOk result (λ step. BeginsInText self.old.line step) }
         ensures in_order { IfOk result (λ step. IsInOrder self.old.line (begun_at self.old.stand) (begun_at self.new.stand) step) }
         ensures halts { IfOk result (λ step. is_halted self.new.stand ≡ (is_halted self.old.stand || is_some step.failed)) }
@@ -188,8 +188,8 @@ impl<'a, A: Allocator + Copy> Scanner<'a, A> {
         requires meter { meter.old.lines < 2 ^ 32 - 1 }
         ensures told { IfOk result (λ step. (rows : List (List ℕ)) →
             remaining_output self.old.line self.old.stand (chars text.now ∷ rows)
-            ≡ output_with_step self.old.line (step_value self.old.line (standing_before self.old.stand) step) (remaining_output self.new.line self.new.stand rows)) }
-        ensures state { IfOk result (λ step. step.state ≡ (if self.old.states then state_by (standing_before self.old.stand) step.sound else None)) }
+            ≡ output_with_step self.old.line (step_value self.old.line (state_before self.old.stand) step) (remaining_output self.new.line self.new.stand rows)) }
+        ensures state { IfOk result (λ step. step.state ≡ (if self.old.states then state_by (state_before self.old.stand) step.sound else None)) }
         ensures in_text { IfOk result (λ step. BeginsInText self.old.line step) }
         ensures in_order { IfOk result (λ step. IsInOrder self.old.line (begun_at self.old.stand) (begun_at self.new.stand) step) }
         ensures halts { IfOk result (λ step. is_halted self.new.stand ≡ (is_halted self.old.stand || is_some step.failed)) }

@@ -3,7 +3,7 @@ ghost use Rattle.std.specs.Prelude.{◌≡◌, ◌<◌, ◌^◌, ◌++◌, ◌�
 ghost use Rattle.std.specs.Option.{option_map};
 ghost use Rattle.std.specs.List.{filter};
 ghost use Rattle.yl_lexeme.specs.PlacedComments.{placed_comment_value};
-ghost use Rattle.yl_rules.specs.Addressed as addressed;
+ghost use Rattle.yl_rules.specs.Addressed as spec;
 ghost use Rattle.yl_sections.specs.Kept.{column_in, comment_at, comments_from, last_lexeme_end, shown_comments};
 
 use crate::kept::KeptComment;
@@ -115,7 +115,7 @@ fn push_addressed<A: Allocator + Copy>(
     kept: &mut Vec<KeptComment<A>, A>,
     comment: &PlacedComment<'_>,
 ) -> Result<(), AllocError>
-    ensures { OnOk result (kept.new.items ≡ kept.old.items ++ filter addressed.is_addressed (placed_comment_value comment.now ∷ [])) }
+    ensures { OnOk result (kept.new.items ≡ kept.old.items ++ filter spec.is_addressed (placed_comment_value comment.now ∷ [])) }
 {
     if is_addressed(comment) {
         kept.push(KeptComment::new(alloc, comment)?)?;
@@ -128,7 +128,7 @@ pub fn kept_comments<A: Allocator + Copy>(
     alloc: A,
     comments: &[PlacedComment<'_>],
 ) -> Result<Vec<KeptComment<A>, A>, AllocError>
-    ensures { IfOk result (λ v. v.items ≡ filter addressed.is_addressed (map placed_comment_value comments.now)) }
+    ensures { IfOk result (λ v. v.items ≡ filter spec.is_addressed (map placed_comment_value comments.now)) }
 {
     let mut kept = Vec::new(alloc);
     for comment in comments {

@@ -1,6 +1,6 @@
 //! The option table: for each rule its options, and the values that each takes.
 ghost use Rattle.std.specs.Prelude.{◌≡◌, ◌≤◌, length, is_some, unwrap_or, if◌then◌else◌};
-ghost use Rattle.yl_settings.specs.declared.table.Answer.TheVariants.{WrongValue, Taken as IsTaken};
+ghost use Rattle.yl_settings.specs.declared.table.Answer.TheVariants.{WrongValue, Taken};
 ghost use Rattle.yl_settings.specs.Item.{item_value};
 ghost use Rattle.yl_settings.specs.Options.{anchors_option, brackets_option, colons_option, commas_option, comments_option, document_start_option, empty_lines_option, hyphens_option, indentation_option, key_duplicates_option, line_length_option, new_lines_option, quoted_strings_option, truthy_option, option_of, with_options_of};
 
@@ -31,7 +31,7 @@ pub enum Answer {
 
 /// Puts a value into its place, if there is one.
 fn put<T: Drop>(place: &mut T, value: Option<T>) -> Answer
-    ensures answer { result ≡ (if is_some value then IsTaken else WrongValue) }
+    ensures answer { result ≡ (if is_some value then Taken else WrongValue) }
     ensures place { place.new ≡ unwrap_or value place.old }
 {
     match value {
@@ -45,7 +45,7 @@ fn put<T: Drop>(place: &mut T, value: Option<T>) -> Answer
 
 /// What is said of a value that changes nothing.
 fn take(value: Option<bool>) -> Answer
-    ensures { result ≡ (if is_some value then IsTaken else WrongValue) }
+    ensures { result ≡ (if is_some value then Taken else WrongValue) }
 {
     match value {
         None => Answer::WrongValue,

@@ -6,7 +6,8 @@ ghost use Rattle.yl_tree.specs.Anchors.{is_anchor_of, is_alias_of, is_declared, 
 ghost use Rattle.yl_tree.specs.NameSets.{has_name};
 ghost use Rattle.std.specs.List.{list_any};
 ghost use Rattle.yl_tree.specs.References.{is_reference};
-ghost use Rattle.yl_tree.specs.Unused.{is_unused as unused_spec, unused_flags, unused_if};
+ghost use Rattle.yl_tree.specs.Unused.{unused_flags, unused_if};
+ghost use Rattle.yl_tree.specs.Unused as spec;
 
 use crate::messages::{name_problem, push_found};
 use crate::name_set::{NameSet, has_name, insert_name, remove_name};
@@ -19,7 +20,7 @@ use yl_text::{Finding, RuleId};
 /// Whether the event has an anchor whose name is not among these.
 fn is_unused<A: Allocator>(event: &Event<'_>, used: &NameSet<'_, A>) -> bool
     ensures { (after : List EventValue) → ((q : List ℕ) → has_name used.now q ≡ is_used after q)
-        → result ≡ unused_spec (event_value event.now).anchor after }
+        → result ≡ spec.is_unused (event_value event.now).anchor after }
 {
     match event.anchor {
         None => false,
@@ -178,7 +179,7 @@ fn push_anchor_problems<A: Allocator + Copy>(
 ) -> Result<(), AllocError>
     ensures { (before after : List EventValue)
         → ((q : List ℕ) → has_name declared.now q ≡ is_declared before q)
-        → is_unused ≡ unused_spec (event_value event.now).anchor after
+        → is_unused ≡ spec.is_unused (event_value event.now).anchor after
         → OnOk result (found.new.items ≡ found.old.items
         ++ anchor_findings options.now before (event_value event.now).anchor after) }
 {
@@ -200,7 +201,7 @@ fn push_problems<A: Allocator + Copy>(
 ) -> Result<(), AllocError>
     ensures { (before after : List EventValue)
         → ((q : List ℕ) → has_name declared.now q ≡ is_declared before q)
-        → is_unused ≡ unused_spec (event_value event.now).anchor after
+        → is_unused ≡ spec.is_unused (event_value event.now).anchor after
         → OnOk result (found.new.items ≡ found.old.items
         ++ anchors_at options.now before (event_value event.now) after) }
 {
