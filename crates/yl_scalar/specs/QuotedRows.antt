@@ -2,6 +2,7 @@
 -- behind the opening quote.
 use Rattle.std.specs.Prelude.{◌≡◌, ℕ, Bool, true, false, not, ◌&&◌, ◌||◌, ◌==◌, nat_lt, if◌then◌else◌, List, [], ◌∷◌, ◌++◌, ◌+◌, ◌-◌, length, take, drop, Option, Some, None, option_map, is_some}
 use Rattle.std.specs.List.{prefix_len, list_all}
+use Rattle.yl_text.specs.Char as char
 use Rattle.yl_text.specs.Character.{is_white, is_blank, is_marker, without_front}
 use Rattle.yl_scalar.specs.Allowed.{is_quoted_character}
 use Rattle.yl_scalar.specs.Escape.{escape}
@@ -35,8 +36,8 @@ escaped (Some e) = Content e.0 (e.1 + 2)
 -- double quotes
 abbrev pub glyph_at : Bool → ℕ → List ℕ → Glyph
 glyph_at double c cs =
-    if c == quote double then (if not double && begins_with 0x27 cs then Content c 2 else Stops Closed)
-    else if double && c == 0x5C then (if length cs == 0 then RowEnd else escaped (escape cs))
+    if c == quote double then (if not double && begins_with char.single_quote cs then Content c 2 else Stops Closed)
+    else if double && c == char.backslash then (if length cs == 0 then RowEnd else escaped (escape cs))
     else if is_quoted_character c then (if is_white c then White c else Content c 1)
     else Stops (Faulted NotAllowed)
 
