@@ -21,15 +21,15 @@ ghost use Rattle.yl_row.specs.Standing.{found_lexeme_value, standing_value, foun
 use crate::fault::{PlacedScanFault, ScanFault, of_scalar, or_else, when};
 use crate::reader::ScalarReader;
 use crate::word::{
-    directive, is_comment_next, is_flow_indicator_next, is_marker_of, is_plain_start,
-    is_space_next, name_len, tag_len,
+    directive, is_comment_next, is_flow_indicator_next, is_plain_start, is_space_next, name_len,
+    tag_len,
 };
 use std::alloc::{AllocError, Allocator};
 use yl_inline::InlineString;
 use yl_lexeme::{Kind, Style, Surroundings, near};
 use yl_scalar::{
     BlockReader, PlainReader, QuotedReader, ScalarStep, first_bad, inline_text_of, is_blank,
-    leading_white,
+    is_marker_of, leading_white,
 };
 
 /// A lexeme that ends in its row, before a column.

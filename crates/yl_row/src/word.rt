@@ -3,7 +3,6 @@
 ghost use Rattle.std.specs.Prelude.{◌≡◌, ◌≤◌, ◌==◌, ◌&&◌, ◌+◌, ◌<◌, ◌^◌, IfSome, length, false};
 ghost use Rattle.std.specs.List.{list_any, position};
 ghost use Rattle.std.specs.Option.{ForSome};
-ghost use Rattle.yl_text.specs.Character.{is_marker_of};
 ghost use Rattle.yl_scalar.specs.Header.{next};
 ghost use Rattle.yl_row.specs.Step.{is_name_character, name_len, is_space_next, is_flow_indicator_next, is_name_next, directive_len, directive, tag_len, closing_of, verbatim_len, is_plain_start, is_tab};
 
@@ -135,16 +134,6 @@ pub fn tag_len(text: &[char]) -> Option<usize>
         return verbatim_len(text, closing_of(text));
     }
     Some(name_len(text))
-}
-
-/// The row begins with three times this character, and white space or nothing behind.
-pub fn is_marker_of(c: char, row: &[char]) -> bool
-    ensures { result ≡ is_marker_of c row.now }
-{
-    match row {
-        [x, y, z, rest @ ..] => *x == c && *y == c && *z == c && is_space_next(rest),
-        _ => false,
-    }
 }
 
 /// A plain scalar may begin with this character, before that text.

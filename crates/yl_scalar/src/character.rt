@@ -107,8 +107,9 @@ pub fn without_end(row: &[char]) -> &[char]
     &row[..len]
 }
 
-/// Whether a document marker of this character stands in the row.
-fn is_marker_of(c: char, row: &[char]) -> bool
+/// Whether the row begins with three times this character, and white space or nothing after them.
+#[inline(always)]
+pub fn is_marker_of(c: char, row: &[char]) -> bool
     ensures { result ≡ is_marker_of c row.now }
 {
     match row {

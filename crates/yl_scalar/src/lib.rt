@@ -23,8 +23,8 @@ ghost use Rattle.yl_scalar.specs.Written.{QuotedLaw};
 pub use answer::{ScalarFault, ScalarOutcome, ScalarPlace, ScalarStep};
 pub use block::BlockReader;
 pub use character::{
-    first_bad, indentation, is_allowed, is_blank, is_flow_indicator, is_white, leading_white,
-    without_end,
+    first_bad, indentation, is_allowed, is_blank, is_flow_indicator, is_marker_of, is_white,
+    leading_white, without_end,
 };
 pub use folding::{inline_text_of, text_of};
 pub use plain::{PlainReader, is_safe_next};
