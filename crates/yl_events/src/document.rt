@@ -22,6 +22,9 @@ use yl_lexeme::{LexemeAtLine, Meter};
 use yl_marks::{Symbol, document_marks};
 use yl_text::Pos;
 
+/// Of how many outlines that are done the room is given up at once.
+const DONE: usize = 16384;
+
 /// The value of the lexeme of this index.
 fn value_at<'a, A: Allocator>(lexemes: &[LexemeAtLine<'a, A>], i: usize) -> &'a str
     ensures { result.now ≡ value_at (map (λ x. lexeme_at_line x.line x.lexeme.now) lexemes.now) i }
@@ -94,17 +97,23 @@ fn fill<'a, A: Allocator>(lexemes: &[LexemeAtLine<'a, A>], outline: &Outline) ->
     }
 }
 
+/// The events of outlines. They are made from the last on, and now and then the outlines give up the room of those that are done, so
+/// that not all events and all outlines are held at once.
 fn fill_all<'a, A: Allocator + Copy>(
     alloc: A,
     lexemes: &[LexemeAtLine<'a, A>],
-    outlines: &[Outline],
+    mut outlines: Vec<Outline, A>,
 ) -> Result<Vec<Event<'a>, A>, AllocError>
-    ensures { IfOk result (λ v. map event_value v.items ≡ map (event_of_outline (map (λ x. lexeme_at_line x.line x.lexeme.now) lexemes.now)) outlines.now) }
+    ensures { IfOk result (λ v. map event_value v.items ≡ map (event_of_outline (map (λ x. lexeme_at_line x.line x.lexeme.now) lexemes.now)) outlines.items) }
 {
     let mut events = Vec::with_capacity(alloc, outlines.len())?;
-    for outline in outlines {
-        events.push(fill(lexemes, outline))?;
+    while let Some(outline) = outlines.pop() {
+        events.push(fill(lexemes, &outline))?;
+        if outlines.len().is_multiple_of(DONE) {
+            outlines.shrink_to_fit();
+        }
     }
+    events.reverse();
     Ok(events)
 }
 
@@ -176,7 +185,7 @@ fn build<'a, A: Allocator + Copy>(
     let (outlines, fault) = parse(alloc, symbols)?;
     match fault {
         None => {
-            let events = fill_all(alloc, lexemes, &outlines)?;
+            let events = fill_all(alloc, lexemes, outlines)?;
             Ok(Built {
                 events,
                 fault: None,

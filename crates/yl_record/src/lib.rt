@@ -7,6 +7,7 @@
 mod record;
 mod recorder;
 mod rows;
+mod sharing;
 
 pub use record::Record;
 pub use recorder::Recorder;

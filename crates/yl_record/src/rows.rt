@@ -10,6 +10,7 @@ ghost use Rattle.yl_scan.specs.Settled.{with_last};
 ghost use Rattle.yl_record.specs.Parts.{LiesIn, entries_in, entries_with_end, entries_with_step, indentations_in, with_fault_above, with_fault_in, with_lexeme_above, with_state};
 
 use crate::record::{Record, push_lexeme, record_of, set_fault};
+use crate::sharing::shared;
 use std::alloc::{AllocError, Allocator};
 use yl_lexeme::Lexeme;
 use yl_row::PlacedScanFault;
@@ -128,6 +129,7 @@ pub fn add_row<A: Allocator + Copy>(
         ..
     } = step;
     add_ended(records, taken, line, ended)?;
+    let state = shared(records, state)?;
     let record = record_of(alloc, spaces_before(text), state, lexemes, comment)?;
     records.push(record)?;
     add_failed(alloc, records, taken, line, failed)

@@ -1,8 +1,8 @@
 use Rattle.std.proofs.Common.{◌+◌, ◌++◌, length, [], ◌∷◌, ap, sym, subst, ◌∙◌}
 use Rattle.std.specs.Option.{ForSome}
 use Rattle.std.proofs.lemmas.List.{length-append, map-append}
-use Rattle.std.specs.Prelude.{option_map, None}
-use Rattle.yl_row.specs.Entries.{RowEntry}
+use Rattle.std.specs.Prelude.{Option, option_map, None}
+use Rattle.yl_row.specs.Entries.{RowEntry, LineStateValue}
 use Rattle.yl_scan.specs.Scanner.{fault_above_at}
 use Rattle.yl_record.specs.Parts.{LiesIn, entries_in, entry_in, with_fault_above}
 use Rattle.yl_record.specs.Records.{RecordValue}
@@ -27,4 +27,5 @@ returns-clause-entries g c =
     (λ e s. e ∙ ap (λ es. with_fault_above c.args.taken (option_map (fault_above_at c.args.line) c.args.step.failed) es)
     (ap entries_in c.in_ok-push.ensures.items ∙ map-append entry_in above (c.in_ok-record.record ∷ [])
     ∙ ap (λ (r : RecordValue). entries_in above ++ r.entry ∷ []) c.in_ok-record.ensures
+    ∙ ap (λ (s : Option LineStateValue). entries_in above ++ record { state = s; lexemes = c.args.step.lexemes.items; comment = c.args.step.comment; fault = None } ∷ []) c.in_ok-state.ensures
     ∙ ap (λ es. es ++ told ∷ []) c.in_ok-add_ended.ensures.entries))
