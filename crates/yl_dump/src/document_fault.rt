@@ -9,14 +9,14 @@ use std::alloc::{AllocError, Allocator};
 use yl_events::ParseFault;
 
 /// The parse fault of a document. It stands behind all lexemes, if it has no place.
-#[derive(Clone, Copy, Debug, PartialEq, Eq)]
+#[derive(Clone, Copy)]
 pub struct DocumentFault {
     pub kind: ParseFault,
     pub place: Option<TextPlace>,
 }
 
 /// What comes behind a document's lexemes.
-#[derive(Clone, Copy, Debug, PartialEq, Eq)]
+#[derive(Clone, Copy)]
 pub enum Behind {
     /// At this place the next document's first lexeme, or the text's end.
     End(TextPlace),

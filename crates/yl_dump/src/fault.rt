@@ -41,7 +41,7 @@ pub struct TextPlace {
 }
 
 /// A fault in a text: its place, and what is said of it.
-#[derive(Clone, Copy, Debug, PartialEq, Eq)]
+#[derive(Clone, Copy)]
 pub struct FaultMessage {
     pub place: TextPlace,
     pub text: &'static str,

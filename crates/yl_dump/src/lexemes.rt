@@ -1,5 +1,5 @@
 //! Lexemes and comments.
-ghost use Rattle.std.specs.Prelude.{◌≡◌, ◌≤◌, ◌++◌, length, OnOk};
+ghost use Rattle.std.specs.Prelude.{◌≡◌, ◌≢◌, ◌≤◌, [], ◌++◌, drop, length, OnOk};
 ghost use Rattle.yl_text.specs.declared.TheConstants.{MAX_BYTES};
 ghost use Rattle.std.specs.List.{flat_map};
 ghost use Rattle.std.specs.Option.{option_map};
@@ -83,6 +83,57 @@ fn print_step<A: Allocator>(page: &mut Page<A>, line: u32, step: &Step<A>) -> Re
     print_failed(page, line, step.failed)
 }
 
+// Reads the next line of a text, and prints what it tells.
+fn print_line<A: Allocator + Copy>(
+    page: &mut Page<A>,
+    scanner: &mut TextScanner<'_, '_, A>,
+) -> Result<(), AllocError>
+    requires { scanner.old.rows ≢ [] }
+    ensures { OnOk result (scanner.new.rows ≡ drop 1 scanner.old.rows) }
+{
+    let line = scanner.line();
+    let step = scanner.read_line()?;
+    print_step(page, line, &step)
+}
+
+// Prints what the end of a text tells.
+fn print_end<A: Allocator + Copy>(
+    page: &mut Page<A>,
+    scanner: TextScanner<'_, '_, A>,
+) -> Result<(), AllocError> {
+    let line = scanner.line();
+    let step = scanner.finish()?;
+    print_step(page, line, &step)
+}
+
+// Reads the lines of a text, prints what they tell, and writes it as it gets much.
+fn write_lines<A: Allocator + Copy, W: Write>(
+    page: &mut Page<A>,
+    scanner: &mut TextScanner<'_, '_, A>,
+    out: &mut W,
+) -> Result<(), DumpFault> {
+    while !scanner.is_done() {
+        print_line(page, scanner)?;
+        page.write_large(out)?;
+    }
+    Ok(())
+}
+
+// Reads a text, prints what it tells, and writes it.
+fn write_text<A: Allocator + Copy, W: Write>(
+    page: &mut Page<A>,
+    alloc: &A,
+    text: &str,
+    out: &mut W,
+) -> Result<(), DumpFault>
+    requires { length text.now ≤ MAX_BYTES }
+{
+    let mut scanner = TextScanner::without_states(alloc, text);
+    write_lines(page, &mut scanner, out)?;
+    print_end(page, scanner)?;
+    page.write_to(out)
+}
+
 /// Writes a line for each lexeme and each comment of a text in order, `LINE:COLUMN-LINE:COLUMN KIND "VALUE"`, and behind them
 /// `LINE:COLUMN fault "TEXT"`, if the text has a scan fault.
 pub fn write_lexemes<A: Allocator + Copy, W: Write + Drop>(
@@ -93,15 +144,5 @@ pub fn write_lexemes<A: Allocator + Copy, W: Write + Drop>(
     requires { length text.now ≤ MAX_BYTES }
 {
     let mut page = Page::new(alloc);
-    let mut scanner = TextScanner::without_states(&alloc, text);
-    while !scanner.is_done() {
-        let line = scanner.line();
-        let step = scanner.read_line()?;
-        print_step(&mut page, line, &step)?;
-        page.write_large(&mut out)?;
-    }
-    let line = scanner.line();
-    let step = scanner.finish()?;
-    print_step(&mut page, line, &step)?;
-    page.write_to(&mut out)
+    write_text(&mut page, &alloc, text, &mut out)
 }

@@ -24,6 +24,20 @@ fn print_line<A: Allocator + Copy>(
     page.text("\n")
 }
 
+// Prints what the lines of a text tell of their states, and writes it.
+fn write_states<A: Allocator + Copy, W: Write>(
+    alloc: A,
+    page: &mut Page<A>,
+    scanner: &mut TextScanner<'_, '_, A>,
+    out: &mut W,
+) -> Result<(), DumpFault> {
+    while !scanner.is_done() {
+        print_line(alloc, page, scanner)?;
+        page.write_large(out)?;
+    }
+    page.write_to(out)
+}
+
 /// Writes for each line of a text `LINE sound COLUMNS BRACKETS LAST`, with the columns of the open block collections, the open
 /// brackets and the last lexeme's kind before it, or `LINE stopped`, where a fault has come before, or `LINE not-sound`, where a
 /// lexeme or a fault's reach is in progress or the line is blank.
@@ -36,9 +50,5 @@ pub fn write_lines<A: Allocator + Copy, W: Write + Drop>(
 {
     let mut page = Page::new(alloc);
     let mut scanner = TextScanner::new(&alloc, text);
-    while !scanner.is_done() {
-        print_line(alloc, &mut page, &mut scanner)?;
-        page.write_large(&mut out)?;
-    }
-    page.write_to(&mut out)
+    write_states(alloc, &mut page, &mut scanner, &mut out)
 }

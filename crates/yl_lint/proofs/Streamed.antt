@@ -1,7 +1,7 @@
 -- Records that come row by row, and the sections that are judged among them.
 use Rattle.std.proofs.Common.{◌≡◌, ℕ, ◌+◌, ◌≤◌, Result, Ok, Err, List, [], ◌++◌, length, map, take, drop, ap, sym, refl, ◌∙◌, append-nil, arith}
 use Rattle.std.proofs.lemmas.List.{take-append-drop, drop-append-le, length-map}
-use Rattle.std.specs.Prelude.{IfOk, OnOk}
+use Rattle.std.specs.Prelude.{OnOk}
 use Rattle.yl_text.specs.Character.{indentation}
 use Rattle.yl_lexeme.specs.declared.meter.Meter.{Meter}
 use Rattle.yl_record.specs.Parts.{entries_in, indentations_in, indentation_in}
@@ -55,11 +55,6 @@ kept_at_end f some last all total records told is judged put whole =
 -- and how many documents and lines there are
 pub counted_at_end : (m : Meter) (lines documents : ℕ) → m.lines ≡ lines → m.documents ≡ documents → m ≡ record { lines = lines; documents = documents }
 counted_at_end m lines documents a b = rw (sym a, sym b) refl
-
--- no more records than that, where there are these
-pub few_if : {T E : Type 0} (r : Result T E) (items : T → List RecordValue) (told : List RecordValue) (n : ℕ) → IfOk r (λ x. items x ≡ told) → length told ≤ n → IfOk r (λ x. length (items x) ≤ n)
-few_if (Ok x) items told n is few = rw is few
-few_if (Err e) items told n is few = tt
 
 -- an answer, by what follows from it
 pub on_ok : {T E P Q : Type 0} (r : Result T E) → (P → Q) → OnOk r P → OnOk r Q

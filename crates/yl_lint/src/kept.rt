@@ -1,4 +1,4 @@
-//! The records of a text, and what is kept of its sections.
+//! What is kept of the sections of a text.
 ghost use Rattle.std.specs.Prelude.{◌≡◌, ◌<◌, ◌≤◌, ◌+◌, ◌++◌, ◌-◌, ◌^◌, ◌∷◌, [], false, ℕ, List, length, map, IfOk, OnOk};
 ghost use Rattle.std.specs.Str.{chars};
 ghost use Rattle.yl_text.specs.Store.{AreLines};
@@ -9,7 +9,7 @@ ghost use Rattle.yl_sections.specs.Judge.{kept_of_section};
 ghost use Rattle.yl_sections.specs.Kept.{documents_in};
 ghost use Rattle.yl_sections.specs.Sections.{sections};
 ghost use Rattle.yl_lint.specs.Left.{documents_left, kept_left};
-ghost use Rattle.yl_lint.specs.TextReport.{document_total, kept_of_text, records_of};
+ghost use Rattle.yl_lint.specs.TextReport.{document_total, kept_of_text};
 
 use std::alloc::{AllocError, Allocator};
 use yl_config::Config;
@@ -31,26 +31,6 @@ pub fn lent<T, A: Allocator>(alloc: A, items: &[T]) -> Result<Vec<&T, A>, AllocE
         all.push(item)?;
     }
     Ok(all)
-}
-
-/// The records of the lines of a text, with the states of the sound ones. Counts the lines in the meter. The only error is out of memory.
-pub fn records_of_lines<L: Lines>(
-    alloc: L::Alloc,
-    lines: &L,
-    meter: &mut Meter,
-) -> Result<Vec<Record<L::Alloc>, L::Alloc>, AllocError>
-    requires lines { AreLines (L.rows lines.now) }
-    requires rows { meter.old.lines + length (L.rows lines.now) < 2 ^ 32 }
-    ensures records { IfOk result (λ v. v.items ≡ records_of (L.rows lines.now)) }
-    ensures few { IfOk result (λ v. length v.items ≤ length (L.rows lines.now)) }
-    ensures counted { OnOk result (meter.new ≡ record { lines = meter.old.lines + length (L.rows lines.now); documents = meter.old.documents }) }
-{
-    rows_fit(lines);
-    let mut recorder = Recorder::start(&alloc);
-    for i in 0..lines.len() {
-        recorder.feed_text(lines.row(i).as_str(), meter)?;
-    }
-    recorder.finish()
 }
 
 /// What is kept of each section of a text with these records. Counts its documents in the meter. The only error is out of memory.

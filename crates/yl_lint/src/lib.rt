@@ -3,8 +3,8 @@
 //! The rows of a text are recorded, its sections are judged one after another, and what is kept of them is put together with what the rules
 //! on lines find: `report_of_lines`. Sections after the first with a fault are hidden.
 //!
-//! A session keeps the records and what is kept of the sections: `records_of_lines`, `kept_of_records` and `report_with_kept` are the same
-//! steps one by one.
+//! For a session, which keeps the records and what is kept of the sections, there are two of the steps by themselves: `kept_of_records` and
+//! `report_with_kept`.
 #![tactic(auto)]
 
 mod assembling;
@@ -17,7 +17,7 @@ mod lint;
 mod moving;
 
 pub use assembling::{push_section, report_of_kept};
-pub use kept::{kept_of_records, records_of_lines};
+pub use kept::kept_of_records;
 pub use laws::one_report;
 pub use lines::find_in_lines;
 pub use lint::{report_of_lines, report_of_text, report_with_kept};

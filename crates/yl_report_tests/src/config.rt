@@ -6,9 +6,14 @@ mod rows;
 mod settings;
 mod standard;
 
-use std::alloc::{AllocError, Global};
+use std::alloc::{AllocError, Allocator, Global};
 use std::test::Fail;
-use yl_config::Config;
+use yl_config::{Config, ConfigFault};
+
+/// What bytes say. It has no clauses, so that what `Config::read` promises is not carried through the proofs of the tests.
+fn read<A: Allocator + Copy>(alloc: A, bytes: &[u8]) -> Result<Config, ConfigFault> {
+    Config::read(alloc, bytes)
+}
 
 /// What is told of a text: the fault, or nothing.
 fn told(alloc: Global, text: &str) -> Result<String, AllocError> {
@@ -17,7 +22,7 @@ fn told(alloc: Global, text: &str) -> Result<String, AllocError> {
 
 /// What is told of bytes: the fault, or nothing.
 fn told_of_bytes(alloc: Global, bytes: &[u8]) -> Result<String, AllocError> {
-    match Config::read(alloc, bytes) {
+    match read(alloc, bytes) {
         Ok(_) => Ok(String::new(alloc)),
         Err(fault) => format!(in alloc; "{fault}"),
     }
@@ -25,7 +30,7 @@ fn told_of_bytes(alloc: Global, bytes: &[u8]) -> Result<String, AllocError> {
 
 /// What a text says that has no fault.
 fn accepted(alloc: Global, text: &str) -> Result<Config, Fail> {
-    match Config::read(alloc, text.as_bytes()) {
+    match read(alloc, text.as_bytes()) {
         Ok(config) => Ok(config),
         Err(_) => Err("a fault")?,
     }

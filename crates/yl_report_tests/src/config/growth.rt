@@ -1,8 +1,9 @@
 //! Each growth refused in turn, up to the first run that meets none.
+use super::read;
 use refusing::Refusing;
 use std::alloc::Global;
 use std::test::Fail;
-use yl_config::{Config, ConfigFault, FaultPlace};
+use yl_config::{ConfigFault, FaultPlace};
 
 /// A text that is accepted, and one with a fault behind a second document.
 const ROWS: [(&str, Option<ConfigFault>); 2] = [
@@ -16,21 +17,29 @@ const ROWS: [(&str, Option<ConfigFault>); 2] = [
     ),
 ];
 
+/// Whether the nth growth was asked for and refused, and the fault that was told then.
+fn fault_refused(heap: &Refusing<Global>, text: &str, n: u64) -> (bool, Option<ConfigFault>) {
+    heap.refuse(n);
+    let answer = read(heap, text.as_bytes());
+    let is_met = !heap.is_armed();
+    heap.refuse(0);
+    (is_met, answer.err())
+}
+
 /// How many growths are refused until a run meets none; each of these is answered as Memory, and the last run as ever.
-fn growths(global: Global, text: &str, fault: Option<ConfigFault>) -> Result<u64, Fail> {
-    let heap = Refusing::new(global);
+fn growths(heap: &Refusing<Global>, text: &str, fault: Option<ConfigFault>) -> Result<u64, Fail> {
     for n in 1..u64::MAX {
-        heap.refuse(n);
-        let answer = Config::read(&heap, text.as_bytes()).err();
-        if heap.is_armed() {
-            heap.refuse(0);
-            if answer != fault {
-                Err("another answer")?;
-            }
-            return Ok(n);
+        let (is_met, answer) = fault_refused(heap, text, n);
+        let wanted = if is_met {
+            Some(ConfigFault::Memory)
+        } else {
+            fault
+        };
+        if answer != wanted {
+            return Err(Fail::from("another answer"));
         }
-        if answer != Some(ConfigFault::Memory) {
-            Err("no want of memory")?;
+        if !is_met {
+            return Ok(n);
         }
     }
     Ok(0)
@@ -38,8 +47,9 @@ fn growths(global: Global, text: &str, fault: Option<ConfigFault>) -> Result<u64
 
 #[test]
 fn each_growth_is_refused(rt: HostRuntime) -> Result<(), Fail> {
+    let heap = Refusing::new(rt.alloc());
     for (text, fault) in ROWS {
-        let count = growths(rt.alloc(), text, fault)?;
+        let count = growths(&heap, text, fault)?;
         assert!(rt; count > 20, "{count} growths");
     }
     Ok(())

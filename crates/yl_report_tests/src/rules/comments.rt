@@ -1,5 +1,6 @@
 use super::shown;
 use std::alloc::{AllocError, Global};
+use std::process::Abort;
 use std::test::Fail;
 use yl_lexeme::PlacedComment;
 use yl_rules::{CommentsOptions, comment_problems};
@@ -14,89 +15,128 @@ fn found_in(
     shown(alloc, found.as_slice())
 }
 
+// A comment in a line and a column behind a column of content, and what is found in it.
+const USUAL: &[(u32, u32, &str, Option<u32>, &str)] = &[
+    (
+        1,
+        5,
+        "# x",
+        Some(4),
+        "2:6 comments too few spaces before comment\n",
+    ),
+    (1, 6, "# x", Some(4), ""),
+    (1, 1, "# x", None, ""),
+    (
+        1,
+        0,
+        "##x",
+        None,
+        "2:3 comments missing starting space in comment\n",
+    ),
+    (
+        1,
+        2,
+        "#é",
+        None,
+        "2:4 comments missing starting space in comment\n",
+    ),
+    (
+        1,
+        0,
+        "#\tx",
+        None,
+        "2:2 comments missing starting space in comment\n",
+    ),
+    (1, 0, "###", None, ""),
+    (
+        1,
+        5,
+        "#x",
+        Some(4),
+        "2:6 comments too few spaces before comment\n2:7 comments missing starting space in comment\n",
+    ),
+    (0, 0, "#!x", None, ""),
+    (0, 0, "##!é", None, ""),
+    (
+        1,
+        0,
+        "#!x",
+        None,
+        "2:2 comments missing starting space in comment\n",
+    ),
+    (
+        0,
+        1,
+        "#!x",
+        None,
+        "1:3 comments missing starting space in comment\n",
+    ),
+    (
+        0,
+        0,
+        "#! x",
+        None,
+        "1:2 comments missing starting space in comment\n",
+    ),
+    (
+        0,
+        0,
+        "#!",
+        None,
+        "1:2 comments missing starting space in comment\n",
+    ),
+];
+
+fn check(
+    rt: &impl Abort,
+    alloc: Global,
+    comment: PlacedComment<'_>,
+    options: &CommentsOptions,
+    wanted: &str,
+) -> Result<(), Fail> {
+    let found = found_in(alloc, comment, options)?;
+    assert_eq!(rt; found.as_str(), wanted, "at {}", comment.text);
+    Ok(())
+}
+
 #[test]
 fn comments_with_the_usual_options(rt: HostRuntime) -> Result<(), Fail> {
-    for (line, col, text, behind, wanted) in [
-        (
-            1,
-            5,
-            "# x",
-            Some(4),
-            "2:6 comments too few spaces before comment\n",
-        ),
-        (1, 6, "# x", Some(4), ""),
-        (1, 1, "# x", None, ""),
-        (
-            1,
-            0,
-            "##x",
-            None,
-            "2:3 comments missing starting space in comment\n",
-        ),
-        (
-            1,
-            2,
-            "#é",
-            None,
-            "2:4 comments missing starting space in comment\n",
-        ),
-        (
-            1,
-            0,
-            "#\tx",
-            None,
-            "2:2 comments missing starting space in comment\n",
-        ),
-        (1, 0, "###", None, ""),
-        (
-            1,
-            5,
-            "#x",
-            Some(4),
-            "2:6 comments too few spaces before comment\n2:7 comments missing starting space in comment\n",
-        ),
-        (0, 0, "#!x", None, ""),
-        (0, 0, "##!é", None, ""),
-        (
-            1,
-            0,
-            "#!x",
-            None,
-            "2:2 comments missing starting space in comment\n",
-        ),
-        (
-            0,
-            1,
-            "#!x",
-            None,
-            "1:3 comments missing starting space in comment\n",
-        ),
-        (
-            0,
-            0,
-            "#! x",
-            None,
-            "1:2 comments missing starting space in comment\n",
-        ),
-        (
-            0,
-            0,
-            "#!",
-            None,
-            "1:2 comments missing starting space in comment\n",
-        ),
-    ] {
+    for row in USUAL {
+        let (line, col, text, behind, wanted) = *row;
         let comment = PlacedComment {
             line,
             col,
             text,
             behind,
         };
-        let found = found_in(rt.alloc(), comment, &CommentsOptions::standard())?;
-        assert_eq!(rt; found.as_str(), wanted, "at {text}");
+        check(
+            &rt,
+            rt.alloc(),
+            comment,
+            &CommentsOptions::standard(),
+            wanted,
+        )?;
     }
     Ok(())
 }
+
+// Options: whether a space is wanted, whether a shebang is spared, and how many spaces before; and what is found under them.
+const OTHER: &[(bool, bool, Option<u32>, &str)] = &[
+    (true, true, None, ""),
+    (
+        true,
+        false,
+        None,
+        "1:2 comments missing starting space in comment\n",
+    ),
+    (false, false, None, ""),
+    (
+        false,
+        true,
+        Some(1),
+        "1:1 comments too few spaces before comment\n",
+    ),
+];
 
 #[test]
 fn comments_with_other_options(rt: HostRuntime) -> Result<(), Fail> {
@@ -106,29 +146,14 @@ fn comments_with_other_options(rt: HostRuntime) -> Result<(), Fail> {
         text: "#!x",
         behind: Some(0),
     };
-    for (require_starting_space, ignore_shebangs, min_spaces_from_content, wanted) in [
-        (true, true, None, ""),
-        (
-            true,
-            false,
-            None,
-            "1:2 comments missing starting space in comment\n",
-        ),
-        (false, false, None, ""),
-        (
-            false,
-            true,
-            Some(1),
-            "1:1 comments too few spaces before comment\n",
-        ),
-    ] {
+    for row in OTHER {
+        let (require_starting_space, ignore_shebangs, min_spaces_from_content, wanted) = *row;
         let options = CommentsOptions {
             require_starting_space,
             ignore_shebangs,
             min_spaces_from_content,
         };
-        let found = found_in(rt.alloc(), comment, &options)?;
-        assert_eq!(rt; found.as_str(), wanted);
+        check(&rt, rt.alloc(), comment, &options, wanted)?;
     }
     Ok(())
 }
