@@ -1,7 +1,6 @@
 -- Lists of problems whose lines are apart are arranged one after another; moved lists are arranged as they are.
-use Rattle.std.proofs.Common.{◌≡◌, ℕ, ◌+◌, ◌-◌, ◌<◌, ◌≤◌, Bool, true, false, List, [], ◌∷◌, ◌++◌, map, Option, Some, None, refl, ap, sym, ◌∙◌, arith, ◌⊎◌, inl, inr, cond}
-use Rattle.std.specs.Prelude.{◌&&◌, ◌||◌, not, is_some}
-use Rattle.std.specs.List.{AllByRecursion, filter, filter_map, cons_option, Contains}
+use Rattle.std.proofs.Common.{◌≡◌, ℕ, ◌+◌, ◌<◌, ◌≤◌, Bool, true, false, List, [], ◌∷◌, ◌++◌, map, Option, Some, None, refl, ap, sym, ◌∙◌, arith, ◌⊎◌, inl, inr, cond}
+use Rattle.std.specs.List.{AllByRecursion, filter, filter_map, cons_option}
 use Rattle.std.specs.Option.{option_map}
 use Rattle.std.specs.Ordering.{nat_cmp, MatchOrdering, ordering_then}
 use Rattle.std.specs.Cmp.{nat_cmp_is, ranked}
@@ -12,8 +11,7 @@ use Rattle.yl_text.specs.Finding.{FindingValue}
 use Rattle.yl_text.specs.declared.finding.RuleId.{RuleId}
 use Rattle.yl_rules.specs.declared.level.Level.{Level}
 use Rattle.yl_rules.specs.Levels.{LevelTable}
-use Rattle.yl_report.specs.Report.{ProblemValue, finding_order, order_in_line, insert_by, insert_once, sorted_once, is_reported, with_level, report_of, is_syntax}
-use Rattle.yl_report.specs.Arranged.{IsArranged}
+use Rattle.yl_report.specs.Report.{ProblemValue, finding_order, order_in_line, insert_by, insert_once, sorted_once, is_reported, with_level, report_of}
 use Rattle.yl_report.proofs.Unique.{one_arrangement}
 use Rattle.yl_report.proofs.Inserted.{sorted_once_arranged}
 use Rattle.yl_report.proofs.Unique.{In, in_from, from_in}

@@ -1,5 +1,5 @@
 -- What follows of optional values, and of one report and its parts.
-use Rattle.std.proofs.Common.{◌≡◌, ℕ, Bool, true, false, not, List, Option, Some, None, refl, sym}
+use Rattle.std.proofs.Common.{◌≡◌, ℕ, Bool, false, List, Option, Some, None, refl}
 use Rattle.std.specs.Prelude.{IfSome}
 use Rattle.yl_text.specs.declared.finding.RuleId.{RuleId}
 use Rattle.yl_text.specs.Finding.{FindingValue}
@@ -10,10 +10,7 @@ use Rattle.yl_settings.specs.declared.options.RuleOptions.{RuleOptions}
 use Rattle.yl_report.specs.Report.{report_of}
 use Rattle.yl_sections.specs.Kept.{KeptValue}
 use Rattle.yl_patch.specs.There.{found_there}
-
-pub held : {X P : Type 0} (o : Option X) → P → IfSome o (λ x. P)
-held None p = tt
-held (Some x) p = p
+use Rattle.yl_patch.specs.declared.touched.Ends.{Ends}
 
 pub then : {X : Type 0} {P Q : X → Type 0} (o : Option X) → IfSome o P → ((x : X) → P x → Q x) → IfSome o Q
 then None p f = tt
@@ -23,12 +20,8 @@ pub then_all : {X : Type 0} {P Q R S : X → Type 0} (o : Option X) → IfSome o
 then_all None p q r f = tt
 then_all (Some x) p q r f = f x p q r
 
-pub holds : (b : Bool) → not b ≡ false → b ≡ true
-holds true h = refl
-holds false h = sym h
-
 pub same_report : (l m : LevelTable) (file : Bool) (s t : RuleId → ℕ → Bool) (xs ys : List FindingValue) → l ≡ m → file ≡ false → s ≡ t → xs ≡ ys → report_of l file s xs ≡ report_of m false t ys
 same_report l m file s t xs ys a b c d = rw (a, b, c, d) refl
 
-pub same_there : (o : RuleOptions) (w v b d : Measure) (xs ys : List RowValue) (ks : List KeptValue) → w ≡ v → b ≡ d → xs ≡ ys → found_there o w b xs ks ≡ found_there o v d ys ks
-same_there o w v b d xs ys ks e f h = rw (e, f, h) refl
+pub same_there : (o : RuleOptions) (e : Ends) (w v b d : Measure) (xs ys : List RowValue) (ks : List KeptValue) → w ≡ v → b ≡ d → xs ≡ ys → found_there o e w b xs ks ≡ found_there o e v d ys ks
+same_there o e w v b d xs ys ks f g h = rw (f, g, h) refl

@@ -1,10 +1,10 @@
--- What the rules on lines find in lines that stand one after another: where the second lines begin with one that is not empty, each part by itself.
-use Rattle.std.proofs.Common.{◌≡◌, ℕ, suc, ◌+◌, ◌-◌, ◌<◌, ◌≤◌, ◌==◌, Bool, true, false, List, [], ◌∷◌, ◌++◌, length, map, Option, Some, None, refl, ap, sym, ◌∙◌, arith, rules, append_assoc, if◌then◌else◌, cond, get_or, length-append}
+-- What the rules on lines find in lines that stand one after another: where no run of empty lines can go on from the first to the second, each part by itself.
+use Rattle.std.proofs.Common.{◌≡◌, ℕ, suc, ◌+◌, ◌-◌, ◌<◌, ◌≤◌, ◌==◌, Bool, true, false, List, [], ◌∷◌, ◌++◌, length, map, Option, Some, None, refl, ap, sym, ◌∙◌, arith, append_assoc, if◌then◌else◌, cond, get_or, length-append, append-nil}
 use Rattle.std.specs.Prelude.{◌&&◌, ◌||◌, not}
 use Rattle.std.specs.List.{AllByRecursion, slice_get, prefix_len}
 use Rattle.std.specs.Str.{chars}
 use Rattle.std.proofs.lemmas.List.{map-append, places}
-use Rattle.std.proofs.lemmas.Bool.{ne_eqb}
+use Rattle.std.proofs.lemmas.Bool.{eq-eqb, ne_eqb}
 use Rattle.std.proofs.lemmas.Option.{slice_get-get_or}
 use Rattle.yl_text.specs.Finding.{FindingValue, one_finding, at_each}
 use Rattle.yl_text.specs.Lines.{RowValue}
@@ -13,13 +13,15 @@ use Rattle.yl_text.specs.declared.row.Break.TheVariants.{No}
 use Rattle.yl_rules.specs.declared.empty_lines.EmptyLinesOptions.{EmptyLinesOptions}
 use Rattle.yl_rules.specs.declared.new_lines.NewLine.{NewLine}
 use Rattle.yl_rules.specs.declared.options.RowOptions.{RowOptions}
-use Rattle.yl_rules.specs.EmptyLines.{is_break_only, has_break, goes_on, is_text_end, max_run, too_many_blank_lines, empty_lines_at, at_end_of_run, empty_lines, run_findings_of}
+use Rattle.yl_rules.specs.EmptyLines.{is_break_only, goes_on, is_text_end, max_run, too_many_blank_lines, empty_lines_at, at_end_of_run, empty_lines, run_findings_of}
 use Rattle.yl_rules.specs.EndOfFile.{end_of_file_at, end_of_file}
-use Rattle.yl_rules.specs.NewLines.{new_lines_at, new_lines, is_wrong_break}
-use Rattle.yl_rules.specs.Rows.{row_findings, line_findings}
-use Rattle.yl_rules.specs.TrailingSpaces.{trailing_spaces, end_white}
-use Rattle.yl_rules.specs.LineLength.{line_length, is_non_breakable}
+use Rattle.yl_rules.specs.NewLines.{new_lines}
+use Rattle.yl_rules.specs.Rows.{row_findings}
+use Rattle.yl_rules.specs.TrailingSpaces.{trailing_spaces}
+use Rattle.yl_rules.specs.LineLength.{line_length}
+use Rattle.yl_sections.specs.Kept.{items_if}
 use Rattle.yl_lint.specs.TextReport.{moved, findings_from}
+use Rattle.yl_patch.specs.Cut.{is_filled}
 
 -- in lines behind one, up to another
 abbrev pub Between : ℕ → ℕ → List FindingValue → Type 0
@@ -146,7 +148,7 @@ runs_back o base ys y h =
     ∙ (runs_moved o base (y ∷ []) ys (no_run y h)
     ∙ ap (λ (fs : List FindingValue). map (moved (length base)) (fs ++ at_each (empty_lines_at o) (y ∷ []) ys)) (sym (first_none o [] ys y h)))
 
-pub empty_lines_apart : (o : EmptyLinesOptions) (xs ys : List RowValue) (y : RowValue) → (length y.text == 0) ≡ false
+empty_lines_apart : (o : EmptyLinesOptions) (xs ys : List RowValue) (y : RowValue) → (length y.text == 0) ≡ false
     → empty_lines o (xs ++ y ∷ ys) ≡ empty_lines o xs ++ map (moved (length xs)) (empty_lines o (y ∷ ys))
 empty_lines_apart o xs ys y h =
     runs_front o [] xs ys y h
@@ -200,7 +202,82 @@ last_row xs ys y =
     slice_get-get_or (xs ++ y ∷ ys) (length (xs ++ y ∷ ys) - 1) no_row (omega (arith, length-append xs (y ∷ ys)))
     ∙ (ap Some (last_get xs ys y) ∙ sym (slice_get-get_or (y ∷ ys) (length (y ∷ ys) - 1) no_row (omega arith)))
 
-pub end_of_file_apart : (xs ys : List RowValue) (y : RowValue) → end_of_file (xs ++ y ∷ ys) ≡ map (moved (length xs)) (end_of_file (y ∷ ys))
+end_of_file_apart : (xs ys : List RowValue) (y : RowValue) → end_of_file (xs ++ y ∷ ys) ≡ map (moved (length xs)) (end_of_file (y ∷ ys))
 end_of_file_apart xs ys y =
     ap (λ (o : Option RowValue). end_of_file_at (length (xs ++ y ∷ ys)) o) (last_row xs ys y)
     ∙ (ap (λ k. end_of_file_at k (slice_get (y ∷ ys) (length (y ∷ ys) - 1))) (length-append xs (y ∷ ys)) ∙ end_moved (length xs) (length (y ∷ ys)) (slice_get (y ∷ ys) (length (y ∷ ys) - 1)))
+
+-- ---- either part, which may have no line
+
+-- whether it is so where there is no line
+abbrev pub if_none : List RowValue → Bool → Bool
+if_none [] b = b
+if_none (row ∷ rows) b = false
+
+-- no run of empty lines goes on from the first lines to the second
+abbrev pub is_seam : List RowValue → List RowValue → Bool
+is_seam [] ys = true
+is_seam (x ∷ xs) [] = true
+is_seam (x ∷ xs) (y ∷ ys) = not (length y.text == 0)
+
+not_empty : (b : Bool) → not b ≡ true → b ≡ false
+not_empty true h = sym h
+not_empty false h = refl
+
+same_finding : (f : FindingValue) → f ≡ moved 0 f
+same_finding f =
+    let line : f.line ≡ 0 + f.line = omega arith in
+    λ i. record { line = line i; column = f.column; rule = f.rule; message = f.message }
+
+not_moved : (fs : List FindingValue) → fs ≡ map (moved 0) fs
+not_moved [] = refl
+not_moved (f ∷ fs) = ap (λ (g : FindingValue). g ∷ fs) (same_finding f) ∙ ap (λ (gs : List FindingValue). moved 0 f ∷ gs) (not_moved fs)
+
+nothing_if : (b : Bool) → items_if {X = FindingValue} b [] ≡ []
+nothing_if true = refl
+nothing_if false = refl
+
+if_moved : (n : ℕ) (b : Bool) (fs gs : List FindingValue) → gs ≡ map (moved n) fs → items_if b gs ≡ map (moved n) (items_if b fs)
+if_moved n true fs gs h = h
+if_moved n false fs gs h = refl
+
+pub first_apart : (wanted : NewLine) (b : Bool) (xs ys : List RowValue)
+    → items_if b (new_lines wanted (xs ++ ys)) ≡ items_if b (new_lines wanted xs) ++ map (moved (length xs)) (items_if (if_none xs b) (new_lines wanted ys))
+first_apart wanted b [] ys = if_moved 0 b (new_lines wanted ys) (new_lines wanted ys) (not_moved (new_lines wanted ys)) ∙ ap (λ (fs : List FindingValue). fs ++ map (moved 0) (items_if b (new_lines wanted ys))) (sym (nothing_if b))
+first_apart wanted b (x ∷ xs) ys = sym (append-nil (items_if b (new_lines wanted (x ∷ xs))))
+
+pub last_apart : (b : Bool) (xs ys : List RowValue) → items_if b (end_of_file (xs ++ ys)) ≡ items_if (if_none ys b) (end_of_file xs) ++ map (moved (length xs)) (items_if b (end_of_file ys))
+last_apart b xs [] =
+    ap (λ (rows : List RowValue). items_if b (end_of_file rows)) (append-nil xs)
+    ∙ (sym (append-nil (items_if b (end_of_file xs))) ∙ ap (λ (fs : List FindingValue). items_if b (end_of_file xs) ++ map (moved (length xs)) fs) (sym (nothing_if b)))
+last_apart b xs (y ∷ ys) = if_moved (length xs) b (end_of_file (y ∷ ys)) (end_of_file (xs ++ y ∷ ys)) (end_of_file_apart xs ys y)
+
+pub runs_apart : (o : EmptyLinesOptions) (xs ys : List RowValue) → is_seam xs ys ≡ true → empty_lines o (xs ++ ys) ≡ empty_lines o xs ++ map (moved (length xs)) (empty_lines o ys)
+runs_apart o [] ys h = not_moved (empty_lines o ys)
+runs_apart o (x ∷ xs) [] h = ap (empty_lines o) (append-nil (x ∷ xs)) ∙ sym (append-nil (empty_lines o (x ∷ xs)))
+runs_apart o (x ∷ xs) (y ∷ ys) h = empty_lines_apart o (x ∷ xs) ys y (not_empty (length y.text == 0) h)
+
+-- where there are lines, only the next line counts
+pub seam_more : (xs ys zs : List RowValue) (y : RowValue) → is_seam xs (y ∷ ys) ≡ true → is_seam xs (y ∷ zs) ≡ true
+seam_more [] ys zs y h = refl
+seam_more (x ∷ xs) ys zs y h = h
+
+pub seam_behind : (xs ps zs : List RowValue) (x p : RowValue) → is_seam (x ∷ xs) zs ≡ true → is_seam (p ∷ ps) zs ≡ true
+seam_behind xs ps [] x p h = refl
+seam_behind xs ps (z ∷ zs) x p h = h
+
+-- a seam where one side has no line, or else the second lines begin with one that is not empty
+pub front_seam : (xs ys : List RowValue) → (if_none xs true ≡ false → is_filled (slice_get ys 0) ≡ true) → is_seam xs ys ≡ true
+front_seam [] ys h = refl
+front_seam (x ∷ xs) [] h = refl
+front_seam (x ∷ xs) (y ∷ ys) h = h refl
+
+pub back_seam : (xs ys : List RowValue) → (if_none ys true ≡ false → is_filled (slice_get ys 0) ≡ true) → is_seam xs ys ≡ true
+back_seam [] ys h = refl
+back_seam (x ∷ xs) [] h = refl
+back_seam (x ∷ xs) (y ∷ ys) h = h refl
+
+-- whether there is no line, by two numbers
+pub none_by : (rows : List RowValue) (n m : ℕ) → (length rows ≡ 0 → n ≡ m) → (n ≡ m → length rows ≡ 0) → (n == m) ≡ if_none rows true
+none_by [] n m h g = eq-eqb n m (h refl)
+none_by (row ∷ rows) n m h g = ne_eqb n m (λ e. omega (arith, g e))

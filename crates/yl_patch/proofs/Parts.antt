@@ -1,11 +1,10 @@
 -- The problems of lines and sections one after another are those of each part, one after another; so a part can be replaced by itself.
-use Rattle.std.proofs.Common.{◌≡◌, ℕ, suc, ◌+◌, ◌-◌, ◌<◌, ◌≤◌, ◌==◌, Bool, true, false, List, [], ◌∷◌, ◌++◌, length, map, take, drop, refl, ap, sym, ◌∙◌, arith, rules, append_assoc, append-nil, length-append, cond, nat_le}
+use Rattle.std.proofs.Common.{◌≡◌, ℕ, ◌+◌, ◌-◌, ◌<◌, ◌≤◌, Bool, true, false, List, [], ◌∷◌, ◌++◌, length, map, take, drop, refl, ap, sym, ◌∙◌, arith, rules, append_assoc, cond}
 use Rattle.std.specs.List.{AllByRecursion, prefix_len}
-use Rattle.std.proofs.lemmas.List.{map-append, length-map, same_lists, places}
+use Rattle.std.proofs.lemmas.List.{map-append, same_lists, places}
 use Rattle.std.proofs.lemmas.Bool.{le-leb, lt-leb}
 use Rattle.yl_text.specs.Finding.{FindingValue}
 use Rattle.yl_text.specs.Lines.{RowValue}
-use Rattle.yl_rules.specs.declared.new_lines.NewLine.{NewLine}
 use Rattle.yl_rules.specs.EmptyLines.{empty_lines}
 use Rattle.yl_rules.specs.EndOfFile.{end_of_file}
 use Rattle.yl_rules.specs.NewLines.{new_lines}
@@ -14,12 +13,11 @@ use Rattle.yl_indentation.specs.declared.measure.Measure.{Measure}
 use Rattle.yl_indentation.specs.Measures.{and_later}
 use Rattle.yl_settings.specs.declared.options.RuleOptions.{RuleOptions}
 use Rattle.yl_report.specs.Report.{ProblemValue}
-use Rattle.yl_report.proofs.Unique.{In}
 use Rattle.yl_sections.specs.Kept.{KeptValue, items_if}
 use Rattle.yl_lint.specs.TextReport.{moved, findings_from, findings_in_sections}
 use Rattle.yl_patch.specs.Plain.{IsPlain, row_sum}
-use Rattle.yl_patch.proofs.Arranged.{AreSame, arranged, arranged_same, arranged_apart, arranged_moved, arranged_lines, lower, in_front, in_behind, in_either}
-use Rattle.yl_patch.proofs.Lines.{Between, between_both, rows_apart, rows_between, empty_lines_apart, empty_lines_between, new_lines_between, end_of_file_between, end_of_file_apart}
+use Rattle.yl_patch.proofs.Arranged.{AreSame, arranged, arranged_same, arranged_apart, arranged_moved, lower, in_front, in_behind, in_either}
+use Rattle.yl_patch.proofs.Lines.{Between, between_both, empty_lines_between, end_of_file_between, first_apart, if_none, is_seam, last_apart, new_lines_between, rows_apart, rows_between, runs_apart}
 use Rattle.yl_patch.proofs.Sections.{between_wider, between_moved, measured, sections_apart, sections_between}
 use Rattle.yl_patch.specs.Patched.{is_upto, patched, shifted}
 
@@ -36,10 +34,6 @@ if_between : (low high : ℕ) (b : Bool) (fs : List FindingValue) → Between lo
 if_between low high true fs h = h
 if_between low high false fs h = tt
 
-if_moved : (n : ℕ) (b : Bool) (fs gs : List FindingValue) → gs ≡ map (moved n) fs → items_if b gs ≡ map (moved n) (items_if b fs)
-if_moved n true fs gs h = h
-if_moved n false fs gs h = refl
-
 pub part_between : (o : RuleOptions) (whole : Measure) (begins ends : Bool) (before : Measure) (rows : List RowValue) (ks : List KeptValue) (high : ℕ) → AllByRecursion IsPlain ks → length rows ≤ high → row_sum ks ≤ high
     → Between 0 high (part o whole begins ends before rows ks)
 part_between o whole begins ends before rows ks high h l m =
@@ -52,57 +46,37 @@ part_between o whole begins ends before rows ks high h l m =
 
 -- ---- the members of two parts
 
-module _ (r₁ r₂ n e₁ e₂ z s₁ s₂ : List FindingValue) where
+same_members : (xs : List FindingValue) → AreSame xs xs
+same_members xs = record { there = λ f h. h; back = λ f h. h }
+
+-- of lists of two parts each, where the first parts come first, and then the second ones
+parted_more : (xs ys front back more : List FindingValue) → AreSame more (front ++ back) → AreSame ((xs ++ ys) ++ more) ((xs ++ front) ++ (ys ++ back))
+parted_more xs ys front back more s = record {
+  there = λ f h.
+      in_either f (xs ++ ys) more h
+      (λ a. in_either f xs ys a (λ p. in_front f (xs ++ front) (ys ++ back) (in_front f xs front p)) (λ p. in_behind f (xs ++ front) (ys ++ back) (in_front f ys back p)))
+      (λ a. in_either f front back (s.there f a) (λ p. in_front f (xs ++ front) (ys ++ back) (in_behind f xs front p)) (λ p. in_behind f (xs ++ front) (ys ++ back) (in_behind f ys back p)));
+  back = λ f h.
+      in_either f (xs ++ front) (ys ++ back) h
+      (λ a. in_either f xs front a (λ p. in_front f (xs ++ ys) more (in_front f xs ys p)) (λ p. in_behind f (xs ++ ys) more (s.back f (in_front f front back p))))
+      (λ a. in_either f ys back a (λ p. in_front f (xs ++ ys) more (in_behind f xs ys p)) (λ p. in_behind f (xs ++ ys) more (s.back f (in_behind f front back p))));
+}
+
+module _ (r₁ r₂ n₁ n₂ e₁ e₂ z₁ z₂ s₁ s₂ : List FindingValue) where
   abbrev together : List FindingValue
-  together = (r₁ ++ r₂) ++ (n ++ ((e₁ ++ e₂) ++ (z ++ (s₁ ++ s₂))))
+  together = (r₁ ++ r₂) ++ ((n₁ ++ n₂) ++ ((e₁ ++ e₂) ++ ((z₁ ++ z₂) ++ (s₁ ++ s₂))))
 
   abbrev front : List FindingValue
-  front = r₁ ++ (n ++ (e₁ ++ s₁))
+  front = r₁ ++ (n₁ ++ (e₁ ++ (z₁ ++ s₁)))
 
   abbrev back : List FindingValue
-  back = r₂ ++ (e₂ ++ (z ++ s₂))
-
-  to_front : (f : FindingValue) → In f front → In f (front ++ back)
-  to_front f h = in_front f front back h
-
-  to_back : (f : FindingValue) → In f back → In f (front ++ back)
-  to_back f h = in_behind f front back h
-
-  there : (f : FindingValue) → In f together → In f (front ++ back)
-  there f h =
-      in_either f (r₁ ++ r₂) _ h
-      (λ a. in_either f r₁ r₂ a (λ p. to_front f (in_front f r₁ _ p)) (λ p. to_back f (in_front f r₂ _ p)))
-      (λ a. in_either f n _ a (λ p. to_front f (in_behind f r₁ _ (in_front f n _ p)))
-      (λ b. in_either f (e₁ ++ e₂) _ b
-      (λ c. in_either f e₁ e₂ c (λ p. to_front f (in_behind f r₁ _ (in_behind f n _ (in_front f e₁ s₁ p)))) (λ p. to_back f (in_behind f r₂ _ (in_front f e₂ _ p))))
-      (λ c. in_either f z _ c (λ p. to_back f (in_behind f r₂ _ (in_behind f e₂ _ (in_front f z s₂ p))))
-      (λ d. in_either f s₁ s₂ d (λ p. to_front f (in_behind f r₁ _ (in_behind f n _ (in_behind f e₁ s₁ p)))) (λ p. to_back f (in_behind f r₂ _ (in_behind f e₂ _ (in_behind f z s₂ p))))))))
-
-  at_r : (f : FindingValue) → In f (r₁ ++ r₂) → In f together
-  at_r f h = in_front f (r₁ ++ r₂) _ h
-
-  at_n : (f : FindingValue) → In f n → In f together
-  at_n f h = in_behind f (r₁ ++ r₂) _ (in_front f n _ h)
-
-  at_e : (f : FindingValue) → In f (e₁ ++ e₂) → In f together
-  at_e f h = in_behind f (r₁ ++ r₂) _ (in_behind f n _ (in_front f (e₁ ++ e₂) _ h))
-
-  at_z : (f : FindingValue) → In f z → In f together
-  at_z f h = in_behind f (r₁ ++ r₂) _ (in_behind f n _ (in_behind f (e₁ ++ e₂) _ (in_front f z _ h)))
-
-  at_s : (f : FindingValue) → In f (s₁ ++ s₂) → In f together
-  at_s f h = in_behind f (r₁ ++ r₂) _ (in_behind f n _ (in_behind f (e₁ ++ e₂) _ (in_behind f z _ h)))
-
-  from : (f : FindingValue) → In f (front ++ back) → In f together
-  from f h =
-      in_either f front back h
-      (λ a. in_either f r₁ _ a (λ p. at_r f (in_front f r₁ r₂ p))
-      (λ b. in_either f n _ b (λ p. at_n f p) (λ c. in_either f e₁ s₁ c (λ p. at_e f (in_front f e₁ e₂ p)) (λ p. at_s f (in_front f s₁ s₂ p)))))
-      (λ a. in_either f r₂ _ a (λ p. at_r f (in_behind f r₁ r₂ p))
-      (λ b. in_either f e₂ _ b (λ p. at_e f (in_behind f e₁ e₂ p)) (λ c. in_either f z s₂ c (λ p. at_z f p) (λ p. at_s f (in_behind f s₁ s₂ p)))))
+  back = r₂ ++ (n₂ ++ (e₂ ++ (z₂ ++ s₂)))
 
   members : AreSame together (front ++ back)
-  members = record { there = there; back = from }
+  members =
+      parted_more r₁ r₂ (n₁ ++ (e₁ ++ (z₁ ++ s₁))) (n₂ ++ (e₂ ++ (z₂ ++ s₂))) ((n₁ ++ n₂) ++ ((e₁ ++ e₂) ++ ((z₁ ++ z₂) ++ (s₁ ++ s₂))))
+      (parted_more n₁ n₂ (e₁ ++ (z₁ ++ s₁)) (e₂ ++ (z₂ ++ s₂)) ((e₁ ++ e₂) ++ ((z₁ ++ z₂) ++ (s₁ ++ s₂)))
+      (parted_more e₁ e₂ (z₁ ++ s₁) (z₂ ++ s₂) ((z₁ ++ z₂) ++ (s₁ ++ s₂)) (parted_more z₁ z₂ s₁ s₂ (s₁ ++ s₂) (same_members (s₁ ++ s₂)))))
 
 lines_at_most : (n : ℕ) (fs : List FindingValue) → Between 0 n fs → AllByRecursion (λ f. f.line ≤ n) fs
 lines_at_most n [] h = tt
@@ -112,70 +86,82 @@ lines_above : (n high : ℕ) (fs : List FindingValue) → Between n high fs → 
 lines_above n high [] h = tt
 lines_above n high (f ∷ fs) h = (h.0.0, lines_above n high fs h.1)
 
-module _ (levels : LevelTable) (o : RuleOptions) (whole : Measure) (begins ends : Bool) (before : Measure) (xs ys : List RowValue) (y : RowValue) (ks ls : List KeptValue)
-    (plain : AllByRecursion IsPlain ks) (plain' : AllByRecursion IsPlain ls) (fit : row_sum ks ≡ length xs) (some : (length y.text == 0) ≡ false)
-    (same : items_if begins (new_lines o.run.new_line (xs ++ y ∷ ys)) ≡ items_if begins (new_lines o.run.new_line xs)) where
+module _ (levels : LevelTable) (o : RuleOptions) (whole : Measure) (begins ends : Bool) (before : Measure) (xs ys : List RowValue) (ks ls : List KeptValue)
+    (plain : AllByRecursion IsPlain ks) (plain' : AllByRecursion IsPlain ls) (fit : row_sum ks ≡ length xs) (seam : is_seam xs ys ≡ true) where
   abbrev m : List FindingValue → List FindingValue
   m fs = map (moved (length xs)) fs
 
   abbrev later : Measure
   later = and_later before (measured ks)
 
-  abbrev r₂ : List FindingValue
-  r₂ = findings_from o.row 1 (y ∷ ys)
-
-  abbrev e₂ : List FindingValue
-  e₂ = empty_lines o.run.empty_lines (y ∷ ys)
-
-  abbrev z₂ : List FindingValue
-  z₂ = items_if ends (end_of_file (y ∷ ys))
-
-  abbrev s₂ : List FindingValue
-  s₂ = findings_in_sections o.indentation whole 0 later ls
-
   abbrev r₁ : List FindingValue
   r₁ = findings_from o.row 1 xs
+
+  abbrev r₂ : List FindingValue
+  r₂ = findings_from o.row 1 ys
 
   abbrev n₁ : List FindingValue
   n₁ = items_if begins (new_lines o.run.new_line xs)
 
+  abbrev n₂ : List FindingValue
+  n₂ = items_if (if_none xs begins) (new_lines o.run.new_line ys)
+
   abbrev e₁ : List FindingValue
   e₁ = empty_lines o.run.empty_lines xs
+
+  abbrev e₂ : List FindingValue
+  e₂ = empty_lines o.run.empty_lines ys
+
+  abbrev z₁ : List FindingValue
+  z₁ = items_if (if_none ys ends) (end_of_file xs)
+
+  abbrev z₂ : List FindingValue
+  z₂ = items_if ends (end_of_file ys)
 
   abbrev s₁ : List FindingValue
   s₁ = findings_in_sections o.indentation whole 0 before ks
 
+  abbrev s₂ : List FindingValue
+  s₂ = findings_in_sections o.indentation whole 0 later ls
+
+  abbrev first_part : List FindingValue
+  first_part = part o whole begins (if_none ys ends) before xs ks
+
+  abbrev second_part : List FindingValue
+  second_part = part o whole (if_none xs begins) ends later ys ls
+
   sections_are : findings_in_sections o.indentation whole 0 before (ks ++ ls) ≡ s₁ ++ m s₂
   sections_are = sections_apart o.indentation whole before ks ls ∙ ap (λ k. s₁ ++ map (moved k) s₂) fit
 
-  whole_is : part o whole begins ends before (xs ++ y ∷ ys) (ks ++ ls) ≡ together r₁ (m r₂) n₁ e₁ (m e₂) (m z₂) s₁ (m s₂)
+  whole_is : part o whole begins ends before (xs ++ ys) (ks ++ ls) ≡ together r₁ (m r₂) n₁ (m n₂) e₁ (m e₂) z₁ (m z₂) s₁ (m s₂)
   whole_is =
-      rw (rows_apart o.row xs (y ∷ ys), same, empty_lines_apart o.run.empty_lines xs ys y some, if_moved (length xs) ends (end_of_file (y ∷ ys)) (end_of_file (xs ++ y ∷ ys)) (end_of_file_apart xs ys y), sections_are)
+      rw (rows_apart o.row xs ys, first_apart o.run.new_line begins xs ys, runs_apart o.run.empty_lines xs ys seam, last_apart ends xs ys, sections_are)
       refl
 
-  back_is : back r₁ (m r₂) n₁ e₁ (m e₂) (m z₂) s₁ (m s₂) ≡ m (part o whole false ends later (y ∷ ys) ls)
+  back_is : back r₁ (m r₂) n₁ (m n₂) e₁ (m e₂) z₁ (m z₂) s₁ (m s₂) ≡ m second_part
   back_is =
-      sym (map-append (moved (length xs)) r₂ (e₂ ++ (z₂ ++ s₂))
-      ∙ ap (λ (fs : List FindingValue). m r₂ ++ fs) (map-append (moved (length xs)) e₂ (z₂ ++ s₂) ∙ ap (λ (fs : List FindingValue). m e₂ ++ fs) (map-append (moved (length xs)) z₂ s₂)))
+      let l = moved (length xs) in
+      sym (map-append l r₂ (n₂ ++ (e₂ ++ (z₂ ++ s₂)))
+      ∙ ap (λ (fs : List FindingValue). m r₂ ++ fs) (map-append l n₂ (e₂ ++ (z₂ ++ s₂))
+      ∙ ap (λ (fs : List FindingValue). m n₂ ++ fs) (map-append l e₂ (z₂ ++ s₂) ∙ ap (λ (fs : List FindingValue). m e₂ ++ fs) (map-append l z₂ s₂))))
 
-  front_low : Between 0 (length xs) (part o whole begins false before xs ks)
-  front_low = part_between o whole begins false before xs ks (length xs) plain (omega arith) (omega (arith, fit))
+  front_low : Between 0 (length xs) first_part
+  front_low = part_between o whole begins (if_none ys ends) before xs ks (length xs) plain (omega arith) (omega (arith, fit))
 
-  back_high : AllByRecursion (λ f. length xs < f.line) (m (part o whole false ends later (y ∷ ys) ls))
+  back_high : AllByRecursion (λ f. length xs < f.line) (m second_part)
   back_high =
-      let high = length (y ∷ ys) + row_sum ls in
-      let fs = part o whole false ends later (y ∷ ys) ls in
-      let b = between_moved (length xs) 0 high fs (part_between o whole false ends later (y ∷ ys) ls high plain' (omega arith) (omega arith)) in
-      lines_above (length xs) (length xs + high) (m fs) (between_wider (length xs + 0) (length xs + high) (length xs) (length xs + high) (m fs) (omega arith) (omega arith) b)
+      let high = length ys + row_sum ls in
+      let b = between_moved (length xs) 0 high second_part (part_between o whole (if_none xs begins) ends later ys ls high plain' (omega arith) (omega arith)) in
+      lines_above (length xs) (length xs + high) (m second_part) (between_wider (length xs + 0) (length xs + high) (length xs) (length xs + high) (m second_part) (omega arith) (omega arith) b)
 
-  pub parts_apart : arranged levels (part o whole begins ends before (xs ++ y ∷ ys) (ks ++ ls))
-      ≡ arranged levels (part o whole begins false before xs ks) ++ map (lower (length xs)) (arranged levels (part o whole false ends later (y ∷ ys) ls))
+  pub parts_apart : arranged levels (part o whole begins ends before (xs ++ ys) (ks ++ ls)) ≡ arranged levels first_part ++ map (lower (length xs)) (arranged levels second_part)
   parts_apart =
       ap (arranged levels) whole_is
-      ∙ (arranged_same levels (together r₁ (m r₂) n₁ e₁ (m e₂) (m z₂) s₁ (m s₂)) (front r₁ (m r₂) n₁ e₁ (m e₂) (m z₂) s₁ (m s₂) ++ back r₁ (m r₂) n₁ e₁ (m e₂) (m z₂) s₁ (m s₂)) (members r₁ (m r₂) n₁ e₁ (m e₂) (m z₂) s₁ (m s₂))
-      ∙ (ap (λ (fs : List FindingValue). arranged levels (part o whole begins false before xs ks ++ fs)) back_is
-      ∙ (arranged_apart levels (length xs) (part o whole begins false before xs ks) (m (part o whole false ends later (y ∷ ys) ls)) (lines_at_most (length xs) (part o whole begins false before xs ks) front_low) back_high
-      ∙ ap (λ (ps : List ProblemValue). arranged levels (part o whole begins false before xs ks) ++ ps) (arranged_moved levels (length xs) (part o whole false ends later (y ∷ ys) ls)))))
+      ∙ (arranged_same levels (together r₁ (m r₂) n₁ (m n₂) e₁ (m e₂) z₁ (m z₂) s₁ (m s₂))
+      (front r₁ (m r₂) n₁ (m n₂) e₁ (m e₂) z₁ (m z₂) s₁ (m s₂) ++ back r₁ (m r₂) n₁ (m n₂) e₁ (m e₂) z₁ (m z₂) s₁ (m s₂)) (members r₁ (m r₂) n₁ (m n₂) e₁ (m e₂) z₁ (m z₂) s₁ (m s₂))
+      ∙ (ap (λ (fs : List FindingValue). arranged levels (first_part ++ fs)) back_is
+      ∙ (arranged_apart levels (length xs) first_part (m second_part) (lines_at_most (length xs) first_part front_low) back_high
+      ∙ ap (λ (ps : List ProblemValue). arranged levels first_part ++ ps) (arranged_moved levels (length xs) second_part))))
 
 -- ---- a list of problems, patched
 

@@ -1,14 +1,13 @@
 -- The report of an edited text, from that of the old text and what is found in the touched lines.
-use Rattle.std.proofs.Common.{◌≡◌, ℕ, zero, suc, ◌+◌, ◌-◌, ◌<◌, ◌≤◌, ◌==◌, Bool, true, false, List, [], ◌∷◌, ◌++◌, length, map, take, drop, Option, Some, None, refl, ap, sym, subst, ◌∙◌, arith, rules, append_assoc, length-append, not}
+use Rattle.std.proofs.Common.{◌≡◌, ℕ, zero, suc, ◌+◌, ◌-◌, ◌<◌, ◌≤◌, ◌==◌, Bool, true, false, List, [], ◌∷◌, ◌++◌, length, map, take, drop, refl, ap, sym, subst, ◌∙◌, arith, rules, append_assoc}
 use Rattle.std.specs.List.{AllByRecursion, splice, slice_get, prefix_len}
-use Rattle.std.proofs.lemmas.List.{same_lists, places, take-append-drop, length-take-le, length-drop}
+use Rattle.std.proofs.lemmas.List.{same_lists, places, length-take-le, length-drop}
 use Rattle.yl_text.specs.Finding.{FindingValue}
 use Rattle.yl_text.specs.Lines.{RowValue}
 use Rattle.yl_text.specs.declared.position.Pos.{Pos}
 use Rattle.yl_rules.specs.EmptyLines.{empty_lines}
 use Rattle.yl_rules.specs.NewLines.{new_lines}
 use Rattle.yl_rules.specs.EndOfFile.{end_of_file}
-use Rattle.yl_rules.specs.Runs.{run_findings}
 use Rattle.yl_rules.specs.Levels.{LevelTable}
 use Rattle.yl_indentation.specs.declared.measure.Measure.{Measure}
 use Rattle.yl_indentation.specs.Measures.{and_later, empty_measure}
@@ -17,18 +16,29 @@ use Rattle.yl_config.specs.declared.config.Config.{Config}
 use Rattle.yl_config.specs.Config.{levels_of, options_of}
 use Rattle.yl_report.specs.Directive.{disables_file, is_silenced}
 use Rattle.yl_report.specs.Report.{ProblemValue, report_of}
-use Rattle.yl_sections.specs.Kept.{KeptValue}
-use Rattle.yl_lint.specs.TextReport.{findings_from, findings_in_lines, findings_in_sections, facts_in_sections, fault_in_sections, comments_in_sections, shown, first_text, end_of_lines, kept_of_text, report, report_of_kept}
-use Rattle.yl_patch.specs.Cut.{IsInner, is_filled}
+use Rattle.yl_sections.specs.Kept.{KeptValue, items_if}
+use Rattle.yl_lint.specs.TextReport.{findings_from, findings_in_lines, findings_in_sections, fault_in_sections, comments_in_sections, shown, first_text, end_of_lines, kept_of_text, report, report_of_kept}
+use Rattle.yl_patch.specs.Cut.{IsInside, is_filled}
 use Rattle.yl_patch.specs.Patched.{is_upto, patched, shifted}
 use Rattle.yl_patch.specs.Plain.{IsPlain, row_sum}
 use Rattle.yl_patch.specs.There.{found_there}
+use Rattle.yl_patch.specs.declared.touched.Ends.{Ends}
 use Rattle.yl_patch.specs.declared.touched.Touched.{Touched}
-use Rattle.yl_patch.proofs.Arranged.{arranged, arranged_lines, lower, nothing_silenced}
+use Rattle.yl_patch.proofs.Arranged.{arranged, arranged_lines, lower}
+use Rattle.yl_patch.proofs.Lines.{back_seam, front_seam, if_none, is_seam, none_by, seam_behind, seam_more}
 use Rattle.yl_patch.proofs.Parts.{part, part_between, parts_apart, patched_so}
 use Rattle.yl_patch.proofs.Sections.{measured, measured_both, no_comments, no_fault, plain_back, plain_both, plain_front, shown_plain}
 
 -- ---- the report of plain sections
+
+found_is_part : (o : RuleOptions) (e : Ends) (whole before : Measure) (rows : List RowValue) (ks : List KeptValue) → found_there o e whole before rows ks ≡ part o whole e.begins e.ends before rows ks
+found_is_part o e whole before rows ks =
+    let r = findings_from o.row 1 rows in
+    let n = items_if e.begins (new_lines o.run.new_line rows) in
+    let l = empty_lines o.run.empty_lines rows in
+    let z = items_if e.ends (end_of_file rows) in
+    let s = findings_in_sections o.indentation whole 0 before ks in
+    append_assoc r (n ++ (l ++ z)) s ∙ ap (λ (fs : List FindingValue). r ++ fs) (append_assoc n (l ++ z) s ∙ ap (λ (fs : List FindingValue). n ++ fs) (append_assoc l z s))
 
 module _ (config : Config) (first : List ℕ) (end : Pos) (rows : List RowValue) (ks : List KeptValue) (plain : AllByRecursion IsPlain ks) (loud : disables_file first ≡ false) where
   abbrev o : RuleOptions
@@ -38,13 +48,7 @@ module _ (config : Config) (first : List ℕ) (end : Pos) (rows : List RowValue)
   found seen faults = findings_in_lines o rows ++ (faults ++ findings_in_sections o.indentation (measured seen) 0 empty_measure seen)
 
   whole_part : found ks [] ≡ part o (measured ks) true true empty_measure rows ks
-  whole_part =
-      let r = findings_from o.row 1 rows in
-      let n = new_lines o.run.new_line rows in
-      let e = empty_lines o.run.empty_lines rows in
-      let z = end_of_file rows in
-      let s = findings_in_sections o.indentation (measured ks) 0 empty_measure ks in
-      append_assoc r (n ++ (e ++ z)) s ∙ ap (λ (fs : List FindingValue). r ++ fs) (append_assoc n (e ++ z) s ∙ ap (λ (fs : List FindingValue). n ++ fs) (append_assoc e z s))
+  whole_part = found_is_part o (record { begins = true; ends = true }) (measured ks) empty_measure rows ks
 
   plain_report : report_of_kept config (findings_in_lines o rows) first end ks ≡ arranged (levels_of config) (part o (measured ks) true true empty_measure rows ks)
   unfolding report_of_kept
@@ -63,42 +67,41 @@ report_is config rows ks e plain loud =
 
 -- ---- three parts, of which the second becomes another
 
-module _ (levels : LevelTable) (o : RuleOptions) (x p r : RowValue) (xs ps rs : List RowValue) (ks ls ms : List KeptValue) (whole : Measure)
+module _ (levels : LevelTable) (o : RuleOptions) (p : RowValue) (fs ps bs : List RowValue) (ks ls ms : List KeptValue) (whole : Measure)
     (plain : AllByRecursion IsPlain ks) (plain' : AllByRecursion IsPlain ls) (plain'' : AllByRecursion IsPlain ms)
-    (fit : row_sum ks ≡ length (x ∷ xs)) (fit' : row_sum ls ≡ length (p ∷ ps)) (some : (length p.text == 0) ≡ false) (some' : (length r.text == 0) ≡ false) where
+    (fit : row_sum ks ≡ length fs) (fit' : row_sum ls ≡ length (p ∷ ps)) (seam : is_seam fs (p ∷ ps) ≡ true) (seam' : is_seam (p ∷ ps) bs ≡ true) where
   abbrev front : List ProblemValue
-  front = arranged levels (part o whole true false empty_measure (x ∷ xs) ks)
+  front = arranged levels (part o whole true false empty_measure fs ks)
 
   abbrev middle : List ProblemValue
-  middle = arranged levels (part o whole false false (measured ks) (p ∷ ps) ls)
+  middle = arranged levels (part o whole (if_none fs true) (if_none bs true) (measured ks) (p ∷ ps) ls)
 
   abbrev behind : Measure → List ProblemValue
-  behind before = arranged levels (part o whole false true before (r ∷ rs) ms)
+  behind before = arranged levels (part o whole false true before bs ms)
 
-  three_parts : arranged levels (part o whole true true empty_measure ((x ∷ xs) ++ ((p ∷ ps) ++ r ∷ rs)) (ks ++ (ls ++ ms)))
-      ≡ front ++ map (lower (length (x ∷ xs))) (middle ++ map (lower (length (p ∷ ps))) (behind (and_later (measured ks) (measured ls))))
+  three_parts : arranged levels (part o whole true true empty_measure (fs ++ ((p ∷ ps) ++ bs)) (ks ++ (ls ++ ms)))
+      ≡ front ++ map (lower (length fs)) (middle ++ map (lower (length (p ∷ ps))) (behind (and_later (measured ks) (measured ls))))
   three_parts =
-      parts_apart levels o whole true true empty_measure (x ∷ xs) (ps ++ r ∷ rs) p ks (ls ++ ms) plain (plain_both ls ms plain' plain'') fit some refl
-      ∙ ap (λ (qs : List ProblemValue). front ++ map (lower (length (x ∷ xs))) qs) (parts_apart levels o whole false true (measured ks) (p ∷ ps) rs r ls ms plain' plain'' fit' some' refl)
+      parts_apart levels o whole true true empty_measure fs (p ∷ (ps ++ bs)) ks (ls ++ ms) plain (plain_both ls ms plain' plain'') fit (seam_more fs ps (ps ++ bs) p seam)
+      ∙ ap (λ (qs : List ProblemValue). front ++ map (lower (length fs)) qs) (parts_apart levels o whole (if_none fs true) true (measured ks) (p ∷ ps) bs ls ms plain' plain'' fit' seam')
 
-  in_front_lines : AllByRecursion (λ q. (0 < q.line) × (q.line ≤ length (x ∷ xs))) front
-  in_front_lines = arranged_lines (λ l. (0 < l) × (l ≤ length (x ∷ xs))) levels (part o whole true false empty_measure (x ∷ xs) ks) (part_between o whole true false empty_measure (x ∷ xs) ks (length (x ∷ xs)) plain (omega arith) (omega (arith, fit)))
+  in_front_lines : AllByRecursion (λ q. (0 < q.line) × (q.line ≤ length fs)) front
+  in_front_lines = arranged_lines (λ l. (0 < l) × (l ≤ length fs)) levels (part o whole true false empty_measure fs ks) (part_between o whole true false empty_measure fs ks (length fs) plain (omega arith) (omega (arith, fit)))
 
   in_middle_lines : AllByRecursion (λ q. (0 < q.line) × (q.line ≤ length (p ∷ ps))) middle
-  in_middle_lines = arranged_lines (λ l. (0 < l) × (l ≤ length (p ∷ ps))) levels (part o whole false false (measured ks) (p ∷ ps) ls) (part_between o whole false false (measured ks) (p ∷ ps) ls (length (p ∷ ps)) plain' (omega arith) (omega (arith, fit')))
+  in_middle_lines =
+      arranged_lines (λ l. (0 < l) × (l ≤ length (p ∷ ps))) levels (part o whole (if_none fs true) (if_none bs true) (measured ks) (p ∷ ps) ls)
+      (part_between o whole (if_none fs true) (if_none bs true) (measured ks) (p ∷ ps) ls (length (p ∷ ps)) plain' (omega arith) (omega (arith, fit')))
 
   in_back_lines : (before : Measure) → AllByRecursion (λ q. 0 < q.line) (behind before)
   in_back_lines before =
-      let high = length (r ∷ rs) + row_sum ms in
-      let fs = part o whole false true before (r ∷ rs) ms in
-      arranged_lines (λ l. 0 < l) levels fs (firsts 0 high fs (part_between o whole false true before (r ∷ rs) ms high plain'' (omega arith) (omega arith)))
+      let high = length bs + row_sum ms in
+      let found = part o whole false true before bs ms in
+      arranged_lines (λ l. 0 < l) levels found (firsts 0 high found (part_between o whole false true before bs ms high plain'' (omega arith) (omega arith)))
     where
-      firsts : (low high : ℕ) (fs : List FindingValue) → AllByRecursion (λ f. (low < f.line) × (f.line ≤ high)) fs → AllByRecursion (λ f. low < f.line) fs
+      firsts : (low high : ℕ) (xs : List FindingValue) → AllByRecursion (λ f. (low < f.line) × (f.line ≤ high)) xs → AllByRecursion (λ f. low < f.line) xs
       firsts low high [] h = tt
-      firsts low high (f ∷ fs) h = (h.0.0, firsts low high fs h.1)
-
-found_is_part : (o : RuleOptions) (whole before : Measure) (rows : List RowValue) (ks : List KeptValue) → found_there o whole before rows ks ≡ part o whole false false before rows ks
-found_is_part o whole before rows ks = append_assoc (findings_from o.row 1 rows) (empty_lines o.run.empty_lines rows) (findings_in_sections o.indentation whole 0 before ks)
+      firsts low high (x ∷ xs) h = (h.0.0, firsts low high xs h.1)
 
 same_lower : (n : ℕ) (ps : List ProblemValue) → map (shifted 0 n) ps ≡ map (lower n) ps
 same_lower n [] = refl
@@ -109,10 +112,6 @@ same_lower n (p ∷ ps) = ap (λ (q : ProblemValue). q ∷ map (shifted 0 n) ps)
 
     one : shifted 0 n p ≡ lower n p
     one = λ i. record { line = line i; column = p.column; level = p.level; rule = p.rule; message = p.message }
-
-not_empty : (b : Bool) → not b ≡ true → b ≡ false
-not_empty true h = sym h
-not_empty false h = refl
 
 -- a text of three parts, the second of which becomes another
 module _ (config : Config) (ks ls news ms : List KeptValue) (plain : AllByRecursion IsPlain ks) (plain' : AllByRecursion IsPlain ls) (plainₙ : AllByRecursion IsPlain news) (plain'' : AllByRecursion IsPlain ms)
@@ -132,37 +131,37 @@ module _ (config : Config) (ks ls news ms : List KeptValue) (plain : AllByRecurs
       ∙ (ap (λ (m : Measure). and_later (measured ks) m) (measured_both news ms ∙ (ap (λ (m : Measure). and_later m (measured ms)) (sym same) ∙ sym (measured_both ls ms))) ∙ sym (measured_both ks (ls ++ ms)))
 
   renewed_parts : (fs ps qs bs : List RowValue) → row_sum ks ≡ length fs → row_sum ls ≡ length ps → row_sum news ≡ length qs
-      → 0 < length fs → is_filled (slice_get ps 0) ≡ true → is_filled (slice_get qs 0) ≡ true → is_filled (slice_get bs 0) ≡ true
-      → ks ++ (ls ++ ms) ≡ kept_of_text config (fs ++ (ps ++ bs)) → ks ++ (news ++ ms) ≡ kept_of_text config (fs ++ (qs ++ bs)) → disables_file (first_text (fs ++ (ps ++ bs))) ≡ false
+      → 0 < length ps → 0 < length qs → is_seam fs ps ≡ true → is_seam fs qs ≡ true → is_seam ps bs ≡ true
+      → ks ++ (ls ++ ms) ≡ kept_of_text config (fs ++ (ps ++ bs)) → ks ++ (news ++ ms) ≡ kept_of_text config (fs ++ (qs ++ bs))
+      → disables_file (first_text (fs ++ (ps ++ bs))) ≡ false → disables_file (first_text (fs ++ (qs ++ bs))) ≡ false
       → (i j up down : ℕ) (put old : List ProblemValue) → old ≡ report config (fs ++ (ps ++ bs)) → i ≡ prefix_len (is_upto (length fs)) old → j ≡ prefix_len (is_upto up) old → up ≡ length fs + length ps → down ≡ length fs + length qs
-      → put ≡ map (shifted 0 (length fs)) (arranged levels (found_there opts wholly (measured ks) qs news))
+      → (e : Ends) → e.begins ≡ if_none fs true → e.ends ≡ if_none bs true → put ≡ map (shifted 0 (length fs)) (arranged levels (found_there opts e wholly (measured ks) qs news))
       → patched i j put up down old ≡ report config (fs ++ (qs ++ bs))
-  renewed_parts [] ps qs bs f g h some _ _ _ _ _ _ _ _ _ _ _ _ _ _ _ _ _ _ = absurd (omega (arith, some))
-  renewed_parts (x ∷ xs) [] qs bs f g h some s _ _ _ _ _ _ _ _ _ _ _ _ _ _ _ _ _ = absurd (cc)
-  renewed_parts (x ∷ xs) (p ∷ ps) [] bs f g h some s t _ _ _ _ _ _ _ _ _ _ _ _ _ _ _ _ = absurd (cc)
-  renewed_parts (x ∷ xs) (p ∷ ps) (q ∷ qs) [] f g h some s t u _ _ _ _ _ _ _ _ _ _ _ _ _ _ _ = absurd (cc)
-  renewed_parts (x ∷ xs) (p ∷ ps) (q ∷ qs) (r ∷ rs) f g h some s t u is is' loud i j up down put old old_is i_is j_is up_is down_is put_is =
+  renewed_parts fs [] qs bs f g h some _ _ _ _ _ _ _ _ _ _ _ _ _ _ _ _ _ _ _ _ _ _ _ = absurd (omega (arith, some))
+  renewed_parts fs (p ∷ ps) [] bs f g h _ some _ _ _ _ _ _ _ _ _ _ _ _ _ _ _ _ _ _ _ _ _ _ = absurd (omega (arith, some))
+  renewed_parts fs (p ∷ ps) (q ∷ qs) bs f g h _ _ seam seam' behind_seam is is' loud loud' i j up down put old old_is i_is j_is up_is down_is e begins ends put_is =
       let all = plain_both ks (ls ++ ms) plain (plain_both ls ms plain' plain'') in
       let all' = plain_both ks (news ++ ms) plain (plain_both news ms plainₙ plain'') in
-      let sp = not_empty (length p.text == 0) s in
-      let sq = not_empty (length q.text == 0) t in
-      let sr = not_empty (length r.text == 0) u in
-      let a = front levels opts x p r xs ps rs ks ls ms wholly plain plain' plain'' f g sp sr in
-      let b = middle levels opts x p r xs ps rs ks ls ms wholly plain plain' plain'' f g sp sr in
-      let c = behind levels opts x p r xs ps rs ks ls ms wholly plain plain' plain'' f g sp sr (and_later (measured ks) (measured ls)) in
-      let b' = middle levels opts x q r xs qs rs ks news ms wholly plain plainₙ plain'' f h sq sr in
-      let old_parts = report_is config ((x ∷ xs) ++ ((p ∷ ps) ++ r ∷ rs)) (ks ++ (ls ++ ms)) is all loud ∙ three_parts levels opts x p r xs ps rs ks ls ms wholly plain plain' plain'' f g sp sr in
-      let new_rows = (x ∷ xs) ++ ((q ∷ qs) ++ r ∷ rs) in
+      let behind_seam' = seam_behind ps qs bs p q behind_seam in
+      let a = front levels opts p fs ps bs ks ls ms wholly plain plain' plain'' f g seam behind_seam in
+      let b = middle levels opts p fs ps bs ks ls ms wholly plain plain' plain'' f g seam behind_seam in
+      let c = behind levels opts p fs ps bs ks ls ms wholly plain plain' plain'' f g seam behind_seam (and_later (measured ks) (measured ls)) in
+      let b' = middle levels opts q fs qs bs ks news ms wholly plain plainₙ plain'' f h seam' behind_seam' in
+      let old_parts = report_is config (fs ++ ((p ∷ ps) ++ bs)) (ks ++ (ls ++ ms)) is all loud ∙ three_parts levels opts p fs ps bs ks ls ms wholly plain plain' plain'' f g seam behind_seam in
+      let new_rows = fs ++ ((q ∷ qs) ++ bs) in
       let new_parts =
-      report_is config new_rows (ks ++ (news ++ ms)) is' all' loud
+      report_is config new_rows (ks ++ (news ++ ms)) is' all' loud'
       ∙ (ap (λ (m : Measure). arranged levels (part opts m true true empty_measure new_rows (ks ++ (news ++ ms)))) same_whole
-      ∙ (three_parts levels opts x q r xs qs rs ks news ms wholly plain plainₙ plain'' f h sq sr
-      ∙ ap (λ (m : Measure). a ++ map (lower (length (x ∷ xs))) (b' ++ map (lower (length (q ∷ qs))) (behind levels opts x q r xs qs rs ks news ms wholly plain plainₙ plain'' f h sq sr (and_later (measured ks) m)))) (sym same))) in
-      patched_so a b c b' old (report config new_rows) put (length (x ∷ xs)) (length (p ∷ ps)) (length (q ∷ qs)) i j up down (old_is ∙ old_parts) new_parts
-      (put_is ∙ (same_lower (length (x ∷ xs)) _ ∙ ap (λ (fs : List FindingValue). map (lower (length (x ∷ xs))) (arranged levels fs)) (found_is_part opts wholly (measured ks) (q ∷ qs) news)))
-      (in_front_lines levels opts x p r xs ps rs ks ls ms wholly plain plain' plain'' f g sp sr)
-      (in_middle_lines levels opts x p r xs ps rs ks ls ms wholly plain plain' plain'' f g sp sr)
-      (in_back_lines levels opts x p r xs ps rs ks ls ms wholly plain plain' plain'' f g sp sr (and_later (measured ks) (measured ls)))
+      ∙ (three_parts levels opts q fs qs bs ks news ms wholly plain plainₙ plain'' f h seam' behind_seam'
+      ∙ ap (λ (m : Measure). a ++ map (lower (length fs)) (b' ++ map (lower (length (q ∷ qs))) (behind levels opts q fs qs bs ks news ms wholly plain plainₙ plain'' f h seam' behind_seam' (and_later (measured ks) m)))) (sym same))) in
+      let there =
+      found_is_part opts e wholly (measured ks) (q ∷ qs) news
+      ∙ (ap (λ begins. part opts wholly begins e.ends (measured ks) (q ∷ qs) news) begins ∙ ap (λ ends. part opts wholly (if_none fs true) ends (measured ks) (q ∷ qs) news) ends) in
+      patched_so a b c b' old (report config new_rows) put (length fs) (length (p ∷ ps)) (length (q ∷ qs)) i j up down (old_is ∙ old_parts) new_parts
+      (put_is ∙ (same_lower (length fs) _ ∙ ap (λ (found : List FindingValue). map (lower (length fs)) (arranged levels found)) there))
+      (in_front_lines levels opts p fs ps bs ks ls ms wholly plain plain' plain'' f g seam behind_seam)
+      (in_middle_lines levels opts p fs ps bs ks ls ms wholly plain plain' plain'' f g seam behind_seam)
+      (in_back_lines levels opts p fs ps bs ks ls ms wholly plain plain' plain'' f g seam behind_seam (and_later (measured ks) (measured ls)))
       i_is j_is up_is down_is
 
 -- ---- an edit
@@ -202,7 +201,7 @@ spliced_three xs ns a b i j k l h m f g e =
     ∙ ap (λ ys. take i xs ++ (take (k - i) (drop i (splice xs a b ns)) ++ ys)) (spliced_back xs ns a b j k l h m e))
 
 module _ (config : Config) (rows ins : List RowValue) (kept new : List KeptValue) (a b from end : ℕ) (t : Touched)
-    (ordered : a ≤ b) (within : from ≤ end) (within' : end ≤ length kept) (inner : IsInner t a b (length ins) (length rows)) where
+    (ordered : a ≤ b) (within : from ≤ end) (within' : end ≤ length kept) (inside : IsInside t a b (length ins) (length rows)) where
   abbrev rows' : List RowValue
   rows' = splice rows a b ins
 
@@ -228,39 +227,56 @@ module _ (config : Config) (rows ins : List RowValue) (kept new : List KeptValue
   bs = drop t.old_end rows
 
   rows_three : rows ≡ fs ++ (ps ++ bs)
-  rows_three = three rows t.first t.old_end (omega (arith, inner.old_some)) (omega (arith, inner.back))
+  rows_three = three rows t.first t.old_end (omega (arith, inside.old_some)) (omega (arith, inside.back))
 
   rows_three' : rows' ≡ fs ++ (qs ++ bs)
-  rows_three' = spliced_three rows ins a b t.first t.old_end t.new_end ordered inner.ends (omega (arith, inner.back)) inner.begins (omega (arith, inner.new_some)) inner.fits
+  rows_three' = spliced_three rows ins a b t.first t.old_end t.new_end ordered inside.ends (omega (arith, inside.back)) inside.begins (omega (arith, inside.new_some)) inside.fits
 
   kept_three : kept ≡ ks ++ (ls ++ ms)
   kept_three = three kept from end within within'
 
   fs_length : length fs ≡ t.first
-  fs_length = length-take-le t.first rows (omega (arith, inner.back, inner.old_some))
+  fs_length = length-take-le t.first rows (omega (arith, inside.back, inside.old_some))
 
   ps_length : length ps ≡ t.old_end - t.first
-  ps_length = length-take-le (t.old_end - t.first) (drop t.first rows) (omega (arith, inner.back, inner.old_some, length-drop t.first rows))
+  ps_length = length-take-le (t.old_end - t.first) (drop t.first rows) (omega (arith, inside.back, inside.old_some, length-drop t.first rows))
 
   qs_length : length qs ≡ t.new_end - t.first
   qs_length =
       length-take-le (t.new_end - t.first) (drop t.first rows')
-      (omega (arith, inner.back, inner.fits, inner.new_some, inner.old_some, length-drop t.first rows', spliced_length rows ins a b ordered (omega (arith, inner.ends, inner.back))))
+      (omega (arith, inside.back, inside.fits, inside.new_some, inside.old_some, length-drop t.first rows', spliced_length rows ins a b ordered (omega (arith, inside.ends, inside.back))))
 
-  pub report_renewed : kept ≡ kept_of_text config rows → splice kept from end new ≡ kept_of_text config rows' → AllByRecursion IsPlain kept → AllByRecursion IsPlain new → disables_file (first_text rows) ≡ false
-      → t.first ≡ row_sum ks → t.old_end ≡ t.first + row_sum ls → t.new_end ≡ t.first + row_sum new
-      → is_filled (slice_get rows t.first) ≡ true → is_filled (slice_get rows' t.first) ≡ true → is_filled (slice_get rows t.old_end) ≡ true → measured ls ≡ measured new
+  bs_length : length bs ≡ length rows - t.old_end
+  bs_length = length-drop t.old_end rows
+
+  fs_none : (t.first == 0) ≡ if_none fs true
+  fs_none = none_by fs t.first 0 (λ e. omega (arith, fs_length, e)) (λ e. omega (arith, fs_length, e))
+
+  bs_none : (t.old_end == length rows) ≡ if_none bs true
+  bs_none = none_by bs t.old_end (length rows) (λ e. omega (arith, bs_length, e, inside.back)) (λ e. omega (arith, bs_length, e))
+
+  pub report_renewed : kept ≡ kept_of_text config rows → splice kept from end new ≡ kept_of_text config rows' → AllByRecursion IsPlain kept → AllByRecursion IsPlain new
+      → disables_file (first_text rows) ≡ false → disables_file (first_text rows') ≡ false
+      → t.first ≡ row_sum ks → t.old_end ≡ t.first + row_sum ls → t.new_end ≡ t.first + row_sum new → (e : Ends) → e.begins ≡ (t.first == 0) → e.ends ≡ (t.old_end == length rows)
+      → (e.begins ≡ false → is_filled (slice_get rows t.first) ≡ true) → (e.begins ≡ false → is_filled (slice_get rows' t.first) ≡ true) → (e.ends ≡ false → is_filled (slice_get rows t.old_end) ≡ true)
+      → measured ls ≡ measured new
       → (i j : ℕ) (put old : List ProblemValue) → old ≡ report config rows → i ≡ prefix_len (is_upto t.first) old → j ≡ prefix_len (is_upto t.old_end) old
-      → put ≡ map (shifted 0 t.first) (arranged (levels_of config) (found_there (options_of config) (measured kept) (measured ks) qs new))
+      → put ≡ map (shifted 0 t.first) (arranged (levels_of config) (found_there (options_of config) e (measured kept) (measured ks) qs new))
       → patched i j put t.old_end t.new_end old ≡ report config rows'
-  report_renewed is is' plain plainₙ loud first old_end new_end filled filled' filled'' same i j put old old_is i_is j_is put_is =
+  report_renewed is is' plain plainₙ loud loud' first old_end new_end e begins ends filled filled' filled'' same i j put old old_is i_is j_is put_is =
       let split = subst (λ xs. AllByRecursion IsPlain xs) kept_three plain in
       let rest = plain_back ks (ls ++ ms) split in
+      let begins_is = begins ∙ fs_none in
+      let ends_is = ends ∙ bs_none in
+      let seam = front_seam fs ps (λ h. filled_there rows t.first (t.old_end - t.first) (omega (arith, inside.old_some)) (filled (begins_is ∙ h))) in
+      let seam' = front_seam fs qs (λ h. filled_there rows' t.first (t.new_end - t.first) (omega (arith, inside.new_some)) (filled' (begins_is ∙ h))) in
+      let seam'' = back_seam ps bs (λ h. ap is_filled (head_dropped rows t.old_end) ∙ filled'' (ends_is ∙ h)) in
       renewed_parts config ks ls new ms (plain_front ks (ls ++ ms) split) (plain_front ls ms rest) plainₙ (plain_back ls ms rest) same fs ps qs bs
-      (omega (arith, first, fs_length)) (omega (arith, old_end, ps_length)) (omega (arith, new_end, qs_length)) (omega (arith, fs_length, inner.front))
-      (filled_there rows t.first (t.old_end - t.first) (omega (arith, inner.old_some)) filled) (filled_there rows' t.first (t.new_end - t.first) (omega (arith, inner.new_some)) filled')
-      (ap is_filled (head_dropped rows t.old_end) ∙ filled'') (sym kept_three ∙ (is ∙ ap (kept_of_text config) rows_three)) (is' ∙ ap (kept_of_text config) rows_three') (ap (λ xs. disables_file (first_text xs)) (sym rows_three) ∙ loud)
-      i j t.old_end t.new_end put old (old_is ∙ ap (report config) rows_three) (i_is ∙ ap (λ n. prefix_len (is_upto n) old) (sym fs_length)) j_is (omega (arith, fs_length, ps_length, inner.old_some)) (omega (arith, fs_length, qs_length, inner.new_some))
-      (put_is ∙ (ap (λ n. map (shifted 0 n) (arranged (levels_of config) (found_there (options_of config) (measured kept) (measured ks) qs new))) (sym fs_length)
-      ∙ ap (λ xs. map (shifted 0 (length fs)) (arranged (levels_of config) (found_there (options_of config) (measured xs) (measured ks) qs new))) kept_three))
+      (omega (arith, first, fs_length)) (omega (arith, old_end, ps_length)) (omega (arith, new_end, qs_length)) (omega (arith, ps_length, inside.old_some)) (omega (arith, qs_length, inside.new_some)) seam seam' seam''
+      (sym kept_three ∙ (is ∙ ap (kept_of_text config) rows_three)) (is' ∙ ap (kept_of_text config) rows_three')
+      (ap (λ xs. disables_file (first_text xs)) (sym rows_three) ∙ loud) (ap (λ xs. disables_file (first_text xs)) (sym rows_three') ∙ loud')
+      i j t.old_end t.new_end put old (old_is ∙ ap (report config) rows_three) (i_is ∙ ap (λ n. prefix_len (is_upto n) old) (sym fs_length)) j_is (omega (arith, fs_length, ps_length, inside.old_some)) (omega (arith, fs_length, qs_length, inside.new_some))
+      e begins_is ends_is
+      (put_is ∙ (ap (λ n. map (shifted 0 n) (arranged (levels_of config) (found_there (options_of config) e (measured kept) (measured ks) qs new))) (sym fs_length)
+      ∙ ap (λ xs. map (shifted 0 (length fs)) (arranged (levels_of config) (found_there (options_of config) e (measured xs) (measured ks) qs new))) kept_three))
       ∙ ap (report config) (sym rows_three')

@@ -1,6 +1,6 @@
 -- What is found in sections one after another: each part by itself, behind the measure of the parts before it.
 use Rattle.std.proofs.Common.{◌≡◌, ℕ, ◌+◌, ◌<◌, ◌≤◌, Bool, true, false, List, [], ◌∷◌, ◌++◌, map, Option, Some, None, refl, ap, sym, ◌∙◌, arith, append_assoc, if◌then◌else◌}
-use Rattle.std.specs.List.{AllByRecursion, flat_map}
+use Rattle.std.specs.List.{AllByRecursion}
 use Rattle.std.proofs.lemmas.List.{map-append}
 use Rattle.yl_text.specs.declared.position.Pos.{Pos}
 use Rattle.yl_text.specs.declared.finding.RuleId.{RuleId}
@@ -13,7 +13,7 @@ use Rattle.yl_indentation.specs.declared.measure.Measure.{Measure}
 use Rattle.yl_indentation.specs.declared.options.IndentationOptions.{IndentationOptions}
 use Rattle.yl_indentation.specs.declared.options.IndentSequences.{IndentSequences}
 use Rattle.yl_indentation.specs.Measures.{empty_measure, and_later, first, measure_at, measure_of, is_flush}
-use Rattle.yl_indentation.specs.Problems.{finding_at, finding_by, finding_by_width, indent_problems, is_indented, not_as_expected, not_beyond, indentation_width}
+use Rattle.yl_indentation.specs.Problems.{finding_at, finding_by, finding_by_width, indent_problems, not_as_expected, indentation_width}
 use Rattle.yl_indentation.proofs.Measured.{and_later_assoc, measure_is_local}
 use Rattle.yl_sections.specs.Kept.{KeptValue, SectionFaultValue}
 use Rattle.yl_lint.specs.TextReport.{moved, shown, unless_fault, fault_or_later, fault_in_sections, comments_in_sections, moved_comment, findings_in_section, findings_in_sections, facts_in_sections}

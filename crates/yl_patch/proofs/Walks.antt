@@ -1,13 +1,13 @@
 -- Walks over sections and over some lines of a text.
-use Rattle.std.proofs.Common.{◌≡◌, ℕ, zero, suc, ◌+◌, ◌-◌, ◌<◌, ◌≤◌, List, [], ◌∷◌, ◌++◌, length, take, drop, get_or, Option, Some, None, ap, sym, refl, subst, ◌∙◌, arith, rules, add-one, append-nil}
+use Rattle.std.proofs.Common.{◌≡◌, ℕ, zero, suc, ◌+◌, ◌-◌, ◌<◌, ◌≤◌, List, [], ◌∷◌, ◌++◌, length, take, drop, get_or, Some, ap, sym, refl, subst, ◌∙◌, arith, rules, add-one, append-nil}
 use Rattle.std.specs.List.{AllByRecursion, slice_get, splice}
 use Rattle.std.proofs.Math.Seq.{drop-cons}
 use Rattle.std.proofs.lemmas.Option.{get_or_from_slice_get, slice_get_within}
-use Rattle.std.proofs.lemmas.List.{same_lists, places, get_or-drop, take_more, take-append-drop, length-take, length-take-le, length-drop}
+use Rattle.std.proofs.lemmas.List.{same_lists, places, get_or-drop, take_more, take-append-drop, length-take}
 use Rattle.yl_text.specs.Lines.{RowValue}
 use Rattle.yl_indentation.specs.declared.measure.Measure.{Measure}
-use Rattle.yl_indentation.specs.Measures.{and_later, empty_measure, measure_of}
-use Rattle.yl_indentation.proofs.Measured.{and_later_assoc, and_later_unknown, measure_is_local}
+use Rattle.yl_indentation.specs.Measures.{and_later, measure_of}
+use Rattle.yl_indentation.proofs.Measured.{and_later_assoc, measure_is_local}
 use Rattle.yl_sections.specs.Kept.{KeptValue}
 use Rattle.yl_lint.specs.TextReport.{facts_in_sections}
 use Rattle.yl_patch.specs.Plain.{IsPlain, row_sum}

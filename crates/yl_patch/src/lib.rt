@@ -4,6 +4,7 @@
 //! some sections changes the problems of their lines alone, and moves those below them.
 #![tactic(auto)]
 
+mod loud;
 mod overview;
 mod patching;
 mod places;

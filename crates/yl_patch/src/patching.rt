@@ -1,17 +1,18 @@
 //! What an edit does to a report.
-ghost use Rattle.std.specs.Prelude.{◌≡◌, ◌<◌, ◌≤◌, ◌+◌, ◌-◌, ◌^◌, true, length, take, drop, slice_get, IfOk, IfSome};
+ghost use Rattle.std.specs.Prelude.{◌≡◌, ◌<◌, ◌≤◌, ◌+◌, ◌-◌, ◌^◌, true, false, length, take, drop, slice_get, IfOk, IfSome};
 ghost use Rattle.std.specs.List.{AllByRecursion, prefix_len, splice};
 ghost use Rattle.yl_text.specs.Store.{AreLines, IsRange};
 ghost use Rattle.yl_lint.specs.TextReport.{kept_of_text, report};
-ghost use Rattle.yl_patch.specs.Cut.{IsInner, is_filled};
+ghost use Rattle.yl_patch.specs.Cut.{IsInside, is_filled};
 ghost use Rattle.yl_patch.specs.Patched.{IsLow, is_upto, patched};
 ghost use Rattle.yl_patch.specs.Plain.{IsOverviewOf, row_sum};
 
+use crate::loud::is_loud;
 use crate::overview::{Overview, is_alike, measure_before};
 use crate::places::count_upto;
 use crate::shifting::{ReportPatch, are_low};
 use crate::there::problems_there;
-use crate::touched::{Touched, find_touched, is_filled, is_inner};
+use crate::touched::{Ends, Touched, ends_of, find_touched, is_filled, is_inside};
 use crate::window::Window;
 use std::alloc::{AllocError, Allocator};
 use yl_chunks::Chunks;
@@ -20,15 +21,23 @@ use yl_report::Problem;
 use yl_sections::Kept;
 use yl_text::{LineStore, Lines, Patched, Row};
 
-/// Whether the touched lines begin with one that is not empty, in the old text and in the new one, and those behind them too.
-fn is_cut<L: Lines, M: Lines>(old: &L, new: &M, touched: Touched) -> bool
-    ensures old { result ≡ true → is_filled (slice_get (L.rows old.now) touched.first) ≡ true }
-    ensures new { result ≡ true → is_filled (slice_get (M.rows new.now) touched.first) ≡ true }
-    ensures behind { result ≡ true → is_filled (slice_get (L.rows old.now) touched.old_end) ≡ true }
+/// Whether this line is not empty, or the text begins or ends there.
+fn is_seam<L: Lines>(is_end: bool, lines: &L, i: usize) -> bool
+    ensures { result ≡ true → is_end ≡ false → is_filled (slice_get (L.rows lines.now) i) ≡ true }
 {
-    is_filled(old, touched.first as usize)
-        && is_filled(new, touched.first as usize)
-        && is_filled(old, touched.old_end as usize)
+    is_end || is_filled(lines, i)
+}
+
+/// Whether the touched lines begin with one that is not empty, in the old text and in the new one, and those behind them too; where
+/// they begin the text or end it, nothing is asked there.
+fn is_cut<L: Lines, M: Lines>(old: &L, new: &M, touched: Touched, ends: Ends) -> bool
+    ensures old { result ≡ true → ends.begins ≡ false → is_filled (slice_get (L.rows old.now) touched.first) ≡ true }
+    ensures new { result ≡ true → ends.begins ≡ false → is_filled (slice_get (M.rows new.now) touched.first) ≡ true }
+    ensures behind { result ≡ true → ends.ends ≡ false → is_filled (slice_get (L.rows old.now) touched.old_end) ≡ true }
+{
+    is_seam(ends.begins, old, touched.first as usize)
+        && is_seam(ends.begins, new, touched.first as usize)
+        && is_seam(ends.ends, old, touched.old_end as usize)
 }
 
 /// The patch that puts these problems in place of those of the touched lines.
@@ -96,16 +105,20 @@ pub fn patched_report<S: LineStore>(
         return Ok(None);
     };
     let patched = Patched::new(store, a, b, rows);
-    if !is_inner(touched, a, b, rows.len(), store.len()) || !is_cut(store, &patched, touched) {
+    let lines = store.len();
+    let ends = ends_of(touched, lines);
+    if !is_inside(touched, a, b, rows.len(), lines) || !is_cut(store, &patched, touched, ends) {
+        return Ok(None);
+    }
+    if !is_loud(alloc, store)? || !is_loud(alloc, &patched)? {
         return Ok(None);
     }
     let window = Window::new(patched, touched.first as usize, touched.new_end as usize);
     let before = measure_before(kept, from, overview.whole);
-    let first = store.row(0).as_str();
     let there = problems_there(
         alloc,
         config,
-        first,
+        ends,
         &window,
         touched.first,
         overview.whole,

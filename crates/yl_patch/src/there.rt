@@ -1,7 +1,7 @@
 //! What is found in the touched lines.
-ghost use Rattle.std.specs.Prelude.{◌≡◌, ◌++◌, ◌<◌, ◌≤◌, ◌-◌, false, [], length, map, take, drop, IfOk, OnOk, IfSome};
+ghost use Rattle.std.specs.Prelude.{◌≡◌, ◌++◌, false, [], map, IfOk, OnOk, IfSome};
 ghost use Rattle.yl_config.specs.Config.{levels_of, options_of};
-ghost use Rattle.yl_report.specs.Directive.{disables_file, is_silenced};
+ghost use Rattle.yl_report.specs.Directive.{is_silenced};
 ghost use Rattle.yl_report.specs.Report.{report_of};
 ghost use Rattle.yl_lint.specs.TextReport.{findings_in_sections};
 ghost use Rattle.yl_patch.specs.Patched.{shifted};
@@ -9,6 +9,7 @@ ghost use Rattle.yl_patch.specs.There.{found_there, lines_there};
 ghost use Rattle.yl_patch.specs.There as spec;
 
 use crate::shifting::{are_low, shift_behind};
+use crate::touched::Ends;
 use std::alloc::{AllocError, Allocator};
 use yl_config::Config;
 use yl_indentation::{IndentationOptions, Measure};
@@ -38,22 +39,28 @@ fn push_sections<A: Allocator + Copy>(
     Ok(())
 }
 
-fn judges_ends(rule: RuleId) -> bool
-    ensures { result ≡ spec.judges_ends rule }
+/// Whether a rule judges lines that begin a text or not, and end it or not.
+fn judges(ends: Ends, rule: RuleId) -> bool
+    ensures { result ≡ spec.judges ends rule }
 {
-    matches!(rule, RuleId::NewLines | RuleId::NewLineAtEndOfFile)
+    match rule {
+        RuleId::NewLines => ends.begins,
+        RuleId::NewLineAtEndOfFile => ends.ends,
+        _ => true,
+    }
 }
 
-/// What the rules on lines find in these lines, those that judge a text's first line or its last one left out.
-fn find_in_inner_lines<L: Lines>(
+/// What the rules on lines find in these lines of a text.
+fn find_in_some_lines<L: Lines>(
     alloc: L::Alloc,
     config: &Config,
+    ends: Ends,
     lines: &L,
 ) -> Result<Vec<Finding<L::Alloc>, L::Alloc>, AllocError>
-    ensures { IfOk result (λ v. v.items ≡ lines_there (options_of config.now) (L.rows lines.now)) }
+    ensures { IfOk result (λ v. v.items ≡ lines_there (options_of config.now) ends (L.rows lines.now)) }
 {
     let mut found = find_in_lines(alloc, config, lines)?;
-    found.retain(|one| !judges_ends(one.rule()));
+    found.retain(|one| judges(ends, one.rule()));
     Ok(found)
 }
 
@@ -61,14 +68,15 @@ fn find_in_inner_lines<L: Lines>(
 fn find_there<L: Lines>(
     alloc: L::Alloc,
     config: &Config,
+    ends: Ends,
     lines: &L,
     whole: Measure,
     before: Measure,
     kept: &[Kept<L::Alloc>],
 ) -> Result<Vec<Finding<L::Alloc>, L::Alloc>, AllocError>
-    ensures { IfOk result (λ v. v.items ≡ found_there (options_of config.now) whole before (L.rows lines.now) kept.now) }
+    ensures { IfOk result (λ v. v.items ≡ found_there (options_of config.now) ends whole before (L.rows lines.now) kept.now) }
 {
-    let mut found = find_in_inner_lines(alloc, config, lines)?;
+    let mut found = find_in_some_lines(alloc, config, ends, lines)?;
     let options = config.indentation_options();
     push_sections(alloc, options, whole, before, kept, &mut found)?;
     Ok(found)
@@ -85,27 +93,22 @@ fn lowered<A: Allocator>(mut problems: Vec<Problem<A>, A>, down: u32) -> Option<
     Some(problems)
 }
 
-/// The problems of these lines, of which the first stands `down` lines below the first of the text, and of the sections that have them;
-/// none where the text's first line silences them all.
+/// The problems of these lines, of which the first stands `down` lines below the first of the text, and of the sections that have them,
+/// where nothing is silenced; none where a line can not be counted on from.
 pub fn problems_there<L: Lines>(
     alloc: L::Alloc,
     config: &Config,
-    first: &str,
+    ends: Ends,
     lines: &L,
     down: u32,
     whole: Measure,
     before: Measure,
     kept: &[Kept<L::Alloc>],
 ) -> Result<Option<Vec<Problem<L::Alloc>, L::Alloc>>, AllocError>
-    ensures loud { IfOk result (λ o. IfSome o (λ v. disables_file first.now ≡ false)) }
-    ensures problems { IfOk result (λ o. IfSome o (λ v. v.items ≡ map (shifted 0 down) (report_of (levels_of config.now) false (is_silenced [])
-        (found_there (options_of config.now) whole before (L.rows lines.now) kept.now)))) }
+    ensures { IfOk result (λ o. IfSome o (λ v. v.items ≡ map (shifted 0 down) (report_of (levels_of config.now) false (is_silenced [])
+        (found_there (options_of config.now) ends whole before (L.rows lines.now) kept.now)))) }
 {
-    let silences = Silences::read(alloc, first, &[])?;
-    if silences.is_file_silenced() {
-        return Ok(None);
-    }
-    let found = find_there(alloc, config, lines, whole, before, kept)?;
-    let problems = arrange(alloc, found, config.levels(), &silences)?;
+    let found = find_there(alloc, config, ends, lines, whole, before, kept)?;
+    let problems = arrange(alloc, found, config.levels(), &Silences::none(alloc))?;
     Ok(lowered(problems, down))
 }

@@ -1,6 +1,6 @@
 //! Where in a text the sections stand that an edit touches.
-ghost use Rattle.std.specs.Prelude.{◌≡◌, ◌+◌, ◌<◌, ◌^◌, true, slice_get, IfSome};
-ghost use Rattle.yl_patch.specs.Cut.{IsInner, is_filled};
+ghost use Rattle.std.specs.Prelude.{◌≡◌, ◌==◌, ◌≤◌, ◌+◌, ◌<◌, ◌^◌, true, slice_get, IfSome};
+ghost use Rattle.yl_patch.specs.Cut.{IsInside, is_filled};
 ghost use Rattle.yl_patch.specs.Plain.{row_sum};
 
 use std::alloc::Allocator;
@@ -13,6 +13,13 @@ pub struct Touched {
     pub first: u32,
     pub old_end: u32,
     pub new_end: u32,
+}
+
+/// Whether some lines of a text begin it, and whether they end it.
+#[derive(Clone, Copy, Debug)]
+pub struct Ends {
+    pub begins: bool,
+    pub ends: bool,
 }
 
 /// How many lines these sections have.
@@ -54,19 +61,28 @@ pub fn find_touched<A: Allocator>(
     })
 }
 
-/// Whether the edit that puts so many lines in place of the lines a to b of so many lies in the touched lines, with others before and
-/// behind them.
-pub fn is_inner(touched: Touched, a: usize, b: usize, count: usize, lines: usize) -> bool
+/// Whether the touched lines begin a text of so many lines, and whether they end it.
+pub fn ends_of(touched: Touched, lines: usize) -> Ends
+    ensures begins { result.begins ≡ (touched.first == 0) }
+    ensures ends { result.ends ≡ (touched.old_end == lines) }
+{
+    Ends {
+        begins: touched.first == 0,
+        ends: touched.old_end as usize == lines,
+    }
+}
+
+/// Whether the edit that puts so many lines in place of the lines a to b of so many lies in the touched lines.
+pub fn is_inside(touched: Touched, a: usize, b: usize, count: usize, lines: usize) -> bool
     requires few { lines + count < 2 ^ 64 }
-    ensures { result ≡ true → IsInner touched a b count lines }
+    ensures { result ≡ true → IsInside touched a b count lines }
 {
     let first = touched.first as usize;
     let old_end = touched.old_end as usize;
     let new_end = touched.new_end as usize;
-    0 < first
-        && first <= a
+    first <= a
         && b <= old_end
-        && old_end < lines
+        && old_end <= lines
         && first < old_end
         && first < new_end
         && a <= b

@@ -1,4 +1,4 @@
-use Rattle.std.proofs.Common.{List, length, take, drop, ap, arith, ◌∙◌}
+use Rattle.std.proofs.Common.{drop, ap, arith, ◌∙◌}
 use Rattle.std.proofs.lemmas.List.{length-drop}
 use Rattle.yl_indentation.specs.Measures.{and_later}
 use Rattle.yl_patch.proofs.Walks.{got_behind, measure_last}

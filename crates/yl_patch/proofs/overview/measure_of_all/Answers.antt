@@ -1,8 +1,7 @@
-use Rattle.std.proofs.Common.{List, length, take, ap, arith, ◌∙◌}
+use Rattle.std.proofs.Common.{List, ap, arith, ◌∙◌}
 use Rattle.std.proofs.lemmas.List.{take_all}
-use Rattle.yl_indentation.specs.Measures.{and_later, measure_of}
+use Rattle.yl_indentation.specs.Measures.{and_later}
 use Rattle.yl_sections.specs.Kept.{KeptValue}
-use Rattle.yl_lint.specs.TextReport.{facts_in_sections}
 use Rattle.yl_patch.proofs.Sections.{measured}
 use Rattle.yl_patch.proofs.Walks.{got, measure_last}
 use Rattle.yl_patch.proofs.overview.measure_of_all.Goals as goal

@@ -1,15 +1,13 @@
-use Rattle.std.proofs.Common.{◌≡◌, ◌-◌, ℕ, true, List, Option, length, map, take, drop, arith, ap, sym, subst, ◌∙◌}
+use Rattle.std.proofs.Common.{◌==◌, ◌-◌, List, length, map, take, drop, arith, ap, sym, subst, ◌∙◌}
 use Rattle.std.specs.List.{slice_get, splice}
 use Rattle.yl_text.specs.Lines.{RowValue}
 use Rattle.yl_config.specs.Config.{levels_of, options_of}
-use Rattle.yl_report.specs.Directive.{disables_file, is_silenced}
-use Rattle.yl_report.specs.Report.{ProblemValue, report_of}
-use Rattle.yl_lint.specs.TextReport.{report, text_in}
-use Rattle.yl_patch.specs.Cut.{IsInner, is_filled}
+use Rattle.yl_report.specs.Directive.{disables_file}
+use Rattle.yl_lint.specs.TextReport.{first_text}
+use Rattle.yl_patch.specs.Cut.{IsInside, is_filled}
 use Rattle.yl_patch.specs.Patched.{patched, shifted}
-use Rattle.yl_patch.specs.There.{found_there}
 use Rattle.yl_patch.proofs.Arranged.{arranged}
-use Rattle.yl_patch.proofs.Given.{holds, same_there, then_all}
+use Rattle.yl_patch.proofs.Given.{same_there, then_all}
 use Rattle.yl_patch.proofs.Renewed.{report_renewed, spliced_length}
 use Rattle.yl_patch.proofs.Sections.{measured}
 use Rattle.yl_patch.proofs.Walks.{rows_until}
@@ -19,15 +17,15 @@ pub new-window-requires : goal.new-window-requires
 new-window-requires g c =
     let rows = g.S.Lines.rows c.args.store.now in
     let t = c.in-Some.touched in
-    let inner = subst (λ n. IsInner t c.args.a c.args.b (length c.args.rows.now) n) c.len.ensures (c.is_inner.ensures c.if-not-is_inner.false) in
+    let inside = subst (λ n. IsInside t c.args.a c.args.b (length c.args.rows.now) n) c.len-lines.ensures (c.is_inside.ensures c.if-not-is_inside.false) in
     let n = spliced_length rows c.args.rows.now c.args.a c.args.b c.requires.range.ordered c.requires.range.within in
     let here = ap (λ (xs : List RowValue). length xs) c.new-patched.ensures in record {
-      ordered = omega (arith, inner.new_some);
-      within = omega (arith, inner.fits, inner.back, n, here);
+      ordered = omega (arith, inside.new_some);
+      within = omega (arith, inside.fits, inside.back, n, here);
     }
 
 pub measure_before-before-requires-clause-whole : goal.measure_before-before-requires-clause-whole
-measure_before-before-requires-clause-whole g c = (c.requires.overview (holds c.args.overview.is_plain c.if-not-overview.false)).whole
+measure_before-before-requires-clause-whole g c = (c.requires.overview c.if-not-overview.false).whole
 
 pub returns-in-Some-there-clause-report : goal.returns-in-Some-there-clause-report
 returns-in-Some-there-clause-report g c =
@@ -36,24 +34,26 @@ returns-in-Some-there-clause-report g c =
     let t = c.in-Some.touched in
     let config = c.args.config.now in
     let kept = c.args.kept.now.items in
-    let inner = subst (λ n. IsInner t c.args.a c.args.b (length ins) n) c.len.ensures (c.is_inner.ensures c.if-not-is_inner.false) in
-    let known = c.requires.overview (holds c.args.overview.is_plain c.if-not-overview.false) in
+    let inside = subst (λ n. IsInside t c.args.a c.args.b (length ins) n) c.len-lines.ensures (c.is_inside.ensures c.if-not-is_inside.false) in
+    let known = c.requires.overview c.if-not-overview.false in
     let alike = c.if-not-is_alike.false in
     let cut = c.if-not-is_cut.false in
-    let loud = rw c.in-Some-there.is at c.in_ok-there.ensures.loud in
-    let put = rw c.in-Some-there.is at c.in_ok-there.ensures.problems in
+    let put = rw c.in-Some-there.is at c.in_ok-there.ensures in
+    let e = c.ends_of-ends.result in
+    let loud = c.in_ok-is_loud.ensures c.if-not-branch.false in
+    let loud' = c.in_ok-is_loud-2.ensures c.if-not-branch-2.false in
     let qs = take (t.new_end - t.first) (drop t.first (splice rows c.args.a c.args.b ins)) in
     let window = c.new-window.ensures ∙ ap (λ (xs : List RowValue). take (t.new_end - t.first) (drop t.first xs)) c.new-patched.ensures in
     let there =
-    same_there (options_of config) c.args.overview.whole (measured kept) c.measure_before-before.result (measured (take c.args.from kept)) c.new-window.result qs c.args.new.now known.whole c.measure_before-before.ensures window in
+    same_there (options_of config) e c.args.overview.whole (measured kept) c.measure_before-before.result (measured (take c.args.from kept)) c.new-window.result qs c.args.new.now known.whole c.measure_before-before.ensures window in
     then_all c.patch_with.result c.patch_with.ensures.from c.patch_with.ensures.end c.patch_with.ensures.parts (λ p i j parts.
     ap (λ n. patched p.from p.end p.problems.items n p.down c.args.problems.now) parts.1
     ∙ (ap (λ n. patched p.from p.end p.problems.items t.old_end n c.args.problems.now) parts.2
-    ∙ report_renewed config rows ins kept c.args.new.now c.args.a c.args.b c.args.from c.args.end t c.requires.range.ordered c.requires.kept_range.ordered c.requires.kept_range.within inner
-    c.requires.kept c.requires.new known.plain (c.is_alike.ensures.plain alike) (ap (λ o. disables_file (text_in o)) c.row.ensures ∙ (ap disables_file (sym c.as_str-first.ensures) ∙ loud))
+    ∙ report_renewed config rows ins kept c.args.new.now c.args.a c.args.b c.args.from c.args.end t c.requires.range.ordered c.requires.kept_range.ordered c.requires.kept_range.within inside
+    c.requires.kept c.requires.new known.plain (c.is_alike.ensures.plain alike) loud (ap (λ xs. disables_file (first_text xs)) (sym c.new-patched.ensures) ∙ loud')
     (c.in-Some.ensures.first ∙ c.requires.from_row)
     (omega (arith, c.in-Some.ensures.first, c.in-Some.ensures.old_end, c.requires.from_row, c.requires.end_row, rows_until kept c.args.from c.args.end c.requires.kept_range.ordered c.requires.kept_range.within))
-    c.in-Some.ensures.new_end (c.is_cut.ensures.old cut)
-    (ap (λ (xs : List RowValue). is_filled (slice_get xs t.first)) (sym c.new-patched.ensures) ∙ c.is_cut.ensures.new cut) (c.is_cut.ensures.behind cut) (c.is_alike.ensures.measure alike)
+    c.in-Some.ensures.new_end e c.ends_of-ends.ensures.begins (c.ends_of-ends.ensures.ends ∙ ap (λ n. t.old_end == n) c.len-lines.ensures) (c.is_cut.ensures.old cut)
+    (λ h. ap (λ (xs : List RowValue). is_filled (slice_get xs t.first)) (sym c.new-patched.ensures) ∙ c.is_cut.ensures.new cut h) (c.is_cut.ensures.behind cut) (c.is_alike.ensures.measure alike)
     p.from p.end p.problems.items c.args.problems.now c.requires.problems i j
     (parts.0 ∙ (put ∙ ap (λ fs. map (shifted 0 t.first) (arranged (levels_of config) fs)) there))))

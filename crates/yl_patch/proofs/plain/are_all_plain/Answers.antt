@@ -1,4 +1,4 @@
-use Rattle.std.proofs.Common.{List, length, take, arith, subst}
+use Rattle.std.proofs.Common.{List, arith, subst}
 use Rattle.std.specs.List.{AllByRecursion}
 use Rattle.std.proofs.lemmas.List.{take_all}
 use Rattle.yl_sections.specs.Kept.{KeptValue}

@@ -1,4 +1,4 @@
-use Rattle.std.proofs.Common.{length, arith}
+use Rattle.std.proofs.Common.{arith}
 use Rattle.yl_patch.specs.Patched.{IsLow, shifted}
 use Rattle.yl_patch.proofs.Shifted.{item_all, set_more}
 use Rattle.yl_patch.proofs.shifting.shift_behind.Goals as goal

@@ -1,4 +1,4 @@
-use Rattle.std.proofs.Common.{◌≡◌, ◌≤◌, ◌-◌, ◌++◌, map, take, drop}
+use Rattle.std.proofs.Common.{◌≡◌, ◌-◌, ◌++◌, map, take, drop}
 use Rattle.std.specs.Vec.{vec_capacity}
 use Rattle.yl_patch.specs.Patched.{shifted}
 use Rattle.yl_patch.proofs.shifting.shift_behind.Given as goal

@@ -1,6 +1,5 @@
-use Rattle.std.proofs.Common.{◌≡◌, ◌-◌, ◌<◌, List, Some, length, take, drop, arith, subst, sym}
+use Rattle.std.proofs.Common.{◌≡◌, ◌<◌, List, Some, length, arith, subst, sym}
 use Rattle.std.specs.List.{slice_get}
-use Rattle.std.proofs.lemmas.List.{length-take-le, length-drop}
 use Rattle.yl_text.specs.Lines.{RowValue}
 use Rattle.yl_patch.proofs.Walks.{row_within, few_within}
 use Rattle.yl_patch.proofs.window.WindowLines.row.Goals as goal
