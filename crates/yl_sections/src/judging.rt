@@ -79,27 +79,31 @@ fn first_column<A: Allocator>(lexemes: &[LexemeAtLine<'_, A>]) -> u32
     }
 }
 
-/// What is kept of the section of these rows with these lexemes and their marks, whose document gives this.
+/// What is kept of the section of these rows with these lexemes and their marks, whose document gives this. Its events go before what
+/// indentation checks is gathered.
 fn keep<'a, A: Allocator + Copy>(
     alloc: A,
     config: &Config,
     records: &[&'a Record<A>],
     lexemes: &[LexemeAtLine<'a, A>],
     marks: &DocumentMarks<A>,
-    document: &Built<'a, A>,
+    document: Built<'a, A>,
 ) -> Result<Kept<A>, AllocError>
     requires few { length records.now < 2 ^ 32 }
     requires lexemes { map (λ x. lexeme_at_line x.line x.lexeme.now) lexemes.now ≡ lexemes_of (map (λ r. r.now) records.now) }
     requires symbols { marks.now.symbols.items ≡ symbols_of_lexemes (map (λ x. lexeme_at_line x.line x.lexeme.now) lexemes.now) }
     requires keys { marks.now.keys.items ≡ key_facts (map (λ x. lexeme_at_line x.line x.lexeme.now) lexemes.now) }
-    requires inside { counted_of (map (λ x. lexeme_at_line x.line x.lexeme.now) lexemes.now) document.now.fault ≤ length lexemes.now }
-    ensures { IfOk result (λ k. k ≡ kept_of config.now (map (λ r. r.now) records.now) (built_value document.now)) }
+    requires inside { counted_of (map (λ x. lexeme_at_line x.line x.lexeme.now) lexemes.now) document.fault ≤ length lexemes.now }
+    ensures { IfOk result (λ k. k ≡ kept_of config.now (map (λ r. r.now) records.now) (built_value document.entry)) }
 {
-    let parsed = document.fault;
+    let Built {
+        events: all,
+        fault: parsed,
+    } = document;
     let parse_fault = section_fault(lexemes, parsed, None);
     let fault = section_fault(lexemes, parsed, scan_fault(records));
-    let events = shown_events(fault, document.events.as_slice());
-    let hidden_events = hidden_events(fault, parse_fault, document.events.as_slice());
+    let events = shown_events(fault, all.as_slice());
+    let hidden_events = hidden_events(fault, parse_fault, all.as_slice());
     let counted = counted(lexemes, parsed);
     let lines = comment_lines(records.len(), lexemes, parsed);
     let comments = shown_comments(alloc, records, lines)?;
@@ -113,6 +117,7 @@ fn keep<'a, A: Allocator + Copy>(
         events,
     )?;
     let hidden = tree_found(alloc, config, hidden_events)?;
+    drop(all);
     let facts = facts(alloc, config, records, lexemes, &marks.symbols, counted)?;
     let comments = kept_comments(alloc, &comments)?;
     Ok(Kept::new(
@@ -143,7 +148,7 @@ pub fn judge<A: Allocator + Copy>(
     let lexemes = lexemes_of(alloc, records)?;
     let marks = document_marks(alloc, &lexemes)?;
     let document = document_of(alloc, &lexemes, &marks.symbols, meter)?;
-    keep(alloc, config, records, &lexemes, &marks, &document)
+    keep(alloc, config, records, &lexemes, &marks, document)
 }
 
 /// Judges the sections of these rows but the last one, to which rows that follow may belong, and puts what is kept of each after the

@@ -23,7 +23,7 @@ returns g c =
     let events = map event_value c.shown_events-events.result.now in
     let behind = map event_value c.hidden_events-hidden_events.result.now in
     let xs = map (λ x. lexeme_at_line x.line x.lexeme.now) c.args.lexemes.now in
-    kept_is config (seen c.args.records.now) (built_value c.args.document.now) xs (option_map section_fault_value c.scan_fault.result) fault parse_fault events behind c.counted-counted.result (length c.args.records.now)
+    kept_is config (seen c.args.records.now) (built_value c.args.document) xs (option_map section_fault_value c.scan_fault.result) fault parse_fault events behind c.counted-counted.result (length c.args.records.now)
     c.comment_lines-lines.result c.first_column.result (map placed_comment_value c.in_ok-comments.comments.items) c.in_ok-comments-2.comments.items c.in_ok-found.found.items c.in_ok-hidden.hidden.items c.in_ok-facts.facts.items c.new.result
     c.new.ensures
     (c.in_ok-found.ensures
