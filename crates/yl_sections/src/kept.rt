@@ -133,15 +133,15 @@ impl<A: Allocator> Kept<A> {
     ghost use Rattle.yl_indentation.specs.Measures.{measure_of};
     ghost use Rattle.yl_sections.specs.Owned.{section_fault_value};
 
-    /// Of these parts. Its lists are kept in no more room than they take.
+    /// Of these parts.
     pub(crate) fn new(
         rows: u32,
         first: u32,
-        mut found: Vec<Finding<A>, A>,
-        mut facts: Vec<Fact, A>,
-        mut comments: Vec<KeptComment<A>, A>,
+        found: Vec<Finding<A>, A>,
+        facts: Vec<Fact, A>,
+        comments: Vec<KeptComment<A>, A>,
         fault: Option<SectionFault>,
-        mut hidden: Vec<Finding<A>, A>,
+        hidden: Vec<Finding<A>, A>,
         parse_fault: Option<SectionFault>,
     ) -> Kept<A>
         ensures { result ≡ record {
@@ -155,10 +155,6 @@ impl<A: Allocator> Kept<A> {
           parse_fault = option_map section_fault_value parse_fault;
         } }
     {
-        found.shrink_to_fit();
-        facts.shrink_to_fit();
-        comments.shrink_to_fit();
-        hidden.shrink_to_fit();
         let measure = Measure::of(&facts);
         Kept {
             rows,
