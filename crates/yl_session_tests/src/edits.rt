@@ -10,7 +10,7 @@ use yl_text::{LineStore, PlainStore, TextFault};
 
 // An edit: these bytes in place of the lines from the first to the second number on; and the most rows that it may scan, and the most
 // documents of which it may derive events.
-type Change = (u64, u64, &'static [u8], u32, u32);
+pub(crate) type Change = (u64, u64, &'static [u8], u32, u32);
 
 // How an edit was answered, and what work it was if that was more than it may be.
 fn answer_shown(
@@ -56,9 +56,9 @@ fn transcripts(alloc: Global, text: &str, changes: &[Change]) -> Result<[String;
 }
 
 // A text, edits, and what is shown.
-type Line = (&'static str, &'static [Change], &'static str);
+pub(crate) type Line = (&'static str, &'static [Change], &'static str);
 
-fn check_rows(rt: &impl Abort, alloc: Global, rows: &[Line]) -> Result<(), Fail> {
+pub(crate) fn check_rows(rt: &impl Abort, alloc: Global, rows: &[Line]) -> Result<(), Fail> {
     for (text, changes, wanted) in rows {
         for shown in transcripts(alloc, text, changes)? {
             assert_eq!(rt; shown.as_str(), *wanted, "{text:?}");

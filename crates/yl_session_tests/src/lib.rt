@@ -5,6 +5,8 @@
 #[cfg(test)]
 mod edits;
 #[cfg(test)]
+mod ends;
+#[cfg(test)]
 mod growth;
 #[cfg(test)]
 mod refused;
