@@ -355,12 +355,12 @@ fn names_places_and_properties(rt: HostRuntime) -> Result<(), Fail> {
     assert_eq!(rt; built.events.len(), 6);
     let mapping = built.events[1];
     assert_eq!(rt; mapping.place, Some(Pos { line: 0, col: 0 }));
-    assert!(rt; mapping.anchor.is_none());
+    assert!(rt; mapping.anchor().is_none());
     assert!(rt; !mapping.is_tagged);
     let key = built.events[2];
     assert_eq!(rt; key.place, Some(Pos { line: 0, col: 6 }));
     assert!(rt; key.is_tagged);
-    match key.anchor {
+    match key.anchor() {
         None => assert!(rt; false, "no anchor"),
         Some(anchor) => {
             assert_eq!(rt; anchor.name, "b");
@@ -561,10 +561,10 @@ fn expect_lines(rt: &impl Abort, heap: Heap<'_>, tokens: &[Spot]) -> Result<(), 
             for (outline, event) in outlines.iter().zip(&built.events) {
                 let place = match outline.place {
                     None => None,
-                    Some(i) => placed.get(i).map(|at| at.start()),
+                    Some(i) => placed.get(i as usize).map(|at| at.start()),
                 };
                 assert_eq!(rt; place, event.place);
-                assert_eq!(rt; outline.anchor.is_some(), event.anchor.is_some());
+                assert_eq!(rt; outline.anchor.is_some(), event.anchor().is_some());
                 assert_eq!(rt; outline.is_tagged, event.is_tagged);
             }
             return Ok(());

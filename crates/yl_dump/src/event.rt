@@ -34,7 +34,7 @@ fn print_content<A: Allocator + Copy>(
     ensures { OnOk result (page.new ≡ page.old ++ content_text group.now outline.now.kind outline.now.place) }
 {
     let value = match outline.place {
-        Some(index) => group.value(index),
+        Some(index) => group.value(index as usize),
         None => "",
     };
     match outline.kind {
@@ -57,13 +57,13 @@ fn print_content<A: Allocator + Copy>(
 fn print_anchor<A: Allocator + Copy>(
     page: &mut Page<A>,
     group: &Group<A>,
-    anchor: Option<usize>,
+    anchor: Option<u32>,
 ) -> Result<(), AllocError>
     ensures { OnOk result (page.new ≡ page.old ++ anchor_text group.now anchor) }
 {
     if let Some(index) = anchor {
         page.text(" &")?;
-        page.text(group.value(index))?;
+        page.text(group.value(index as usize))?;
     }
     Ok(())
 }
@@ -82,12 +82,12 @@ fn print_tag<A: Allocator + Copy>(page: &mut Page<A>, is_tagged: bool) -> Result
 fn print_place<A: Allocator + Copy>(
     page: &mut Page<A>,
     group: &Group<A>,
-    place: Option<usize>,
+    place: Option<u32>,
 ) -> Result<(), AllocError>
     ensures { OnOk result (page.new ≡ page.old ++ place_shown group.now place) }
 {
     match place {
-        Some(index) => group.print_place(page, index),
+        Some(index) => group.print_place(page, index as usize),
         None => Ok(()),
     }
 }

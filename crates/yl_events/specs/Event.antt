@@ -1,5 +1,5 @@
 -- Meaning: events: YAML 1.2.2, 3.1.2. Names and values in UTF-8.
-use Rattle.std.specs.Prelude.{ℕ, ◌≡◌, Bool, List, [], map, Option, Some, None, slice_get}
+use Rattle.std.specs.Prelude.{ℕ, ◌≡◌, Bool, true, false, List, [], map, Option, Some, None, slice_get}
 use Rattle.yl_text.specs.declared.position.Pos.{Pos}
 use Rattle.yl_lexeme.specs.declared.lexeme.Style.{Style}
 use Rattle.yl_lexeme.specs.Lexeme.{LexemeValue}
@@ -53,8 +53,17 @@ abbrev pub anchor_value : Option EventAnchor → Option EventAnchorValue
 anchor_value None = None
 anchor_value (Some a) = Some (record { name = a.name.now; place = a.place })
 
+abbrev pub anchor_if : Bool → List ℕ → Pos → Option EventAnchorValue
+anchor_if false name place = None
+anchor_if true name place = Some (record { name = name; place = place })
+
 abbrev pub event_value : Event → EventValue
-event_value e = record { kind = kind_value e.kind; place = e.place; anchor = anchor_value e.anchor; is_tagged = e.is_tagged }
+event_value e = record {
+  kind = kind_value e.kind;
+  place = e.place;
+  anchor = anchor_if e.has_anchor e.anchor_name.now e.anchor_place;
+  is_tagged = e.is_tagged;
+}
 
 -- ---- names, values and places of a document's lexemes
 

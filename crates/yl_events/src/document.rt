@@ -45,19 +45,19 @@ fn start_at<A: Allocator>(lexemes: &[LexemeAtLine<'_, A>], i: usize) -> Pos
     }
 }
 
-fn content_value<'a, A: Allocator>(lexemes: &[LexemeAtLine<'a, A>], place: Option<usize>) -> &'a str
+fn content_value<'a, A: Allocator>(lexemes: &[LexemeAtLine<'a, A>], place: Option<u32>) -> &'a str
     ensures { result.now ≡ content_value (map (λ x. lexeme_at_line x.line x.lexeme.now) lexemes.now) place }
 {
     match place {
         None => "",
-        Some(i) => value_at(lexemes, i),
+        Some(i) => value_at(lexemes, i as usize),
     }
 }
 
 fn kind_of<'a, A: Allocator>(
     lexemes: &[LexemeAtLine<'a, A>],
     shape: Shape,
-    place: Option<usize>,
+    place: Option<u32>,
 ) -> EventKind<'a>
     ensures { kind_value result ≡ kind_of (map (λ x. lexeme_at_line x.line x.lexeme.now) lexemes.now) shape place }
 {
@@ -80,21 +80,21 @@ fn fill<'a, A: Allocator>(lexemes: &[LexemeAtLine<'a, A>], outline: &Outline) ->
 {
     let place = match outline.place {
         None => None,
-        Some(i) => Some(start_at(lexemes, i)),
+        Some(i) => Some(start_at(lexemes, i as usize)),
     };
     let anchor = match outline.anchor {
         None => None,
         Some(i) => Some(EventAnchor {
-            name: value_at(lexemes, i),
-            place: start_at(lexemes, i),
+            name: value_at(lexemes, i as usize),
+            place: start_at(lexemes, i as usize),
         }),
     };
-    Event {
-        kind: kind_of(lexemes, outline.kind, outline.place),
+    Event::new(
+        kind_of(lexemes, outline.kind, outline.place),
         place,
         anchor,
-        is_tagged: outline.is_tagged,
-    }
+        outline.is_tagged,
+    )
 }
 
 /// The events of outlines. They are made from the last on, and now and then the outlines give up the room of those that are done, so

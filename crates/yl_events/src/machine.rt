@@ -12,7 +12,7 @@ use std::alloc::{AllocError, Allocator};
 use yl_lexeme::Kind;
 use yl_marks::Symbol;
 
-pub fn bare(kind: Shape, place: Option<usize>) -> Outline
+pub fn bare(kind: Shape, place: Option<u32>) -> Outline
     ensures { result ≡ bare_event kind place }
 {
     Outline {
@@ -23,7 +23,7 @@ pub fn bare(kind: Shape, place: Option<usize>) -> Outline
     }
 }
 
-fn decorated(properties: Option<Properties>, kind: Shape, place: Option<usize>) -> Outline
+fn decorated(properties: Option<Properties>, kind: Shape, place: Option<u32>) -> Outline
     ensures { result ≡ node_event properties kind place }
 {
     let (anchor, is_tagged) = match properties {
@@ -70,7 +70,7 @@ fn put<A: Allocator>(goal: Goal, goals: &mut Vec<Goal, A>) -> Result<bool, Alloc
 }
 
 /// Properties with an anchor, where they may have one more.
-fn with_anchor(properties: Option<Properties>, anchor: usize) -> Option<Properties>
+fn with_anchor(properties: Option<Properties>, anchor: u32) -> Option<Properties>
     ensures { result ≡ with_anchor properties anchor }
 {
     match properties {
@@ -83,7 +83,7 @@ fn with_anchor(properties: Option<Properties>, anchor: usize) -> Option<Properti
 }
 
 /// Properties with a tag, where they may have one more.
-fn with_tag(properties: Option<Properties>, tag: usize) -> Option<Properties>
+fn with_tag(properties: Option<Properties>, tag: u32) -> Option<Properties>
     ensures { result ≡ with_tag properties tag }
 {
     match properties {
@@ -131,7 +131,7 @@ fn form_begins<A: Allocator>(
     place: Where,
     properties: Option<Properties>,
     kind: Kind,
-    i: usize,
+    i: u32,
     goals: &mut Vec<Goal, A>,
     events: &mut Vec<Outline, A>,
 ) -> Result<bool, AllocError>
@@ -207,7 +207,7 @@ fn closes<A: Allocator>(
 /// The beginning of a pair in a flow collection.
 fn start_pair<A: Allocator>(
     bracket: BracketKind,
-    i: usize,
+    i: u32,
     events: &mut Vec<Outline, A>,
 ) -> Result<(), AllocError>
     ensures { OnOk result (events.new.items ≡ events.old.items then pair_start bracket i) }
@@ -224,7 +224,7 @@ fn start_pair<A: Allocator>(
 fn bare_item<A: Allocator>(
     bracket: BracketKind,
     kind: Kind,
-    i: usize,
+    i: u32,
     goals: &mut Vec<Goal, A>,
     events: &mut Vec<Outline, A>,
 ) -> Result<bool, AllocError>
@@ -241,7 +241,7 @@ fn bare_item<A: Allocator>(
 fn item_begins<A: Allocator>(
     bracket: BracketKind,
     kind: Kind,
-    i: usize,
+    i: u32,
     goals: &mut Vec<Goal, A>,
     events: &mut Vec<Outline, A>,
 ) -> Result<bool, AllocError>

@@ -11,10 +11,10 @@ pub enum BracketKind {
 /// At most one anchor and one tag, at least one of them, in either order.
 #[derive(Clone, Copy)]
 pub enum Properties {
-    Anchored(usize),
-    Tagged(usize),
-    AnchoredTagged(usize, usize),
-    TaggedAnchored(usize, usize),
+    Anchored(u32),
+    Tagged(u32),
+    AnchoredTagged(u32, u32),
+    TaggedAnchored(u32, u32),
 }
 
 /// What an event is, without its contents.
@@ -36,11 +36,11 @@ pub enum Shape {
 #[derive(Clone, Copy, Debug, PartialEq, Eq)]
 pub struct Outline {
     pub kind: Shape,
-    /// The lexeme with which its content begins, behind properties: of a scalar, an alias and a start of a collection.
-    pub place: Option<usize>,
-    /// The lexeme that is its anchor.
-    pub anchor: Option<usize>,
     pub is_tagged: bool,
+    /// The lexeme with which its content begins, behind properties: of a scalar, an alias and a start of a collection.
+    pub place: Option<u32>,
+    /// The lexeme that is its anchor.
+    pub anchor: Option<u32>,
 }
 
 /// What a node may be: one that may be a key; any; any, and an indentless sequence.

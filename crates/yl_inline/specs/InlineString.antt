@@ -5,5 +5,5 @@ use Rattle.yl_inline.specs.declared.inline_string.Kept.{Kept}
 use Rattle.yl_inline.specs.declared.inline_string.Kept.TheVariants.{Short, Long}
 
 abbrev pub characters_of : {A : Type 0} → Kept A → List ℕ
-characters_of (Short short) = chars short.text.bytes
+characters_of (Short short) = short
 characters_of (Long text) = chars (string_bytes text)

@@ -11,15 +11,33 @@ use std::{fmt, str};
 /// How many bytes a text has at the most that lies in the value itself.
 const SHORT: usize = 16;
 
-/// A text that lies in the value itself.
+/// A text of few ASCII characters, which lies in the value itself.
 #[derive(Drop)]
-struct ShortText {
+pub struct ShortText {
     text: ArrayString<SHORT>,
 }
 
-/// Where a text lies.
+impl Model for ShortText {
+    ghost use Rattle.std.specs.Prelude.{ℕ, List};
+    ghost use Rattle.std.specs.Str.{chars};
+
+    ghost Value = { List ℕ };
+
+    ghost view = { λ s. chars s.text.bytes };
+}
+
+impl ShortText {
+    /// The text in UTF-8.
+    pub fn as_str(&self) -> &str
+        ensures { result.now ≡ encode_utf8_all self.now }
+    {
+        self.text.as_str()
+    }
+}
+
+/// Where a text lies: in the value itself, or in memory of its own.
 #[derive(Drop)]
-enum Kept<A: Allocator> {
+pub enum Kept<A: Allocator> {
     Short(ShortText),
     Long(String<A>),
 }
@@ -40,9 +58,9 @@ impl<A: Allocator> Model for InlineString<A> {
 }
 
 /// The text of these ASCII characters, if there are few.
-fn short_text(characters: &[char]) -> Option<ShortText>
+fn short_text(characters: &[char]) -> Option<ArrayString<SHORT>>
     requires { IsAscii characters.now }
-    ensures { IfSome result (λ short. short.text.bytes ≡ characters.now) }
+    ensures { IfSome result (λ text. text.bytes ≡ characters.now) }
 {
     if characters.len() > SHORT {
         return None;
@@ -52,11 +70,12 @@ fn short_text(characters: &[char]) -> Option<ShortText>
         bytes.push(*c as u8);
     }
     let text = str::from_utf8(bytes.as_slice()).ok()?;
-    let text = ArrayString::from(text).ok()?;
-    Some(ShortText { text })
+    ArrayString::from(text).ok()
 }
 
 impl<A: Allocator> InlineString<A> {
+    ghost use Rattle.yl_inline.specs.InlineString.{characters_of};
+
     /// No text.
     pub fn new() -> InlineString<A>
         ensures { result ≡ [] }
@@ -72,9 +91,9 @@ impl<A: Allocator> InlineString<A> {
         requires { IsAscii characters.now }
         ensures { IfSome result (λ text. text ≡ characters.now) }
     {
-        let short = short_text(characters)?;
+        let text = short_text(characters)?;
         Some(InlineString {
-            kept: Kept::Short(short),
+            kept: Kept::Short(ShortText { text }),
         })
     }
 
@@ -92,9 +111,16 @@ impl<A: Allocator> InlineString<A> {
         ensures { result.now ≡ encode_utf8_all self.now }
     {
         match &self.kept {
-            Kept::Short(short) => short.text.as_str(),
+            Kept::Short(short) => short.as_str(),
             Kept::Long(text) => text.as_str(),
         }
+    }
+
+    /// Where its text lies.
+    pub fn into_kept(self) -> Kept<A>
+        ensures { characters_of result ≡ self }
+    {
+        self.kept
     }
 
     /// The text in memory of its own. The only error is memory.

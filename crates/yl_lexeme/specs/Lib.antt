@@ -6,6 +6,7 @@ pub mod Keys
 pub mod Known
 pub mod Laws
 pub mod Lexeme
+pub mod Parts
 pub mod Past
 pub mod PlacedComments
 pub mod Surroundings

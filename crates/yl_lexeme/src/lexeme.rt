@@ -2,7 +2,7 @@
 
 use std::alloc::Allocator;
 use std::marker::Model;
-use yl_inline::InlineString;
+use yl_inline::{InlineString, Kept, ShortText};
 use yl_text::Pos;
 
 /// How a scalar is written: YAML 1.2.2, 7.3 and 8.1.
@@ -96,25 +96,39 @@ impl Kind {
     }
 }
 
+/// A lexeme, whose value lies in it or in memory of its own. All fields stand in one enum, so that its tag takes the room that
+/// the kind leaves before the column.
+#[derive(Drop)]
+enum Parts<A: Allocator> {
+    Short {
+        kind: Kind,
+        column: u32,
+        end: Pos,
+        value: ShortText,
+    },
+    Long {
+        kind: Kind,
+        column: u32,
+        end: Pos,
+        value: String<A>,
+    },
+}
+
 /// A lexeme. Its lines count from the line in which it begins, its columns from 0 in characters; its end is
 /// behind its last character. The value is that of a plain or quoted scalar, the name of an anchor or an
 /// alias, the text of a directive, and of all else empty.
 #[derive(Drop)]
 pub struct Lexeme<A: Allocator> {
-    kind: Kind,
-    /// Where it begins.
-    column: u32,
-    end: Pos,
-    value: InlineString<A>,
+    parts: Parts<A>,
 }
 
 impl<A: Allocator> Model for Lexeme<A> {
-    ghost use Rattle.std.specs.Str.{encode_utf8_all};
     ghost use Rattle.yl_lexeme.specs.Lexeme.{LexemeValue};
+    ghost use Rattle.yl_lexeme.specs.Parts.{lexeme_of};
 
     ghost Value = { LexemeValue };
 
-    ghost view = { λ x. record { kind = x.kind; start = record { line = 0; col = x.column }; end = x.end; value = encode_utf8_all x.value } };
+    ghost view = { λ x. lexeme_of x.parts };
 }
 
 impl<A: Allocator> Lexeme<A> {
@@ -125,27 +139,46 @@ impl<A: Allocator> Lexeme<A> {
     pub fn new(kind: Kind, column: u32, end: Pos, value: InlineString<A>) -> Lexeme<A>
         ensures { result ≡ record { kind = kind; start = record { line = 0; col = column }; end = end; value = encode_utf8_all value } }
     {
-        Lexeme {
-            kind,
-            column,
-            end,
-            value,
+        match value.into_kept() {
+            Kept::Short(value) => Lexeme {
+                parts: Parts::Short {
+                    kind,
+                    column,
+                    end,
+                    value,
+                },
+            },
+            Kept::Long(value) => Lexeme {
+                parts: Parts::Long {
+                    kind,
+                    column,
+                    end,
+                    value,
+                },
+            },
         }
     }
 
     pub fn kind(&self) -> Kind
         ensures { result ≡ self.now.kind }
     {
-        self.kind
+        match &self.parts {
+            Parts::Short { kind, .. } => *kind,
+            Parts::Long { kind, .. } => *kind,
+        }
     }
 
     /// Where it begins; the line is 0.
     pub fn start(&self) -> Pos
         ensures { result ≡ self.now.start }
     {
+        let column = match &self.parts {
+            Parts::Short { column, .. } => *column,
+            Parts::Long { column, .. } => *column,
+        };
         Pos {
             line: 0,
-            col: self.column,
+            col: column,
         }
     }
 
@@ -153,14 +186,20 @@ impl<A: Allocator> Lexeme<A> {
     pub fn end(&self) -> Pos
         ensures { result ≡ self.now.end }
     {
-        self.end
+        match &self.parts {
+            Parts::Short { end, .. } => *end,
+            Parts::Long { end, .. } => *end,
+        }
     }
 
     /// Its value.
     pub fn value(&self) -> &str
         ensures { result.now ≡ self.now.value }
     {
-        self.value.as_str()
+        match &self.parts {
+            Parts::Short { value, .. } => value.as_str(),
+            Parts::Long { value, .. } => value.as_str(),
+        }
     }
 }
 

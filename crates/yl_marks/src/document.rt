@@ -43,16 +43,16 @@ fn as_marked<A: Allocator + Copy>(
         match *symbol {
             Symbol::OpenSequence(i) => marked.push(Marked::Open(
                 Collection::Sequence,
-                column_at(lexemes, i),
+                column_at(lexemes, i as usize),
             ))?,
             Symbol::OpenMapping(i) => marked.push(Marked::Open(
                 Collection::Mapping,
-                column_at(lexemes, i),
+                column_at(lexemes, i as usize),
             ))?,
             Symbol::BeginKey(_) => begins_key = true,
             Symbol::Close => marked.push(Marked::Close)?,
             Symbol::One(_, i) => {
-                marked.push(Marked::Lexeme(i, begins_key))?;
+                marked.push(Marked::Lexeme(i as usize, begins_key))?;
                 begins_key = false;
             }
         }

@@ -9,7 +9,7 @@ ghost use Rattle.yl_marks.specs.Marks.{closings_of_all};
 use crate::facts::{KeyFacts, push_facts};
 use crate::keys::line_pieces;
 use crate::marks::{close_all, marks, note_keys};
-use crate::symbol::{Earlier, KeyStart, KeyedToken, OpenBlock, Symbol};
+use crate::symbol::{Earlier, KeyStart, KeyedToken, MOST, OpenBlock, Symbol};
 use crate::token::{Token, token_of};
 use std::alloc::{AllocError, Allocator};
 use std::marker::Model;
@@ -68,7 +68,7 @@ impl<A: Allocator + Copy> KeyMarker<A> {
     }
 
     /// Reads the lexemes that begin in the next line, all of them, and puts them with their marks behind the symbols, and what keys say
-    /// of them behind `keys`. The only error is memory, or that the document has more than `usize::MAX` lexemes.
+    /// of them behind `keys`. The only error is memory, or that the document has more than `u32::MAX` lexemes.
     pub fn read(
         &mut self,
         line: &[LexemeAtLine<'_, A>],
@@ -82,7 +82,7 @@ impl<A: Allocator + Copy> KeyMarker<A> {
         ensures behind { OnOk result (self.new ≡ behind_keyed_line self.old (map token_of (map (λ x. lexeme_at_line x.line x.lexeme.now) line.now))) }
     {
         let first = self.earlier.count;
-        if line.len() > usize::MAX - first {
+        if first.saturating_add(line.len()) > MOST {
             return Err(AllocError);
         }
         read_tokens(line, &mut self.tokens)?;

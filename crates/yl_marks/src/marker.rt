@@ -6,7 +6,7 @@ ghost use Rattle.yl_marks.specs.Marks.{closings_of_all};
 
 use crate::keys::line_pieces;
 use crate::marks::{close_all, marks, note_keys};
-use crate::symbol::{Earlier, KeyStart, KeyedToken, OpenBlock, Symbol};
+use crate::symbol::{Earlier, KeyStart, KeyedToken, MOST, OpenBlock, Symbol};
 use crate::token::Token;
 use std::alloc::{AllocError, Allocator};
 use std::marker::Model;
@@ -71,13 +71,13 @@ impl<A: Allocator + Copy> Marker<A> {
     }
 
     /// Reads the lexemes that begin in the next line, all of them, and puts them with their marks behind the symbols. The only error
-    /// is memory, or that the document has more than `usize::MAX` lexemes; behind it only `clear` makes the marker fit for use.
+    /// is memory, or that the document has more than `u32::MAX` lexemes; behind it only `clear` makes the marker fit for use.
     pub fn read(&mut self, line: &[Token], symbols: &mut Vec<Symbol, A>) -> Result<(), AllocError>
         ensures marks { OnOk result (symbols.new.items ≡ symbols.old.items ++ marks_of_line self.old line.now) }
         ensures behind { OnOk result (self.new ≡ behind_line self.old line.now) }
     {
         let first = self.earlier.count;
-        if line.len() > usize::MAX - first {
+        if first.saturating_add(line.len()) > MOST {
             return Err(AllocError);
         }
         let earlier = line_pieces(line, self.earlier, &mut self.unit, &mut self.pieces)?;

@@ -56,7 +56,7 @@ fn close<A: Allocator>(
 /// Opens what the lexeme of this index opens.
 fn open<A: Allocator>(
     m: Marking,
-    i: usize,
+    i: u32,
     collections: &mut Vec<OpenBlock, A>,
     symbols: &mut Vec<Symbol, A>,
 ) -> Result<(), AllocError>
@@ -119,7 +119,7 @@ pub fn note_keys<A: Allocator>(
 /// A lexeme with its marks.
 fn mark_one<A: Allocator>(
     m: Marking,
-    i: usize,
+    i: u32,
     collections: &mut Vec<OpenBlock, A>,
     symbols: &mut Vec<Symbol, A>,
 ) -> Result<(), AllocError>
@@ -143,7 +143,7 @@ pub fn marks<A: Allocator>(
     collections: &mut Vec<OpenBlock, A>,
     symbols: &mut Vec<Symbol, A>,
 ) -> Result<(), AllocError>
-    requires count { first + length pieces.now < 2 ^ 64 }
+    requires count { first + length pieces.now < 2 ^ 32 }
     requires begins { AreBegins begins.now first pieces.now }
     ensures left { OnOk result (reverse collections.new.items ≡ open_behind_all pieces.now (reverse collections.old.items) first pieces.now) }
     ensures marks { OnOk result (symbols.new.items ≡ symbols.old.items ++ marks pieces.now (reverse collections.old.items) first pieces.now) }
@@ -153,7 +153,7 @@ pub fn marks<A: Allocator>(
             piece: *piece,
             begins_key: begins[i],
         };
-        mark_one(m, first + i, collections, symbols)?;
+        mark_one(m, (first + i) as u32, collections, symbols)?;
     }
     Ok(())
 }

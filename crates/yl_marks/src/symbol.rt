@@ -3,14 +3,17 @@
 use yl_lexeme::Kind;
 use yl_text::Pos;
 
+/// How many lexemes a document has at most.
+pub const MOST: usize = u32::MAX as usize;
+
 /// A lexeme, or a mark between lexemes. A mark names the lexeme that it stands before.
 #[derive(Clone, Copy)]
 pub enum Symbol {
-    OpenSequence(usize),
-    OpenMapping(usize),
-    BeginKey(usize),
+    OpenSequence(u32),
+    OpenMapping(u32),
+    BeginKey(u32),
     Close,
-    One(Kind, usize),
+    One(Kind, u32),
 }
 
 /// Where a key may begin: how many lexemes stand before it, and its column.

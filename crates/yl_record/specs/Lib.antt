@@ -1,4 +1,4 @@
-pub mod Extra
+pub mod Beside
 pub mod Parts
 pub mod Recorded
 pub mod Recorder

@@ -1,10 +1,12 @@
 //! What is kept of a row.
 
-ghost use Rattle.std.specs.Prelude.{◌≡◌, ◌++◌, ◌∷◌, [], None, IfOk, OnOk};
+ghost use Rattle.std.specs.Prelude.{◌≡◌, ◌++◌, ◌∷◌, [], None, Some, true, false, IfOk, OnOk};
+ghost use Rattle.yl_record.specs.Beside.{comment_in, fault_in, indentation_in, state_in};
 ghost use Rattle.yl_record.specs.Parts.{entry_with_last, entry_with_fault};
 
 use std::alloc::{AllocError, Allocator};
 use std::marker::Model;
+use std::mem;
 use yl_lexeme::{Comment, Lexeme};
 use yl_row::PlacedScanFault;
 use yl_scan::LineState;
@@ -16,25 +18,45 @@ pub struct Extra<A: Allocator> {
     pub fault: Option<PlacedScanFault>,
 }
 
+/// What a record has beside its lexemes. Its parts stand in one enum, so that they take no room where they are missing, and the
+/// indentation lies next to the tag.
+#[derive(Drop)]
+enum Beside<A: Allocator> {
+    Alone {
+        indentation: u32,
+    },
+    WithState {
+        indentation: u32,
+        state: LineState<A>,
+    },
+    WithExtra {
+        indentation: u32,
+        extra: Box<Extra<A>, A>,
+    },
+    WithBoth {
+        indentation: u32,
+        state: LineState<A>,
+        extra: Box<Extra<A>, A>,
+    },
+}
+
 /// What is kept of a row: its state if it is sound, the lexemes and the comment that begin in it, with places relative to it, the scan
 /// fault of the lexeme that begins in it, and how many spaces it begins with.
 #[derive(Drop)]
 pub struct Record<A: Allocator> {
-    state: Option<LineState<A>>,
     lexemes: Vec<Lexeme<A>, A>,
-    extra: Option<Box<Extra<A>, A>>,
-    indentation: u32,
+    beside: Beside<A>,
 }
 
 impl<A: Allocator> Model for Record<A> {
     ghost use Rattle.yl_record.specs.Records.{RecordValue};
-    ghost use Rattle.yl_record.specs.Extra.{comment_in, fault_in};
+    ghost use Rattle.yl_record.specs.Beside.{comment_in, fault_in, indentation_in, state_in};
 
     ghost Value = { RecordValue };
 
     ghost view = { λ r. record {
-      indentation = r.indentation;
-      entry = record { state = r.state; lexemes = r.lexemes.items; comment = comment_in r.extra; fault = fault_in r.extra };
+      indentation = indentation_in r.beside;
+      entry = record { state = state_in r.beside; lexemes = r.lexemes.items; comment = comment_in r.beside; fault = fault_in r.beside };
     } };
 }
 
@@ -45,7 +67,12 @@ impl<A: Allocator> Record<A> {
     pub fn state(&self) -> Option<&LineState<A>>
         ensures { option_map (λ s. s.now) result ≡ self.now.entry.state }
     {
-        self.state.as_ref()
+        match &self.beside {
+            Beside::Alone { .. } => None,
+            Beside::WithState { state, .. } => Some(state),
+            Beside::WithExtra { .. } => None,
+            Beside::WithBoth { state, .. } => Some(state),
+        }
     }
 
     /// The lexemes that begin in the row, in order.
@@ -59,9 +86,11 @@ impl<A: Allocator> Record<A> {
     pub fn comment(&self) -> Option<&Comment<A>>
         ensures { option_map (λ c. c.now) result ≡ self.now.entry.comment }
     {
-        match &self.extra {
-            None => None,
-            Some(extra) => extra.comment.as_ref(),
+        match &self.beside {
+            Beside::Alone { .. } => None,
+            Beside::WithState { .. } => None,
+            Beside::WithExtra { extra, .. } => extra.comment.as_ref(),
+            Beside::WithBoth { extra, .. } => extra.comment.as_ref(),
         }
     }
 
@@ -69,9 +98,11 @@ impl<A: Allocator> Record<A> {
     pub fn fault(&self) -> Option<PlacedScanFault>
         ensures { result ≡ self.now.entry.fault }
     {
-        match &self.extra {
-            None => None,
-            Some(extra) => extra.fault,
+        match &self.beside {
+            Beside::Alone { .. } => None,
+            Beside::WithState { .. } => None,
+            Beside::WithExtra { extra, .. } => extra.fault,
+            Beside::WithBoth { extra, .. } => extra.fault,
         }
     }
 
@@ -79,7 +110,12 @@ impl<A: Allocator> Record<A> {
     pub fn indentation(&self) -> u32
         ensures { result ≡ self.now.indentation }
     {
-        self.indentation
+        match &self.beside {
+            Beside::Alone { indentation } => *indentation,
+            Beside::WithState { indentation, .. } => *indentation,
+            Beside::WithExtra { indentation, .. } => *indentation,
+            Beside::WithBoth { indentation, .. } => *indentation,
+        }
     }
 }
 
@@ -96,6 +132,46 @@ fn fitted<A: Allocator + Copy>(lexemes: Vec<Lexeme<A>, A>) -> Result<Vec<Lexeme<
     Ok(fitted)
 }
 
+/// An indentation, and a state if there is one.
+fn beside_of<A: Allocator>(indentation: u32, state: Option<LineState<A>>) -> Beside<A>
+    ensures indentation { indentation_in result ≡ indentation }
+    ensures state { state_in result ≡ state }
+    ensures comment { comment_in result ≡ None }
+    ensures fault { fault_in result ≡ None }
+{
+    match state {
+        None => Beside::Alone { indentation },
+        Some(state) => Beside::WithState { indentation, state },
+    }
+}
+
+/// The same, with what few rows have in place of what it had of that.
+fn with_extra<A: Allocator>(beside: Beside<A>, extra: Box<Extra<A>, A>) -> Beside<A>
+    ensures indentation { indentation_in result ≡ indentation_in beside }
+    ensures state { state_in result ≡ state_in beside }
+    ensures comment { comment_in result ≡ extra.value.comment }
+    ensures fault { fault_in result ≡ extra.value.fault }
+{
+    match beside {
+        Beside::Alone { indentation } => Beside::WithExtra { indentation, extra },
+        Beside::WithState { indentation, state } => Beside::WithBoth {
+            indentation,
+            state,
+            extra,
+        },
+        Beside::WithExtra { indentation, .. } => Beside::WithExtra { indentation, extra },
+        Beside::WithBoth {
+            indentation,
+            state,
+            ..
+        } => Beside::WithBoth {
+            indentation,
+            state,
+            extra,
+        },
+    }
+}
+
 /// The record of a row that told this, with its fault and a scalar that ends below it left out.
 pub fn record_of<A: Allocator + Copy>(
     alloc: A,
@@ -107,22 +183,16 @@ pub fn record_of<A: Allocator + Copy>(
     ensures { IfOk result (λ r. r ≡ record { indentation = indentation; entry = record { state = state; lexemes = lexemes.items; comment = comment; fault = None } }) }
 {
     let lexemes = fitted(lexemes)?;
-    let extra = match comment {
-        None => None,
-        Some(comment) => Some(Box::new(
-            alloc,
-            Extra {
-                comment: Some(comment),
-                fault: None,
-            },
-        )?),
+    let beside = beside_of(indentation, state);
+    let Some(comment) = comment else {
+        return Ok(Record { lexemes, beside });
     };
-    Ok(Record {
-        state,
-        lexemes,
-        extra,
-        indentation,
-    })
+    let extra = Extra {
+        comment: Some(comment),
+        fault: None,
+    };
+    let beside = with_extra(beside, Box::new(alloc, extra)?);
+    Ok(Record { lexemes, beside })
 }
 
 /// Adds a lexeme behind the others.
@@ -134,6 +204,28 @@ pub fn push_lexeme<A: Allocator>(row: &mut Record<A>, lexeme: Lexeme<A>) -> Resu
     Ok(())
 }
 
+/// Sets the fault, if there is a place for it.
+fn fault_is_set<A: Allocator>(beside: &mut Beside<A>, fault: PlacedScanFault) -> bool
+    ensures indentation { indentation_in beside.new ≡ indentation_in beside.old }
+    ensures state { state_in beside.new ≡ state_in beside.old }
+    ensures comment { comment_in beside.new ≡ comment_in beside.old }
+    ensures fault { result ≡ true → fault_in beside.new ≡ Some fault }
+    ensures missing { result ≡ false → comment_in beside.old ≡ None }
+{
+    match beside {
+        Beside::Alone { .. } => false,
+        Beside::WithState { .. } => false,
+        Beside::WithExtra { extra, .. } => {
+            extra.fault = Some(fault);
+            true
+        }
+        Beside::WithBoth { extra, .. } => {
+            extra.fault = Some(fault);
+            true
+        }
+    }
+}
+
 /// Sets the fault.
 pub fn set_fault<A: Allocator>(
     alloc: A,
@@ -142,19 +234,15 @@ pub fn set_fault<A: Allocator>(
 ) -> Result<(), AllocError>
     ensures { OnOk result (row.new ≡ record { indentation = row.old.indentation; entry = entry_with_fault fault row.old.entry }) }
 {
-    match &mut row.extra {
-        Some(extra) => {
-            extra.fault = Some(fault);
-        }
-        None => {
-            row.extra = Some(Box::new(
-                alloc,
-                Extra {
-                    comment: None,
-                    fault: Some(fault),
-                },
-            )?);
-        }
+    if fault_is_set(&mut row.beside, fault) {
+        return Ok(());
     }
+    let extra = Extra {
+        comment: None,
+        fault: Some(fault),
+    };
+    let extra = Box::new(alloc, extra)?;
+    let beside = mem::replace(&mut row.beside, Beside::Alone { indentation: 0 });
+    row.beside = with_extra(beside, extra);
     Ok(())
 }

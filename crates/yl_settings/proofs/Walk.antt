@@ -33,7 +33,14 @@ drop-leaf d e levels is_no_start is_no_end = rw (is_no_start, is_no_end) (drop-o
 
 -- what is shown of an event past the end
 abbrev pub blank : Event
-blank = record { kind = kind.DocumentStart; place = None; anchor = None; is_tagged = false }
+blank = record {
+  kind = kind.DocumentStart;
+  place = None;
+  is_tagged = false;
+  has_anchor = false;
+  anchor_place = record { line = 0; col = 0 };
+  anchor_name = record { ref_ptr = (0, 0); now = [] };
+}
 
 abbrev pub levels_at : List Event → ℕ → List Nodes
 levels_at es i = levels_from (map event_value (drop i es))

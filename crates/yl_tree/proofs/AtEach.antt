@@ -10,7 +10,14 @@ use Rattle.yl_text.specs.Finding.{at_each}
 
 -- what a list of events is read as past its end
 abbrev pub no_event : Event
-no_event = record { kind = DocumentStart; place = None; anchor = None; is_tagged = false }
+no_event = record {
+  kind = DocumentStart;
+  place = None;
+  is_tagged = false;
+  has_anchor = false;
+  anchor_place = record { line = 0; col = 0 };
+  anchor_name = record { ref_ptr = (0, 0); now = [] };
+}
 
 module _ {X Y : Type 0} (v : X → Y) (xs : List X) (i : ℕ) (d : X) (within : i < length xs) where
   inside : i < length (map v xs)

@@ -22,7 +22,7 @@ fn is_unused<A: Allocator>(event: &Event<'_>, used: &NameSet<'_, A>) -> bool
     ensures { (after : List EventValue) → ((q : List ℕ) → has_name used.now q ≡ is_used after q)
         → result ≡ spec.is_unused (event_value event.now).anchor after }
 {
-    match event.anchor {
+    match event.anchor() {
         None => false,
         Some(anchor) => !has_name(used, anchor.name),
     }
@@ -40,7 +40,7 @@ fn use_event<'a, A: Allocator + Copy>(
     if let EventKind::Alias(name) = event.kind {
         insert_name(used, name)?;
     }
-    if let Some(anchor) = event.anchor {
+    if let Some(anchor) = event.anchor() {
         remove_name(used, anchor.name);
     }
     Ok(())
@@ -79,7 +79,7 @@ fn declare<'a, A: Allocator + Copy>(
     ensures { OnOk result ((q : List ℕ) → has_name declared.new q
         ≡ is_anchor_of q (event_value event.now).anchor || has_name declared.old q) }
 {
-    if let Some(anchor) = event.anchor {
+    if let Some(anchor) = event.anchor() {
         insert_name(declared, anchor.name)?;
     }
     Ok(())
@@ -183,7 +183,7 @@ fn push_anchor_problems<A: Allocator + Copy>(
         → OnOk result (found.new.items ≡ found.old.items
         ++ anchor_findings options.now before (event_value event.now).anchor after) }
 {
-    let Some(anchor) = event.anchor else {
+    let Some(anchor) = event.anchor() else {
         return Ok(());
     };
     push_found(found, duplicated_anchor(alloc, &anchor, options, declared)?)?;
@@ -213,7 +213,7 @@ fn push_problems<A: Allocator + Copy>(
 fn is_reference(event: &Event<'_>) -> bool
     ensures { result ≡ is_reference (event_value event.now) }
 {
-    event.anchor.is_some() || matches!(event.kind, EventKind::Alias(_))
+    event.anchor().is_some() || matches!(event.kind, EventKind::Alias(_))
 }
 
 /// Whether one of the events has an anchor or is an alias.

@@ -9,12 +9,7 @@ const COUNT: u32 = 100_000;
 
 /// An event in this line, without an anchor.
 pub(crate) fn event(kind: EventKind<'_>, line: u32) -> Event<'_> {
-    Event {
-        kind,
-        place: Some(Pos { line, col: 0 }),
-        anchor: None,
-        is_tagged: false,
-    }
+    Event::new(kind, Some(Pos { line, col: 0 }), None, false)
 }
 
 pub(crate) fn plain(value: &str, line: u32) -> Event<'_> {
@@ -23,11 +18,12 @@ pub(crate) fn plain(value: &str, line: u32) -> Event<'_> {
 
 /// An anchor of this name on a missing node.
 pub(crate) fn anchored(name: &str, line: u32) -> Event<'_> {
-    let place = Pos { line, col: 2 };
-    Event {
-        anchor: Some(EventAnchor { name, place }),
-        ..event(EventKind::Empty, line)
-    }
+    let anchor = EventAnchor {
+        name,
+        place: Pos { line, col: 2 },
+    };
+    let place = Pos { line, col: 0 };
+    Event::new(EventKind::Empty, Some(place), Some(anchor), false)
 }
 
 /// The names k000000, k000001 and so on.

@@ -5,8 +5,7 @@ use Rattle.yl_inline.specs.InlineString.{characters_of}
 use Rattle.yl_inline.proofs.inline_string.InlineString.as_str.Goals as goal
 
 pub returns-in-Short : goal.returns-in-Short
-returns-in-Short g c =
-    sym (encodes-chars c.as_str.result.now c.as_str.utf8) ∙ ap encode_utf8_all (ap chars c.as_str.ensures.value ∙ ap characters_of (sym c.in-Short.is) ∙ c.self.view_is)
+returns-in-Short g c = c.as_str.ensures ∙ ap encode_utf8_all (ap characters_of (sym c.in-Short.is) ∙ c.self.view_is)
 
 pub returns-in-Long : goal.returns-in-Long
 returns-in-Long g c =

@@ -4,4 +4,4 @@ use Rattle.std.proofs.lemmas.Str.{chars-IsAscii}
 use Rattle.yl_inline.proofs.inline_string.InlineString.of_ascii.Goals as goal
 
 pub returns : goal.returns
-returns g c = ap chars c.in_ok-short.ensures ∙ chars-IsAscii c.args.characters.now c.requires
+returns g c = ap chars c.in_ok-text.ensures ∙ chars-IsAscii c.args.characters.now c.requires
