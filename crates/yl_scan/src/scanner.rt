@@ -10,7 +10,7 @@ ghost use Rattle.yl_scan.specs.Output.{Fresh, output_with_step, remaining_output
 ghost use Rattle.yl_scan.specs.Restart.{from_state, phase_at};
 ghost use Rattle.yl_scan.specs.Scanner.{BeginsInText, EndsOpen, IsInOrder, IsInStep, at_end, begun_at, is_halted, surroundings_in, phase_value, state_before, state_by, step_value};
 
-use crate::before::{state_before, state_for};
+use crate::before::state_before;
 use crate::feeding::{ended_text, fed_row};
 use crate::phase::{Phase, Reach};
 use crate::state::LineState;
@@ -143,19 +143,18 @@ impl<'a, A: Allocator + Copy> Scanner<'a, A> {
             &self.surroundings,
             &self.resting,
         )?;
-        let resting = mem::replace(&mut self.resting, Phase::Between);
-        let (mut step, resting) = fed_row(
+        let line = self.line;
+        self.line += 1;
+        fed_row(
             self.alloc,
             &mut self.surroundings,
             &mut self.lexemes,
-            self.line,
-            resting,
+            line,
+            before,
+            mem::replace(&mut self.resting, Phase::Between),
             &self.characters,
-        )?;
-        step.state = state_for(before, step.sound);
-        self.resting = resting;
-        self.line += 1;
-        Ok(step)
+            &mut self.resting,
+        )
     }
 
     /// Reads the next row, and counts it. The only error is memory, and each later call answers it too.
