@@ -31,6 +31,7 @@ fn fault_told(line: u32, failed: Option<FaultAbove>) -> Option<FaultMessage> {
 }
 
 // Takes in what was told at this line, counted from 0. Answers the scan fault, if one was told.
+#[inline(always)]
 fn take_step<A: Allocator + Copy, W: Write>(
     documents: &mut Documents<A, W>,
     line: u32,
