@@ -19,6 +19,7 @@ ghost use Rattle.yl_scan.specs.Scanner.{BeginsAt, BeginsInText, EndsOpen, FailsH
 
 use crate::before::state_for;
 use crate::phase::{Phase, Reach};
+use crate::room::{Room, read_lexemes};
 use crate::state::LineState;
 use crate::step::{FaultAbove, LexemeAbove, Soundness, Step};
 use std::alloc::{AllocError, Allocator};
@@ -175,28 +176,12 @@ fn stopped_if(is_sound: bool) -> Soundness
     }
 }
 
-/// The lexemes of a list, in no more room than they take. The list keeps its room.
-#[inline(always)]
-fn fitted<A: Allocator + Copy>(
-    alloc: A,
-    list: &mut Vec<Lexeme<A>, A>,
-) -> Result<Vec<Lexeme<A>, A>, AllocError>
-    ensures { IfOk result (λ lexemes. lexemes.items ≡ list.old.items) }
-{
-    if list.is_empty() {
-        return Ok(Vec::new(alloc));
-    }
-    let mut lexemes = Vec::with_capacity(alloc, list.len())?;
-    lexemes.append(list)?;
-    Ok(lexemes)
-}
-
 /// Reads a row from a column on, at its start or behind a lexeme that began above.
 #[inline(always)]
 fn read_on<A: Allocator + Copy>(
     alloc: A,
     surroundings: &mut Surroundings<'_, A>,
-    list: &mut Vec<Lexeme<A>, A>,
+    room: &mut Room<A>,
     line: u32,
     before: Option<LineState<A>>,
     skip: usize,
@@ -220,9 +205,17 @@ fn read_on<A: Allocator + Copy>(
 {
     surroundings.new_row();
     let tab = tab_of(fresh, row);
-    list.clear();
-    let end = read_row(alloc, surroundings, list, tab, skip, fresh, row)?;
-    let lexemes = fitted(alloc, list)?;
+    room.lexemes.clear();
+    let end = read_row(
+        alloc,
+        surroundings,
+        &mut room.lexemes,
+        tab,
+        skip,
+        fresh,
+        row,
+    )?;
+    let lexemes = read_lexemes(alloc, room)?;
     Ok(row_end(line, before, sound, lexemes, end, resting))
 }
 
@@ -231,7 +224,7 @@ fn read_on<A: Allocator + Copy>(
 fn fresh_row<A: Allocator + Copy>(
     alloc: A,
     surroundings: &mut Surroundings<'_, A>,
-    list: &mut Vec<Lexeme<A>, A>,
+    room: &mut Room<A>,
     line: u32,
     before: Option<LineState<A>>,
     row: &[char],
@@ -254,7 +247,7 @@ fn fresh_row<A: Allocator + Copy>(
     read_on(
         alloc,
         surroundings,
-        list,
+        room,
         line,
         before,
         0,
@@ -307,7 +300,7 @@ fn scalar_failed(ago: u32, fault: ScalarFault, place: ScalarPlace) -> FaultAbove
 fn within_row<A: Allocator + Copy>(
     alloc: A,
     surroundings: &mut Surroundings<'_, A>,
-    list: &mut Vec<Lexeme<A>, A>,
+    room: &mut Room<A>,
     line: u32,
     before: Option<LineState<A>>,
     begun: u32,
@@ -342,7 +335,7 @@ fn within_row<A: Allocator + Copy>(
             let mut step = read_on(
                 alloc,
                 surroundings,
-                list,
+                room,
                 line,
                 before,
                 place.column,
@@ -356,7 +349,7 @@ fn within_row<A: Allocator + Copy>(
         }
         ScalarStep::EndedAbove(place) => {
             let lexeme = scalar_lexeme(alloc, style, at, reader, place)?;
-            let mut step = fresh_row(alloc, surroundings, list, line, before, row, resting)?;
+            let mut step = fresh_row(alloc, surroundings, room, line, before, row, resting)?;
             step.ended = Some(LexemeAbove { ago, lexeme });
             Ok(step)
         }
@@ -397,13 +390,13 @@ fn halted_row<A: Allocator + Copy>(
     step
 }
 
-/// Reads a row where the scanner stands in this phase before it, its lexemes into a list that is kept from row to row for its room. Puts the
-/// phase behind it.
+/// Reads a row where the scanner stands in this phase before it, its lexemes into a list whose room is used from row to row. Puts the phase
+/// behind it.
 #[inline(always)]
 pub fn fed_row<A: Allocator + Copy>(
     alloc: A,
     surroundings: &mut Surroundings<'_, A>,
-    list: &mut Vec<Lexeme<A>, A>,
+    room: &mut Room<A>,
     line: u32,
     before: Option<LineState<A>>,
     taken: Phase<A>,
@@ -424,11 +417,11 @@ pub fn fed_row<A: Allocator + Copy>(
     ensures halts { IfOk result (λ step. (k : SurroundingsValue) → is_halted (phase_value false k resting.new) ≡ (is_halted (phase_value (line == 0) (new_row (surroundings_value surroundings.old)) taken) || is_some step.failed)) }
 {
     match taken {
-        Phase::Between => { fresh_row(alloc, surroundings, list, line, before, row, resting) }
+        Phase::Between => { fresh_row(alloc, surroundings, room, line, before, row, resting) }
         Phase::Within(begun, scalar) => within_row(
             alloc,
             surroundings,
-            list,
+            room,
             line,
             before,
             begun,
