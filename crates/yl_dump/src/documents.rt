@@ -52,7 +52,7 @@ impl<A: Allocator + Copy, W: Write> Documents<A, W> {
     }
 
     /// Takes the text's next lexemes, which begin at this line, counted from 0. A document begins with the first of them or with none.
-    fn take_all(&mut self, line: u32, lexemes: Vec<Lexeme<A>, A>) -> Result<(), DumpFault> {
+    fn take_all(&mut self, line: u32, lexemes: &mut Vec<Lexeme<A>, A>) -> Result<(), DumpFault> {
         let (Some(first), Some(last)) = (lexemes.first(), lexemes.last()) else {
             return Ok(());
         };
@@ -75,12 +75,16 @@ impl<A: Allocator + Copy, W: Write> Documents<A, W> {
         Ok(())
     }
 
-    /// Takes the lexemes of a row, which begin at this line, counted from 0.
-    pub fn take_row(&mut self, line: u32, lexemes: Vec<Lexeme<A>, A>) -> Result<(), DumpFault> {
-        if !begins_inside(&lexemes) {
+    /// Takes the lexemes of a row, which begin at this line, counted from 0, out of their list.
+    pub fn take_row(
+        &mut self,
+        line: u32,
+        lexemes: &mut Vec<Lexeme<A>, A>,
+    ) -> Result<(), DumpFault> {
+        if !begins_inside(lexemes) {
             return self.take_all(line, lexemes);
         }
-        for lexeme in lexemes {
+        for lexeme in lexemes.drain(..) {
             self.take(line, lexeme)?;
         }
         Ok(())

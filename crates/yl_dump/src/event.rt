@@ -45,7 +45,7 @@ fn print_content<A: Allocator + Copy>(
         Shape::Scalar(style) => {
             page.text(value_opening(style))?;
             print_escaped(page, value)?;
-            page.text("\"")?;
+            page.byte(b'"')?;
         }
         Shape::Empty => page.text(" :\"\"")?,
         _ => {}
@@ -105,7 +105,7 @@ fn print_event<A: Allocator + Copy>(
     print_tag(page, outline.is_tagged)?;
     print_content(page, group, outline)?;
     print_place(page, group, outline.place)?;
-    page.text("\n")
+    page.byte(b'\n')
 }
 
 /// Prints events whose lexemes the group has.

@@ -8,7 +8,8 @@ use crate::fault::{DumpFault, FaultMessage, scan_fault};
 use crate::text_scanner::TextScanner;
 use std::alloc::Allocator;
 use std::io::Write;
-use yl_scan::{FaultAbove, LexemeAbove, Step};
+use yl_lexeme::Lexeme;
+use yl_scan::{FaultAbove, LexemeAbove};
 
 // Takes in a lexeme that began above this line, counted from 0, if there is one.
 fn take_ended<A: Allocator + Copy, W: Write>(
@@ -30,18 +31,14 @@ fn fault_told(line: u32, failed: Option<FaultAbove>) -> Option<FaultMessage> {
     }
 }
 
-// Takes in what was told at this line, counted from 0. Answers the scan fault, if one was told.
+// Takes in what was told at this line, counted from 0, and empties the list of its lexemes. Answers the scan fault, if one was told.
 fn take_step<A: Allocator + Copy, W: Write>(
     documents: &mut Documents<A, W>,
     line: u32,
-    step: Step<A>,
+    ended: Option<LexemeAbove<A>>,
+    lexemes: &mut Vec<Lexeme<A>, A>,
+    failed: Option<FaultAbove>,
 ) -> Result<Option<FaultMessage>, DumpFault> {
-    let Step {
-        ended,
-        lexemes,
-        failed,
-        ..
-    } = step;
     take_ended(documents, line, ended)?;
     documents.take_row(line, lexemes)?;
     Ok(fault_told(line, failed))
@@ -56,8 +53,10 @@ fn take_line<A: Allocator + Copy, W: Write>(
     ensures { OnOk result (scanner.new.rows ≡ drop 1 scanner.old.rows) }
 {
     let line = scanner.line();
-    let step = scanner.read_line()?;
-    take_step(documents, line, step)
+    let mut step = scanner.read_line()?;
+    let told = take_step(documents, line, step.ended, &mut step.lexemes, step.failed)?;
+    scanner.take_back(step.lexemes);
+    Ok(told)
 }
 
 // Reads the lines of a text. Answers the scan fault, if one of them tells it.
@@ -81,8 +80,8 @@ fn take_end<A: Allocator + Copy, W: Write>(
 ) -> Result<Behind, DumpFault> {
     let line = scanner.line();
     let end = scanner.end();
-    let step = scanner.finish()?;
-    let told = take_step(documents, line, step)?;
+    let mut step = scanner.finish()?;
+    let told = take_step(documents, line, step.ended, &mut step.lexemes, step.failed)?;
     Ok(match fault.or(told) {
         Some(fault) => Behind::Stop(fault),
         None => Behind::End(end),

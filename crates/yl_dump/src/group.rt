@@ -63,14 +63,10 @@ impl<A: Allocator + Copy> Group<A> {
         Ok(())
     }
 
-    /// Takes in lexemes that begin at this line, that of the others, if there are some.
-    pub fn append(&mut self, line: u32, mut lexemes: Vec<Lexeme<A>, A>) -> Result<(), AllocError> {
+    /// Takes in lexemes that begin at this line, that of the others, if there are some, out of their list.
+    pub fn append(&mut self, line: u32, lexemes: &mut Vec<Lexeme<A>, A>) -> Result<(), AllocError> {
         self.line = line;
-        if self.lexemes.is_empty() {
-            self.lexemes = lexemes;
-            return Ok(());
-        }
-        self.lexemes.append(&mut lexemes)
+        self.lexemes.append(lexemes)
     }
 
     // Prints what is printed of a place in the line before the column.

@@ -93,7 +93,9 @@ fn print_line<A: Allocator + Copy>(
 {
     let line = scanner.line();
     let step = scanner.read_line()?;
-    print_step(page, line, &step)
+    print_step(page, line, &step)?;
+    scanner.take_back(step.lexemes);
+    Ok(())
 }
 
 // Prints what the end of a text tells.

@@ -84,7 +84,8 @@ impl<A: Allocator> Page<A> {
             return self.byte(b'0' + n as u8);
         }
         if n < 100 {
-            return self.bytes(&[b'0' + (n / 10) as u8, b'0' + (n % 10) as u8]);
+            self.byte(b'0' + (n / 10) as u8)?;
+            return self.byte(b'0' + (n % 10) as u8);
         }
         let mut buffer = Buffer::new();
         self.text(buffer.format(n))

@@ -66,11 +66,15 @@ fn print_character<A: Allocator>(page: &mut Page<A>, c: char) -> Result<(), Allo
     Ok(())
 }
 
-// Whether each byte stands for itself between quotes.
-fn is_plain_text(text: &str) -> bool
+// Whether each byte stands for itself between quotes. All of them are looked at, several at once.
+fn is_plain_text(text: &[u8]) -> bool
     ensures { result ≡ list_all stands_for_itself text.now }
 {
-    text.as_bytes().iter().all(|byte| is_plain(*byte))
+    let mut plain = true;
+    for byte in text {
+        plain &= is_plain(*byte);
+    }
+    plain
 }
 
 /// Prints a text as it stands between double quotes: `\\` for a backslash, `\"` for a quote, and `\u{HEX}` for a character that is
@@ -78,7 +82,7 @@ fn is_plain_text(text: &str) -> bool
 pub fn print_escaped<A: Allocator>(page: &mut Page<A>, text: &str) -> Result<(), AllocError>
     ensures { OnOk result (page.new ≡ page.old ++ escaped_text text.now) }
 {
-    if is_plain_text(text) {
+    if is_plain_text(text.as_bytes()) {
         return page.text(text);
     }
     for c in text.chars() {

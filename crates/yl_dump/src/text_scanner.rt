@@ -10,7 +10,7 @@ use crate::characters::character_count;
 use crate::fault::TextPlace;
 use std::alloc::{AllocError, Allocator};
 use std::marker::Model;
-use yl_lexeme::Meter;
+use yl_lexeme::{Lexeme, Meter};
 use yl_scan::{Scanner, Step};
 use yl_text::{Break, cut_line};
 
@@ -97,6 +97,13 @@ impl<'t, 'a, A: Allocator + Copy> TextScanner<'t, 'a, A> {
         self.is_done = first.end == Break::No;
         self.rest = first.rest;
         Ok(step)
+    }
+
+    /// Takes back a list of lexemes that a line told, so that its room is used again. What is in it goes.
+    pub fn take_back(&mut self, lexemes: Vec<Lexeme<A>, A>)
+        ensures { self.new ≡ self.old }
+    {
+        self.scanner.take_back(lexemes);
     }
 
     /// The end of the line that was read last.

@@ -223,11 +223,10 @@ pub wanted_told : (wanted : Bool) (before : Option LineStateValue) (s : LineStat
 wanted_told true before s sound h = ap (λ b. state_for b sound) h
 wanted_told false before s sound h = ap (λ b. state_for b sound) h
 
--- the same order, of a step with its state
-pub same_order : {A : Type 0} (line line' : ℕ) (begun begun' behind behind' : Option ℕ) (step : Step A) (state : Option LineStateValue)
-    → line ≡ line' → begun ≡ begun' → behind ≡ behind' → IsInOrder line begun behind step → IsInOrder line' begun' behind' (record step { state = state })
-same_order line line' begun begun' behind behind' step state p q r h =
+-- the same order, of what is the same
+pub same_order : {A : Type 0} (line line' : ℕ) (begun begun' behind behind' : Option ℕ) (step : Step A)
+    → line ≡ line' → begun ≡ begun' → behind ≡ behind' → IsInOrder line begun behind step → IsInOrder line' begun' behind' step
+same_order line line' begun begun' behind behind' step p q r h =
     let one : IsInOrder line' begun behind step = subst (λ n. IsInOrder n begun behind step) p h in
     let two : IsInOrder line' begun' behind step = subst (λ b. IsInOrder line' b behind step) q one in
-    let all : IsInOrder line' begun' behind' step = subst (λ b. IsInOrder line' begun' b step) r two in
-    record { above = all.above; next = all.next }
+    subst (λ b. IsInOrder line' begun' b step) r two

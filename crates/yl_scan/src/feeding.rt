@@ -1,6 +1,6 @@
 //! What a row tells, by where the scanner stands before it.
 
-ghost use Rattle.std.specs.Prelude.{◌≡◌, ◌≤◌, ◌<◌, ◌+◌, ◌-◌, ◌^◌, ◌==◌, ◌∷◌, [], not, ◌&&◌, ◌||◌, true, false, if◌then◌else◌, IfOk, List, ℕ, Bool, Option, IsSome, is_some, length};
+ghost use Rattle.std.specs.Prelude.{◌≡◌, ◌≤◌, ◌<◌, ◌+◌, ◌-◌, ◌^◌, ◌==◌, ◌∷◌, [], not, ◌&&◌, ◌||◌, true, false, if◌then◌else◌, IfOk, OnErr, OnOk, List, ℕ, Bool, Option, IsSome, is_some, length};
 ghost use Rattle.yl_lexeme.specs.Lexeme.{LexemeValue};
 ghost use Rattle.yl_lexeme.specs.Known.{SurroundingsValue, context_of, new_row};
 ghost use Rattle.yl_lexeme.specs.Surroundings.{surroundings_value};
@@ -14,9 +14,13 @@ ghost use Rattle.yl_row.specs.Reader.{scalar_reader_value, value_of};
 ghost use Rattle.yl_row.specs.Run.{row_reading_by, entries_by};
 ghost use Rattle.yl_row.specs.Rows.{EndRests, reading_with_lexemes, row_end_reading};
 ghost use Rattle.yl_scan.specs.Output.{Within, output_with_step, remaining_output, output_of_row, output_of_entries};
-ghost use Rattle.yl_scan.specs.Scanner.{BeginsAt, BeginsInText, EndsOpen, FailsHere, IsInOrder, IsInStep, IsUnderWay, at_end, begun_at, is_halted, scalar_lexeme, phase_value, state_before, state_by, step_value};
+ghost use Rattle.yl_scan.specs.declared.phase.Phase.TheVariants.{Between};
+ghost use Rattle.yl_scan.specs.Scanner.{BeginsAt, BeginsInText, EndsOpen, FailsHere, IsInOrder, IsInStep, IsUnderWay, at_end, begun_at, is_halted, scalar_lexeme, phase_value, state_before, state_by, state_for, step_value};
 
+use crate::before::state_for;
 use crate::phase::{Phase, Reach};
+use crate::room::{Room, read_lexemes};
+use crate::state::LineState;
 use crate::step::{FaultAbove, LexemeAbove, Soundness, Step};
 use std::alloc::{AllocError, Allocator};
 use yl_lexeme::{Kind, Lexeme, Style, Surroundings};
@@ -73,8 +77,9 @@ fn reach_of(fault: PlacedScanFault) -> Reach
 }
 
 /// A row that tells nothing but whether it is sound.
-fn silent<A: Allocator>(alloc: A, sound: Soundness) -> Step<A>
+fn silent<A: Allocator + Copy>(alloc: A, before: Option<LineState<A>>, sound: Soundness) -> Step<A>
     ensures told { (line : ℕ) (s : LineStateValue) → step_value line s result ≡ record { above = None; lexemes = []; comment = None; state = state_by s sound; fault = None } }
+    ensures state { result.state ≡ state_for before result.sound }
     ensures fresh { result.ended ≡ None }
     ensures whole { result.failed ≡ None }
 {
@@ -83,46 +88,54 @@ fn silent<A: Allocator>(alloc: A, sound: Soundness) -> Step<A>
         lexemes: Vec::new(alloc),
         comment: None,
         sound,
-        state: None,
+        state: state_for(before, sound),
         failed: None,
     }
 }
 
-/// What a row tells that was read to this end, and where it leaves the scanner.
+/// What a row tells that was read to this end. Puts where it leaves the scanner.
 #[inline(always)]
 fn row_end<A: Allocator + Copy>(
     line: u32,
+    before: Option<LineState<A>>,
     sound: Soundness,
     lexemes: Vec<Lexeme<A>, A>,
     end: RowEnd<A>,
-) -> (Step<A>, Phase<A>)
+    resting: &mut Phase<A>,
+) -> Step<A>
+    requires { resting.old ≡ Between }
     ensures told { (s : LineStateValue) (row : List ℕ) (rows : List (List ℕ)) (tab : Option ℕ) (k : SurroundingsValue) → EndRests row end →
         output_of_row line rows (state_by s sound) (reading_with_lexemes lexemes.items (row_end_reading rows tab row k end))
-        ≡ output_with_step line (step_value line s result.0) (remaining_output (line + 1) (phase_value false (new_row k) result.1) rows) }
-    ensures in_step { (row : List ℕ) → length row < 2 ^ 31 → EndRests row end → IsInStep (line + 1) result.1 }
-    ensures fresh { result.0.ended ≡ None }
-    ensures here { FailsHere result.0 }
-    ensures begins { (k : SurroundingsValue) → BeginsAt line (phase_value false k result.1) }
-    ensures halts { (k : SurroundingsValue) → is_halted (phase_value false k result.1) ≡ is_some result.0.failed }
+        ≡ output_with_step line (step_value line s result) (remaining_output (line + 1) (phase_value false (new_row k) resting.new) rows) }
+    ensures state { result.state ≡ state_for before result.sound }
+    ensures in_step { (row : List ℕ) → length row < 2 ^ 31 → EndRests row end → IsInStep (line + 1) resting.new }
+    ensures fresh { result.ended ≡ None }
+    ensures here { FailsHere result }
+    ensures begins { (k : SurroundingsValue) → BeginsAt line (phase_value false k resting.new) }
+    ensures halts { (k : SurroundingsValue) → is_halted (phase_value false k resting.new) ≡ is_some result.failed }
 {
     let mut step = Step {
         ended: None,
         lexemes,
         comment: None,
         sound,
-        state: None,
+        state: state_for(before, sound),
         failed: None,
     };
     match end {
         RowEnd::Read(comment) => {
             step.comment = comment;
-            (step, Phase::Between)
+            step
         }
-        RowEnd::Opens(scalar) => (step, Phase::Within(line, scalar)),
+        RowEnd::Opens(scalar) => {
+            *resting = Phase::Within(line, scalar);
+            step
+        }
         RowEnd::Stops(fault) => {
             keep(&mut step.lexemes, fault);
             step.failed = Some(FaultAbove { ago: 0, fault });
-            (step, Phase::Halted(reach_of(fault)))
+            *resting = Phase::Halted(reach_of(fault));
+            step
         }
     }
 }
@@ -163,50 +176,47 @@ fn stopped_if(is_sound: bool) -> Soundness
     }
 }
 
-/// The lexemes of a list, in no more room than they take. The list keeps its room.
-#[inline(always)]
-fn fitted<A: Allocator + Copy>(
-    alloc: A,
-    list: &mut Vec<Lexeme<A>, A>,
-) -> Result<Vec<Lexeme<A>, A>, AllocError>
-    ensures { IfOk result (λ lexemes. lexemes.items ≡ list.old.items) }
-{
-    if list.is_empty() {
-        return Ok(Vec::new(alloc));
-    }
-    let mut lexemes = Vec::with_capacity(alloc, list.len())?;
-    lexemes.append(list)?;
-    Ok(lexemes)
-}
-
 /// Reads a row from a column on, at its start or behind a lexeme that began above.
 #[inline(always)]
 fn read_on<A: Allocator + Copy>(
     alloc: A,
     surroundings: &mut Surroundings<'_, A>,
-    list: &mut Vec<Lexeme<A>, A>,
+    room: &mut Room<A>,
     line: u32,
+    before: Option<LineState<A>>,
     skip: usize,
     fresh: bool,
     sound: Soundness,
     row: &[char],
-) -> Result<(Step<A>, Phase<A>), AllocError>
-    requires { length row.now < 2 ^ 31 }
-    ensures told { IfOk result (λ r. (s : LineStateValue) (rows : List (List ℕ)) →
+    resting: &mut Phase<A>,
+) -> Result<Step<A>, AllocError>
+    requires fits { length row.now < 2 ^ 31 }
+    requires between { resting.old ≡ Between }
+    ensures told { IfOk result (λ step. (s : LineStateValue) (rows : List (List ℕ)) →
         output_of_row line rows (state_by s sound) (row_reading_by rows (first_tab (not fresh) row.now) skip fresh fresh 0 (new_row (surroundings_value surroundings.old)) row.now)
-        ≡ output_with_step line (step_value line s r.0) (remaining_output (line + 1) (phase_value false (new_row (surroundings_value surroundings.new)) r.1) rows)) }
-    ensures in_step { IfOk result (λ r. IsInStep (line + 1) r.1) }
-    ensures fresh { IfOk result (λ r. r.0.ended ≡ None) }
-    ensures here { IfOk result (λ r. FailsHere r.0) }
-    ensures in_order { IfOk result (λ r. (begun : Option ℕ) (k : SurroundingsValue) → IsInOrder line begun (begun_at (phase_value false k r.1)) r.0) }
-    ensures halts { IfOk result (λ r. (k : SurroundingsValue) → is_halted (phase_value false k r.1) ≡ is_some r.0.failed) }
+        ≡ output_with_step line (step_value line s step) (remaining_output (line + 1) (phase_value false (new_row (surroundings_value surroundings.new)) resting.new) rows)) }
+    ensures state { IfOk result (λ step. step.state ≡ state_for before step.sound) }
+    ensures in_step { OnOk result (IsInStep (line + 1) resting.new) }
+    ensures refused { OnErr result (resting.new ≡ Between) }
+    ensures fresh { IfOk result (λ step. step.ended ≡ None) }
+    ensures here { IfOk result (λ step. FailsHere step) }
+    ensures in_order { IfOk result (λ step. (begun : Option ℕ) (k : SurroundingsValue) → IsInOrder line begun (begun_at (phase_value false k resting.new)) step) }
+    ensures halts { IfOk result (λ step. (k : SurroundingsValue) → is_halted (phase_value false k resting.new) ≡ is_some step.failed) }
 {
     surroundings.new_row();
     let tab = tab_of(fresh, row);
-    list.clear();
-    let end = read_row(alloc, surroundings, list, tab, skip, fresh, row)?;
-    let lexemes = fitted(alloc, list)?;
-    Ok(row_end(line, sound, lexemes, end))
+    room.lexemes.clear();
+    let end = read_row(
+        alloc,
+        surroundings,
+        &mut room.lexemes,
+        tab,
+        skip,
+        fresh,
+        row,
+    )?;
+    let lexemes = read_lexemes(alloc, room)?;
+    Ok(row_end(line, before, sound, lexemes, end, resting))
 }
 
 /// Reads a row that begins inside no lexeme.
@@ -214,23 +224,38 @@ fn read_on<A: Allocator + Copy>(
 fn fresh_row<A: Allocator + Copy>(
     alloc: A,
     surroundings: &mut Surroundings<'_, A>,
-    list: &mut Vec<Lexeme<A>, A>,
+    room: &mut Room<A>,
     line: u32,
+    before: Option<LineState<A>>,
     row: &[char],
-) -> Result<(Step<A>, Phase<A>), AllocError>
-    requires { length row.now < 2 ^ 31 }
-    ensures told { IfOk result (λ r. (rows : List (List ℕ)) →
+    resting: &mut Phase<A>,
+) -> Result<Step<A>, AllocError>
+    requires fits { length row.now < 2 ^ 31 }
+    requires between { resting.old ≡ Between }
+    ensures told { IfOk result (λ step. (rows : List (List ℕ)) →
         output_of_entries line (entries_by (line == 0) 0 0 (new_row (surroundings_value surroundings.old)) (row.now ∷ rows))
-        ≡ output_with_step line (step_value line (state_of (context_of (surroundings_value surroundings.old))) r.0) (remaining_output (line + 1) (phase_value false (new_row (surroundings_value surroundings.new)) r.1) rows)) }
-    ensures in_step { IfOk result (λ r. IsInStep (line + 1) r.1) }
-    ensures fresh { IfOk result (λ r. r.0.ended ≡ None) }
-    ensures here { IfOk result (λ r. FailsHere r.0) }
-    ensures in_order { IfOk result (λ r. (begun : Option ℕ) (k : SurroundingsValue) → IsInOrder line begun (begun_at (phase_value false k r.1)) r.0) }
-    ensures halts { IfOk result (λ r. (k : SurroundingsValue) → is_halted (phase_value false k r.1) ≡ is_some r.0.failed) }
+        ≡ output_with_step line (step_value line (state_of (context_of (surroundings_value surroundings.old))) step) (remaining_output (line + 1) (phase_value false (new_row (surroundings_value surroundings.new)) resting.new) rows)) }
+    ensures state { IfOk result (λ step. step.state ≡ state_for before step.sound) }
+    ensures in_step { OnOk result (IsInStep (line + 1) resting.new) }
+    ensures refused { OnErr result (resting.new ≡ Between) }
+    ensures fresh { IfOk result (λ step. step.ended ≡ None) }
+    ensures here { IfOk result (λ step. FailsHere step) }
+    ensures in_order { IfOk result (λ step. (begun : Option ℕ) (k : SurroundingsValue) → IsInOrder line begun (begun_at (phase_value false k resting.new)) step) }
+    ensures halts { IfOk result (λ step. (k : SurroundingsValue) → is_halted (phase_value false k resting.new) ≡ is_some step.failed) }
 {
     let sound = sound_start(line, row);
-    let read = read_on(alloc, surroundings, list, line, 0, true, sound, row)?;
-    Ok(read)
+    read_on(
+        alloc,
+        surroundings,
+        room,
+        line,
+        before,
+        0,
+        true,
+        sound,
+        row,
+        resting,
+    )
 }
 
 /// A scalar that ends before this place, which began at this column.
@@ -275,21 +300,26 @@ fn scalar_failed(ago: u32, fault: ScalarFault, place: ScalarPlace) -> FaultAbove
 fn within_row<A: Allocator + Copy>(
     alloc: A,
     surroundings: &mut Surroundings<'_, A>,
-    list: &mut Vec<Lexeme<A>, A>,
+    room: &mut Room<A>,
     line: u32,
+    before: Option<LineState<A>>,
     begun: u32,
     scalar: OpenScalar<A>,
     row: &[char],
-) -> Result<(Step<A>, Phase<A>), AllocError>
+    resting: &mut Phase<A>,
+) -> Result<Step<A>, AllocError>
     requires fits { length row.now < 2 ^ 31 }
     requires under_way { IsUnderWay line begun scalar.at (scalar_reader_value scalar.reader) }
-    ensures told { IfOk result (λ r. (rows : List (List ℕ)) →
+    requires between { resting.old ≡ Between }
+    ensures told { IfOk result (λ step. (rows : List (List ℕ)) →
         remaining_output line (Within begun scalar.style scalar.at (scalar_reader_value scalar.reader) (new_row (surroundings_value surroundings.old))) (row.now ∷ rows)
-        ≡ output_with_step line (step_value line (state_of (context_of (surroundings_value surroundings.old))) r.0) (remaining_output (line + 1) (phase_value false (new_row (surroundings_value surroundings.new)) r.1) rows)) }
-    ensures in_step { IfOk result (λ r. IsInStep (line + 1) r.1) }
-    ensures in_text { IfOk result (λ r. BeginsInText line r.0) }
-    ensures in_order { IfOk result (λ r. (k : SurroundingsValue) → IsInOrder line (Some begun) (begun_at (phase_value false k r.1)) r.0) }
-    ensures halts { IfOk result (λ r. (k : SurroundingsValue) → is_halted (phase_value false k r.1) ≡ is_some r.0.failed) }
+        ≡ output_with_step line (step_value line (state_of (context_of (surroundings_value surroundings.old))) step) (remaining_output (line + 1) (phase_value false (new_row (surroundings_value surroundings.new)) resting.new) rows)) }
+    ensures state { IfOk result (λ step. step.state ≡ state_for before step.sound) }
+    ensures in_step { OnOk result (IsInStep (line + 1) resting.new) }
+    ensures refused { OnErr result (resting.new ≡ Between) }
+    ensures in_text { IfOk result (λ step. BeginsInText line step) }
+    ensures in_order { IfOk result (λ step. (k : SurroundingsValue) → IsInOrder line (Some begun) (begun_at (phase_value false k resting.new)) step) }
+    ensures halts { IfOk result (λ step. (k : SurroundingsValue) → is_halted (phase_value false k resting.new) ≡ is_some step.failed) }
 {
     let OpenScalar { style, at, reader } = scalar;
     let (reader, answer) = reader.read(row)?;
@@ -297,93 +327,109 @@ fn within_row<A: Allocator + Copy>(
     match answer {
         ScalarStep::GoesOn => {
             let scalar = OpenScalar { style, at, reader };
-            Ok((
-                silent(alloc, Soundness::NotSound),
-                Phase::Within(begun, scalar),
-            ))
+            *resting = Phase::Within(begun, scalar);
+            Ok(silent(alloc, before, Soundness::NotSound))
         }
         ScalarStep::EndsIn(place) => {
             let lexeme = scalar_lexeme(alloc, style, at, reader, place)?;
-            let (mut step, resting) = read_on(
+            let mut step = read_on(
                 alloc,
                 surroundings,
-                list,
+                room,
                 line,
+                before,
                 place.column,
                 false,
                 Soundness::NotSound,
                 row,
+                resting,
             )?;
             step.ended = Some(LexemeAbove { ago, lexeme });
-            Ok((step, resting))
+            Ok(step)
         }
         ScalarStep::EndedAbove(place) => {
             let lexeme = scalar_lexeme(alloc, style, at, reader, place)?;
-            let (mut step, resting) = fresh_row(alloc, surroundings, list, line, row)?;
+            let mut step = fresh_row(alloc, surroundings, room, line, before, row, resting)?;
             step.ended = Some(LexemeAbove { ago, lexeme });
-            Ok((step, resting))
+            Ok(step)
         }
         ScalarStep::Fails(fault, place) => {
-            let mut step = silent(alloc, stopped_if(place.down < ago as usize));
+            let mut step = silent(alloc, before, stopped_if(place.down < ago as usize));
             step.failed = Some(scalar_failed(ago, fault, place));
-            Ok((
-                step,
-                Phase::Halted(Reach {
-                    to_end: false,
-                    down: 0,
-                }),
-            ))
+            *resting = Phase::Halted(Reach {
+                to_end: false,
+                down: 0,
+            });
+            Ok(step)
         }
     }
 }
 
 /// Passes a row behind a fault.
-fn halted_row<A: Allocator + Copy>(alloc: A, reach: Reach, row: &[char]) -> (Step<A>, Phase<A>)
+fn halted_row<A: Allocator + Copy>(
+    alloc: A,
+    before: Option<LineState<A>>,
+    reach: Reach,
+    row: &[char],
+    resting: &mut Phase<A>,
+) -> Step<A>
     ensures told { (line : ℕ) (s : LineStateValue) (rows : List (List ℕ)) (k : SurroundingsValue) →
         output_of_entries line (stopped_rows reach.to_end reach.down (row.now ∷ rows))
-        ≡ output_with_step line (step_value line s result.0) (remaining_output (line + 1) (phase_value false k result.1) rows) }
-    ensures in_step { (line : ℕ) → IsInStep line result.1 }
-    ensures in_text { (line : ℕ) → BeginsInText line result.0 }
-    ensures in_order { (line : ℕ) (begun : Option ℕ) (k : SurroundingsValue) → IsInOrder line begun (begun_at (phase_value false k result.1)) result.0 }
-    ensures halts { (k : SurroundingsValue) → is_halted (phase_value false k result.1) ≡ true }
+        ≡ output_with_step line (step_value line s result) (remaining_output (line + 1) (phase_value false k resting.new) rows) }
+    ensures state { result.state ≡ state_for before result.sound }
+    ensures in_step { (line : ℕ) → IsInStep line resting.new }
+    ensures in_text { (line : ℕ) → BeginsInText line result }
+    ensures in_order { (line : ℕ) (begun : Option ℕ) (k : SurroundingsValue) → IsInOrder line begun (begun_at (phase_value false k resting.new)) result }
+    ensures halts { (k : SurroundingsValue) → is_halted (phase_value false k resting.new) ≡ true }
 {
-    let step = silent(alloc, stopped_if(is_sound_behind(reach, row)));
-    let reach = Reach {
+    let step = silent(alloc, before, stopped_if(is_sound_behind(reach, row)));
+    *resting = Phase::Halted(Reach {
         to_end: reach.to_end,
         down: reach.down.saturating_sub(1),
-    };
-    (step, Phase::Halted(reach))
+    });
+    step
 }
 
-/// Reads a row, its lexemes into a list that is kept from row to row for its room.
+/// Reads a row where the scanner stands in this phase before it, its lexemes into a list whose room is used from row to row. Puts the phase
+/// behind it.
 #[inline(always)]
 pub fn fed_row<A: Allocator + Copy>(
     alloc: A,
     surroundings: &mut Surroundings<'_, A>,
-    list: &mut Vec<Lexeme<A>, A>,
+    room: &mut Room<A>,
     line: u32,
-    resting: Phase<A>,
+    before: Option<LineState<A>>,
+    taken: Phase<A>,
     row: &[char],
-) -> Result<(Step<A>, Phase<A>), AllocError>
+    resting: &mut Phase<A>,
+) -> Result<Step<A>, AllocError>
     requires fits { length row.now < 2 ^ 31 }
-    requires in_step { IsInStep line resting }
-    ensures told { IfOk result (λ r. (rows : List (List ℕ)) →
-        remaining_output line (phase_value (line == 0) (new_row (surroundings_value surroundings.old)) resting) (row.now ∷ rows)
-        ≡ output_with_step line (step_value line (state_before (phase_value (line == 0) (new_row (surroundings_value surroundings.old)) resting)) r.0) (remaining_output (line + 1) (phase_value false (new_row (surroundings_value surroundings.new)) r.1) rows)) }
-    ensures in_step { IfOk result (λ r. IsInStep (line + 1) r.1) }
-    ensures in_text { IfOk result (λ r. BeginsInText line r.0) }
-    ensures in_order { IfOk result (λ r. (k : SurroundingsValue) → IsInOrder line (begun_at (phase_value (line == 0) (new_row (surroundings_value surroundings.old)) resting)) (begun_at (phase_value false k r.1)) r.0) }
-    ensures halts { IfOk result (λ r. (k : SurroundingsValue) → is_halted (phase_value false k r.1) ≡ (is_halted (phase_value (line == 0) (new_row (surroundings_value surroundings.old)) resting) || is_some r.0.failed)) }
+    requires in_step { IsInStep line taken }
+    requires between { resting.old ≡ Between }
+    ensures told { IfOk result (λ step. (rows : List (List ℕ)) →
+        remaining_output line (phase_value (line == 0) (new_row (surroundings_value surroundings.old)) taken) (row.now ∷ rows)
+        ≡ output_with_step line (step_value line (state_before (phase_value (line == 0) (new_row (surroundings_value surroundings.old)) taken)) step) (remaining_output (line + 1) (phase_value false (new_row (surroundings_value surroundings.new)) resting.new) rows)) }
+    ensures state { IfOk result (λ step. step.state ≡ state_for before step.sound) }
+    ensures in_step { OnOk result (IsInStep (line + 1) resting.new) }
+    ensures refused { OnErr result (resting.new ≡ Between) }
+    ensures in_text { IfOk result (λ step. BeginsInText line step) }
+    ensures in_order { IfOk result (λ step. (k : SurroundingsValue) → IsInOrder line (begun_at (phase_value (line == 0) (new_row (surroundings_value surroundings.old)) taken)) (begun_at (phase_value false k resting.new)) step) }
+    ensures halts { IfOk result (λ step. (k : SurroundingsValue) → is_halted (phase_value false k resting.new) ≡ (is_halted (phase_value (line == 0) (new_row (surroundings_value surroundings.old)) taken) || is_some step.failed)) }
 {
-    match resting {
-        Phase::Between => {
-            let read = fresh_row(alloc, surroundings, list, line, row)?;
-            Ok(read)
-        }
-        Phase::Within(begun, scalar) => {
-            within_row(alloc, surroundings, list, line, begun, scalar, row)
-        }
-        Phase::Halted(reach) => Ok(halted_row(alloc, reach, row)),
+    match taken {
+        Phase::Between => { fresh_row(alloc, surroundings, room, line, before, row, resting) }
+        Phase::Within(begun, scalar) => within_row(
+            alloc,
+            surroundings,
+            room,
+            line,
+            before,
+            begun,
+            scalar,
+            row,
+            resting,
+        ),
+        Phase::Halted(reach) => Ok(halted_row(alloc, before, reach, row, resting)),
     }
 }
 
@@ -399,7 +445,7 @@ fn ended_scalar<A: Allocator + Copy>(
     ensures in_text { IfOk result (λ step. BeginsInText line step) }
     ensures in_order { IfOk result (λ step. EndsOpen line (Some begun) step) }
 {
-    let mut step = silent(alloc, Soundness::NotSound);
+    let mut step = silent(alloc, None, Soundness::NotSound);
     let OpenScalar { style, at, reader } = scalar;
     let ago = line - begun;
     match reader.finish() {
@@ -431,6 +477,6 @@ pub fn ended_text<A: Allocator + Copy>(
             let step = ended_scalar(alloc, line, begun, scalar)?;
             Ok(step)
         }
-        Phase::Between | Phase::Halted(_) => Ok(silent(alloc, Soundness::NotSound)),
+        Phase::Between | Phase::Halted(_) => Ok(silent(alloc, None, Soundness::NotSound)),
     }
 }

@@ -12,6 +12,7 @@ ghost use Rattle.yl_scan.specs.State.{EqualsExactly};
 mod before;
 mod feeding;
 mod phase;
+mod room;
 mod scanner;
 mod state;
 mod step;

@@ -10,9 +10,10 @@ ghost use Rattle.yl_scan.specs.Output.{Fresh, output_with_step, remaining_output
 ghost use Rattle.yl_scan.specs.Restart.{from_state, phase_at};
 ghost use Rattle.yl_scan.specs.Scanner.{BeginsInText, EndsOpen, IsInOrder, IsInStep, at_end, begun_at, is_halted, surroundings_in, phase_value, state_before, state_by, step_value};
 
-use crate::before::{state_before, state_for};
+use crate::before::state_before;
 use crate::feeding::{ended_text, fed_row};
 use crate::phase::{Phase, Reach};
+use crate::room::Room;
 use crate::state::LineState;
 use crate::step::Step;
 use std::alloc::{AllocError, Allocator};
@@ -28,8 +29,7 @@ pub struct Scanner<'a, A: Allocator + Copy> {
     surroundings: Surroundings<'a, A>,
     /// The characters of the row.
     characters: Vec<char, A>,
-    /// Into what the lexemes of a row are read.
-    lexemes: Vec<Lexeme<A>, A>,
+    room: Room<A>,
     resting: Phase<A>,
     /// How many rows were fed.
     line: u32,
@@ -69,7 +69,10 @@ impl<'a, A: Allocator + Copy> Scanner<'a, A> {
             alloc: *alloc,
             surroundings,
             characters: Vec::new(*alloc),
-            lexemes: Vec::new(*alloc),
+            room: Room {
+                lexemes: Vec::new(*alloc),
+                comes_back: false,
+            },
             resting,
             line: 0,
             states,
@@ -143,19 +146,18 @@ impl<'a, A: Allocator + Copy> Scanner<'a, A> {
             &self.surroundings,
             &self.resting,
         )?;
-        let resting = mem::replace(&mut self.resting, Phase::Between);
-        let (mut step, resting) = fed_row(
+        let line = self.line;
+        self.line += 1;
+        fed_row(
             self.alloc,
             &mut self.surroundings,
-            &mut self.lexemes,
-            self.line,
-            resting,
+            &mut self.room,
+            line,
+            before,
+            mem::replace(&mut self.resting, Phase::Between),
             &self.characters,
-        )?;
-        step.state = state_for(before, step.sound);
-        self.resting = resting;
-        self.line += 1;
-        Ok(step)
+            &mut self.resting,
+        )
     }
 
     /// Reads the next row, and counts it. The only error is memory, and each later call answers it too.
@@ -207,6 +209,15 @@ impl<'a, A: Allocator + Copy> Scanner<'a, A> {
         let step = self.read(text);
         self.refused = step.is_err();
         step
+    }
+
+    /// Takes back a list of lexemes that a step told, so that its room is used again. What is in it goes. The lists that are told from
+    /// here on have more room than their lexemes take.
+    pub fn take_back(&mut self, lexemes: Vec<Lexeme<A>, A>)
+        ensures { self.new ≡ self.old }
+    {
+        self.room.lexemes = lexemes;
+        self.room.comes_back = true;
     }
 
     /// How many rows were fed.

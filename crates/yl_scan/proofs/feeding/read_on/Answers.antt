@@ -19,7 +19,7 @@ returns-clause-told g c = λ s rows.
     ∙ c.row_end.ensures.told s row rows c.tab_of-tab.result (surroundings_value c.read_row.new.surroundings) c.in_ok-end.ensures.rests
 
 pub returns-clause-in_step : goal.returns-clause-in_step
-returns-clause-in_step g c = c.row_end.ensures.in_step c.args.row.now c.requires c.in_ok-end.ensures.rests
+returns-clause-in_step g c = c.row_end.ensures.in_step c.args.row.now c.requires.fits c.in_ok-end.ensures.rests
 
 pub returns-clause-in_order : goal.returns-clause-in_order
-returns-clause-in_order g c = λ begun k. in_order_here c.args.line begun (phase_value false k c.row_end.result.1) c.row_end.result.0 c.row_end.ensures.fresh (c.row_end.ensures.begins k)
+returns-clause-in_order g c = λ begun k. in_order_here c.args.line begun (phase_value false k c.row_end.new.resting) c.row_end.result c.row_end.ensures.fresh (c.row_end.ensures.begins k)

@@ -43,7 +43,7 @@ returns-in_ok-step-in-EndsIn-clause-told g c = λ rows.
     let way = c.requires.under_way in
     let value = value_of c.in_ok-reader.reader in
     let x = scalar_lexeme s.style s.at c.in-EndsIn.place value in
-    let o = remaining_output (c.args.line + 1) (phase_value false (new_row (surroundings_value c.read_on.new.surroundings)) c.in_ok-step-in-EndsIn.resting) rows in
+    let o = remaining_output (c.args.line + 1) (phase_value false (new_row (surroundings_value c.read_on.new.surroundings)) c.read_on.new.resting) rows in
     carry_ends c.args.line c.args.begun s.style s.at k c.args.row.now rows refl way.above (scalar_reader_value s.reader) (extent_at c.in-EndsIn.place value) way.rows way.spaces
     (sym c.in_ok-reader.ensures.line ∙ ap (λ l. reader_step_value l c.in_ok-reader.reader) c.in-EndsIn.is)
     ∙ ap (output_with_lexeme_above c.args.line c.args.begun x) (c.in_ok-step-in-EndsIn.ensures.told (state_of (context_of (surroundings_value c.args.surroundings.now))) rows)
@@ -56,7 +56,7 @@ returns-in_ok-step-in-EndedAbove-clause-told g c = λ rows.
     let way = c.requires.under_way in
     let value = value_of c.in_ok-reader.reader in
     let x = scalar_lexeme s.style s.at c.in-EndedAbove.place value in
-    let o = remaining_output (c.args.line + 1) (phase_value false (new_row (surroundings_value c.fresh_row.new.surroundings)) c.in_ok-step-in-EndedAbove.resting) rows in
+    let o = remaining_output (c.args.line + 1) (phase_value false (new_row (surroundings_value c.fresh_row.new.surroundings)) c.fresh_row.new.resting) rows in
     carry_above c.args.line c.args.begun s.style s.at k c.args.row.now rows refl way.above (scalar_reader_value s.reader) (extent_at c.in-EndedAbove.place value) way.rows way.spaces
     (sym c.in_ok-reader.ensures.line ∙ ap (λ l. reader_step_value l c.in_ok-reader.reader) c.in-EndedAbove.is)
     ∙ ap (output_with_lexeme_above c.args.line c.args.begun x) (not_first c.args.line c.in-EndedAbove.place.column k c.args.row.now rows (omega (arith, way.above)) ∙ c.in_ok-step-in-EndedAbove.ensures.told rows)
@@ -81,7 +81,7 @@ returns-in-GoesOn-clause-in_order g c = λ k. record {
 pub returns-in_ok-step-in-EndsIn-clause-in_order : goal.returns-in_ok-step-in-EndsIn-clause-in_order
 returns-in_ok-step-in-EndsIn-clause-in_order g c = λ k. record {
   above = ends_open c.args.line c.args.begun c.in_ok-step-in-EndsIn.step (record { ago = c.args.line - c.args.begun; lexeme = c.in_ok-lexeme-in-EndsIn.lexeme }) c.requires.under_way.above refl;
-  next = inl (next_here c.args.line (begun_at (phase_value false k c.in_ok-step-in-EndsIn.resting)) c.in_ok-step-in-EndsIn.step (c.in_ok-step-in-EndsIn.ensures.in_order None k));
+  next = inl (next_here c.args.line (begun_at (phase_value false k c.read_on.new.resting)) c.in_ok-step-in-EndsIn.step (c.in_ok-step-in-EndsIn.ensures.in_order None k));
 }
 
 pub returns-in_ok-step-in-EndsIn-clause-in_text : goal.returns-in_ok-step-in-EndsIn-clause-in_text
@@ -91,7 +91,7 @@ returns-in_ok-step-in-EndsIn-clause-in_text g c =
 pub returns-in_ok-step-in-EndedAbove-clause-in_order : goal.returns-in_ok-step-in-EndedAbove-clause-in_order
 returns-in_ok-step-in-EndedAbove-clause-in_order g c = λ k. record {
   above = ends_open c.args.line c.args.begun c.in_ok-step-in-EndedAbove.step (record { ago = c.args.line - c.args.begun; lexeme = c.in_ok-lexeme-in-EndedAbove.lexeme }) c.requires.under_way.above refl;
-  next = inl (next_here c.args.line (begun_at (phase_value false k c.in_ok-step-in-EndedAbove.resting)) c.in_ok-step-in-EndedAbove.step (c.in_ok-step-in-EndedAbove.ensures.in_order None k));
+  next = inl (next_here c.args.line (begun_at (phase_value false k c.fresh_row.new.resting)) c.in_ok-step-in-EndedAbove.step (c.in_ok-step-in-EndedAbove.ensures.in_order None k));
 }
 
 pub returns-in_ok-step-in-EndedAbove-clause-in_text : goal.returns-in_ok-step-in-EndedAbove-clause-in_text
