@@ -37,7 +37,7 @@ impl ShortText {
 
 /// Where a text lies: in the value itself, or in memory of its own.
 #[derive(Drop)]
-pub enum Kept<A: Allocator> {
+pub enum Storage<A: Allocator> {
     Short(ShortText),
     Long(String<A>),
 }
@@ -45,7 +45,7 @@ pub enum Kept<A: Allocator> {
 /// A string. A text of at most 16 ASCII characters lies in the value itself, and takes no allocation.
 #[derive(Drop)]
 pub struct InlineString<A: Allocator> {
-    kept: Kept<A>,
+    kept: Storage<A>,
 }
 
 impl<A: Allocator> Model for InlineString<A> {
@@ -82,7 +82,7 @@ impl<A: Allocator> InlineString<A> {
     {
         let text = ArrayString::new();
         InlineString {
-            kept: Kept::Short(ShortText { text }),
+            kept: Storage::Short(ShortText { text }),
         }
     }
 
@@ -93,7 +93,7 @@ impl<A: Allocator> InlineString<A> {
     {
         let text = short_text(characters)?;
         Some(InlineString {
-            kept: Kept::Short(ShortText { text }),
+            kept: Storage::Short(ShortText { text }),
         })
     }
 
@@ -102,7 +102,7 @@ impl<A: Allocator> InlineString<A> {
         ensures { result ≡ chars (string_bytes text) }
     {
         InlineString {
-            kept: Kept::Long(text),
+            kept: Storage::Long(text),
         }
     }
 
@@ -111,13 +111,13 @@ impl<A: Allocator> InlineString<A> {
         ensures { result.now ≡ encode_utf8_all self.now }
     {
         match &self.kept {
-            Kept::Short(short) => short.as_str(),
-            Kept::Long(text) => text.as_str(),
+            Storage::Short(short) => short.as_str(),
+            Storage::Long(text) => text.as_str(),
         }
     }
 
     /// Where its text lies.
-    pub fn into_kept(self) -> Kept<A>
+    pub fn into_storage(self) -> Storage<A>
         ensures { characters_of result ≡ self }
     {
         self.kept
@@ -128,8 +128,8 @@ impl<A: Allocator> InlineString<A> {
         ensures { IfOk result (λ text. chars (string_bytes text) ≡ self) }
     {
         match self.kept {
-            Kept::Short(short) => String::from_str(alloc, short.text.as_str()),
-            Kept::Long(text) => Ok(text),
+            Storage::Short(short) => String::from_str(alloc, short.text.as_str()),
+            Storage::Long(text) => Ok(text),
         }
     }
 }

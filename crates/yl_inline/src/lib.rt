@@ -3,4 +3,4 @@
 
 mod inline_string;
 
-pub use inline_string::{InlineString, Kept, ShortText};
+pub use inline_string::{InlineString, ShortText, Storage};

@@ -2,7 +2,7 @@
 
 use std::alloc::Allocator;
 use std::marker::Model;
-use yl_inline::{InlineString, Kept, ShortText};
+use yl_inline::{InlineString, ShortText, Storage};
 use yl_text::Pos;
 
 /// How a scalar is written: YAML 1.2.2, 7.3 and 8.1.
@@ -139,8 +139,8 @@ impl<A: Allocator> Lexeme<A> {
     pub fn new(kind: Kind, column: u32, end: Pos, value: InlineString<A>) -> Lexeme<A>
         ensures { result ≡ record { kind = kind; start = record { line = 0; col = column }; end = end; value = encode_utf8_all value } }
     {
-        match value.into_kept() {
-            Kept::Short(value) => Lexeme {
+        match value.into_storage() {
+            Storage::Short(value) => Lexeme {
                 parts: Parts::Short {
                     kind,
                     column,
@@ -148,7 +148,7 @@ impl<A: Allocator> Lexeme<A> {
                     value,
                 },
             },
-            Kept::Long(value) => Lexeme {
+            Storage::Long(value) => Lexeme {
                 parts: Parts::Long {
                     kind,
                     column,
