@@ -24,7 +24,7 @@ fn moved_comment<A: Allocator>(
 }
 
 /// Puts the comments of a section that begins at `line` behind these.
-fn push_comments<'a, A: Allocator>(
+pub fn push_comments<'a, A: Allocator>(
     line: u32,
     from: &'a [KeptComment<A>],
     comments: &mut Vec<PlacedComment<'a>, A>,

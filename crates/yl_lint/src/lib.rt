@@ -17,8 +17,9 @@ mod lint;
 mod moving;
 
 pub use assembling::{push_section, report_of_kept};
+pub use comments::push_comments;
 pub use kept::kept_of_records;
 pub use laws::one_report;
 pub use lines::find_in_lines;
 pub use lint::{report_of_lines, report_of_text, report_with_kept};
-pub use moving::line_below;
+pub use moving::{line_below, push_moved};

@@ -1,5 +1,6 @@
 -- Lists of problems whose lines are apart are arranged one after another; moved lists are arranged as they are.
-use Rattle.std.proofs.Common.{◌≡◌, ℕ, ◌+◌, ◌<◌, ◌≤◌, Bool, true, false, List, [], ◌∷◌, ◌++◌, map, Option, Some, None, refl, ap, sym, ◌∙◌, arith, ◌⊎◌, inl, inr, cond}
+use Rattle.std.proofs.Common.{◌≡◌, ℕ, ◌+◌, ◌<◌, ◌≤◌, Bool, true, false, List, [], ◌∷◌, ◌++◌, map, Option, Some, None, refl, ap, sym, ◌∙◌, arith, ◌⊎◌, inl, inr, cond, ◌-◌}
+use Rattle.std.specs.Prelude.{◌&&◌, ◌||◌, not, is_some}
 use Rattle.std.specs.List.{AllByRecursion, filter, filter_map, cons_option}
 use Rattle.std.specs.Option.{option_map}
 use Rattle.std.specs.Ordering.{nat_cmp, MatchOrdering, ordering_then}
@@ -11,7 +12,7 @@ use Rattle.yl_text.specs.Finding.{FindingValue}
 use Rattle.yl_text.specs.declared.finding.RuleId.{RuleId}
 use Rattle.yl_rules.specs.declared.level.Level.{Level}
 use Rattle.yl_rules.specs.Levels.{LevelTable}
-use Rattle.yl_report.specs.Report.{ProblemValue, finding_order, order_in_line, insert_by, insert_once, sorted_once, is_reported, with_level, report_of}
+use Rattle.yl_report.specs.Report.{ProblemValue, finding_order, order_in_line, insert_by, insert_once, sorted_once, is_reported, is_syntax, with_level, report_of}
 use Rattle.yl_report.proofs.Unique.{one_arrangement}
 use Rattle.yl_report.proofs.Inserted.{sorted_once_arranged}
 use Rattle.yl_report.proofs.Unique.{In, in_from, from_in}
@@ -84,25 +85,36 @@ sorted_moved : (n : ℕ) (xs : List FindingValue) → sorted_once (map (moved n)
 sorted_moved n [] = refl
 sorted_moved n (x ∷ xs) = ap (insert_once (moved n x)) (sorted_moved n xs) ∙ insert_moved n x (sorted_once xs)
 
--- ---- reported, where nothing is silenced
+-- ---- reported, where so much is silenced
 
-abbrev pub nothing_silenced : RuleId → ℕ → Bool
-nothing_silenced rule line = false
+abbrev reported : LevelTable → (RuleId → ℕ → Bool) → FindingValue → Bool
+reported levels s f = is_reported levels s f
 
-abbrev reported : LevelTable → FindingValue → Bool
-reported levels f = is_reported levels nothing_silenced f
+abbrev pub arranged : LevelTable → (RuleId → ℕ → Bool) → List FindingValue → List ProblemValue
+arranged levels s fs = report_of levels false s fs
 
-abbrev pub arranged : LevelTable → List FindingValue → List ProblemValue
-arranged levels fs = report_of levels false nothing_silenced fs
+-- what is silenced so many lines further down
+abbrev pub below : ℕ → (RuleId → ℕ → Bool) → RuleId → ℕ → Bool
+below n s rule line = s rule (n + line)
+
+abbrev pub HaveLines : List FindingValue → Type 0
+HaveLines fs = AllByRecursion (λ f. 0 < f.line) fs
+
+reported_moved : (levels : LevelTable) (s : RuleId → ℕ → Bool) (n : ℕ) (f : FindingValue) → 0 < f.line → reported levels s (moved n f) ≡ reported levels (below n s) f
+reported_moved levels s n f l =
+    let line : n + f.line - 1 ≡ n + (f.line - 1) = omega (arith, l) in
+    ap (λ k. is_some (levels f.rule) && (is_syntax f.rule || not (s f.rule k))) line
 
 cond_moved : (n : ℕ) (b : Bool) (x : FindingValue) (ys : List FindingValue) → cond b (moved n x ∷ map (moved n) ys) (map (moved n) ys) ≡ map (moved n) (cond b (x ∷ ys) ys)
 cond_moved n true x ys = refl
 cond_moved n false x ys = refl
 
-filter_moved : (levels : LevelTable) (n : ℕ) (xs : List FindingValue) → filter (reported levels) (map (moved n) xs) ≡ map (moved n) (filter (reported levels) xs)
-filter_moved levels n [] = refl
-filter_moved levels n (x ∷ xs) =
-    ap (λ (fs : List FindingValue). cond (reported levels x) (moved n x ∷ fs) fs) (filter_moved levels n xs) ∙ cond_moved n (reported levels x) x (filter (reported levels) xs)
+filter_moved : (levels : LevelTable) (s : RuleId → ℕ → Bool) (n : ℕ) (xs : List FindingValue) → HaveLines xs → filter (reported levels s) (map (moved n) xs) ≡ map (moved n) (filter (reported levels (below n s)) xs)
+filter_moved levels s n [] h = refl
+filter_moved levels s n (x ∷ xs) h =
+    let rest = filter (reported levels (below n s)) xs in
+    ap (λ (fs : List FindingValue). cond (reported levels s (moved n x)) (moved n x ∷ fs) fs) (filter_moved levels s n xs h.1)
+    ∙ (ap (λ b. cond b (moved n x ∷ map (moved n) rest) (map (moved n) rest)) (reported_moved levels s n x h.0) ∙ cond_moved n (reported levels (below n s) x) x rest)
 
 -- so many lines further down
 abbrev pub lower : ℕ → ProblemValue → ProblemValue
@@ -120,10 +132,31 @@ levels_moved levels n [] = refl
 levels_moved levels n (x ∷ xs) =
     ap (λ (ps : List ProblemValue). cons_option (with (levels x.rule) (moved n x)) ps) (levels_moved levels n xs) ∙ with_moved n (levels x.rule) x xs (filter_map (with_level levels) xs)
 
-pub arranged_moved : (levels : LevelTable) (n : ℕ) (xs : List FindingValue) → arranged levels (map (moved n) xs) ≡ map (lower n) (arranged levels xs)
-arranged_moved levels n xs =
-    ap (λ (fs : List FindingValue). filter_map (with_level levels) (sorted_once fs)) (filter_moved levels n xs)
-    ∙ (ap (λ (fs : List FindingValue). filter_map (with_level levels) fs) (sorted_moved n (filter (reported levels) xs)) ∙ levels_moved levels n (sorted_once (filter (reported levels) xs)))
+pub arranged_moved : (levels : LevelTable) (s : RuleId → ℕ → Bool) (n : ℕ) (xs : List FindingValue) → HaveLines xs → arranged levels s (map (moved n) xs) ≡ map (lower n) (arranged levels (below n s) xs)
+arranged_moved levels s n xs h =
+    let fs = filter (reported levels (below n s)) xs in
+    ap (λ (gs : List FindingValue). filter_map (with_level levels) (sorted_once gs)) (filter_moved levels s n xs h)
+    ∙ (ap (λ (gs : List FindingValue). filter_map (with_level levels) gs) (sorted_moved n fs) ∙ levels_moved levels n (sorted_once fs))
+
+-- ---- where as much is silenced
+
+-- of what was found, the same is silenced
+abbrev AreAlike : (RuleId → ℕ → Bool) → (RuleId → ℕ → Bool) → List FindingValue → Type 0
+AreAlike s t fs = AllByRecursion (λ f. s f.rule (f.line - 1) ≡ t f.rule (f.line - 1)) fs
+
+filter_alike : (levels : LevelTable) (s t : RuleId → ℕ → Bool) (xs : List FindingValue) → AreAlike s t xs → filter (reported levels s) xs ≡ filter (reported levels t) xs
+filter_alike levels s t [] h = refl
+filter_alike levels s t (x ∷ xs) h =
+    ap (λ (fs : List FindingValue). cond (reported levels s x) (x ∷ fs) fs) (filter_alike levels s t xs h.1)
+    ∙ ap (λ b. cond (is_some (levels x.rule) && (is_syntax x.rule || not b)) (x ∷ filter (reported levels t) xs) (filter (reported levels t) xs)) h.0
+
+alike_within : (s t : RuleId → ℕ → Bool) (n : ℕ) (xs : List FindingValue) → AllByRecursion (λ f. (0 < f.line) × (f.line ≤ n)) xs → ((rule : RuleId) (line : ℕ) → line < n → s rule line ≡ t rule line) → AreAlike s t xs
+alike_within s t n [] h e = tt
+alike_within s t n (x ∷ xs) h e = (e x.rule (x.line - 1) (omega (arith, h.0.0, h.0.1)), alike_within s t n xs h.1 e)
+
+pub arranged_alike : (levels : LevelTable) (s t : RuleId → ℕ → Bool) (n : ℕ) (xs : List FindingValue) → AllByRecursion (λ f. (0 < f.line) × (f.line ≤ n)) xs → ((rule : RuleId) (line : ℕ) → line < n → s rule line ≡ t rule line)
+    → arranged levels s xs ≡ arranged levels t xs
+arranged_alike levels s t n xs h e = ap (λ (fs : List FindingValue). filter_map (with_level levels) (sorted_once fs)) (filter_alike levels s t xs (alike_within s t n xs h e))
 
 -- ---- lines apart
 
@@ -135,9 +168,10 @@ all_filter : (P : FindingValue → Type 0) (p : FindingValue → Bool) (xs : Lis
 all_filter P p [] h = tt
 all_filter P p (x ∷ xs) h = all_cond P (p x) x (filter p xs) h.0 (all_filter P p xs h.1)
 
-pub arranged_apart : (levels : LevelTable) (n : ℕ) (xs ys : List FindingValue) → AllByRecursion (λ f. f.line ≤ n) xs → AllByRecursion (λ f. n < f.line) ys → arranged levels (xs ++ ys) ≡ arranged levels xs ++ arranged levels ys
-arranged_apart levels n xs ys h k =
-    let p = reported levels in
+pub arranged_apart : (levels : LevelTable) (s : RuleId → ℕ → Bool) (n : ℕ) (xs ys : List FindingValue) → AllByRecursion (λ f. f.line ≤ n) xs → AllByRecursion (λ f. n < f.line) ys
+    → arranged levels s (xs ++ ys) ≡ arranged levels s xs ++ arranged levels s ys
+arranged_apart levels s n xs ys h k =
+    let p = reported levels s in
     ap (λ (fs : List FindingValue). filter_map (with_level levels) (sorted_once fs)) (filter-append p xs ys)
     ∙ (ap (λ (fs : List FindingValue). filter_map (with_level levels) fs) (sorted_apart n (filter p xs) (filter p ys) (all_filter (λ f. f.line ≤ n) p xs h) (all_filter (λ f. n < f.line) p ys k))
     ∙ filter_map-append (with_level levels) (sorted_once (filter p xs)) (sorted_once (filter p ys)))
@@ -151,9 +185,9 @@ all_levels : (P : ℕ → Type 0) (levels : LevelTable) (xs : List FindingValue)
 all_levels P levels [] h = tt
 all_levels P levels (x ∷ xs) h = all_with P (levels x.rule) x (filter_map (with_level levels) xs) h.0 (all_levels P levels xs h.1)
 
-pub arranged_lines : (P : ℕ → Type 0) (levels : LevelTable) (xs : List FindingValue) → AllByRecursion (λ f. P f.line) xs → AllByRecursion (λ p. P p.line) (arranged levels xs)
-arranged_lines P levels xs h =
-    let p = reported levels in
+pub arranged_lines : (P : ℕ → Type 0) (levels : LevelTable) (s : RuleId → ℕ → Bool) (xs : List FindingValue) → AllByRecursion (λ f. P f.line) xs → AllByRecursion (λ p. P p.line) (arranged levels s xs)
+arranged_lines P levels s xs h =
+    let p = reported levels s in
     all_levels P levels (sorted_once (filter p xs)) (all_sorted (λ f. P f.line) (filter p xs) (all_filter (λ f. P f.line) p xs h))
 
 -- ---- the members alone count
@@ -201,8 +235,10 @@ filter_same p xs ys s = record {
   back = λ f h. let r = in_filter p f ys h in filter_in p f xs (s.back f r.0) r.1;
 }
 
-pub arranged_same : (levels : LevelTable) (xs ys : List FindingValue) → AreSame xs ys → arranged levels xs ≡ arranged levels ys
-arranged_same levels xs ys s = ap (λ (fs : List FindingValue). filter_map (with_level levels) fs) (sorted_same (filter (reported levels) xs) (filter (reported levels) ys) (filter_same (reported levels) xs ys s))
+pub arranged_same : (levels : LevelTable) (s : RuleId → ℕ → Bool) (xs ys : List FindingValue) → AreSame xs ys → arranged levels s xs ≡ arranged levels s ys
+arranged_same levels s xs ys same =
+    let p = reported levels s in
+    ap (λ (fs : List FindingValue). filter_map (with_level levels) fs) (sorted_same (filter p xs) (filter p ys) (filter_same p xs ys same))
 
 -- members of lists one after another
 pub in_front : (f : FindingValue) (xs ys : List FindingValue) → In f xs → In f (xs ++ ys)

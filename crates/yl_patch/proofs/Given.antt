@@ -1,27 +1,63 @@
 -- What follows of optional values, and of one report and its parts.
-use Rattle.std.proofs.Common.{◌≡◌, ℕ, Bool, false, List, Option, Some, None, refl}
-use Rattle.std.specs.Prelude.{IfSome}
+use Rattle.std.proofs.Common.{◌≡◌, ℕ, Bool, true, false, List, [], Option, Some, None, refl, ap, sym, ◌∙◌, arith}
+use Rattle.std.proofs.lemmas.List.{map-append}
+use Rattle.std.specs.Option.{SomeIff}
+use Rattle.std.specs.Prelude.{not, IfSome, IfOk, Result, Ok, Err, ◌++◌, map}
 use Rattle.yl_text.specs.declared.finding.RuleId.{RuleId}
 use Rattle.yl_text.specs.Finding.{FindingValue}
 use Rattle.yl_text.specs.Lines.{RowValue}
 use Rattle.yl_indentation.specs.declared.measure.Measure.{Measure}
+use Rattle.yl_indentation.specs.declared.options.IndentationOptions.{IndentationOptions}
 use Rattle.yl_rules.specs.Levels.{LevelTable}
 use Rattle.yl_settings.specs.declared.options.RuleOptions.{RuleOptions}
 use Rattle.yl_report.specs.Report.{report_of}
 use Rattle.yl_sections.specs.Kept.{KeptValue}
-use Rattle.yl_patch.specs.There.{found_there}
+use Rattle.yl_lint.specs.TextReport.{findings_in_sections, moved}
+use Rattle.yl_patch.specs.There.{found_there, lines_there}
 use Rattle.yl_patch.specs.declared.touched.Ends.{Ends}
+use Rattle.yl_patch.proofs.Sections.{sections_moved}
+
+pub is_so : (b : Bool) → not b ≡ false → b ≡ true
+is_so true h = refl
+is_so false h = sym h
 
 pub then : {X : Type 0} {P Q : X → Type 0} (o : Option X) → IfSome o P → ((x : X) → P x → Q x) → IfSome o Q
 then None p f = tt
 then (Some x) p f = f x p
 
+pub then_iff : {X : Type 0} (P : Type 0) {Q : X → Type 0} (o : Option X) (v : X) → SomeIff o P v → ((x : X) → x ≡ v → Q x) → IfSome o Q
+then_iff P None v h f = tt
+then_iff P (Some x) v h f = f x h.1
+
 pub then_all : {X : Type 0} {P Q R S : X → Type 0} (o : Option X) → IfSome o P → IfSome o Q → IfSome o R → ((x : X) → P x → Q x → R x → S x) → IfSome o S
 then_all None p q r f = tt
 then_all (Some x) p q r f = f x p q r
 
-pub same_report : (l m : LevelTable) (file : Bool) (s t : RuleId → ℕ → Bool) (xs ys : List FindingValue) → l ≡ m → file ≡ false → s ≡ t → xs ≡ ys → report_of l file s xs ≡ report_of m false t ys
-same_report l m file s t xs ys a b c d = rw (a, b, c, d) refl
+pub then_ok : {X E : Type 0} {P Q : X → Type 0} (r : Result X E) → IfOk r P → ((x : X) → P x → Q x) → IfOk r Q
+then_ok (Ok x) p f = f x p
+then_ok (Err e) p f = tt
+
+pub same_report : (l m : LevelTable) (file : Bool) (s : RuleId → ℕ → Bool) (xs ys : List FindingValue) → l ≡ m → xs ≡ ys → report_of l file s xs ≡ report_of m file s ys
+same_report l m file s xs ys a b = rw (a, b) refl
+
+pub same_silences : (l : LevelTable) (file : Bool) (s t : RuleId → ℕ → Bool) (xs ys : List FindingValue) → file ≡ false → s ≡ t → xs ≡ ys → report_of l file s xs ≡ report_of l false t ys
+same_silences l file s t xs ys a b c = rw (a, b, c) refl
+
+-- what is found in lines and in sections that stand so many lines further down
+pub all_moved : (o : RuleOptions) (e : Ends) (whole before : Measure) (down : ℕ) (rows : List RowValue) (ks : List KeptValue)
+    → map (moved down) (lines_there o e rows) ++ findings_in_sections o.indentation whole down before ks ≡ map (moved down) (found_there o e whole before rows ks)
+all_moved o e whole before down rows ks =
+    ap (λ (fs : List FindingValue). map (moved down) (lines_there o e rows) ++ fs) (sections_moved o.indentation whole before down 0 down ks (omega arith))
+    ∙ sym (map-append (moved down) (lines_there o e rows) (findings_in_sections o.indentation whole 0 before ks))
+
+-- the same, put together
+pub put_together : (o : RuleOptions) (e : Ends) (whole before : Measure) (down : ℕ) (rows : List RowValue) (ks : List KeptValue) (p : IndentationOptions) (start lines first last : List FindingValue)
+    → start ≡ [] → lines ≡ lines_there o e rows → first ≡ start ++ map (moved down) lines → p ≡ o.indentation → last ≡ first ++ findings_in_sections p whole down before ks
+    → last ≡ map (moved down) (found_there o e whole before rows ks)
+put_together o e whole before down rows ks p start lines first last none in_lines moved_lines options all =
+    all
+    ∙ (ap (λ (fs : List FindingValue). fs ++ findings_in_sections p whole down before ks) (moved_lines ∙ (ap (λ (fs : List FindingValue). fs ++ map (moved down) lines) none ∙ ap (map (moved down)) in_lines))
+    ∙ (ap (λ (q : IndentationOptions). map (moved down) (lines_there o e rows) ++ findings_in_sections q whole down before ks) options ∙ all_moved o e whole before down rows ks))
 
 pub same_there : (o : RuleOptions) (e : Ends) (w v b d : Measure) (xs ys : List RowValue) (ks : List KeptValue) → w ≡ v → b ≡ d → xs ≡ ys → found_there o e w b xs ks ≡ found_there o e v d ys ks
 same_there o e w v b d xs ys ks f g h = rw (f, g, h) refl

@@ -5,5 +5,7 @@ pub mod Parts
 pub mod Renewed
 pub mod Sections
 pub mod Shifted
+pub mod Silenced
+pub mod SilencingSections
 pub mod Walks
 pub mod Given

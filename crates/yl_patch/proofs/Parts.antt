@@ -5,6 +5,7 @@ use Rattle.std.proofs.lemmas.List.{map-append, same_lists, places}
 use Rattle.std.proofs.lemmas.Bool.{le-leb, lt-leb}
 use Rattle.yl_text.specs.Finding.{FindingValue}
 use Rattle.yl_text.specs.Lines.{RowValue}
+use Rattle.yl_text.specs.declared.finding.RuleId.{RuleId}
 use Rattle.yl_rules.specs.EmptyLines.{empty_lines}
 use Rattle.yl_rules.specs.EndOfFile.{end_of_file}
 use Rattle.yl_rules.specs.NewLines.{new_lines}
@@ -16,7 +17,7 @@ use Rattle.yl_report.specs.Report.{ProblemValue}
 use Rattle.yl_sections.specs.Kept.{KeptValue, items_if}
 use Rattle.yl_lint.specs.TextReport.{moved, findings_from, findings_in_sections}
 use Rattle.yl_patch.specs.Plain.{IsPlain, row_sum}
-use Rattle.yl_patch.proofs.Arranged.{AreSame, arranged, arranged_same, arranged_apart, arranged_moved, lower, in_front, in_behind, in_either}
+use Rattle.yl_patch.proofs.Arranged.{AreSame, arranged, arranged_same, arranged_apart, arranged_moved, below, lower, in_front, in_behind, in_either}
 use Rattle.yl_patch.proofs.Lines.{Between, between_both, empty_lines_between, end_of_file_between, first_apart, if_none, is_seam, last_apart, new_lines_between, rows_apart, rows_between, runs_apart}
 use Rattle.yl_patch.proofs.Sections.{between_wider, between_moved, measured, sections_apart, sections_between}
 use Rattle.yl_patch.specs.Patched.{is_upto, patched, shifted}
@@ -82,11 +83,11 @@ lines_at_most : (n : ℕ) (fs : List FindingValue) → Between 0 n fs → AllByR
 lines_at_most n [] h = tt
 lines_at_most n (f ∷ fs) h = (h.0.1, lines_at_most n fs h.1)
 
-lines_above : (n high : ℕ) (fs : List FindingValue) → Between n high fs → AllByRecursion (λ f. n < f.line) fs
+pub lines_above : (n high : ℕ) (fs : List FindingValue) → Between n high fs → AllByRecursion (λ f. n < f.line) fs
 lines_above n high [] h = tt
 lines_above n high (f ∷ fs) h = (h.0.0, lines_above n high fs h.1)
 
-module _ (levels : LevelTable) (o : RuleOptions) (whole : Measure) (begins ends : Bool) (before : Measure) (xs ys : List RowValue) (ks ls : List KeptValue)
+module _ (levels : LevelTable) (s : RuleId → ℕ → Bool) (o : RuleOptions) (whole : Measure) (begins ends : Bool) (before : Measure) (xs ys : List RowValue) (ks ls : List KeptValue)
     (plain : AllByRecursion IsPlain ks) (plain' : AllByRecursion IsPlain ls) (fit : row_sum ks ≡ length xs) (seam : is_seam xs ys ≡ true) where
   abbrev m : List FindingValue → List FindingValue
   m fs = map (moved (length xs)) fs
@@ -148,20 +149,23 @@ module _ (levels : LevelTable) (o : RuleOptions) (whole : Measure) (begins ends 
   front_low : Between 0 (length xs) first_part
   front_low = part_between o whole begins (if_none ys ends) before xs ks (length xs) plain (omega arith) (omega (arith, fit))
 
+  second_between : Between 0 (length ys + row_sum ls) second_part
+  second_between = part_between o whole (if_none xs begins) ends later ys ls (length ys + row_sum ls) plain' (omega arith) (omega arith)
+
   back_high : AllByRecursion (λ f. length xs < f.line) (m second_part)
   back_high =
       let high = length ys + row_sum ls in
-      let b = between_moved (length xs) 0 high second_part (part_between o whole (if_none xs begins) ends later ys ls high plain' (omega arith) (omega arith)) in
+      let b = between_moved (length xs) 0 high second_part second_between in
       lines_above (length xs) (length xs + high) (m second_part) (between_wider (length xs + 0) (length xs + high) (length xs) (length xs + high) (m second_part) (omega arith) (omega arith) b)
 
-  pub parts_apart : arranged levels (part o whole begins ends before (xs ++ ys) (ks ++ ls)) ≡ arranged levels first_part ++ map (lower (length xs)) (arranged levels second_part)
+  pub parts_apart : arranged levels s (part o whole begins ends before (xs ++ ys) (ks ++ ls)) ≡ arranged levels s first_part ++ map (lower (length xs)) (arranged levels (below (length xs) s) second_part)
   parts_apart =
-      ap (arranged levels) whole_is
-      ∙ (arranged_same levels (together r₁ (m r₂) n₁ (m n₂) e₁ (m e₂) z₁ (m z₂) s₁ (m s₂))
+      ap (arranged levels s) whole_is
+      ∙ (arranged_same levels s (together r₁ (m r₂) n₁ (m n₂) e₁ (m e₂) z₁ (m z₂) s₁ (m s₂))
       (front r₁ (m r₂) n₁ (m n₂) e₁ (m e₂) z₁ (m z₂) s₁ (m s₂) ++ back r₁ (m r₂) n₁ (m n₂) e₁ (m e₂) z₁ (m z₂) s₁ (m s₂)) (members r₁ (m r₂) n₁ (m n₂) e₁ (m e₂) z₁ (m z₂) s₁ (m s₂))
-      ∙ (ap (λ (fs : List FindingValue). arranged levels (first_part ++ fs)) back_is
-      ∙ (arranged_apart levels (length xs) first_part (m second_part) (lines_at_most (length xs) first_part front_low) back_high
-      ∙ ap (λ (ps : List ProblemValue). arranged levels first_part ++ ps) (arranged_moved levels (length xs) second_part))))
+      ∙ (ap (λ (fs : List FindingValue). arranged levels s (first_part ++ fs)) back_is
+      ∙ (arranged_apart levels s (length xs) first_part (m second_part) (lines_at_most (length xs) first_part front_low) back_high
+      ∙ ap (λ (ps : List ProblemValue). arranged levels s first_part ++ ps) (arranged_moved levels s (length xs) second_part (lines_above 0 (length ys + row_sum ls) second_part second_between)))))
 
 -- ---- a list of problems, patched
 

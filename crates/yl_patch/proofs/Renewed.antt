@@ -4,7 +4,9 @@ use Rattle.std.specs.List.{AllByRecursion, splice, slice_get, prefix_len}
 use Rattle.std.proofs.lemmas.List.{same_lists, places, length-take-le, length-drop}
 use Rattle.yl_text.specs.Finding.{FindingValue}
 use Rattle.yl_text.specs.Lines.{RowValue}
+use Rattle.yl_text.specs.declared.finding.RuleId.{RuleId}
 use Rattle.yl_text.specs.declared.position.Pos.{Pos}
+use Rattle.yl_lexeme.specs.Lexeme.{PlacedCommentValue}
 use Rattle.yl_rules.specs.EmptyLines.{empty_lines}
 use Rattle.yl_rules.specs.NewLines.{new_lines}
 use Rattle.yl_rules.specs.EndOfFile.{end_of_file}
@@ -17,17 +19,18 @@ use Rattle.yl_config.specs.Config.{levels_of, options_of}
 use Rattle.yl_report.specs.Directive.{disables_file, is_silenced}
 use Rattle.yl_report.specs.Report.{ProblemValue, report_of}
 use Rattle.yl_sections.specs.Kept.{KeptValue, items_if}
-use Rattle.yl_lint.specs.TextReport.{findings_from, findings_in_lines, findings_in_sections, fault_in_sections, comments_in_sections, shown, first_text, end_of_lines, kept_of_text, report, report_of_kept}
+use Rattle.yl_lint.specs.TextReport.{findings_from, findings_in_lines, findings_in_sections, fault_in_sections, comments_in_sections, moved, moved_comment, shown, first_text, end_of_lines, kept_of_text, report, report_of_kept}
 use Rattle.yl_patch.specs.Cut.{IsInside, is_filled}
-use Rattle.yl_patch.specs.Patched.{is_upto, patched, shifted}
-use Rattle.yl_patch.specs.Plain.{IsPlain, row_sum}
+use Rattle.yl_patch.specs.Patched.{is_upto, patched}
+use Rattle.yl_patch.specs.Plain.{IsPlain, IsSilent, row_sum}
 use Rattle.yl_patch.specs.There.{found_there}
 use Rattle.yl_patch.specs.declared.touched.Ends.{Ends}
 use Rattle.yl_patch.specs.declared.touched.Touched.{Touched}
-use Rattle.yl_patch.proofs.Arranged.{arranged, arranged_lines, lower}
+use Rattle.yl_patch.proofs.Arranged.{arranged, arranged_alike, arranged_lines, arranged_moved, below, lower}
 use Rattle.yl_patch.proofs.Lines.{back_seam, front_seam, if_none, is_seam, none_by, seam_behind, seam_more}
-use Rattle.yl_patch.proofs.Parts.{part, part_between, parts_apart, patched_so}
-use Rattle.yl_patch.proofs.Sections.{measured, measured_both, no_comments, no_fault, plain_back, plain_both, plain_front, shown_plain}
+use Rattle.yl_patch.proofs.Parts.{lines_above, part, part_between, parts_apart, patched_so}
+use Rattle.yl_patch.proofs.Sections.{all_back, all_both, all_front, comments_three, comments_within, measured, measured_both, no_fault, shown_plain}
+use Rattle.yl_patch.proofs.Silenced.{moved_high, said_above, said_alike}
 
 -- ---- the report of plain sections
 
@@ -50,16 +53,18 @@ module _ (config : Config) (first : List ℕ) (end : Pos) (rows : List RowValue)
   whole_part : found ks [] ≡ part o (measured ks) true true empty_measure rows ks
   whole_part = found_is_part o (record { begins = true; ends = true }) (measured ks) empty_measure rows ks
 
-  plain_report : report_of_kept config (findings_in_lines o rows) first end ks ≡ arranged (levels_of config) (part o (measured ks) true true empty_measure rows ks)
+  abbrev silenced : RuleId → ℕ → Bool
+  silenced = is_silenced (comments_in_sections 0 ks)
+
+  plain_report : report_of_kept config (findings_in_lines o rows) first end ks ≡ arranged (levels_of config) silenced (part o (measured ks) true true empty_measure rows ks)
   unfolding report_of_kept
   plain_report =
       ap (λ (b : Bool). report_of (levels_of config) b (is_silenced (comments_in_sections 0 (shown ks))) (found (shown ks) (fault_in_sections 0 end ks))) loud
       ∙ (ap (λ (seen : List KeptValue). report_of (levels_of config) false (is_silenced (comments_in_sections 0 seen)) (found seen (fault_in_sections 0 end ks))) (shown_plain ks plain)
-      ∙ (ap (λ cs. report_of (levels_of config) false (is_silenced cs) (found ks (fault_in_sections 0 end ks))) (no_comments 0 ks plain)
-      ∙ (ap (λ (fs : List FindingValue). arranged (levels_of config) (found ks fs)) (no_fault 0 end ks plain) ∙ ap (arranged (levels_of config)) whole_part)))
+      ∙ (ap (λ (fs : List FindingValue). arranged (levels_of config) silenced (found ks fs)) (no_fault 0 end ks plain) ∙ ap (arranged (levels_of config) silenced) whole_part))
 
 report_is : (config : Config) (rows : List RowValue) (ks : List KeptValue) → ks ≡ kept_of_text config rows → AllByRecursion IsPlain ks → disables_file (first_text rows) ≡ false
-    → report config rows ≡ arranged (levels_of config) (part (options_of config) (measured ks) true true empty_measure rows ks)
+    → report config rows ≡ arranged (levels_of config) (is_silenced (comments_in_sections 0 ks)) (part (options_of config) (measured ks) true true empty_measure rows ks)
 unfolding report
 report_is config rows ks e plain loud =
     ap (λ (ls : List KeptValue). report_of_kept config (findings_in_lines (options_of config) rows) (first_text rows) (end_of_lines rows) ls) (sym e)
@@ -67,55 +72,66 @@ report_is config rows ks e plain loud =
 
 -- ---- three parts, of which the second becomes another
 
-module _ (levels : LevelTable) (o : RuleOptions) (p : RowValue) (fs ps bs : List RowValue) (ks ls ms : List KeptValue) (whole : Measure)
+module _ (levels : LevelTable) (s : RuleId → ℕ → Bool) (o : RuleOptions) (p : RowValue) (fs ps bs : List RowValue) (ks ls ms : List KeptValue) (whole : Measure)
     (plain : AllByRecursion IsPlain ks) (plain' : AllByRecursion IsPlain ls) (plain'' : AllByRecursion IsPlain ms)
     (fit : row_sum ks ≡ length fs) (fit' : row_sum ls ≡ length (p ∷ ps)) (seam : is_seam fs (p ∷ ps) ≡ true) (seam' : is_seam (p ∷ ps) bs ≡ true) where
   abbrev front : List ProblemValue
-  front = arranged levels (part o whole true false empty_measure fs ks)
+  front = arranged levels s (part o whole true false empty_measure fs ks)
 
   abbrev middle : List ProblemValue
-  middle = arranged levels (part o whole (if_none fs true) (if_none bs true) (measured ks) (p ∷ ps) ls)
+  middle = arranged levels (below (length fs) s) (part o whole (if_none fs true) (if_none bs true) (measured ks) (p ∷ ps) ls)
 
   abbrev behind : Measure → List ProblemValue
-  behind before = arranged levels (part o whole false true before bs ms)
+  behind before = arranged levels (below (length (p ∷ ps)) (below (length fs) s)) (part o whole false true before bs ms)
 
-  three_parts : arranged levels (part o whole true true empty_measure (fs ++ ((p ∷ ps) ++ bs)) (ks ++ (ls ++ ms)))
+  three_parts : arranged levels s (part o whole true true empty_measure (fs ++ ((p ∷ ps) ++ bs)) (ks ++ (ls ++ ms)))
       ≡ front ++ map (lower (length fs)) (middle ++ map (lower (length (p ∷ ps))) (behind (and_later (measured ks) (measured ls))))
   three_parts =
-      parts_apart levels o whole true true empty_measure fs (p ∷ (ps ++ bs)) ks (ls ++ ms) plain (plain_both ls ms plain' plain'') fit (seam_more fs ps (ps ++ bs) p seam)
-      ∙ ap (λ (qs : List ProblemValue). front ++ map (lower (length fs)) qs) (parts_apart levels o whole (if_none fs true) true (measured ks) (p ∷ ps) bs ls ms plain' plain'' fit' seam')
+      parts_apart levels s o whole true true empty_measure fs (p ∷ (ps ++ bs)) ks (ls ++ ms) plain (all_both IsPlain ls ms plain' plain'') fit (seam_more fs ps (ps ++ bs) p seam)
+      ∙ ap (λ (qs : List ProblemValue). front ++ map (lower (length fs)) qs) (parts_apart levels (below (length fs) s) o whole (if_none fs true) true (measured ks) (p ∷ ps) bs ls ms plain' plain'' fit' seam')
+
+  front_between : AllByRecursion (λ f. (0 < f.line) × (f.line ≤ length fs)) (part o whole true false empty_measure fs ks)
+  front_between = part_between o whole true false empty_measure fs ks (length fs) plain (omega arith) (omega (arith, fit))
+
+  middle_between : AllByRecursion (λ f. (0 < f.line) × (f.line ≤ length (p ∷ ps))) (part o whole (if_none fs true) (if_none bs true) (measured ks) (p ∷ ps) ls)
+  middle_between = part_between o whole (if_none fs true) (if_none bs true) (measured ks) (p ∷ ps) ls (length (p ∷ ps)) plain' (omega arith) (omega (arith, fit'))
 
   in_front_lines : AllByRecursion (λ q. (0 < q.line) × (q.line ≤ length fs)) front
-  in_front_lines = arranged_lines (λ l. (0 < l) × (l ≤ length fs)) levels (part o whole true false empty_measure fs ks) (part_between o whole true false empty_measure fs ks (length fs) plain (omega arith) (omega (arith, fit)))
+  in_front_lines = arranged_lines (λ l. (0 < l) × (l ≤ length fs)) levels s (part o whole true false empty_measure fs ks) front_between
 
   in_middle_lines : AllByRecursion (λ q. (0 < q.line) × (q.line ≤ length (p ∷ ps))) middle
   in_middle_lines =
-      arranged_lines (λ l. (0 < l) × (l ≤ length (p ∷ ps))) levels (part o whole (if_none fs true) (if_none bs true) (measured ks) (p ∷ ps) ls)
-      (part_between o whole (if_none fs true) (if_none bs true) (measured ks) (p ∷ ps) ls (length (p ∷ ps)) plain' (omega arith) (omega (arith, fit')))
+      arranged_lines (λ l. (0 < l) × (l ≤ length (p ∷ ps))) levels (below (length fs) s) (part o whole (if_none fs true) (if_none bs true) (measured ks) (p ∷ ps) ls) middle_between
 
   in_back_lines : (before : Measure) → AllByRecursion (λ q. 0 < q.line) (behind before)
   in_back_lines before =
       let high = length bs + row_sum ms in
       let found = part o whole false true before bs ms in
-      arranged_lines (λ l. 0 < l) levels found (firsts 0 high found (part_between o whole false true before bs ms high plain'' (omega arith) (omega arith)))
+      arranged_lines (λ l. 0 < l) levels (below (length (p ∷ ps)) (below (length fs) s)) found
+      (lines_above 0 high found (part_between o whole false true before bs ms high plain'' (omega arith) (omega arith)))
+
+-- what comments of the first part and of the last one say, where the second has n lines or m
+module _ (cs ds : List PlacedCommentValue) (first n m : ℕ) (low : AllByRecursion (λ c. c.line < first) cs) (some : 0 < n) (some' : 0 < m) where
+  abbrev says_with : ℕ → RuleId → ℕ → Bool
+  says_with k = is_silenced (cs ++ map (moved_comment (first + k)) ds)
+
+  says_front : (rule : RuleId) (line : ℕ) → line < first → says_with m rule line ≡ says_with n rule line
+  says_front rule line l =
+      said_above cs (map (moved_comment (first + m)) ds) first rule line (moved_high first (first + m) ds (omega arith)) l
+      ∙ sym (said_above cs (map (moved_comment (first + n)) ds) first rule line (moved_high first (first + n) ds (omega arith)) l)
+
+  says_middle : (rule : RuleId) (line : ℕ) → line < m → is_silenced cs rule (first + line) ≡ says_with m rule (first + line)
+  says_middle rule line l = sym (said_above cs (map (moved_comment (first + m)) ds) (first + m) rule (first + line) (moved_high (first + m) (first + m) ds (omega arith)) (omega (arith, l)))
+
+  says_behind : below m (below first (says_with m)) ≡ below n (below first (says_with n))
+  says_behind = λ i rule line. one rule line i
     where
-      firsts : (low high : ℕ) (xs : List FindingValue) → AllByRecursion (λ f. (low < f.line) × (f.line ≤ high)) xs → AllByRecursion (λ f. low < f.line) xs
-      firsts low high [] h = tt
-      firsts low high (x ∷ xs) h = (h.0.0, firsts low high xs h.1)
-
-same_lower : (n : ℕ) (ps : List ProblemValue) → map (shifted 0 n) ps ≡ map (lower n) ps
-same_lower n [] = refl
-same_lower n (p ∷ ps) = ap (λ (q : ProblemValue). q ∷ map (shifted 0 n) ps) one ∙ ap (λ (qs : List ProblemValue). lower n p ∷ qs) (same_lower n ps)
-  where
-    line : p.line - 0 + n ≡ n + p.line
-    line = omega arith
-
-    one : shifted 0 n p ≡ lower n p
-    one = λ i. record { line = line i; column = p.column; level = p.level; rule = p.rule; message = p.message }
+      one : (rule : RuleId) (line : ℕ) → says_with m rule (first + (m + line)) ≡ says_with n rule (first + (n + line))
+      one rule line = said_alike cs ds first (first + m) (first + n) (first + (m + line)) (first + (n + line)) rule line low (omega (arith, some')) (omega (arith, some)) (omega arith) (omega arith)
 
 -- a text of three parts, the second of which becomes another
 module _ (config : Config) (ks ls news ms : List KeptValue) (plain : AllByRecursion IsPlain ks) (plain' : AllByRecursion IsPlain ls) (plainₙ : AllByRecursion IsPlain news) (plain'' : AllByRecursion IsPlain ms)
-    (same : measured ls ≡ measured news) where
+    (silent : AllByRecursion IsSilent ls) (silentₙ : AllByRecursion IsSilent news) (same : measured ls ≡ measured news) where
   abbrev opts : RuleOptions
   opts = options_of config
 
@@ -125,43 +141,84 @@ module _ (config : Config) (ks ls news ms : List KeptValue) (plain : AllByRecurs
   abbrev levels : LevelTable
   levels = levels_of config
 
+  abbrev cs : List PlacedCommentValue
+  cs = comments_in_sections 0 ks
+
+  abbrev ds : List PlacedCommentValue
+  ds = comments_in_sections 0 ms
+
   same_whole : measured (ks ++ (news ++ ms)) ≡ wholly
   same_whole =
       measured_both ks (news ++ ms)
       ∙ (ap (λ (m : Measure). and_later (measured ks) m) (measured_both news ms ∙ (ap (λ (m : Measure). and_later m (measured ms)) (sym same) ∙ sym (measured_both ls ms))) ∙ sym (measured_both ks (ls ++ ms)))
+
+  -- what is silenced, where the second part has so many lines
+  abbrev says_of : ℕ → ℕ → RuleId → ℕ → Bool
+  says_of first n = is_silenced (cs ++ map (moved_comment (first + n)) ds)
+
+  old_says : (first n : ℕ) → row_sum ks ≡ first → row_sum ls ≡ n → is_silenced (comments_in_sections 0 (ks ++ (ls ++ ms))) ≡ says_of first n
+  old_says first n e f = ap is_silenced (comments_three ks ls ms (first + n) silent (omega (arith, e, f)))
+
+  new_says : (first n : ℕ) → row_sum ks ≡ first → row_sum news ≡ n → is_silenced (comments_in_sections 0 (ks ++ (news ++ ms))) ≡ says_of first n
+  new_says first n e f = ap is_silenced (comments_three ks news ms (first + n) silentₙ (omega (arith, e, f)))
 
   renewed_parts : (fs ps qs bs : List RowValue) → row_sum ks ≡ length fs → row_sum ls ≡ length ps → row_sum news ≡ length qs
       → 0 < length ps → 0 < length qs → is_seam fs ps ≡ true → is_seam fs qs ≡ true → is_seam ps bs ≡ true
       → ks ++ (ls ++ ms) ≡ kept_of_text config (fs ++ (ps ++ bs)) → ks ++ (news ++ ms) ≡ kept_of_text config (fs ++ (qs ++ bs))
       → disables_file (first_text (fs ++ (ps ++ bs))) ≡ false → disables_file (first_text (fs ++ (qs ++ bs))) ≡ false
       → (i j up down : ℕ) (put old : List ProblemValue) → old ≡ report config (fs ++ (ps ++ bs)) → i ≡ prefix_len (is_upto (length fs)) old → j ≡ prefix_len (is_upto up) old → up ≡ length fs + length ps → down ≡ length fs + length qs
-      → (e : Ends) → e.begins ≡ if_none fs true → e.ends ≡ if_none bs true → put ≡ map (shifted 0 (length fs)) (arranged levels (found_there opts e wholly (measured ks) qs news))
+      → (e : Ends) → e.begins ≡ if_none fs true → e.ends ≡ if_none bs true → put ≡ arranged levels (is_silenced cs) (map (moved (length fs)) (found_there opts e wholly (measured ks) qs news))
       → patched i j put up down old ≡ report config (fs ++ (qs ++ bs))
   renewed_parts fs [] qs bs f g h some _ _ _ _ _ _ _ _ _ _ _ _ _ _ _ _ _ _ _ _ _ _ _ = absurd (omega (arith, some))
   renewed_parts fs (p ∷ ps) [] bs f g h _ some _ _ _ _ _ _ _ _ _ _ _ _ _ _ _ _ _ _ _ _ _ _ = absurd (omega (arith, some))
   renewed_parts fs (p ∷ ps) (q ∷ qs) bs f g h _ _ seam seam' behind_seam is is' loud loud' i j up down put old old_is i_is j_is up_is down_is e begins ends put_is =
-      let all = plain_both ks (ls ++ ms) plain (plain_both ls ms plain' plain'') in
-      let all' = plain_both ks (news ++ ms) plain (plain_both news ms plainₙ plain'') in
+      let first = length fs in
+      let n = length (p ∷ ps) in
+      let m = length (q ∷ qs) in
+      let s = says_of first n in
+      let s' = says_of first m in
+      let low = comments_within 0 first ks plain (omega (arith, f)) in
+      let some : 0 < n = omega arith in
+      let some' : 0 < m = omega arith in
+      let all = all_both IsPlain ks (ls ++ ms) plain (all_both IsPlain ls ms plain' plain'') in
+      let all' = all_both IsPlain ks (news ++ ms) plain (all_both IsPlain news ms plainₙ plain'') in
       let behind_seam' = seam_behind ps qs bs p q behind_seam in
-      let a = front levels opts p fs ps bs ks ls ms wholly plain plain' plain'' f g seam behind_seam in
-      let b = middle levels opts p fs ps bs ks ls ms wholly plain plain' plain'' f g seam behind_seam in
-      let c = behind levels opts p fs ps bs ks ls ms wholly plain plain' plain'' f g seam behind_seam (and_later (measured ks) (measured ls)) in
-      let b' = middle levels opts q fs qs bs ks news ms wholly plain plainₙ plain'' f h seam' behind_seam' in
-      let old_parts = report_is config (fs ++ ((p ∷ ps) ++ bs)) (ks ++ (ls ++ ms)) is all loud ∙ three_parts levels opts p fs ps bs ks ls ms wholly plain plain' plain'' f g seam behind_seam in
+      let before = and_later (measured ks) (measured ls) in
+      let a = front levels s opts p fs ps bs ks ls ms wholly plain plain' plain'' f g seam behind_seam in
+      let b = middle levels s opts p fs ps bs ks ls ms wholly plain plain' plain'' f g seam behind_seam in
+      let c = behind levels s opts p fs ps bs ks ls ms wholly plain plain' plain'' f g seam behind_seam before in
+      let b' = middle levels s' opts q fs qs bs ks news ms wholly plain plainₙ plain'' f h seam' behind_seam' in
+      let old_rows = fs ++ ((p ∷ ps) ++ bs) in
       let new_rows = fs ++ ((q ∷ qs) ++ bs) in
+      let old_parts =
+      report_is config old_rows (ks ++ (ls ++ ms)) is all loud
+      ∙ (ap (λ (z : RuleId → ℕ → Bool). arranged levels z (part opts wholly true true empty_measure old_rows (ks ++ (ls ++ ms)))) (old_says first n f g)
+      ∙ three_parts levels s opts p fs ps bs ks ls ms wholly plain plain' plain'' f g seam behind_seam) in
+      let front_is : front levels s' opts q fs qs bs ks news ms wholly plain plainₙ plain'' f h seam' behind_seam' ≡ a =
+      arranged_alike levels s' s first (part opts wholly true false empty_measure fs ks) (front_between levels s opts p fs ps bs ks ls ms wholly plain plain' plain'' f g seam behind_seam) (says_front cs ds first n m low some some') in
+      let back_is : behind levels s' opts q fs qs bs ks news ms wholly plain plainₙ plain'' f h seam' behind_seam' (and_later (measured ks) (measured news)) ≡ c =
+      ap (λ (d : Measure). behind levels s' opts q fs qs bs ks news ms wholly plain plainₙ plain'' f h seam' behind_seam' (and_later (measured ks) d)) (sym same)
+      ∙ ap (λ (z : RuleId → ℕ → Bool). arranged levels z (part opts wholly false true before bs ms)) (says_behind cs ds first n m low some some') in
       let new_parts =
       report_is config new_rows (ks ++ (news ++ ms)) is' all' loud'
-      ∙ (ap (λ (m : Measure). arranged levels (part opts m true true empty_measure new_rows (ks ++ (news ++ ms)))) same_whole
-      ∙ (three_parts levels opts q fs qs bs ks news ms wholly plain plainₙ plain'' f h seam' behind_seam'
-      ∙ ap (λ (m : Measure). a ++ map (lower (length fs)) (b' ++ map (lower (length (q ∷ qs))) (behind levels opts q fs qs bs ks news ms wholly plain plainₙ plain'' f h seam' behind_seam' (and_later (measured ks) m)))) (sym same))) in
-      let there =
+      ∙ (ap (λ (d : Measure). arranged levels (is_silenced (comments_in_sections 0 (ks ++ (news ++ ms)))) (part opts d true true empty_measure new_rows (ks ++ (news ++ ms)))) same_whole
+      ∙ (ap (λ (z : RuleId → ℕ → Bool). arranged levels z (part opts wholly true true empty_measure new_rows (ks ++ (news ++ ms)))) (new_says first m f h)
+      ∙ (three_parts levels s' opts q fs qs bs ks news ms wholly plain plainₙ plain'' f h seam' behind_seam'
+      ∙ (ap (λ (z : List ProblemValue). z ++ map (lower first) (b' ++ map (lower m) (behind levels s' opts q fs qs bs ks news ms wholly plain plainₙ plain'' f h seam' behind_seam' (and_later (measured ks) (measured news))))) front_is
+      ∙ ap (λ (z : List ProblemValue). a ++ map (lower first) (b' ++ map (lower m) z)) back_is)))) in
+      let found = part opts wholly (if_none fs true) (if_none bs true) (measured ks) (q ∷ qs) news in
+      let found_between = middle_between levels s' opts q fs qs bs ks news ms wholly plain plainₙ plain'' f h seam' behind_seam' in
+      let there : found_there opts e wholly (measured ks) (q ∷ qs) news ≡ found =
       found_is_part opts e wholly (measured ks) (q ∷ qs) news
       ∙ (ap (λ begins. part opts wholly begins e.ends (measured ks) (q ∷ qs) news) begins ∙ ap (λ ends. part opts wholly (if_none fs true) ends (measured ks) (q ∷ qs) news) ends) in
-      patched_so a b c b' old (report config new_rows) put (length fs) (length (p ∷ ps)) (length (q ∷ qs)) i j up down (old_is ∙ old_parts) new_parts
-      (put_is ∙ (same_lower (length fs) _ ∙ ap (λ (found : List FindingValue). map (lower (length fs)) (arranged levels found)) there))
-      (in_front_lines levels opts p fs ps bs ks ls ms wholly plain plain' plain'' f g seam behind_seam)
-      (in_middle_lines levels opts p fs ps bs ks ls ms wholly plain plain' plain'' f g seam behind_seam)
-      (in_back_lines levels opts p fs ps bs ks ls ms wholly plain plain' plain'' f g seam behind_seam (and_later (measured ks) (measured ls)))
+      patched_so a b c b' old (report config new_rows) put first n m i j up down (old_is ∙ old_parts) new_parts
+      (put_is
+      ∙ (ap (λ (fs : List FindingValue). arranged levels (is_silenced cs) (map (moved first) fs)) there
+      ∙ (arranged_moved levels (is_silenced cs) first found (lines_above 0 m found found_between)
+      ∙ ap (map (lower first)) (arranged_alike levels (below first (is_silenced cs)) (below first s') m found found_between (says_middle cs ds first n m low some some')))))
+      (in_front_lines levels s opts p fs ps bs ks ls ms wholly plain plain' plain'' f g seam behind_seam)
+      (in_middle_lines levels s opts p fs ps bs ks ls ms wholly plain plain' plain'' f g seam behind_seam)
+      (in_back_lines levels s opts p fs ps bs ks ls ms wholly plain plain' plain'' f g seam behind_seam before)
       i_is j_is up_is down_is
 
 -- ---- an edit
@@ -183,10 +240,10 @@ filled_there rows i n l h = ap is_filled (head_taken (drop i rows) n l ∙ head_
 three : {X : Type 0} (xs : List X) (i j : ℕ) → i ≤ j → j ≤ length xs → xs ≡ take i xs ++ (take (j - i) (drop i xs) ++ drop j xs)
 three xs i j l h = same_lists _ _ (search (rules, places)) (λ n d m. grind (arith, places))
 
-spliced_front : {X : Type 0} (xs ns : List X) (a b i : ℕ) → a ≤ b → b ≤ length xs → i ≤ a → take i (splice xs a b ns) ≡ take i xs
+pub spliced_front : {X : Type 0} (xs ns : List X) (a b i : ℕ) → a ≤ b → b ≤ length xs → i ≤ a → take i (splice xs a b ns) ≡ take i xs
 spliced_front xs ns a b i l h e = same_lists _ _ (search (rules, places)) (λ n d m. grind (arith, places))
 
-spliced_back : {X : Type 0} (xs ns : List X) (a b i j : ℕ) → a ≤ b → b ≤ i → i ≤ length xs → j + b ≡ i + a + length ns → drop j (splice xs a b ns) ≡ drop i xs
+pub spliced_back : {X : Type 0} (xs ns : List X) (a b i j : ℕ) → a ≤ b → b ≤ i → b ≤ length xs → j + b ≡ i + a + length ns → drop j (splice xs a b ns) ≡ drop i xs
 spliced_back xs ns a b i j l h m e = same_lists _ _ (search (rules, places)) (λ n d o. grind (arith, places))
 
 pub spliced_length : {X : Type 0} (xs ns : List X) (a b : ℕ) → a ≤ b → b ≤ length xs → length (splice xs a b ns) + b ≡ length xs + a + length ns
@@ -198,7 +255,7 @@ spliced_three xs ns a b i j k l h m f g e =
     let n : length (splice xs a b ns) + b ≡ length xs + a + length ns = spliced_length xs ns a b l (omega (arith, h, m)) in
     three (splice xs a b ns) i k g (omega (arith, n, e, m))
     ∙ (ap (λ ys. ys ++ (take (k - i) (drop i (splice xs a b ns)) ++ drop k (splice xs a b ns))) (spliced_front xs ns a b i l (omega (arith, h, m)) f)
-    ∙ ap (λ ys. take i xs ++ (take (k - i) (drop i (splice xs a b ns)) ++ ys)) (spliced_back xs ns a b j k l h m e))
+    ∙ ap (λ ys. take i xs ++ (take (k - i) (drop i (splice xs a b ns)) ++ ys)) (spliced_back xs ns a b j k l h (omega (arith, h, m)) e))
 
 module _ (config : Config) (rows ins : List RowValue) (kept new : List KeptValue) (a b from end : ℕ) (t : Touched)
     (ordered : a ≤ b) (within : from ≤ end) (within' : end ≤ length kept) (inside : IsInside t a b (length ins) (length rows)) where
@@ -259,24 +316,25 @@ module _ (config : Config) (rows ins : List RowValue) (kept new : List KeptValue
       → disables_file (first_text rows) ≡ false → disables_file (first_text rows') ≡ false
       → t.first ≡ row_sum ks → t.old_end ≡ t.first + row_sum ls → t.new_end ≡ t.first + row_sum new → (e : Ends) → e.begins ≡ (t.first == 0) → e.ends ≡ (t.old_end == length rows)
       → (e.begins ≡ false → is_filled (slice_get rows t.first) ≡ true) → (e.begins ≡ false → is_filled (slice_get rows' t.first) ≡ true) → (e.ends ≡ false → is_filled (slice_get rows t.old_end) ≡ true)
-      → measured ls ≡ measured new
+      → AllByRecursion IsSilent ls → AllByRecursion IsSilent new → measured ls ≡ measured new
       → (i j : ℕ) (put old : List ProblemValue) → old ≡ report config rows → i ≡ prefix_len (is_upto t.first) old → j ≡ prefix_len (is_upto t.old_end) old
-      → put ≡ map (shifted 0 t.first) (arranged (levels_of config) (found_there (options_of config) e (measured kept) (measured ks) qs new))
+      → put ≡ arranged (levels_of config) (is_silenced (comments_in_sections 0 ks)) (map (moved t.first) (found_there (options_of config) e (measured kept) (measured ks) qs new))
       → patched i j put t.old_end t.new_end old ≡ report config rows'
-  report_renewed is is' plain plainₙ loud loud' first old_end new_end e begins ends filled filled' filled'' same i j put old old_is i_is j_is put_is =
+  report_renewed is is' plain plainₙ loud loud' first old_end new_end e begins ends filled filled' filled'' silent silentₙ same i j put old old_is i_is j_is put_is =
       let split = subst (λ xs. AllByRecursion IsPlain xs) kept_three plain in
-      let rest = plain_back ks (ls ++ ms) split in
+      let rest = all_back IsPlain ks (ls ++ ms) split in
       let begins_is = begins ∙ fs_none in
       let ends_is = ends ∙ bs_none in
       let seam = front_seam fs ps (λ h. filled_there rows t.first (t.old_end - t.first) (omega (arith, inside.old_some)) (filled (begins_is ∙ h))) in
       let seam' = front_seam fs qs (λ h. filled_there rows' t.first (t.new_end - t.first) (omega (arith, inside.new_some)) (filled' (begins_is ∙ h))) in
       let seam'' = back_seam ps bs (λ h. ap is_filled (head_dropped rows t.old_end) ∙ filled'' (ends_is ∙ h)) in
-      renewed_parts config ks ls new ms (plain_front ks (ls ++ ms) split) (plain_front ls ms rest) plainₙ (plain_back ls ms rest) same fs ps qs bs
+      renewed_parts config ks ls new ms (all_front IsPlain ks (ls ++ ms) split) (all_front IsPlain ls ms rest) plainₙ (all_back IsPlain ls ms rest) silent silentₙ same fs ps qs bs
       (omega (arith, first, fs_length)) (omega (arith, old_end, ps_length)) (omega (arith, new_end, qs_length)) (omega (arith, ps_length, inside.old_some)) (omega (arith, qs_length, inside.new_some)) seam seam' seam''
       (sym kept_three ∙ (is ∙ ap (kept_of_text config) rows_three)) (is' ∙ ap (kept_of_text config) rows_three')
       (ap (λ xs. disables_file (first_text xs)) (sym rows_three) ∙ loud) (ap (λ xs. disables_file (first_text xs)) (sym rows_three') ∙ loud')
       i j t.old_end t.new_end put old (old_is ∙ ap (report config) rows_three) (i_is ∙ ap (λ n. prefix_len (is_upto n) old) (sym fs_length)) j_is (omega (arith, fs_length, ps_length, inside.old_some)) (omega (arith, fs_length, qs_length, inside.new_some))
       e begins_is ends_is
-      (put_is ∙ (ap (λ n. map (shifted 0 n) (arranged (levels_of config) (found_there (options_of config) e (measured kept) (measured ks) qs new))) (sym fs_length)
-      ∙ ap (λ xs. map (shifted 0 (length fs)) (arranged (levels_of config) (found_there (options_of config) e (measured xs) (measured ks) qs new))) kept_three))
+      (put_is
+      ∙ (ap (λ n. arranged (levels_of config) (is_silenced (comments_in_sections 0 ks)) (map (moved n) (found_there (options_of config) e (measured kept) (measured ks) qs new))) (sym fs_length)
+      ∙ ap (λ (xs : List KeptValue). arranged (levels_of config) (is_silenced (comments_in_sections 0 ks)) (map (moved (length fs)) (found_there (options_of config) e (measured xs) (measured ks) qs new))) kept_three))
       ∙ ap (report config) (sym rows_three')

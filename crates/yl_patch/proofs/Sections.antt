@@ -17,10 +17,10 @@ use Rattle.yl_indentation.specs.Problems.{finding_at, finding_by, finding_by_wid
 use Rattle.yl_indentation.proofs.Measured.{and_later_assoc, measure_is_local}
 use Rattle.yl_sections.specs.Kept.{KeptValue, SectionFaultValue}
 use Rattle.yl_lint.specs.TextReport.{moved, shown, unless_fault, fault_or_later, fault_in_sections, comments_in_sections, moved_comment, findings_in_section, findings_in_sections, facts_in_sections}
-use Rattle.yl_patch.specs.Plain.{IsPlain, row_sum}
+use Rattle.yl_patch.specs.Plain.{IsPlain, IsSilent, row_sum}
 use Rattle.yl_patch.proofs.Lines.{Between, between_both}
 
--- ---- sections that have no fault and silence nothing
+-- ---- sections that have no fault, and those that silence nothing
 
 pub shown_plain : (ks : List KeptValue) → AllByRecursion IsPlain ks → shown ks ≡ ks
 shown_plain [] h = refl
@@ -30,22 +30,68 @@ pub no_fault : (line : ℕ) (end : Pos) (ks : List KeptValue) → AllByRecursion
 no_fault line end [] h = refl
 no_fault line end (k ∷ ks) h = ap (λ (f : Option SectionFaultValue). fault_or_later line k.rows end ks f (fault_in_sections (line + k.rows) end ks)) h.0.sound ∙ no_fault (line + k.rows) end ks h.1
 
-pub no_comments : (line : ℕ) (ks : List KeptValue) → AllByRecursion IsPlain ks → comments_in_sections line ks ≡ []
+pub no_comments : (line : ℕ) (ks : List KeptValue) → AllByRecursion IsSilent ks → comments_in_sections line ks ≡ []
 no_comments line [] h = refl
 no_comments line (k ∷ ks) h =
-    ap (λ (cs : List PlacedCommentValue). map (moved_comment line) cs ++ comments_in_sections (line + k.rows) ks) h.0.silent ∙ no_comments (line + k.rows) ks h.1
+    ap (λ (cs : List PlacedCommentValue). map (moved_comment line) cs ++ comments_in_sections (line + k.rows) ks) h.0 ∙ no_comments (line + k.rows) ks h.1
 
-pub plain_both : (ks ls : List KeptValue) → AllByRecursion IsPlain ks → AllByRecursion IsPlain ls → AllByRecursion IsPlain (ks ++ ls)
-plain_both [] ls h g = g
-plain_both (k ∷ ks) ls h g = (h.0, plain_both ks ls h.1 g)
+pub all_both : {X : Type 0} (P : X → Type 0) (xs ys : List X) → AllByRecursion P xs → AllByRecursion P ys → AllByRecursion P (xs ++ ys)
+all_both P [] ys h g = g
+all_both P (x ∷ xs) ys h g = (h.0, all_both P xs ys h.1 g)
 
-pub plain_front : (ks ls : List KeptValue) → AllByRecursion IsPlain (ks ++ ls) → AllByRecursion IsPlain ks
-plain_front [] ls h = tt
-plain_front (k ∷ ks) ls h = (h.0, plain_front ks ls h.1)
+pub all_front : {X : Type 0} (P : X → Type 0) (xs ys : List X) → AllByRecursion P (xs ++ ys) → AllByRecursion P xs
+all_front P [] ys h = tt
+all_front P (x ∷ xs) ys h = (h.0, all_front P xs ys h.1)
 
-pub plain_back : (ks ls : List KeptValue) → AllByRecursion IsPlain (ks ++ ls) → AllByRecursion IsPlain ls
-plain_back [] ls h = h
-plain_back (k ∷ ks) ls h = plain_back ks ls h.1
+pub all_back : {X : Type 0} (P : X → Type 0) (xs ys : List X) → AllByRecursion P (xs ++ ys) → AllByRecursion P ys
+all_back P [] ys h = h
+all_back P (x ∷ xs) ys h = all_back P xs ys h.1
+
+-- ---- comments of sections one after another
+
+pub comments_both : (line there : ℕ) (ks ls : List KeptValue) → there ≡ line + row_sum ks → comments_in_sections line (ks ++ ls) ≡ comments_in_sections line ks ++ comments_in_sections there ls
+comments_both line there [] ls e = ap (λ n. comments_in_sections n ls) (omega (arith, e))
+comments_both line there (k ∷ ks) ls e =
+    ap (λ (cs : List PlacedCommentValue). map (moved_comment line) k.comments ++ cs) (comments_both (line + k.rows) there ks ls (omega (arith, e)))
+    ∙ sym (append_assoc (map (moved_comment line) k.comments) (comments_in_sections (line + k.rows) ks) (comments_in_sections there ls))
+
+same_comment : (n line there : ℕ) (c : PlacedCommentValue) → there ≡ n + line → moved_comment there c ≡ moved_comment n (moved_comment line c)
+same_comment n line there c e =
+    let l : there + c.line ≡ n + (line + c.line) = omega (arith, e) in
+    λ i. record { line = l i; column = c.column; text = c.text; behind = c.behind }
+
+all_comments_moved : (n line there : ℕ) (cs : List PlacedCommentValue) → there ≡ n + line → map (moved_comment there) cs ≡ map (moved_comment n) (map (moved_comment line) cs)
+all_comments_moved n line there [] e = refl
+all_comments_moved n line there (c ∷ cs) e =
+    ap (λ (d : PlacedCommentValue). d ∷ map (moved_comment there) cs) (same_comment n line there c e)
+    ∙ ap (λ (ds : List PlacedCommentValue). moved_comment n (moved_comment line c) ∷ ds) (all_comments_moved n line there cs e)
+
+comments_moved : (n line there : ℕ) (ks : List KeptValue) → there ≡ n + line → comments_in_sections there ks ≡ map (moved_comment n) (comments_in_sections line ks)
+comments_moved n line there [] e = refl
+comments_moved n line there (k ∷ ks) e =
+    ap (λ (cs : List PlacedCommentValue). map (moved_comment there) k.comments ++ cs) (comments_moved n (line + k.rows) (there + k.rows) ks (omega (arith, e)))
+    ∙ (ap (λ (cs : List PlacedCommentValue). cs ++ map (moved_comment n) (comments_in_sections (line + k.rows) ks)) (all_comments_moved n line there k.comments e)
+    ∙ sym (map-append (moved_comment n) (map (moved_comment line) k.comments) (comments_in_sections (line + k.rows) ks)))
+
+-- of three parts, the second silent
+pub comments_three : (ks ls ms : List KeptValue) (there : ℕ) → AllByRecursion IsSilent ls → there ≡ row_sum ks + row_sum ls
+    → comments_in_sections 0 (ks ++ (ls ++ ms)) ≡ comments_in_sections 0 ks ++ map (moved_comment there) (comments_in_sections 0 ms)
+comments_three ks ls ms there h e =
+    comments_both 0 (row_sum ks) ks (ls ++ ms) (omega arith)
+    ∙ ap (λ (cs : List PlacedCommentValue). comments_in_sections 0 ks ++ cs)
+    (comments_both (row_sum ks) there ls ms e
+    ∙ (ap (λ (cs : List PlacedCommentValue). cs ++ comments_in_sections there ms) (no_comments (row_sum ks) ls h) ∙ comments_moved there 0 there ms (omega arith)))
+
+lower_comments : (line rows high : ℕ) (cs : List PlacedCommentValue) → line + rows ≤ high → AllByRecursion (λ c. c.line < rows) cs → AllByRecursion (λ c. c.line < high) (map (moved_comment line) cs)
+lower_comments line rows high [] l h = tt
+lower_comments line rows high (c ∷ cs) l h = (omega (arith, l, h.0), lower_comments line rows high cs l h.1)
+
+-- they stand in the lines of their sections
+pub comments_within : (line high : ℕ) (ks : List KeptValue) → AllByRecursion IsPlain ks → line + row_sum ks ≤ high → AllByRecursion (λ c. c.line < high) (comments_in_sections line ks)
+comments_within line high [] h l = tt
+comments_within line high (k ∷ ks) h l =
+    all_both (λ c. c.line < high) (map (moved_comment line) k.comments) (comments_in_sections (line + k.rows) ks) (lower_comments line k.rows high k.comments (omega (arith, l)) h.0.comments)
+    (comments_within (line + k.rows) high ks h.1 (omega (arith, l)))
 
 -- ---- measures
 
@@ -71,7 +117,7 @@ all_moved n line there [] e = refl
 all_moved n line there (f ∷ fs) e =
     ap (λ (g : FindingValue). g ∷ map (moved there) fs) (same_place n line there f e) ∙ ap (λ (gs : List FindingValue). moved n (moved line f) ∷ gs) (all_moved n line there fs e)
 
-sections_moved : (o : IndentationOptions) (whole before : Measure) (n line there : ℕ) (ks : List KeptValue) → there ≡ n + line
+pub sections_moved : (o : IndentationOptions) (whole before : Measure) (n line there : ℕ) (ks : List KeptValue) → there ≡ n + line
     → findings_in_sections o whole there before ks ≡ map (moved n) (findings_in_sections o whole line before ks)
 sections_moved o whole before n line there [] e = refl
 sections_moved o whole before n line there (k ∷ ks) e =

@@ -11,7 +11,7 @@ use Rattle.yl_indentation.proofs.Measured.{and_later_assoc, measure_is_local}
 use Rattle.yl_sections.specs.Kept.{KeptValue}
 use Rattle.yl_lint.specs.TextReport.{facts_in_sections}
 use Rattle.yl_patch.specs.Plain.{IsPlain, row_sum}
-use Rattle.yl_patch.proofs.Sections.{and_later_so, measured, measured_both, plain_back, plain_both, plain_front}
+use Rattle.yl_patch.proofs.Sections.{all_back, all_both, all_front, and_later_so, measured, measured_both}
 
 pub got : (ks : List KeptValue) (i : ℕ) (k : KeptValue) → slice_get ks i ≡ Some k → k ≡ get_or ks i k
 got ks i k h = sym (get_or_from_slice_get ks i k k h)
@@ -19,7 +19,7 @@ got ks i k h = sym (get_or_from_slice_get ks i k k h)
 pub got_behind : (ks : List KeptValue) (from i : ℕ) (k : KeptValue) → slice_get ks (from + i) ≡ Some k → k ≡ get_or (drop from ks) i k
 got_behind ks from i k h = got ks (from + i) k h ∙ sym (get_or-drop from ks i k)
 
-one_at : (ks : List KeptValue) (i : ℕ) (k : KeptValue) → i < length ks → k ≡ get_or ks i k → drop i ks ≡ k ∷ drop (i + 1) ks
+pub one_at : (ks : List KeptValue) (i : ℕ) (k : KeptValue) → i < length ks → k ≡ get_or ks i k → drop i ks ≡ k ∷ drop (i + 1) ks
 one_at ks i k l e = rw (add-one i) (drop-cons ks i k l ∙ ap (λ (x : KeptValue). x ∷ drop (suc i) ks) (sym e))
 
 -- one more section is measured
@@ -61,17 +61,21 @@ pub measure_three : (ks ns : List KeptValue) (from end : ℕ) → and_later (mea
 measure_three ks ns from end =
     sym (measured_both (take from ks) (ns ++ drop end ks) ∙ ap (and_later (measured (take from ks))) (measured_both ns (drop end ks)))
 
-pub plain_three : (ks ns : List KeptValue) (from end : ℕ) → AllByRecursion IsPlain (take from ks) → AllByRecursion IsPlain ns → AllByRecursion IsPlain (drop end ks) → AllByRecursion IsPlain (splice ks from end ns)
-plain_three ks ns from end a b c = plain_both (take from ks) (ns ++ drop end ks) a (plain_both ns (drop end ks) b c)
+pub all_three : {X : Type 0} (P : X → Type 0) (xs ys : List X) (from end : ℕ) → AllByRecursion P (take from xs) → AllByRecursion P ys → AllByRecursion P (drop end xs) → AllByRecursion P (splice xs from end ys)
+all_three P xs ys from end a b c = all_both P (take from xs) (ys ++ drop end xs) a (all_both P ys (drop end xs) b c)
 
--- one more plain section
+-- one section more
+pub one_more : (ks : List KeptValue) (i : ℕ) (k : KeptValue) → i < length ks → k ≡ get_or ks i k → take (i + 1) ks ≡ take i ks ++ k ∷ []
+one_more ks i k l e = take_more ks i k l ∙ ap (λ (x : KeptValue). take i ks ++ x ∷ []) (sym e)
+
+pub all_more : (P : KeptValue → Type 0) (ks : List KeptValue) (i : ℕ) (k : KeptValue) → i < length ks → k ≡ get_or ks i k → P k → AllByRecursion P (take i ks) → AllByRecursion P (take (i + 1) ks)
+all_more P ks i k l e one before = subst (λ (xs : List KeptValue). AllByRecursion P xs) (sym (one_more ks i k l e)) (all_both P (take i ks) (k ∷ []) before (one, tt))
+
 pub plain_more : (ks : List KeptValue) (i : ℕ) (k : KeptValue) → slice_get ks i ≡ Some k → IsPlain k → AllByRecursion IsPlain (take i ks) → AllByRecursion IsPlain (take (i + 1) ks)
-plain_more ks i k at one before =
-    let more : take (i + 1) ks ≡ take i ks ++ k ∷ [] = take_more ks i k (slice_get_within ks i k at) ∙ ap (λ (x : KeptValue). take i ks ++ x ∷ []) (sym (got ks i k at)) in
-    subst (λ (xs : List KeptValue). AllByRecursion IsPlain xs) (sym more) (plain_both (take i ks) (k ∷ []) before (one, tt))
+plain_more ks i k at one before = all_more IsPlain ks i k (slice_get_within ks i k at) (got ks i k at) one before
 
 -- how many lines stand before a section, behind one before it
-rows_both : (ks ls : List KeptValue) → row_sum (ks ++ ls) ≡ row_sum ks + row_sum ls
+pub rows_both : (ks ls : List KeptValue) → row_sum (ks ++ ls) ≡ row_sum ks + row_sum ls
 rows_both [] ls = omega arith
 rows_both (k ∷ ks) ls = let e = rows_both ks ls in omega (arith, e)
 
@@ -80,12 +84,15 @@ rows_until ks from end l h =
     let parts : take end ks ≡ take from ks ++ take (end - from) (drop from ks) = same_lists _ _ (search (rules, places)) (λ n d o. grind (arith, places)) in
     ap row_sum parts ∙ rows_both (take from ks) (take (end - from) (drop from ks))
 
--- parts of plain sections
-pub plain_take : (ks : List KeptValue) (n : ℕ) → AllByRecursion IsPlain ks → AllByRecursion IsPlain (take n ks)
-plain_take ks n h = plain_front (take n ks) (drop n ks) (subst (λ xs. AllByRecursion IsPlain xs) (sym (take-append-drop n ks)) h)
+pub rows_more : (ks : List KeptValue) (i : ℕ) (k : KeptValue) (rows new : ℕ) → i < length ks → k ≡ get_or ks i k → rows ≡ row_sum (take i ks) → new ≡ rows + k.rows → new ≡ row_sum (take (i + 1) ks)
+rows_more ks i k rows new l e before is = omega (arith, before, is, ap row_sum (one_more ks i k l e), rows_both (take i ks) (k ∷ []))
 
-pub plain_drop : (ks : List KeptValue) (n : ℕ) → AllByRecursion IsPlain ks → AllByRecursion IsPlain (drop n ks)
-plain_drop ks n h = plain_back (take n ks) (drop n ks) (subst (λ xs. AllByRecursion IsPlain xs) (sym (take-append-drop n ks)) h)
+-- parts of sections of one kind
+pub all_take : {X : Type 0} (P : X → Type 0) (xs : List X) (n : ℕ) → AllByRecursion P xs → AllByRecursion P (take n xs)
+all_take P xs n h = all_front P (take n xs) (drop n xs) (subst (λ ys. AllByRecursion P ys) (sym (take-append-drop n xs)) h)
+
+pub all_drop : {X : Type 0} (P : X → Type 0) (xs : List X) (n : ℕ) → AllByRecursion P xs → AllByRecursion P (drop n xs)
+all_drop P xs n h = all_back P (take n xs) (drop n xs) (subst (λ ys. AllByRecursion P ys) (sym (take-append-drop n xs)) h)
 
 -- sections with the same measure in place of some
 pub measure_put : (ks ns : List KeptValue) (from end : ℕ) → from ≤ end → end ≤ length ks → measured (take (end - from) (drop from ks)) ≡ measured ns → measured ks ≡ measured (splice ks from end ns)

@@ -1,7 +1,7 @@
 //! What an edit does to a report, where the problems of some lines become others and those below them stand further up or down.
 //!
-//! The problems of a text whose sections have no fault and silence nothing are those of its sections, one after another. So an edit within
-//! some sections changes the problems of their lines alone, and moves those below them.
+//! The problems of a text whose sections have no fault are those of its sections, one after another. So an edit within some sections that
+//! silence nothing changes the problems of their lines alone, and moves those below them.
 #![tactic(auto)]
 
 mod loud;
@@ -10,6 +10,7 @@ mod patching;
 mod places;
 mod plain;
 mod shifting;
+mod silencing;
 mod there;
 mod touched;
 mod window;
@@ -17,3 +18,4 @@ mod window;
 pub use overview::{Overview, overview_after, overview_of, overview_renewed};
 pub use patching::patched_report;
 pub use shifting::{ReportPatch, put_patch};
+pub use silencing::Silencing;

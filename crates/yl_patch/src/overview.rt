@@ -7,16 +7,19 @@ ghost use Rattle.yl_lint.specs.TextReport.{facts_in_sections};
 ghost use Rattle.yl_patch.specs.Plain.{IsOverviewOf, IsPlain};
 
 use crate::plain::{are_all_plain, are_plain};
+use crate::silencing::{Silencing, silencing_after, silencing_of, silencing_of_all};
 use std::alloc::Allocator;
 use yl_chunks::{Chunks, Spliced};
 use yl_indentation::Measure;
 use yl_sections::Kept;
 
-/// What is known of all sections of a text: where they are plain, so that each has its own part in the report, the measure of them all.
+/// What is known of all sections of a text: where they are plain, so that each has its own part in the report, the measure of them all,
+/// and which of them may silence rules.
 #[derive(Clone, Copy, Debug)]
 pub struct Overview {
     pub is_plain: bool,
     pub whole: Measure,
+    pub silencing: Silencing,
 }
 
 fn is_same_step(one: Option<u32>, other: Option<u32>) -> bool
@@ -113,6 +116,7 @@ pub fn overview_of<A: Allocator>(kept: &[Kept<A>]) -> Overview
     Overview {
         is_plain: are_plain(kept),
         whole: measure_of(kept),
+        silencing: silencing_of(kept),
     }
 }
 
@@ -123,6 +127,7 @@ pub fn overview_renewed<A: Allocator + Copy>(sections: &Spliced<'_, Kept<A>, A>)
     Overview {
         is_plain: are_all_plain(sections),
         whole: measure_of_all(sections),
+        silencing: silencing_of_all(sections),
     }
 }
 
@@ -153,11 +158,20 @@ pub fn overview_after<A: Allocator + Copy>(
     requires overview { IsOverviewOf kept.now.items overview }
     ensures { IsOverviewOf (splice kept.now.items from end new.now) result }
 {
-    if is_alike(kept, from, end, new) {
-        return overview;
-    }
-    Overview {
+    let unknown = Overview {
         is_plain: false,
         whole: overview.whole,
+        silencing: overview.silencing,
+    };
+    if !overview.is_plain || !is_alike(kept, from, end, new) {
+        return unknown;
+    }
+    let Some(silencing) = silencing_after(overview.silencing, kept, from, end, new) else {
+        return unknown;
+    };
+    Overview {
+        is_plain: true,
+        whole: overview.whole,
+        silencing,
     }
 }

@@ -11,6 +11,7 @@ use crate::loud::is_loud;
 use crate::overview::{Overview, is_alike, measure_before};
 use crate::places::count_upto;
 use crate::shifting::{ReportPatch, are_low};
+use crate::silencing::{are_silent, are_silent_between, silences_before};
 use crate::there::problems_there;
 use crate::touched::{Ends, Touched, ends_of, find_touched, is_filled, is_inside};
 use crate::window::Window;
@@ -101,6 +102,9 @@ pub fn patched_report<S: LineStore>(
     if !overview.is_plain || !is_alike(kept, from, end, new) {
         return Ok(None);
     }
+    if !are_silent(new) || !are_silent_between(kept, from, end) {
+        return Ok(None);
+    }
     let Some(touched) = find_touched(from_row, end_row, new) else {
         return Ok(None);
     };
@@ -114,19 +118,19 @@ pub fn patched_report<S: LineStore>(
         return Ok(None);
     }
     let window = Window::new(patched, touched.first as usize, touched.new_end as usize);
-    let before = measure_before(kept, from, overview.whole);
+    let whole = overview.whole;
+    let before = measure_before(kept, from, whole);
+    let silences = silences_before(alloc, kept, overview.silencing, from)?;
     let there = problems_there(
         alloc,
         config,
         ends,
         &window,
         touched.first,
-        overview.whole,
+        whole,
         before,
         new,
+        &silences,
     )?;
-    match there {
-        Some(there) => Ok(patch_with(problems, touched, there)),
-        None => Ok(None),
-    }
+    Ok(patch_with(problems, touched, there))
 }

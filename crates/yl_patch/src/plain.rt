@@ -1,12 +1,12 @@
 //! Whether the part of sections in a report is theirs alone.
-ghost use Rattle.std.specs.Prelude.{◌≡◌, ◌<◌, ◌≤◌, [], None, true};
+ghost use Rattle.std.specs.Prelude.{◌≡◌, ◌<◌, ◌≤◌, None, true};
 ghost use Rattle.std.specs.List.{AllByRecursion};
 ghost use Rattle.yl_patch.specs.Plain.{IsPlain, IsWithin};
 
 use std::alloc::Allocator;
 use yl_chunks::Spliced;
 use yl_indentation::Fact;
-use yl_sections::Kept;
+use yl_sections::{Kept, KeptComment};
 use yl_text::Finding;
 
 /// Whether these stand in the first lines, counted from 1.
@@ -33,6 +33,18 @@ fn are_facts_within(facts: &[Fact], rows: u32) -> bool
     true
 }
 
+/// Whether these stand in the first lines, counted from 0.
+fn are_comments_within<A: Allocator>(comments: &[KeptComment<A>], rows: u32) -> bool
+    ensures { result ≡ true → AllByRecursion (λ c. c.line < rows) comments.now }
+{
+    for comment in comments {
+        if comment.line() >= rows {
+            return false;
+        }
+    }
+    true
+}
+
 fn is_sound<A: Allocator>(kept: &Kept<A>) -> bool
     ensures { result ≡ true → kept.now.fault ≡ None }
 {
@@ -42,20 +54,14 @@ fn is_sound<A: Allocator>(kept: &Kept<A>) -> bool
     }
 }
 
-fn is_silent<A: Allocator>(kept: &Kept<A>) -> bool
-    ensures { result ≡ true → kept.now.comments ≡ [] }
-{
-    kept.comments().is_empty()
-}
-
-/// Whether this is of a section that has no fault, silences nothing, and in whose own lines all stands that was found in it.
+/// Whether this is of a section that has no fault, and in whose own lines all stands that was found in it, and each comment that silences.
 fn is_plain<A: Allocator>(kept: &Kept<A>) -> bool
     ensures { result ≡ true → IsPlain kept.now }
 {
     is_sound(kept)
-        && is_silent(kept)
         && are_within(kept.found(), kept.rows())
         && are_facts_within(kept.facts(), kept.rows())
+        && are_comments_within(kept.comments(), kept.rows())
 }
 
 /// Whether all of these are plain.

@@ -1,35 +1,35 @@
 //! What is found in the touched lines.
-ghost use Rattle.std.specs.Prelude.{◌≡◌, ◌++◌, false, [], map, IfOk, OnOk, IfSome};
+ghost use Rattle.std.specs.Prelude.{◌≡◌, ◌++◌, map, IfOk, OnOk};
 ghost use Rattle.yl_config.specs.Config.{levels_of, options_of};
-ghost use Rattle.yl_report.specs.Directive.{is_silenced};
 ghost use Rattle.yl_report.specs.Report.{report_of};
-ghost use Rattle.yl_lint.specs.TextReport.{findings_in_sections};
-ghost use Rattle.yl_patch.specs.Patched.{shifted};
+ghost use Rattle.yl_report.specs.Silence.{is_file_silenced_by, is_silenced_at};
+ghost use Rattle.yl_lint.specs.TextReport.{findings_in_sections, moved};
 ghost use Rattle.yl_patch.specs.There.{found_there, lines_there};
 ghost use Rattle.yl_patch.specs.There as spec;
 
-use crate::shifting::{are_low, shift_behind};
 use crate::touched::Ends;
 use std::alloc::{AllocError, Allocator};
 use yl_config::Config;
 use yl_indentation::{IndentationOptions, Measure};
-use yl_lint::{find_in_lines, line_below, push_section};
+use yl_lint::{find_in_lines, line_below, push_moved, push_section};
 use yl_report::{Problem, Silences, arrange};
 use yl_sections::Kept;
 use yl_text::{Finding, Lines, RuleId};
 
-/// Puts what is found in these sections behind the rest; the first begins at line 0, behind facts of the measure `before`.
+/// Puts what is found in these sections behind the rest; the first begins `down` lines below the first of the text, behind facts of the
+/// measure `before`.
 fn push_sections<A: Allocator + Copy>(
     alloc: A,
     options: &IndentationOptions,
     whole: Measure,
+    down: u32,
     before: Measure,
     kept: &[Kept<A>],
     found: &mut Vec<Finding<A>, A>,
 ) -> Result<(), AllocError>
-    ensures { OnOk result (found.new.items ≡ found.old.items ++ findings_in_sections options.now whole 0 before kept.now) }
+    ensures { OnOk result (found.new.items ≡ found.old.items ++ findings_in_sections options.now whole down before kept.now) }
 {
-    let mut line = 0;
+    let mut line = down;
     let mut here = before;
     for one in kept {
         push_section(alloc, options, whole, line, here, one, found)?;
@@ -64,37 +64,29 @@ fn find_in_some_lines<L: Lines>(
     Ok(found)
 }
 
-/// What is found in these lines and in the sections that have them.
+/// What is found in these lines, of which the first stands `down` lines below the first of the text, and in the sections that have them.
 fn find_there<L: Lines>(
     alloc: L::Alloc,
     config: &Config,
     ends: Ends,
     lines: &L,
+    down: u32,
     whole: Measure,
     before: Measure,
     kept: &[Kept<L::Alloc>],
 ) -> Result<Vec<Finding<L::Alloc>, L::Alloc>, AllocError>
-    ensures { IfOk result (λ v. v.items ≡ found_there (options_of config.now) ends whole before (L.rows lines.now) kept.now) }
+    ensures { IfOk result (λ v. v.items ≡ map (moved down) (found_there (options_of config.now) ends whole before (L.rows lines.now) kept.now)) }
 {
-    let mut found = find_in_some_lines(alloc, config, ends, lines)?;
+    let in_lines = find_in_some_lines(alloc, config, ends, lines)?;
+    let mut found = Vec::new(alloc);
+    push_moved(alloc, down, &in_lines, &mut found)?;
     let options = config.indentation_options();
-    push_sections(alloc, options, whole, before, kept, &mut found)?;
+    push_sections(alloc, options, whole, down, before, kept, &mut found)?;
     Ok(found)
 }
 
-/// These problems so many lines further down, where their lines can be counted on from.
-fn lowered<A: Allocator>(mut problems: Vec<Problem<A>, A>, down: u32) -> Option<Vec<Problem<A>, A>>
-    ensures { IfSome result (λ v. v.items ≡ map (shifted 0 down) problems.items) }
-{
-    if !are_low(&problems) {
-        return None;
-    }
-    shift_behind(&mut problems, 0, 0, down);
-    Some(problems)
-}
-
 /// The problems of these lines, of which the first stands `down` lines below the first of the text, and of the sections that have them,
-/// where nothing is silenced; none where a line can not be counted on from.
+/// where so much is silenced.
 pub fn problems_there<L: Lines>(
     alloc: L::Alloc,
     config: &Config,
@@ -104,11 +96,11 @@ pub fn problems_there<L: Lines>(
     whole: Measure,
     before: Measure,
     kept: &[Kept<L::Alloc>],
-) -> Result<Option<Vec<Problem<L::Alloc>, L::Alloc>>, AllocError>
-    ensures { IfOk result (λ o. IfSome o (λ v. v.items ≡ map (shifted 0 down) (report_of (levels_of config.now) false (is_silenced [])
-        (found_there (options_of config.now) ends whole before (L.rows lines.now) kept.now)))) }
+    silences: &Silences<L::Alloc>,
+) -> Result<Vec<Problem<L::Alloc>, L::Alloc>, AllocError>
+    ensures { IfOk result (λ v. v.items ≡ report_of (levels_of config.now) (is_file_silenced_by silences.now) (is_silenced_at silences.now)
+        (map (moved down) (found_there (options_of config.now) ends whole before (L.rows lines.now) kept.now))) }
 {
-    let found = find_there(alloc, config, ends, lines, whole, before, kept)?;
-    let problems = arrange(alloc, found, config.levels(), &Silences::none(alloc))?;
-    Ok(lowered(problems, down))
+    let found = find_there(alloc, config, ends, lines, down, whole, before, kept)?;
+    arrange(alloc, found, config.levels(), silences)
 }

@@ -23,7 +23,7 @@ pub struct Ends {
 }
 
 /// How many lines these sections have.
-fn count_rows<A: Allocator>(kept: &[Kept<A>]) -> Option<u32>
+pub fn count_rows<A: Allocator>(kept: &[Kept<A>]) -> Option<u32>
     ensures { IfSome result (λ n. n ≡ row_sum kept.now) }
 {
     let mut sum: u32 = 0;

@@ -16,3 +16,5 @@ mod rows;
 mod seams;
 #[cfg(test)]
 mod shown;
+#[cfg(test)]
+mod silences;

@@ -2,12 +2,13 @@ use Rattle.std.proofs.Common.{◌==◌, ◌-◌, List, length, map, take, drop, 
 use Rattle.std.specs.List.{slice_get, splice}
 use Rattle.yl_text.specs.Lines.{RowValue}
 use Rattle.yl_config.specs.Config.{levels_of, options_of}
-use Rattle.yl_report.specs.Directive.{disables_file}
-use Rattle.yl_lint.specs.TextReport.{first_text}
+use Rattle.yl_report.specs.Directive.{disables_file, is_silenced}
+use Rattle.yl_report.specs.Silence.{is_file_silenced_by, is_silenced_at}
+use Rattle.yl_lint.specs.TextReport.{comments_in_sections, first_text, moved}
 use Rattle.yl_patch.specs.Cut.{IsInside, is_filled}
-use Rattle.yl_patch.specs.Patched.{patched, shifted}
-use Rattle.yl_patch.proofs.Arranged.{arranged}
-use Rattle.yl_patch.proofs.Given.{same_there, then_all}
+use Rattle.yl_patch.specs.Patched.{patched}
+use Rattle.yl_patch.specs.There.{found_there}
+use Rattle.yl_patch.proofs.Given.{same_silences, same_there, then_all}
 use Rattle.yl_patch.proofs.Renewed.{report_renewed, spliced_length}
 use Rattle.yl_patch.proofs.Sections.{measured}
 use Rattle.yl_patch.proofs.Walks.{rows_until}
@@ -27,8 +28,11 @@ new-window-requires g c =
 pub measure_before-before-requires-clause-whole : goal.measure_before-before-requires-clause-whole
 measure_before-before-requires-clause-whole g c = (c.requires.overview c.if-not-overview.false).whole
 
-pub returns-in-Some-there-clause-report : goal.returns-in-Some-there-clause-report
-returns-in-Some-there-clause-report g c =
+pub silences_before-requires-clause-silencing : goal.silences_before-requires-clause-silencing
+silences_before-requires-clause-silencing g c = (c.requires.overview c.if-not-overview.false).silencing
+
+pub returns-clause-report : goal.returns-clause-report
+returns-clause-report g c =
     let rows = g.S.Lines.rows c.args.store.now in
     let ins = c.args.rows.now in
     let t = c.in-Some.touched in
@@ -38,7 +42,7 @@ returns-in-Some-there-clause-report g c =
     let known = c.requires.overview c.if-not-overview.false in
     let alike = c.if-not-is_alike.false in
     let cut = c.if-not-is_cut.false in
-    let put = rw c.in-Some-there.is at c.in_ok-there.ensures in
+    let silences = c.in_ok-silences.silences in
     let e = c.ends_of-ends.result in
     let loud = c.in_ok-is_loud.ensures c.if-not-branch.false in
     let loud' = c.in_ok-is_loud-2.ensures c.if-not-branch-2.false in
@@ -46,6 +50,11 @@ returns-in-Some-there-clause-report g c =
     let window = c.new-window.ensures ∙ ap (λ (xs : List RowValue). take (t.new_end - t.first) (drop t.first xs)) c.new-patched.ensures in
     let there =
     same_there (options_of config) e c.args.overview.whole (measured kept) c.measure_before-before.result (measured (take c.args.from kept)) c.new-window.result qs c.args.new.now known.whole c.measure_before-before.ensures window in
+    let put =
+    c.in_ok-there.ensures
+    ∙ same_silences (levels_of config) (is_file_silenced_by silences) (is_silenced_at silences) (is_silenced (comments_in_sections 0 (take c.args.from kept)))
+    (map (moved t.first) (found_there (options_of config) e c.args.overview.whole c.measure_before-before.result c.new-window.result c.args.new.now))
+    (map (moved t.first) (found_there (options_of config) e (measured kept) (measured (take c.args.from kept)) qs c.args.new.now)) c.in_ok-silences.ensures.file c.in_ok-silences.ensures.lines (ap (map (moved t.first)) there) in
     then_all c.patch_with.result c.patch_with.ensures.from c.patch_with.ensures.end c.patch_with.ensures.parts (λ p i j parts.
     ap (λ n. patched p.from p.end p.problems.items n p.down c.args.problems.now) parts.1
     ∙ (ap (λ n. patched p.from p.end p.problems.items t.old_end n c.args.problems.now) parts.2
@@ -54,6 +63,6 @@ returns-in-Some-there-clause-report g c =
     (c.in-Some.ensures.first ∙ c.requires.from_row)
     (omega (arith, c.in-Some.ensures.first, c.in-Some.ensures.old_end, c.requires.from_row, c.requires.end_row, rows_until kept c.args.from c.args.end c.requires.kept_range.ordered c.requires.kept_range.within))
     c.in-Some.ensures.new_end e c.ends_of-ends.ensures.begins (c.ends_of-ends.ensures.ends ∙ ap (λ n. t.old_end == n) c.len-lines.ensures) (c.is_cut.ensures.old cut)
-    (λ h. ap (λ (xs : List RowValue). is_filled (slice_get xs t.first)) (sym c.new-patched.ensures) ∙ c.is_cut.ensures.new cut h) (c.is_cut.ensures.behind cut) (c.is_alike.ensures.measure alike)
+    (λ h. ap (λ (xs : List RowValue). is_filled (slice_get xs t.first)) (sym c.new-patched.ensures) ∙ c.is_cut.ensures.new cut h) (c.is_cut.ensures.behind cut) (c.are_silent_between.ensures c.if-not-are_silent_between.false) (c.are_silent.ensures c.if-not-are_silent.false) (c.is_alike.ensures.measure alike)
     p.from p.end p.problems.items c.args.problems.now c.requires.problems i j
-    (parts.0 ∙ (put ∙ ap (λ fs. map (shifted 0 t.first) (arranged (levels_of config) fs)) there))))
+    (parts.0 ∙ put)))

@@ -82,3 +82,6 @@ returns-clause-work g c =
     (λ l. stays rows c.args.rows.now c.args.a c.args.b c.in_ok-rescan.rescan.from (omega (arith, c.requires.range.ordered, c.requires.range.within)) l) c.in_ok-rescan.ensures.work
     c.in_ok-rejudged.ensures.lines
     (λ h m l. less (c.in_ok-rejudged.ensures.documents h m l) (omega (arith, c.in_ok-rescan.ensures.documents, ap (λ (m : Meter). m.documents) c.new-meter.ensures)))
+
+pub returns-clause-overview : goal.returns-clause-overview
+returns-clause-overview g c = c.in_ok-renewal.ensures.overview
