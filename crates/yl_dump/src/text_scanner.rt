@@ -99,11 +99,13 @@ impl<'t, 'a, A: Allocator + Copy> TextScanner<'t, 'a, A> {
         Ok(step)
     }
 
-    /// Takes back a list of lexemes that a line told, so that its room is used again. What is in it goes.
+    /// Takes back a list of lexemes that a line told, so that its room is used again, if it has some. What is in it goes.
     pub fn take_back(&mut self, lexemes: Vec<Lexeme<A>, A>)
         ensures { self.new ≡ self.old }
     {
-        self.scanner.take_back(lexemes);
+        if lexemes.capacity() > 0 {
+            self.scanner.take_back(lexemes);
+        }
     }
 
     /// The end of the line that was read last.
