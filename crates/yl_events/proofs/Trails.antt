@@ -5,8 +5,8 @@ use Rattle.std.proofs.lemmas.List.{reverse-append}
 use Rattle.yl_lexeme.specs.declared.lexeme.Kind.{Kind}
 use Rattle.yl_marks.specs.declared.symbol.Symbol.{Symbol}
 use Rattle.yl_marks.specs.declared.symbol.Symbol.TheVariants.{Close, One}
-use Rattle.yl_events.specs.declared.symbol.OpenCollection.{OpenCollection}
-use Rattle.yl_events.specs.declared.symbol.OpenCollection.TheVariants.{InSequence}
+use Rattle.yl_events.specs.declared.symbol.OpenBlockCollection.{OpenBlockCollection}
+use Rattle.yl_events.specs.declared.symbol.OpenBlockCollection.TheVariants.{InSequence}
 use Rattle.std.proofs.Math.Seq.{take-suc, drop-cons}
 use Rattle.yl_events.specs.declared.fault.ParseFault.TheVariants.{DocumentStartExpected, PropertiesGivenTwice, CommaOrBracketExpected}
 use Rattle.yl_events.specs.Derives.{lexeme_count}
@@ -65,7 +65,7 @@ twice_there t (One Kind.Tag i ∷ us) vs h = refl
 twice_there t (One Kind.Alias i ∷ us) vs h = refl
 twice_there t (w ∷ us) vs h = refl
 
-closed_there : (us vs : List Symbol) (blocks : List OpenCollection) → 0 < lexeme_count us → without_closed (us ++ vs) blocks ≡ without_closed us blocks
+closed_there : (us vs : List Symbol) (blocks : List OpenBlockCollection) → 0 < lexeme_count us → without_closed (us ++ vs) blocks ≡ without_closed us blocks
 closed_there [] vs blocks h = absurd (omega arith)
 closed_there (Close ∷ us) vs blocks h = closed_there us vs (drop 1 blocks) h
 closed_there (w ∷ us) vs blocks h = refl
@@ -82,7 +82,7 @@ trail_after-append t (w ∷ ws) vs = trail_after-append (trail_behind t w) ws vs
 
 -- ---- the blocks stand with the innermost last
 
-one_less : (blocks : List OpenCollection) (n m : ℕ) → n ≤ length blocks → m ≡ n - 1 → reverse (take m blocks) ≡ drop 1 (reverse (take n blocks))
+one_less : (blocks : List OpenBlockCollection) (n m : ℕ) → n ≤ length blocks → m ≡ n - 1 → reverse (take m blocks) ≡ drop 1 (reverse (take n blocks))
 one_less blocks zero m h e = ap (λ k. reverse (take k blocks)) {x = m} {y = 0} (omega arith)
 one_less blocks (suc n) m h e =
     let block = get_or blocks n InSequence in
@@ -92,7 +92,7 @@ one_less blocks (suc n) m h e =
 next_close : (ws : List Symbol) (i : ℕ) (w : Symbol) → i < length ws → get_or ws i w ≡ Close → drop i ws ≡ Close ∷ drop (i + 1) ws
 next_close ws i w h e = drop-cons ws i w h ∙ ap (λ x. x ∷ drop (suc i) ws) e ∙ ap (λ k. Close ∷ drop k ws) (sym (add-one i))
 
-pub closed_step : (ws : List Symbol) (i : ℕ) (w : Symbol) (blocks all : List OpenCollection) (n m : ℕ) → i < length ws → get_or ws i w ≡ Close →
+pub closed_step : (ws : List Symbol) (i : ℕ) (w : Symbol) (blocks all : List OpenBlockCollection) (n m : ℕ) → i < length ws → get_or ws i w ≡ Close →
     without_closed (drop i ws) (reverse (take n blocks)) ≡ all → n ≤ length blocks → m ≡ n - 1 → without_closed (drop (i + 1) ws) (reverse (take m blocks)) ≡ all
 closed_step ws i w blocks all n m there close h within less =
     ap (without_closed (drop (i + 1) ws)) (one_less blocks n m within less)

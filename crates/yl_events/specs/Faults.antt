@@ -5,8 +5,8 @@ use Rattle.std.specs.Prelude.{ℕ, Bool, true, false, not, ◌||◌, ◌==◌, �
 use Rattle.yl_lexeme.specs.declared.lexeme.Kind.{Kind}
 use Rattle.yl_marks.specs.declared.symbol.Symbol.{Symbol}
 use Rattle.yl_marks.specs.declared.symbol.Symbol.TheVariants.{OpenSequence, OpenMapping, BeginKey, Close, One}
-use Rattle.yl_events.specs.declared.symbol.OpenCollection.{OpenCollection}
-use Rattle.yl_events.specs.declared.symbol.OpenCollection.TheVariants.{InSequence, InMapping}
+use Rattle.yl_events.specs.declared.symbol.OpenBlockCollection.{OpenBlockCollection}
+use Rattle.yl_events.specs.declared.symbol.OpenBlockCollection.TheVariants.{InSequence, InMapping}
 use Rattle.yl_events.specs.declared.fault.ParseFault.{ParseFault}
 use Rattle.yl_events.specs.declared.fault.ParseFault.TheVariants.{DocumentStartExpected, PropertiesGivenTwice, CommaOrBracketExpected, KeyOrEndOfMappingExpected, EntryOrEndOfSequenceExpected, SecondNode}
 
@@ -23,14 +23,14 @@ fault_text SecondNode = codes "second node"
 -- how many brackets are open, and the open block collections, the innermost first
 pub record OpenCollections : Type 0 where
   pub depth : ℕ
-  pub blocks : List OpenCollection
+  pub blocks : List OpenBlockCollection
 
 -- an indentless sequence is open in the innermost mapping, or no longer
-abbrev pub with_indentless : Bool → List OpenCollection → List OpenCollection
+abbrev pub with_indentless : Bool → List OpenBlockCollection → List OpenBlockCollection
 with_indentless is_open (InMapping _ ∷ blocks) = InMapping is_open ∷ blocks
 with_indentless is_open blocks = blocks
 
-abbrev pub blocks_behind : List OpenCollection → Symbol → List OpenCollection
+abbrev pub blocks_behind : List OpenBlockCollection → Symbol → List OpenBlockCollection
 blocks_behind blocks (OpenSequence i) = InSequence ∷ blocks
 blocks_behind blocks (OpenMapping i) = InMapping false ∷ blocks
 blocks_behind blocks (BeginKey i) = with_indentless false blocks
@@ -60,7 +60,7 @@ open_after o [] = o
 open_after o (w ∷ ws) = open_after (open_behind o w) ws
 
 -- without the closings that come next
-abbrev pub without_closed : List Symbol → List OpenCollection → List OpenCollection
+abbrev pub without_closed : List Symbol → List OpenBlockCollection → List OpenBlockCollection
 without_closed (Close ∷ ws) blocks = without_closed ws (drop 1 blocks)
 without_closed _ blocks = blocks
 
@@ -85,7 +85,7 @@ is_behind_directive _ = false
 
 -- ---- which one it is
 
-abbrev pub fault_in_blocks : List OpenCollection → ParseFault
+abbrev pub fault_in_blocks : List OpenBlockCollection → ParseFault
 fault_in_blocks [] = SecondNode
 fault_in_blocks (InMapping false ∷ blocks) = KeyOrEndOfMappingExpected
 fault_in_blocks (_ ∷ blocks) = EntryOrEndOfSequenceExpected

@@ -70,7 +70,7 @@ pub enum Goal {
 
 /// An open block collection; of a mapping, whether an indentless sequence is open in it.
 #[derive(Clone, Copy)]
-pub enum OpenCollection {
+pub enum OpenBlockCollection {
     InSequence,
     InMapping(bool),
 }

@@ -5,7 +5,7 @@ ghost use Rattle.yl_events.specs.Faults.{with_indentless, blocks_behind, depth_b
 ghost use Rattle.yl_events.specs.Trail.{no_trail, trail_behind, trail_after, is_directive, anchor_behind, tag_behind, comes_twice, fault_behind, fault_from};
 
 use crate::fault::ParseFault;
-use crate::symbol::OpenCollection;
+use crate::symbol::OpenBlockCollection;
 use std::alloc::{AllocError, Allocator};
 use std::marker::Model;
 use yl_lexeme::Kind;
@@ -23,7 +23,7 @@ pub struct Trail<A: Allocator> {
     /// How many brackets are open.
     depth: usize,
     /// The open block collections, the innermost last.
-    blocks: Vec<OpenCollection, A>,
+    blocks: Vec<OpenBlockCollection, A>,
 }
 
 impl<A: Allocator> Model for Trail<A> {
@@ -160,14 +160,14 @@ fn tag_behind(had: bool, symbol: Symbol) -> bool
 /// An indentless sequence is open in the innermost mapping, or no longer.
 fn set_indentless<A: Allocator>(
     is_open: bool,
-    blocks: &mut Vec<OpenCollection, A>,
+    blocks: &mut Vec<OpenBlockCollection, A>,
 ) -> Result<(), AllocError>
     ensures { OnOk result (reverse blocks.new.items ≡ with_indentless is_open (reverse blocks.old.items)) }
 {
     if let Some(block) = blocks.pop() {
         let block = match block {
-            OpenCollection::InSequence => OpenCollection::InSequence,
-            OpenCollection::InMapping(_) => OpenCollection::InMapping(is_open),
+            OpenBlockCollection::InSequence => OpenBlockCollection::InSequence,
+            OpenBlockCollection::InMapping(_) => OpenBlockCollection::InMapping(is_open),
         };
         blocks.push(block)?;
     }
@@ -176,13 +176,13 @@ fn set_indentless<A: Allocator>(
 
 fn blocks_behind<A: Allocator>(
     symbol: Symbol,
-    blocks: &mut Vec<OpenCollection, A>,
+    blocks: &mut Vec<OpenBlockCollection, A>,
 ) -> Result<(), AllocError>
     ensures { OnOk result (reverse blocks.new.items ≡ blocks_behind (reverse blocks.old.items) symbol) }
 {
     match symbol {
-        Symbol::OpenSequence(_) => blocks.push(OpenCollection::InSequence)?,
-        Symbol::OpenMapping(_) => blocks.push(OpenCollection::InMapping(false))?,
+        Symbol::OpenSequence(_) => blocks.push(OpenBlockCollection::InSequence)?,
+        Symbol::OpenMapping(_) => blocks.push(OpenBlockCollection::InMapping(false))?,
         Symbol::BeginKey(_) => set_indentless(false, blocks)?,
         Symbol::Close => {
             let _ = blocks.pop();
@@ -213,7 +213,7 @@ fn depth_behind(depth: usize, symbol: Symbol) -> Result<usize, AllocError>
 }
 
 /// How many of the blocks are open behind the closings that come next.
-fn left_open(behind: &[Symbol], blocks: &[OpenCollection]) -> usize
+fn left_open(behind: &[Symbol], blocks: &[OpenBlockCollection]) -> usize
     ensures left { reverse (take result blocks.now) ≡ without_closed behind.now (reverse blocks.now) }
     ensures within { result ≤ length blocks.now }
 {
@@ -227,12 +227,12 @@ fn left_open(behind: &[Symbol], blocks: &[OpenCollection]) -> usize
     open
 }
 
-fn fault_in_blocks(blocks: &[OpenCollection]) -> ParseFault
+fn fault_in_blocks(blocks: &[OpenBlockCollection]) -> ParseFault
     ensures { result ≡ fault_in_blocks (reverse blocks.now) }
 {
     match blocks {
         [] => ParseFault::SecondNode,
-        [.., OpenCollection::InMapping(false)] => ParseFault::KeyOrEndOfMappingExpected,
+        [.., OpenBlockCollection::InMapping(false)] => ParseFault::KeyOrEndOfMappingExpected,
         [.., _] => ParseFault::EntryOrEndOfSequenceExpected,
     }
 }

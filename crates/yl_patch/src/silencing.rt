@@ -17,7 +17,7 @@ use yl_lint::{line_below, push_comments};
 use yl_report::Silences;
 use yl_sections::Kept;
 
-/// Which sections of a text may silence rules: some of those from `from` on, before `end`; `row` lines stand before the first of these.
+/// Which sections of a text may silence rules, counted from 0: some of those from `from` on, before `end`; `row` lines stand before the first of these.
 #[derive(Clone, Copy, Debug)]
 pub struct Silencing {
     pub from: usize,

@@ -1,7 +1,7 @@
 //! What is kept of a row.
 
 ghost use Rattle.std.specs.Prelude.{◌≡◌, ◌++◌, ◌∷◌, [], None, Some, true, false, IfOk, OnOk};
-ghost use Rattle.yl_record.specs.Beside.{comment_in, fault_in, indentation_in, state_in};
+ghost use Rattle.yl_record.specs.Beside.{comment_beside, fault_beside, indentation_beside, state_beside};
 ghost use Rattle.yl_record.specs.Parts.{entry_with_last, entry_with_fault};
 
 use std::alloc::{AllocError, Allocator};
@@ -50,13 +50,13 @@ pub struct Record<A: Allocator> {
 
 impl<A: Allocator> Model for Record<A> {
     ghost use Rattle.yl_record.specs.Records.{RecordValue};
-    ghost use Rattle.yl_record.specs.Beside.{comment_in, fault_in, indentation_in, state_in};
+    ghost use Rattle.yl_record.specs.Beside.{comment_beside, fault_beside, indentation_beside, state_beside};
 
     ghost Value = { RecordValue };
 
     ghost view = { λ r. record {
-      indentation = indentation_in r.beside;
-      entry = record { state = state_in r.beside; lexemes = r.lexemes.items; comment = comment_in r.beside; fault = fault_in r.beside };
+      indentation = indentation_beside r.beside;
+      entry = record { state = state_beside r.beside; lexemes = r.lexemes.items; comment = comment_beside r.beside; fault = fault_beside r.beside };
     } };
 }
 
@@ -134,10 +134,10 @@ fn fitted<A: Allocator + Copy>(lexemes: Vec<Lexeme<A>, A>) -> Result<Vec<Lexeme<
 
 /// An indentation, and a state if there is one.
 fn beside_of<A: Allocator>(indentation: u32, state: Option<LineState<A>>) -> Beside<A>
-    ensures indentation { indentation_in result ≡ indentation }
-    ensures state { state_in result ≡ state }
-    ensures comment { comment_in result ≡ None }
-    ensures fault { fault_in result ≡ None }
+    ensures indentation { indentation_beside result ≡ indentation }
+    ensures state { state_beside result ≡ state }
+    ensures comment { comment_beside result ≡ None }
+    ensures fault { fault_beside result ≡ None }
 {
     match state {
         None => Beside::Alone { indentation },
@@ -147,10 +147,10 @@ fn beside_of<A: Allocator>(indentation: u32, state: Option<LineState<A>>) -> Bes
 
 /// The same, with what few rows have in place of what it had of that.
 fn with_extra<A: Allocator>(beside: Beside<A>, extra: Box<Extra<A>, A>) -> Beside<A>
-    ensures indentation { indentation_in result ≡ indentation_in beside }
-    ensures state { state_in result ≡ state_in beside }
-    ensures comment { comment_in result ≡ extra.value.comment }
-    ensures fault { fault_in result ≡ extra.value.fault }
+    ensures indentation { indentation_beside result ≡ indentation_beside beside }
+    ensures state { state_beside result ≡ state_beside beside }
+    ensures comment { comment_beside result ≡ extra.value.comment }
+    ensures fault { fault_beside result ≡ extra.value.fault }
 {
     match beside {
         Beside::Alone { indentation } => Beside::WithExtra { indentation, extra },
@@ -206,11 +206,11 @@ pub fn push_lexeme<A: Allocator>(row: &mut Record<A>, lexeme: Lexeme<A>) -> Resu
 
 /// Sets the fault, if there is a place for it.
 fn fault_is_set<A: Allocator>(beside: &mut Beside<A>, fault: PlacedScanFault) -> bool
-    ensures indentation { indentation_in beside.new ≡ indentation_in beside.old }
-    ensures state { state_in beside.new ≡ state_in beside.old }
-    ensures comment { comment_in beside.new ≡ comment_in beside.old }
-    ensures fault { result ≡ true → fault_in beside.new ≡ Some fault }
-    ensures missing { result ≡ false → comment_in beside.old ≡ None }
+    ensures indentation { indentation_beside beside.new ≡ indentation_beside beside.old }
+    ensures state { state_beside beside.new ≡ state_beside beside.old }
+    ensures comment { comment_beside beside.new ≡ comment_beside beside.old }
+    ensures fault { result ≡ true → fault_beside beside.new ≡ Some fault }
+    ensures missing { result ≡ false → comment_beside beside.old ≡ None }
 {
     match beside {
         Beside::Alone { .. } => false,

@@ -15,7 +15,7 @@ use Rattle.yl_scalar.specs.QuotedSteps.{QuotedReaderValue, quoted_begin, quoted_
 use Rattle.yl_scalar.specs.Header.{indicators, misfit}
 use Rattle.yl_scalar.specs.Block.{BlockReaderValue, block_begin, block_step, block_finish, block, header_end, header_read}
 use Rattle.yl_row.specs.ScalarReader.{ScalarReaderValue, InPlain, InQuoted, InBlock, map_step, reader_step, reader_finish}
-use Rattle.yl_row.specs.Standing.{EndsHere}
+use Rattle.yl_row.specs.Beginning.{EndsHere}
 
 -- an answer says the same of a reader of any style
 pub said_by_style : {S T : Type 0} (f : S → T) (l : ScalarStep) (value : List ℕ) (s : S) → step_value l value (f s) ≡ map_step f (step_value l value s)

@@ -8,5 +8,5 @@ pub mod Reader
 pub mod Rows
 pub mod Run
 pub mod Sign
-pub mod Standing
+pub mod Beginning
 pub mod Step

@@ -16,7 +16,7 @@ ghost use Rattle.yl_row.specs.ScalarReader.{reader_step, reader_finish};
 ghost use Rattle.yl_row.specs.Reader.{reader_step_value};
 ghost use Rattle.yl_row.specs.Step.{found_in_row, bad_in, tab_before, in_block, place_fault, behind_end, closes_bracket, is_value_at, is_directive_place, is_quoted_or_closing, scalar_found, plain_found, value_found, name_found, tag_found, tag_len, document_at, block_at, flow_at, word_at, scalar_at, found_at};
 ghost use Rattle.yl_row.specs.Sign.{named_at, sign_at};
-ghost use Rattle.yl_row.specs.Standing.{found_lexeme_value, standing_value, found_option, EndsHere, StandingRests};
+ghost use Rattle.yl_row.specs.Beginning.{found_lexeme_value, beginning_value, found_option, EndsHere, BeginningRests};
 
 use crate::fault::{PlacedScanFault, ScanFault, of_scalar, or_else, when};
 use crate::reader::ScalarReader;
@@ -44,7 +44,7 @@ pub struct FoundLexeme<A: Allocator> {
 
 /// What stands at a place.
 #[derive(Drop)]
-pub enum Standing<A: Allocator + Copy> {
+pub enum Beginning<A: Allocator + Copy> {
     /// A lexeme that ends in its row.
     Ended(FoundLexeme<A>),
     /// A scalar that may go on in the row below.
@@ -199,16 +199,16 @@ fn begun<A: Allocator + Copy>(
     at: usize,
     reader: ScalarReader<A>,
     line: ScalarStep,
-) -> Result<Standing<A>, AllocError>
+) -> Result<Beginning<A>, AllocError>
     requires fits { at < 2 ^ 31 }
     requires here { EndsHere (reader_step_value line reader) }
     ensures found { IfOk result (λ s. (rows : List (List ℕ)) →
-        scalar_found style at (outcome_of_step (λ m. outcome_of_lines reader_step reader_finish m rows) (reader_step_value line reader)) ≡ standing_value at rows s) }
-    ensures rests { IfOk result (λ s. (text : List ℕ) → BeginsAt at text (reader_step_value line reader) → StandingRests at text s) }
+        scalar_found style at (outcome_of_step (λ m. outcome_of_lines reader_step reader_finish m rows) (reader_step_value line reader)) ≡ beginning_value at rows s) }
+    ensures rests { IfOk result (λ s. (text : List ℕ) → BeginsAt at text (reader_step_value line reader) → BeginningRests at text s) }
 {
     match line {
-        ScalarStep::GoesOn => Ok(Standing::Open(style, reader)),
-        ScalarStep::EndsIn(place) | ScalarStep::EndedAbove(place) => Ok(Standing::Ended(
+        ScalarStep::GoesOn => Ok(Beginning::Open(style, reader)),
+        ScalarStep::EndsIn(place) | ScalarStep::EndedAbove(place) => Ok(Beginning::Ended(
             FoundLexeme {
                 kind: Kind::Scalar(style),
                 column: place.column as u32,
@@ -216,7 +216,7 @@ fn begun<A: Allocator + Copy>(
                 fault: None,
             },
         )),
-        ScalarStep::Fails(fault, place) => Ok(Standing::Ended(FoundLexeme {
+        ScalarStep::Fails(fault, place) => Ok(Beginning::Ended(FoundLexeme {
             kind: Kind::Scalar(style),
             column: at as u32,
             value: InlineString::new(),
@@ -237,10 +237,10 @@ fn quoted_found<A: Allocator + Copy>(
     double: bool,
     at: usize,
     rest: &[char],
-) -> Result<Standing<A>, AllocError>
+) -> Result<Beginning<A>, AllocError>
     requires fits { at + length rest.now < 2 ^ 31 }
-    ensures found { IfOk result (λ s. (rows : List (List ℕ)) → scalar_found style at (quoted double at rest.now rows) ≡ standing_value at rows s) }
-    ensures rests { IfOk result (λ s. (text : List ℕ) → StandingRests at text s) }
+    ensures found { IfOk result (λ s. (rows : List (List ℕ)) → scalar_found style at (quoted double at rest.now rows) ≡ beginning_value at rows s) }
+    ensures rests { IfOk result (λ s. (text : List ℕ) → BeginningRests at text s) }
 {
     let (reader, line) = QuotedReader::begin(alloc, double, at, rest)?;
     begun(alloc, style, at, ScalarReader::Quoted(reader), line)
@@ -253,11 +253,11 @@ fn block_found<A: Allocator + Copy>(
     least: usize,
     at: usize,
     rest: &[char],
-) -> Result<Standing<A>, AllocError>
+) -> Result<Beginning<A>, AllocError>
     requires fits { at + length rest.now < 2 ^ 31 }
     requires small { least < 2 ^ 63 }
-    ensures found { IfOk result (λ s. (rows : List (List ℕ)) → scalar_found style at (block least at rest.now rows) ≡ standing_value at rows s) }
-    ensures rests { IfOk result (λ s. (c : ℕ) → StandingRests at (c ∷ rest.now) s) }
+    ensures found { IfOk result (λ s. (rows : List (List ℕ)) → scalar_found style at (block least at rest.now rows) ≡ beginning_value at rows s) }
+    ensures rests { IfOk result (λ s. (c : ℕ) → BeginningRests at (c ∷ rest.now) s) }
 {
     let (reader, line) = BlockReader::begin(alloc, least, at, rest);
     begun(alloc, style, at, ScalarReader::Block(reader), line)
@@ -273,15 +273,15 @@ fn plain_found<A: Allocator + Copy>(
     c: char,
     rest: &[char],
     text: &[char],
-) -> Result<Standing<A>, AllocError>
+) -> Result<Beginning<A>, AllocError>
     requires fits { at + length text.now < 2 ^ 31 }
     requires text { text.now ≡ c ∷ rest.now }
-    ensures found { IfOk result (λ s. (rows : List (List ℕ)) → plain_found flow least at c rest.now rows ≡ standing_value at rows s) }
-    ensures rests { IfOk result (λ s. StandingRests at text.now s) }
+    ensures found { IfOk result (λ s. (rows : List (List ℕ)) → plain_found flow least at c rest.now rows ≡ beginning_value at rows s) }
+    ensures rests { IfOk result (λ s. BeginningRests at text.now s) }
 {
     if !is_plain_start(flow, c, rest) {
         let fault = when(true, ScanFault::NotAllowed, at);
-        return Ok(Standing::Ended(sign(Kind::Scalar(Style::Plain), at as u32, fault)));
+        return Ok(Beginning::Ended(sign(Kind::Scalar(Style::Plain), at as u32, fault)));
     }
     let (reader, line) = PlainReader::begin(alloc, flow, least, at, text)?;
     begun(alloc, Style::Plain, at, ScalarReader::Plain(reader), line)
@@ -296,12 +296,12 @@ fn scalar_at<A: Allocator + Copy>(
     c: char,
     rest: &[char],
     text: &[char],
-) -> Result<Standing<A>, AllocError>
+) -> Result<Beginning<A>, AllocError>
     requires fits { at + length text.now < 2 ^ 31 }
     requires text { text.now ≡ c ∷ rest.now }
     ensures found { IfOk result (λ s. (rows : List (List ℕ)) →
-        scalar_at rows at (context_of (surroundings_value surroundings.now)) c rest.now ≡ standing_value at rows s) }
-    ensures rests { IfOk result (λ s. StandingRests at text.now s) }
+        scalar_at rows at (context_of (surroundings_value surroundings.now)) c rest.now ≡ beginning_value at rows s) }
+    ensures rests { IfOk result (λ s. BeginningRests at text.now s) }
 {
     if c == '\'' {
         return quoted_found(alloc, Style::Single, false, at, rest);
@@ -329,15 +329,15 @@ fn word_at<A: Allocator + Copy>(
     c: char,
     rest: &[char],
     text: &[char],
-) -> Result<Standing<A>, AllocError>
+) -> Result<Beginning<A>, AllocError>
     requires fits { at + length text.now < 2 ^ 31 }
     requires text { text.now ≡ c ∷ rest.now }
     ensures found { IfOk result (λ s. (rows : List (List ℕ)) →
-        word_at rows at (context_of (surroundings_value surroundings.now)) c rest.now ≡ standing_value at rows s) }
-    ensures rests { IfOk result (λ s. StandingRests at text.now s) }
+        word_at rows at (context_of (surroundings_value surroundings.now)) c rest.now ≡ beginning_value at rows s) }
+    ensures rests { IfOk result (λ s. BeginningRests at text.now s) }
 {
     if matches!(c, '&' | '*' | '!') {
-        return Ok(Standing::Ended(named_at(alloc, at, c, rest)?));
+        return Ok(Beginning::Ended(named_at(alloc, at, c, rest)?));
     }
     scalar_at(alloc, at, surroundings, c, rest, text)
 }
@@ -352,18 +352,18 @@ pub fn found_at<A: Allocator + Copy>(
     c: char,
     rest: &[char],
     text: &[char],
-) -> Result<Standing<A>, AllocError>
+) -> Result<Beginning<A>, AllocError>
     requires fits { at + length text.now < 2 ^ 31 }
     requires text { text.now ≡ c ∷ rest.now }
     requires word { sign_at (context_of (surroundings_value surroundings.now)) c rest.now ≡ None }
     ensures found { IfOk result (λ s. (rows : List (List ℕ)) (tab : Option ℕ) (first : Bool) →
-        found_at rows tab first at (context_of (surroundings_value surroundings.now)) c rest.now ≡ standing_value at rows s) }
-    ensures rests { IfOk result (λ s. StandingRests at text.now s) }
+        found_at rows tab first at (context_of (surroundings_value surroundings.now)) c rest.now ≡ beginning_value at rows s) }
+    ensures rests { IfOk result (λ s. BeginningRests at text.now s) }
 {
     if at == 0
         && let Some(found) = document_at(alloc, surroundings, c, rest, text)?
     {
-        return Ok(Standing::Ended(found));
+        return Ok(Beginning::Ended(found));
     }
     word_at(alloc, at, surroundings, c, rest, text)
 }

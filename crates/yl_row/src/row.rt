@@ -10,11 +10,11 @@ ghost use Rattle.yl_row.specs.Sign.{sign_at, sign_found};
 ghost use Rattle.yl_row.specs.Step.{found_at, place_fault, found_in_row};
 ghost use Rattle.yl_row.specs.Entries.{RowReading, lexeme_of, ends_document};
 ghost use Rattle.yl_row.specs.Run.{lexeme_reading_by, row_reading_by};
-ghost use Rattle.yl_row.specs.Standing.{found_lexeme_value};
+ghost use Rattle.yl_row.specs.Beginning.{found_lexeme_value};
 ghost use Rattle.yl_row.specs.Rows.{behind_sign, reading_with_lexemes, reading_after, row_end_reading, EndsInComment, NextRests, EndRests};
 
 use crate::fault::{PlacedScanFault, or_else};
-use crate::found::{FoundLexeme, Standing, bad_in, found_at};
+use crate::found::{Beginning, FoundLexeme, bad_in, found_at};
 use crate::reader::ScalarReader;
 use crate::sign::{place_fault, sign_at, sign_fault};
 use crate::word::begins_comment;
@@ -217,11 +217,11 @@ fn lexeme<A: Allocator + Copy>(
 {
     let before = place_fault(surroundings, tab, first, at);
     match found_at(alloc, at, surroundings, c, rest, text)? {
-        Standing::Open(style, reader) => {
+        Beginning::Open(style, reader) => {
             let opened = open_lexeme(surroundings, before, first, at, style, reader)?;
             Ok(opened)
         }
-        Standing::Ended(found) => {
+        Beginning::Ended(found) => {
             let ended = ended_lexeme(surroundings, lexemes, before, first, at, found)?;
             Ok(ended)
         }

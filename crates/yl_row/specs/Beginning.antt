@@ -3,8 +3,8 @@ use Rattle.std.specs.Prelude.{◌≡◌, ◌<◌, ◌^◌, ℕ, List, Option, So
 use Rattle.std.specs.Str.{encode_utf8_all}
 use Rattle.yl_scalar.specs.Reading.{ScalarStepValue, GoesOn, EndsIn, EndedAbove, Fails}
 use Rattle.yl_row.specs.declared.found.FoundLexeme as code
-use Rattle.yl_row.specs.declared.found.Standing.{Standing}
-use Rattle.yl_row.specs.declared.found.Standing.TheVariants.{Ended, Open}
+use Rattle.yl_row.specs.declared.found.Beginning.{Beginning}
+use Rattle.yl_row.specs.declared.found.Beginning.TheVariants.{Ended, Open}
 use Rattle.yl_row.specs.Step.{FoundLexemeValue, found_in_row}
 use Rattle.yl_row.specs.ScalarReader.{open_found}
 use Rattle.yl_row.specs.Reader.{scalar_reader_value}
@@ -13,9 +13,9 @@ use Rattle.yl_row.specs.Begins.{Rests}
 abbrev pub found_lexeme_value : {A : Type 0} → code.FoundLexeme A → FoundLexemeValue
 found_lexeme_value f = found_in_row f.kind f.column (encode_utf8_all f.value) f.fault
 
-abbrev pub standing_value : {A : Type 0} → ℕ → List (List ℕ) → Standing A → FoundLexemeValue
-standing_value at rows (Ended f) = found_lexeme_value f
-standing_value at rows (Open style r) = open_found style at (scalar_reader_value r) rows
+abbrev pub beginning_value : {A : Type 0} → ℕ → List (List ℕ) → Beginning A → FoundLexemeValue
+beginning_value at rows (Ended f) = found_lexeme_value f
+beginning_value at rows (Open style r) = open_found style at (scalar_reader_value r) rows
 
 -- nothing of it is found, or that
 abbrev pub found_option : {A : Type 0} → Option (code.FoundLexeme A) → Option FoundLexemeValue
@@ -30,6 +30,6 @@ EndsHere (EndedAbove e) = (e.down ≡ 0) × (e.column < 2 ^ 32)
 EndsHere (Fails fault down column) = Unit {0}
 
 -- a scalar that may go on below begins at this column, with this text from there on: so it stands behind its first row
-abbrev pub StandingRests : {A : Type 0} → ℕ → List ℕ → Standing A → Type 0
-StandingRests at text (Ended f) = Unit {0}
-StandingRests at text (Open style r) = Rests at text (scalar_reader_value r)
+abbrev pub BeginningRests : {A : Type 0} → ℕ → List ℕ → Beginning A → Type 0
+BeginningRests at text (Ended f) = Unit {0}
+BeginningRests at text (Open style r) = Rests at text (scalar_reader_value r)
