@@ -7,3 +7,4 @@ pub mod KeptFacts
 pub mod FactsByLines
 pub mod WholeLines
 pub mod Columns
+pub mod Indices

@@ -4,6 +4,7 @@ use Rattle.std.specs.Prelude.{ℕ, suc, ◌≡◌, ◌≤◌, ◌+◌, ◌==◌,
 use Rattle.yl_lexeme.specs.Keys.{Spot, key_start}
 use Rattle.yl_marks.specs.declared.token.Token.{Token}
 use Rattle.yl_marks.specs.declared.symbol.Symbol.{Symbol}
+use Rattle.yl_marks.specs.declared.symbol.Symbol.TheVariants.{OpenSequence, OpenMapping, BeginKey, Close, One}
 use Rattle.yl_marks.specs.declared.symbol.KeyedToken.{KeyedToken}
 use Rattle.yl_marks.specs.declared.symbol.KeyStart.{KeyStart}
 use Rattle.yl_marks.specs.declared.symbol.Earlier.{Earlier}
@@ -78,3 +79,12 @@ by_line (x ∷ xs) = before_lines x (by_line xs)
 -- the marks of a document are the marks of its lines, one after another
 abbrev pub MarkedByLines : Type 0
 MarkedByLines = (xs : List Token) → marks_by_lines marker_at_start (by_line xs) ≡ symbols_of_tokens xs
+
+-- each lexeme among the symbols has an index of this kind
+abbrev pub HaveIndices : (ℕ → Type 0) → List Symbol → Type 0
+HaveIndices Is [] = Unit {0}
+HaveIndices Is (OpenSequence i ∷ ws) = HaveIndices Is ws
+HaveIndices Is (OpenMapping i ∷ ws) = HaveIndices Is ws
+HaveIndices Is (BeginKey i ∷ ws) = HaveIndices Is ws
+HaveIndices Is (Close ∷ ws) = HaveIndices Is ws
+HaveIndices Is (One kind i ∷ ws) = Is i × HaveIndices Is ws

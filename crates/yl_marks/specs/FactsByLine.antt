@@ -1,16 +1,17 @@
 -- Bridge: the facts of lexemes by what is kept of those before them, line by line. A key and its Value begin in one line (YAML 1.2.2,
 -- 7.4.2 and 8.2.2), so whether a key begins or ends at a lexeme shows in the lexeme's own line.
-use Rattle.std.specs.Prelude.{ℕ, suc, Bool, false, not, ◌&&◌, ◌||◌, if◌then◌else◌, List, [], ◌∷◌, ◌++◌, Option, Some, None, is_some}
+use Rattle.std.specs.Prelude.{ℕ, suc, ◌≡◌, Bool, false, not, ◌&&◌, ◌||◌, if◌then◌else◌, List, [], ◌∷◌, ◌++◌, map, Option, Some, None, is_some}
 use Rattle.yl_lexeme.specs.declared.lexeme.Kind.{Kind}
-use Rattle.yl_lexeme.specs.Lexeme.{is_key, is_property}
+use Rattle.yl_lexeme.specs.Lexeme.{LexemeValue, is_key, is_property}
 use Rattle.yl_lexeme.specs.Kept.{first_of}
 use Rattle.yl_marks.specs.declared.token.Token.{Token}
 use Rattle.yl_marks.specs.declared.symbol.KeyedToken.{KeyedToken}
 use Rattle.yl_marks.specs.declared.symbol.Marking.{Marking}
 use Rattle.yl_marks.specs.declared.facts.KeyFacts.{KeyFacts}
 use Rattle.yl_marks.specs.Marks.{marking}
-use Rattle.yl_marks.specs.ByLine.{MarkerValue, marker_at_start, keyed_tokens_of_line, behind_line}
-use Rattle.yl_marks.specs.Facts.{is_tag}
+use Rattle.yl_marks.specs.Keys.{token_of}
+use Rattle.yl_marks.specs.ByLine.{MarkerValue, marker_at_start, keyed_tokens_of_line, behind_line, by_line}
+use Rattle.yl_marks.specs.Facts.{is_tag, key_facts}
 
 -- behind one more lexeme: a tag is among the properties that the lexemes end in; they end in a Key and properties
 abbrev pub has_tag_behind : Bool → Marking → Bool
@@ -69,3 +70,7 @@ behind_keyed_line b xs = let all = keyed_tokens_of_line b.marks xs in record {
 abbrev pub facts_by_lines : KeyMarkerValue → List (List Token) → List KeyFacts
 facts_by_lines b [] = []
 facts_by_lines b (x ∷ xs) = facts_of_line b x ++ facts_by_lines (behind_keyed_line b x) xs
+
+-- what the keys of a document say of its lexemes is what they say of those of its lines, one after another
+abbrev pub KeysByLines : Type 0
+KeysByLines = (xs : List LexemeValue) → facts_by_lines key_marker_at_start (by_line (map token_of xs)) ≡ key_facts xs

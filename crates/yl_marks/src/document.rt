@@ -1,13 +1,13 @@
 //! The marks of a whole document, and what its keys say of its lexemes.
 
-ghost use Rattle.std.specs.Prelude.{◌≡◌, ◌≤◌, ◌<◌, ◌∷◌, false, map, length, take, drop, IfOk};
-ghost use Rattle.yl_marks.specs.ByLine.{by_line};
+ghost use Rattle.std.specs.Prelude.{◌≡◌, false, map, IfOk};
 ghost use Rattle.yl_marks.specs.Facts.{key_facts};
 ghost use Rattle.yl_marks.specs.Keys.{lexeme_at_line, token_of};
 ghost use Rattle.yl_marks.specs.Marks.{as_marked, column_at, marked_lexemes, symbols_of_lexemes};
 
 use crate::facts::KeyFacts;
 use crate::key_marker::KeyMarker;
+use crate::lines::lexemes_in_line;
 use crate::symbol::{Collection, Marked, Symbol};
 use std::alloc::{AllocError, Allocator};
 use yl_lexeme::LexemeAtLine;
@@ -19,8 +19,8 @@ pub struct DocumentMarks<A: Allocator> {
     pub keys: Vec<KeyFacts, A>,
 }
 
-/// The column of the lexeme of this index.
-fn column_at<A: Allocator>(lexemes: &[LexemeAtLine<'_, A>], i: usize) -> u32
+/// The column of the lexeme of this index; 0, if there is none.
+pub fn column_at<A: Allocator>(lexemes: &[LexemeAtLine<'_, A>], i: usize) -> u32
     ensures { result ≡ column_at (map token_of (map (λ x. lexeme_at_line x.line x.lexeme.now) lexemes.now)) i }
 {
     match lexemes.get(i) {
@@ -60,26 +60,6 @@ fn as_marked<A: Allocator + Copy>(
     Ok(marked)
 }
 
-/// How many of the lexemes, from the first on, begin in the line of the first.
-fn line_len<A: Allocator>(lexemes: &[LexemeAtLine<'_, A>]) -> usize
-    ensures most { result ≤ length lexemes.now }
-    ensures some { 0 < length lexemes.now → 0 < result }
-    ensures line { 0 < length lexemes.now → by_line (map token_of (map (λ x. lexeme_at_line x.line x.lexeme.now) lexemes.now))
-        ≡ map token_of (map (λ x. lexeme_at_line x.line x.lexeme.now) (take result lexemes.now))
-        ∷ by_line (map token_of (map (λ x. lexeme_at_line x.line x.lexeme.now) (drop result lexemes.now))) }
-{
-    let Some(first) = lexemes.first() else {
-        return 0;
-    };
-    let line = first.line;
-    for (len, at) in lexemes.iter().enumerate() {
-        if at.line != line {
-            return len;
-        }
-    }
-    lexemes.len()
-}
-
 /// The marks of one whole document, and what its keys say of each of its lexemes, in one pass over them. The only error is memory.
 pub fn document_marks<A: Allocator + Copy>(
     alloc: A,
@@ -94,7 +74,7 @@ pub fn document_marks<A: Allocator + Copy>(
     let mut read = 0;
     while read < lexemes.len() {
         let (_, rest) = lexemes.split_at(read);
-        let count = line_len(rest);
+        let count = lexemes_in_line(rest);
         let (line, _) = rest.split_at(count);
         marker.read(line, &mut symbols, &mut keys)?;
         read += count;

@@ -1,6 +1,7 @@
 //! The marks of a document: where its block collections open and close, and where its keys begin (YAML 1.2.2, 7.4.2 and 8.2).
 //!
-//! The definition, `specs/Marks.antt`, speaks of whole documents. The code reads one line of a document after another: `Marker`.
+//! The definition, `specs/Marks.antt`, speaks of whole documents. The code reads one line of a document after another: `Marker`, and `KeyMarker`,
+//! which also says what the keys say of each lexeme.
 #![tactic(auto)]
 
 mod document;
@@ -13,9 +14,10 @@ mod marks;
 mod symbol;
 mod token;
 
-pub use document::{DocumentMarks, document_marks, key_facts, mark, marked};
+pub use document::{DocumentMarks, column_at, document_marks, key_facts, mark, marked};
 pub use facts::KeyFacts;
-pub use lines::{line_len, marked_by_lines};
+pub use key_marker::KeyMarker;
+pub use lines::{keys_by_lines, lexemes_in_line, line_len, marked_by_lines};
 pub use marker::Marker;
 pub use symbol::{Collection, Marked, Symbol};
 pub use token::{Token, token_of};

@@ -6,7 +6,7 @@ use Rattle.yl_marks.proofs.document.document_marks.Goals as goal
 pub loop-read-smaller : goal.loop-read-smaller
 loop-read-smaller g c =
     let some : 0 < length c.split_at.result.1.now = omega (arith, c.split_at.ensures.back_len, c.loop-read-test.true) in
-    omega (arith, c.line_len-count.ensures.some some, c.loop-read-test.true)
+    omega (arith, c.lexemes_in_line-count.ensures.some some, c.loop-read-test.true)
 
 pub loop-read-preserved : goal.loop-read-preserved
 loop-read-preserved g c =
@@ -15,11 +15,11 @@ loop-read-preserved g c =
     let line = c.split_at-in-loop-read.result.0.now in
     let some : 0 < length rest = omega (arith, c.split_at.ensures.back_len, c.loop-read-test.true) in
     record {
-      within = omega (arith, c.line_len-count.ensures.most, c.split_at.ensures.back_len, c.loop-read-test.true);
-      symbols = symbols_more (λ x. lexeme_at_line x.line x.lexeme.now) all c.loop-read.read c.line_len-count.result _ rest line c.split_at.ensures.back c.split_at-in-loop-read.ensures.front refl
-          (c.line_len-count.ensures.line some) c.loop-read.marker c.read.new.self c.in_ok-read.ensures.behind _ _ _ c.in_ok-read.ensures.marks c.loop-read.invariant.symbols;
-      keys = keys_more (λ x. lexeme_at_line x.line x.lexeme.now) all c.loop-read.read c.line_len-count.result _ rest line c.split_at.ensures.back c.split_at-in-loop-read.ensures.front refl
-          (c.line_len-count.ensures.line some) c.loop-read.marker c.read.new.self c.in_ok-read.ensures.behind _ _ _ c.in_ok-read.ensures.keys c.loop-read.invariant.keys;
+      within = omega (arith, c.lexemes_in_line-count.ensures.most, c.split_at.ensures.back_len, c.loop-read-test.true);
+      symbols = symbols_more (λ x. lexeme_at_line x.line x.lexeme.now) all c.loop-read.read c.lexemes_in_line-count.result _ rest line c.split_at.ensures.back c.split_at-in-loop-read.ensures.front refl
+          (c.lexemes_in_line-count.ensures.line some) c.loop-read.marker c.read.new.self c.in_ok-read.ensures.behind _ _ _ c.in_ok-read.ensures.marks c.loop-read.invariant.symbols;
+      keys = keys_more (λ x. lexeme_at_line x.line x.lexeme.now) all c.loop-read.read c.lexemes_in_line-count.result _ rest line c.split_at.ensures.back c.split_at-in-loop-read.ensures.front refl
+          (c.lexemes_in_line-count.ensures.line some) c.loop-read.marker c.read.new.self c.in_ok-read.ensures.behind _ _ _ c.in_ok-read.ensures.keys c.loop-read.invariant.keys;
     }
 
 pub returns-clause-symbols : goal.returns-clause-symbols

@@ -2,7 +2,7 @@ use Rattle.std.proofs.Common.{◌≡◌, arith, drop, length, map}
 use Rattle.yl_marks.specs.Keys.{lexeme_at_line, token_of}
 use Rattle.yl_marks.proofs.Runs.{run_len}
 use Rattle.yl_marks.proofs.WholeLines.{run_ends, run_whole, first_line}
-use Rattle.yl_marks.proofs.document.line_len.Goals as goal
+use Rattle.yl_marks.proofs.lines.lexemes_in_line.Goals as goal
 
 pub returns-then-at-line-clause-line : goal.returns-then-at-line-clause-line
 returns-then-at-line-clause-line g c =
