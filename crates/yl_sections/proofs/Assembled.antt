@@ -17,14 +17,14 @@ use Rattle.yl_layout.specs.Lexemes.{lexeme_findings}
 use Rattle.yl_config.specs.declared.config.Config.{Config}
 use Rattle.yl_record.specs.Records.{RecordValue}
 use Rattle.yl_sections.specs.Sections.{lexemes_of}
-use Rattle.yl_sections.specs.Kept.{BuiltValue, SectionFaultValue, KeptValue, scan_fault_from, section_fault, shown_events, hidden_events, counted_of, comment_lines, shown_comments, lexeme_options_of, shown_comment_findings, tree_findings, facts_of, column_or, kept_of, is_on}
+use Rattle.yl_sections.specs.Kept.{BuiltValue, SectionFaultValue, KeptValue, scan_fault_from, section_fault, shown_events, hidden_events, counted_of, comment_lines, shown_comments, lexeme_options_of, shown_comment_findings, event_findings, facts_of, column_or, kept_of, is_on}
 use Rattle.yl_rules.specs.Addressed.{is_addressed}
 
 pub kept_is :
     (config : Config) (rs : List RecordValue) (b : BuiltValue) (xs : List LexemeValue) (scanned fault parse_fault : Option SectionFaultValue) (events behind : List EventValue) (counted rows lines first : ℕ)
     (comments kept : List PlacedCommentValue) (found hidden : List FindingValue) (facts : List Fact) (k : KeptValue)
     → k ≡ record { rows = rows; first = first; found = found; facts = facts; comments = kept; fault = fault; hidden = hidden; parse_fault = parse_fault }
-    → found ≡ lexeme_findings (lexeme_options_of config) counted xs ++ (shown_comment_findings config comments ++ tree_findings config events)
+    → found ≡ lexeme_findings (lexeme_options_of config) counted xs ++ (shown_comment_findings config comments ++ event_findings config events)
     → facts ≡ facts_of config rs xs counted
     → kept ≡ filter is_addressed comments
     → first ≡ column_or 0 (slice_get xs 0)
@@ -36,7 +36,7 @@ pub kept_is :
     → scanned ≡ scan_fault_from 0 rs
     → rows ≡ length rs
     → xs ≡ lexemes_of rs
-    → hidden ≡ tree_findings config behind
+    → hidden ≡ event_findings config behind
     → behind ≡ hidden_events fault parse_fault b.events
     → parse_fault ≡ section_fault xs b.fault None
     → k ≡ kept_of config rs b

@@ -20,11 +20,15 @@ use Rattle.yl_indentation.specs.declared.element.Element.{Element}
 use Rattle.yl_indentation.specs.Elements.{element_of, lexeme_element}
 use Rattle.yl_indentation.specs.Facts.{facts_after}
 use Rattle.yl_layout.specs.Lexemes.{lexeme_findings}
+use Rattle.yl_tree.specs.declared.options.AnchorsOptions.{AnchorsOptions}
+use Rattle.yl_tree.specs.declared.options.KeyDuplicatesOptions.{KeyDuplicatesOptions}
+use Rattle.yl_tree.specs.Tree.{anchors_if, key_duplicates_if, key_ordering_if}
 use Rattle.yl_config.specs.declared.config.Config.{Config}
+use Rattle.yl_config.specs.Config.{options_of}
 use Rattle.yl_record.specs.Records.{RecordValue}
 use Rattle.yl_sections.specs.declared.comments.LexemeEnd.{LexemeEnd}
 use Rattle.yl_sections.specs.Sections.{lexemes_from, lexemes_of}
-use Rattle.yl_sections.specs.Kept.{KeptValue, BuiltValue, SectionFaultValue, scan_fault_from, scan_fault_or, section_fault, parse_fault_or, or_behind, shown_events, hidden_events, counted_of, comment_lines, line_or, last_lexeme_end, comment_at, comments_from, shown_comments, lexeme_options_of, shown_comment_findings, tree_findings, items_if, is_on, facts_of, column_or, kept_with, kept_of}
+use Rattle.yl_sections.specs.Kept.{KeptValue, BuiltValue, SectionFaultValue, scan_fault_from, scan_fault_or, section_fault, parse_fault_or, or_behind, shown_events, hidden_events, counted_of, comment_lines, line_or, last_lexeme_end, comment_at, comments_from, shown_comments, lexeme_options_of, shown_comment_findings, event_findings, items_if, options_if, is_on, facts_of, column_or, kept_with, kept_of}
 use Rattle.yl_rules.specs.Addressed.{is_addressed}
 use Rattle.yl_sections.specs.Judge.{document_of, kept_of_section}
 use Rattle.yl_sections.specs.Front.{IsBare, IsFront}
@@ -161,42 +165,50 @@ front_facts config n rs counted h =
 
 -- ---- what is found
 
-no_items : (b : Bool) → items_if {X = FindingValue} b [] ≡ []
-no_items true = refl
-no_items false = refl
+none_repeated : (b : Bool) (o : KeyDuplicatesOptions) → key_duplicates_if (options_if b o) [] ≡ []
+none_repeated true o = refl
+none_repeated false o = refl
 
-none_found : (config : Config) → tree_findings config [] ≡ []
+none_misplaced : (b : Bool) → key_ordering_if b [] ≡ []
+none_misplaced true = refl
+none_misplaced false = refl
+
+no_anchors : (b : Bool) (o : AnchorsOptions) → anchors_if (options_if b o) [] ≡ []
+no_anchors true o = refl
+no_anchors false o = refl
+
+pub none_found : (config : Config) → event_findings config [] ≡ []
 none_found config =
-    rw (no_items (is_on config KeyDuplicates), no_items (is_on config KeyOrdering), no_items (is_on config Anchors)) refl
+    rw (none_repeated (is_on config KeyDuplicates) (options_of config).key_duplicates, none_misplaced (is_on config KeyOrdering), no_anchors (is_on config Anchors) (options_of config).anchors) refl
 
 -- with a fault in any case, without, and where the scan fault alone hides the events
 module _ (config : Config) (xs cs : List FindingValue) (es : List EventValue) where
-  hidden_twice : (f : Option SectionFaultValue) → tree_findings config (hidden_events f f es) ≡ []
+  hidden_twice : (f : Option SectionFaultValue) → event_findings config (hidden_events f f es) ≡ []
   hidden_twice None = none_found config
   hidden_twice (Some f) = none_found config
 
   abbrev Shown : Option SectionFaultValue → Option SectionFaultValue → Type 0
-  Shown fault parsed = (xs ++ (cs ++ tree_findings config (shown_events fault es))) ++ tree_findings config (hidden_events fault parsed es) ≡ xs ++ (cs ++ tree_findings config (shown_events parsed es))
+  Shown fault parsed = (xs ++ (cs ++ event_findings config (shown_events fault es))) ++ event_findings config (hidden_events fault parsed es) ≡ xs ++ (cs ++ event_findings config (shown_events parsed es))
 
-  nothing_more : (fs : List FindingValue) → (xs ++ (cs ++ fs)) ++ tree_findings config [] ≡ xs ++ (cs ++ fs)
+  nothing_more : (fs : List FindingValue) → (xs ++ (cs ++ fs)) ++ event_findings config [] ≡ xs ++ (cs ++ fs)
   nothing_more fs = ap (λ (gs : List FindingValue). (xs ++ (cs ++ fs)) ++ gs) (none_found config) ∙ append-nil (xs ++ (cs ++ fs))
 
-  all_hidden : (xs ++ (cs ++ tree_findings config [])) ++ tree_findings config es ≡ xs ++ (cs ++ tree_findings config es)
+  all_hidden : (xs ++ (cs ++ event_findings config [])) ++ event_findings config es ≡ xs ++ (cs ++ event_findings config es)
   all_hidden =
-      ap (λ (gs : List FindingValue). (xs ++ (cs ++ gs)) ++ tree_findings config es) (none_found config)
-      ∙ (ap (λ (gs : List FindingValue). (xs ++ gs) ++ tree_findings config es) (append-nil cs) ∙ append_assoc xs cs (tree_findings config es))
+      ap (λ (gs : List FindingValue). (xs ++ (cs ++ gs)) ++ event_findings config es) (none_found config)
+      ∙ (ap (λ (gs : List FindingValue). (xs ++ gs) ++ event_findings config es) (append-nil cs) ∙ append_assoc xs cs (event_findings config es))
 
   shown_none : (scanned : Option SectionFaultValue) → Shown scanned None
-  shown_none None = nothing_more (tree_findings config es)
+  shown_none None = nothing_more (event_findings config es)
   shown_none (Some f) = all_hidden
 
   shown_behind : (scanned : Option SectionFaultValue) (text : List ℕ) → Shown (or_behind scanned text) (or_behind None text)
-  shown_behind None text = nothing_more (tree_findings config [])
-  shown_behind (Some f) text = nothing_more (tree_findings config [])
+  shown_behind None text = nothing_more (event_findings config [])
+  shown_behind (Some f) text = nothing_more (event_findings config [])
 
   shown_at : (o : Option LexemeValue) (scanned : Option SectionFaultValue) (text : List ℕ) → Shown (parse_fault_or o text scanned) (parse_fault_or o text None)
   shown_at None scanned text = shown_behind scanned text
-  shown_at (Some x) scanned text = nothing_more (tree_findings config [])
+  shown_at (Some x) scanned text = nothing_more (event_findings config [])
 
   shown_all : (ls : List LexemeValue) (f : Option PlacedParseFault) (scanned : Option SectionFaultValue) → Shown (section_fault ls f scanned) (section_fault ls f None)
   shown_all ls None scanned = shown_none scanned
@@ -246,10 +258,10 @@ module _ (config : Config) (rs : List RecordValue) (n : ℕ) (b : BuiltValue) (w
       let comments = shown_comments (comment_lines (length rs) all b.fault) rs in
       let cs = shown_comment_findings config comments in
       let here : shown_comments (comment_lines (length (take n rs)) all b.fault) (take n rs) ≡ comments = comments_shown n rs all h.bare b.fault in
-      same_value (length (take n rs)) n (column_or 0 (slice_get all 0)) _ ((xs ++ (cs ++ tree_findings config (shown_events fault b.events))) ++ tree_findings config (hidden_events fault parsed b.events))
-      (tree_findings config (hidden_events parsed parsed b.events)) (facts_of config (take n rs) all counted) (facts_of config rs all counted) _ (filter is_addressed comments) parsed
+      same_value (length (take n rs)) n (column_or 0 (slice_get all 0)) _ ((xs ++ (cs ++ event_findings config (shown_events fault b.events))) ++ event_findings config (hidden_events fault parsed b.events))
+      (event_findings config (hidden_events parsed parsed b.events)) (facts_of config (take n rs) all counted) (facts_of config rs all counted) _ (filter is_addressed comments) parsed
       (length-take-le n rs within)
-      (ap (λ (ds : List PlacedCommentValue). xs ++ (shown_comment_findings config ds ++ tree_findings config (shown_events parsed b.events))) here ∙ sym (shown_all config xs cs b.events all b.fault (scan_fault_from 0 rs)))
+      (ap (λ (ds : List PlacedCommentValue). xs ++ (shown_comment_findings config ds ++ event_findings config (shown_events parsed b.events))) here ∙ sym (shown_all config xs cs b.events all b.fault (scan_fault_from 0 rs)))
       (front_facts config n rs counted h.bare)
       (ap (filter is_addressed) here)
       (hidden_twice config xs cs b.events parsed)

@@ -9,4 +9,5 @@ pub mod Lost
 pub mod Last
 pub mod Fronts
 pub mod Stateless
+pub mod Reading
 mod Examples

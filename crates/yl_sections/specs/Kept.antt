@@ -22,8 +22,8 @@ use Rattle.yl_layout.specs.declared.options.LexemeOptions.{LexemeOptions}
 use Rattle.yl_layout.specs.Lexemes.{lexeme_findings}
 use Rattle.yl_indentation.specs.declared.fact.Fact.{Fact}
 use Rattle.yl_indentation.specs.Facts.{indent_facts}
-use Rattle.yl_tree.specs.Anchors.{anchors}
-use Rattle.yl_tree.specs.KeyRules.{key_duplicates, key_ordering}
+use Rattle.yl_tree.specs.declared.options.TreeOptions.{TreeOptions}
+use Rattle.yl_tree.specs.Tree.{tree_findings}
 use Rattle.yl_rules.specs.Addressed.{is_addressed}
 use Rattle.yl_rules.specs.Comments.{comment_findings}
 use Rattle.yl_config.specs.declared.config.Config.{Config}
@@ -162,10 +162,16 @@ lexeme_options_of config = record {
 abbrev pub shown_comment_findings : Config → List PlacedCommentValue → List FindingValue
 shown_comment_findings config cs = items_if (is_on config Comments) (flat_map (comment_findings (options_of config).comments) cs)
 
-abbrev pub tree_findings : Config → List EventValue → List FindingValue
-tree_findings config es =
-    items_if (is_on config KeyDuplicates) (key_duplicates (options_of config).key_duplicates es)
-    ++ (items_if (is_on config KeyOrdering) (key_ordering es) ++ items_if (is_on config Anchors) (anchors (options_of config).anchors es))
+-- of the rules on keys and anchors
+abbrev pub tree_options_of : Config → TreeOptions
+tree_options_of config = record {
+  key_duplicates = options_if (is_on config KeyDuplicates) (options_of config).key_duplicates;
+  key_ordering = is_on config KeyOrdering;
+  anchors = options_if (is_on config Anchors) (options_of config).anchors;
+}
+
+abbrev pub event_findings : Config → List EventValue → List FindingValue
+event_findings config es = tree_findings (tree_options_of config) es
 
 -- the events count where the section has no fault
 abbrev pub shown_events : Option SectionFaultValue → List EventValue → List EventValue
@@ -214,11 +220,11 @@ kept_with config rs xs b fault =
       first = column_or 0 (slice_get xs 0);
       found =
           lexeme_findings (lexeme_options_of config) counted xs
-          ++ (shown_comment_findings config comments ++ tree_findings config (shown_events fault b.events));
+          ++ (shown_comment_findings config comments ++ event_findings config (shown_events fault b.events));
       facts = facts_of config rs xs counted;
       comments = filter is_addressed comments;
       fault = fault;
-      hidden = tree_findings config (hidden_events fault (section_fault xs b.fault None) b.events);
+      hidden = event_findings config (hidden_events fault (section_fault xs b.fault None) b.events);
       parse_fault = section_fault xs b.fault None;
     }
 

@@ -6,3 +6,4 @@ pub mod Local
 pub mod Front
 pub mod Last
 pub mod Laws
+pub mod Reading

@@ -2,70 +2,61 @@
 ghost use Rattle.std.specs.Prelude.{◌≡◌, ◌≤◌, ◌<◌, ◌-◌, ◌+◌, ◌++◌, ◌∷◌, ◌^◌, [], List, drop, map, length, slice_get, IfOk, OnOk};
 ghost use Rattle.yl_record.specs.Records.{RecordValue};
 ghost use Rattle.std.specs.Option.{option_map};
-ghost use Rattle.yl_events.specs.Event.{event_value};
+ghost use Rattle.yl_config.specs.declared.config.Config.{Config};
+ghost use Rattle.yl_events.specs.Event.{EventValue};
 ghost use Rattle.yl_marks.specs.Facts.{key_facts};
 ghost use Rattle.yl_marks.specs.Keys.{lexeme_at_line};
-ghost use Rattle.yl_marks.specs.Marks.{symbols_of_lexemes};
 ghost use Rattle.yl_sections.specs.Sections.{lexemes_of, sections};
-ghost use Rattle.yl_sections.specs.Kept.{column_or, counted_of, document_count, hidden_events, kept_of, scan_fault_from, section_fault, shown_events, documents_in};
-ghost use Rattle.yl_sections.specs.Judge.{built_value, document_of, kept_of_section};
+ghost use Rattle.yl_sections.specs.Kept.{BuiltValue, column_or, counted_of, document_count, event_findings, hidden_events, kept_of, scan_fault_from, section_fault, shown_events, documents_in};
+ghost use Rattle.yl_sections.specs.Judge.{kept_of_section};
 ghost use Rattle.yl_sections.specs.Owned.{section_fault_value};
+ghost use Rattle.yl_sections.specs.Reading.{IsReading};
 
 use crate::comments::{kept_comments, shown_comments};
 use crate::fault::{SectionFault, comment_lines, counted, scan_fault, section_fault};
 use crate::kept::Kept;
 use crate::lexemes::lexemes_of;
-use crate::rules::{facts, found, tree_found};
+use crate::reading::{Reading, read_document};
+use crate::rules::found;
 use crate::sections::section_len;
 use std::alloc::{AllocError, Allocator};
 use yl_config::Config;
-use yl_events::{Built, Event, parse_marked};
 use yl_lexeme::{LexemeAtLine, Meter};
-use yl_marks::{DocumentMarks, Symbol, document_marks};
 use yl_record::Record;
+use yl_text::Finding;
 
-/// What the document of these lexemes with these marks gives; no lexemes are no document.
-fn document_of<'a, A: Allocator + Copy>(
-    alloc: A,
-    lexemes: &[LexemeAtLine<'a, A>],
-    symbols: &[Symbol],
-    meter: &mut Meter,
-) -> Result<Built<'a, A>, AllocError>
-    requires symbols { symbols.now ≡ symbols_of_lexemes (map (λ x. lexeme_at_line x.line x.lexeme.now) lexemes.now) }
-    requires documents { meter.old.documents < 2 ^ 32 - 1 }
-    ensures built { IfOk result (λ b. built_value b ≡ document_of (map (λ x. lexeme_at_line x.line x.lexeme.now) lexemes.now)) }
-    ensures counted { meter.new
-        ≡ record meter.old { documents = meter.old.documents + document_count (map (λ x. lexeme_at_line x.line x.lexeme.now) lexemes.now) } }
-{
-    if lexemes.is_empty() {
-        return Ok(Built {
-            events: Vec::new(alloc),
-            fault: None,
-        });
-    }
-    parse_marked(alloc, lexemes, symbols, meter)
+/// What the rules on keys and anchors find in the document of a section, where it is shown, and where a scan fault alone hides it.
+#[derive(Drop)]
+struct TreeFindings<A: Allocator> {
+    shown: Vec<Finding<A>, A>,
+    hidden: Vec<Finding<A>, A>,
 }
 
-/// The events where the section has no fault.
-fn shown_events<'b, 'a>(fault: Option<SectionFault>, events: &'b [Event<'a>]) -> &'b [Event<'a>]
-    ensures { map event_value result.now ≡ shown_events (option_map section_fault_value fault) (map event_value events.now) }
-{
-    if fault.is_some() { &[] } else { events }
-}
-
-/// The events that a scan fault alone hides, in a section with this fault, which has that one without the scan fault.
-fn hidden_events<'b, 'a>(
+/// Whether this is shown in a section with this fault, or hidden by a scan fault alone; without that the section has the other fault.
+fn show_or_hide<A: Allocator + Copy>(
     fault: Option<SectionFault>,
     parse_fault: Option<SectionFault>,
-    events: &'b [Event<'a>],
-) -> &'b [Event<'a>]
-    ensures { map event_value result.now
-        ≡ hidden_events (option_map section_fault_value fault) (option_map section_fault_value parse_fault) (map event_value events.now) }
+    found: Vec<Finding<A>, A>,
+) -> TreeFindings<A>
+    ensures shown { (config : Config) (es : List EventValue) → found.items ≡ event_findings config es
+        → result.shown.items ≡ event_findings config (shown_events (option_map section_fault_value fault) es) }
+    ensures hidden { (config : Config) (es : List EventValue) → found.items ≡ event_findings config es
+        → result.hidden.items ≡ event_findings config (hidden_events (option_map section_fault_value fault) (option_map section_fault_value parse_fault) es) }
 {
-    if fault.is_some() && parse_fault.is_none() {
-        events
-    } else {
-        &[]
+    let alloc = *found.allocator();
+    match (fault, parse_fault) {
+        (None, _) => TreeFindings {
+            shown: found,
+            hidden: Vec::new(alloc),
+        },
+        (Some(_), None) => TreeFindings {
+            shown: Vec::new(alloc),
+            hidden: found,
+        },
+        (Some(_), Some(_)) => TreeFindings {
+            shown: Vec::new(alloc),
+            hidden: Vec::new(alloc),
+        },
     }
 }
 
@@ -79,46 +70,42 @@ fn first_column<A: Allocator>(lexemes: &[LexemeAtLine<'_, A>]) -> u32
     }
 }
 
-/// What is kept of the section of these rows with these lexemes and their marks, whose document gives this. Its events go before what
-/// indentation checks is gathered.
-fn keep<'a, A: Allocator + Copy>(
+/// What is kept of the section of these rows with these lexemes, of whose document this was read.
+fn keep<A: Allocator + Copy>(
     alloc: A,
     config: &Config,
-    records: &[&'a Record<A>],
-    lexemes: &[LexemeAtLine<'a, A>],
-    marks: &DocumentMarks<A>,
-    document: Built<'a, A>,
+    records: &[&Record<A>],
+    lexemes: &[LexemeAtLine<'_, A>],
+    reading: Reading<A>,
 ) -> Result<Kept<A>, AllocError>
     requires few { length records.now < 2 ^ 32 }
     requires lexemes { map (λ x. lexeme_at_line x.line x.lexeme.now) lexemes.now ≡ lexemes_of (map (λ r. r.now) records.now) }
-    requires symbols { marks.now.symbols.items ≡ symbols_of_lexemes (map (λ x. lexeme_at_line x.line x.lexeme.now) lexemes.now) }
-    requires keys { marks.now.keys.items ≡ key_facts (map (λ x. lexeme_at_line x.line x.lexeme.now) lexemes.now) }
-    requires inside { counted_of (map (λ x. lexeme_at_line x.line x.lexeme.now) lexemes.now) document.fault ≤ length lexemes.now }
-    ensures { IfOk result (λ k. k ≡ kept_of config.now (map (λ r. r.now) records.now) (built_value document.entry)) }
+    requires keys { reading.keys.items ≡ key_facts (map (λ x. lexeme_at_line x.line x.lexeme.now) lexemes.now) }
+    requires inside { counted_of (map (λ x. lexeme_at_line x.line x.lexeme.now) lexemes.now) reading.fault ≤ length lexemes.now }
+    ensures { (b : BuiltValue) → IsReading config.now (map (λ r. r.now) records.now) (map (λ x. lexeme_at_line x.line x.lexeme.now) lexemes.now) b reading.entry
+        → IfOk result (λ k. k ≡ kept_of config.now (map (λ r. r.now) records.now) b) }
 {
-    let Built {
-        events: all,
+    let Reading {
+        keys,
+        facts,
+        found: in_tree,
         fault: parsed,
-    } = document;
+    } = reading;
     let parse_fault = section_fault(lexemes, parsed, None);
     let fault = section_fault(lexemes, parsed, scan_fault(records));
-    let events = shown_events(fault, all.as_slice());
-    let hidden_events = hidden_events(fault, parse_fault, all.as_slice());
-    let counted = counted(lexemes, parsed);
     let lines = comment_lines(records.len(), lexemes, parsed);
     let comments = shown_comments(alloc, records, lines)?;
+    let in_tree = show_or_hide(fault, parse_fault, in_tree);
+    let counted = counted(lexemes, parsed);
     let found = found(
         alloc,
         config,
         lexemes,
-        &marks.keys,
+        &keys,
         counted,
         &comments,
-        events,
+        in_tree.shown,
     )?;
-    let hidden = tree_found(alloc, config, hidden_events)?;
-    drop(all);
-    let facts = facts(alloc, config, records, lexemes, &marks.symbols, counted)?;
     let comments = kept_comments(alloc, &comments)?;
     Ok(Kept::new(
         records.len() as u32,
@@ -127,7 +114,7 @@ fn keep<'a, A: Allocator + Copy>(
         facts,
         comments,
         fault,
-        hidden,
+        in_tree.hidden,
         parse_fault,
     ))
 }
@@ -146,9 +133,8 @@ pub fn judge<A: Allocator + Copy>(
         ≡ record meter.old { documents = meter.old.documents + document_count (lexemes_of (map (λ r. r.now) records.now)) }) }
 {
     let lexemes = lexemes_of(alloc, records)?;
-    let marks = document_marks(alloc, &lexemes)?;
-    let document = document_of(alloc, &lexemes, &marks.symbols, meter)?;
-    keep(alloc, config, records, &lexemes, &marks, document)
+    let reading = read_document(alloc, config, records, &lexemes, meter)?;
+    keep(alloc, config, records, &lexemes, reading)
 }
 
 /// Judges the sections of these rows but the last one, to which rows that follow may belong, and puts what is kept of each after the

@@ -11,6 +11,7 @@ mod judging;
 mod kept;
 mod laws;
 mod lexemes;
+mod reading;
 mod rules;
 mod sections;
 

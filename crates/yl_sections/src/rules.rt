@@ -9,7 +9,7 @@ ghost use Rattle.yl_layout.specs.Lexemes.{lexeme_findings};
 ghost use Rattle.yl_tree.specs.Anchors.{anchors};
 ghost use Rattle.yl_tree.specs.KeyRules.{key_duplicates, key_ordering};
 ghost use Rattle.yl_config.specs.Config.{options_of};
-ghost use Rattle.yl_sections.specs.Kept.{facts_of, is_on, items_if, lexeme_options_of, options_if, shown_comment_findings, tree_findings};
+ghost use Rattle.yl_sections.specs.Kept.{facts_of, is_on, items_if, lexeme_options_of, options_if, shown_comment_findings, event_findings};
 
 use crate::lexemes::indentations;
 use std::alloc::{AllocError, Allocator};
@@ -25,7 +25,7 @@ use yl_text::{Finding, RuleId};
 use yl_tree::{anchors, key_duplicates, key_ordering};
 
 /// Whether a rule is on.
-fn is_on(config: &Config, rule: RuleId) -> bool
+pub fn is_on(config: &Config, rule: RuleId) -> bool
     ensures { result ≡ is_on config.now rule }
 {
     config.levels().level_of(rule).is_some()
@@ -90,109 +90,42 @@ fn comments_found<A: Allocator + Copy>(
     comment_problems(alloc, comments, config.comments_options())
 }
 
-/// What the rule key-duplicates finds.
-fn duplicates_found<'a, A: Allocator + Copy>(
-    alloc: A,
-    config: &Config,
-    events: &[Event<'a>],
-) -> Result<Vec<Finding<A>, A>, AllocError>
-    ensures { IfOk result (λ v. v.items
-        ≡ items_if (is_on config.now RuleId.KeyDuplicates) (key_duplicates (options_of config.now).key_duplicates (map event_value events.now))) }
+/// The options of the rules on keys and anchors.
+pub fn tree_options(config: &Config) -> TreeOptions
+    ensures { result ≡ tree_options_of config.now }
 {
-    if !is_on(config, RuleId::KeyDuplicates) {
-        return Ok(Vec::new(alloc));
+    TreeOptions {
+        key_duplicates: options_if(
+            is_on(config, RuleId::KeyDuplicates),
+            config.key_duplicates_options(),
+        ),
+        key_ordering: is_on(config, RuleId::KeyOrdering),
+        anchors: options_if(is_on(config, RuleId::Anchors), config.anchors_options()),
     }
-    key_duplicates(alloc, events, config.key_duplicates_options())
 }
 
-/// What the rule key-ordering finds.
-fn misplaced_found<'a, A: Allocator + Copy>(
-    alloc: A,
-    config: &Config,
-    events: &[Event<'a>],
-) -> Result<Vec<Finding<A>, A>, AllocError>
-    ensures { IfOk result (λ v. v.items ≡ items_if (is_on config.now RuleId.KeyOrdering) (key_ordering (map event_value events.now))) }
-{
-    if !is_on(config, RuleId::KeyOrdering) {
-        return Ok(Vec::new(alloc));
-    }
-    key_ordering(alloc, events)
-}
-
-/// What the rule anchors finds.
-fn anchors_found<'a, A: Allocator + Copy>(
-    alloc: A,
-    config: &Config,
-    events: &[Event<'a>],
-) -> Result<Vec<Finding<A>, A>, AllocError>
-    ensures { IfOk result (λ v. v.items
-        ≡ items_if (is_on config.now RuleId.Anchors) (anchors (options_of config.now).anchors (map event_value events.now))) }
-{
-    if !is_on(config, RuleId::Anchors) {
-        return Ok(Vec::new(alloc));
-    }
-    anchors(alloc, events, config.anchors_options())
-}
-
-/// What the rules on keys and anchors find.
-pub fn tree_found<'a, A: Allocator + Copy>(
-    alloc: A,
-    config: &Config,
-    events: &[Event<'a>],
-) -> Result<Vec<Finding<A>, A>, AllocError>
-    ensures { IfOk result (λ v. v.items ≡ tree_findings config.now (map event_value events.now)) }
-{
-    let mut found = duplicates_found(alloc, config, events)?;
-    let mut misplaced = misplaced_found(alloc, config, events)?;
-    let mut anchors = anchors_found(alloc, config, events)?;
-    found.append(&mut misplaced)?;
-    found.append(&mut anchors)?;
-    Ok(found)
-}
-
-/// What the rules find in a section of which the first `counted` lexemes, these comments and these events are shown. `keys` are those
-/// of all lexemes.
-pub fn found<'a, A: Allocator + Copy>(
+/// What the rules find in a section of which the first `counted` lexemes, these comments and these events' findings are shown. `keys`
+/// are those of all lexemes.
+pub fn found<A: Allocator + Copy>(
     alloc: A,
     config: &Config,
     lexemes: &[LexemeAtLine<'_, A>],
     keys: &[KeyFacts],
     counted: usize,
     comments: &[PlacedComment<'_>],
-    events: &[Event<'a>],
+    in_tree: Vec<Finding<A>, A>,
 ) -> Result<Vec<Finding<A>, A>, AllocError>
     requires keys { keys.now ≡ key_facts (map (λ x. lexeme_at_line x.line x.lexeme.now) lexemes.now) }
     requires counted { counted ≤ length lexemes.now }
     ensures { IfOk result (λ v. v.items
         ≡ lexeme_findings (lexeme_options_of config.now) counted (map (λ x. lexeme_at_line x.line x.lexeme.now) lexemes.now)
-        ++ (shown_comment_findings config.now (map placed_comment_value comments.now) ++ tree_findings config.now (map event_value events.now))) }
+        ++ (shown_comment_findings config.now (map placed_comment_value comments.now) ++ in_tree.items)) }
 {
+    let mut in_tree = in_tree;
     let mut found = lexemes_found(alloc, config, lexemes, keys, counted)?;
     let mut of_comments = comments_found(alloc, config, comments)?;
-    let mut of_events = tree_found(alloc, config, events)?;
     found.append(&mut of_comments)?;
-    found.append(&mut of_events)?;
+    found.append(&mut in_tree)?;
     Ok(found)
 }
 
-/// What the rule indentation checks in a section of which the first `counted` lexemes are shown. `symbols` are all lexemes with their
-/// marks.
-pub fn facts<A: Allocator + Copy>(
-    alloc: A,
-    config: &Config,
-    records: &[&Record<A>],
-    lexemes: &[LexemeAtLine<'_, A>],
-    symbols: &[Symbol],
-    counted: usize,
-) -> Result<Vec<Fact, A>, AllocError>
-    requires { symbols.now ≡ symbols_of_lexemes (map (λ x. lexeme_at_line x.line x.lexeme.now) lexemes.now) }
-    ensures { IfOk result (λ v. v.items
-        ≡ facts_of config.now (map (λ r. r.now) records.now) (map (λ x. lexeme_at_line x.line x.lexeme.now) lexemes.now) counted) }
-{
-    if !is_on(config, RuleId::Indentation) {
-        return Ok(Vec::new(alloc));
-    }
-    let marks = marked(alloc, lexemes, symbols)?;
-    let indentations = indentations(alloc, records)?;
-    indent_facts(alloc, lexemes, &marks, counted, &indentations)
-}

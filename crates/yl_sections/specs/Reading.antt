@@ -1,0 +1,54 @@
+-- Bridge: what is read of a section's document line by line.
+use Rattle.std.specs.Prelude.{◌≡◌, ℕ, List, map, Option, Some, None}
+use Rattle.yl_text.specs.Finding.{FindingValue}
+use Rattle.yl_lexeme.specs.Lexeme.{LexemeValue}
+use Rattle.yl_marks.specs.Facts.{key_facts}
+use Rattle.yl_events.specs.declared.fault.PlacedParseFault.{PlacedParseFault}
+use Rattle.yl_events.specs.DocumentOutcome.{DocumentOutcome, Events, Fails}
+use Rattle.yl_events.specs.Event.{event_of_outline}
+use Rattle.yl_tree.specs.declared.tree_rules.TreeRules.{TreeRules}
+use Rattle.yl_tree.specs.TreeRules.{Finds}
+use Rattle.yl_config.specs.declared.config.Config.{Config}
+use Rattle.yl_record.specs.Records.{RecordValue}
+use Rattle.yl_sections.specs.declared.reading.Reading.{Reading}
+use Rattle.yl_sections.specs.Kept.{BuiltValue, counted_of, event_findings, facts_of}
+
+-- what was read of a document that gives this
+pub record IsReading {A : Type 0} (config : Config) (rs : List RecordValue) (xs : List LexemeValue) (b : BuiltValue) (r : Reading A) : Type 0 where
+  pub fault : r.fault ≡ b.fault
+  pub keys : r.keys.items ≡ key_facts xs
+  pub facts : r.facts.items ≡ facts_of config rs xs (counted_of xs b.fault)
+  pub found : r.found.items ≡ event_findings config b.events
+
+-- ---- while it is read
+
+abbrev pub fault_told : DocumentOutcome → Option PlacedParseFault
+fault_told (Events es) = None
+fault_told (Fails f) = Some f
+
+-- once the rules on keys and anchors are fed what is still told of the document of these lexemes, they find all this; under a fault nothing
+-- is said of them
+abbrev pub FindsAll : {A : Type 0} → TreeRules A → List LexemeValue → DocumentOutcome → List FindingValue → Type 0
+FindsAll t xs (Events es) all = Finds t (map (event_of_outline xs) es) all
+FindsAll t xs (Fails f) all = Unit {0}
+
+-- some of the document is read: what is still told of it has the same fault, and gives the rules the same findings; or it has this fault
+abbrev pub ReadsOn : {A : Type 0} → Option PlacedParseFault → List LexemeValue → TreeRules A → DocumentOutcome → TreeRules A → DocumentOutcome → Type 0
+ReadsOn None xs t before u after = (fault_told before ≡ fault_told after) × ((all : List FindingValue) → FindsAll t xs before all → FindsAll u xs after all)
+ReadsOn (Some f) xs t before u after = before ≡ Fails f
+
+-- what is still told of the document of these lexemes makes this of it, where what is found in it is what the rules find once they were fed
+-- that
+pub record Gives {A : Type 0} (config : Config) (xs : List LexemeValue) (t : TreeRules A) (o : DocumentOutcome) (b : BuiltValue) : Type 0 where
+  pub fault : fault_told o ≡ b.fault
+  pub found : FindsAll t xs o (event_findings config b.events)
+
+-- all lines were read, or the document has this fault
+abbrev pub GivesOrFails : {A : Type 0} → Option PlacedParseFault → Config → List LexemeValue → TreeRules A → DocumentOutcome → BuiltValue → Type 0
+GivesOrFails None config xs t o b = Gives config xs t o b
+GivesOrFails (Some f) config xs t o b = b.fault ≡ Some f
+
+-- so many lexemes count up to the end of a line, before which there are so many, in a document that may have a fault in it
+abbrev pub counted_in : Option PlacedParseFault → ℕ → ℕ
+counted_in None end = end
+counted_in (Some f) end = f.place
