@@ -16,7 +16,7 @@ use Rattle.yl_marks.specs.Keys.{token_of, keyed_token, keyed_tokens}
 use Rattle.yl_marks.specs.ByLine.{MarkerValue, line_pieces, keyed_tokens_of_line, marks_of_line}
 use Rattle.yl_marks.specs.Marks.{closes_collection, collections_left, closings, collection_to_open, opening, key_mark, closings_of_all, marks_at, open_behind, marking, marks, open_behind_all, symbols_of_lexemes}
 use Rattle.yl_events.specs.Derives.{lexeme_count, HasFaultAt}
-use Rattle.yl_events.proofs.Parts.{is_whole}
+use Rattle.yl_events.specs.SymbolParsing.{is_whole}
 
 count-append : (a b : List Symbol) → lexeme_count (a ++ b) ≡ lexeme_count a + lexeme_count b
 count-append [] b = omega arith

@@ -1,5 +1,5 @@
 -- What is told of a document is what the grammar says of it.
-use Rattle.std.specs.Prelude.{ℕ, ◌≡◌, ◌+◌, refl, List, [], ◌∷◌, ◌++◌, map, Option, Some, None}
+use Rattle.std.specs.Prelude.{◌≡◌, ◌+◌, refl, List, [], map, Option, Some, None}
 use Rattle.std.proofs.Common.{sym, ◌∙◌, ap, subst, arith}
 use Rattle.yl_lexeme.specs.Lexeme.{LexemeValue}
 use Rattle.yl_marks.specs.declared.symbol.Symbol.{Symbol}
@@ -8,17 +8,14 @@ use Rattle.yl_marks.specs.Marks.{symbols_of_lexemes}
 use Rattle.yl_marks.specs.ByLine.{by_line}
 use Rattle.yl_marks.proofs.ByLines.{marked_by_lines}
 use Rattle.yl_events.specs.declared.fault.PlacedParseFault.{PlacedParseFault}
-use Rattle.yl_events.specs.declared.fault.ParseFault.{ParseFault}
 use Rattle.yl_events.specs.declared.symbol.Outline.{Outline}
-use Rattle.yl_events.specs.declared.symbol.Shape.TheVariants.{DocumentEnd}
-use Rattle.yl_events.specs.Outlines.{end_event}
 use Rattle.yl_events.specs.Built.{Builds}
 use Rattle.yl_events.specs.Event.{EventValue}
 use Rattle.yl_events.specs.Derives.{Derives, HasFaultAt}
 use Rattle.yl_events.specs.Faults.{fault_of}
 use Rattle.yl_events.specs.Machine as m
 use Rattle.yl_events.specs.Machine.{run, taken_count, fault_place}
-use Rattle.yl_events.specs.Trail.{no_trail, fault_from}
+use Rattle.yl_events.specs.Trail.{no_trail}
 use Rattle.yl_events.specs.DocumentOutcome.{Events, Fails, document_outcome, outcome_by}
 use Rattle.yl_events.specs.Parsing.{parser_at_start, start_events, document_outcome_of_lines, IsOutcome, Gives}
 use Rattle.yl_events.proofs.Answered.{sound, fault}
@@ -58,18 +55,3 @@ pub fault_built : (xs : List LexemeValue) (ws : List Symbol) (fault : Option Pla
 fault_built xs ws fault f out es w h e none =
     let fails : outcome_by no_trail 0 m.goals_of_document start_events ws ≡ Fails f = subst (λ r. IsOutcome (outcome_by no_trail 0 m.goals_of_document start_events ws) r out) e h in
     (subst (Gives xs) fails (gives_symbols xs ws w), none)
-
--- ---- what a walk over all symbols tells
-
-pub events_told : (ws : List Symbol) (out out' : List Outline) → run ws m.goals_of_document start_events ≡ Some out → out' ≡ out ++ end_event DocumentEnd ∷ [] →
-    outcome_by no_trail 0 m.goals_of_document start_events ws ≡ Events out'
-events_told ws out out' e more =
-    ap (document_outcome no_trail 0 (taken_count ws m.goals_of_document start_events) ws) e ∙ ap Events (sym more)
-
-pub fault_told : (ws : List Symbol) (place : ℕ) (kind : ParseFault) → run ws m.goals_of_document start_events ≡ None → place ≡ taken_count ws m.goals_of_document start_events →
-    kind ≡ fault_from no_trail place ws → outcome_by no_trail 0 m.goals_of_document start_events ws ≡ Fails (record { kind = kind; place = place })
-fault_told ws place kind e there is =
-    let n = taken_count ws m.goals_of_document start_events in
-    ap (document_outcome no_trail 0 n ws) e
-    ∙ ap (λ k. Fails (record { kind = k; place = 0 + n })) (sym (is ∙ ap (λ p. fault_from no_trail p ws) there))
-    ∙ ap (λ p. Fails (record { kind = kind; place = p })) {x = 0 + n} {y = place} (omega arith)

@@ -8,5 +8,6 @@ pub mod Cutting
 pub mod Trails
 pub mod Parts
 pub mod Lines
+pub mod ToldBehind
 pub mod Giving
 mod Examples

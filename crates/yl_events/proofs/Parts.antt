@@ -14,6 +14,7 @@ use Rattle.yl_events.specs.Machine as m
 use Rattle.yl_events.specs.Machine.{ParserState, step, run, taken_count}
 use Rattle.yl_events.specs.Trail.{TrailValue, trail_after, fault_behind, fault_from}
 use Rattle.yl_events.specs.DocumentOutcome.{Fails, document_outcome, outcome_by, steps_onto, steps}
+use Rattle.yl_events.specs.SymbolParsing.{is_whole}
 use Rattle.yl_events.proofs.Trails.{fault_there, trail_after-append}
 
 -- ---- the machine
@@ -60,12 +61,6 @@ taken_stop (w ∷ ws) vs goals out e =
     (λ t h. taken_stop ws vs t.goals t.events h) e
 
 -- ---- no mark stands behind the last lexeme
-
--- where a lexeme or nothing stands before them
-abbrev pub is_whole : Bool → List Symbol → Bool
-is_whole b [] = b
-is_whole b (One kind i ∷ ws) = is_whole true ws
-is_whole b (w ∷ ws) = is_whole false ws
 
 some_lexeme : (ws : List Symbol) → is_whole false ws ≡ true → 0 < lexeme_count ws
 some_lexeme [] e = cc

@@ -10,3 +10,4 @@ pub mod DocumentOutcome
 pub mod Event
 pub mod Built
 pub mod Parsing
+pub mod SymbolParsing

@@ -1,8 +1,7 @@
 -- Bridge: a document is parsed line by line: what the lines from here on make of it.
-use Rattle.std.specs.Prelude.{ℕ, ◌≡◌, ◌+◌, List, [], ◌∷◌, Option, Some, None}
+use Rattle.std.specs.Prelude.{◌≡◌, List, [], ◌∷◌, Option, Some, None}
 use Rattle.yl_lexeme.specs.Lexeme.{LexemeValue}
 use Rattle.yl_marks.specs.declared.token.Token.{Token}
-use Rattle.yl_marks.specs.declared.symbol.Symbol.{Symbol}
 use Rattle.yl_marks.specs.Marks.{symbols_of_lexemes}
 use Rattle.yl_marks.specs.ByLine.{MarkerValue, marker_at_start, marks_by_lines}
 use Rattle.yl_events.specs.declared.symbol.Goal.{Goal}
@@ -10,11 +9,11 @@ use Rattle.yl_events.specs.declared.symbol.Outline.{Outline}
 use Rattle.yl_events.specs.declared.symbol.Shape.TheVariants.{DocumentStart}
 use Rattle.yl_events.specs.declared.fault.PlacedParseFault.{PlacedParseFault}
 use Rattle.yl_events.specs.Outlines.{bare_event}
-use Rattle.yl_events.specs.Machine.{goals_of_document, taken_count}
-use Rattle.yl_events.specs.Trail.{TrailValue, no_trail, trail_after, fault_from}
+use Rattle.yl_events.specs.Machine.{goals_of_document}
+use Rattle.yl_events.specs.Trail.{TrailValue, no_trail}
 use Rattle.yl_events.specs.Derives.{Derives}
 use Rattle.yl_events.specs.Built.{IsFaultOf}
-use Rattle.yl_events.specs.DocumentOutcome.{DocumentOutcome, Events, Fails, outcome_by, steps}
+use Rattle.yl_events.specs.DocumentOutcome.{DocumentOutcome, Events, Fails, outcome_by}
 
 -- what counts of the lines that were read
 pub record ParserValue : Type 0 where
@@ -51,11 +50,3 @@ IsOutcome t (Some f) out = t ≡ Fails f
 abbrev pub Gives : List LexemeValue → DocumentOutcome → Type 0
 Gives xs (Events es) = Derives (symbols_of_lexemes xs) es
 Gives xs (Fails f) = IsFaultOf xs f
-
--- ---- a line's symbols
-
--- all are taken, and the goals, the events and the trail are these; or one is refused, and the document has this fault
-abbrev pub Passes : TrailValue → ℕ → List Goal → List Outline → List Symbol → Option PlacedParseFault → TrailValue → List Goal → List Outline → Type 0
-Passes t count goals out ws None u goals' out' = (steps ws goals out ≡ Some (record { goals = goals'; events = out' })) × (u ≡ trail_after t ws)
-Passes t count goals out ws (Some f) u goals' out' =
-    (steps ws goals out ≡ None) × (f ≡ record { kind = fault_from t (taken_count ws goals out) ws; place = count + taken_count ws goals out })

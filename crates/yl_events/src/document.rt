@@ -1,22 +1,19 @@
 //! The events of a document, or its parse fault.
 
-ghost use Rattle.std.specs.Prelude.{◌≡◌, ◌<◌, ◌+◌, ◌^◌, ◌-◌, map, reverse, IfOk};
+ghost use Rattle.std.specs.Prelude.{◌≡◌, ◌<◌, ◌+◌, ◌^◌, ◌-◌, map, IfOk};
 ghost use Rattle.yl_marks.specs.Keys.{lexeme_at_line};
 ghost use Rattle.yl_marks.specs.Marks.{symbols_of_lexemes};
 ghost use Rattle.yl_events.specs.Event.{event_value, kind_value, value_at, start_at, content_value, kind_of, event_of_outline};
 ghost use Rattle.yl_events.specs.Built.{Builds};
-ghost use Rattle.yl_events.specs.Derives.{lexeme_count};
-ghost use Rattle.yl_events.specs.DocumentOutcome.{AnswersDocument, outcome_by};
-ghost use Rattle.yl_events.specs.Machine.{goals_of_document, run, taken_count};
+ghost use Rattle.yl_events.specs.DocumentOutcome.{outcome_by};
+ghost use Rattle.yl_events.specs.Machine.{goals_of_document};
 ghost use Rattle.yl_events.specs.Parsing.{start_events, IsOutcome};
 ghost use Rattle.yl_events.specs.Trail.{no_trail};
 
 use crate::event::{Built, Event, EventAnchor, EventKind};
 use crate::fault::PlacedParseFault;
-use crate::machine::{bare, finish, walk};
-use crate::parser::begin_document;
-use crate::symbol::{Goal, Outline, Shape};
-use crate::trail::Trail;
+use crate::symbol::{Outline, Shape};
+use crate::symbol_parser::SymbolParser;
 use std::alloc::{AllocError, Allocator};
 use yl_lexeme::{LexemeAtLine, Meter};
 use yl_marks::{Symbol, document_marks};
@@ -74,8 +71,8 @@ fn kind_of<'a, A: Allocator>(
     }
 }
 
-/// The event of an outline.
-fn fill<'a, A: Allocator>(lexemes: &[LexemeAtLine<'a, A>], outline: &Outline) -> Event<'a>
+/// The event of an outline of a document with these lexemes.
+pub fn event_of<'a, A: Allocator>(lexemes: &[LexemeAtLine<'a, A>], outline: &Outline) -> Event<'a>
     ensures { event_value result ≡ event_of_outline (map (λ x. lexeme_at_line x.line x.lexeme.now) lexemes.now) outline.now }
 {
     let place = match outline.place {
@@ -108,46 +105,13 @@ fn fill_all<'a, A: Allocator + Copy>(
 {
     let mut events = Vec::with_capacity(alloc, outlines.len())?;
     while let Some(outline) = outlines.pop() {
-        events.push(fill(lexemes, &outline))?;
+        events.push(event_of(lexemes, &outline))?;
         if outlines.len().is_multiple_of(DONE) {
             outlines.shrink_to_fit();
         }
     }
     events.reverse();
     Ok(events)
-}
-
-/// How many lexemes there are among the symbols.
-fn lexeme_count(symbols: &[Symbol]) -> usize
-    ensures { result ≡ lexeme_count symbols.now }
-{
-    let mut count = 0usize;
-    for symbol in symbols {
-        if let Symbol::One(_, _) = symbol {
-            count += 1;
-        }
-    }
-    count
-}
-
-/// Takes all symbols of a document, and leaves what is still to be read; or answers how many lexemes are taken before the fault.
-fn take_document<A: Allocator>(
-    symbols: &[Symbol],
-    goals: &mut Vec<Goal, A>,
-    outlines: &mut Vec<Outline, A>,
-) -> Result<Option<usize>, AllocError>
-    ensures { IfOk result (λ place. AnswersDocument (run symbols.now (reverse goals.old.items) outlines.old.items)
-        (taken_count symbols.now (reverse goals.old.items) outlines.old.items) place outlines.new.items) }
-{
-    match walk(symbols, goals, outlines)? {
-        None => {
-            if finish(goals, outlines)? {
-                return Ok(None);
-            }
-            Ok(Some(lexeme_count(symbols)))
-        }
-        Some(place) => Ok(Some(place)),
-    }
 }
 
 /// The outlines of a document's symbols, or its fault.
@@ -157,19 +121,11 @@ fn parse<A: Allocator + Copy>(
 ) -> Result<(Vec<Outline, A>, Option<PlacedParseFault>), AllocError>
     ensures { IfOk result (λ r. IsOutcome (outcome_by no_trail 0 goals_of_document start_events symbols.now) r.1 r.0.items) }
 {
-    let mut goals = Vec::new(alloc);
+    let mut parser = SymbolParser::new(alloc);
     let mut outlines = Vec::with_capacity(alloc, symbols.len())?;
-    begin_document(&mut goals, &mut outlines)?;
-    match take_document(symbols, &mut goals, &mut outlines)? {
-        None => {
-            outlines.push(bare(Shape::DocumentEnd, None))?;
-            Ok((outlines, None))
-        }
-        Some(place) => {
-            let kind = Trail::new(alloc).fault_from(place, symbols)?;
-            Ok((outlines, Some(PlacedParseFault { kind, place })))
-        }
-    }
+    parser.begin(&mut outlines)?;
+    let fault = parser.finish(0, symbols, &mut outlines)?;
+    Ok((outlines, fault))
 }
 
 /// The events of a document with these symbols, or its fault.

@@ -11,6 +11,7 @@ ghost use Rattle.yl_events.specs.Cut.{CutsByTwo};
 ghost use Rattle.yl_events.specs.Derives.{Derives, HasFaultAt};
 ghost use Rattle.yl_events.specs.Event.{EventValue, AreEvents};
 ghost use Rattle.yl_events.specs.Parsing.{parser_at_start, start_events, document_outcome_of_lines, Gives};
+ghost use Rattle.yl_events.specs.SymbolParsing.{ToldBehind};
 
 /// A document has at most one list of events, by its marked lexemes and by its lexemes.
 pub fn one_derivation()
@@ -33,4 +34,9 @@ pub fn told_documents()
 /// Where directives stand in their places, each two lexemes say whether a document begins between them.
 pub fn documents_cut_by_two()
     ensures { CutsByTwo }
+{}
+
+/// What was told before some symbols of a document stands in front of what they tell.
+pub fn told_behind()
+    ensures { ToldBehind }
 {}

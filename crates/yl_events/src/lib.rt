@@ -9,13 +9,15 @@ mod laws;
 mod machine;
 mod parser;
 mod symbol;
+mod symbol_parser;
 mod trail;
 
 pub use cuts::{begins_document, documents};
-pub use document::{parse_document, parse_marked};
+pub use document::{event_of, parse_document, parse_marked};
 pub use event::{Built, Event, EventAnchor, EventKind};
 pub use fault::{ParseFault, PlacedParseFault};
-pub use laws::{documents_cut_by_two, one_derivation, one_fault, told_documents};
+pub use laws::{documents_cut_by_two, one_derivation, one_fault, told_behind, told_documents};
 pub use parser::Parser;
 pub use symbol::{Outline, Shape};
+pub use symbol_parser::SymbolParser;
 pub use yl_marks::{Collection, Marked, Token, line_len, mark, token_of};

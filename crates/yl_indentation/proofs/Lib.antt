@@ -1,5 +1,6 @@
 pub mod Measured
 pub mod LookBack
 pub mod SlimElements
+pub mod BySymbols
 pub mod Places
 pub mod Examples

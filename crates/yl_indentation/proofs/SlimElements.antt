@@ -5,7 +5,7 @@ use Rattle.yl_indentation.specs.declared.element.Element.TheVariants.{Opening, C
 use Rattle.yl_indentation.specs.SlimElements.{slim_element}
 use Rattle.yl_indentation.specs.Context.{ContextValue, fact_in, facts_in, after}
 
-slim_fact : (c : ContextValue) (e : Element) → fact_in c (slim_element e) ≡ fact_in c e
+pub slim_fact : (c : ContextValue) (e : Element) → fact_in c (slim_element e) ≡ fact_in c e
 slim_fact c (Opening collection column) = refl
 slim_fact c Closing = refl
 slim_fact c (Marker site) = refl
@@ -14,7 +14,7 @@ slim_fact c (ClosingBracket site) = refl
 slim_fact c (Other site) = refl
 slim_fact c Nothing = refl
 
-slim_after : (c : ContextValue) (e : Element) → after (slim_element e) c ≡ after e c
+pub slim_after : (c : ContextValue) (e : Element) → after (slim_element e) c ≡ after e c
 slim_after c (Opening collection column) = refl
 slim_after c Closing = refl
 slim_after c (Marker site) = refl

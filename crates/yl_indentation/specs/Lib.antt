@@ -6,3 +6,4 @@ pub mod Context
 pub mod Measures
 pub mod Problems
 pub mod Laws
+pub mod SymbolFacts

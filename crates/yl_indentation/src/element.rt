@@ -4,10 +4,11 @@ ghost use Rattle.std.specs.Prelude.{◌≡◌, ◌<◌, ◌+◌, map, length, sl
 ghost use Rattle.yl_marks.specs.Keys.{lexeme_at_line, token_of};
 ghost use Rattle.yl_indentation.specs.Elements.{element_of, element_at, lexeme_element};
 ghost use Rattle.yl_indentation.specs.SlimElements.{slim_element};
+ghost use Rattle.yl_indentation.specs.SymbolFacts.{element_of_symbol};
 
 use std::alloc::Allocator;
 use yl_lexeme::{Kind, LexemeAtLine};
-use yl_marks::{Collection, Marked, Token, token_of};
+use yl_marks::{Collection, Marked, Symbol, Token, column_at, token_of};
 
 /// A lexeme and what stands around it.
 #[derive(Clone, Copy)]
@@ -119,5 +120,32 @@ pub fn element_of<A: Allocator>(
         Marked::Open(collection, column) => Element::Opening(collection, column),
         Marked::Close => Element::Closing,
         Marked::Lexeme(i, _) => element_of_lexeme(lexemes, counted, indentations, i),
+    }
+}
+
+/// The element of a symbol, in a document with these lexemes, of which the first `counted` count, as
+/// far as it is asked for. That a key begins is none.
+pub fn element_of_symbol<A: Allocator>(
+    lexemes: &[LexemeAtLine<'_, A>],
+    counted: usize,
+    indentations: &[u32],
+    symbol: Symbol,
+) -> Option<Element>
+    ensures { result ≡ element_of_symbol
+        (map token_of (map (λ x. lexeme_at_line x.line x.lexeme.now) lexemes.now))
+        counted indentations.now symbol }
+{
+    match symbol {
+        Symbol::OpenSequence(i) => Some(Element::Opening(
+            Collection::Sequence,
+            column_at(lexemes, i as usize),
+        )),
+        Symbol::OpenMapping(i) => Some(Element::Opening(
+            Collection::Mapping,
+            column_at(lexemes, i as usize),
+        )),
+        Symbol::BeginKey(_) => None,
+        Symbol::Close => Some(Element::Closing),
+        Symbol::One(_, i) => Some(element_of_lexeme(lexemes, counted, indentations, i as usize)),
     }
 }

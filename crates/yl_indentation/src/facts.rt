@@ -15,7 +15,7 @@ use yl_lexeme::LexemeAtLine;
 use yl_marks::Marked;
 
 /// Adds the fact of an element, if its place is checked, and goes on after it.
-fn push_fact<A: Allocator>(
+pub fn push_fact<A: Allocator>(
     element: Element,
     context: &mut Context<A>,
     facts: &mut Vec<Fact, A>,

@@ -2,7 +2,8 @@
 //! that stand elsewhere.
 //!
 //! The definition, `specs/Facts.antt`, looks back over the lexemes and marks before a place. The
-//! code keeps the collections that are open: `specs/Context.antt`. What a text decides for all its
+//! code keeps the collections that are open: `specs/Context.antt`. `FactReader` reads a document's
+//! symbols as they come: `specs/SymbolFacts.antt`. What a text decides for all its
 //! documents is their `Measure`.
 #![tactic(auto)]
 
@@ -12,12 +13,14 @@ mod context;
 mod element;
 mod expected;
 mod fact;
+mod fact_reader;
 mod facts;
 mod measure;
 mod options;
 mod problems;
 
 pub use fact::{Expectation, Fact};
+pub use fact_reader::{FactReader, facts_are_by_symbols};
 pub use facts::indent_facts;
 pub use measure::Measure;
 pub use options::{IndentSequences, IndentationOptions, Spaces};

@@ -1,5 +1,5 @@
 use Rattle.yl_events.proofs.Lines.{all_left, not_left, not_walked}
-use Rattle.yl_events.proofs.document.take_document.Goals as goal
+use Rattle.yl_events.proofs.symbol_parser.take_document.Goals as goal
 
 pub returns-in-Some : goal.returns-in-Some
 returns-in-Some g c =

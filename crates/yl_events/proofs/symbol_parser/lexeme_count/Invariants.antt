@@ -1,6 +1,6 @@
 use Rattle.std.proofs.Common.{◌≡◌, ◌≤◌, ◌+◌, drop}
 use Rattle.yl_events.specs.Derives.{lexeme_count}
-use Rattle.yl_events.proofs.document.lexeme_count.Given as goal
+use Rattle.yl_events.proofs.symbol_parser.lexeme_count.Given as goal
 
 abbrev pub invariant-loop-symbol : goal.invariant-loop-symbol
 invariant-loop-symbol l = record {

@@ -1,0 +1,160 @@
+//! A document is parsed as its symbols come.
+
+ghost use Rattle.std.specs.Prelude.{◌≡◌, ◌++◌, ◌+◌, true, reverse, OnOk, IfOk};
+ghost use Rattle.yl_events.specs.Derives.{lexeme_count};
+ghost use Rattle.yl_events.specs.DocumentOutcome.{AnswersDocument};
+ghost use Rattle.yl_events.specs.Machine.{run, taken_count};
+ghost use Rattle.yl_events.specs.Parsing.{start_events, IsOutcome};
+ghost use Rattle.yl_events.specs.SymbolParsing.{no_symbols, symbols_at_start, outcome_of_symbols, is_whole, FeedsSymbols};
+ghost use Rattle.yl_events.specs.Trail.{fault_from};
+
+use crate::fault::PlacedParseFault;
+use crate::machine::{bare, finish, walk};
+use crate::symbol::{Goal, Outline, Shape, Where};
+use crate::trail::Trail;
+use std::alloc::{AllocError, Allocator};
+use std::marker::Model;
+use yl_marks::Symbol;
+
+/// Parses a document whose symbols are fed some at a time, and tells its outlines: what counts of the symbols that were fed. It is
+/// used for one document after another.
+#[derive(Drop)]
+pub struct SymbolParser<A: Allocator> {
+    /// What is still to be read, the innermost last.
+    goals: Vec<Goal, A>,
+    trail: Trail<A>,
+}
+
+impl<A: Allocator> Model for SymbolParser<A> {
+    ghost use Rattle.std.specs.Prelude.{reverse};
+    ghost use Rattle.yl_events.specs.SymbolParsing.{SymbolParserValue};
+
+    ghost Value = { SymbolParserValue };
+
+    ghost view = { λ p. record { goals = reverse p.goals.items; trail = p.trail } };
+}
+
+impl<A: Allocator + Copy> SymbolParser<A> {
+    /// Where no document has begun: whatever is fed is refused.
+    pub fn new(alloc: A) -> SymbolParser<A>
+        ensures { result ≡ no_symbols }
+    {
+        SymbolParser {
+            goals: Vec::new(alloc),
+            trail: Trail::new(alloc),
+        }
+    }
+
+    /// A document begins: what was fed before is forgotten, and all room is kept. The only error is memory.
+    pub fn begin(&mut self, outlines: &mut Vec<Outline, A>) -> Result<(), AllocError>
+        ensures start { OnOk result (self.new ≡ symbols_at_start) }
+        ensures told { OnOk result (outlines.new.items ≡ outlines.old.items ++ start_events) }
+    {
+        self.trail.clear();
+        self.goals.clear();
+        self.goals.extend_from_slice(&[
+            Goal::Ending,
+            Goal::Formed(Where::InBlock(false), None),
+            Goal::Prefix,
+        ])?;
+        outlines.push(bare(Shape::DocumentStart, None))?;
+        Ok(())
+    }
+
+    /// Takes the document's next symbols, of which no mark stands behind the last lexeme, and tells their outlines behind those before;
+    /// or answers the document's fault, which it has however it goes on. `first` is how many of its lexemes stand before them. The only
+    /// error is memory, or more lexemes than a `usize` counts. Behind a fault or an error only `begin` makes the parser fit for use.
+    #[tactic(auto, using(crate::proofs::Lines::fed_all))]
+    pub fn feed(
+        &mut self,
+        first: usize,
+        symbols: &[Symbol],
+        outlines: &mut Vec<Outline, A>,
+    ) -> Result<Option<PlacedParseFault>, AllocError>
+        requires { is_whole true symbols.now ≡ true }
+        ensures { IfOk result (λ fault. FeedsSymbols self.old first outlines.old.items symbols.now fault self.new outlines.new.items) }
+    {
+        match walk(symbols, &mut self.goals, outlines)? {
+            None => {
+                self.trail.pass_all(symbols)?;
+                Ok(None)
+            }
+            Some(place) => {
+                let fault = fault_at(&mut self.trail, first, place, symbols)?;
+                Ok(Some(fault))
+            }
+        }
+    }
+
+    /// The document ends with these symbols: tells the last of its outlines, or answers its fault. `first` is how many of its lexemes
+    /// stand before them. The only error is memory, or more lexemes than a `usize` counts. Behind it `begin` is next.
+    #[tactic(auto, using(crate::proofs::Lines::all_told, crate::proofs::Lines::fault_told))]
+    pub fn finish(
+        &mut self,
+        first: usize,
+        symbols: &[Symbol],
+        outlines: &mut Vec<Outline, A>,
+    ) -> Result<Option<PlacedParseFault>, AllocError>
+        ensures { IfOk result (λ fault. IsOutcome (outcome_of_symbols self.old first outlines.old.items symbols.now) fault outlines.new.items) }
+    {
+        match take_document(symbols, &mut self.goals, outlines)? {
+            None => {
+                outlines.push(bare(Shape::DocumentEnd, None))?;
+                Ok(None)
+            }
+            Some(place) => {
+                let fault = fault_at(&mut self.trail, first, place, symbols)?;
+                Ok(Some(fault))
+            }
+        }
+    }
+}
+
+/// The fault at the lexeme of the index `place` among the symbols that come next, where `first` lexemes stand before these.
+fn fault_at<A: Allocator>(
+    trail: &mut Trail<A>,
+    first: usize,
+    place: usize,
+    symbols: &[Symbol],
+) -> Result<PlacedParseFault, AllocError>
+    ensures { IfOk result (λ f. f ≡ record { kind = fault_from trail.old place symbols.now; place = first + place }) }
+{
+    let kind = trail.fault_from(place, symbols)?;
+    let Some(place) = first.checked_add(place) else {
+        return Err(AllocError);
+    };
+    Ok(PlacedParseFault { kind, place })
+}
+
+/// How many lexemes there are among the symbols.
+fn lexeme_count(symbols: &[Symbol]) -> usize
+    ensures { result ≡ lexeme_count symbols.now }
+{
+    let mut count = 0usize;
+    for symbol in symbols {
+        if let Symbol::One(_, _) = symbol {
+            count += 1;
+        }
+    }
+    count
+}
+
+/// Takes all symbols of a document, and leaves what is still to be read; or answers how many lexemes are taken before the fault.
+fn take_document<A: Allocator>(
+    symbols: &[Symbol],
+    goals: &mut Vec<Goal, A>,
+    outlines: &mut Vec<Outline, A>,
+) -> Result<Option<usize>, AllocError>
+    ensures { IfOk result (λ place. AnswersDocument (run symbols.now (reverse goals.old.items) outlines.old.items)
+        (taken_count symbols.now (reverse goals.old.items) outlines.old.items) place outlines.new.items) }
+{
+    match walk(symbols, goals, outlines)? {
+        None => {
+            if finish(goals, outlines)? {
+                return Ok(None);
+            }
+            Ok(Some(lexeme_count(symbols)))
+        }
+        Some(place) => Ok(Some(place)),
+    }
+}
