@@ -3,7 +3,7 @@ use Rattle.std.proofs.Common.{◌≡◌, ◌<◌, ◌≤◌, ℕ, suc, ◌+◌, 
 use Rattle.std.specs.Prelude.{reverse}
 use Rattle.std.proofs.Math.Seq.{drop-cons, take-suc}
 use Rattle.std.proofs.Math.ListN.{get_or-map}
-use Rattle.std.proofs.lemmas.List.{reverse-append, length-map, append-nil, drop_all}
+use Rattle.std.proofs.lemmas.List.{reverse-append, length-map, drop_all}
 use Rattle.yl_events.specs.declared.event.Event.{Event}
 use Rattle.yl_events.specs.declared.event.EventKind.TheVariants.{DocumentStart}
 use Rattle.yl_text.specs.Finding.{at_each}
@@ -50,9 +50,8 @@ module _ {X Y : Type 0} (v : X → Y) (xs : List X) (i : ℕ) (d : X) (within : 
       let turn = rw drop_here at all_is in
       rw (new_is, append_assoc, before_more) turn
 
--- at the end all is found
-pub found_all : {X Y Z : Type 0} (v : X → Y) (xs : List X) (i : ℕ) (f : List Y → Y → List Y → List Z) (before : List Y) (found all : List Z)
-    → length xs ≤ i → found ++ at_each f before (drop i (map v xs)) ≡ all → found ≡ all
-found_all {X} {Y} {Z} v xs i f before found all past is =
+-- at the end nothing is left
+pub none_left : {X Y : Type 0} (v : X → Y) (xs : List X) (i : ℕ) → length xs ≤ i → drop i (map v xs) ≡ []
+none_left v xs i past =
     let beyond : length (map v xs) ≤ i = simp length-map past in
-    sym (append-nil found) ∙ ap (λ (ys : List Y). found ++ at_each f before ys) (sym (drop_all i (map v xs) beyond)) ∙ is
+    drop_all i (map v xs) beyond

@@ -1,9 +1,11 @@
 pub mod AtEach
 pub mod CodePoints
 mod Examples
+pub mod Finders
 pub mod Frames
 pub mod Keys
 pub mod KeyTold
 pub mod Names
 pub mod References
+pub mod Skipped
 pub mod Unused

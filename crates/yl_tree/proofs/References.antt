@@ -9,7 +9,7 @@ use Rattle.yl_tree.specs.declared.options.AnchorsOptions.{AnchorsOptions}
 use Rattle.yl_tree.specs.Anchors.{anchor_findings, anchors_at, undeclared_alias, is_alias_event}
 use Rattle.yl_tree.specs.References.{is_reference}
 
-both_false : (a b : Bool) → (a || b) ≡ false → (a ≡ false) × (b ≡ false)
+pub both_false : (a b : Bool) → (a || b) ≡ false → (a ≡ false) × (b ≡ false)
 both_false false b e = (refl, e)
 both_false true b e = cc
 
@@ -30,7 +30,7 @@ no_anchor : (o : AnchorsOptions) (before : List EventValue) (anchor : Option Eve
 no_anchor o before None after none = refl
 no_anchor o before (Some anchor) after none = cc
 
-nothing_at : (o : AnchorsOptions) (before : List EventValue) (e : EventValue)
+pub nothing_at : (o : AnchorsOptions) (before : List EventValue) (e : EventValue)
     (after : List EventValue) → is_reference e ≡ false → anchors_at o before e after ≡ []
 nothing_at o before e after none =
     let parts = both_false (is_some e.anchor) (is_alias_event e.kind) none in

@@ -1,4 +1,5 @@
 pub mod Anchors
+pub mod Finders
 pub mod Frames
 pub mod Greatest
 pub mod Keys
@@ -8,4 +9,6 @@ pub mod NameSets
 pub mod OpenNodes
 pub mod Order
 pub mod References
+pub mod Tree
+pub mod TreeRules
 pub mod Unused

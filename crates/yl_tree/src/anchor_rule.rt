@@ -210,7 +210,7 @@ fn push_problems<A: Allocator + Copy>(
 }
 
 /// Whether the event has an anchor or is an alias.
-fn is_reference(event: &Event<'_>) -> bool
+pub(crate) fn is_reference(event: &Event<'_>) -> bool
     ensures { result ≡ is_reference (event_value event.now) }
 {
     event.anchor().is_some() || matches!(event.kind, EventKind::Alias(_))

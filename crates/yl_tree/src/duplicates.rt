@@ -1,5 +1,6 @@
 //! The rule key-duplicates.
-ghost use Rattle.std.specs.Prelude.{◌≡◌, ◌++◌, ◌||◌, ℕ, List, [], map, not, false, IfOk, OnOk, bytes_eq};
+ghost use Rattle.std.specs.Prelude.{◌≡◌, ◌++◌, ◌∷◌, ◌||◌, ℕ, List, [], map, not, false, IfOk, OnOk, bytes_eq};
+ghost use Rattle.yl_text.specs.Finding.{FindingValue};
 ghost use Rattle.yl_events.specs.Event.{EventValue, event_value};
 ghost use Rattle.yl_tree.specs.Keys.{earlier_keys};
 ghost use Rattle.yl_tree.specs.KeyRules.{duplicate_at, is_duplicate, is_judged, key_duplicates};
@@ -26,8 +27,12 @@ struct KeySet<'a, A: Allocator + Copy> {
     others: NameSet<'a, A>,
 }
 
-impl<'a, A: Allocator + Copy> KeyMemory<'a> for KeySet<'a, A> {
+impl<'a, A: Allocator + Copy> KeyMemory for KeySet<'a, A> {
     type Alloc = A;
+
+    type Name = &'a str;
+
+    ghost name_value = { λ name. name.now };
 
     ghost speaks_against = { λ key q. bytes_eq key q };
 
@@ -104,6 +109,48 @@ fn push_duplicate<'a, A: Allocator + Copy>(
     Ok(())
 }
 
+/// The rule key-duplicates behind a document's first events.
+#[derive(Drop)]
+pub(crate) struct DuplicateFinder<'a, A: Allocator + Copy> {
+    options: KeyDuplicatesOptions,
+    walk: Walk<KeySet<'a, A>, A>,
+    found: Vec<Finding<A>, A>,
+}
+
+impl<'a, A: Allocator + Copy> DuplicateFinder<'a, A> {
+    ghost use Rattle.yl_tree.specs.Finders.{FindsDuplicates};
+
+    /// Before a document's first event.
+    pub(crate) fn new(alloc: A, options: KeyDuplicatesOptions) -> Self
+        ensures { (es : List EventValue) → FindsDuplicates result es (key_duplicates options es) }
+    {
+        DuplicateFinder {
+            options,
+            walk: walk::start::<KeySet<'a, A>>(alloc),
+            found: Vec::new(alloc),
+        }
+    }
+
+    /// Takes the next event.
+    pub(crate) fn push(&mut self, event: &Event<'a>) -> Result<(), AllocError>
+        ensures { (es : List EventValue) (all : List FindingValue)
+            → FindsDuplicates self.old (event_value event.now ∷ es) all
+            → OnOk result (FindsDuplicates self.new es all) }
+    {
+        let alloc = *self.found.allocator();
+        push_duplicate(&self.walk, event, &self.options, &mut self.found)?;
+        walk::step(alloc, &mut self.walk, event, walk::name_of(event))?;
+        Ok(())
+    }
+
+    /// What the rule found, where no event is to come.
+    pub(crate) fn finish(self) -> Vec<Finding<A>, A>
+        ensures { (all : List FindingValue) → FindsDuplicates self.entry [] all → result.items ≡ all }
+    {
+        self.found
+    }
+}
+
 /// What the rule key-duplicates finds in one document: each key that is equal to an earlier one of
 /// its mapping, in the order of the events. Lines are those of the events, and count from 1 as
 /// columns do. The only error is memory.
@@ -114,11 +161,9 @@ pub fn key_duplicates<'a, A: Allocator + Copy>(
 ) -> Result<Vec<Finding<A>, A>, AllocError>
     ensures { IfOk result (λ v. v.items ≡ key_duplicates options.now (map event_value events.now)) }
 {
-    let mut found = Vec::new(alloc);
-    let mut walk = walk::start::<KeySet<'a, A>>(alloc);
+    let mut finder = DuplicateFinder::new(alloc, *options);
     for event in events {
-        push_duplicate(&walk, event, options, &mut found)?;
-        walk::step(alloc, &mut walk, event)?;
+        finder.push(event)?;
     }
-    Ok(found)
+    Ok(finder.finish())
 }

@@ -21,8 +21,12 @@ fn is_greater(a: &str, b: &str) -> bool
     a > b
 }
 
-impl<'a, A: Allocator + Copy> KeyMemory<'a> for Greatest<'a, A> {
+impl<'a, A: Allocator + Copy> KeyMemory for Greatest<'a, A> {
     type Alloc = A;
+
+    type Name = &'a str;
+
+    ghost name_value = { λ name. name.now };
 
     ghost speaks_against = { is_greater };
 

@@ -1,6 +1,7 @@
 //! yamllint's rules key-duplicates, key-ordering and anchors, over a document's events.
 #![tactic(auto)]
 
+mod anchor_finder;
 mod anchor_rule;
 mod duplicates;
 mod greatest;
@@ -9,10 +10,12 @@ mod messages;
 mod name_set;
 mod options;
 mod ordering;
+mod tree_rules;
 mod walk;
 
 pub use anchor_rule::anchors;
 pub use duplicates::key_duplicates;
 pub use laws::code_point_order;
-pub use options::{AnchorsOptions, KeyDuplicatesOptions};
+pub use options::{AnchorsOptions, KeyDuplicatesOptions, TreeOptions};
 pub use ordering::key_ordering;
+pub use tree_rules::TreeRules;

@@ -49,3 +49,12 @@ impl AnchorsOptions {
         }
     }
 }
+
+/// For each rule on keys and anchors its options, or none where it is off.
+#[derive(Clone, Copy, Debug, PartialEq, Eq)]
+pub struct TreeOptions {
+    pub key_duplicates: Option<KeyDuplicatesOptions>,
+    /// Whether the rule is on: it has no options.
+    pub key_ordering: bool,
+    pub anchors: Option<AnchorsOptions>,
+}

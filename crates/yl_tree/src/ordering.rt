@@ -1,5 +1,6 @@
 //! The rule key-ordering.
-ghost use Rattle.std.specs.Prelude.{◌≡◌, ◌++◌, ℕ, List, [], map, IfOk, OnOk};
+ghost use Rattle.std.specs.Prelude.{◌≡◌, ◌++◌, ◌∷◌, ℕ, List, [], map, IfOk, OnOk};
+ghost use Rattle.yl_text.specs.Finding.{FindingValue};
 ghost use Rattle.yl_events.specs.Event.{EventValue, event_value};
 ghost use Rattle.yl_tree.specs.KeyRules.{is_greater, misplaced_at, key_ordering};
 ghost use Rattle.yl_tree.specs.Greatest.{is_some_greater};
@@ -41,6 +42,46 @@ fn push_misplaced<'a, A: Allocator + Copy>(
     Ok(())
 }
 
+/// The rule key-ordering behind a document's first events.
+#[derive(Drop)]
+pub(crate) struct MisplacedFinder<'a, A: Allocator + Copy> {
+    walk: Walk<Greatest<'a, A>, A>,
+    found: Vec<Finding<A>, A>,
+}
+
+impl<'a, A: Allocator + Copy> MisplacedFinder<'a, A> {
+    ghost use Rattle.yl_tree.specs.Finders.{FindsMisplaced};
+
+    /// Before a document's first event.
+    pub(crate) fn new(alloc: A) -> Self
+        ensures { (es : List EventValue) → FindsMisplaced result es (key_ordering es) }
+    {
+        MisplacedFinder {
+            walk: walk::start::<Greatest<'a, A>>(alloc),
+            found: Vec::new(alloc),
+        }
+    }
+
+    /// Takes the next event.
+    pub(crate) fn push(&mut self, event: &Event<'a>) -> Result<(), AllocError>
+        ensures { (es : List EventValue) (all : List FindingValue)
+            → FindsMisplaced self.old (event_value event.now ∷ es) all
+            → OnOk result (FindsMisplaced self.new es all) }
+    {
+        let alloc = *self.found.allocator();
+        push_misplaced(&self.walk, event, &mut self.found)?;
+        walk::step(alloc, &mut self.walk, event, walk::name_of(event))?;
+        Ok(())
+    }
+
+    /// What the rule found, where no event is to come.
+    pub(crate) fn finish(self) -> Vec<Finding<A>, A>
+        ensures { (all : List FindingValue) → FindsMisplaced self.entry [] all → result.items ≡ all }
+    {
+        self.found
+    }
+}
+
 /// What the rule key-ordering finds in one document: each key that has a greater one before it in
 /// its mapping, by code points, in the order of the events. Lines are those of the events, and
 /// count from 1 as columns do. The only error is memory.
@@ -50,11 +91,9 @@ pub fn key_ordering<'a, A: Allocator + Copy>(
 ) -> Result<Vec<Finding<A>, A>, AllocError>
     ensures { IfOk result (λ v. v.items ≡ key_ordering (map event_value events.now)) }
 {
-    let mut found = Vec::new(alloc);
-    let mut walk = walk::start::<Greatest<'a, A>>(alloc);
+    let mut finder = MisplacedFinder::new(alloc);
     for event in events {
-        push_misplaced(&walk, event, &mut found)?;
-        walk::step(alloc, &mut walk, event)?;
+        finder.push(event)?;
     }
-    Ok(found)
+    Ok(finder.finish())
 }

@@ -1,6 +1,6 @@
 //! Which events of a document are keys, and what is remembered of the earlier keys of their
 //! mappings.
-ghost use Rattle.std.specs.Prelude.{◌≡◌, ℕ, List, [], ◌∷◌, Bool, false, ◌||◌, ◌&&◌, reverse, OnOk, option_copied, option_to_list};
+ghost use Rattle.std.specs.Prelude.{◌≡◌, ℕ, List, [], ◌∷◌, Bool, false, ◌||◌, ◌&&◌, reverse, OnOk, option_copied, option_map, option_to_list};
 ghost use Rattle.std.specs.List.{list_any};
 ghost use Rattle.yl_events.specs.Event.{EventValue, event_value, kind_value};
 ghost use Rattle.yl_tree.specs.Keys.{is_collection_start, is_collection_end, is_mapping_start, compared_value, name_of, earlier_keys};
@@ -13,8 +13,13 @@ use yl_events::{Event, EventKind};
 use yl_lexeme::Style;
 
 /// What a rule remembers of the earlier keys of a mapping: enough to test a key by them.
-pub(crate) trait KeyMemory<'a>: Drop {
+pub(crate) trait KeyMemory: Drop {
     type Alloc: Allocator + Copy;
+
+    /// The name of a key.
+    type Name: Copy;
+
+    ghost name_value: { Self.Name → List ℕ };
 
     /// Whether an earlier key, the first, speaks against a key.
     ghost speaks_against: { List ℕ → List ℕ → Bool };
@@ -29,9 +34,9 @@ pub(crate) trait KeyMemory<'a>: Drop {
         ensures { (q : List ℕ) → is_against result q ≡ false };
 
     /// Remembers a key.
-    fn remember(&mut self, key: &'a str) -> Result<(), AllocError>
+    fn remember(&mut self, key: Self::Name) -> Result<(), AllocError>
         ensures { OnOk result ((q : List ℕ) → is_against self.new q
-            ≡ speaks_against key.now q || is_against self.old q) };
+            ≡ speaks_against (name_value key) q || is_against self.old q) };
 
     /// Whether a remembered key speaks against this one.
     fn is_against(&self, key: &str) -> bool
@@ -53,7 +58,7 @@ pub(crate) struct Walk<M, A: Allocator> {
     outer: Vec<Frame<M>, A>,
 }
 
-fn new_frame<'a, M: KeyMemory<'a>>(alloc: M::Alloc, is_mapping: bool) -> Frame<M>
+fn new_frame<M: KeyMemory>(alloc: M::Alloc, is_mapping: bool) -> Frame<M>
     ensures { Agrees M.speaks_against M.is_against result (new_collection is_mapping) }
 {
     Frame {
@@ -63,12 +68,9 @@ fn new_frame<'a, M: KeyMemory<'a>>(alloc: M::Alloc, is_mapping: bool) -> Frame<M
     }
 }
 
-fn remember_some<'a, M: KeyMemory<'a>>(
-    memory: &mut M,
-    name: Option<&'a str>,
-) -> Result<(), AllocError>
+fn remember_some<M: KeyMemory>(memory: &mut M, name: Option<M::Name>) -> Result<(), AllocError>
     ensures { OnOk result ((q : List ℕ) → M.is_against memory.new q
-        ≡ list_any (λ k. M.speaks_against k q) (option_to_list (option_copied name.entry))
+        ≡ list_any (λ k. M.speaks_against k q) (option_to_list (option_map M.name_value name))
         || M.is_against memory.old q) }
 {
     if let Some(name) = name {
@@ -84,13 +86,11 @@ fn is_key_next<M>(frame: &Frame<M>) -> bool
 }
 
 /// Takes a node of this name more.
-fn add_node<'a, M: KeyMemory<'a>>(
-    frame: &mut Frame<M>,
-    name: Option<&'a str>,
-) -> Result<(), AllocError>
+fn add_node<M: KeyMemory>(frame: &mut Frame<M>, name: Option<M::Name>) -> Result<(), AllocError>
     ensures { (o : OpenCollection) → Agrees M.speaks_against M.is_against frame.old o
         → OnOk result
-        (Agrees M.speaks_against M.is_against frame.new (with_node (option_copied name.entry) o)) }
+        (Agrees M.speaks_against M.is_against frame.new
+        (with_node (option_map M.name_value name) o)) }
 {
     let is_key = is_key_next(frame);
     frame.is_key_next = !frame.is_key_next;
@@ -98,7 +98,7 @@ fn add_node<'a, M: KeyMemory<'a>>(
 }
 
 /// Closes the innermost collection.
-fn close<'a, M: KeyMemory<'a>>(
+fn close<M: KeyMemory>(
     alloc: M::Alloc,
     innermost: &mut Frame<M>,
     outer: &mut Vec<Frame<M>, M::Alloc>,
@@ -115,10 +115,10 @@ fn close<'a, M: KeyMemory<'a>>(
 }
 
 /// Opens a collection in the innermost one.
-fn open<'a, M: KeyMemory<'a>>(
+fn open<M: KeyMemory>(
     alloc: M::Alloc,
     is_mapping: bool,
-    name: Option<&'a str>,
+    name: Option<M::Name>,
     innermost: &mut Frame<M>,
     outer: &mut Vec<Frame<M>, M::Alloc>,
 ) -> Result<(), AllocError>
@@ -127,7 +127,7 @@ fn open<'a, M: KeyMemory<'a>>(
         → OnOk result
         (Agrees M.speaks_against M.is_against innermost.new (new_collection is_mapping)
         × AllAgree M.speaks_against M.is_against (reverse outer.new.items)
-        (with_node (option_copied name.entry) s.innermost ∷ s.outer)) }
+        (with_node (option_map M.name_value name) s.innermost ∷ s.outer)) }
 {
     add_node(innermost, name)?;
     let before = mem::replace(innermost, new_frame(alloc, is_mapping));
@@ -164,7 +164,7 @@ pub(crate) fn name_of<'a>(event: &Event<'a>) -> Option<&'a str>
 }
 
 /// Before a document's first event.
-pub(crate) fn start<'a, M: KeyMemory<'a>>(alloc: M::Alloc) -> Walk<M, M::Alloc>
+pub(crate) fn start<M: KeyMemory>(alloc: M::Alloc) -> Walk<M, M::Alloc>
     ensures { IsBehind M.speaks_against M.is_against result [] }
 {
     Walk {
@@ -173,13 +173,16 @@ pub(crate) fn start<'a, M: KeyMemory<'a>>(alloc: M::Alloc) -> Walk<M, M::Alloc>
     }
 }
 
-/// Takes one event more.
-pub(crate) fn step<'a, M: KeyMemory<'a>>(
+/// Takes one event more, of this name.
+pub(crate) fn step<M: KeyMemory>(
     alloc: M::Alloc,
     walk: &mut Walk<M, M::Alloc>,
-    event: &Event<'a>,
+    event: &Event<'_>,
+    name: Option<M::Name>,
 ) -> Result<(), AllocError>
-    ensures { (before : List EventValue) → IsBehind M.speaks_against M.is_against walk.old before
+    ensures { (before : List EventValue)
+        → option_map M.name_value name ≡ name_of (event_value event.now)
+        → IsBehind M.speaks_against M.is_against walk.old before
         → OnOk result (IsBehind M.speaks_against M.is_against walk.new (event_value event.now
         ∷ before)) }
 {
@@ -187,7 +190,6 @@ pub(crate) fn step<'a, M: KeyMemory<'a>>(
         close(alloc, &mut walk.innermost, &mut walk.outer);
         return Ok(());
     }
-    let name = name_of(event);
     if is_start(&event.kind) {
         let is_mapping = is_mapping_start(&event.kind);
         return open(
@@ -203,7 +205,7 @@ pub(crate) fn step<'a, M: KeyMemory<'a>>(
 }
 
 /// Whether an earlier key of its mapping speaks against this name, if a key comes next.
-pub(crate) fn is_spoken_against<'a, M: KeyMemory<'a>>(walk: &Walk<M, M::Alloc>, name: &str) -> bool
+pub(crate) fn is_spoken_against<M: KeyMemory>(walk: &Walk<M, M::Alloc>, name: &str) -> bool
     ensures { (before : List EventValue) → IsBehind M.speaks_against M.is_against walk.now before
         → result ≡ list_any (λ key. M.speaks_against key name.now) (earlier_keys before) }
 {

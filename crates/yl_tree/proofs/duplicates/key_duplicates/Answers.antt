@@ -1,7 +1,6 @@
-use Rattle.std.proofs.Common.{◌+◌, ◌<◌, ◌≤◌, length, take, drop, reverse, map, arith}
+use Rattle.std.proofs.Common.{◌+◌, ◌<◌, ◌≤◌, length, drop, map, arith}
 use Rattle.yl_events.specs.Event.{event_value}
-use Rattle.yl_tree.specs.KeyRules.{duplicate_at}
-use Rattle.yl_tree.proofs.AtEach.{no_event, before_more, found_more, found_all}
+use Rattle.yl_tree.proofs.AtEach.{no_event, drop_here, none_left}
 use Rattle.yl_tree.proofs.duplicates.key_duplicates.Goals as goal
 
 pub loop-event-preserved : goal.loop-event-preserved
@@ -9,17 +8,11 @@ loop-event-preserved g c =
     let es = c.args.events.now in
     let i = c.loop-event.event-index in
     let inside : i < length es = omega arith in
-    let before = reverse (take i (map event_value es)) in
-    let told = c.in_ok-push_duplicate.ensures before (drop (i + 1) (map event_value es)) c.loop-event.invariant.walk in
-    record {
-      walk = rw (before_more event_value es i no_event inside) (c.in_ok-step.ensures before c.loop-event.invariant.walk);
-      found =
-          found_more event_value es i no_event inside (duplicate_at c.args.options.now) _ _ _
-          told c.loop-event.invariant.found;
-    }
+    c.in_ok-push.ensures (drop (i + 1) (map event_value es)) _
+    (rw (drop_here event_value es i no_event inside) at c.loop-event.invariant)
 
 pub returns : goal.returns
 returns g c =
     let es = c.args.events.now in
     let past : length es ≤ c.loop-event.event-index = omega arith in
-    found_all event_value es c.loop-event.event-index (duplicate_at c.args.options.now) _ _ _ past c.loop-event.invariant.found
+    c.finish.ensures _ (rw (none_left event_value es c.loop-event.event-index past) at c.loop-event.invariant)

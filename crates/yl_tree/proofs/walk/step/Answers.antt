@@ -5,6 +5,6 @@ use Rattle.yl_tree.proofs.Frames.{leaf_more}
 use Rattle.yl_tree.proofs.walk.step.Goals as goal
 
 pub returns : goal.returns
-returns g c = λ before b.
+returns g c = λ before named b.
     leaf_more g.M.KeyMemory.speaks_against g.M.KeyMemory.is_against _ before (event_value c.args.event.now) (sym c.if-is_end.ensures) (sym c.if-is_start.ensures)
-    (rw c.name_of-name.ensures at (c.in_ok-add_node.ensures (collections_behind before).innermost b.innermost)) b.outer
+    (rw named at (c.in_ok-add_node.ensures (collections_behind before).innermost b.innermost)) b.outer

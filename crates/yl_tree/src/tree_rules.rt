@@ -1,0 +1,198 @@
+//! The rules on keys and anchors, fed a document's events one after another.
+ghost use Rattle.std.specs.Prelude.{◌≡◌, List, [], ◌∷◌, IfOk, OnOk};
+ghost use Rattle.yl_text.specs.Finding.{FindingValue};
+ghost use Rattle.yl_events.specs.Event.{EventValue, event_value};
+ghost use Rattle.yl_tree.specs.Tree.{anchors_if, key_duplicates_if, key_ordering_if, tree_findings};
+ghost use Rattle.yl_tree.specs.Finders.{FindsAnchors, FindsDuplicates, FindsIf, FindsMisplaced};
+
+use crate::anchor_finder::AnchorFinder;
+use crate::duplicates::DuplicateFinder;
+use crate::options::TreeOptions;
+use crate::ordering::MisplacedFinder;
+use std::alloc::{AllocError, Allocator};
+use yl_events::Event;
+use yl_text::Finding;
+
+/// The rules on keys and anchors behind a document's first events. They keep what they found, the
+/// keys of open mappings, and the events that have an anchor or are an alias. A rule that is off
+/// keeps nothing.
+#[derive(Drop)]
+pub struct TreeRules<'a, A: Allocator + Copy> {
+    alloc: A,
+    key_duplicates: Option<DuplicateFinder<'a, A>>,
+    key_ordering: Option<MisplacedFinder<'a, A>>,
+    anchors: Option<AnchorFinder<'a, A>>,
+}
+
+/// The rule key-duplicates before a document's first event, if it is on.
+fn duplicate_finder<'a, A: Allocator + Copy>(
+    alloc: A,
+    options: &TreeOptions,
+) -> Option<DuplicateFinder<'a, A>>
+    ensures { (es : List EventValue)
+        → FindsIf FindsDuplicates result es (key_duplicates_if options.now.key_duplicates es) }
+{
+    let options = options.key_duplicates?;
+    Some(DuplicateFinder::new(alloc, options))
+}
+
+/// The rule key-ordering before a document's first event, if it is on.
+fn misplaced_finder<'a, A: Allocator + Copy>(
+    alloc: A,
+    options: &TreeOptions,
+) -> Option<MisplacedFinder<'a, A>>
+    ensures { (es : List EventValue)
+        → FindsIf FindsMisplaced result es (key_ordering_if options.now.key_ordering es) }
+{
+    if !options.key_ordering {
+        return None;
+    }
+    Some(MisplacedFinder::new(alloc))
+}
+
+/// The rule anchors before a document's first event, if it is on.
+fn anchor_finder<'a, A: Allocator + Copy>(
+    alloc: A,
+    options: &TreeOptions,
+) -> Option<AnchorFinder<'a, A>>
+    ensures { (es : List EventValue)
+        → FindsIf FindsAnchors result es (anchors_if options.now.anchors es) }
+{
+    let options = options.anchors?;
+    Some(AnchorFinder::new(alloc, options))
+}
+
+/// Gives the next event to the rule key-duplicates, if it is on.
+fn push_to_duplicates<'a, A: Allocator + Copy>(
+    finder: &mut Option<DuplicateFinder<'a, A>>,
+    event: &Event<'a>,
+) -> Result<(), AllocError>
+    ensures { (es : List EventValue) (all : List FindingValue)
+        → FindsIf FindsDuplicates finder.old (event_value event.now ∷ es) all
+        → OnOk result (FindsIf FindsDuplicates finder.new es all) }
+{
+    match finder {
+        Some(finder) => finder.push(event),
+        None => Ok(()),
+    }
+}
+
+/// Gives the next event to the rule key-ordering, if it is on.
+fn push_to_misplaced<'a, A: Allocator + Copy>(
+    finder: &mut Option<MisplacedFinder<'a, A>>,
+    event: &Event<'a>,
+) -> Result<(), AllocError>
+    ensures { (es : List EventValue) (all : List FindingValue)
+        → FindsIf FindsMisplaced finder.old (event_value event.now ∷ es) all
+        → OnOk result (FindsIf FindsMisplaced finder.new es all) }
+{
+    match finder {
+        Some(finder) => finder.push(event),
+        None => Ok(()),
+    }
+}
+
+/// Gives the next event to the rule anchors, if it is on.
+fn push_to_anchors<'a, A: Allocator + Copy>(
+    finder: &mut Option<AnchorFinder<'a, A>>,
+    event: &Event<'a>,
+) -> Result<(), AllocError>
+    ensures { (es : List EventValue) (all : List FindingValue)
+        → FindsIf FindsAnchors finder.old (event_value event.now ∷ es) all
+        → OnOk result (FindsIf FindsAnchors finder.new es all) }
+{
+    match finder {
+        Some(finder) => finder.push(event),
+        None => Ok(()),
+    }
+}
+
+/// What the rule key-duplicates found, if it is on.
+fn duplicates_found<'a, A: Allocator + Copy>(
+    alloc: A,
+    finder: Option<DuplicateFinder<'a, A>>,
+) -> Vec<Finding<A>, A>
+    ensures { (all : List FindingValue) → FindsIf FindsDuplicates finder.entry [] all
+        → result.items ≡ all }
+{
+    match finder {
+        Some(finder) => finder.finish(),
+        None => Vec::new(alloc),
+    }
+}
+
+/// What the rule key-ordering found, if it is on.
+fn misplaced_found<'a, A: Allocator + Copy>(
+    alloc: A,
+    finder: Option<MisplacedFinder<'a, A>>,
+) -> Vec<Finding<A>, A>
+    ensures { (all : List FindingValue) → FindsIf FindsMisplaced finder.entry [] all
+        → result.items ≡ all }
+{
+    match finder {
+        Some(finder) => finder.finish(),
+        None => Vec::new(alloc),
+    }
+}
+
+/// What the rule anchors found, if it is on.
+fn anchors_found<'a, A: Allocator + Copy>(
+    alloc: A,
+    finder: Option<AnchorFinder<'a, A>>,
+) -> Result<Vec<Finding<A>, A>, AllocError>
+    ensures { (all : List FindingValue) → FindsIf FindsAnchors finder.entry [] all
+        → IfOk result (λ v. v.items ≡ all) }
+{
+    match finder {
+        Some(finder) => finder.finish(),
+        None => Ok(Vec::new(alloc)),
+    }
+}
+
+impl<'a, A: Allocator + Copy> TreeRules<'a, A> {
+    ghost use Rattle.yl_tree.specs.TreeRules.{Finds};
+
+    /// Before a document's first event.
+    pub fn new(alloc: A, options: &TreeOptions) -> TreeRules<'a, A>
+        ensures { (es : List EventValue) → Finds result es (tree_findings options.now es) }
+    {
+        TreeRules {
+            alloc,
+            key_duplicates: duplicate_finder(alloc, options),
+            key_ordering: misplaced_finder(alloc, options),
+            anchors: anchor_finder(alloc, options),
+        }
+    }
+
+    /// Takes the next event. The only error is memory; behind it nothing is said of the rules.
+    pub fn push(&mut self, event: &Event<'a>) -> Result<(), AllocError>
+        ensures { (es : List EventValue) (all : List FindingValue)
+            → Finds self.old (event_value event.now ∷ es) all
+            → OnOk result (Finds self.new es all) }
+    {
+        push_to_duplicates(&mut self.key_duplicates, event)?;
+        push_to_misplaced(&mut self.key_ordering, event)?;
+        push_to_anchors(&mut self.anchors, event)?;
+        Ok(())
+    }
+
+    /// What the rules found in the document, where no event is to come: key-duplicates,
+    /// key-ordering, anchors, each in the order of the events. The only error is memory.
+    pub fn finish(self) -> Result<Vec<Finding<A>, A>, AllocError>
+        ensures { (all : List FindingValue) → Finds self.entry [] all
+            → IfOk result (λ v. v.items ≡ all) }
+    {
+        let TreeRules {
+            alloc,
+            key_duplicates,
+            key_ordering,
+            anchors,
+        } = self;
+        let mut found = duplicates_found(alloc, key_duplicates);
+        let mut misplaced = misplaced_found(alloc, key_ordering);
+        let mut of_anchors = anchors_found(alloc, anchors)?;
+        found.append(&mut misplaced)?;
+        found.append(&mut of_anchors)?;
+        Ok(found)
+    }
+}
