@@ -1,21 +1,33 @@
 //! A section's document, read line by line.
-ghost use Rattle.std.specs.Prelude.{◌≡◌, ◌≤◌, ◌<◌, ◌+◌, ◌++◌, ◌∷◌, [], List, map, drop, length, IfOk, OnOk};
+ghost use Rattle.std.specs.Prelude.{◌≡◌, ◌≤◌, ◌<◌, ◌+◌, ◌-◌, ◌^◌, ◌++◌, ◌∷◌, [], List, map, drop, length, Option, Some, None, IfOk, OnOk};
 ghost use Rattle.yl_text.specs.Finding.{FindingValue};
 ghost use Rattle.yl_marks.specs.declared.symbol.Symbol.{Symbol};
-ghost use Rattle.yl_marks.specs.ByLine.{by_line, marks_of_line};
-ghost use Rattle.yl_marks.specs.FactsByLine.{behind_keyed_line, facts_by_lines, facts_of_line};
+ghost use Rattle.yl_marks.specs.ByLine.{by_line, marks_by_lines, marks_of_line};
+ghost use Rattle.yl_marks.specs.FactsByLine.{behind_keyed_line, facts_by_lines, facts_of_line, key_marker_at_start};
 ghost use Rattle.yl_marks.specs.Keys.{lexeme_at_line, token_of};
+ghost use Rattle.yl_marks.specs.Marks.{closings_of_all};
+ghost use Rattle.yl_events.specs.declared.fault.PlacedParseFault.{PlacedParseFault};
 ghost use Rattle.yl_events.specs.Event.{EventValue, event_of_outline};
-ghost use Rattle.yl_events.specs.SymbolParsing.{outcome_of_symbols};
+ghost use Rattle.yl_events.specs.Parsing.{start_events};
+ghost use Rattle.yl_events.specs.SymbolParsing.{outcome_of_symbols, symbols_at_start};
+ghost use Rattle.yl_indentation.specs.Context.{nothing_open};
+ghost use Rattle.yl_indentation.specs.SymbolFacts.{facts_left};
 ghost use Rattle.yl_tree.specs.TreeRules.{Finds};
-ghost use Rattle.yl_sections.specs.Reading.{ReadsOn};
+ghost use Rattle.yl_config.specs.declared.config.Config.{Config};
+ghost use Rattle.yl_sections.specs.Kept.{BuiltValue, document_count};
+ghost use Rattle.yl_sections.specs.Judge.{built_by, document_of};
+ghost use Rattle.yl_sections.specs.Reading.{FindsAll, Gives, GivesOrFails, IsReading, ReadsOn, counted_in, fault_told};
 
+use crate::lexemes::indentations;
+use crate::rules::{is_on, tree_options};
 use std::alloc::{AllocError, Allocator};
+use yl_config::Config;
 use yl_events::{Outline, PlacedParseFault, SymbolParser, event_of};
-use yl_indentation::Fact;
-use yl_lexeme::LexemeAtLine;
+use yl_indentation::{Fact, FactReader};
+use yl_lexeme::{LexemeAtLine, Meter};
 use yl_marks::{KeyFacts, KeyMarker, Symbol, lexemes_in_line};
-use yl_text::Finding;
+use yl_record::Record;
+use yl_text::{Finding, RuleId};
 use yl_tree::TreeRules;
 
 /// What was read of a document: what its keys say of each lexeme, what the rule indentation checks, what the rules on keys and anchors
@@ -126,12 +138,13 @@ impl<'a, A: Allocator + Copy> LineByLine<'a, A> {
         self.symbols.clear();
         self.outlines.clear();
         self.marker.read(line, &mut self.symbols, keys)?;
-        let fault = self.parser.feed(first, &self.symbols, &mut self.outlines)?;
-        if fault.is_some() {
-            return Ok(fault);
+        match self.parser.feed(first, &self.symbols, &mut self.outlines)? {
+            Some(fault) => Ok(Some(fault)),
+            None => {
+                push_events(lexemes, &self.outlines, &mut self.tree)?;
+                Ok(None)
+            }
         }
-        push_events(lexemes, &self.outlines, &mut self.tree)?;
-        Ok(None)
     }
 
     /// The document of these lexemes ends. The only error is out of memory.
@@ -146,18 +159,19 @@ impl<'a, A: Allocator + Copy> LineByLine<'a, A> {
         self.symbols.clear();
         self.outlines.clear();
         self.marker.close(&mut self.symbols)?;
-        let fault = self.parser.finish(lexemes.len(), &self.symbols, &mut self.outlines)?;
-        if fault.is_some() {
-            return Ok(Ending {
+        match self.parser.finish(lexemes.len(), &self.symbols, &mut self.outlines)? {
+            Some(fault) => Ok(Ending {
                 found: Vec::new(*self.symbols.allocator()),
-                fault,
-            });
+                fault: Some(fault),
+            }),
+            None => {
+                push_events(lexemes, &self.outlines, &mut self.tree)?;
+                Ok(Ending {
+                    found: self.tree.finish()?,
+                    fault: None,
+                })
+            }
         }
-        push_events(lexemes, &self.outlines, &mut self.tree)?;
-        Ok(Ending {
-            found: self.tree.finish()?,
-            fault: None,
-        })
     }
 }
 
@@ -172,6 +186,7 @@ fn counted_in(fault: Option<PlacedParseFault>, end: usize) -> usize
 }
 
 /// Reads the lines of a document up to its fault, which it answers, or to the end; what its keys say is read to the end in any case.
+/// The only error is out of memory.
 fn read_lines<'a, A: Allocator + Copy>(
     lexemes: &[LexemeAtLine<'a, A>],
     indentations: &[u32],
@@ -179,6 +194,17 @@ fn read_lines<'a, A: Allocator + Copy>(
     keys: &mut Vec<KeyFacts, A>,
     facts: &mut Vec<Fact, A>,
 ) -> Result<Option<PlacedParseFault>, AllocError>
+    requires { reader.old.marker.marks.count ≡ 0 }
+    ensures keys { OnOk result (keys.new.items
+        ≡ keys.old.items ++ facts_by_lines reader.old.marker (by_line (map token_of (map (λ x. lexeme_at_line x.line x.lexeme.now) lexemes.now)))) }
+    ensures facts { IfOk result (λ fault. facts.new.items ≡ facts.old.items
+        ++ facts_left reader.old.indentation (map token_of (map (λ x. lexeme_at_line x.line x.lexeme.now) lexemes.now)) (counted_in fault (length lexemes.now)) indentations.now
+        (marks_by_lines reader.old.marker.marks (by_line (map token_of (map (λ x. lexeme_at_line x.line x.lexeme.now) lexemes.now))))) }
+    ensures told { (config : Config) (b : BuiltValue) → Gives config (map (λ x. lexeme_at_line x.line x.lexeme.now) lexemes.now) reader.old.tree
+        (outcome_of_symbols reader.old.parser 0 []
+        (marks_by_lines reader.old.marker.marks (by_line (map token_of (map (λ x. lexeme_at_line x.line x.lexeme.now) lexemes.now))))) b
+        → IfOk result (λ fault. GivesOrFails fault config (map (λ x. lexeme_at_line x.line x.lexeme.now) lexemes.now) reader.new.tree
+        (outcome_of_symbols reader.new.parser (length lexemes.now) [] (closings_of_all reader.new.marker.marks.open_ones)) b) }
 {
     let mut read = 0;
     while read < lexemes.len() {
@@ -199,4 +225,89 @@ fn read_lines<'a, A: Allocator + Copy>(
         }
     }
     Ok(None)
+}
+
+/// The document of these lexemes begins. The only error is out of memory.
+fn begin<'a, A: Allocator + Copy>(
+    alloc: A,
+    config: &Config,
+    lexemes: &[LexemeAtLine<'a, A>],
+) -> Result<LineByLine<'a, A>, AllocError>
+    ensures marker { IfOk result (λ r. r.marker ≡ key_marker_at_start) }
+    ensures indentation { IfOk result (λ r. r.indentation ≡ nothing_open) }
+    ensures told { IfOk result (λ r. (ws : List Symbol) → Gives config.now (map (λ x. lexeme_at_line x.line x.lexeme.now) lexemes.now) r.tree (outcome_of_symbols r.parser 0 [] ws)
+        (built_by (map (λ x. lexeme_at_line x.line x.lexeme.now) lexemes.now) (outcome_of_symbols symbols_at_start 0 start_events ws))) }
+{
+    let mut reader = LineByLine {
+        marker: KeyMarker::new(alloc),
+        parser: SymbolParser::new(alloc),
+        tree: TreeRules::new(alloc, &tree_options(config)),
+        indentation: FactReader::new(alloc),
+        symbols: Vec::new(alloc),
+        outlines: Vec::new(alloc),
+    };
+    reader.parser.begin(&mut reader.outlines)?;
+    push_events(lexemes, &reader.outlines, &mut reader.tree)?;
+    Ok(reader)
+}
+
+/// What is read of the document of these lexemes, of which there are some, in these rows.
+fn read_some<'a, A: Allocator + Copy>(
+    alloc: A,
+    config: &Config,
+    records: &[&'a Record<A>],
+    lexemes: &[LexemeAtLine<'a, A>],
+) -> Result<Reading<A>, AllocError>
+    requires { 0 < length lexemes.now }
+    ensures { IfOk result (λ r. IsReading config.now (map (λ r. r.now) records.now) (map (λ x. lexeme_at_line x.line x.lexeme.now) lexemes.now)
+        (document_of (map (λ x. lexeme_at_line x.line x.lexeme.now) lexemes.now)) r) }
+{
+    let indentations = indentations(alloc, records)?;
+    let mut keys = Vec::with_capacity(alloc, lexemes.len())?;
+    let mut facts = Vec::new(alloc);
+    let mut reader = begin(alloc, config, lexemes)?;
+    let fault = read_lines(lexemes, &indentations, &mut reader, &mut keys, &mut facts)?;
+    let ending = match fault {
+        None => reader.finish(lexemes)?,
+        Some(_) => Ending {
+            found: Vec::new(alloc),
+            fault,
+        },
+    };
+    if !is_on(config, RuleId::Indentation) {
+        facts.clear();
+    }
+    Ok(Reading {
+        keys,
+        facts,
+        found: ending.found,
+        fault: ending.fault,
+    })
+}
+
+/// What is read of the document of a section of these rows, which have these lexemes. Counts it in the meter, if there is one. The only
+/// error is out of memory.
+pub fn read_document<'a, A: Allocator + Copy>(
+    alloc: A,
+    config: &Config,
+    records: &[&'a Record<A>],
+    lexemes: &[LexemeAtLine<'a, A>],
+    meter: &mut Meter,
+) -> Result<Reading<A>, AllocError>
+    requires { meter.old.documents < 2 ^ 32 - 1 }
+    ensures read { IfOk result (λ r. IsReading config.now (map (λ r. r.now) records.now) (map (λ x. lexeme_at_line x.line x.lexeme.now) lexemes.now)
+        (document_of (map (λ x. lexeme_at_line x.line x.lexeme.now) lexemes.now)) r) }
+    ensures counted { meter.new
+        ≡ record meter.old { documents = meter.old.documents + document_count (map (λ x. lexeme_at_line x.line x.lexeme.now) lexemes.now) } }
+{
+    if lexemes.is_empty() {
+        return Ok(Reading {
+            keys: Vec::new(alloc),
+            facts: Vec::new(alloc),
+            found: Vec::new(alloc),
+            fault: None,
+        });
+    }
+    meter.documents += 1;
+    read_some(alloc, config, records, lexemes)
 }

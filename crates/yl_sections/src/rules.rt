@@ -3,26 +3,17 @@ ghost use Rattle.std.specs.Prelude.{◌≡◌, ◌≤◌, ◌++◌, map, length,
 ghost use Rattle.yl_lexeme.specs.PlacedComments.{placed_comment_value};
 ghost use Rattle.yl_marks.specs.Facts.{key_facts};
 ghost use Rattle.yl_marks.specs.Keys.{lexeme_at_line};
-ghost use Rattle.yl_marks.specs.Marks.{symbols_of_lexemes};
-ghost use Rattle.yl_events.specs.Event.{event_value};
 ghost use Rattle.yl_layout.specs.Lexemes.{lexeme_findings};
-ghost use Rattle.yl_tree.specs.Anchors.{anchors};
-ghost use Rattle.yl_tree.specs.KeyRules.{key_duplicates, key_ordering};
-ghost use Rattle.yl_config.specs.Config.{options_of};
-ghost use Rattle.yl_sections.specs.Kept.{facts_of, is_on, items_if, lexeme_options_of, options_if, shown_comment_findings, event_findings};
+ghost use Rattle.yl_sections.specs.Kept.{is_on, lexeme_options_of, options_if, shown_comment_findings, tree_options_of};
 
-use crate::lexemes::indentations;
 use std::alloc::{AllocError, Allocator};
 use yl_config::Config;
-use yl_events::Event;
-use yl_indentation::{Fact, indent_facts};
 use yl_layout::{LexemeOptions, lexeme_problems};
 use yl_lexeme::{LexemeAtLine, PlacedComment};
-use yl_marks::{KeyFacts, Symbol, marked};
-use yl_record::Record;
+use yl_marks::KeyFacts;
 use yl_rules::comment_problems;
 use yl_text::{Finding, RuleId};
-use yl_tree::{anchors, key_duplicates, key_ordering};
+use yl_tree::TreeOptions;
 
 /// Whether a rule is on.
 pub fn is_on(config: &Config, rule: RuleId) -> bool
