@@ -9,5 +9,5 @@ pub mod Lost
 pub mod Last
 pub mod Fronts
 pub mod Stateless
-pub mod Reading
+pub mod LineByLine
 mod Examples

@@ -1,5 +1,5 @@
 -- Bridge: what is read of a section's document line by line.
-use Rattle.std.specs.Prelude.{◌≡◌, ℕ, List, map, Option, Some, None}
+use Rattle.std.specs.Prelude.{◌≡◌, ℕ, List, [], map, Option, Some, None}
 use Rattle.yl_text.specs.Finding.{FindingValue}
 use Rattle.yl_lexeme.specs.Lexeme.{LexemeValue}
 use Rattle.yl_marks.specs.Facts.{key_facts}
@@ -43,10 +43,19 @@ pub record Gives {A : Type 0} (config : Config) (xs : List LexemeValue) (t : Tre
   pub fault : fault_told o ≡ b.fault
   pub found : FindsAll t xs o (event_findings config b.events)
 
+-- under a fault there are no events
+abbrev pub IsQuiet : BuiltValue → Type 0
+IsQuiet b = (f : PlacedParseFault) → b.fault ≡ Some f → b.events ≡ []
+
 -- all lines were read, or the document has this fault
 abbrev pub GivesOrFails : {A : Type 0} → Option PlacedParseFault → Config → List LexemeValue → TreeRules A → DocumentOutcome → BuiltValue → Type 0
 GivesOrFails None config xs t o b = Gives config xs t o b
 GivesOrFails (Some f) config xs t o b = b.fault ≡ Some f
+
+-- the document ends: its rules find all that they were to find, once no event is to come, and it has no fault; or it has this one
+abbrev pub Ends : {A : Type 0} → Option PlacedParseFault → List LexemeValue → TreeRules A → DocumentOutcome → TreeRules A → Type 0
+Ends None xs t o u = (fault_told o ≡ None) × ((all : List FindingValue) → FindsAll t xs o all → Finds u [] all)
+Ends (Some f) xs t o u = o ≡ Fails f
 
 -- so many lexemes count up to the end of a line, before which there are so many, in a document that may have a fault in it
 abbrev pub counted_in : Option PlacedParseFault → ℕ → ℕ

@@ -82,7 +82,7 @@ fn keep<A: Allocator + Copy>(
     requires lexemes { map (λ x. lexeme_at_line x.line x.lexeme.now) lexemes.now ≡ lexemes_of (map (λ r. r.now) records.now) }
     requires keys { reading.keys.items ≡ key_facts (map (λ x. lexeme_at_line x.line x.lexeme.now) lexemes.now) }
     requires inside { counted_of (map (λ x. lexeme_at_line x.line x.lexeme.now) lexemes.now) reading.fault ≤ length lexemes.now }
-    ensures { (b : BuiltValue) → IsReading config.now (map (λ r. r.now) records.now) (map (λ x. lexeme_at_line x.line x.lexeme.now) lexemes.now) b reading.entry
+    ensures { (b : BuiltValue) → IsReading config.now (map (λ r. r.now) records.now) (map (λ x. lexeme_at_line x.line x.lexeme.now) lexemes.now) b reading
         → IfOk result (λ k. k ≡ kept_of config.now (map (λ r. r.now) records.now) b) }
 {
     let Reading {

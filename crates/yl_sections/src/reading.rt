@@ -14,9 +14,9 @@ ghost use Rattle.yl_indentation.specs.Context.{nothing_open};
 ghost use Rattle.yl_indentation.specs.SymbolFacts.{facts_left};
 ghost use Rattle.yl_tree.specs.TreeRules.{Finds};
 ghost use Rattle.yl_config.specs.declared.config.Config.{Config};
-ghost use Rattle.yl_sections.specs.Kept.{BuiltValue, document_count};
+ghost use Rattle.yl_sections.specs.Kept.{BuiltValue, counted_of, document_count, event_findings, is_on, items_if};
 ghost use Rattle.yl_sections.specs.Judge.{built_by, document_of};
-ghost use Rattle.yl_sections.specs.Reading.{FindsAll, Gives, GivesOrFails, IsReading, ReadsOn, counted_in, fault_told};
+ghost use Rattle.yl_sections.specs.Reading.{Ends, Gives, GivesOrFails, IsQuiet, IsReading, ReadsOn, counted_in};
 
 use crate::lexemes::indentations;
 use crate::rules::{is_on, tree_options};
@@ -46,17 +46,9 @@ struct LineByLine<'a, A: Allocator + Copy> {
     marker: KeyMarker<A>,
     parser: SymbolParser<A>,
     tree: TreeRules<'a, A>,
-    indentation: FactReader<A>,
     /// The latest line's lexemes with their marks, and what the parser told of them.
     symbols: Vec<Symbol, A>,
     outlines: Vec<Outline, A>,
-}
-
-/// What the rules on keys and anchors find in a document, or its parse fault.
-#[derive(Drop)]
-struct Ending<A: Allocator> {
-    found: Vec<Finding<A>, A>,
-    fault: Option<PlacedParseFault>,
 }
 
 /// The lexemes from one on that begin in its line.
@@ -147,29 +139,25 @@ impl<'a, A: Allocator + Copy> LineByLine<'a, A> {
         }
     }
 
-    /// The document of these lexemes ends. The only error is out of memory.
-    fn finish(mut self, lexemes: &[LexemeAtLine<'a, A>]) -> Result<Ending<A>, AllocError>
-        ensures fault { IfOk result (λ e. e.fault ≡ fault_told (outcome_of_symbols self.entry.parser (length lexemes.now) []
-            (closings_of_all self.entry.marker.marks.open_ones))) }
-        ensures found { (all : List FindingValue) → FindsAll self.entry.tree (map (λ x. lexeme_at_line x.line x.lexeme.now) lexemes.now)
-            (outcome_of_symbols self.entry.parser (length lexemes.now) [] (closings_of_all self.entry.marker.marks.open_ones)) all
-            → IfOk result (λ e. e.fault ≡ None → e.found.items ≡ all) }
-        ensures nothing { IfOk result (λ e. (f : PlacedParseFault) → e.fault ≡ Some f → e.found.items ≡ []) }
+    /// The document of these lexemes ends: answers its fault, if it has one. The only error is out of memory.
+    fn close(
+        &mut self,
+        lexemes: &[LexemeAtLine<'a, A>],
+    ) -> Result<Option<PlacedParseFault>, AllocError>
+        ensures { IfOk result (λ fault. Ends fault (map (λ x. lexeme_at_line x.line x.lexeme.now) lexemes.now) self.old.tree
+            (outcome_of_symbols self.old.parser (length lexemes.now) [] (closings_of_all self.old.marker.marks.open_ones)) self.new.tree) }
     {
         self.symbols.clear();
         self.outlines.clear();
         self.marker.close(&mut self.symbols)?;
-        match self.parser.finish(lexemes.len(), &self.symbols, &mut self.outlines)? {
-            Some(fault) => Ok(Ending {
-                found: Vec::new(*self.symbols.allocator()),
-                fault: Some(fault),
-            }),
+        match self
+            .parser
+            .finish(lexemes.len(), &self.symbols, &mut self.outlines)?
+        {
+            Some(fault) => Ok(Some(fault)),
             None => {
                 push_events(lexemes, &self.outlines, &mut self.tree)?;
-                Ok(Ending {
-                    found: self.tree.finish()?,
-                    fault: None,
-                })
+                Ok(None)
             }
         }
     }
@@ -188,6 +176,7 @@ fn counted_in(fault: Option<PlacedParseFault>, end: usize) -> usize
 /// Reads the lines of a document up to its fault, which it answers, or to the end; what its keys say is read to the end in any case.
 /// The only error is out of memory.
 fn read_lines<'a, A: Allocator + Copy>(
+    alloc: A,
     lexemes: &[LexemeAtLine<'a, A>],
     indentations: &[u32],
     reader: &mut LineByLine<'a, A>,
@@ -198,7 +187,7 @@ fn read_lines<'a, A: Allocator + Copy>(
     ensures keys { OnOk result (keys.new.items
         ≡ keys.old.items ++ facts_by_lines reader.old.marker (by_line (map token_of (map (λ x. lexeme_at_line x.line x.lexeme.now) lexemes.now)))) }
     ensures facts { IfOk result (λ fault. facts.new.items ≡ facts.old.items
-        ++ facts_left reader.old.indentation (map token_of (map (λ x. lexeme_at_line x.line x.lexeme.now) lexemes.now)) (counted_in fault (length lexemes.now)) indentations.now
+        ++ facts_left nothing_open (map token_of (map (λ x. lexeme_at_line x.line x.lexeme.now) lexemes.now)) (counted_in fault (length lexemes.now)) indentations.now
         (marks_by_lines reader.old.marker.marks (by_line (map token_of (map (λ x. lexeme_at_line x.line x.lexeme.now) lexemes.now))))) }
     ensures told { (config : Config) (b : BuiltValue) → Gives config (map (λ x. lexeme_at_line x.line x.lexeme.now) lexemes.now) reader.old.tree
         (outcome_of_symbols reader.old.parser 0 []
@@ -206,22 +195,17 @@ fn read_lines<'a, A: Allocator + Copy>(
         → IfOk result (λ fault. GivesOrFails fault config (map (λ x. lexeme_at_line x.line x.lexeme.now) lexemes.now) reader.new.tree
         (outcome_of_symbols reader.new.parser (length lexemes.now) [] (closings_of_all reader.new.marker.marks.open_ones)) b) }
 {
+    let mut places = FactReader::new(alloc);
     let mut read = 0;
     while read < lexemes.len() {
         let line = line_at(lexemes, read);
         let fault = reader.read(lexemes, read, line, keys)?;
         read += line.len();
         let counted = counted_in(fault, read);
-        reader.indentation.read(
-            lexemes,
-            &reader.symbols,
-            counted,
-            indentations,
-            facts,
-        )?;
-        if fault.is_some() {
+        places.read(lexemes, &reader.symbols, counted, indentations, facts)?;
+        if let Some(fault) = fault {
             read_keys(lexemes, read, &mut reader.marker, &mut reader.symbols, keys)?;
-            return Ok(fault);
+            return Ok(Some(fault));
         }
     }
     Ok(None)
@@ -234,21 +218,58 @@ fn begin<'a, A: Allocator + Copy>(
     lexemes: &[LexemeAtLine<'a, A>],
 ) -> Result<LineByLine<'a, A>, AllocError>
     ensures marker { IfOk result (λ r. r.marker ≡ key_marker_at_start) }
-    ensures indentation { IfOk result (λ r. r.indentation ≡ nothing_open) }
     ensures told { IfOk result (λ r. (ws : List Symbol) → Gives config.now (map (λ x. lexeme_at_line x.line x.lexeme.now) lexemes.now) r.tree (outcome_of_symbols r.parser 0 [] ws)
         (built_by (map (λ x. lexeme_at_line x.line x.lexeme.now) lexemes.now) (outcome_of_symbols symbols_at_start 0 start_events ws))) }
 {
-    let mut reader = LineByLine {
+    let mut parser = SymbolParser::new(alloc);
+    let mut tree = TreeRules::new(alloc, &tree_options(config));
+    let mut outlines = Vec::new(alloc);
+    parser.begin(&mut outlines)?;
+    push_events(lexemes, &outlines, &mut tree)?;
+    Ok(LineByLine {
         marker: KeyMarker::new(alloc),
-        parser: SymbolParser::new(alloc),
-        tree: TreeRules::new(alloc, &tree_options(config)),
-        indentation: FactReader::new(alloc),
+        parser,
+        tree,
         symbols: Vec::new(alloc),
-        outlines: Vec::new(alloc),
-    };
-    reader.parser.begin(&mut reader.outlines)?;
-    push_events(lexemes, &reader.outlines, &mut reader.tree)?;
-    Ok(reader)
+        outlines,
+    })
+}
+
+/// What the rules on keys and anchors find in a document, or its parse fault.
+#[derive(Drop)]
+struct Ending<A: Allocator> {
+    found: Vec<Finding<A>, A>,
+    fault: Option<PlacedParseFault>,
+}
+
+/// How a document ends whose lines were read, and that has this fault, if one was found in them. The only error is out of memory.
+fn end<'a, A: Allocator + Copy>(
+    alloc: A,
+    lexemes: &[LexemeAtLine<'a, A>],
+    mut reader: LineByLine<'a, A>,
+    fault: Option<PlacedParseFault>,
+) -> Result<Ending<A>, AllocError>
+    ensures { (config : Config) (b : BuiltValue) → IsQuiet b → GivesOrFails fault config (map (λ x. lexeme_at_line x.line x.lexeme.now) lexemes.now) reader.entry.tree
+        (outcome_of_symbols reader.entry.parser (length lexemes.now) [] (closings_of_all reader.entry.marker.marks.open_ones)) b
+        → IfOk result (λ e. (e.fault ≡ b.fault) × (e.found.items ≡ event_findings config b.events)
+        × (counted_in fault (length lexemes.now) ≡ counted_of (map (λ x. lexeme_at_line x.line x.lexeme.now) lexemes.now) b.fault)) }
+{
+    if fault.is_some() {
+        return Ok(Ending {
+            found: Vec::new(alloc),
+            fault,
+        });
+    }
+    match reader.close(lexemes)? {
+        Some(fault) => Ok(Ending {
+            found: Vec::new(alloc),
+            fault: Some(fault),
+        }),
+        None => Ok(Ending {
+            found: reader.tree.finish()?,
+            fault: None,
+        }),
+    }
 }
 
 /// What is read of the document of these lexemes, of which there are some, in these rows.
@@ -266,23 +287,31 @@ fn read_some<'a, A: Allocator + Copy>(
     let mut keys = Vec::with_capacity(alloc, lexemes.len())?;
     let mut facts = Vec::new(alloc);
     let mut reader = begin(alloc, config, lexemes)?;
-    let fault = read_lines(lexemes, &indentations, &mut reader, &mut keys, &mut facts)?;
-    let ending = match fault {
-        None => reader.finish(lexemes)?,
-        Some(_) => Ending {
-            found: Vec::new(alloc),
-            fault,
-        },
-    };
-    if !is_on(config, RuleId::Indentation) {
-        facts.clear();
-    }
+    let fault = read_lines(
+        alloc,
+        lexemes,
+        &indentations,
+        &mut reader,
+        &mut keys,
+        &mut facts,
+    )?;
+    let ending = end(alloc, lexemes, reader, fault)?;
     Ok(Reading {
         keys,
-        facts,
+        facts: checked(config, facts),
         found: ending.found,
         fault: ending.fault,
     })
+}
+
+/// What the rule indentation checks, if it is on.
+fn checked<A: Allocator>(config: &Config, mut facts: Vec<Fact, A>) -> Vec<Fact, A>
+    ensures { result.items ≡ items_if (is_on config.now RuleId.Indentation) facts.items }
+{
+    if !is_on(config, RuleId::Indentation) {
+        facts.clear();
+    }
+    facts
 }
 
 /// What is read of the document of a section of these rows, which have these lexemes. Counts it in the meter, if there is one. The only

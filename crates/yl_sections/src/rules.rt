@@ -119,4 +119,3 @@ pub fn found<A: Allocator + Copy>(
     found.append(&mut in_tree)?;
     Ok(found)
 }
-

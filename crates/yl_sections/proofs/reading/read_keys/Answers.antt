@@ -1,5 +1,5 @@
 use Rattle.std.proofs.Common.{arith}
-use Rattle.yl_sections.proofs.Reading.{keys_done, keys_on}
+use Rattle.yl_sections.proofs.LineByLine.{keys_done, keys_on}
 use Rattle.yl_sections.proofs.reading.read_keys.Goals as goal
 
 pub loop-read-smaller : goal.loop-read-smaller

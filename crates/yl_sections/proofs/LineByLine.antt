@@ -1,0 +1,381 @@
+-- A document is read line by line.
+use Rattle.std.specs.Prelude.{ℕ, suc, ◌==◌, Bool, true, false, is_some, ◌≡◌, ◌+◌, ◌<◌, ◌≤◌, nat_lt, List, [], ◌∷◌, ◌++◌, map, drop, length, Option, Some, None}
+use Rattle.std.specs.Prelude.{IfOk}
+use Rattle.std.proofs.Common.{Result, refl, ap, sym, subst, ◌∙◌, arith, append-nil, append_assoc, drop-cons, get_or}
+use Rattle.std.proofs.lemmas.Bool.{eqb-true, lt-ltb}
+use Rattle.std.proofs.lemmas.List.{drop_all, length-map, map-append}
+use Rattle.yl_text.specs.declared.finding.RuleId.TheVariants.{Indentation}
+use Rattle.yl_text.specs.Finding.{FindingValue}
+use Rattle.yl_lexeme.specs.Lexeme.{LexemeValue}
+use Rattle.yl_marks.specs.declared.facts.KeyFacts.{KeyFacts}
+use Rattle.yl_marks.specs.declared.symbol.OpenBlock.{OpenBlock}
+use Rattle.yl_marks.specs.declared.symbol.Symbol.{Symbol}
+use Rattle.yl_marks.specs.declared.token.Token.{Token}
+use Rattle.yl_marks.specs.Keys.{token_of}
+use Rattle.yl_marks.specs.Facts.{key_facts}
+use Rattle.yl_marks.specs.Marks.{closings_of_all, marked_lexemes}
+use Rattle.yl_marks.proofs.ByLines.{marked_by_lines}
+use Rattle.yl_marks.proofs.FactsByLines.{told_by_lines}
+use Rattle.yl_marks.specs.ByLine.{HaveIndices, MarkerValue, behind_line, by_line, marker_at_start, marks_by_lines, marks_of_line}
+use Rattle.yl_marks.specs.FactsByLine.{KeyMarkerValue, behind_keyed_line, facts_by_lines, facts_of_line, key_marker_at_start}
+use Rattle.yl_marks.proofs.Indices.{indices_by_lines, indices_of_line, no_indices}
+use Rattle.yl_events.specs.declared.fault.PlacedParseFault.{PlacedParseFault}
+use Rattle.yl_events.specs.declared.symbol.Outline.{Outline}
+use Rattle.yl_events.specs.declared.symbol.Shape.TheVariants.{DocumentEnd}
+use Rattle.yl_events.specs.Derives.{lexeme_count}
+use Rattle.yl_events.specs.DocumentOutcome.{DocumentOutcome, Events, Fails, document_outcome}
+use Rattle.yl_events.specs.Event.{EventValue, event_of_outline}
+use Rattle.yl_events.specs.Machine.{run, taken_count}
+use Rattle.yl_events.specs.Outlines.{end_event}
+use Rattle.yl_events.specs.Parsing.{IsOutcome, start_events}
+use Rattle.yl_events.specs.SymbolParsing.{FeedsSymbols, SymbolParserValue, outcome_of_symbols, symbols_at_start, told_behind}
+use Rattle.yl_events.specs.Trail.{TrailValue}
+use Rattle.yl_events.proofs.Answered.{taken_within}
+use Rattle.yl_events.proofs.Counts.{all_closed_count}
+use Rattle.yl_events.proofs.ToldBehind.{fed_apart, symbols_behind}
+use Rattle.yl_indentation.specs.declared.fact.Fact.{Fact}
+use Rattle.yl_indentation.specs.Context.{ContextValue, nothing_open}
+use Rattle.yl_indentation.specs.Facts.{indent_facts}
+use Rattle.yl_indentation.specs.SymbolFacts.{behind_symbols, facts_left}
+use Rattle.yl_indentation.proofs.BySymbols.{as_counted, by_symbols, go_on, none_counts}
+use Rattle.yl_tree.specs.declared.tree_rules.TreeRules.{TreeRules}
+use Rattle.yl_tree.specs.declared.options.TreeOptions.{TreeOptions}
+use Rattle.yl_tree.specs.Tree.{tree_findings}
+use Rattle.yl_tree.specs.TreeRules.{Finds}
+use Rattle.yl_config.specs.declared.config.Config.{Config}
+use Rattle.yl_record.specs.Records.{RecordValue}
+use Rattle.yl_sections.specs.Sections.{lexemes_of}
+use Rattle.yl_sections.specs.Judge.{built_by, document_of, kept_of_section}
+use Rattle.yl_sections.specs.Kept.{BuiltValue, KeptValue, counted_of, event_findings, facts_of, is_on, items_if, kept_of, tree_options_of}
+use Rattle.yl_sections.proofs.Documents.{counted_within}
+use Rattle.yl_sections.specs.declared.reading.Reading.{Reading}
+use Rattle.yl_sections.specs.Reading.{Ends, FindsAll, Gives, GivesOrFails, IsQuiet, IsReading, ReadsOn, counted_in, fault_told}
+use Rattle.yl_sections.proofs.FrontRows.{none_found}
+
+module _ {A : Type 0} (xs : List LexemeValue) (t u : TreeRules A) (out : List Outline) where
+  -- these events are fed
+  abbrev pub Fed : Type 0
+  Fed = (es : List EventValue) (all : List FindingValue) → Finds t (map (event_of_outline xs) out ++ es) all → Finds u es all
+
+  fed_on : Fed → (o : DocumentOutcome) → ReadsOn None xs t (told_behind out o) u o
+  fed_on h (Events es) = (refl, λ all f. h (map (event_of_outline xs) es) all (subst (λ (vs : List EventValue). Finds t vs all) (map-append (event_of_outline xs) out es) f))
+  fed_on h (Fails f) = (refl, λ all g. tt)
+
+  pub reads_on : (p q : SymbolParserValue) (count below : ℕ) (ws later : List Symbol) → FeedsSymbols p count [] ws None q out → below ≡ count + lexeme_count ws → Fed
+      → ReadsOn None xs t (outcome_of_symbols p count [] (ws ++ later)) u (outcome_of_symbols q below [] later)
+  reads_on p q count below ws later feeds n fed =
+      let here = outcome_of_symbols q below [] later in
+      let same : outcome_of_symbols p count [] (ws ++ later) ≡ told_behind out here = fed_apart p q count out ws later feeds ∙ ap (λ m. told_behind out (outcome_of_symbols q m [] later)) (sym n) in
+      subst (λ o. ReadsOn None xs t o u here) (sym same) (fed_on fed here)
+
+  -- the same, as a reader has it
+  pub line_read : (p q : SymbolParserValue) (first count below : ℕ) (ws marks : List Symbol) (before shown : List Outline) (fault : Option PlacedParseFault) → first ≡ count → before ≡ [] → ws ≡ marks → fault ≡ None → FeedsSymbols p first before ws fault q out
+      → below ≡ count + lexeme_count marks → shown ≡ out → ((es : List EventValue) (all : List FindingValue) → Finds t (map (event_of_outline xs) shown ++ es) all → Finds u es all) → (later : List Symbol)
+      → ReadsOn None xs t (outcome_of_symbols p count [] (marks ++ later)) u (outcome_of_symbols q below [] later)
+  line_read p q first count below ws marks before shown fault at none are sound feeds n same fed later =
+      reads_on p q count below marks later
+      (subst (λ (vs : List Symbol). FeedsSymbols p count [] vs None q out) are
+      (subst (λ (os : List Outline). FeedsSymbols p count os ws None q out) none (subst (λ k. FeedsSymbols p k before ws None q out) at (subst (λ o. FeedsSymbols p first before ws o q out) sound feeds)))) n
+      (subst (λ (os : List Outline). (es : List EventValue) (all : List FindingValue) → Finds t (map (event_of_outline xs) os ++ es) all → Finds u es all) same fed)
+
+  -- all of its events are told, and fed
+  pub finds_all : (o : DocumentOutcome) (all : List FindingValue) → o ≡ Events out → Fed → FindsAll t xs o all → Finds u [] all
+  finds_all o all is fed finds =
+      fed [] all (subst (λ (vs : List EventValue). Finds t vs all) (sym (append-nil (map (event_of_outline xs) out))) (subst (λ w. FindsAll t xs w all) is finds))
+
+  -- the document ends, as a reader has it
+  pub ended : (p : SymbolParserValue) (first count : ℕ) (ws closings : List Symbol) (before shown : List Outline) (fault : Option PlacedParseFault) → first ≡ count → before ≡ [] → ws ≡ closings → fault ≡ None
+      → IsOutcome (outcome_of_symbols p first before ws) fault out → shown ≡ out → ((es : List EventValue) (all : List FindingValue) → Finds t (map (event_of_outline xs) shown ++ es) all → Finds u es all)
+      → Ends None xs t (outcome_of_symbols p count [] closings) u
+  ended p first count ws closings before shown fault at none are sound tells same fed =
+      let told : outcome_of_symbols p first before ws ≡ Events out = subst (λ o. IsOutcome (outcome_of_symbols p first before ws) o out) sound tells in
+      let whole : outcome_of_symbols p count [] closings ≡ Events out =
+      ap (λ vs. outcome_of_symbols p count [] vs) (sym are) ∙ (ap (λ os. outcome_of_symbols p count os ws) (sym none) ∙ (ap (λ k. outcome_of_symbols p k before ws) (sym at) ∙ told)) in
+      (ap fault_told whole, λ all finds. finds_all (outcome_of_symbols p count [] closings) all whole
+      (subst (λ (os : List Outline). (es : List EventValue) (found : List FindingValue) → Finds t (map (event_of_outline xs) os ++ es) found → Finds u es found) same fed) finds)
+
+-- ---- keys
+
+-- one line more
+pub keys_on : (ks ls total : List KeyFacts) (m n : KeyMarkerValue) (line : List Token) (later lines : List (List Token)) → lines ≡ line ∷ later → ls ≡ ks ++ facts_of_line m line
+    → n ≡ behind_keyed_line m line → ks ++ facts_by_lines m lines ≡ total → ls ++ facts_by_lines n later ≡ total
+keys_on ks ls total m n line later lines cut told behind whole =
+    ap (λ (js : List KeyFacts). js ++ facts_by_lines n later) told
+    ∙ (append_assoc ks (facts_of_line m line) (facts_by_lines n later)
+    ∙ (ap (λ k. ks ++ (facts_of_line m line ++ facts_by_lines k later)) behind ∙ (ap (λ (xs : List (List Token)). ks ++ facts_by_lines m xs) (sym cut) ∙ whole)))
+
+pub keys_done : {T : Type 0} (f : T → LexemeValue) (xs : List T) (read : ℕ) (ks total : List KeyFacts) (m : KeyMarkerValue) → length xs ≤ read
+    → ks ++ facts_by_lines m (by_line (map token_of (map f (drop read xs)))) ≡ total → ks ≡ total
+keys_done f xs read ks total m end whole =
+    sym (append-nil ks) ∙ (ap (λ ys. ks ++ facts_by_lines m (by_line (map token_of (map f ys)))) (sym (drop_all read xs end)) ∙ whole)
+
+-- ---- checked places
+
+module _ (tokens : List Token) (ns : List ℕ) where
+  facts_parts : (c d : ContextValue) (all counted : ℕ) (ws later : List Symbol) (fs gs : List Fact) → d ≡ behind_symbols tokens ns c ws → gs ≡ fs ++ facts_left c tokens counted ns ws
+      → HaveIndices (λ i. nat_lt i all ≡ nat_lt i counted) ws → gs ++ facts_left d tokens all ns later ≡ fs ++ facts_left c tokens all ns (ws ++ later)
+  facts_parts c d all counted ws later fs gs behind told same =
+      ap (λ (xs : List Fact). xs ++ facts_left d tokens all ns later) told
+      ∙ (append_assoc fs (facts_left c tokens counted ns ws) (facts_left d tokens all ns later)
+      ∙ (ap (λ (xs : List Fact). fs ++ (xs ++ facts_left d tokens all ns later)) (sym (as_counted tokens ns c all counted ws same))
+      ∙ (ap (λ k. fs ++ (facts_left c tokens all ns ws ++ facts_left k tokens all ns later)) behind ∙ ap (λ (xs : List Fact). fs ++ xs) (sym (go_on tokens ns c all ws later)))))
+
+  -- one line more, all of which counts
+  pub facts_on : (c d : ContextValue) (m n : MarkerValue) (line : List Token) (later lines : List (List Token)) (read end all : ℕ) (fs gs total : List Fact) → lines ≡ line ∷ later
+      → n ≡ behind_line m line → m.count ≡ read → end ≡ read + length line → d ≡ behind_symbols tokens ns c (marks_of_line m line)
+      → gs ≡ fs ++ facts_left c tokens end ns (marks_of_line m line) → end ≤ all
+      → fs ++ facts_left c tokens all ns (marks_by_lines m lines) ≡ total → gs ++ facts_left d tokens all ns (marks_by_lines n later) ≡ total
+  facts_on c d m n line later lines read end all fs gs total cut behind at far kept told most whole =
+      let same = indices_of_line (λ i. nat_lt i all ≡ nat_lt i end) m line (λ j l h. lt-ltb j all (omega (arith, h, at, far, most)) ∙ sym (lt-ltb j end (omega (arith, h, at, far)))) in
+      facts_parts c d all end (marks_of_line m line) (marks_by_lines n later) fs gs kept told same
+      ∙ (ap (λ k. fs ++ facts_left c tokens all ns (marks_of_line m line ++ marks_by_lines k later)) behind ∙ (ap (λ (ls : List (List Token)). fs ++ facts_left c tokens all ns (marks_by_lines m ls)) (sym cut) ∙ whole))
+
+  -- a line with a fault, behind which nothing counts
+  pub facts_stop : (c : ContextValue) (m : MarkerValue) (line : List Token) (later lines : List (List Token)) (counted : ℕ) (fs gs total : List Fact) → lines ≡ line ∷ later
+      → counted ≤ m.count + length line → gs ≡ fs ++ facts_left c tokens counted ns (marks_of_line m line)
+      → fs ++ facts_left c tokens counted ns (marks_by_lines m lines) ≡ total → gs ≡ total
+  facts_stop c m line later lines counted fs gs total cut least told whole =
+      let ws = marks_of_line m line in
+      let rest = marks_by_lines (behind_line m line) later in
+      let d = behind_symbols tokens ns c ws in
+      let none : facts_left d tokens counted ns rest ≡ [] = none_counts tokens ns d counted rest (indices_by_lines (λ i. counted ≤ i) (behind_line m line) later (λ j l. omega (arith, l, least))) in
+      sym (append-nil gs)
+      ∙ (ap (λ (xs : List Fact). gs ++ xs) (sym none)
+      ∙ (facts_parts c d counted counted ws rest fs gs refl told (indices_of_line (λ i. nat_lt i counted ≡ nat_lt i counted) m line (λ j l h. refl))
+      ∙ (ap (λ (ls : List (List Token)). fs ++ facts_left c tokens counted ns (marks_by_lines m ls)) (sym cut) ∙ whole)))
+
+  pub facts_done : {T : Type 0} (f : T → LexemeValue) (xs : List T) (read all : ℕ) (c : ContextValue) (m : MarkerValue) (fs total : List Fact) → length xs ≤ read
+      → fs ++ facts_left c tokens all ns (marks_by_lines m (by_line (map token_of (map f (drop read xs))))) ≡ total → fs ≡ total
+  facts_done f xs read all c m fs total end whole =
+      let ends = closings_of_all m.open_ones in
+      let none : facts_left c tokens all ns ends ≡ [] = none_counts tokens ns c all ends (no_indices (λ i. all ≤ i) m.open_ones) in
+      sym (append-nil fs)
+      ∙ (ap (λ (gs : List Fact). fs ++ gs) (sym none) ∙ (ap (λ ys. fs ++ facts_left c tokens all ns (marks_by_lines m (by_line (map token_of (map f ys))))) (sym (drop_all read xs end)) ∙ whole))
+
+-- ---- a fault's place
+
+abbrev place_in : DocumentOutcome → ℕ
+place_in (Events es) = 0
+place_in (Fails f) = f.place
+
+place_told : (t : TrailValue) (count place : ℕ) (ws : List Symbol) (r : Option (List Outline)) (f : PlacedParseFault) → document_outcome t count place ws r ≡ Fails f → f.place ≡ count + place
+place_told t count place ws (Some es) f e = let no : Events (es ++ end_event DocumentEnd ∷ []) ≡ Fails f = e in absurd (events_no_fault (es ++ end_event DocumentEnd ∷ []) f no)
+  where
+    is_fault : DocumentOutcome → Type 0
+    is_fault (Events es) = ⊥
+    is_fault (Fails f) = Unit {0}
+
+    events_no_fault : (es : List Outline) (f : PlacedParseFault) → Events es ≡ Fails f → ⊥
+    events_no_fault es f e = subst is_fault (sym e) tt
+place_told t count place ws None f e = sym (ap place_in e)
+
+pub fault_place : (p : SymbolParserValue) (count : ℕ) (ws : List Symbol) (f : PlacedParseFault) → ((later : List Symbol) → outcome_of_symbols p count [] (ws ++ later) ≡ Fails f)
+    → (count ≤ f.place) × (f.place ≤ count + lexeme_count ws)
+fault_place p count ws f fails =
+    let here : outcome_of_symbols p count [] ws ≡ Fails f = ap (λ (vs : List Symbol). outcome_of_symbols p count [] vs) (sym (append-nil ws)) ∙ fails [] in
+    let place : f.place ≡ count + taken_count ws p.goals [] = place_told p.trail count (taken_count ws p.goals []) ws (run ws p.goals []) f here in
+    (omega (arith, place), omega (arith, place, taken_within ws p.goals []))
+
+-- ---- what is told
+
+module _ {A : Type 0} (config : Config) (xs : List LexemeValue) (b : BuiltValue) where
+  gives_on : (t u : TreeRules A) (o w : DocumentOutcome) → ReadsOn None xs t o u w → Gives config xs t o b → Gives config xs u w b
+  gives_on t u o w reads gives = record { fault = sym reads.0 ∙ gives.fault; found = reads.1 (event_findings config b.events) gives.found }
+
+  -- one line more
+  pub told_on : (t u : TreeRules A) (p q : SymbolParserValue) (m n : MarkerValue) (line : List Token) (later lines : List (List Token)) (read end : ℕ) → lines ≡ line ∷ later
+      → n ≡ behind_line m line → m.count ≡ read → n.count ≡ end
+      → ((ws : List Symbol) → ReadsOn None xs t (outcome_of_symbols p m.count [] (marks_of_line m line ++ ws)) u (outcome_of_symbols q n.count [] ws))
+      → Gives config xs t (outcome_of_symbols p read [] (marks_by_lines m lines)) b → Gives config xs u (outcome_of_symbols q end [] (marks_by_lines n later)) b
+  told_on t u p q m n line later lines read end cut behind at far reads gives =
+      let from : outcome_of_symbols p read [] (marks_by_lines m lines) ≡ outcome_of_symbols p m.count [] (marks_of_line m line ++ marks_by_lines n later) =
+      ap (λ (ls : List (List Token)). outcome_of_symbols p read [] (marks_by_lines m ls)) cut
+      ∙ (ap (λ k. outcome_of_symbols p read [] (marks_of_line m line ++ marks_by_lines k later)) (sym behind) ∙ ap (λ c. outcome_of_symbols p c [] (marks_of_line m line ++ marks_by_lines n later)) (sym at)) in
+      subst (λ c. Gives config xs u (outcome_of_symbols q c [] (marks_by_lines n later)) b) far
+      (gives_on t u (outcome_of_symbols p m.count [] (marks_of_line m line ++ marks_by_lines n later)) (outcome_of_symbols q n.count [] (marks_by_lines n later)) (reads (marks_by_lines n later))
+      (subst (λ o. Gives config xs t o b) from gives))
+
+  -- a line with a fault
+  pub told_stop : (t : TreeRules A) (p : SymbolParserValue) (m : MarkerValue) (line : List Token) (later lines : List (List Token)) (read : ℕ) (f : PlacedParseFault) → lines ≡ line ∷ later → m.count ≡ read
+      → ((ws : List Symbol) → outcome_of_symbols p m.count [] (marks_of_line m line ++ ws) ≡ Fails f)
+      → Gives config xs t (outcome_of_symbols p read [] (marks_by_lines m lines)) b → b.fault ≡ Some f
+  told_stop t p m line later lines read f cut at fails gives =
+      sym gives.fault
+      ∙ ap fault_told
+      (ap (λ (ls : List (List Token)). outcome_of_symbols p read [] (marks_by_lines m ls)) cut
+      ∙ (ap (λ c. outcome_of_symbols p c [] (marks_of_line m line ++ marks_by_lines (behind_line m line) later)) (sym at) ∙ fails (marks_by_lines (behind_line m line) later)))
+
+  pub told_done : {T : Type 0} (f : T → LexemeValue) (ys : List T) (read : ℕ) (t : TreeRules A) (p : SymbolParserValue) (m : MarkerValue) → read ≤ length ys → length ys ≤ read
+      → Gives config xs t (outcome_of_symbols p read [] (marks_by_lines m (by_line (map token_of (map f (drop read ys)))))) b
+      → Gives config xs t (outcome_of_symbols p (length ys) [] (closings_of_all m.open_ones)) b
+  told_done f ys read t p m within end gives =
+      let same : read ≡ length ys = omega (arith, within, end) in
+      subst (λ n. Gives config xs t (outcome_of_symbols p n [] (closings_of_all m.open_ones)) b) same
+      (subst (λ zs. Gives config xs t (outcome_of_symbols p read [] (marks_by_lines m (by_line (map token_of (map f zs))))) b) (drop_all read ys end) gives)
+
+-- ---- events one after another
+
+pub events_on : {A : Type 0} (xs : List LexemeValue) (t u : TreeRules A) (out : List Outline) (i : ℕ) (o : Outline) (e : EventValue) (es : List EventValue) (all : List FindingValue) → i < length out → o ≡ get_or out i o
+    → e ≡ event_of_outline xs o → ((later : List EventValue) (found : List FindingValue) → Finds t (e ∷ later) found → Finds u later found)
+    → Finds t (map (event_of_outline xs) (drop i out) ++ es) all → Finds u (map (event_of_outline xs) (drop (i + 1) out) ++ es) all
+events_on xs t u out i o e es all l is told pushed finds =
+    let rest = map (event_of_outline xs) (drop (i + 1) out) ++ es in
+    let cut : drop i out ≡ o ∷ drop (i + 1) out = drop-cons out i o l ∙ (ap (λ v. v ∷ drop (suc i) out) (sym is) ∙ ap (λ n. o ∷ drop n out) {x = suc i} {y = i + 1} (omega arith)) in
+    pushed rest all
+    (subst (λ v. Finds t (v ∷ rest) all) (sym told) (subst (λ (os : List Outline). Finds t (map (event_of_outline xs) os ++ es) all) cut finds))
+
+pub events_done : {A : Type 0} (xs : List LexemeValue) (t : TreeRules A) (out : List Outline) (i : ℕ) (es : List EventValue) (all : List FindingValue) → length out ≤ i
+    → Finds t (map (event_of_outline xs) (drop i out) ++ es) all → Finds t es all
+events_done xs t out i es all l finds = subst (λ (os : List Outline). Finds t (map (event_of_outline xs) os ++ es) all) (drop_all i out l) finds
+
+-- ---- how many lexemes were read
+
+pub line_counted : {T : Type 0} (f : T → LexemeValue) (line : List T) (m n : KeyMarkerValue) (read : ℕ) → n ≡ behind_keyed_line m (map token_of (map f line)) → m.marks.count ≡ read → n.marks.count ≡ read + length line
+line_counted f line m n read behind at =
+    ap (λ (k : KeyMarkerValue). k.marks.count) behind ∙ omega (arith, at, length-map (map f line) token_of, length-map line f)
+
+pub tokens_long : {T : Type 0} (f : T → LexemeValue) (line : List T) → length (map token_of (map f line)) ≡ length line
+tokens_long f line = length-map (map f line) token_of ∙ length-map line f
+
+-- ---- a fault
+
+pub reads_fails : {A : Type 0} (xs : List LexemeValue) (t u : TreeRules A) (o w : List Symbol → DocumentOutcome) (fault : Option PlacedParseFault) (f : PlacedParseFault) → fault ≡ Some f
+    → ((later : List Symbol) → ReadsOn fault xs t (o later) u (w later)) → (later : List Symbol) → o later ≡ Fails f
+reads_fails xs t u o w fault f is reads later = subst (λ e. ReadsOn e xs t (o later) u (w later)) is (reads later)
+
+pub reads_none : {A : Type 0} (xs : List LexemeValue) (t u : TreeRules A) (o w : List Symbol → DocumentOutcome) (fault : Option PlacedParseFault) → fault ≡ None
+    → ((later : List Symbol) → ReadsOn fault xs t (o later) u (w later)) → (later : List Symbol) → ReadsOn None xs t (o later) u (w later)
+reads_none xs t u o w fault is reads later = subst (λ e. ReadsOn e xs t (o later) u (w later)) is (reads later)
+
+-- ---- the beginning
+
+module _ {A : Type 0} (config : Config) (xs : List LexemeValue) (t u : TreeRules A) where
+  begun : ((es : List EventValue) (all : List FindingValue) → Finds t (map (event_of_outline xs) start_events ++ es) all → Finds u es all) → ((es : List EventValue) → Finds t es (event_findings config es))
+      → (o : DocumentOutcome) → Gives config xs u o (built_by xs (told_behind start_events o))
+  begun fed all (Events es) = record { fault = refl; found = fed (map (event_of_outline xs) es) _ (all (map (event_of_outline xs) (start_events ++ es))) }
+  begun fed all (Fails f) = record { fault = refl; found = tt }
+
+  pub begins : (p : SymbolParserValue) (options : TreeOptions) (out shown : List Outline) → p ≡ symbols_at_start → out ≡ start_events → shown ≡ out → options ≡ tree_options_of config
+      → ((es : List EventValue) (all : List FindingValue) → Finds t (map (event_of_outline xs) shown ++ es) all → Finds u es all) → ((es : List EventValue) → Finds t es (tree_findings options es))
+      → (ws : List Symbol) → Gives config xs u (outcome_of_symbols p 0 [] ws) (built_by xs (outcome_of_symbols symbols_at_start 0 start_events ws))
+  begins p options out shown at told same are fed all ws =
+      let o = outcome_of_symbols symbols_at_start 0 [] ws in
+      let whole : outcome_of_symbols symbols_at_start 0 start_events ws ≡ told_behind start_events o = symbols_behind start_events symbols_at_start 0 [] ws in
+      let fed' = subst (λ (os : List Outline). (es : List EventValue) (found : List FindingValue) → Finds t (map (event_of_outline xs) os ++ es) found → Finds u es found) (same ∙ told) fed in
+      let all' = subst (λ k. (es : List EventValue) → Finds t es (tree_findings k es)) are all in
+      subst (λ q. Gives config xs u (outcome_of_symbols q 0 [] ws) (built_by xs (outcome_of_symbols symbols_at_start 0 start_events ws))) (sym at)
+      (subst (λ w. Gives config xs u o (built_by xs w)) (sym whole) (begun fed' all' o))
+
+-- ---- the end
+
+close_place : (p : SymbolParserValue) (count : ℕ) (os : List OpenBlock) (f : PlacedParseFault) → outcome_of_symbols p count [] (closings_of_all os) ≡ Fails f → f.place ≡ count
+close_place p count os f fails =
+    let ws = closings_of_all os in
+    omega (arith, place_told p.trail count (taken_count ws p.goals []) ws (run ws p.goals []) f fails, taken_within ws p.goals [], all_closed_count os)
+
+module _ {A : Type 0} (config : Config) (xs : List LexemeValue) (b : BuiltValue) (t u : TreeRules A) (p : SymbolParserValue) (os : List OpenBlock) (n : ℕ) (long : length xs ≡ n) (quiet : IsQuiet b) where
+  abbrev o : DocumentOutcome
+  o = outcome_of_symbols p n [] (closings_of_all os)
+
+  -- the document ends with this fault and these findings, where this fault was found before
+  abbrev pub Ending : Option PlacedParseFault → Option PlacedParseFault → List FindingValue → Type 0
+  Ending before fault found = (fault ≡ b.fault) × (found ≡ event_findings config b.events) × (counted_in before n ≡ counted_of xs b.fault)
+
+  nothing_found : (f : PlacedParseFault) → b.fault ≡ Some f → [] ≡ event_findings config b.events
+  nothing_found f is = sym (ap (event_findings config) (quiet f is) ∙ none_found config)
+
+  pub end_before : (fault : Option PlacedParseFault) → is_some fault ≡ true → (found : List FindingValue) → found ≡ [] → GivesOrFails fault config xs t o b → Ending fault fault found
+  end_before None e found none h = absurd (cc)
+  end_before (Some f) e found none h = (sym h, none ∙ nothing_found f h, sym (ap (counted_of xs) h))
+
+  gives : (fault : Option PlacedParseFault) → is_some fault ≡ false → GivesOrFails fault config xs t o b → Gives config xs t o b
+  gives None e h = h
+  gives (Some f) e h = absurd (cc)
+
+  none_before : (fault : Option PlacedParseFault) → is_some fault ≡ false → counted_in fault n ≡ n
+  none_before None e = refl
+  none_before (Some f) e = absurd (cc)
+
+  pub end_behind : (fault ends : Option PlacedParseFault) (f : PlacedParseFault) → is_some fault ≡ false → ends ≡ Some f → Ends ends xs t o u → (found : List FindingValue) → found ≡ []
+      → GivesOrFails fault config xs t o b → Ending fault (Some f) found
+  end_behind fault ends f e is closed found none h =
+      let fails : o ≡ Fails f = subst (λ w. Ends w xs t o u) is closed in
+      let told : b.fault ≡ Some f = sym (gives fault e h).fault ∙ ap fault_told fails in
+      (sym told, none ∙ nothing_found f told, none_before fault e ∙ (sym (close_place p n os f fails) ∙ sym (ap (counted_of xs) told)))
+
+  pub end_whole : (fault ends : Option PlacedParseFault) → is_some fault ≡ false → ends ≡ None → Ends ends xs t o u → (found : List FindingValue) → ((all : List FindingValue) → Finds u [] all → found ≡ all)
+      → GivesOrFails fault config xs t o b → Ending fault None found
+  end_whole fault ends e is closed found finds h =
+      let both = subst (λ w. Ends w xs t o u) is closed in
+      let told : b.fault ≡ None = sym (gives fault e h).fault ∙ both.0 in
+      (sym told, finds (event_findings config b.events) (both.1 (event_findings config b.events) (gives fault e h).found), none_before fault e ∙ (sym long ∙ sym (ap (counted_of xs) told)))
+
+-- ---- all of it
+
+document_told : (xs : List LexemeValue) → 0 < length xs → document_of xs ≡ built_by xs (outcome_of_symbols symbols_at_start 0 start_events (marks_by_lines marker_at_start (by_line (map token_of xs))))
+document_told [] l = absurd (omega (arith, l))
+document_told (x ∷ xs) l = refl
+
+quiet_built : (xs : List LexemeValue) (o : DocumentOutcome) → IsQuiet (built_by xs o)
+quiet_built xs (Events es) f e = absurd (cc)
+quiet_built xs (Fails g) f e = refl
+
+pub quiet_document : (xs : List LexemeValue) → 0 < length xs → IsQuiet (document_of xs)
+quiet_document xs l = subst IsQuiet (sym (document_told xs l)) (quiet_built xs (outcome_of_symbols symbols_at_start 0 start_events (marks_by_lines marker_at_start (by_line (map token_of xs)))))
+
+pub gives_document : {A : Type 0} (config : Config) (xs : List LexemeValue) (t : TreeRules A) (p : SymbolParserValue) (m : KeyMarkerValue) → m ≡ key_marker_at_start → 0 < length xs
+    → ((ws : List Symbol) → Gives config xs t (outcome_of_symbols p 0 [] ws) (built_by xs (outcome_of_symbols symbols_at_start 0 start_events ws)))
+    → Gives config xs t (outcome_of_symbols p 0 [] (marks_by_lines m.marks (by_line (map token_of xs)))) (document_of xs)
+gives_document config xs t p m start l gives =
+    let lines = by_line (map token_of xs) in
+    subst (λ k. Gives config xs t (outcome_of_symbols p 0 [] (marks_by_lines k.marks lines)) (document_of xs)) (sym start)
+    (subst (λ b. Gives config xs t (outcome_of_symbols p 0 [] (marks_by_lines marker_at_start lines)) b) (sym (document_told xs l)) (gives (marks_by_lines marker_at_start lines)))
+
+pub keys_read : (xs : List LexemeValue) (ks old : List KeyFacts) (m : KeyMarkerValue) → ks ≡ old ++ facts_by_lines m (by_line (map token_of xs)) → old ≡ [] → m ≡ key_marker_at_start → ks ≡ key_facts xs
+keys_read xs ks old m told none start =
+    told
+    ∙ (ap (λ (js : List KeyFacts). js ++ facts_by_lines m (by_line (map token_of xs))) none ∙ (ap (λ k. facts_by_lines k (by_line (map token_of xs))) start ∙ told_by_lines (map token_of xs)))
+
+pub facts_read : (config : Config) (rs : List RecordValue) (xs : List LexemeValue) (counted so_many : ℕ) (ns : List ℕ) (fs old is_checked : List Fact) (m : KeyMarkerValue)
+    → fs ≡ old ++ facts_left nothing_open (map token_of xs) counted ns (marks_by_lines m.marks (by_line (map token_of xs))) → old ≡ [] → m ≡ key_marker_at_start → counted ≡ so_many
+    → ns ≡ map (λ r. r.indentation) rs → is_checked ≡ items_if (is_on config Indentation) fs → is_checked ≡ facts_of config rs xs so_many
+facts_read config rs xs counted so_many ns fs old is_checked m told none start same are is =
+    let ts = map token_of xs in
+    let left = λ (k : KeyMarkerValue). facts_left nothing_open ts counted ns (marks_by_lines k.marks (by_line ts)) in
+    let whole : fs ≡ indent_facts ts (marked_lexemes xs) counted ns =
+    told
+    ∙ (ap (λ (gs : List Fact). gs ++ left m) none ∙ (ap left start ∙ (ap (facts_left nothing_open ts counted ns) (marked_by_lines ts) ∙ by_symbols xs counted ns))) in
+    is
+    ∙ (ap (items_if (is_on config Indentation)) whole
+    ∙ (ap (λ n. items_if (is_on config Indentation) (indent_facts ts (marked_lexemes xs) n ns)) same ∙ ap (λ ks. items_if (is_on config Indentation) (indent_facts ts (marked_lexemes xs) so_many ks)) are))
+
+none_if : (b : Bool) (fs : List Fact) → fs ≡ [] → [] ≡ items_if b fs
+none_if true fs e = sym e
+none_if false fs e = refl
+
+pub nothing_read : {A T : Type 0} (config : Config) (rs : List RecordValue) (f : T → LexemeValue) (ys : List T) (r : Reading A) → (length ys == 0) ≡ true → r.keys.items ≡ [] → r.facts.items ≡ [] → r.found.items ≡ [] → r.fault ≡ None
+    → IsReading config rs (map f ys) (document_of (map f ys)) r
+nothing_read config rs f [] r e keys facts found fault = record {
+  fault = fault;
+  keys = keys;
+  facts = facts ∙ none_if (is_on config Indentation) (indent_facts [] (marked_lexemes []) 0 (map (λ s. s.indentation) rs)) refl;
+  found = found ∙ sym (none_found config);
+}
+nothing_read config rs f (y ∷ ys) r e keys facts found fault = absurd (omega (arith, eqb-true (length (y ∷ ys)) 0 e))
+
+-- ---- what is kept
+
+pub inside_read : {A X : Type 0} (config : Config) (rs : List RecordValue) (f : X → LexemeValue) (xs ys zs : List X) (r : Reading A) → xs ≡ zs → ys ≡ zs → IsReading config rs (map f xs) (document_of (map f xs)) r
+    → counted_of (map f ys) r.fault ≤ length ys
+inside_read {A} {X} config rs f xs ys zs r a b reads =
+    let here : counted_of (map f xs) (document_of (map f xs)).fault ≤ length (map f xs) = counted_within (map f xs) (document_of (map f xs)) refl in
+    let same : counted_of (map f ys) r.fault ≡ counted_of (map f xs) (document_of (map f xs)).fault = ap (λ (vs : List X). counted_of (map f vs) r.fault) (b ∙ sym a) ∙ ap (counted_of (map f xs)) reads.fault in
+    let long : length ys ≡ length xs = ap (λ (vs : List X). length vs) (b ∙ sym a) in
+    omega (arith, here, same, long, length-map xs f)
+
+pub kept_read : {A X E : Type 0} (config : Config) (rs : List RecordValue) (f : X → LexemeValue) (xs ys zs : List X) (r : Reading A) (k : Result KeptValue E) → xs ≡ zs → ys ≡ zs → map f zs ≡ lexemes_of rs
+    → IsReading config rs (map f xs) (document_of (map f xs)) r → ((b : BuiltValue) → IsReading config rs (map f ys) b r → IfOk k (λ v. v ≡ kept_of config rs b)) → IfOk k (λ v. v ≡ kept_of_section config rs)
+unfolding kept_of_section
+kept_read {A} {X} {E} config rs f xs ys zs r k a b are reads keeps =
+    let here = subst (λ (vs : List X). IsReading config rs (map f vs) (document_of (map f xs)) r) (a ∙ sym b) reads in
+    subst (λ (vs : List LexemeValue). IfOk k (λ v. v ≡ kept_of config rs (document_of vs))) (ap (map f) a ∙ are) (keeps (document_of (map f xs)) here)
