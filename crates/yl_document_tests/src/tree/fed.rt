@@ -42,7 +42,7 @@ fn rules_that_are_on(rt: HostRuntime) -> Result<(), Fail> {
     Ok(())
 }
 
-// Texts of which each rule by itself finds the same.
+// Texts in which one of the rules finds something, or none.
 #[test]
 fn texts_with_all_rules(rt: HostRuntime) -> Result<(), Fail> {
     for (text, wanted) in [
