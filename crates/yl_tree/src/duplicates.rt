@@ -138,8 +138,9 @@ impl<'a, A: Allocator + Copy> DuplicateFinder<'a, A> {
             → OnOk result (FindsDuplicates self.new es all) }
     {
         let alloc = *self.found.allocator();
+        let name = walk::name_of(event);
         push_duplicate(&self.walk, event, &self.options, &mut self.found)?;
-        walk::step(alloc, &mut self.walk, event, walk::name_of(event))?;
+        walk::step(alloc, &mut self.walk, event, name)?;
         Ok(())
     }
 

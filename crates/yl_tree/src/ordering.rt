@@ -69,8 +69,9 @@ impl<'a, A: Allocator + Copy> MisplacedFinder<'a, A> {
             → OnOk result (FindsMisplaced self.new es all) }
     {
         let alloc = *self.found.allocator();
+        let name = walk::name_of(event);
         push_misplaced(&self.walk, event, &mut self.found)?;
-        walk::step(alloc, &mut self.walk, event, walk::name_of(event))?;
+        walk::step(alloc, &mut self.walk, event, name)?;
         Ok(())
     }
 
