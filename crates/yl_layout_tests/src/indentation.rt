@@ -65,13 +65,18 @@ fn facts_by_lines<A: Allocator + Copy>(
     let mut facts = Vec::new(alloc);
     let mut symbols = Vec::new(alloc);
     let mut keys = Vec::new(alloc);
-    let mut rest = lexemes;
+    let mut read = 0;
     for _ in lexemes {
-        let (line, later) = rest.split_at(lexemes_in_line(rest));
+        if read >= lexemes.len() {
+            break;
+        }
+        let (_, rest) = lexemes.split_at(read);
+        let count = lexemes_in_line(rest);
+        let (line, _) = rest.split_at(count);
         symbols.clear();
         marker.read(line, &mut symbols, &mut keys)?;
         reader.read(lexemes, &symbols, lexemes.len(), indentations, &mut facts)?;
-        rest = later;
+        read += count;
     }
     symbols.clear();
     marker.close(&mut symbols)?;

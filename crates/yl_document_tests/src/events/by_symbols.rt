@@ -36,17 +36,21 @@ fn events_by_lines<'a, 'h>(
     let mut keys = Vec::new(heap);
     let mut outlines = Vec::new(heap);
     parser.begin(&mut outlines)?;
-    let mut rest = lexemes;
+    let mut read = 0;
     for _ in lexemes {
-        let first = lexemes.len().saturating_sub(rest.len());
-        let (line, later) = rest.split_at(lexemes_in_line(rest));
+        if read >= lexemes.len() {
+            break;
+        }
+        let (_, rest) = lexemes.split_at(read);
+        let count = lexemes_in_line(rest);
+        let (line, _) = rest.split_at(count);
         let mut symbols = Vec::new(heap);
         marker.read(line, &mut symbols, &mut keys)?;
-        if let Some(fault) = parser.feed(first, &symbols, &mut outlines)? {
+        if let Some(fault) = parser.feed(read, &symbols, &mut outlines)? {
             return Ok(Some(fault));
         }
         take(lexemes, &mut outlines, events)?;
-        rest = later;
+        read += count;
     }
     let mut symbols = Vec::new(heap);
     marker.close(&mut symbols)?;
