@@ -1,7 +1,5 @@
 //! The events of documents, whole and line by line.
 
-mod by_symbols;
-
 use refusing::Refusing;
 use std::alloc::{AllocError, Allocator, Global};
 use std::process::Abort;

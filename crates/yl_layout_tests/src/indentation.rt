@@ -10,11 +10,10 @@ use std::alloc::{AllocError, Allocator, Global};
 use std::test::Fail;
 use yl_events::documents;
 use yl_indentation::{
-    Fact, FactReader, IndentSequences, IndentationOptions, Measure, Spaces, facts_are_by_symbols,
-    indent_facts, indent_problems,
+    Fact, IndentSequences, IndentationOptions, Measure, Spaces, indent_facts, indent_problems,
 };
 use yl_lexeme::LexemeAtLine;
-use yl_marks::{KeyMarker, keys_by_lines, lexemes_in_line, mark};
+use yl_marks::mark;
 use yl_text::{Row, split};
 
 /// Options of these values.
@@ -50,38 +49,6 @@ fn document_facts<A: Allocator + Copy>(
 ) -> Result<Vec<Fact, A>, AllocError> {
     let marks = mark(alloc, lexemes)?;
     indent_facts(alloc, lexemes, &marks, counted, indentations)
-}
-
-/// The facts of one document, read line by line.
-fn facts_by_lines<A: Allocator + Copy>(
-    alloc: A,
-    lexemes: &[LexemeAtLine<'_, A>],
-    indentations: &[u32],
-) -> Result<Vec<Fact, A>, AllocError> {
-    facts_are_by_symbols();
-    keys_by_lines();
-    let mut marker = KeyMarker::new(alloc);
-    let mut reader = FactReader::new(alloc);
-    let mut facts = Vec::new(alloc);
-    let mut symbols = Vec::new(alloc);
-    let mut keys = Vec::new(alloc);
-    let mut read = 0;
-    for _ in lexemes {
-        if read >= lexemes.len() {
-            break;
-        }
-        let (_, rest) = lexemes.split_at(read);
-        let count = lexemes_in_line(rest);
-        let (line, _) = rest.split_at(count);
-        symbols.clear();
-        marker.read(line, &mut symbols, &mut keys)?;
-        reader.read(lexemes, &symbols, lexemes.len(), indentations, &mut facts)?;
-        read += count;
-    }
-    symbols.clear();
-    marker.close(&mut symbols)?;
-    reader.read(lexemes, &symbols, lexemes.len(), indentations, &mut facts)?;
-    Ok(facts)
 }
 
 /// The facts of each document of a text, of its first `counted` lexemes.

@@ -1,9 +1,7 @@
 //! Texts of several documents, and documents of which not all counts.
-use super::{facts_by_lines, indentations, problems, problems_of, text_facts};
-use crate::lexemes::{placed, scanned};
+use super::{problems, problems_of, text_facts};
 use std::test::Fail;
 use yl_indentation::{Expectation, Fact, IndentationOptions, Measure};
-use yl_text::split;
 
 #[test]
 fn the_first_document_gives_the_width_of_all(rt: HostRuntime) -> Result<(), Fail> {
@@ -32,8 +30,7 @@ fn lexemes_that_do_not_count(rt: HostRuntime) -> Result<(), Fail> {
 
 #[test]
 fn facts_of_a_document(rt: HostRuntime) -> Result<(), Fail> {
-    let text = "---\na:\n- b\n- [c,\n  d\n ]\n";
-    let facts = text_facts(rt.alloc(), text, usize::MAX)?;
+    let facts = text_facts(rt.alloc(), "---\na:\n- b\n- [c,\n  d\n ]\n", usize::MAX)?;
     assert_eq!(rt; facts.len(), 1);
     let wanted = [
         Fact {
@@ -58,12 +55,6 @@ fn facts_of_a_document(rt: HostRuntime) -> Result<(), Fail> {
         },
     ];
     assert_eq!(rt; facts[0].as_slice(), wanted.as_slice());
-    let rows = split(rt.alloc(), text.as_bytes())?;
-    let scanned = scanned(rt.alloc(), text)?;
-    let lexemes = placed(rt.alloc(), &scanned.lexemes)?;
-    let indentations = indentations(rt.alloc(), &rows)?;
-    let facts = facts_by_lines(rt.alloc(), &lexemes, &indentations)?;
-    assert_eq!(rt; facts.as_slice(), wanted.as_slice());
     Ok(())
 }
 
