@@ -1,6 +1,5 @@
 //! The rules on keys and anchors: what they find in texts.
 
-mod fed;
 mod growths;
 mod large;
 mod rows;
@@ -11,18 +10,14 @@ use yl_events::{Event, documents, parse_document};
 use yl_lexeme::{LexemeAtLine, Meter};
 use yl_scan::{ScannedText, scan};
 use yl_text::{Finding, TextFault, lines_are_few_and_short, split};
-use yl_tree::{
-    AnchorsOptions, KeyDuplicatesOptions, TreeOptions, TreeRules, anchors, key_duplicates,
-    key_ordering,
-};
+use yl_tree::{AnchorsOptions, KeyDuplicatesOptions, anchors, key_duplicates, key_ordering};
 
-/// A rule with its options, or all that are on, fed one event after another.
+/// A rule with its options.
 #[derive(Clone, Copy)]
 enum Rule {
     KeyDuplicates(KeyDuplicatesOptions),
     KeyOrdering,
     Anchors(AnchorsOptions),
-    Fed(TreeOptions),
 }
 
 /// The rule key-duplicates, which reports merge keys too or not.
@@ -42,38 +37,6 @@ fn anchors_with(undeclared: bool, duplicated: bool, unused: bool) -> Rule {
     })
 }
 
-/// The rules that are on, fed one event after another; anchors reports all that it can.
-fn fed_with(key_duplicates: bool, key_ordering: bool, anchors: bool) -> Rule {
-    let duplicates = KeyDuplicatesOptions::standard();
-    let names = AnchorsOptions {
-        forbid_undeclared_aliases: true,
-        forbid_duplicated_anchors: true,
-        forbid_unused_anchors: true,
-    };
-    Rule::Fed(TreeOptions {
-        key_duplicates: if key_duplicates {
-            Some(duplicates)
-        } else {
-            None
-        },
-        key_ordering,
-        anchors: if anchors { Some(names) } else { None },
-    })
-}
-
-/// What the rules find in one document, fed one event after another.
-fn fed_found<'a, A: Allocator + Copy>(
-    alloc: A,
-    options: &TreeOptions,
-    events: &[Event<'a>],
-) -> Result<Vec<Finding<A>, A>, AllocError> {
-    let mut rules = TreeRules::new(alloc, options);
-    for event in events {
-        rules.push(event)?;
-    }
-    rules.finish()
-}
-
 /// What the rule finds in one document.
 fn found_in<'a, A: Allocator + Copy>(
     alloc: A,
@@ -84,7 +47,6 @@ fn found_in<'a, A: Allocator + Copy>(
         Rule::KeyDuplicates(options) => key_duplicates(alloc, events, &options),
         Rule::KeyOrdering => key_ordering(alloc, events),
         Rule::Anchors(options) => anchors(alloc, events, &options),
-        Rule::Fed(options) => fed_found(alloc, &options, events),
     }
 }
 

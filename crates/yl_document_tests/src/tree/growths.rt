@@ -1,5 +1,5 @@
 use super::large::{anchored, event, plain};
-use super::{Rule, anchors_with, fed_with, found_in, key_duplicates_with, show};
+use super::{Rule, anchors_with, found_in, key_duplicates_with, show};
 use refusing::Refusing;
 use std::alloc::Global;
 use std::process::Abort;
@@ -92,31 +92,6 @@ fn each_growth_of_anchors(rt: HostRuntime) -> Result<(), Fail> {
         anchors_with(true, true, true),
         &events,
         8,
-        wanted,
-    )
-}
-
-// {b: &x , a: *y, b: }
-#[test]
-fn each_growth_of_fed_rules(rt: HostRuntime) -> Result<(), Fail> {
-    let events = [
-        event(EventKind::MappingStart, 0),
-        plain("b", 0),
-        anchored("x", 0),
-        plain("a", 1),
-        event(EventKind::Alias("y"), 2),
-        plain("b", 3),
-        event(EventKind::Empty, 3),
-        event(EventKind::MappingEnd, 4),
-    ];
-    let wanted =
-        "4:1 key-duplicates duplication of key \"b\" in mapping\n2:1 key-ordering wrong ordering of key \"a\" in mapping\n1:3 anchors found unused anchor \"x\"\n3:1 anchors found undeclared alias \"y\"\n";
-    refuse_each(
-        &rt,
-        rt.alloc(),
-        fed_with(true, true, true),
-        &events,
-        12,
         wanted,
     )
 }

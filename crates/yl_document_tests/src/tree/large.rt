@@ -5,7 +5,7 @@ use yl_events::{Event, EventAnchor, EventKind};
 use yl_lexeme::Style;
 use yl_text::Pos;
 
-pub(crate) const COUNT: u32 = 100_000;
+const COUNT: u32 = 100_000;
 
 /// An event in this line, without an anchor.
 pub(crate) fn event(kind: EventKind<'_>, line: u32) -> Event<'_> {
