@@ -7,5 +7,6 @@ pub mod Sections
 pub mod Shifted
 pub mod Silenced
 pub mod SilencingSections
+pub mod Spoken
 pub mod Walks
 pub mod Given

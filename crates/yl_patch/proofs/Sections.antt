@@ -73,14 +73,19 @@ comments_moved n line there (k ∷ ks) e =
     ∙ (ap (λ (cs : List PlacedCommentValue). cs ++ map (moved_comment n) (comments_in_sections (line + k.rows) ks)) (all_comments_moved n line there k.comments e)
     ∙ sym (map-append (moved_comment n) (map (moved_comment line) k.comments) (comments_in_sections (line + k.rows) ks)))
 
--- of three parts, the second silent
-pub comments_three : (ks ls ms : List KeptValue) (there : ℕ) → AllByRecursion IsSilent ls → there ≡ row_sum ks + row_sum ls
-    → comments_in_sections 0 (ks ++ (ls ++ ms)) ≡ comments_in_sections 0 ks ++ map (moved_comment there) (comments_in_sections 0 ms)
-comments_three ks ls ms there h e =
-    comments_both 0 (row_sum ks) ks (ls ++ ms) (omega arith)
+-- of two parts, and of three
+pub comments_two : (ks ls : List KeptValue) (first : ℕ) → first ≡ row_sum ks → comments_in_sections 0 (ks ++ ls) ≡ comments_in_sections 0 ks ++ map (moved_comment first) (comments_in_sections 0 ls)
+comments_two ks ls first e =
+    comments_both 0 first ks ls (omega (arith, e)) ∙ ap (λ (cs : List PlacedCommentValue). comments_in_sections 0 ks ++ cs) (comments_moved first 0 first ls (omega arith))
+
+pub comments_three : (ks ls ms : List KeptValue) (first there : ℕ) → first ≡ row_sum ks → there ≡ first + row_sum ls
+    → comments_in_sections 0 (ks ++ (ls ++ ms)) ≡ comments_in_sections 0 ks ++ (map (moved_comment first) (comments_in_sections 0 ls) ++ map (moved_comment there) (comments_in_sections 0 ms))
+comments_three ks ls ms first there e f =
+    comments_both 0 first ks (ls ++ ms) (omega (arith, e))
     ∙ ap (λ (cs : List PlacedCommentValue). comments_in_sections 0 ks ++ cs)
-    (comments_both (row_sum ks) there ls ms e
-    ∙ (ap (λ (cs : List PlacedCommentValue). cs ++ comments_in_sections there ms) (no_comments (row_sum ks) ls h) ∙ comments_moved there 0 there ms (omega arith)))
+    (comments_both first there ls ms f
+    ∙ (ap (λ (cs : List PlacedCommentValue). cs ++ comments_in_sections there ms) (comments_moved first 0 first ls (omega arith))
+    ∙ ap (λ (cs : List PlacedCommentValue). map (moved_comment first) (comments_in_sections 0 ls) ++ cs) (comments_moved there 0 there ms (omega arith))))
 
 lower_comments : (line rows high : ℕ) (cs : List PlacedCommentValue) → line + rows ≤ high → AllByRecursion (λ c. c.line < rows) cs → AllByRecursion (λ c. c.line < high) (map (moved_comment line) cs)
 lower_comments line rows high [] l h = tt

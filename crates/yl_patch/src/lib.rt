@@ -1,9 +1,10 @@
 //! What an edit does to a report, where the problems of some lines become others and those below them stand further up or down.
 //!
-//! The problems of a text whose sections have no fault are those of its sections, one after another. So an edit within some sections that
-//! silence nothing changes the problems of their lines alone, and moves those below them.
+//! The problems of a text whose sections have no fault are those of its sections, one after another. So an edit within some sections
+//! changes the problems of their lines alone, and moves those below them, if what comments say of the lines below stays.
 #![tactic(auto)]
 
+mod comments;
 mod loud;
 mod overview;
 mod patching;
@@ -11,6 +12,7 @@ mod places;
 mod plain;
 mod shifting;
 mod silencing;
+mod speaking;
 mod there;
 mod touched;
 mod window;

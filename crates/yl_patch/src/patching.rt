@@ -11,7 +11,8 @@ use crate::loud::is_loud;
 use crate::overview::{Overview, is_alike, measure_before};
 use crate::places::count_upto;
 use crate::shifting::{ReportPatch, are_low};
-use crate::silencing::{are_silent, are_silent_between, silences_before};
+use crate::silencing::silences_upto;
+use crate::speaking::speak_alike;
 use crate::there::problems_there;
 use crate::touched::{Ends, Touched, ends_of, find_touched, is_filled, is_inside};
 use crate::window::Window;
@@ -102,7 +103,8 @@ pub fn patched_report<S: LineStore>(
     if !overview.is_plain || !is_alike(kept, from, end, new) {
         return Ok(None);
     }
-    if !are_silent(new) || !are_silent_between(kept, from, end) {
+    let speaks_alike = speak_alike(alloc, kept, from, end, new)?;
+    if !speaks_alike {
         return Ok(None);
     }
     let Some(touched) = find_touched(from_row, end_row, new) else {
@@ -120,7 +122,7 @@ pub fn patched_report<S: LineStore>(
     let window = Window::new(patched, touched.first as usize, touched.new_end as usize);
     let whole = overview.whole;
     let before = measure_before(kept, from, whole);
-    let silences = silences_before(alloc, kept, overview.silencing, from)?;
+    let silences = silences_upto(alloc, kept, overview.silencing, from, touched.first, new)?;
     let there = problems_there(
         alloc,
         config,

@@ -1,4 +1,4 @@
-use Rattle.std.proofs.Common.{◌==◌, ◌-◌, List, length, map, take, drop, arith, ap, sym, subst, ◌∙◌}
+use Rattle.std.proofs.Common.{◌==◌, ◌-◌, ◌++◌, List, length, map, take, drop, arith, ap, sym, subst, ◌∙◌}
 use Rattle.std.specs.List.{slice_get, splice}
 use Rattle.yl_text.specs.Lines.{RowValue}
 use Rattle.yl_config.specs.Config.{levels_of, options_of}
@@ -28,8 +28,8 @@ new-window-requires g c =
 pub measure_before-before-requires-clause-whole : goal.measure_before-before-requires-clause-whole
 measure_before-before-requires-clause-whole g c = (c.requires.overview c.if-not-overview.false).whole
 
-pub silences_before-requires-clause-silencing : goal.silences_before-requires-clause-silencing
-silences_before-requires-clause-silencing g c = (c.requires.overview c.if-not-overview.false).silencing
+pub silences_upto-requires-clause-silencing : goal.silences_upto-requires-clause-silencing
+silences_upto-requires-clause-silencing g c = (c.requires.overview c.if-not-overview.false).silencing
 
 pub returns-clause-report : goal.returns-clause-report
 returns-clause-report g c =
@@ -52,7 +52,7 @@ returns-clause-report g c =
     same_there (options_of config) e c.args.overview.whole (measured kept) c.measure_before-before.result (measured (take c.args.from kept)) c.new-window.result qs c.args.new.now known.whole c.measure_before-before.ensures window in
     let put =
     c.in_ok-there.ensures
-    ∙ same_silences (levels_of config) (is_file_silenced_by silences) (is_silenced_at silences) (is_silenced (comments_in_sections 0 (take c.args.from kept)))
+    ∙ same_silences (levels_of config) (is_file_silenced_by silences) (is_silenced_at silences) (is_silenced (comments_in_sections 0 (take c.args.from kept ++ c.args.new.now)))
     (map (moved t.first) (found_there (options_of config) e c.args.overview.whole c.measure_before-before.result c.new-window.result c.args.new.now))
     (map (moved t.first) (found_there (options_of config) e (measured kept) (measured (take c.args.from kept)) qs c.args.new.now)) c.in_ok-silences.ensures.file c.in_ok-silences.ensures.lines (ap (map (moved t.first)) there) in
     then_all c.patch_with.result c.patch_with.ensures.from c.patch_with.ensures.end c.patch_with.ensures.parts (λ p i j parts.
@@ -63,6 +63,6 @@ returns-clause-report g c =
     (c.in-Some.ensures.first ∙ c.requires.from_row)
     (omega (arith, c.in-Some.ensures.first, c.in-Some.ensures.old_end, c.requires.from_row, c.requires.end_row, rows_until kept c.args.from c.args.end c.requires.kept_range.ordered c.requires.kept_range.within))
     c.in-Some.ensures.new_end e c.ends_of-ends.ensures.begins (c.ends_of-ends.ensures.ends ∙ ap (λ n. t.old_end == n) c.len-lines.ensures) (c.is_cut.ensures.old cut)
-    (λ h. ap (λ (xs : List RowValue). is_filled (slice_get xs t.first)) (sym c.new-patched.ensures) ∙ c.is_cut.ensures.new cut h) (c.is_cut.ensures.behind cut) (c.are_silent_between.ensures c.if-not-are_silent_between.false) (c.are_silent.ensures c.if-not-are_silent.false) (c.is_alike.ensures.measure alike)
+    (λ h. ap (λ (xs : List RowValue). is_filled (slice_get xs t.first)) (sym c.new-patched.ensures) ∙ c.is_cut.ensures.new cut h) (c.is_cut.ensures.behind cut) (c.in_ok-speaks_alike.ensures c.if-not-speaks_alike.false) (c.is_alike.ensures.measure alike)
     p.from p.end p.problems.items c.args.problems.now c.requires.problems i j
     (parts.0 ∙ put)))
