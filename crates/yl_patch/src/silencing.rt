@@ -251,8 +251,8 @@ fn comments_before<'a, A: Allocator + Copy>(
     comments_between(alloc, kept, silencing.from, stop, silencing.row)
 }
 
-/// What the comments of the sections before one say, and those of these, which begin behind so many lines, where the first line silences
-/// nothing.
+/// What the comments of the sections before one say, and those of these, of which the first begins at `row`, where the first line of the
+/// text silences nothing.
 pub fn silences_upto<A: Allocator + Copy>(
     alloc: A,
     kept: &Chunks<Kept<A>, A>,
@@ -263,9 +263,8 @@ pub fn silences_upto<A: Allocator + Copy>(
 ) -> Result<Silences<A>, AllocError>
     requires range { from ≤ length kept.now.items }
     requires silencing { IsSilencingOf kept.now.items silencing }
-    requires row { row ≡ row_sum (take from kept.now.items) }
     ensures file { IfOk result (λ s. is_file_silenced_by s ≡ false) }
-    ensures lines { IfOk result (λ s. is_silenced_at s ≡ is_silenced (comments_in_sections 0 (take from kept.now.items ++ new.now))) }
+    ensures lines { IfOk result (λ s. is_silenced_at s ≡ is_silenced (comments_in_sections 0 (take from kept.now.items) ++ comments_in_sections row new.now)) }
 {
     let before = comments_before(alloc, kept, silencing, from)?;
     let comments = with_comments_of(before, row, new)?;

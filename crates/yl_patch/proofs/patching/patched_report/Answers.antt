@@ -10,7 +10,7 @@ use Rattle.yl_patch.specs.Patched.{patched}
 use Rattle.yl_patch.specs.There.{found_there}
 use Rattle.yl_patch.proofs.Given.{same_silences, same_there, then_all}
 use Rattle.yl_patch.proofs.Renewed.{report_renewed, spliced_length}
-use Rattle.yl_patch.proofs.Sections.{measured}
+use Rattle.yl_patch.proofs.Sections.{comments_both, measured}
 use Rattle.yl_patch.proofs.Walks.{rows_until}
 use Rattle.yl_patch.proofs.patching.patched_report.Goals as goal
 
@@ -54,7 +54,8 @@ returns-clause-report g c =
     c.in_ok-there.ensures
     ∙ same_silences (levels_of config) (is_file_silenced_by silences) (is_silenced_at silences) (is_silenced (comments_in_sections 0 (take c.args.from kept ++ c.args.new.now)))
     (map (moved t.first) (found_there (options_of config) e c.args.overview.whole c.measure_before-before.result c.new-window.result c.args.new.now))
-    (map (moved t.first) (found_there (options_of config) e (measured kept) (measured (take c.args.from kept)) qs c.args.new.now)) c.in_ok-silences.ensures.file c.in_ok-silences.ensures.lines (ap (map (moved t.first)) there) in
+    (map (moved t.first) (found_there (options_of config) e (measured kept) (measured (take c.args.from kept)) qs c.args.new.now)) c.in_ok-silences.ensures.file
+    (c.in_ok-silences.ensures.lines ∙ ap is_silenced (sym (comments_both 0 t.first (take c.args.from kept) c.args.new.now (omega (arith, c.in-Some.ensures.first, c.requires.from_row))))) (ap (map (moved t.first)) there) in
     then_all c.patch_with.result c.patch_with.ensures.from c.patch_with.ensures.end c.patch_with.ensures.parts (λ p i j parts.
     ap (λ n. patched p.from p.end p.problems.items n p.down c.args.problems.now) parts.1
     ∙ (ap (λ n. patched p.from p.end p.problems.items t.old_end n c.args.problems.now) parts.2
