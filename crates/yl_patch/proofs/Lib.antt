@@ -1,9 +1,12 @@
 pub mod Arranged
+pub mod BeforeFault
+pub mod Edited
 pub mod Ends
 pub mod Lines
 pub mod Parts
 pub mod Renewed
 pub mod Sections
+pub mod Settled
 pub mod Shifted
 pub mod Silenced
 pub mod SilencingSections

@@ -1,4 +1,5 @@
 pub mod Cut
 pub mod Patched
 pub mod Plain
+pub mod Settled
 pub mod There

@@ -11,6 +11,7 @@ mod places;
 mod plain;
 mod shifting;
 mod silencing;
+mod sound;
 mod there;
 mod touched;
 mod window;

@@ -99,7 +99,7 @@ pub fn patched_report<S: LineStore>(
     ensures low { IfOk result (λ o. IfSome o (λ p. AllByRecursion IsLow (drop p.end problems.now))) }
     ensures report { IfOk result (λ o. IfSome o (λ p. patched p.from p.end p.problems.items p.up p.down problems.now ≡ report config.now (splice (S.rows store.now) a b rows.now))) }
 {
-    if !overview.is_plain || !is_alike(kept, from, end, new) {
+    if !overview.is_plain || from > overview.sound || !is_alike(kept, from, end, new) {
         return Ok(None);
     }
     if !are_silent(new) || !are_silent_between(kept, from, end) {

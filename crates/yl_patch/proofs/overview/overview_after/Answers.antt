@@ -1,18 +1,28 @@
-use Rattle.std.proofs.Common.{◌∙◌}
-use Rattle.yl_patch.specs.Plain.{IsPlain}
+use Rattle.std.proofs.Common.{take, false, arith, ◌∙◌}
 use Rattle.yl_patch.proofs.Given.{is_so}
-use Rattle.yl_patch.proofs.Walks.{all_drop, all_take, all_three, measure_put}
+use Rattle.yl_patch.proofs.Settled.{plain_put, settled_put, sound_hides}
+use Rattle.yl_patch.proofs.BeforeFault.{sound_fewer}
 use Rattle.yl_patch.proofs.overview.overview_after.Goals as goal
 
 pub silencing_after-requires-clause-silencing : goal.silencing_after-requires-clause-silencing
 silencing_after-requires-clause-silencing g c = (c.requires.overview (is_so c.args.overview.is_plain c.if-not-overview.false)).silencing
 
+pub sound_after-requires-clause-sound : goal.sound_after-requires-clause-sound
+sound_after-requires-clause-sound g c = (c.requires.overview (is_so c.args.overview.is_plain c.if-not-overview.false)).sound
+
 pub returns : goal.returns
 returns g c = λ h.
     let s = c.requires.overview (is_so c.args.overview.is_plain c.if-not-overview.false) in
     let ks = c.args.kept.now.items in
-    let alike = c.if-not-is_alike.false in record {
-      plain = all_three IsPlain ks c.args.new.now c.args.from c.args.end (all_take IsPlain ks c.args.from s.plain) (c.is_alike.ensures.plain alike) (all_drop IsPlain ks c.args.end s.plain);
-      whole = s.whole ∙ measure_put ks c.args.new.now c.args.from c.args.end c.requires.range.ordered c.requires.range.within (c.is_alike.ensures.measure alike);
+    let from = c.args.from in
+    let end = c.args.end in
+    let range = c.requires.range in
+    let alike = c.if-not-is_alike.false in
+    let front = sound_fewer ks from c.args.overview.sound (omega (arith, c.if-from-overview.false)) s.sound in
+    let above = sound_hides (take from ks) front.sound in
+    let below = c.is_alike.ensures.below alike in record {
+      plain = plain_put ks c.args.new.now from end false range.ordered range.within above s.plain (c.is_alike.ensures.plain alike) below;
+      sound = c.in-Some-sound_after.ensures;
+      whole = s.whole ∙ settled_put ks c.args.new.now from end false range.ordered range.within above (c.is_alike.ensures.measure alike) below;
       silencing = c.in-Some.ensures;
     }

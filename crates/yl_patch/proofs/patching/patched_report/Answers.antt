@@ -1,4 +1,4 @@
-use Rattle.std.proofs.Common.{◌==◌, ◌-◌, List, length, map, take, drop, arith, ap, sym, subst, ◌∙◌}
+use Rattle.std.proofs.Common.{◌≡◌, ◌==◌, ◌-◌, false, List, length, map, take, drop, arith, ap, sym, subst, ◌∙◌}
 use Rattle.std.specs.List.{slice_get, splice}
 use Rattle.yl_text.specs.Lines.{RowValue}
 use Rattle.yl_config.specs.Config.{levels_of, options_of}
@@ -6,11 +6,16 @@ use Rattle.yl_report.specs.Directive.{disables_file, is_silenced}
 use Rattle.yl_report.specs.Silence.{is_file_silenced_by, is_silenced_at}
 use Rattle.yl_lint.specs.TextReport.{comments_in_sections, first_text, moved}
 use Rattle.yl_patch.specs.Cut.{IsInside, is_filled}
+use Rattle.yl_sections.specs.Kept.{KeptValue}
 use Rattle.yl_patch.specs.Patched.{patched}
+use Rattle.yl_patch.specs.Settled.{settled}
 use Rattle.yl_patch.specs.There.{found_there}
 use Rattle.yl_patch.proofs.Given.{same_silences, same_there, then_all}
-use Rattle.yl_patch.proofs.Renewed.{report_renewed, spliced_length}
+use Rattle.yl_patch.proofs.Edited.{report_edited}
+use Rattle.yl_patch.proofs.Renewed.{spliced_length}
 use Rattle.yl_patch.proofs.Sections.{measured}
+use Rattle.yl_patch.proofs.Settled.{sound_hides, sound_settled}
+use Rattle.yl_patch.proofs.BeforeFault.{sound_fewer}
 use Rattle.yl_patch.proofs.Walks.{rows_until}
 use Rattle.yl_patch.proofs.patching.patched_report.Goals as goal
 
@@ -24,6 +29,10 @@ new-window-requires g c =
       ordered = omega (arith, inside.new_some);
       within = omega (arith, inside.fits, inside.back, n, here);
     }
+
+pub measure_before-before-requires-clause-sound : goal.measure_before-before-requires-clause-sound
+measure_before-before-requires-clause-sound g c =
+    sound_fewer c.args.kept.now.items c.args.from c.args.overview.sound (omega (arith, c.if-from-overview.false)) (c.requires.overview c.if-not-overview.false).sound
 
 pub measure_before-before-requires-clause-whole : goal.measure_before-before-requires-clause-whole
 measure_before-before-requires-clause-whole g c = (c.requires.overview c.if-not-overview.false).whole
@@ -46,20 +55,25 @@ returns-clause-report g c =
     let e = c.ends_of-ends.result in
     let loud = c.in_ok-is_loud.ensures c.if-not-branch.false in
     let loud' = c.in_ok-is_loud-2.ensures c.if-not-branch-2.false in
+    let front = sound_fewer kept c.args.from c.args.overview.sound (omega (arith, c.if-from-overview.false)) known.sound in
+    let above = sound_hides (take c.args.from kept) front.sound in
+    let same : settled (take c.args.from kept) ≡ take c.args.from kept = sound_settled (take c.args.from kept) front.sound in
     let qs = take (t.new_end - t.first) (drop t.first (splice rows c.args.a c.args.b ins)) in
     let window = c.new-window.ensures ∙ ap (λ (xs : List RowValue). take (t.new_end - t.first) (drop t.first xs)) c.new-patched.ensures in
     let there =
-    same_there (options_of config) e c.args.overview.whole (measured kept) c.measure_before-before.result (measured (take c.args.from kept)) c.new-window.result qs c.args.new.now known.whole c.measure_before-before.ensures window in
+    same_there (options_of config) e c.args.overview.whole (measured (settled kept)) c.measure_before-before.result (measured (settled (take c.args.from kept))) c.new-window.result qs (settled c.args.new.now) known.whole
+    (c.measure_before-before.ensures ∙ ap measured (sym same)) window in
     let put =
     c.in_ok-there.ensures
-    ∙ same_silences (levels_of config) (is_file_silenced_by silences) (is_silenced_at silences) (is_silenced (comments_in_sections 0 (take c.args.from kept)))
-    (map (moved t.first) (found_there (options_of config) e c.args.overview.whole c.measure_before-before.result c.new-window.result c.args.new.now))
-    (map (moved t.first) (found_there (options_of config) e (measured kept) (measured (take c.args.from kept)) qs c.args.new.now)) c.in_ok-silences.ensures.file c.in_ok-silences.ensures.lines (ap (map (moved t.first)) there) in
+    ∙ same_silences (levels_of config) (is_file_silenced_by silences) (is_silenced_at silences) (is_silenced (comments_in_sections 0 (settled (take c.args.from kept))))
+    (map (moved t.first) (found_there (options_of config) e c.args.overview.whole c.measure_before-before.result c.new-window.result (settled c.args.new.now)))
+    (map (moved t.first) (found_there (options_of config) e (measured (settled kept)) (measured (settled (take c.args.from kept))) qs (settled c.args.new.now))) c.in_ok-silences.ensures.file
+    (c.in_ok-silences.ensures.lines ∙ ap (λ (ks : List KeptValue). is_silenced (comments_in_sections 0 ks)) (sym same)) (ap (map (moved t.first)) there) in
     then_all c.patch_with.result c.patch_with.ensures.from c.patch_with.ensures.end c.patch_with.ensures.parts (λ p i j parts.
     ap (λ n. patched p.from p.end p.problems.items n p.down c.args.problems.now) parts.1
     ∙ (ap (λ n. patched p.from p.end p.problems.items t.old_end n c.args.problems.now) parts.2
-    ∙ report_renewed config rows ins kept c.args.new.now c.args.a c.args.b c.args.from c.args.end t c.requires.range.ordered c.requires.kept_range.ordered c.requires.kept_range.within inside
-    c.requires.kept c.requires.new known.plain (c.is_alike.ensures.plain alike) loud (ap (λ xs. disables_file (first_text xs)) (sym c.new-patched.ensures) ∙ loud')
+    ∙ report_edited config rows ins kept c.args.new.now c.args.a c.args.b c.args.from c.args.end t c.requires.range.ordered c.requires.kept_range.ordered c.requires.kept_range.within inside false above
+    c.requires.kept c.requires.new known.plain (c.is_alike.ensures.plain alike) (c.is_alike.ensures.below alike) loud (ap (λ xs. disables_file (first_text xs)) (sym c.new-patched.ensures) ∙ loud')
     (c.in-Some.ensures.first ∙ c.requires.from_row)
     (omega (arith, c.in-Some.ensures.first, c.in-Some.ensures.old_end, c.requires.from_row, c.requires.end_row, rows_until kept c.args.from c.args.end c.requires.kept_range.ordered c.requires.kept_range.within))
     c.in-Some.ensures.new_end e c.ends_of-ends.ensures.begins (c.ends_of-ends.ensures.ends ∙ ap (λ n. t.old_end == n) c.len-lines.ensures) (c.is_cut.ensures.old cut)

@@ -1,0 +1,96 @@
+//! Which sections of a text have no fault, up to the first that has one.
+ghost use Rattle.std.specs.Prelude.{◌≡◌, ◌≤◌, ◌-◌, length, take, drop, is_some, IfSome, false};
+ghost use Rattle.std.specs.List.{splice};
+ghost use Rattle.yl_text.specs.Store.{IsRange};
+ghost use Rattle.yl_patch.specs.Plain.{IsSoundUpto};
+ghost use Rattle.yl_patch.specs.Settled.{hides_below};
+
+use std::alloc::Allocator;
+use yl_chunks::{Chunks, Spliced};
+use yl_sections::Kept;
+
+/// Whether a section has a fault.
+pub fn has_fault<A: Allocator>(kept: &Kept<A>) -> bool
+    ensures { result ≡ is_some kept.now.fault }
+{
+    match kept.fault() {
+        None => false,
+        Some(_) => true,
+    }
+}
+
+/// How many sections stand before the first with a fault; all where none has one.
+pub fn count_sound<A: Allocator>(kept: &[Kept<A>]) -> usize
+    ensures { IsSoundUpto kept.now result }
+{
+    for i in 0..kept.len() {
+        if has_fault(&kept[i]) {
+            return i;
+        }
+    }
+    kept.len()
+}
+
+/// The same where some sections are kept in place of others.
+pub fn count_all_sound<A: Allocator + Copy>(sections: &Spliced<'_, Kept<A>, A>) -> usize
+    ensures { IsSoundUpto sections.now result }
+{
+    for i in 0..sections.len() {
+        if has_fault(sections.get(i)) {
+            return i;
+        }
+    }
+    sections.len()
+}
+
+/// Whether one of these has a fault, which hides what stands behind.
+pub fn hides<A: Allocator>(kept: &[Kept<A>]) -> bool
+    ensures { result ≡ hides_below false kept.now }
+{
+    for one in kept {
+        if has_fault(one) {
+            return true;
+        }
+    }
+    false
+}
+
+/// The same of the sections from one on, before `end`.
+pub fn hides_between<A: Allocator + Copy>(
+    kept: &Chunks<Kept<A>, A>,
+    from: usize,
+    end: usize,
+) -> bool
+    requires { IsRange from end (length kept.now.items) }
+    ensures { result ≡ hides_below false (take (end - from) (drop from kept.now.items)) }
+{
+    for i in 0..end - from {
+        if has_fault(kept.get(from + i)) {
+            return true;
+        }
+    }
+    false
+}
+
+/// How many sections stand before the first with a fault, once these are kept in place of those from one on, before `end`; none where
+/// they are too many to be counted.
+pub fn sound_after<A: Allocator + Copy>(
+    sound: usize,
+    kept: &Chunks<Kept<A>, A>,
+    from: usize,
+    end: usize,
+    new: &[Kept<A>],
+) -> Option<usize>
+    requires range { IsRange from end (length kept.now.items) }
+    requires sound { IsSoundUpto kept.now.items sound }
+    ensures { IfSome result (λ n. IsSoundUpto (splice kept.now.items from end new.now) n) }
+{
+    if sound < from {
+        return Some(sound);
+    }
+    let first = count_sound(new);
+    if sound < end || first < new.len() {
+        return from.checked_add(first);
+    }
+    (sound - (end - from)).checked_add(first)
+}
