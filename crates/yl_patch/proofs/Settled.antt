@@ -1,8 +1,8 @@
 -- Sections as the report shows them: one after another, some in place of others, and a walk over them.
 use Rattle.std.proofs.Common.{◌≡◌, ℕ, zero, suc, ◌+◌, ◌-◌, ◌<◌, ◌≤◌, Bool, true, false, List, [], ◌∷◌, ◌++◌, length, take, drop, get_or, Option, Some, None, refl, ap, sym, subst, ◌∙◌, arith, rules, append-nil}
 use Rattle.std.specs.Prelude.{◌||◌, is_some}
-use Rattle.std.specs.List.{AllByRecursion, splice}
-use Rattle.std.proofs.lemmas.List.{same_lists, places}
+use Rattle.std.specs.List.{AllByRecursion, slice_get, splice}
+use Rattle.std.proofs.lemmas.List.{length-take-le, same_lists, places, take-append-drop}
 use Rattle.yl_text.specs.Finding.{FindingValue}
 use Rattle.yl_lexeme.specs.Lexeme.{PlacedCommentValue}
 use Rattle.yl_indentation.specs.declared.fact.Fact.{Fact}
@@ -14,8 +14,8 @@ use Rattle.yl_sections.specs.Kept.{KeptValue, SectionFaultValue, Here, Behind}
 use Rattle.yl_lint.specs.TextReport.{comments_in_sections, facts_in_sections, findings_in_section, findings_in_sections}
 use Rattle.yl_patch.specs.Plain.{IsPlain, IsSilent, IsSound, IsWithin, row_sum}
 use Rattle.yl_patch.specs.Settled.{IsFaultWithin, fault_behind, found_by_fault, hides_below, settled, settled_below, settled_one}
-use Rattle.yl_patch.proofs.Sections.{all_both, and_later_none, measured}
-use Rattle.yl_patch.proofs.Walks.{all_drop, all_take, all_three, measure_put, one_at}
+use Rattle.yl_patch.proofs.Sections.{all_both, and_later_none, comments_both, measured, measured_both}
+use Rattle.yl_patch.proofs.Walks.{all_drop, all_take, all_three, got, measure_put, one_at, one_more}
 
 -- ---- sections one after another
 
@@ -113,6 +113,14 @@ pub none_of : (f : Option SectionFaultValue) → is_some f ≡ false → f ≡ N
 none_of None e = refl
 none_of (Some f) e = absurd (cc)
 
+pub hides_sound : (ks : List KeptValue) → hides_below false ks ≡ false → AllByRecursion IsSound ks
+hides_sound [] h = tt
+hides_sound (k ∷ ks) h = by k.fault refl (hides_sound ks)
+  where
+    by : (f : Option SectionFaultValue) → k.fault ≡ f → (hides_below false ks ≡ false → AllByRecursion IsSound ks) → AllByRecursion IsSound (k ∷ ks)
+    by None e later = (e, later (sym (ap (λ (x : Option SectionFaultValue). hides_below (is_some x) ks) e) ∙ h))
+    by (Some f) e later = let wrong : true ≡ false = sym (ap (λ (x : Option SectionFaultValue). hides_below (is_some x) ks) e ∙ hides_stays ks) ∙ h in absurd (cc)
+
 -- ---- plain sections
 
 fault_none : (rows : ℕ) (f : Option SectionFaultValue) → IsFaultWithin rows f → fault_behind f ≡ None
@@ -160,6 +168,69 @@ comments_hidden line (k ∷ ks) = comments_hidden (line + k.rows) ks
 pub facts_hidden : (ks : List KeptValue) → facts_in_sections (settled_below true ks) ≡ []
 facts_hidden [] = refl
 facts_hidden (k ∷ ks) = facts_hidden ks
+
+pub measured_hidden : (ks ls : List KeptValue) → measured (settled_below true ks) ≡ measured (settled_below true ls)
+measured_hidden ks ls = ap measure_of (facts_hidden ks ∙ sym (facts_hidden ls))
+
+pub hides_alike : (ks ls : List KeptValue) → hides_below true ks ≡ hides_below true ls
+hides_alike ks ls = hides_stays ks ∙ sym (hides_stays ls)
+
+-- no later section shows facts
+pub measured_above : (ks : List KeptValue) (from : ℕ) → hides_below false (take from ks) ≡ true → measured (settled ks) ≡ measured (settled (take from ks))
+measured_above ks from h =
+    ap (λ (xs : List KeptValue). measured (settled xs)) (sym (take-append-drop from ks))
+    ∙ (ap measured (settled_both false (take from ks) (drop from ks) ∙ ap (λ (b : Bool). settled (take from ks) ++ settled_below b (drop from ks)) h)
+    ∙ (measured_both (settled (take from ks)) (settled_below true (drop from ks))
+    ∙ (ap (λ (fs : List Fact). and_later (measured (settled (take from ks))) (measure_of fs)) (facts_hidden (drop from ks)) ∙ and_later_none (measured (settled (take from ks))))))
+
+-- a section with a fault hides those behind it
+pub hides_at : (ks : List KeptValue) (i n : ℕ) (k : KeptValue) → i < n → n ≤ length ks → slice_get ks i ≡ Some k → is_some k.fault ≡ true → hides_below false (take n ks) ≡ true
+hides_at ks i n k l m at e =
+    let is : k ≡ get_or (take n ks) i k = let g = got ks i k at in grind (arith, places) in
+    let few : i < length (take n ks) = omega (arith, l, length-take-le n ks m) in
+    ap (hides_below false) (sym (take-append-drop i (take n ks)))
+    ∙ (hides_both false (take i (take n ks)) (drop i (take n ks))
+    ∙ (ap (hides_below (hides_below false (take i (take n ks)))) (one_at (take n ks) i k few is)
+    ∙ (ap (λ (b : Bool). hides_below (hides_below false (take i (take n ks)) || b) (drop (i + 1) (take n ks))) e
+    ∙ (ap (λ (b : Bool). hides_below b (drop (i + 1) (take n ks))) (or_true (hides_below false (take i (take n ks)))) ∙ hides_stays (drop (i + 1) (take n ks))))))
+  where
+    or_true : (b : Bool) → (b || true) ≡ true
+    or_true true = refl
+    or_true false = refl
+
+-- the comments of sections that are shown
+comments_one : (line : ℕ) (k : KeptValue) → comments_in_sections line (settled (k ∷ [])) ≡ comments_in_sections line (k ∷ [])
+comments_one line k = refl
+
+comments_first : (ks ls : List KeptValue) (k : KeptValue) → AllByRecursion IsSound ks → hides_below false (ks ++ k ∷ []) ≡ true → comments_in_sections 0 (ks ++ k ∷ []) ≡ comments_in_sections 0 (settled ((ks ++ k ∷ []) ++ ls))
+comments_first ks ls k sound h =
+    let there = row_sum ks in
+    let one : settled (ks ++ k ∷ []) ≡ ks ++ settled_one false k ∷ [] =
+    settled_both false ks (k ∷ []) ∙ (ap (λ (b : Bool). settled ks ++ settled_below b (k ∷ [])) (sound_hides ks sound) ∙ ap (λ (xs : List KeptValue). xs ++ settled_one false k ∷ []) (sound_settled ks sound)) in
+    let all : settled ((ks ++ k ∷ []) ++ ls) ≡ (ks ++ settled_one false k ∷ []) ++ settled_below true ls =
+    settled_both false (ks ++ k ∷ []) ls ∙ (ap (λ (b : Bool). settled (ks ++ k ∷ []) ++ settled_below b ls) h ∙ ap (λ (xs : List KeptValue). xs ++ settled_below true ls) one) in
+    let front = ks ++ settled_one false k ∷ [] in
+    comments_both 0 there ks (k ∷ []) (omega arith)
+    ∙ (sym (comments_both 0 there ks (settled_one false k ∷ []) (omega arith))
+    ∙ (sym (append-nil (comments_in_sections 0 front)) ∙ (ap (λ (cs : List PlacedCommentValue). comments_in_sections 0 front ++ cs) (sym (comments_hidden (row_sum front) ls)) ∙ (sym (comments_both 0 (row_sum front) front (settled_below true ls) (omega arith)) ∙ ap (comments_in_sections 0) (sym all)))))
+
+pub comments_above : (ks : List KeptValue) (n from : ℕ) → n < from → from ≤ length ks → AllByRecursion IsSound (take n ks) → hides_below false (take (n + 1) ks) ≡ true
+    → comments_in_sections 0 (take (n + 1) ks) ≡ comments_in_sections 0 (settled (take from ks))
+comments_above ks n from l m sound h = by (slice_get ks n) refl
+  where
+    by : (o : Option KeptValue) → slice_get ks n ≡ o → comments_in_sections 0 (take (n + 1) ks) ≡ comments_in_sections 0 (settled (take from ks))
+    by None e = absurd (slice_get_none ks n e (omega (arith, l, m)))
+      where
+        slice_get_none : (xs : List KeptValue) (i : ℕ) → slice_get xs i ≡ None → i < length xs → ⊥
+        slice_get_none [] i e l = omega (arith, l)
+        slice_get_none (x ∷ xs) zero e l = absurd (cc)
+        slice_get_none (x ∷ xs) (suc i) e l = slice_get_none xs i e (omega (arith, l))
+    by (Some k) e =
+        let one : take (n + 1) ks ≡ take n ks ++ k ∷ [] = one_more ks n k (omega (arith, l, m)) (got ks n k e) in
+        let parts : take from ks ≡ take (n + 1) ks ++ take (from - (n + 1)) (drop (n + 1) ks) = same_lists _ _ (search (rules, places)) (λ n d o. grind (arith, places)) in
+        ap (comments_in_sections 0) one
+        ∙ (comments_first (take n ks) (take (from - (n + 1)) (drop (n + 1) ks)) k sound (sym (ap (hides_below false) one) ∙ h)
+        ∙ ap (λ (xs : List KeptValue). comments_in_sections 0 (settled xs)) (ap (λ (xs : List KeptValue). xs ++ take (from - (n + 1)) (drop (n + 1) ks)) (sym one) ∙ sym parts))
 
 -- ---- a walk over sections up to the first with a fault
 

@@ -1,6 +1,6 @@
 -- Meaning: what a report shows of sections, each by itself: the text's fault is found in its section like all else, and in the sections
 -- behind it nothing is found.
-use Rattle.std.specs.Prelude.{◌<◌, ℕ, Bool, true, false, ◌||◌, List, [], ◌∷◌, ◌++◌, Option, Some, None, is_some}
+use Rattle.std.specs.Prelude.{◌≡◌, ◌<◌, ◌+◌, ℕ, Bool, true, false, ◌||◌, take, List, [], ◌∷◌, ◌++◌, Option, Some, None, is_some}
 use Rattle.yl_text.specs.Finding.{FindingValue}
 use Rattle.yl_sections.specs.Kept.{KeptValue, SectionFaultValue, Here, Behind}
 use Rattle.yl_lint.specs.TextReport.{syntax_finding}
@@ -41,3 +41,9 @@ abbrev pub IsFaultWithin : ℕ → Option SectionFaultValue → Type 0
 IsFaultWithin rows None = Unit {0}
 IsFaultWithin rows (Some (Here p text)) = p.line < rows
 IsFaultWithin rows (Some (Behind text)) = ⊥
+
+-- a fault above hides a section or not, where so many sections are known to stand before the first with a fault
+pub record IsHidden (ks : List KeptValue) (sound from : ℕ) (hidden : Bool) : Type 0 where
+  pub above : hides_below false (take from ks) ≡ hidden
+  pub behind : hidden ≡ true → sound < from
+  pub fault : hidden ≡ true → hides_below false (take (sound + 1) ks) ≡ true

@@ -1,15 +1,17 @@
 //! What is known of all sections of a text without a walk over them.
-ghost use Rattle.std.specs.Prelude.{◌≡◌, ◌-◌, true, false, length, take, drop};
+ghost use Rattle.std.specs.Prelude.{◌≡◌, ◌≤◌, ◌-◌, true, false, length, take, drop};
 ghost use Rattle.std.specs.List.{AllByRecursion, splice};
 ghost use Rattle.yl_text.specs.Store.{IsRange};
 ghost use Rattle.yl_indentation.specs.Measures.{measure_of};
 ghost use Rattle.yl_lint.specs.TextReport.{facts_in_sections};
 ghost use Rattle.yl_patch.specs.Plain.{IsOverviewOf, IsPlain, IsSoundUpto};
-ghost use Rattle.yl_patch.specs.Settled.{hides_below, settled};
+ghost use Rattle.yl_patch.specs.Settled.{hides_below, settled, settled_below};
 
 use crate::plain::{are_all_plain, are_plain};
 use crate::silencing::{Silencing, silencing_after, silencing_of, silencing_of_all};
-use crate::sound::{count_all_sound, count_sound, has_fault, hides, hides_between, sound_after};
+use crate::sound::{
+    count_all_sound, count_sound, has_fault, hides, hides_before, hides_between, sound_after,
+};
 use std::alloc::Allocator;
 use yl_chunks::{Chunks, Spliced};
 use yl_indentation::Measure;
@@ -105,7 +107,7 @@ fn measure_between<A: Allocator + Copy>(
 
 /// The measure of the facts of the sections before one, which have no fault, where that of all is this. It looks no further once it is
 /// found.
-pub fn measure_before<A: Allocator + Copy>(
+fn measure_before<A: Allocator + Copy>(
     kept: &Chunks<Kept<A>, A>,
     from: usize,
     whole: Measure,
@@ -122,6 +124,24 @@ pub fn measure_before<A: Allocator + Copy>(
         measure = measure.and_later(kept.get(i).measure());
     }
     measure
+}
+
+/// The measure of the facts of the sections before one that are shown, where a fault above hides it or not.
+pub fn measure_above<A: Allocator + Copy>(
+    kept: &Chunks<Kept<A>, A>,
+    from: usize,
+    hidden: bool,
+    whole: Measure,
+) -> Measure
+    requires range { from ≤ length kept.now.items }
+    requires hidden { hides_below false (take from kept.now.items) ≡ hidden }
+    requires whole { whole ≡ measure_of (facts_in_sections (settled kept.now.items)) }
+    ensures { result ≡ measure_of (facts_in_sections (settled (take from kept.now.items))) }
+{
+    if hidden {
+        return whole;
+    }
+    measure_before(kept, from, whole)
 }
 
 /// The overview of these sections.
@@ -150,7 +170,7 @@ pub fn overview_renewed<A: Allocator + Copy>(sections: &Spliced<'_, Kept<A>, A>)
 
 /// Whether the new sections are plain as far as they are shown, and have the measure of those from one on, before `end`, and a fault
 /// where these have one.
-pub fn is_alike<A: Allocator + Copy>(
+fn are_shown_alike<A: Allocator + Copy>(
     kept: &Chunks<Kept<A>, A>,
     from: usize,
     end: usize,
@@ -164,6 +184,25 @@ pub fn is_alike<A: Allocator + Copy>(
     are_plain(new)
         && is_same_measure(measure_between(kept, from, end), measure_of(new))
         && hides_between(kept, from, end) == hides(new)
+}
+
+/// The same where these sections are hidden or not.
+pub fn is_alike<A: Allocator + Copy>(
+    hidden: bool,
+    kept: &Chunks<Kept<A>, A>,
+    from: usize,
+    end: usize,
+    new: &[Kept<A>],
+) -> bool
+    requires { IsRange from end (length kept.now.items) }
+    ensures plain { result ≡ true → AllByRecursion IsPlain (settled_below hidden new.now) }
+    ensures measure { result ≡ true → measure_of (facts_in_sections (settled_below hidden (take (end - from) (drop from kept.now.items)))) ≡ measure_of (facts_in_sections (settled_below hidden new.now)) }
+    ensures below { result ≡ true → hides_below hidden (take (end - from) (drop from kept.now.items)) ≡ hides_below hidden new.now }
+{
+    if hidden {
+        return true;
+    }
+    are_shown_alike(kept, from, end, new)
 }
 
 /// The overview once this is kept in place of what is kept of the sections from one on, before `end`. It looks at these alone, and
@@ -185,7 +224,13 @@ pub fn overview_after<A: Allocator + Copy>(
         whole: overview.whole,
         silencing: overview.silencing,
     };
-    if !overview.is_plain || from > overview.sound || !is_alike(kept, from, end, new) {
+    if !overview.is_plain {
+        return unknown;
+    }
+    let Some(hidden) = hides_before(kept, overview.sound, from) else {
+        return unknown;
+    };
+    if !is_alike(hidden, kept, from, end, new) {
         return unknown;
     }
     let Some(silencing) = silencing_after(overview.silencing, kept, from, end, new) else {

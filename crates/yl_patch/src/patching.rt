@@ -8,10 +8,11 @@ ghost use Rattle.yl_patch.specs.Patched.{IsLow, is_upto, patched};
 ghost use Rattle.yl_patch.specs.Plain.{IsOverviewOf, row_sum};
 
 use crate::loud::is_loud;
-use crate::overview::{Overview, is_alike, measure_before};
+use crate::overview::{Overview, is_alike, measure_above};
 use crate::places::count_upto;
 use crate::shifting::{ReportPatch, are_low};
 use crate::silencing::{are_silent, are_silent_between, silences_before};
+use crate::sound::{hides_before, shown_before, shown_of};
 use crate::there::problems_there;
 use crate::touched::{Ends, Touched, ends_of, find_touched, is_filled, is_inside};
 use crate::window::Window;
@@ -99,7 +100,13 @@ pub fn patched_report<S: LineStore>(
     ensures low { IfOk result (λ o. IfSome o (λ p. AllByRecursion IsLow (drop p.end problems.now))) }
     ensures report { IfOk result (λ o. IfSome o (λ p. patched p.from p.end p.problems.items p.up p.down problems.now ≡ report config.now (splice (S.rows store.now) a b rows.now))) }
 {
-    if !overview.is_plain || from > overview.sound || !is_alike(kept, from, end, new) {
+    if !overview.is_plain {
+        return Ok(None);
+    }
+    let Some(hidden) = hides_before(kept, overview.sound, from) else {
+        return Ok(None);
+    };
+    if !is_alike(hidden, kept, from, end, new) {
         return Ok(None);
     }
     if !are_silent(new) || !are_silent_between(kept, from, end) {
@@ -119,8 +126,9 @@ pub fn patched_report<S: LineStore>(
     }
     let window = Window::new(patched, touched.first as usize, touched.new_end as usize);
     let whole = overview.whole;
-    let before = measure_before(kept, from, whole);
-    let silences = silences_before(alloc, kept, overview.silencing, from)?;
+    let before = measure_above(kept, from, hidden, whole);
+    let above = shown_before(kept, overview.sound, from, hidden);
+    let silences = silences_before(alloc, kept, overview.silencing, above)?;
     let there = problems_there(
         alloc,
         config,
@@ -129,7 +137,7 @@ pub fn patched_report<S: LineStore>(
         touched.first,
         whole,
         before,
-        new,
+        shown_of(hidden, new),
         &silences,
     )?;
     Ok(patch_with(problems, touched, there))

@@ -1,9 +1,12 @@
 //! Which sections of a text have no fault, up to the first that has one.
-ghost use Rattle.std.specs.Prelude.{◌≡◌, ◌≤◌, ◌-◌, length, take, drop, is_some, IfSome, false};
+ghost use Rattle.std.specs.Prelude.{◌≡◌, ◌≤◌, ℕ, ◌-◌, length, take, drop, is_some, IfSome, false};
 ghost use Rattle.std.specs.List.{splice};
 ghost use Rattle.yl_text.specs.Store.{IsRange};
+ghost use Rattle.yl_indentation.specs.declared.measure.Measure.{Measure};
+ghost use Rattle.yl_indentation.specs.declared.options.IndentationOptions.{IndentationOptions};
 ghost use Rattle.yl_patch.specs.Plain.{IsSoundUpto};
-ghost use Rattle.yl_patch.specs.Settled.{hides_below};
+ghost use Rattle.yl_lint.specs.TextReport.{comments_in_sections, findings_in_sections};
+ghost use Rattle.yl_patch.specs.Settled.{IsHidden, hides_below, settled, settled_below};
 
 use std::alloc::Allocator;
 use yl_chunks::{Chunks, Spliced};
@@ -70,6 +73,48 @@ pub fn hides_between<A: Allocator + Copy>(
         }
     }
     false
+}
+
+/// Whether a fault above hides a section, where so many are known to stand before the first with a fault; none where that is not seen.
+pub fn hides_before<A: Allocator + Copy>(
+    kept: &Chunks<Kept<A>, A>,
+    sound: usize,
+    from: usize,
+) -> Option<bool>
+    requires range { from ≤ length kept.now.items }
+    requires sound { IsSoundUpto kept.now.items sound }
+    ensures { IfSome result (λ b. IsHidden kept.now.items sound from b) }
+{
+    if from <= sound {
+        return Some(false);
+    }
+    if has_fault(kept.get(sound)) {
+        return Some(true);
+    }
+    None
+}
+
+/// How many of the sections before one are shown, where a fault above hides it or not.
+pub fn shown_before<A: Allocator + Copy>(
+    kept: &Chunks<Kept<A>, A>,
+    sound: usize,
+    from: usize,
+    hidden: bool,
+) -> usize
+    requires range { from ≤ length kept.now.items }
+    requires sound { IsSoundUpto kept.now.items sound }
+    requires hidden { IsHidden kept.now.items sound from hidden }
+    ensures within { result ≤ length kept.now.items }
+    ensures comments { comments_in_sections 0 (take result kept.now.items) ≡ comments_in_sections 0 (settled (take from kept.now.items)) }
+{
+    if hidden { sound + 1 } else { from }
+}
+
+/// Those of these sections of which something may be found, where a fault above hides them or not.
+pub fn shown_of<A: Allocator>(hidden: bool, kept: &[Kept<A>]) -> &[Kept<A>]
+    ensures { (o : IndentationOptions) (whole before : Measure) (line : ℕ) → findings_in_sections o whole line before (settled result.now) ≡ findings_in_sections o whole line before (settled_below hidden kept.now) }
+{
+    if hidden { &kept[..0] } else { kept }
 }
 
 /// How many sections stand before the first with a fault, once these are kept in place of those from one on, before `end`; none where

@@ -1,8 +1,10 @@
-use Rattle.std.proofs.Common.{take, false, arith, ◌∙◌}
+use Rattle.std.proofs.Common.{◌∙◌}
 use Rattle.yl_patch.proofs.Given.{is_so}
-use Rattle.yl_patch.proofs.Settled.{plain_put, settled_put, sound_hides}
-use Rattle.yl_patch.proofs.BeforeFault.{sound_fewer}
+use Rattle.yl_patch.proofs.Settled.{plain_put, settled_put}
 use Rattle.yl_patch.proofs.overview.overview_after.Goals as goal
+
+pub hides_before-requires-clause-sound : goal.hides_before-requires-clause-sound
+hides_before-requires-clause-sound g c = (c.requires.overview (is_so c.args.overview.is_plain c.if-not-overview.false)).sound
 
 pub silencing_after-requires-clause-silencing : goal.silencing_after-requires-clause-silencing
 silencing_after-requires-clause-silencing g c = (c.requires.overview (is_so c.args.overview.is_plain c.if-not-overview.false)).silencing
@@ -18,11 +20,11 @@ returns g c = λ h.
     let end = c.args.end in
     let range = c.requires.range in
     let alike = c.if-not-is_alike.false in
-    let front = sound_fewer ks from c.args.overview.sound (omega (arith, c.if-from-overview.false)) s.sound in
-    let above = sound_hides (take from ks) front.sound in
+    let hidden = c.in-Some.hidden in
+    let above = c.in-Some.ensures.above in
     let below = c.is_alike.ensures.below alike in record {
-      plain = plain_put ks c.args.new.now from end false range.ordered range.within above s.plain (c.is_alike.ensures.plain alike) below;
+      plain = plain_put ks c.args.new.now from end hidden range.ordered range.within above s.plain (c.is_alike.ensures.plain alike) below;
       sound = c.in-Some-sound_after.ensures;
-      whole = s.whole ∙ settled_put ks c.args.new.now from end false range.ordered range.within above (c.is_alike.ensures.measure alike) below;
-      silencing = c.in-Some.ensures;
+      whole = s.whole ∙ settled_put ks c.args.new.now from end hidden range.ordered range.within above (c.is_alike.ensures.measure alike) below;
+      silencing = c.in-Some-silencing_after.ensures;
     }
