@@ -19,7 +19,7 @@ use Rattle.yl_config.specs.Config.{levels_of, options_of}
 use Rattle.yl_report.specs.Directive.{disables_file, is_silenced}
 use Rattle.yl_report.specs.Report.{ProblemValue, report_of}
 use Rattle.yl_sections.specs.Kept.{KeptValue, items_if}
-use Rattle.yl_lint.specs.TextReport.{findings_from, findings_in_lines, findings_in_sections, fault_in_sections, comments_in_sections, moved, moved_comment, shown, first_text, end_of_lines, kept_of_text, report, report_of_kept}
+use Rattle.yl_lint.specs.TextReport.{findings_from, findings_in_lines, findings_in_sections, fault_in_sections, comments_in_sections, moved, moved_comment, shown, first_text, end_of_lines, report, report_of_kept}
 use Rattle.yl_patch.specs.Cut.{IsInside, is_filled}
 use Rattle.yl_patch.specs.Patched.{is_upto, patched}
 use Rattle.yl_patch.specs.Plain.{IsPlain, row_sum}
@@ -64,12 +64,13 @@ module _ (config : Config) (first : List ℕ) (end : Pos) (rows : List RowValue)
       ∙ (ap (λ (seen : List KeptValue). report_of (levels_of config) false (is_silenced (comments_in_sections 0 seen)) (found seen (fault_in_sections 0 end ks))) (shown_plain ks plain)
       ∙ (ap (λ (fs : List FindingValue). arranged (levels_of config) silenced (found ks fs)) (no_fault 0 end ks plain) ∙ ap (arranged (levels_of config) silenced) whole_part))
 
-report_is : (config : Config) (rows : List RowValue) (ks : List KeptValue) → ks ≡ kept_of_text config rows → AllByRecursion IsPlain ks → disables_file (first_text rows) ≡ false
+-- the report of a text of whose sections this is kept
+abbrev pub report_with : Config → List RowValue → List KeptValue → List ProblemValue
+report_with config rows ks = report_of_kept config (findings_in_lines (options_of config) rows) (first_text rows) (end_of_lines rows) ks
+
+report_is : (config : Config) (rows : List RowValue) (ks : List KeptValue) → report config rows ≡ report_with config rows ks → AllByRecursion IsPlain ks → disables_file (first_text rows) ≡ false
     → report config rows ≡ arranged (levels_of config) (is_silenced (comments_in_sections 0 ks)) (part (options_of config) (measured ks) true true empty_measure rows ks)
-unfolding report
-report_is config rows ks e plain loud =
-    ap (λ (ls : List KeptValue). report_of_kept config (findings_in_lines (options_of config) rows) (first_text rows) (end_of_lines rows) ls) (sym e)
-    ∙ plain_report config (first_text rows) (end_of_lines rows) rows ks plain loud
+report_is config rows ks e plain loud = e ∙ plain_report config (first_text rows) (end_of_lines rows) rows ks plain loud
 
 -- ---- three parts, of which the second becomes another
 
@@ -191,7 +192,7 @@ module _ (config : Config) (ks ls news ms : List KeptValue) (plain : AllByRecurs
 
   renewed_parts : (fs ps qs bs : List RowValue) → row_sum ks ≡ length fs → row_sum ls ≡ length ps → row_sum news ≡ length qs
       → 0 < length ps → 0 < length qs → is_seam fs ps ≡ true → is_seam fs qs ≡ true → is_seam ps bs ≡ true
-      → ks ++ (ls ++ ms) ≡ kept_of_text config (fs ++ (ps ++ bs)) → ks ++ (news ++ ms) ≡ kept_of_text config (fs ++ (qs ++ bs))
+      → report config (fs ++ (ps ++ bs)) ≡ report_with config (fs ++ (ps ++ bs)) (ks ++ (ls ++ ms)) → report config (fs ++ (qs ++ bs)) ≡ report_with config (fs ++ (qs ++ bs)) (ks ++ (news ++ ms))
       → disables_file (first_text (fs ++ (ps ++ bs))) ≡ false → disables_file (first_text (fs ++ (qs ++ bs))) ≡ false
       → (i j up down : ℕ) (put old : List ProblemValue) → old ≡ report config (fs ++ (ps ++ bs)) → i ≡ prefix_len (is_upto (length fs)) old → j ≡ prefix_len (is_upto up) old → up ≡ length fs + length ps → down ≡ length fs + length qs
       → (e : Ends) → e.begins ≡ if_none fs true → e.ends ≡ if_none bs true → put ≡ arranged levels (is_silenced (comments_in_sections 0 (ks ++ news))) (map (moved (length fs)) (found_there opts e wholly (measured ks) qs news))
@@ -345,7 +346,7 @@ module _ (config : Config) (rows ins : List RowValue) (kept new : List KeptValue
   bs_none : (t.old_end == length rows) ≡ if_none bs true
   bs_none = none_by bs t.old_end (length rows) (λ e. omega (arith, bs_length, e, inside.back)) (λ e. omega (arith, bs_length, e))
 
-  pub report_renewed : kept ≡ kept_of_text config rows → splice kept from end new ≡ kept_of_text config rows' → AllByRecursion IsPlain kept → AllByRecursion IsPlain new
+  pub report_renewed : report config rows ≡ report_with config rows kept → report config rows' ≡ report_with config rows' (splice kept from end new) → AllByRecursion IsPlain kept → AllByRecursion IsPlain new
       → disables_file (first_text rows) ≡ false → disables_file (first_text rows') ≡ false
       → t.first ≡ row_sum ks → t.old_end ≡ t.first + row_sum ls → t.new_end ≡ t.first + row_sum new → (e : Ends) → e.begins ≡ (t.first == 0) → e.ends ≡ (t.old_end == length rows)
       → (e.begins ≡ false → is_filled (slice_get rows t.first) ≡ true) → (e.begins ≡ false → is_filled (slice_get rows' t.first) ≡ true) → (e.ends ≡ false → is_filled (slice_get rows t.old_end) ≡ true)
@@ -363,7 +364,8 @@ module _ (config : Config) (rows ins : List RowValue) (kept new : List KeptValue
       let seam'' = back_seam ps bs (λ h. ap is_filled (head_dropped rows t.old_end) ∙ filled'' (ends_is ∙ h)) in
       renewed_parts config ks ls new ms (all_front IsPlain ks (ls ++ ms) split) (all_front IsPlain ls ms rest) plainₙ (all_back IsPlain ls ms rest) alike same fs ps qs bs
       (omega (arith, first, fs_length)) (omega (arith, old_end, ps_length)) (omega (arith, new_end, qs_length)) (omega (arith, ps_length, inside.old_some)) (omega (arith, qs_length, inside.new_some)) seam seam' seam''
-      (sym kept_three ∙ (is ∙ ap (kept_of_text config) rows_three)) (is' ∙ ap (kept_of_text config) rows_three')
+      (sym (ap (report config) rows_three) ∙ (is ∙ (ap (report_with config rows) kept_three ∙ ap (λ xs. report_with config xs (ks ++ (ls ++ ms))) rows_three)))
+      (sym (ap (report config) rows_three') ∙ (is' ∙ ap (λ xs. report_with config xs (splice kept from end new)) rows_three'))
       (ap (λ xs. disables_file (first_text xs)) (sym rows_three) ∙ loud) (ap (λ xs. disables_file (first_text xs)) (sym rows_three') ∙ loud')
       i j t.old_end t.new_end put old (old_is ∙ ap (report config) rows_three) (i_is ∙ ap (λ n. prefix_len (is_upto n) old) (sym fs_length)) j_is (omega (arith, fs_length, ps_length, inside.old_some)) (omega (arith, fs_length, qs_length, inside.new_some))
       e begins_is ends_is

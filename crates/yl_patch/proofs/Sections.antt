@@ -110,6 +110,14 @@ measured ks = measure_of (facts_in_sections ks)
 pub measured_both : (ks ls : List KeptValue) → measured (ks ++ ls) ≡ and_later (measured ks) (measured ls)
 measured_both ks ls = ap measure_of (facts_both ks ls) ∙ measure_is_local (facts_in_sections ks) (facts_in_sections ls)
 
+-- no later facts
+pub and_later_none : (m : Measure) → and_later m empty_measure ≡ m
+and_later_none m = λ i. record { step = known m.step i; step_with_entries = known m.step_with_entries i; flush = known m.flush i }
+  where
+    known : {X : Type 0} (o : Option X) → first o None ≡ o
+    known None = refl
+    known (Some x) = refl
+
 -- ---- parts
 
 same_place : (n line there : ℕ) (f : FindingValue) → there ≡ n + line → moved there f ≡ moved n (moved line f)
@@ -134,14 +142,7 @@ sections_moved o whole before n line there (k ∷ ks) e =
 sections_both : (o : IndentationOptions) (whole before : Measure) (line there : ℕ) (ks ls : List KeptValue) → there ≡ line + row_sum ks
     → findings_in_sections o whole line before (ks ++ ls) ≡ findings_in_sections o whole line before ks ++ findings_in_sections o whole there (and_later before (measured ks)) ls
 sections_both o whole before line there [] ls e =
-    ap (λ k. findings_in_sections o whole k before ls) (omega (arith, e)) ∙ ap (λ (m : Measure). findings_in_sections o whole there m ls) (sym (unknown before))
-  where
-    known : {X : Type 0} (o : Option X) → first o None ≡ o
-    known None = refl
-    known (Some x) = refl
-
-    unknown : (m : Measure) → and_later m empty_measure ≡ m
-    unknown m = λ i. record { step = known m.step i; step_with_entries = known m.step_with_entries i; flush = known m.flush i }
+    ap (λ k. findings_in_sections o whole k before ls) (omega (arith, e)) ∙ ap (λ (m : Measure). findings_in_sections o whole there m ls) (sym (and_later_none before))
 sections_both o whole before line there (k ∷ ks) ls e =
     let later = and_later before (measure_of k.facts) in
     let m : and_later later (measured ks) ≡ and_later before (measured (k ∷ ks)) =

@@ -6,6 +6,7 @@ use Rattle.yl_report.specs.Directive.{own_line}
 use Rattle.yl_sections.specs.Kept.{KeptValue}
 use Rattle.yl_lint.specs.TextReport.{comments_in_sections}
 use Rattle.yl_patch.specs.Plain.{row_sum}
+use Rattle.yl_patch.specs.Settled.{settled_below}
 
 -- it may switch rules; one that begins so speaks of one line alone
 abbrev pub may_switch : PlacedCommentValue → Bool
@@ -24,3 +25,8 @@ pub record SpeakAlike (ls ns : List KeptValue) : Type 0 where
   pub old : AllByRecursion (SpeaksWithin (row_sum ls)) (comments_in_sections 0 ls)
   pub new : AllByRecursion (SpeaksWithin (row_sum ns)) (comments_in_sections 0 ns)
   pub switches : switch_texts (comments_in_sections 0 ls) ≡ switch_texts (comments_in_sections 0 ns)
+
+-- what is shown of these does, where a fault above hides them or not, and all comments of the latter are shown if it does not
+pub record SpeakAsShown (hidden : Bool) (ls ns : List KeptValue) : Type 0 where
+  pub alike : SpeakAlike (settled_below hidden ls) (settled_below hidden ns)
+  pub shown : hidden ≡ false → (line : ℕ) → comments_in_sections line ns ≡ comments_in_sections line (settled_below false ns)

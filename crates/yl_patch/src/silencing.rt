@@ -43,6 +43,37 @@ pub fn are_silent<A: Allocator>(kept: &[Kept<A>]) -> bool
     true
 }
 
+/// The same of the sections from one on, before `end`.
+fn are_silent_between<A: Allocator + Copy>(
+    kept: &Chunks<Kept<A>, A>,
+    from: usize,
+    end: usize,
+) -> bool
+    requires { IsRange from end (length kept.now.items) }
+    ensures { result ≡ true → AllByRecursion IsSilent (take (end - from) (drop from kept.now.items)) }
+{
+    for i in 0..end - from {
+        if !is_silent(kept.get(from + i)) {
+            return false;
+        }
+    }
+    true
+}
+
+/// The same of those sections and of these.
+pub fn are_both_silent<A: Allocator + Copy>(
+    kept: &Chunks<Kept<A>, A>,
+    from: usize,
+    end: usize,
+    new: &[Kept<A>],
+) -> bool
+    requires { IsRange from end (length kept.now.items) }
+    ensures old { result ≡ true → AllByRecursion IsSilent (take (end - from) (drop from kept.now.items)) }
+    ensures new { result ≡ true → AllByRecursion IsSilent new.now }
+{
+    are_silent(new) && are_silent_between(kept, from, end)
+}
+
 /// Where nothing is known of so many sections.
 fn any_of(count: usize) -> Silencing
     ensures { (ks : List KeptValue) → length ks ≡ count → IsSilencingOf ks result }

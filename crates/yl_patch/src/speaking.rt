@@ -4,11 +4,12 @@ ghost use Rattle.std.specs.List.{AllByRecursion, filter};
 ghost use Rattle.yl_text.specs.Store.{IsRange};
 ghost use Rattle.yl_lexeme.specs.PlacedComments.{placed_comment_value};
 ghost use Rattle.yl_report.specs.Directive as directive;
-ghost use Rattle.yl_patch.specs.Speaking.{SpeakAlike, SpeaksWithin};
+ghost use Rattle.yl_patch.specs.Speaking.{SpeakAlike, SpeakAsShown, SpeaksWithin};
 ghost use Rattle.yl_patch.specs.Speaking as spec;
 
 use crate::comments::{comments_between, with_comments_of};
-use crate::silencing::count_rows_between;
+use crate::silencing::{are_both_silent, count_rows_between};
+use crate::sound::{hides, hides_between};
 use crate::touched::count_rows;
 use std::alloc::{AllocError, Allocator};
 use yl_chunks::Chunks;
@@ -84,7 +85,7 @@ fn have_same_texts(one: &[PlacedComment<'_>], other: &[PlacedComment<'_>]) -> bo
 }
 
 /// Whether the comments of the sections from one on, before `end`, and those of these say the same of all lines behind them.
-pub fn speak_alike<A: Allocator + Copy>(
+fn speak_alike<A: Allocator + Copy>(
     alloc: A,
     kept: &Chunks<Kept<A>, A>,
     from: usize,
@@ -108,4 +109,25 @@ pub fn speak_alike<A: Allocator + Copy>(
     retain_switches(&mut gone);
     retain_switches(&mut here);
     Ok(have_same_texts(&gone, &here))
+}
+
+/// The same of what is shown of them, where a fault above hides them or not. A fault in them is seen where they are silent.
+pub fn speak_as_shown<A: Allocator + Copy>(
+    alloc: A,
+    hidden: bool,
+    kept: &Chunks<Kept<A>, A>,
+    from: usize,
+    end: usize,
+    new: &[Kept<A>],
+) -> Result<bool, AllocError>
+    requires { IsRange from end (length kept.now.items) }
+    ensures { IfOk result (λ alike. alike ≡ true → SpeakAsShown hidden (take (end - from) (drop from kept.now.items)) new.now) }
+{
+    if hidden {
+        return Ok(true);
+    }
+    if hides(new) || hides_between(kept, from, end) {
+        return Ok(are_both_silent(kept, from, end, new));
+    }
+    speak_alike(alloc, kept, from, end, new)
 }
