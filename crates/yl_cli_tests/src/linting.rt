@@ -51,7 +51,7 @@ fn run<A: Allocator + Copy, R: Read + Drop>(
 }
 
 // A text, its status, and its report.
-const TEXTS: [(&[u8], u8, &[u8]); 16] = [
+const TEXTS: [(&[u8], u8, &[u8]); 17] = [
     (b"", 0, b""),
     (TEXT, 1, REPORT),
     (
@@ -63,6 +63,11 @@ const TEXTS: [(&[u8], u8, &[u8]); 16] = [
         b"---\na:  1 \n",
         1,
         b"f.yaml:2:4: [error] too many spaces after colon (colons)\nf.yaml:2:6: [error] trailing spaces (trailing-spaces)\n",
+    ),
+    (
+        b"---\na: 1 \n",
+        1,
+        b"f.yaml:2:5: [error] trailing spaces (trailing-spaces)\n",
     ),
     (
         b"---\r\na: 1\r\n",

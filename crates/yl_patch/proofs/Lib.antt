@@ -1,11 +1,16 @@
 pub mod Arranged
+pub mod BeforeFault
+pub mod Edited
 pub mod Ends
 pub mod Lines
 pub mod Parts
 pub mod Renewed
 pub mod Sections
+pub mod Settled
 pub mod Shifted
+pub mod Shown
 pub mod Silenced
 pub mod SilencingSections
+pub mod Spoken
 pub mod Walks
 pub mod Given

@@ -19,18 +19,19 @@ use Rattle.yl_config.specs.Config.{levels_of, options_of}
 use Rattle.yl_report.specs.Directive.{disables_file, is_silenced}
 use Rattle.yl_report.specs.Report.{ProblemValue, report_of}
 use Rattle.yl_sections.specs.Kept.{KeptValue, items_if}
-use Rattle.yl_lint.specs.TextReport.{findings_from, findings_in_lines, findings_in_sections, fault_in_sections, comments_in_sections, moved, moved_comment, shown, first_text, end_of_lines, kept_of_text, report, report_of_kept}
+use Rattle.yl_lint.specs.TextReport.{findings_from, findings_in_lines, findings_in_sections, fault_in_sections, comments_in_sections, moved, moved_comment, shown, first_text, end_of_lines, report, report_of_kept}
 use Rattle.yl_patch.specs.Cut.{IsInside, is_filled}
 use Rattle.yl_patch.specs.Patched.{is_upto, patched}
-use Rattle.yl_patch.specs.Plain.{IsPlain, IsSilent, row_sum}
+use Rattle.yl_patch.specs.Plain.{IsPlain, row_sum}
+use Rattle.yl_patch.specs.Speaking.{SpeakAlike, SpeaksWithin, switch_texts}
 use Rattle.yl_patch.specs.There.{found_there}
 use Rattle.yl_patch.specs.declared.touched.Ends.{Ends}
 use Rattle.yl_patch.specs.declared.touched.Touched.{Touched}
 use Rattle.yl_patch.proofs.Arranged.{arranged, arranged_alike, arranged_lines, arranged_moved, below, lower}
 use Rattle.yl_patch.proofs.Lines.{back_seam, front_seam, if_none, is_seam, none_by, seam_behind, seam_more}
 use Rattle.yl_patch.proofs.Parts.{lines_above, part, part_between, parts_apart, patched_so}
-use Rattle.yl_patch.proofs.Sections.{all_back, all_both, all_front, comments_three, comments_within, measured, measured_both, no_fault, shown_plain}
-use Rattle.yl_patch.proofs.Silenced.{moved_high, said_above, said_alike}
+use Rattle.yl_patch.proofs.Sections.{all_back, all_both, all_front, comments_three, comments_two, comments_within, measured, measured_both, no_fault, shown_plain}
+use Rattle.yl_patch.proofs.Silenced.{IsHeardAbove, heard_further, heard_moved, moved_high, said_above, said_alike, same_off}
 
 -- ---- the report of plain sections
 
@@ -63,12 +64,13 @@ module _ (config : Config) (first : List ℕ) (end : Pos) (rows : List RowValue)
       ∙ (ap (λ (seen : List KeptValue). report_of (levels_of config) false (is_silenced (comments_in_sections 0 seen)) (found seen (fault_in_sections 0 end ks))) (shown_plain ks plain)
       ∙ (ap (λ (fs : List FindingValue). arranged (levels_of config) silenced (found ks fs)) (no_fault 0 end ks plain) ∙ ap (arranged (levels_of config) silenced) whole_part))
 
-report_is : (config : Config) (rows : List RowValue) (ks : List KeptValue) → ks ≡ kept_of_text config rows → AllByRecursion IsPlain ks → disables_file (first_text rows) ≡ false
+-- the report of a text of whose sections this is kept
+abbrev pub report_with : Config → List RowValue → List KeptValue → List ProblemValue
+report_with config rows ks = report_of_kept config (findings_in_lines (options_of config) rows) (first_text rows) (end_of_lines rows) ks
+
+report_is : (config : Config) (rows : List RowValue) (ks : List KeptValue) → report config rows ≡ report_with config rows ks → AllByRecursion IsPlain ks → disables_file (first_text rows) ≡ false
     → report config rows ≡ arranged (levels_of config) (is_silenced (comments_in_sections 0 ks)) (part (options_of config) (measured ks) true true empty_measure rows ks)
-unfolding report
-report_is config rows ks e plain loud =
-    ap (λ (ls : List KeptValue). report_of_kept config (findings_in_lines (options_of config) rows) (first_text rows) (end_of_lines rows) ls) (sym e)
-    ∙ plain_report config (first_text rows) (end_of_lines rows) rows ks plain loud
+report_is config rows ks e plain loud = e ∙ plain_report config (first_text rows) (end_of_lines rows) rows ks plain loud
 
 -- ---- three parts, of which the second becomes another
 
@@ -110,28 +112,48 @@ module _ (levels : LevelTable) (s : RuleId → ℕ → Bool) (o : RuleOptions) (
       arranged_lines (λ l. 0 < l) levels (below (length (p ∷ ps)) (below (length fs) s)) found
       (lines_above 0 high found (part_between o whole false true before bs ms high plain'' (omega arith) (omega arith)))
 
--- what comments of the first part and of the last one say, where the second has n lines or m
-module _ (cs ds : List PlacedCommentValue) (first n m : ℕ) (low : AllByRecursion (λ c. c.line < first) cs) (some : 0 < n) (some' : 0 < m) where
-  abbrev says_with : ℕ → RuleId → ℕ → Bool
-  says_with k = is_silenced (cs ++ map (moved_comment (first + k)) ds)
+-- what comments of three parts say, where the second has n lines, or is another and has m
+module _ (cs xs ys ds : List PlacedCommentValue) (first n m : ℕ) (low : AllByRecursion (λ c. c.line < first) cs) (low' : AllByRecursion (λ c. c.line < n) xs) (lowₙ : AllByRecursion (λ c. c.line < m) ys)
+    (within : AllByRecursion (SpeaksWithin n) xs) (withinₙ : AllByRecursion (SpeaksWithin m) ys) (same : switch_texts xs ≡ switch_texts ys) (some : 0 < n) (some' : 0 < m) where
+  abbrev upto : List PlacedCommentValue → List PlacedCommentValue
+  upto zs = cs ++ map (moved_comment first) zs
 
-  says_front : (rule : RuleId) (line : ℕ) → line < first → says_with m rule line ≡ says_with n rule line
-  says_front rule line l =
-      said_above cs (map (moved_comment (first + m)) ds) first rule line (moved_high first (first + m) ds (omega arith)) l
-      ∙ sym (said_above cs (map (moved_comment (first + n)) ds) first rule line (moved_high first (first + n) ds (omega arith)) l)
+  abbrev says_with : List PlacedCommentValue → ℕ → RuleId → ℕ → Bool
+  says_with zs k = is_silenced (cs ++ (map (moved_comment first) zs ++ map (moved_comment (first + k)) ds))
 
-  says_middle : (rule : RuleId) (line : ℕ) → line < m → is_silenced cs rule (first + line) ≡ says_with m rule (first + line)
-  says_middle rule line l = sym (said_above cs (map (moved_comment (first + m)) ds) (first + m) rule (first + line) (moved_high (first + m) (first + m) ds (omega arith)) (omega (arith, l)))
+  says_above : (zs : List PlacedCommentValue) (k : ℕ) (rule : RuleId) (line : ℕ) → line < first → says_with zs k rule line ≡ is_silenced cs rule line
+  says_above zs k rule line l =
+      let here = map (moved_comment first) zs in
+      let there = map (moved_comment (first + k)) ds in
+      said_above cs (here ++ there) first rule line (all_both (λ c. first ≤ c.line) here there (moved_high first first zs (omega arith)) (moved_high first (first + k) ds (omega arith))) l
 
-  says_behind : below m (below first (says_with m)) ≡ below n (below first (says_with n))
+  says_front : (rule : RuleId) (line : ℕ) → line < first → says_with ys m rule line ≡ says_with xs n rule line
+  says_front rule line l = says_above ys m rule line l ∙ sym (says_above xs n rule line l)
+
+  says_apart : (zs : List PlacedCommentValue) (k : ℕ) → says_with zs k ≡ is_silenced (upto zs ++ map (moved_comment (first + k)) ds)
+  says_apart zs k = ap is_silenced (sym (append_assoc cs (map (moved_comment first) zs) (map (moved_comment (first + k)) ds)))
+
+  says_middle : (rule : RuleId) (line : ℕ) → line < m → is_silenced (upto ys) rule (first + line) ≡ says_with ys m rule (first + line)
+  says_middle rule line l =
+      sym (ap (λ (s : RuleId → ℕ → Bool). s rule (first + line)) (says_apart ys m)
+      ∙ said_above (upto ys) (map (moved_comment (first + m)) ds) (first + m) rule (first + line) (moved_high (first + m) (first + m) ds (omega arith)) (omega (arith, l)))
+
+  heard : (zs : List PlacedCommentValue) (k : ℕ) → 0 < k → AllByRecursion (λ c. c.line < k) zs → AllByRecursion (SpeaksWithin k) zs → AllByRecursion (IsHeardAbove (first + k)) (upto zs)
+  heard zs k l h w =
+      all_both (IsHeardAbove (first + k)) cs (map (moved_comment first) zs) (heard_further first (first + k) cs (omega (arith, l)) low) (heard_moved first k (first + k) zs (omega arith) h w)
+
+  says_behind : below m (below first (says_with ys m)) ≡ below n (below first (says_with xs n))
   says_behind = λ i rule line. one rule line i
     where
-      one : (rule : RuleId) (line : ℕ) → says_with m rule (first + (m + line)) ≡ says_with n rule (first + (n + line))
-      one rule line = said_alike cs ds first (first + m) (first + n) (first + (m + line)) (first + (n + line)) rule line low (omega (arith, some')) (omega (arith, some)) (omega arith) (omega arith)
+      one : (rule : RuleId) (line : ℕ) → says_with ys m rule (first + (m + line)) ≡ says_with xs n rule (first + (n + line))
+      one rule line =
+          ap (λ (s : RuleId → ℕ → Bool). s rule (first + (m + line))) (says_apart ys m)
+          ∙ (said_alike (upto ys) (upto xs) ds (first + m) (first + n) (first + (m + line)) (first + (n + line)) rule line (heard ys m some' lowₙ withinₙ) (heard xs n some low' within) (same_off cs ys xs first (sym same)) (omega arith) (omega arith)
+          ∙ ap (λ (s : RuleId → ℕ → Bool). s rule (first + (n + line))) (sym (says_apart xs n)))
 
 -- a text of three parts, the second of which becomes another
 module _ (config : Config) (ks ls news ms : List KeptValue) (plain : AllByRecursion IsPlain ks) (plain' : AllByRecursion IsPlain ls) (plainₙ : AllByRecursion IsPlain news) (plain'' : AllByRecursion IsPlain ms)
-    (silent : AllByRecursion IsSilent ls) (silentₙ : AllByRecursion IsSilent news) (same : measured ls ≡ measured news) where
+    (alike : SpeakAlike ls news) (same : measured ls ≡ measured news) where
   abbrev opts : RuleOptions
   opts = options_of config
 
@@ -144,6 +166,12 @@ module _ (config : Config) (ks ls news ms : List KeptValue) (plain : AllByRecurs
   abbrev cs : List PlacedCommentValue
   cs = comments_in_sections 0 ks
 
+  abbrev xs : List PlacedCommentValue
+  xs = comments_in_sections 0 ls
+
+  abbrev ys : List PlacedCommentValue
+  ys = comments_in_sections 0 news
+
   abbrev ds : List PlacedCommentValue
   ds = comments_in_sections 0 ms
 
@@ -152,22 +180,22 @@ module _ (config : Config) (ks ls news ms : List KeptValue) (plain : AllByRecurs
       measured_both ks (news ++ ms)
       ∙ (ap (λ (m : Measure). and_later (measured ks) m) (measured_both news ms ∙ (ap (λ (m : Measure). and_later m (measured ms)) (sym same) ∙ sym (measured_both ls ms))) ∙ sym (measured_both ks (ls ++ ms)))
 
-  -- what is silenced, where the second part has so many lines
-  abbrev says_of : ℕ → ℕ → RuleId → ℕ → Bool
-  says_of first n = is_silenced (cs ++ map (moved_comment (first + n)) ds)
+  -- what is silenced, where the second part has these comments and so many lines
+  abbrev says_of : List PlacedCommentValue → ℕ → ℕ → RuleId → ℕ → Bool
+  says_of zs first n = is_silenced (cs ++ (map (moved_comment first) zs ++ map (moved_comment (first + n)) ds))
 
-  old_says : (first n : ℕ) → row_sum ks ≡ first → row_sum ls ≡ n → is_silenced (comments_in_sections 0 (ks ++ (ls ++ ms))) ≡ says_of first n
-  old_says first n e f = ap is_silenced (comments_three ks ls ms (first + n) silent (omega (arith, e, f)))
+  old_says : (first n : ℕ) → row_sum ks ≡ first → row_sum ls ≡ n → is_silenced (comments_in_sections 0 (ks ++ (ls ++ ms))) ≡ says_of xs first n
+  old_says first n e f = ap is_silenced (comments_three ks ls ms first (first + n) (sym e) (omega (arith, f)))
 
-  new_says : (first n : ℕ) → row_sum ks ≡ first → row_sum news ≡ n → is_silenced (comments_in_sections 0 (ks ++ (news ++ ms))) ≡ says_of first n
-  new_says first n e f = ap is_silenced (comments_three ks news ms (first + n) silentₙ (omega (arith, e, f)))
+  new_says : (first n : ℕ) → row_sum ks ≡ first → row_sum news ≡ n → is_silenced (comments_in_sections 0 (ks ++ (news ++ ms))) ≡ says_of ys first n
+  new_says first n e f = ap is_silenced (comments_three ks news ms first (first + n) (sym e) (omega (arith, f)))
 
   renewed_parts : (fs ps qs bs : List RowValue) → row_sum ks ≡ length fs → row_sum ls ≡ length ps → row_sum news ≡ length qs
       → 0 < length ps → 0 < length qs → is_seam fs ps ≡ true → is_seam fs qs ≡ true → is_seam ps bs ≡ true
-      → ks ++ (ls ++ ms) ≡ kept_of_text config (fs ++ (ps ++ bs)) → ks ++ (news ++ ms) ≡ kept_of_text config (fs ++ (qs ++ bs))
+      → report config (fs ++ (ps ++ bs)) ≡ report_with config (fs ++ (ps ++ bs)) (ks ++ (ls ++ ms)) → report config (fs ++ (qs ++ bs)) ≡ report_with config (fs ++ (qs ++ bs)) (ks ++ (news ++ ms))
       → disables_file (first_text (fs ++ (ps ++ bs))) ≡ false → disables_file (first_text (fs ++ (qs ++ bs))) ≡ false
       → (i j up down : ℕ) (put old : List ProblemValue) → old ≡ report config (fs ++ (ps ++ bs)) → i ≡ prefix_len (is_upto (length fs)) old → j ≡ prefix_len (is_upto up) old → up ≡ length fs + length ps → down ≡ length fs + length qs
-      → (e : Ends) → e.begins ≡ if_none fs true → e.ends ≡ if_none bs true → put ≡ arranged levels (is_silenced cs) (map (moved (length fs)) (found_there opts e wholly (measured ks) qs news))
+      → (e : Ends) → e.begins ≡ if_none fs true → e.ends ≡ if_none bs true → put ≡ arranged levels (is_silenced (comments_in_sections 0 (ks ++ news))) (map (moved (length fs)) (found_there opts e wholly (measured ks) qs news))
       → patched i j put up down old ≡ report config (fs ++ (qs ++ bs))
   renewed_parts fs [] qs bs f g h some _ _ _ _ _ _ _ _ _ _ _ _ _ _ _ _ _ _ _ _ _ _ _ = absurd (omega (arith, some))
   renewed_parts fs (p ∷ ps) [] bs f g h _ some _ _ _ _ _ _ _ _ _ _ _ _ _ _ _ _ _ _ _ _ _ _ = absurd (omega (arith, some))
@@ -175,9 +203,13 @@ module _ (config : Config) (ks ls news ms : List KeptValue) (plain : AllByRecurs
       let first = length fs in
       let n = length (p ∷ ps) in
       let m = length (q ∷ qs) in
-      let s = says_of first n in
-      let s' = says_of first m in
+      let s = says_of xs first n in
+      let s' = says_of ys first m in
       let low = comments_within 0 first ks plain (omega (arith, f)) in
+      let low' = comments_within 0 n ls plain' (omega (arith, g)) in
+      let lowₙ = comments_within 0 m news plainₙ (omega (arith, h)) in
+      let within = subst (λ k. AllByRecursion (SpeaksWithin k) xs) g alike.old in
+      let withinₙ = subst (λ k. AllByRecursion (SpeaksWithin k) ys) h alike.new in
       let some : 0 < n = omega arith in
       let some' : 0 < m = omega arith in
       let all = all_both IsPlain ks (ls ++ ms) plain (all_both IsPlain ls ms plain' plain'') in
@@ -195,10 +227,10 @@ module _ (config : Config) (ks ls news ms : List KeptValue) (plain : AllByRecurs
       ∙ (ap (λ (z : RuleId → ℕ → Bool). arranged levels z (part opts wholly true true empty_measure old_rows (ks ++ (ls ++ ms)))) (old_says first n f g)
       ∙ three_parts levels s opts p fs ps bs ks ls ms wholly plain plain' plain'' f g seam behind_seam) in
       let front_is : front levels s' opts q fs qs bs ks news ms wholly plain plainₙ plain'' f h seam' behind_seam' ≡ a =
-      arranged_alike levels s' s first (part opts wholly true false empty_measure fs ks) (front_between levels s opts p fs ps bs ks ls ms wholly plain plain' plain'' f g seam behind_seam) (says_front cs ds first n m low some some') in
+      arranged_alike levels s' s first (part opts wholly true false empty_measure fs ks) (front_between levels s opts p fs ps bs ks ls ms wholly plain plain' plain'' f g seam behind_seam) (says_front cs xs ys ds first n m low low' lowₙ within withinₙ alike.switches some some') in
       let back_is : behind levels s' opts q fs qs bs ks news ms wholly plain plainₙ plain'' f h seam' behind_seam' (and_later (measured ks) (measured news)) ≡ c =
       ap (λ (d : Measure). behind levels s' opts q fs qs bs ks news ms wholly plain plainₙ plain'' f h seam' behind_seam' (and_later (measured ks) d)) (sym same)
-      ∙ ap (λ (z : RuleId → ℕ → Bool). arranged levels z (part opts wholly false true before bs ms)) (says_behind cs ds first n m low some some') in
+      ∙ ap (λ (z : RuleId → ℕ → Bool). arranged levels z (part opts wholly false true before bs ms)) (says_behind cs xs ys ds first n m low low' lowₙ within withinₙ alike.switches some some') in
       let new_parts =
       report_is config new_rows (ks ++ (news ++ ms)) is' all' loud'
       ∙ (ap (λ (d : Measure). arranged levels (is_silenced (comments_in_sections 0 (ks ++ (news ++ ms)))) (part opts d true true empty_measure new_rows (ks ++ (news ++ ms)))) same_whole
@@ -206,6 +238,7 @@ module _ (config : Config) (ks ls news ms : List KeptValue) (plain : AllByRecurs
       ∙ (three_parts levels s' opts q fs qs bs ks news ms wholly plain plainₙ plain'' f h seam' behind_seam'
       ∙ (ap (λ (z : List ProblemValue). z ++ map (lower first) (b' ++ map (lower m) (behind levels s' opts q fs qs bs ks news ms wholly plain plainₙ plain'' f h seam' behind_seam' (and_later (measured ks) (measured news))))) front_is
       ∙ ap (λ (z : List ProblemValue). a ++ map (lower first) (b' ++ map (lower m) z)) back_is)))) in
+      let here = cs ++ map (moved_comment first) ys in
       let found = part opts wholly (if_none fs true) (if_none bs true) (measured ks) (q ∷ qs) news in
       let found_between = middle_between levels s' opts q fs qs bs ks news ms wholly plain plainₙ plain'' f h seam' behind_seam' in
       let there : found_there opts e wholly (measured ks) (q ∷ qs) news ≡ found =
@@ -213,9 +246,10 @@ module _ (config : Config) (ks ls news ms : List KeptValue) (plain : AllByRecurs
       ∙ (ap (λ begins. part opts wholly begins e.ends (measured ks) (q ∷ qs) news) begins ∙ ap (λ ends. part opts wholly (if_none fs true) ends (measured ks) (q ∷ qs) news) ends) in
       patched_so a b c b' old (report config new_rows) put first n m i j up down (old_is ∙ old_parts) new_parts
       (put_is
-      ∙ (ap (λ (fs : List FindingValue). arranged levels (is_silenced cs) (map (moved first) fs)) there
-      ∙ (arranged_moved levels (is_silenced cs) first found (lines_above 0 m found found_between)
-      ∙ ap (map (lower first)) (arranged_alike levels (below first (is_silenced cs)) (below first s') m found found_between (says_middle cs ds first n m low some some')))))
+      ∙ (ap (λ (fs : List FindingValue). arranged levels (is_silenced (comments_in_sections 0 (ks ++ news))) (map (moved first) fs)) there
+      ∙ (ap (λ (zs : List PlacedCommentValue). arranged levels (is_silenced zs) (map (moved first) found)) (comments_two ks news first (sym f))
+      ∙ (arranged_moved levels (is_silenced here) first found (lines_above 0 m found found_between)
+      ∙ ap (map (lower first)) (arranged_alike levels (below first (is_silenced here)) (below first s') m found found_between (says_middle cs xs ys ds first n m low low' lowₙ within withinₙ alike.switches some some'))))))
       (in_front_lines levels s opts p fs ps bs ks ls ms wholly plain plain' plain'' f g seam behind_seam)
       (in_middle_lines levels s opts p fs ps bs ks ls ms wholly plain plain' plain'' f g seam behind_seam)
       (in_back_lines levels s opts p fs ps bs ks ls ms wholly plain plain' plain'' f g seam behind_seam before)
@@ -312,15 +346,15 @@ module _ (config : Config) (rows ins : List RowValue) (kept new : List KeptValue
   bs_none : (t.old_end == length rows) ≡ if_none bs true
   bs_none = none_by bs t.old_end (length rows) (λ e. omega (arith, bs_length, e, inside.back)) (λ e. omega (arith, bs_length, e))
 
-  pub report_renewed : kept ≡ kept_of_text config rows → splice kept from end new ≡ kept_of_text config rows' → AllByRecursion IsPlain kept → AllByRecursion IsPlain new
+  pub report_renewed : report config rows ≡ report_with config rows kept → report config rows' ≡ report_with config rows' (splice kept from end new) → AllByRecursion IsPlain kept → AllByRecursion IsPlain new
       → disables_file (first_text rows) ≡ false → disables_file (first_text rows') ≡ false
       → t.first ≡ row_sum ks → t.old_end ≡ t.first + row_sum ls → t.new_end ≡ t.first + row_sum new → (e : Ends) → e.begins ≡ (t.first == 0) → e.ends ≡ (t.old_end == length rows)
       → (e.begins ≡ false → is_filled (slice_get rows t.first) ≡ true) → (e.begins ≡ false → is_filled (slice_get rows' t.first) ≡ true) → (e.ends ≡ false → is_filled (slice_get rows t.old_end) ≡ true)
-      → AllByRecursion IsSilent ls → AllByRecursion IsSilent new → measured ls ≡ measured new
+      → SpeakAlike ls new → measured ls ≡ measured new
       → (i j : ℕ) (put old : List ProblemValue) → old ≡ report config rows → i ≡ prefix_len (is_upto t.first) old → j ≡ prefix_len (is_upto t.old_end) old
-      → put ≡ arranged (levels_of config) (is_silenced (comments_in_sections 0 ks)) (map (moved t.first) (found_there (options_of config) e (measured kept) (measured ks) qs new))
+      → put ≡ arranged (levels_of config) (is_silenced (comments_in_sections 0 (ks ++ new))) (map (moved t.first) (found_there (options_of config) e (measured kept) (measured ks) qs new))
       → patched i j put t.old_end t.new_end old ≡ report config rows'
-  report_renewed is is' plain plainₙ loud loud' first old_end new_end e begins ends filled filled' filled'' silent silentₙ same i j put old old_is i_is j_is put_is =
+  report_renewed is is' plain plainₙ loud loud' first old_end new_end e begins ends filled filled' filled'' alike same i j put old old_is i_is j_is put_is =
       let split = subst (λ xs. AllByRecursion IsPlain xs) kept_three plain in
       let rest = all_back IsPlain ks (ls ++ ms) split in
       let begins_is = begins ∙ fs_none in
@@ -328,13 +362,14 @@ module _ (config : Config) (rows ins : List RowValue) (kept new : List KeptValue
       let seam = front_seam fs ps (λ h. filled_there rows t.first (t.old_end - t.first) (omega (arith, inside.old_some)) (filled (begins_is ∙ h))) in
       let seam' = front_seam fs qs (λ h. filled_there rows' t.first (t.new_end - t.first) (omega (arith, inside.new_some)) (filled' (begins_is ∙ h))) in
       let seam'' = back_seam ps bs (λ h. ap is_filled (head_dropped rows t.old_end) ∙ filled'' (ends_is ∙ h)) in
-      renewed_parts config ks ls new ms (all_front IsPlain ks (ls ++ ms) split) (all_front IsPlain ls ms rest) plainₙ (all_back IsPlain ls ms rest) silent silentₙ same fs ps qs bs
+      renewed_parts config ks ls new ms (all_front IsPlain ks (ls ++ ms) split) (all_front IsPlain ls ms rest) plainₙ (all_back IsPlain ls ms rest) alike same fs ps qs bs
       (omega (arith, first, fs_length)) (omega (arith, old_end, ps_length)) (omega (arith, new_end, qs_length)) (omega (arith, ps_length, inside.old_some)) (omega (arith, qs_length, inside.new_some)) seam seam' seam''
-      (sym kept_three ∙ (is ∙ ap (kept_of_text config) rows_three)) (is' ∙ ap (kept_of_text config) rows_three')
+      (sym (ap (report config) rows_three) ∙ (is ∙ (ap (report_with config rows) kept_three ∙ ap (λ xs. report_with config xs (ks ++ (ls ++ ms))) rows_three)))
+      (sym (ap (report config) rows_three') ∙ (is' ∙ ap (λ xs. report_with config xs (splice kept from end new)) rows_three'))
       (ap (λ xs. disables_file (first_text xs)) (sym rows_three) ∙ loud) (ap (λ xs. disables_file (first_text xs)) (sym rows_three') ∙ loud')
       i j t.old_end t.new_end put old (old_is ∙ ap (report config) rows_three) (i_is ∙ ap (λ n. prefix_len (is_upto n) old) (sym fs_length)) j_is (omega (arith, fs_length, ps_length, inside.old_some)) (omega (arith, fs_length, qs_length, inside.new_some))
       e begins_is ends_is
       (put_is
-      ∙ (ap (λ n. arranged (levels_of config) (is_silenced (comments_in_sections 0 ks)) (map (moved n) (found_there (options_of config) e (measured kept) (measured ks) qs new))) (sym fs_length)
-      ∙ ap (λ (xs : List KeptValue). arranged (levels_of config) (is_silenced (comments_in_sections 0 ks)) (map (moved (length fs)) (found_there (options_of config) e (measured xs) (measured ks) qs new))) kept_three))
+      ∙ (ap (λ n. arranged (levels_of config) (is_silenced (comments_in_sections 0 (ks ++ new))) (map (moved n) (found_there (options_of config) e (measured kept) (measured ks) qs new))) (sym fs_length)
+      ∙ ap (λ (xs : List KeptValue). arranged (levels_of config) (is_silenced (comments_in_sections 0 (ks ++ new))) (map (moved (length fs)) (found_there (options_of config) e (measured xs) (measured ks) qs new))) kept_three))
       ∙ ap (report config) (sym rows_three')

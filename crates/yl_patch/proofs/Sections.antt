@@ -73,14 +73,19 @@ comments_moved n line there (k ∷ ks) e =
     ∙ (ap (λ (cs : List PlacedCommentValue). cs ++ map (moved_comment n) (comments_in_sections (line + k.rows) ks)) (all_comments_moved n line there k.comments e)
     ∙ sym (map-append (moved_comment n) (map (moved_comment line) k.comments) (comments_in_sections (line + k.rows) ks)))
 
--- of three parts, the second silent
-pub comments_three : (ks ls ms : List KeptValue) (there : ℕ) → AllByRecursion IsSilent ls → there ≡ row_sum ks + row_sum ls
-    → comments_in_sections 0 (ks ++ (ls ++ ms)) ≡ comments_in_sections 0 ks ++ map (moved_comment there) (comments_in_sections 0 ms)
-comments_three ks ls ms there h e =
-    comments_both 0 (row_sum ks) ks (ls ++ ms) (omega arith)
+-- of two parts, and of three
+pub comments_two : (ks ls : List KeptValue) (first : ℕ) → first ≡ row_sum ks → comments_in_sections 0 (ks ++ ls) ≡ comments_in_sections 0 ks ++ map (moved_comment first) (comments_in_sections 0 ls)
+comments_two ks ls first e =
+    comments_both 0 first ks ls (omega (arith, e)) ∙ ap (λ (cs : List PlacedCommentValue). comments_in_sections 0 ks ++ cs) (comments_moved first 0 first ls (omega arith))
+
+pub comments_three : (ks ls ms : List KeptValue) (first there : ℕ) → first ≡ row_sum ks → there ≡ first + row_sum ls
+    → comments_in_sections 0 (ks ++ (ls ++ ms)) ≡ comments_in_sections 0 ks ++ (map (moved_comment first) (comments_in_sections 0 ls) ++ map (moved_comment there) (comments_in_sections 0 ms))
+comments_three ks ls ms first there e f =
+    comments_both 0 first ks (ls ++ ms) (omega (arith, e))
     ∙ ap (λ (cs : List PlacedCommentValue). comments_in_sections 0 ks ++ cs)
-    (comments_both (row_sum ks) there ls ms e
-    ∙ (ap (λ (cs : List PlacedCommentValue). cs ++ comments_in_sections there ms) (no_comments (row_sum ks) ls h) ∙ comments_moved there 0 there ms (omega arith)))
+    (comments_both first there ls ms f
+    ∙ (ap (λ (cs : List PlacedCommentValue). cs ++ comments_in_sections there ms) (comments_moved first 0 first ls (omega arith))
+    ∙ ap (λ (cs : List PlacedCommentValue). map (moved_comment first) (comments_in_sections 0 ls) ++ cs) (comments_moved there 0 there ms (omega arith))))
 
 lower_comments : (line rows high : ℕ) (cs : List PlacedCommentValue) → line + rows ≤ high → AllByRecursion (λ c. c.line < rows) cs → AllByRecursion (λ c. c.line < high) (map (moved_comment line) cs)
 lower_comments line rows high [] l h = tt
@@ -104,6 +109,14 @@ measured ks = measure_of (facts_in_sections ks)
 
 pub measured_both : (ks ls : List KeptValue) → measured (ks ++ ls) ≡ and_later (measured ks) (measured ls)
 measured_both ks ls = ap measure_of (facts_both ks ls) ∙ measure_is_local (facts_in_sections ks) (facts_in_sections ls)
+
+-- no later facts
+pub and_later_none : (m : Measure) → and_later m empty_measure ≡ m
+and_later_none m = λ i. record { step = known m.step i; step_with_entries = known m.step_with_entries i; flush = known m.flush i }
+  where
+    known : {X : Type 0} (o : Option X) → first o None ≡ o
+    known None = refl
+    known (Some x) = refl
 
 -- ---- parts
 
@@ -129,14 +142,7 @@ sections_moved o whole before n line there (k ∷ ks) e =
 sections_both : (o : IndentationOptions) (whole before : Measure) (line there : ℕ) (ks ls : List KeptValue) → there ≡ line + row_sum ks
     → findings_in_sections o whole line before (ks ++ ls) ≡ findings_in_sections o whole line before ks ++ findings_in_sections o whole there (and_later before (measured ks)) ls
 sections_both o whole before line there [] ls e =
-    ap (λ k. findings_in_sections o whole k before ls) (omega (arith, e)) ∙ ap (λ (m : Measure). findings_in_sections o whole there m ls) (sym (unknown before))
-  where
-    known : {X : Type 0} (o : Option X) → first o None ≡ o
-    known None = refl
-    known (Some x) = refl
-
-    unknown : (m : Measure) → and_later m empty_measure ≡ m
-    unknown m = λ i. record { step = known m.step i; step_with_entries = known m.step_with_entries i; flush = known m.flush i }
+    ap (λ k. findings_in_sections o whole k before ls) (omega (arith, e)) ∙ ap (λ (m : Measure). findings_in_sections o whole there m ls) (sym (and_later_none before))
 sections_both o whole before line there (k ∷ ks) ls e =
     let later = and_later before (measure_of k.facts) in
     let m : and_later later (measured ks) ≡ and_later before (measured (k ∷ ks)) =

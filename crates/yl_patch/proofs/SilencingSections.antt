@@ -74,6 +74,9 @@ front_three' : (ks ns : List KeptValue) (a b from at : ℕ) → a ≤ b → b �
     → take at (splice ks a b ns) ≡ take a ks ++ (ns ++ take (from - b) (drop b ks))
 front_three' ks ns a b from at l h m e = same_lists _ _ (search (rules, places)) (λ k d o. grind (arith, places))
 
+pub start_put : (ks ns : List KeptValue) (a b row : ℕ) → a ≤ b → b ≤ length ks → Silent (take a ks) → row ≡ row_sum (take a ks) → IsStart (splice ks a b ns) a row
+start_put ks ns a b row l h silent e = start_stays ks ns a b a row l h (omega arith) (record { within = omega (arith, l, h); silent = silent; rows = e })
+
 pub start_moved : (ks ns : List KeptValue) (a b from row at new gone come : ℕ) → a ≤ b → b ≤ from → IsStart ks from row → Silent ns
     → gone ≡ row_sum (take (b - a) (drop a ks)) → come ≡ row_sum ns → at + b ≡ from + a + length ns → new + gone ≡ row + come → IsStart (splice ks a b ns) at new
 start_moved ks ns a b from row at new gone come l h s silent gone_is come_is at_is new_is =
@@ -162,9 +165,15 @@ comments_known ks s from stop known l h m = ⊎_elim some none (cases_lt s.from 
         let n : stop - s.from ≡ 0 = omega (arith, o) in
         ap (λ k. comments_in_sections s.row (take k (drop s.from ks))) n ∙ sym (no_comments 0 (take from ks) (silent_front ks s from stop known l o m))
 
--- at the end of a walk over those
-pub comments_done : (ks : List KeptValue) (s : Silencing) (from stop i line : ℕ) (cs : List PlacedCommentValue) → IsSilencingOf ks s → from ≤ length ks → stop ≤ from → (stop < from → s.end ≤ stop) → stop ≤ i
-    → cs ++ comments_in_sections line (take (stop - i) (drop i ks)) ≡ comments_in_sections s.row (take (stop - s.from) (drop s.from ks)) → cs ≡ comments_in_sections 0 (take from ks)
-comments_done ks s from stop i line cs known l h m o walked =
-    let n : stop - i ≡ 0 = omega (arith, o) in
-    sym (ap (λ k. cs ++ comments_in_sections line (take k (drop i ks))) n ∙ append-nil cs) ∙ (walked ∙ comments_known ks s from stop known l h m)
+-- at the end of a walk over some sections
+pub comments_end : (ks : List KeptValue) (end i line : ℕ) (cs all : List PlacedCommentValue) → end ≤ i → cs ++ comments_in_sections line (take (end - i) (drop i ks)) ≡ all → cs ≡ all
+comments_end ks end i line cs all l walked =
+    let n : end - i ≡ 0 = omega (arith, l) in
+    sym (ap (λ k. cs ++ comments_in_sections line (take k (drop i ks))) n ∙ append-nil cs) ∙ walked
+
+-- the sections before the first that may silence do not, nor does any where none may
+pub silent_before : (ks : List KeptValue) (s : Silencing) (from : ℕ) → IsSilencingOf ks s → from ≤ length ks → from ≤ s.from → Silent (take from ks)
+silent_before ks s from known l h = silent_front ks s from from known l h (λ m. absurd (omega (arith, m)))
+
+pub none_before : (ks : List KeptValue) (s : Silencing) (from : ℕ) → IsSilencingOf ks s → from ≤ length ks → s.end ≤ s.from → Silent (take from ks)
+none_before ks s from known l h = silent_front ks s from s.end known l h (λ m. omega arith)

@@ -1,4 +1,4 @@
--- Meaning: sections whose part in a report is theirs alone: they have no fault, and what is found in them and the comments that silence stand in their own lines.
+-- Meaning: sections whose part in a report is theirs alone: what is found in them, the text's fault too, and the comments that silence stand in their own lines.
 use Rattle.std.specs.Prelude.{◌≡◌, ◌<◌, ◌≤◌, ◌+◌, ℕ, true, length, take, drop, List, [], ◌∷◌, None}
 use Rattle.std.specs.List.{AllByRecursion}
 use Rattle.yl_text.specs.Finding.{FindingValue}
@@ -7,6 +7,7 @@ use Rattle.yl_sections.specs.Kept.{KeptValue}
 use Rattle.yl_lint.specs.TextReport.{facts_in_sections}
 use Rattle.yl_patch.specs.declared.overview.Overview.{Overview}
 use Rattle.yl_patch.specs.declared.silencing.Silencing.{Silencing}
+use Rattle.yl_patch.specs.Settled.{settled}
 
 -- it stands in the first lines, counted from 1
 abbrev pub IsWithin : ℕ → FindingValue → Type 0
@@ -17,6 +18,14 @@ pub record IsPlain (k : KeptValue) : Type 0 where
   pub found : AllByRecursion (IsWithin k.rows) k.found
   pub facts : AllByRecursion (λ f. f.line < k.rows) k.facts
   pub comments : AllByRecursion (λ c. c.line < k.rows) k.comments
+
+abbrev pub IsSound : KeptValue → Type 0
+IsSound k = k.fault ≡ None
+
+-- the first so many sections have no fault
+pub record IsSoundUpto (ks : List KeptValue) (n : ℕ) : Type 0 where
+  pub within : n ≤ length ks
+  pub sound : AllByRecursion IsSound (take n ks)
 
 -- no comment of it may silence a rule
 abbrev pub IsSilent : KeptValue → Type 0
@@ -38,10 +47,11 @@ pub record IsSilencingOf (ks : List KeptValue) (s : Silencing) : Type 0 where
   pub start : IsStart ks s.from s.row
   pub behind : AllByRecursion IsSilent (drop s.end ks)
 
--- what an overview says of sections, where it says that they are plain
+-- what an overview says of sections, where it says that they are plain as the report shows them
 pub record IsSurveyed (ks : List KeptValue) (o : Overview) : Type 0 where
-  pub plain : AllByRecursion IsPlain ks
-  pub whole : o.whole ≡ measure_of (facts_in_sections ks)
+  pub plain : AllByRecursion IsPlain (settled ks)
+  pub sound : IsSoundUpto ks o.sound
+  pub whole : o.whole ≡ measure_of (facts_in_sections (settled ks))
   pub silencing : IsSilencingOf ks o.silencing
 
 abbrev pub IsOverviewOf : List KeptValue → Overview → Type 0

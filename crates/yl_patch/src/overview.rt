@@ -1,23 +1,28 @@
 //! What is known of all sections of a text without a walk over them.
-ghost use Rattle.std.specs.Prelude.{◌≡◌, ◌≤◌, ◌-◌, true, length, take, drop};
+ghost use Rattle.std.specs.Prelude.{◌≡◌, ◌≤◌, ◌-◌, true, false, length, take, drop};
 ghost use Rattle.std.specs.List.{AllByRecursion, splice};
 ghost use Rattle.yl_text.specs.Store.{IsRange};
 ghost use Rattle.yl_indentation.specs.Measures.{measure_of};
 ghost use Rattle.yl_lint.specs.TextReport.{facts_in_sections};
-ghost use Rattle.yl_patch.specs.Plain.{IsOverviewOf, IsPlain};
+ghost use Rattle.yl_patch.specs.Plain.{IsOverviewOf, IsPlain, IsSoundUpto};
+ghost use Rattle.yl_patch.specs.Settled.{hides_below, settled, settled_below};
 
 use crate::plain::{are_all_plain, are_plain};
 use crate::silencing::{Silencing, silencing_after, silencing_of, silencing_of_all};
+use crate::sound::{
+    count_all_sound, count_sound, has_fault, hides, hides_before, hides_between, sound_after,
+};
 use std::alloc::Allocator;
 use yl_chunks::{Chunks, Spliced};
 use yl_indentation::Measure;
 use yl_sections::Kept;
 
-/// What is known of all sections of a text: where they are plain, so that each has its own part in the report, the measure of them all,
-/// and which of them may silence rules.
+/// What is known of all sections of a text: where those are plain that are shown, so that each has its own part in the report, how many
+/// stand before the first with a fault, the measure of those that are shown, and which of all may silence rules.
 #[derive(Clone, Copy, Debug)]
 pub struct Overview {
     pub is_plain: bool,
+    pub sound: usize,
     pub whole: Measure,
     pub silencing: Silencing,
 }
@@ -51,52 +56,64 @@ pub fn is_same_measure(one: Measure, other: Measure) -> bool
         && is_same_flush(one.flush, other.flush)
 }
 
-/// The measure of the facts of these sections.
+/// The measure of the facts of these sections, up to the first with a fault.
 pub fn measure_of<A: Allocator>(kept: &[Kept<A>]) -> Measure
-    ensures { result ≡ measure_of (facts_in_sections kept.now) }
+    ensures { result ≡ measure_of (facts_in_sections (settled kept.now)) }
 {
     let mut measure = Measure::empty();
     for one in kept {
         measure = measure.and_later(one.measure());
+        if has_fault(one) {
+            return measure;
+        }
     }
     measure
 }
 
-/// The measure of the facts of all these sections.
+/// The same where some sections are kept in place of others.
 fn measure_of_all<A: Allocator + Copy>(sections: &Spliced<'_, Kept<A>, A>) -> Measure
-    ensures { result ≡ measure_of (facts_in_sections sections.now) }
+    ensures { result ≡ measure_of (facts_in_sections (settled sections.now)) }
 {
     let mut measure = Measure::empty();
     for i in 0..sections.len() {
-        measure = measure.and_later(sections.get(i).measure());
+        let one = sections.get(i);
+        measure = measure.and_later(one.measure());
+        if has_fault(one) {
+            return measure;
+        }
     }
     measure
 }
 
-/// The measure of the facts of the sections from one on, before `end`.
+/// The same of the sections from one on, before `end`.
 fn measure_between<A: Allocator + Copy>(
     kept: &Chunks<Kept<A>, A>,
     from: usize,
     end: usize,
 ) -> Measure
     requires { IsRange from end (length kept.now.items) }
-    ensures { result ≡ measure_of (facts_in_sections (take (end - from) (drop from kept.now.items))) }
+    ensures { result ≡ measure_of (facts_in_sections (settled (take (end - from) (drop from kept.now.items)))) }
 {
     let mut measure = Measure::empty();
     for i in 0..end - from {
-        measure = measure.and_later(kept.get(from + i).measure());
+        let one = kept.get(from + i);
+        measure = measure.and_later(one.measure());
+        if has_fault(one) {
+            return measure;
+        }
     }
     measure
 }
 
-/// The measure of the facts of the sections before one, where that of all is this. It looks no further once it is found.
-pub fn measure_before<A: Allocator + Copy>(
+/// The measure of the facts of the sections before one, which have no fault, where that of all is this. It looks no further once it is
+/// found.
+fn measure_before<A: Allocator + Copy>(
     kept: &Chunks<Kept<A>, A>,
     from: usize,
     whole: Measure,
 ) -> Measure
-    requires range { from ≤ length kept.now.items }
-    requires whole { whole ≡ measure_of (facts_in_sections kept.now.items) }
+    requires sound { IsSoundUpto kept.now.items from }
+    requires whole { whole ≡ measure_of (facts_in_sections (settled kept.now.items)) }
     ensures { result ≡ measure_of (facts_in_sections (take from kept.now.items)) }
 {
     let mut measure = Measure::empty();
@@ -109,12 +126,31 @@ pub fn measure_before<A: Allocator + Copy>(
     measure
 }
 
+/// The measure of the facts of the sections before one that are shown, where a fault above hides it or not.
+pub fn measure_above<A: Allocator + Copy>(
+    kept: &Chunks<Kept<A>, A>,
+    from: usize,
+    hidden: bool,
+    whole: Measure,
+) -> Measure
+    requires range { from ≤ length kept.now.items }
+    requires hidden { hides_below false (take from kept.now.items) ≡ hidden }
+    requires whole { whole ≡ measure_of (facts_in_sections (settled kept.now.items)) }
+    ensures { result ≡ measure_of (facts_in_sections (settled (take from kept.now.items))) }
+{
+    if hidden {
+        return whole;
+    }
+    measure_before(kept, from, whole)
+}
+
 /// The overview of these sections.
 pub fn overview_of<A: Allocator>(kept: &[Kept<A>]) -> Overview
     ensures { IsOverviewOf kept.now result }
 {
     Overview {
         is_plain: are_plain(kept),
+        sound: count_sound(kept),
         whole: measure_of(kept),
         silencing: silencing_of(kept),
     }
@@ -126,23 +162,47 @@ pub fn overview_renewed<A: Allocator + Copy>(sections: &Spliced<'_, Kept<A>, A>)
 {
     Overview {
         is_plain: are_all_plain(sections),
+        sound: count_all_sound(sections),
         whole: measure_of_all(sections),
         silencing: silencing_of_all(sections),
     }
 }
 
-/// Whether the new sections are plain and have the measure of those from one on, before `end`.
-pub fn is_alike<A: Allocator + Copy>(
+/// Whether the new sections are plain as far as they are shown, and have the measure of those from one on, before `end`, and a fault
+/// where these have one.
+fn are_shown_alike<A: Allocator + Copy>(
     kept: &Chunks<Kept<A>, A>,
     from: usize,
     end: usize,
     new: &[Kept<A>],
 ) -> bool
     requires { IsRange from end (length kept.now.items) }
-    ensures plain { result ≡ true → AllByRecursion IsPlain new.now }
-    ensures measure { result ≡ true → measure_of (facts_in_sections (take (end - from) (drop from kept.now.items))) ≡ measure_of (facts_in_sections new.now) }
+    ensures plain { result ≡ true → AllByRecursion IsPlain (settled new.now) }
+    ensures measure { result ≡ true → measure_of (facts_in_sections (settled (take (end - from) (drop from kept.now.items)))) ≡ measure_of (facts_in_sections (settled new.now)) }
+    ensures below { result ≡ true → hides_below false (take (end - from) (drop from kept.now.items)) ≡ hides_below false new.now }
 {
-    are_plain(new) && is_same_measure(measure_between(kept, from, end), measure_of(new))
+    are_plain(new)
+        && is_same_measure(measure_between(kept, from, end), measure_of(new))
+        && hides_between(kept, from, end) == hides(new)
+}
+
+/// The same where these sections are hidden or not.
+pub fn is_alike<A: Allocator + Copy>(
+    hidden: bool,
+    kept: &Chunks<Kept<A>, A>,
+    from: usize,
+    end: usize,
+    new: &[Kept<A>],
+) -> bool
+    requires { IsRange from end (length kept.now.items) }
+    ensures plain { result ≡ true → AllByRecursion IsPlain (settled_below hidden new.now) }
+    ensures measure { result ≡ true → measure_of (facts_in_sections (settled_below hidden (take (end - from) (drop from kept.now.items)))) ≡ measure_of (facts_in_sections (settled_below hidden new.now)) }
+    ensures below { result ≡ true → hides_below hidden (take (end - from) (drop from kept.now.items)) ≡ hides_below hidden new.now }
+{
+    if hidden {
+        return true;
+    }
+    are_shown_alike(kept, from, end, new)
 }
 
 /// The overview once this is kept in place of what is kept of the sections from one on, before `end`. It looks at these alone, and
@@ -160,17 +220,28 @@ pub fn overview_after<A: Allocator + Copy>(
 {
     let unknown = Overview {
         is_plain: false,
+        sound: overview.sound,
         whole: overview.whole,
         silencing: overview.silencing,
     };
-    if !overview.is_plain || !is_alike(kept, from, end, new) {
+    if !overview.is_plain {
+        return unknown;
+    }
+    let Some(hidden) = hides_before(kept, overview.sound, from) else {
+        return unknown;
+    };
+    if !is_alike(hidden, kept, from, end, new) {
         return unknown;
     }
     let Some(silencing) = silencing_after(overview.silencing, kept, from, end, new) else {
         return unknown;
     };
+    let Some(sound) = sound_after(overview.sound, kept, from, end, new) else {
+        return unknown;
+    };
     Overview {
         is_plain: true,
+        sound,
         whole: overview.whole,
         silencing,
     }

@@ -8,10 +8,12 @@ ghost use Rattle.yl_patch.specs.Patched.{IsLow, is_upto, patched};
 ghost use Rattle.yl_patch.specs.Plain.{IsOverviewOf, row_sum};
 
 use crate::loud::is_loud;
-use crate::overview::{Overview, is_alike, measure_before};
+use crate::overview::{Overview, is_alike, measure_above};
 use crate::places::count_upto;
 use crate::shifting::{ReportPatch, are_low};
-use crate::silencing::{are_silent, are_silent_between, silences_before};
+use crate::silencing::silences_upto;
+use crate::sound::{hides_before, shown_before, shown_of};
+use crate::speaking::speak_as_shown;
 use crate::there::problems_there;
 use crate::touched::{Ends, Touched, ends_of, find_touched, is_filled, is_inside};
 use crate::window::Window;
@@ -99,10 +101,17 @@ pub fn patched_report<S: LineStore>(
     ensures low { IfOk result (λ o. IfSome o (λ p. AllByRecursion IsLow (drop p.end problems.now))) }
     ensures report { IfOk result (λ o. IfSome o (λ p. patched p.from p.end p.problems.items p.up p.down problems.now ≡ report config.now (splice (S.rows store.now) a b rows.now))) }
 {
-    if !overview.is_plain || !is_alike(kept, from, end, new) {
+    if !overview.is_plain {
         return Ok(None);
     }
-    if !are_silent(new) || !are_silent_between(kept, from, end) {
+    let Some(hidden) = hides_before(kept, overview.sound, from) else {
+        return Ok(None);
+    };
+    if !is_alike(hidden, kept, from, end, new) {
+        return Ok(None);
+    }
+    let speaks_alike = speak_as_shown(alloc, hidden, kept, from, end, new)?;
+    if !speaks_alike {
         return Ok(None);
     }
     let Some(touched) = find_touched(from_row, end_row, new) else {
@@ -119,8 +128,10 @@ pub fn patched_report<S: LineStore>(
     }
     let window = Window::new(patched, touched.first as usize, touched.new_end as usize);
     let whole = overview.whole;
-    let before = measure_before(kept, from, whole);
-    let silences = silences_before(alloc, kept, overview.silencing, from)?;
+    let before = measure_above(kept, from, hidden, whole);
+    let above = shown_before(kept, overview.sound, from, hidden);
+    let shown = shown_of(hidden, new);
+    let silences = silences_upto(alloc, kept, overview.silencing, above, touched.first, shown)?;
     let there = problems_there(
         alloc,
         config,
@@ -129,7 +140,7 @@ pub fn patched_report<S: LineStore>(
         touched.first,
         whole,
         before,
-        new,
+        shown,
         &silences,
     )?;
     Ok(patch_with(problems, touched, there))

@@ -1,12 +1,16 @@
 //! Whether the part of sections in a report is theirs alone.
-ghost use Rattle.std.specs.Prelude.{◌≡◌, ◌<◌, ◌≤◌, None, true};
+ghost use Rattle.std.specs.Prelude.{◌≡◌, ◌<◌, ◌≤◌, true, false};
 ghost use Rattle.std.specs.List.{AllByRecursion};
+ghost use Rattle.std.specs.Option.{option_map};
+ghost use Rattle.yl_sections.specs.Owned.{section_fault_value};
 ghost use Rattle.yl_patch.specs.Plain.{IsPlain, IsWithin};
+ghost use Rattle.yl_patch.specs.Settled.{IsFaultWithin, settled, settled_one};
 
+use crate::sound::has_fault;
 use std::alloc::Allocator;
 use yl_chunks::Spliced;
 use yl_indentation::Fact;
-use yl_sections::{Kept, KeptComment};
+use yl_sections::{Kept, KeptComment, SectionFault};
 use yl_text::Finding;
 
 /// Whether these stand in the first lines, counted from 1.
@@ -45,32 +49,41 @@ fn are_comments_within<A: Allocator>(comments: &[KeptComment<A>], rows: u32) -> 
     true
 }
 
-fn is_sound<A: Allocator>(kept: &Kept<A>) -> bool
-    ensures { result ≡ true → kept.now.fault ≡ None }
+/// Whether the fault, if there is one, stands at a place in the first lines, counted from 0.
+fn is_fault_within(fault: Option<SectionFault>, rows: u32) -> bool
+    ensures { result ≡ true → IsFaultWithin rows (option_map section_fault_value fault) }
 {
-    match kept.fault() {
+    match fault {
         None => true,
-        Some(_) => false,
+        Some(SectionFault::Here(place, _)) => place.line < rows,
+        Some(SectionFault::Behind(_)) => false,
     }
 }
 
-/// Whether this is of a section that has no fault, and in whose own lines all stands that was found in it, and each comment that silences.
+/// Whether all stands in the section's own lines that was found in it, its fault and each comment that silences.
 fn is_plain<A: Allocator>(kept: &Kept<A>) -> bool
-    ensures { result ≡ true → IsPlain kept.now }
+    ensures { result ≡ true → IsPlain (settled_one false kept.now) }
 {
-    is_sound(kept)
-        && are_within(kept.found(), kept.rows())
-        && are_facts_within(kept.facts(), kept.rows())
-        && are_comments_within(kept.comments(), kept.rows())
+    let rows = kept.rows();
+    if !is_fault_within(kept.fault(), rows) || !are_within(kept.found(), rows) {
+        return false;
+    }
+    if !are_facts_within(kept.facts(), rows) {
+        return false;
+    }
+    are_comments_within(kept.comments(), rows)
 }
 
-/// Whether all of these are plain.
+/// Whether all of these are plain that are shown: those up to the first with a fault.
 pub fn are_plain<A: Allocator>(kept: &[Kept<A>]) -> bool
-    ensures { result ≡ true → AllByRecursion IsPlain kept.now }
+    ensures { result ≡ true → AllByRecursion IsPlain (settled kept.now) }
 {
     for one in kept {
         if !is_plain(one) {
             return false;
+        }
+        if has_fault(one) {
+            return true;
         }
     }
     true
@@ -78,11 +91,15 @@ pub fn are_plain<A: Allocator>(kept: &[Kept<A>]) -> bool
 
 /// The same where some sections are kept in place of others.
 pub fn are_all_plain<A: Allocator + Copy>(sections: &Spliced<'_, Kept<A>, A>) -> bool
-    ensures { result ≡ true → AllByRecursion IsPlain sections.now }
+    ensures { result ≡ true → AllByRecursion IsPlain (settled sections.now) }
 {
     for i in 0..sections.len() {
-        if !is_plain(sections.get(i)) {
+        let one = sections.get(i);
+        if !is_plain(one) {
             return false;
+        }
+        if has_fault(one) {
+            return true;
         }
     }
     true

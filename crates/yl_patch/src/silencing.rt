@@ -9,11 +9,11 @@ ghost use Rattle.yl_sections.specs.Kept.{KeptValue};
 ghost use Rattle.yl_lint.specs.TextReport.{comments_in_sections};
 ghost use Rattle.yl_patch.specs.Plain.{IsSilencingOf, IsSilent, IsStart, row_sum};
 
+use crate::comments::{comments_between, with_comments_of};
 use crate::touched::count_rows;
 use std::alloc::{AllocError, Allocator};
 use yl_chunks::{Chunks, Spliced};
 use yl_lexeme::PlacedComment;
-use yl_lint::{line_below, push_comments};
 use yl_report::Silences;
 use yl_sections::Kept;
 
@@ -44,7 +44,7 @@ pub fn are_silent<A: Allocator>(kept: &[Kept<A>]) -> bool
 }
 
 /// The same of the sections from one on, before `end`.
-pub fn are_silent_between<A: Allocator + Copy>(
+fn are_silent_between<A: Allocator + Copy>(
     kept: &Chunks<Kept<A>, A>,
     from: usize,
     end: usize,
@@ -58,6 +58,20 @@ pub fn are_silent_between<A: Allocator + Copy>(
         }
     }
     true
+}
+
+/// The same of those sections and of these.
+pub fn are_both_silent<A: Allocator + Copy>(
+    kept: &Chunks<Kept<A>, A>,
+    from: usize,
+    end: usize,
+    new: &[Kept<A>],
+) -> bool
+    requires { IsRange from end (length kept.now.items) }
+    ensures old { result ≡ true → AllByRecursion IsSilent (take (end - from) (drop from kept.now.items)) }
+    ensures new { result ≡ true → AllByRecursion IsSilent new.now }
+{
+    are_silent(new) && are_silent_between(kept, from, end)
 }
 
 /// Where nothing is known of so many sections.
@@ -128,7 +142,7 @@ pub fn silencing_of_all<A: Allocator + Copy>(sections: &Spliced<'_, Kept<A>, A>)
 }
 
 /// How many lines the sections have from one on, before `end`.
-fn count_rows_between<A: Allocator + Copy>(
+pub fn count_rows_between<A: Allocator + Copy>(
     kept: &Chunks<Kept<A>, A>,
     from: usize,
     end: usize,
@@ -165,6 +179,23 @@ fn moved_start<A: Allocator + Copy>(
     Some((at, row))
 }
 
+/// The same where no section before those may silence a rule.
+fn start_here<A: Allocator + Copy>(
+    kept: &Chunks<Kept<A>, A>,
+    from: usize,
+    end: usize,
+    new: &[Kept<A>],
+) -> (usize, u32)
+    requires range { IsRange from end (length kept.now.items) }
+    requires silent { AllByRecursion IsSilent (take from kept.now.items) }
+    ensures { IsStart (splice kept.now.items from end new.now) result.0 result.1 }
+{
+    match count_rows_between(kept, 0, from) {
+        Some(row) => (from, row),
+        None => (0, 0),
+    }
+}
+
 /// Before which section none may silence a rule, and how many lines stand there, once these are kept in place of those from one on,
 /// before `end`.
 fn start_after<A: Allocator + Copy>(
@@ -175,14 +206,17 @@ fn start_after<A: Allocator + Copy>(
     new: &[Kept<A>],
 ) -> (usize, u32)
     requires range { IsRange from end (length kept.now.items) }
-    requires start { IsStart kept.now.items silencing.from silencing.row }
+    requires silencing { IsSilencingOf kept.now.items silencing }
     ensures { IsStart (splice kept.now.items from end new.now) result.0 result.1 }
 {
+    if silencing.end <= silencing.from && !are_silent(new) {
+        return start_here(kept, from, end, new);
+    }
     if silencing.from <= from {
         return (silencing.from, silencing.row);
     }
     if silencing.from < end || !are_silent(new) {
-        return (0, 0);
+        return start_here(kept, from, end, new);
     }
     match moved_start(silencing, kept, from, end, new) {
         Some(start) => start,
@@ -245,28 +279,25 @@ fn comments_before<'a, A: Allocator + Copy>(
     ensures { IfOk result (λ v. map placed_comment_value v.items ≡ comments_in_sections 0 (take from kept.now.items)) }
 {
     let stop = from.min(silencing.end);
-    let mut comments = Vec::new(alloc);
-    let mut line = silencing.row;
-    for i in silencing.from..stop {
-        let one = kept.get(i);
-        push_comments(line, one.comments(), &mut comments)?;
-        line = line_below(line, one.rows())?;
-    }
-    Ok(comments)
+    comments_between(alloc, kept, silencing.from, stop, silencing.row)
 }
 
-/// What the comments of the sections before one say, where the first line silences nothing.
-pub fn silences_before<A: Allocator + Copy>(
+/// What the comments of the sections before one say, and those of these, of which the first begins at `row`, where the first line of the
+/// text silences nothing.
+pub fn silences_upto<A: Allocator + Copy>(
     alloc: A,
     kept: &Chunks<Kept<A>, A>,
     silencing: Silencing,
     from: usize,
+    row: u32,
+    new: &[Kept<A>],
 ) -> Result<Silences<A>, AllocError>
     requires range { from ≤ length kept.now.items }
     requires silencing { IsSilencingOf kept.now.items silencing }
     ensures file { IfOk result (λ s. is_file_silenced_by s ≡ false) }
-    ensures lines { IfOk result (λ s. is_silenced_at s ≡ is_silenced (comments_in_sections 0 (take from kept.now.items))) }
+    ensures lines { IfOk result (λ s. is_silenced_at s ≡ is_silenced (comments_in_sections 0 (take from kept.now.items) ++ comments_in_sections row new.now)) }
 {
-    let comments = comments_before(alloc, kept, silencing, from)?;
+    let before = comments_before(alloc, kept, silencing, from)?;
+    let comments = with_comments_of(before, row, new)?;
     Silences::read(alloc, "", &comments)
 }

@@ -1,23 +1,73 @@
 //! What is found in the touched lines.
-ghost use Rattle.std.specs.Prelude.{◌≡◌, ◌++◌, map, IfOk, OnOk};
+ghost use Rattle.std.specs.Prelude.{◌≡◌, ◌++◌, map, false, IfOk, OnOk};
+ghost use Rattle.std.specs.Option.{option_map};
 ghost use Rattle.yl_config.specs.Config.{levels_of, options_of};
 ghost use Rattle.yl_report.specs.Report.{report_of};
 ghost use Rattle.yl_report.specs.Silence.{is_file_silenced_by, is_silenced_at};
-ghost use Rattle.yl_lint.specs.TextReport.{findings_in_sections, moved};
+ghost use Rattle.yl_sections.specs.Owned.{section_fault_value};
+ghost use Rattle.yl_lint.specs.TextReport.{findings_in_section, findings_in_sections, moved, syntax_finding};
+ghost use Rattle.yl_patch.specs.Settled.{found_by_fault, settled, settled_one};
 ghost use Rattle.yl_patch.specs.There.{found_there, lines_there};
 ghost use Rattle.yl_patch.specs.There as spec;
 
+use crate::sound::has_fault;
 use crate::touched::Ends;
 use std::alloc::{AllocError, Allocator};
 use yl_config::Config;
 use yl_indentation::{IndentationOptions, Measure};
 use yl_lint::{find_in_lines, line_below, push_moved, push_section};
 use yl_report::{Problem, Silences, arrange};
-use yl_sections::Kept;
-use yl_text::{Finding, Lines, RuleId};
+use yl_sections::{Kept, SectionFault};
+use yl_text::{Finding, Lines, Pos, RuleId};
 
-/// Puts what is found in these sections behind the rest; the first begins `down` lines below the first of the text, behind facts of the
-/// measure `before`.
+/// The problem of a fault at this place of a section that begins at `line`.
+fn fault_finding<A: Allocator + Copy>(
+    alloc: A,
+    line: u32,
+    place: Pos,
+    text: &str,
+) -> Result<Finding<A>, AllocError>
+    ensures { IfOk result (λ f. f ≡ moved line (syntax_finding place text.now)) }
+{
+    let message = format!(in alloc; "syntax error: {text}")?;
+    let at = u64::from(line) + (u64::from(place.line) + 1);
+    let column = u64::from(place.col) + 1;
+    Ok(Finding::new(at, column, RuleId::Syntax, message))
+}
+
+/// Puts the problem of a fault of a section that begins at `line` behind the rest, where it has a place of the section.
+fn push_fault<A: Allocator + Copy>(
+    alloc: A,
+    line: u32,
+    fault: Option<SectionFault>,
+    found: &mut Vec<Finding<A>, A>,
+) -> Result<(), AllocError>
+    ensures { OnOk result (found.new.items ≡ found.old.items ++ map (moved line) (found_by_fault (option_map section_fault_value fault))) }
+{
+    if let Some(SectionFault::Here(place, text)) = fault {
+        found.push(fault_finding(alloc, line, place, text)?)?;
+    }
+    Ok(())
+}
+
+/// Puts what is found in a section that is shown behind the rest, its fault too.
+fn push_shown<A: Allocator + Copy>(
+    alloc: A,
+    options: &IndentationOptions,
+    whole: Measure,
+    line: u32,
+    before: Measure,
+    one: &Kept<A>,
+    found: &mut Vec<Finding<A>, A>,
+) -> Result<(), AllocError>
+    ensures { OnOk result (found.new.items ≡ found.old.items ++ findings_in_section options.now whole line before (settled_one false one.now)) }
+{
+    push_fault(alloc, line, one.fault(), found)?;
+    push_section(alloc, options, whole, line, before, one, found)
+}
+
+/// Puts what is found in these sections behind the rest, up to the first with a fault; the first begins `down` lines below the first of
+/// the text, behind facts of the measure `before`.
 fn push_sections<A: Allocator + Copy>(
     alloc: A,
     options: &IndentationOptions,
@@ -27,12 +77,15 @@ fn push_sections<A: Allocator + Copy>(
     kept: &[Kept<A>],
     found: &mut Vec<Finding<A>, A>,
 ) -> Result<(), AllocError>
-    ensures { OnOk result (found.new.items ≡ found.old.items ++ findings_in_sections options.now whole down before kept.now) }
+    ensures { OnOk result (found.new.items ≡ found.old.items ++ findings_in_sections options.now whole down before (settled kept.now)) }
 {
     let mut line = down;
     let mut here = before;
     for one in kept {
-        push_section(alloc, options, whole, line, here, one, found)?;
+        push_shown(alloc, options, whole, line, here, one, found)?;
+        if has_fault(one) {
+            return Ok(());
+        }
         line = line_below(line, one.rows())?;
         here = here.and_later(one.measure());
     }
@@ -75,7 +128,7 @@ fn find_there<L: Lines>(
     before: Measure,
     kept: &[Kept<L::Alloc>],
 ) -> Result<Vec<Finding<L::Alloc>, L::Alloc>, AllocError>
-    ensures { IfOk result (λ v. v.items ≡ map (moved down) (found_there (options_of config.now) ends whole before (L.rows lines.now) kept.now)) }
+    ensures { IfOk result (λ v. v.items ≡ map (moved down) (found_there (options_of config.now) ends whole before (L.rows lines.now) (settled kept.now))) }
 {
     let in_lines = find_in_some_lines(alloc, config, ends, lines)?;
     let mut found = Vec::new(alloc);
@@ -99,7 +152,7 @@ pub fn problems_there<L: Lines>(
     silences: &Silences<L::Alloc>,
 ) -> Result<Vec<Problem<L::Alloc>, L::Alloc>, AllocError>
     ensures { IfOk result (λ v. v.items ≡ report_of (levels_of config.now) (is_file_silenced_by silences.now) (is_silenced_at silences.now)
-        (map (moved down) (found_there (options_of config.now) ends whole before (L.rows lines.now) kept.now))) }
+        (map (moved down) (found_there (options_of config.now) ends whole before (L.rows lines.now) (settled kept.now)))) }
 {
     let found = find_there(alloc, config, ends, lines, down, whole, before, kept)?;
     arrange(alloc, found, config.levels(), silences)

@@ -7,6 +7,8 @@ mod edits;
 #[cfg(test)]
 mod ends;
 #[cfg(test)]
+mod faults;
+#[cfg(test)]
 mod growth;
 #[cfg(test)]
 mod refused;

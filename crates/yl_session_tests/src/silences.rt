@@ -121,6 +121,31 @@ const SILENCES: &[Line] = &[
          -- edited\n4:4 too many spaces after colon\n6:4 too many spaces after colon\n6:6 trailing spaces\n\
          -- edited\n6:4 too many spaces after colon\n6:6 trailing spaces\n",
     ),
+    // Comments of the edited document, which stay, come and go.
+    (
+        "---\n# yamllint disable rule:colons\na:  1\n# yamllint enable rule:colons\nb:  1\nc:  1 # yamllint disable-line\n---\nd:  1\n---\ne:  1\n# yamllint disable\nx:  1\n---\nf:  1\n",
+        &[
+            (2, 3, b"a:  1 \n", 3, 1),
+            (5, 6, b"c:  1\n", 3, 2),
+            (2, 2, b"# yamllint disable-line\n", 3, 1),
+            (10, 11, b"e:  1 \n", 3, 1),
+            (11, 12, b"# yamllint disable rule:braces\n", 3, 1),
+            (9, 9, b"# yamllint disable-line\n", 3, 2),
+            (10, 11, b"--- \n", 3, 2),
+            (8, 9, b"d: 1\n", 3, 1),
+            (9, 10, b"", 2, 2),
+        ],
+        "5:4 too many spaces after colon\n8:4 too many spaces after colon\n10:4 too many spaces after colon\n\
+         -- edited\n3:6 trailing spaces\n5:4 too many spaces after colon\n8:4 too many spaces after colon\n10:4 too many spaces after colon\n\
+         -- edited\n3:6 trailing spaces\n5:4 too many spaces after colon\n6:4 too many spaces after colon\n8:4 too many spaces after colon\n10:4 too many spaces after colon\n\
+         -- edited\n6:4 too many spaces after colon\n7:4 too many spaces after colon\n9:4 too many spaces after colon\n11:4 too many spaces after colon\n\
+         -- edited\n6:4 too many spaces after colon\n7:4 too many spaces after colon\n9:4 too many spaces after colon\n11:4 too many spaces after colon\n11:6 trailing spaces\n\
+         -- edited\n6:4 too many spaces after colon\n7:4 too many spaces after colon\n9:4 too many spaces after colon\n11:4 too many spaces after colon\n11:6 trailing spaces\n13:4 too many spaces after colon\n15:4 too many spaces after colon\n\
+         -- edited\n6:4 too many spaces after colon\n7:4 too many spaces after colon\n9:4 too many spaces after colon\n12:4 too many spaces after colon\n12:6 trailing spaces\n14:4 too many spaces after colon\n16:4 too many spaces after colon\n\
+         -- edited\n6:4 too many spaces after colon\n7:4 too many spaces after colon\n9:4 too many spaces after colon\n12:4 too many spaces after colon\n12:6 trailing spaces\n14:4 too many spaces after colon\n16:4 too many spaces after colon\n\
+         -- edited\n6:4 too many spaces after colon\n7:4 too many spaces after colon\n12:4 too many spaces after colon\n12:6 trailing spaces\n14:4 too many spaces after colon\n16:4 too many spaces after colon\n\
+         -- edited\n6:4 too many spaces after colon\n7:4 too many spaces after colon\n10:4 trailing spaces\n11:4 too many spaces after colon\n11:6 trailing spaces\n13:4 too many spaces after colon\n15:4 too many spaces after colon\n",
+    ),
 ];
 
 #[test]

@@ -1,20 +1,9 @@
-use Rattle.std.proofs.Common.{◌-◌, ◌++◌, map, take, drop, ap, arith, ◌∙◌}
-use Rattle.yl_lexeme.specs.PlacedComments.{placed_comment_value}
-use Rattle.yl_lint.specs.TextReport.{comments_in_sections, moved_comment}
-use Rattle.yl_patch.proofs.SilencingSections.{comments_done, comments_next}
-use Rattle.yl_patch.proofs.Walks.{got}
+use Rattle.std.proofs.Common.{arith, ◌∙◌}
+use Rattle.yl_patch.proofs.Given.{then_ok}
+use Rattle.yl_patch.proofs.SilencingSections.{comments_known}
 use Rattle.yl_patch.proofs.silencing.comments_before.Goals as goal
-
-pub loop-i-preserved : goal.loop-i-preserved
-loop-i-preserved g c =
-    let ks = c.args.kept.now.items in
-    let s = c.args.silencing in
-    let stop = c.min-stop.result in
-    comments_next ks c.loop-i.i stop c.loop-i.line c.in_ok-line.line c.get-one.result.now (map placed_comment_value c.loop-i.comments.items) (map placed_comment_value c.push_comments.new.comments.items)
-    (comments_in_sections s.row (take (stop - s.from) (drop s.from ks))) c.loop-i-test.true (omega (arith, c.min-stop.ensures, c.requires.range)) (got ks c.loop-i.i c.get-one.result.now c.get-one.ensures)
-    (c.in_ok-push_comments.ensures ∙ ap (λ cs. map placed_comment_value c.loop-i.comments.items ++ map (moved_comment c.loop-i.line) cs) c.comments.ensures) (omega (arith, c.in_ok-line.ensures, c.rows.ensures)) c.loop-i.invariant
 
 pub returns : goal.returns
 returns g c =
-    comments_done c.args.kept.now.items c.args.silencing c.args.from c.min-stop.result c.loop-i.i c.loop-i.line (map placed_comment_value c.loop-i.comments.items) c.requires.silencing c.requires.range (omega (arith, c.min-stop.ensures))
-    (λ l. omega (arith, l, c.min-stop.ensures)) c.loop-i-test.false c.loop-i.invariant
+    then_ok c.comments_between.result c.comments_between.ensures (λ v e.
+    e ∙ comments_known c.args.kept.now.items c.args.silencing c.args.from c.min-stop.result c.requires.silencing c.requires.range (omega (arith, c.min-stop.ensures)) (λ l. omega (arith, l, c.min-stop.ensures)))

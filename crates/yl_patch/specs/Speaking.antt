@@ -1,0 +1,32 @@
+-- Meaning: comments that say the same of all lines behind their sections.
+use Rattle.std.specs.Prelude.{◌≡◌, ◌<◌, ◌==◌, ℕ, Bool, false, not, List, map, codes}
+use Rattle.std.specs.List.{AllByRecursion, filter, starts_with}
+use Rattle.yl_lexeme.specs.Lexeme.{PlacedCommentValue}
+use Rattle.yl_report.specs.Directive.{own_line}
+use Rattle.yl_sections.specs.Kept.{KeptValue}
+use Rattle.yl_lint.specs.TextReport.{comments_in_sections}
+use Rattle.yl_patch.specs.Plain.{row_sum}
+use Rattle.yl_patch.specs.Settled.{settled_below}
+
+-- it may switch rules; one that begins so speaks of one line alone
+abbrev pub may_switch : PlacedCommentValue → Bool
+may_switch c = not (starts_with (λ a b. a == b) c.text (codes "# yamllint disable-line"))
+
+-- the texts of those that may switch rules, in order
+abbrev pub switch_texts : List PlacedCommentValue → List (List ℕ)
+switch_texts cs = map (λ c. c.text) (filter may_switch cs)
+
+-- if it speaks of one line alone, that is one of the first lines, counted from 0
+abbrev pub SpeaksWithin : ℕ → PlacedCommentValue → Type 0
+SpeaksWithin rows c = may_switch c ≡ false → own_line c < rows
+
+-- the comments of these sections speak of no single line behind them, and those that may switch rules have the same texts in both
+pub record SpeakAlike (ls ns : List KeptValue) : Type 0 where
+  pub old : AllByRecursion (SpeaksWithin (row_sum ls)) (comments_in_sections 0 ls)
+  pub new : AllByRecursion (SpeaksWithin (row_sum ns)) (comments_in_sections 0 ns)
+  pub switches : switch_texts (comments_in_sections 0 ls) ≡ switch_texts (comments_in_sections 0 ns)
+
+-- what is shown of these does, where a fault above hides them or not, and all comments of the latter are shown if it does not
+pub record SpeakAsShown (hidden : Bool) (ls ns : List KeptValue) : Type 0 where
+  pub alike : SpeakAlike (settled_below hidden ls) (settled_below hidden ns)
+  pub shown : hidden ≡ false → (line : ℕ) → comments_in_sections line ns ≡ comments_in_sections line (settled_below false ns)

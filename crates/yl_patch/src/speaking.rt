@@ -1,0 +1,133 @@
+//! Whether comments say the same of all lines behind their sections.
+ghost use Rattle.std.specs.Prelude.{◌≡◌, ◌-◌, true, length, map, take, drop, IfOk};
+ghost use Rattle.std.specs.List.{AllByRecursion, filter};
+ghost use Rattle.yl_text.specs.Store.{IsRange};
+ghost use Rattle.yl_lexeme.specs.PlacedComments.{placed_comment_value};
+ghost use Rattle.yl_report.specs.Directive as directive;
+ghost use Rattle.yl_patch.specs.Speaking.{SpeakAlike, SpeakAsShown, SpeaksWithin};
+ghost use Rattle.yl_patch.specs.Speaking as spec;
+
+use crate::comments::{comments_between, with_comments_of};
+use crate::silencing::{are_both_silent, count_rows_between};
+use crate::sound::{hides, hides_between};
+use crate::touched::count_rows;
+use std::alloc::{AllocError, Allocator};
+use yl_chunks::Chunks;
+use yl_lexeme::PlacedComment;
+use yl_sections::Kept;
+
+/// Whether a comment may switch rules; one that begins so speaks of one line alone.
+fn may_switch(comment: &PlacedComment<'_>) -> bool
+    ensures { result ≡ spec.may_switch (placed_comment_value comment.now) }
+{
+    !comment
+        .text
+        .as_bytes()
+        .starts_with(b"# yamllint disable-line")
+}
+
+/// The line of which a comment speaks that speaks of one alone: its own behind a lexeme, else the next one.
+fn own_line(comment: &PlacedComment<'_>) -> u64
+    ensures { result ≡ directive.own_line (placed_comment_value comment.now) }
+{
+    let line = u64::from(comment.line);
+    if comment.behind.is_some() {
+        line
+    } else {
+        line + 1
+    }
+}
+
+fn speaks_within(comment: &PlacedComment<'_>, rows: u32) -> bool
+    ensures { result ≡ true → SpeaksWithin rows (placed_comment_value comment.now) }
+{
+    may_switch(comment) || own_line(comment) < u64::from(rows)
+}
+
+/// Whether each comment that speaks of one line alone speaks of one of the first lines.
+fn speak_within(comments: &[PlacedComment<'_>], rows: u32) -> bool
+    ensures { result ≡ true → AllByRecursion (SpeaksWithin rows) (map placed_comment_value comments.now) }
+{
+    for comment in comments {
+        if !speaks_within(comment, rows) {
+            return false;
+        }
+    }
+    true
+}
+
+/// Keeps the comments that may switch rules.
+fn retain_switches<A: Allocator>(comments: &mut Vec<PlacedComment<'_>, A>)
+    ensures { map placed_comment_value comments.new.items ≡ filter spec.may_switch (map placed_comment_value comments.old.items) }
+{
+    comments.retain(|comment| may_switch(comment));
+}
+
+fn is_same_text(one: &PlacedComment<'_>, other: &PlacedComment<'_>) -> bool
+    ensures { result ≡ true → (placed_comment_value one.now).text ≡ (placed_comment_value other.now).text }
+{
+    one.text == other.text
+}
+
+/// Whether these comments have the same texts in the same order.
+fn have_same_texts(one: &[PlacedComment<'_>], other: &[PlacedComment<'_>]) -> bool
+    ensures { result ≡ true → map (λ c. c.text) (map placed_comment_value one.now) ≡ map (λ c. c.text) (map placed_comment_value other.now) }
+{
+    if one.len() != other.len() {
+        return false;
+    }
+    for i in 0..one.len() {
+        if !is_same_text(&one[i], &other[i]) {
+            return false;
+        }
+    }
+    true
+}
+
+/// Whether the comments of the sections from one on, before `end`, and those of these say the same of all lines behind them.
+fn speak_alike<A: Allocator + Copy>(
+    alloc: A,
+    kept: &Chunks<Kept<A>, A>,
+    from: usize,
+    end: usize,
+    new: &[Kept<A>],
+) -> Result<bool, AllocError>
+    requires { IsRange from end (length kept.now.items) }
+    ensures { IfOk result (λ alike. alike ≡ true → SpeakAlike (take (end - from) (drop from kept.now.items)) new.now) }
+{
+    let Some(old_rows) = count_rows_between(kept, from, end) else {
+        return Ok(false);
+    };
+    let Some(new_rows) = count_rows(new) else {
+        return Ok(false);
+    };
+    let mut gone = comments_between(alloc, kept, from, end, 0)?;
+    let mut here = with_comments_of(Vec::new(alloc), 0, new)?;
+    if !speak_within(&gone, old_rows) || !speak_within(&here, new_rows) {
+        return Ok(false);
+    }
+    retain_switches(&mut gone);
+    retain_switches(&mut here);
+    Ok(have_same_texts(&gone, &here))
+}
+
+/// The same of what is shown of them, where a fault above hides them or not. A fault in them is seen where they are silent.
+pub fn speak_as_shown<A: Allocator + Copy>(
+    alloc: A,
+    hidden: bool,
+    kept: &Chunks<Kept<A>, A>,
+    from: usize,
+    end: usize,
+    new: &[Kept<A>],
+) -> Result<bool, AllocError>
+    requires { IsRange from end (length kept.now.items) }
+    ensures { IfOk result (λ alike. alike ≡ true → SpeakAsShown hidden (take (end - from) (drop from kept.now.items)) new.now) }
+{
+    if hidden {
+        return Ok(true);
+    }
+    if hides(new) || hides_between(kept, from, end) {
+        return Ok(are_both_silent(kept, from, end, new));
+    }
+    speak_alike(alloc, kept, from, end, new)
+}
