@@ -90,9 +90,11 @@ module _ {A : Type 0} (xs : List LexemeValue) (t u : TreeRules A) (out : List Ou
   ended p first count ws closings before shown fault at none are sound tells same fed =
       let told : outcome_of_symbols p first before ws ≡ Events out = subst (λ o. IsOutcome (outcome_of_symbols p first before ws) o out) sound tells in
       let whole : outcome_of_symbols p count [] closings ≡ Events out =
-      ap (λ vs. outcome_of_symbols p count [] vs) (sym are) ∙ (ap (λ os. outcome_of_symbols p count os ws) (sym none) ∙ (ap (λ k. outcome_of_symbols p k before ws) (sym at) ∙ told)) in
-      (ap fault_told whole, λ all finds. finds_all (outcome_of_symbols p count [] closings) all whole
-      (subst (λ (os : List Outline). (es : List EventValue) (found : List FindingValue) → Finds t (map (event_of_outline xs) os ++ es) found → Finds u es found) same fed) finds)
+      ap (λ vs. outcome_of_symbols p count [] vs) (sym are) ∙ (ap (λ os. outcome_of_symbols p count os ws) (sym none) ∙ (ap (λ k. outcome_of_symbols p k before ws) (sym at) ∙ told)) in (
+        ap fault_told whole,
+        λ all finds. finds_all (outcome_of_symbols p count [] closings) all whole
+            (subst (λ (os : List Outline). (es : List EventValue) (found : List FindingValue) → Finds t (map (event_of_outline xs) os ++ es) found → Finds u es found) same fed) finds,
+      )
 
 -- ---- keys
 
