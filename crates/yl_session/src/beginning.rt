@@ -35,7 +35,7 @@ fn with_lent<'a, A: Allocator + Copy>(
 
 /// The records of a text, what is kept of its sections and known of all of them, places among them, and its report.
 #[derive(Drop)]
-pub struct Beginning<A: Allocator> {
+pub struct OpenedText<A: Allocator> {
     pub records: Chunks<Record<A>, A>,
     pub kept: Chunks<Kept<A>, A>,
     pub places: Vec<Place, A>,
@@ -63,7 +63,7 @@ pub fn begin<S: LineStore>(
     alloc: S::Alloc,
     config: &Config,
     store: &S,
-) -> Result<Beginning<S::Alloc>, AllocError>
+) -> Result<OpenedText<S::Alloc>, AllocError>
     requires { AreLines (S.rows store.now) }
     ensures records { IfOk result (λ b. b.records.items ≡ records_of (S.rows store.now)) }
     ensures kept { IfOk result (λ b. b.kept.items ≡ kept_of_text config.now (S.rows store.now)) }
@@ -76,7 +76,7 @@ pub fn begin<S: LineStore>(
     let overview = overview_of(&sections);
     let kept = in_chunks(alloc, &mut sections)?;
     let places = places_of(alloc, &kept)?;
-    Ok(Beginning {
+    Ok(OpenedText {
         records,
         kept,
         places,

@@ -11,7 +11,7 @@ ghost use Rattle.yl_patch.specs.Patched.{IsLow, patched};
 ghost use Rattle.yl_session.specs.Runs.{IsNothing};
 ghost use Rattle.yl_session.specs.Work.{IsWork};
 
-use crate::beginning::{Beginning, begin};
+use crate::beginning::{OpenedText, begin};
 use crate::guide::put_kept;
 use crate::planning::{Renewal, make_room, planned};
 use crate::work::Work;
@@ -80,7 +80,7 @@ impl<S: LineStore> Session<S> {
         let Ok(begun) = begin(alloc, &config, &store) else {
             return Err(TextFault::Memory);
         };
-        let Beginning {
+        let OpenedText {
             records,
             kept,
             places,
