@@ -3,3 +3,4 @@ pub mod Marks
 pub mod ByLine
 pub mod Facts
 pub mod FactsByLine
+pub mod SingleKeys

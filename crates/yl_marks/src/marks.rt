@@ -117,7 +117,7 @@ pub fn note_keys<A: Allocator>(
 }
 
 /// A lexeme with its marks.
-fn mark_one<A: Allocator>(
+pub fn mark_one<A: Allocator>(
     m: Marking,
     i: u32,
     collections: &mut Vec<OpenBlock, A>,
