@@ -65,20 +65,22 @@ fn open<A: Allocator>(
     ensures opened { OnOk result (let new = collection_to_open m (reverse collections.old.items) in
         symbols.new.items ≡ symbols.old.items ++ opening new i) }
 {
-    if m.piece.depth > 0 || m.piece.kind.is_document_marker() {
+    let is_entry = matches!(m.piece.kind, Kind::Entry);
+    let is_in_mapping = is_in_mapping(m);
+    if m.piece.depth > 0 || !(is_in_mapping || is_entry) || m.piece.kind.is_document_marker() {
         return Ok(());
     }
     let column = m.piece.start.col;
     let innermost = collections.last().copied();
     let here = innermost.is_some_and(|c| c.column == column);
     let in_mapping = innermost.is_some_and(|c| c.column == column && c.is_mapping);
-    if is_in_mapping(m) && !in_mapping {
+    if is_in_mapping && !in_mapping {
         collections.push(OpenBlock {
             is_mapping: true,
             column,
         })?;
         symbols.push(Symbol::OpenMapping(i))?;
-    } else if matches!(m.piece.kind, Kind::Entry) && !here {
+    } else if is_entry && !here {
         collections.push(OpenBlock {
             is_mapping: false,
             column,
@@ -116,7 +118,8 @@ pub fn note_keys<A: Allocator>(
     Ok(())
 }
 
-/// A lexeme with its marks.
+/// A lexeme with its marks. It stands in its callers' loops, so that the lexeme is not copied for it.
+#[inline(always)]
 pub fn mark_one<A: Allocator>(
     m: Marking,
     i: u32,
@@ -126,7 +129,9 @@ pub fn mark_one<A: Allocator>(
     ensures left { OnOk result (reverse collections.new.items ≡ open_behind m (reverse collections.old.items)) }
     ensures marks { OnOk result (symbols.new.items ≡ symbols.old.items ++ marks_at m i (reverse collections.old.items)) }
 {
-    close(m, collections, symbols)?;
+    if m.piece.is_first || m.piece.kind.is_document_marker() {
+        close(m, collections, symbols)?;
+    }
     open(m, i, collections, symbols)?;
     if m.begins_key {
         symbols.push(Symbol::BeginKey(i))?;
