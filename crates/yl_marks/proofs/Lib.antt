@@ -9,3 +9,4 @@ pub mod WholeLines
 pub mod Columns
 pub mod Indices
 pub mod SingleKeys
+pub mod Unmarked

@@ -4,3 +4,4 @@ pub mod ByLine
 pub mod Facts
 pub mod FactsByLine
 pub mod SingleKeys
+pub mod Unmarked
