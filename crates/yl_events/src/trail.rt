@@ -184,15 +184,14 @@ fn blocks_behind<A: Allocator>(
     match symbol {
         Symbol::OpenSequence(_) => blocks.push(OpenBlockCollection::InSequence)?,
         Symbol::OpenMapping(_) => blocks.push(OpenBlockCollection::InMapping(false))?,
-        Symbol::BeginKey(_) => set_indentless(false, blocks)?,
+        Symbol::BeginKey(_) | Symbol::One(Kind::Key | Kind::Value, _) => {
+            set_indentless(false, blocks)?
+        }
+        Symbol::One(Kind::Entry, _) => set_indentless(true, blocks)?,
         Symbol::Close => {
             let _ = blocks.pop();
         }
-        Symbol::One(kind, _) => match kind {
-            Kind::Entry => set_indentless(true, blocks)?,
-            Kind::Key | Kind::Value => set_indentless(false, blocks)?,
-            _ => {}
-        },
+        _ => {}
     }
     Ok(())
 }
@@ -201,14 +200,11 @@ fn depth_behind(depth: usize, symbol: Symbol) -> Result<usize, AllocError>
     ensures { IfOk result (λ d. d ≡ depth_behind depth symbol) }
 {
     match symbol {
-        Symbol::One(kind, _) => match kind {
-            Kind::SeqOpen | Kind::MapOpen => match depth.checked_add(1) {
-                None => Err(AllocError),
-                Some(more) => Ok(more),
-            },
-            Kind::SeqClose | Kind::MapClose => Ok(depth.saturating_sub(1)),
-            _ => Ok(depth),
+        Symbol::One(Kind::SeqOpen | Kind::MapOpen, _) => match depth.checked_add(1) {
+            None => Err(AllocError),
+            Some(more) => Ok(more),
         },
+        Symbol::One(Kind::SeqClose | Kind::MapClose, _) => Ok(depth.saturating_sub(1)),
         _ => Ok(depth),
     }
 }
