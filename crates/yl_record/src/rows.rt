@@ -61,6 +61,7 @@ fn put_fault<A: Allocator>(
 }
 
 /// Adds a lexeme that began so many rows before this line, if there is one.
+#[inline(always)]
 fn add_ended<A: Allocator>(
     records: &mut Vec<Record<A>, A>,
     taken: u32,
@@ -81,6 +82,7 @@ fn add_ended<A: Allocator>(
 }
 
 /// Sets a fault in a lexeme that began so many rows before this line, if there is one.
+#[inline(always)]
 fn add_failed<A: Allocator>(
     alloc: A,
     records: &mut Vec<Record<A>, A>,

@@ -93,6 +93,16 @@ fn silent<A: Allocator + Copy>(alloc: A, before: Option<LineState<A>>, sound: So
     }
 }
 
+/// How many lexemes of a row that was read to this end are told late: a scalar that may go on below is, once it has ended.
+fn late_lexemes<A: Allocator + Copy>(end: &RowEnd<A>) -> usize
+    ensures { result ≤ 1 }
+{
+    match end {
+        RowEnd::Opens(_) => 1,
+        RowEnd::Read(_) | RowEnd::Stops(_) => 0,
+    }
+}
+
 /// What a row tells that was read to this end. Puts where it leaves the scanner.
 #[inline(always)]
 fn row_end<A: Allocator + Copy>(
@@ -114,28 +124,39 @@ fn row_end<A: Allocator + Copy>(
     ensures begins { (k : SurroundingsValue) → BeginsAt line (phase_value false k resting.new) }
     ensures halts { (k : SurroundingsValue) → is_halted (phase_value false k resting.new) ≡ is_some result.failed }
 {
-    let mut step = Step {
-        ended: None,
-        lexemes,
-        comment: None,
-        sound,
-        state: state_for(before, sound),
-        failed: None,
-    };
+    let state = state_for(before, sound);
     match end {
-        RowEnd::Read(comment) => {
-            step.comment = comment;
-            step
-        }
+        RowEnd::Read(comment) => Step {
+            ended: None,
+            lexemes,
+            comment,
+            sound,
+            state,
+            failed: None,
+        },
         RowEnd::Opens(scalar) => {
             *resting = Phase::Within(line, scalar);
-            step
+            Step {
+                ended: None,
+                lexemes,
+                comment: None,
+                sound,
+                state,
+                failed: None,
+            }
         }
         RowEnd::Stops(fault) => {
-            keep(&mut step.lexemes, fault);
-            step.failed = Some(FaultAbove { ago: 0, fault });
+            let mut lexemes = lexemes;
+            keep(&mut lexemes, fault);
             *resting = Phase::Halted(reach_of(fault));
-            step
+            Step {
+                ended: None,
+                lexemes,
+                comment: None,
+                sound,
+                state,
+                failed: Some(FaultAbove { ago: 0, fault }),
+            }
         }
     }
 }
@@ -215,7 +236,7 @@ fn read_on<A: Allocator + Copy>(
         fresh,
         row,
     )?;
-    let lexemes = read_lexemes(alloc, room)?;
+    let lexemes = read_lexemes(alloc, room, late_lexemes(&end))?;
     Ok(row_end(line, before, sound, lexemes, end, resting))
 }
 
