@@ -16,11 +16,18 @@ use yl_lexeme::Lexeme;
 use yl_row::PlacedScanFault;
 use yl_scan::{FaultAbove, LexemeAbove, Step};
 
-/// How many spaces a row begins with.
+/// How many bytes at the front are spaces.
+fn leading_spaces_in(bytes: &[u8]) -> usize
+    ensures { result ≡ indentation bytes.now }
+{
+    bytes.iter().take_while(|byte| **byte == b' ').count()
+}
+
+/// How many spaces a row begins with. A space is one byte, and no byte of another character is one.
 fn leading_spaces(text: &str) -> usize
     ensures { result ≡ indentation (chars text.now) }
 {
-    text.chars().take_while(|c| *c == ' ').count()
+    leading_spaces_in(text.as_bytes())
 }
 
 /// The same, of a row that is not too long.
