@@ -76,9 +76,7 @@ fn with_anchor(properties: Option<Properties>, anchor: u32) -> Option<Properties
     match properties {
         None => Some(Properties::Anchored(anchor)),
         Some(Properties::Tagged(tag)) => Some(Properties::TaggedAnchored(tag, anchor)),
-        Some(Properties::Anchored(_)) => None,
-        Some(Properties::AnchoredTagged(_, _)) => None,
-        Some(Properties::TaggedAnchored(_, _)) => None,
+        _ => None,
     }
 }
 
@@ -89,9 +87,7 @@ fn with_tag(properties: Option<Properties>, tag: u32) -> Option<Properties>
     match properties {
         None => Some(Properties::Tagged(tag)),
         Some(Properties::Anchored(anchor)) => Some(Properties::AnchoredTagged(anchor, tag)),
-        Some(Properties::Tagged(_)) => None,
-        Some(Properties::AnchoredTagged(_, _)) => None,
-        Some(Properties::TaggedAnchored(_, _)) => None,
+        _ => None,
     }
 }
 
@@ -120,8 +116,7 @@ fn forms<A: Allocator>(
                 put(Goal::Pairs, goals)
             }
         },
-        Symbol::BeginKey(_) => Ok(false),
-        Symbol::Close => Ok(false),
+        Symbol::BeginKey(_) | Symbol::Close => Ok(false),
         Symbol::One(kind, i) => form_begins(place, properties, kind, i, goals, events),
     }
 }
@@ -169,17 +164,9 @@ fn form_begins<A: Allocator>(
                 goals.push_reserved(Goal::Formed(Where::InBlock(false), None));
                 Ok(true)
             }
-            Where::InBlock(false) => Ok(false),
-            Where::InInline => Ok(false),
+            _ => Ok(false),
         },
-        Kind::Directive
-        | Kind::DocStart
-        | Kind::DocEnd
-        | Kind::Key
-        | Kind::Value
-        | Kind::Comma
-        | Kind::SeqClose
-        | Kind::MapClose => Ok(false),
+        _ => Ok(false),
     }
 }
 
@@ -192,15 +179,10 @@ fn closes<A: Allocator>(
 ) -> Result<bool, AllocError>
     ensures { IfOk result (λ taken. AnswersTaking (closing_turn bracket kind) taken goals.old.items goals.new.items events.old.items events.new.items) }
 {
-    match bracket {
-        BracketKind::Square => match kind {
-            Kind::SeqClose => tell(bare(Shape::SequenceEnd, None), events),
-            _ => Ok(false),
-        },
-        BracketKind::Curly => match kind {
-            Kind::MapClose => tell(bare(Shape::MappingEnd, None), events),
-            _ => Ok(false),
-        },
+    match (bracket, kind) {
+        (BracketKind::Square, Kind::SeqClose) => tell(bare(Shape::SequenceEnd, None), events),
+        (BracketKind::Curly, Kind::MapClose) => tell(bare(Shape::MappingEnd, None), events),
+        _ => Ok(false),
     }
 }
 
@@ -306,15 +288,12 @@ fn take_entries<A: Allocator>(
     ensures { IfOk result (λ taken. AnswersTaking (takes Goal.Entries symbol) taken goals.old.items goals.new.items events.old.items events.new.items) }
 {
     match symbol {
-        Symbol::One(kind, _) => match kind {
-            Kind::Entry => {
-                goals.reserve(2)?;
-                goals.push_reserved(Goal::Entries);
-                goals.push_reserved(Goal::Formed(Where::InBlock(false), None));
-                Ok(true)
-            }
-            _ => Ok(false),
-        },
+        Symbol::One(Kind::Entry, _) => {
+            goals.reserve(2)?;
+            goals.push_reserved(Goal::Entries);
+            goals.push_reserved(Goal::Formed(Where::InBlock(false), None));
+            Ok(true)
+        }
         Symbol::Close => tell(bare(Shape::SequenceEnd, None), events),
         _ => Ok(false),
     }
@@ -337,23 +316,20 @@ fn take_pairs<A: Allocator>(
             goals.push_reserved(Goal::Formed(Where::InInline, None));
             Ok(true)
         }
-        Symbol::One(kind, _) => match kind {
-            Kind::Key => {
-                goals.reserve(3)?;
-                goals.push_reserved(Goal::Pairs);
-                goals.push_reserved(Goal::ValueOf(Where::InBlock(true)));
-                goals.push_reserved(Goal::Formed(Where::InBlock(true), None));
-                Ok(true)
-            }
-            Kind::Value => {
-                add(bare(Shape::Empty, None), events)?;
-                goals.reserve(2)?;
-                goals.push_reserved(Goal::Pairs);
-                goals.push_reserved(Goal::Formed(Where::InBlock(true), None));
-                Ok(true)
-            }
-            _ => Ok(false),
-        },
+        Symbol::One(Kind::Key, _) => {
+            goals.reserve(3)?;
+            goals.push_reserved(Goal::Pairs);
+            goals.push_reserved(Goal::ValueOf(Where::InBlock(true)));
+            goals.push_reserved(Goal::Formed(Where::InBlock(true), None));
+            Ok(true)
+        }
+        Symbol::One(Kind::Value, _) => {
+            add(bare(Shape::Empty, None), events)?;
+            goals.reserve(2)?;
+            goals.push_reserved(Goal::Pairs);
+            goals.push_reserved(Goal::Formed(Where::InBlock(true), None));
+            Ok(true)
+        }
         Symbol::Close => tell(bare(Shape::MappingEnd, None), events),
         _ => Ok(false),
     }
@@ -430,27 +406,25 @@ fn leave<A: Allocator>(goal: Goal, events: &mut Vec<Outline, A>) -> Result<bool,
     ensures { IfOk result (λ is_left. AnswersLeaving (leaves goal) is_left events.old.items events.new.items) }
 {
     match goal {
-        Goal::Prefix | Goal::Ending => {}
+        Goal::Prefix
+        | Goal::Ending
+        | Goal::PairEnd(BracketKind::Curly)
+        | Goal::NodeEnd(BracketKind::Square) => {}
         Goal::Formed(Where::InInline, None) => return Ok(false),
         Goal::Formed(_, properties) => add(decorated(properties, Shape::Empty, None), events)?,
         Goal::Indentless => add(bare(Shape::SequenceEnd, None), events)?,
-        Goal::ValueOf(_) => add(bare(Shape::Empty, None), events)?,
+        Goal::ValueOf(_) | Goal::NodeEnd(BracketKind::Curly) => {
+            add(bare(Shape::Empty, None), events)?
+        }
         Goal::PairEnd(BracketKind::Square) => add(bare(Shape::MappingEnd, None), events)?,
-        Goal::PairEnd(BracketKind::Curly) => {}
-        Goal::NodeEnd(BracketKind::Square) => {}
-        Goal::NodeEnd(BracketKind::Curly) => add(bare(Shape::Empty, None), events)?,
-        Goal::Directives
-        | Goal::Entries
-        | Goal::Pairs
-        | Goal::Colon
-        | Goal::Items(_)
-        | Goal::ItemEnd(_) => return Ok(false),
+        _ => return Ok(false),
     }
     Ok(true)
 }
 
 /// Takes a symbol: goals on top that may be left are left until one takes it.
-fn step<A: Allocator>(
+#[inline(never)]
+fn search<A: Allocator>(
     symbol: Symbol,
     goals: &mut Vec<Goal, A>,
     events: &mut Vec<Outline, A>,
@@ -466,6 +440,35 @@ fn step<A: Allocator>(
         }
     }
     Ok(false)
+}
+
+/// The same. What most symbols of a document meet is seen here, where nothing is copied, and all else is left to the search.
+fn step<A: Allocator>(
+    symbol: &Symbol,
+    goals: &mut Vec<Goal, A>,
+    events: &mut Vec<Outline, A>,
+) -> Result<bool, AllocError>
+    ensures { IfOk result (λ taken. AnswersStep (step (reverse goals.old.items) events.old.items symbol.now) taken goals.new.items events.new.items) }
+{
+    match (&goals[..], symbol) {
+        ([.., Goal::Colon], Symbol::One(Kind::Value, _)) => {
+            let _ = goals.pop();
+            Ok(true)
+        }
+        ([.., Goal::Formed(_, None)], Symbol::One(Kind::Scalar(style), i)) => {
+            let _ = goals.pop();
+            add(bare(Shape::Scalar(*style), Some(*i)), events)?;
+            Ok(true)
+        }
+        ([.., Goal::Pairs], Symbol::BeginKey(_)) => {
+            goals.reserve(3)?;
+            goals.push_reserved(Goal::Formed(Where::InBlock(true), None));
+            goals.push_reserved(Goal::Colon);
+            goals.push_reserved(Goal::Formed(Where::InInline, None));
+            Ok(true)
+        }
+        _ => search(*symbol, goals, events),
+    }
 }
 
 /// Leaves all goals, where they may be left.
@@ -494,7 +497,7 @@ pub fn walk<A: Allocator>(
 {
     let mut place = 0usize;
     for symbol in symbols {
-        if !step(*symbol, goals, events)? {
+        if !step(symbol, goals, events)? {
             return Ok(Some(place));
         }
         if let Symbol::One(_, _) = symbol {

@@ -69,6 +69,13 @@ impl<A: Allocator> Trail<A> {
     pub fn pass(&mut self, symbol: Symbol) -> Result<(), AllocError>
         ensures { OnOk result (self.new ≡ trail_behind self.old symbol) }
     {
+        // Most lexemes are scalars, and these open and close nothing.
+        if matches!(symbol, Symbol::One(Kind::Scalar(_) | Kind::Comma, _)) {
+            self.at_directive = false;
+            self.with_anchor = false;
+            self.with_tag = false;
+            return Ok(());
+        }
         let depth = depth_behind(self.depth, symbol)?;
         if matches!(symbol, Symbol::Close) || self.depth == 0 {
             blocks_behind(symbol, &mut self.blocks)?;
@@ -134,11 +141,8 @@ fn anchor_behind(had: bool, symbol: Symbol) -> bool
     ensures { result ≡ anchor_behind had symbol }
 {
     match symbol {
-        Symbol::One(kind, _) => match kind {
-            Kind::Anchor => true,
-            Kind::Tag => had,
-            _ => false,
-        },
+        Symbol::One(Kind::Anchor, _) => true,
+        Symbol::One(Kind::Tag, _) => had,
         _ => false,
     }
 }
@@ -148,11 +152,8 @@ fn tag_behind(had: bool, symbol: Symbol) -> bool
     ensures { result ≡ tag_behind had symbol }
 {
     match symbol {
-        Symbol::One(kind, _) => match kind {
-            Kind::Anchor => had,
-            Kind::Tag => true,
-            _ => false,
-        },
+        Symbol::One(Kind::Anchor, _) => had,
+        Symbol::One(Kind::Tag, _) => true,
         _ => false,
     }
 }
@@ -183,15 +184,14 @@ fn blocks_behind<A: Allocator>(
     match symbol {
         Symbol::OpenSequence(_) => blocks.push(OpenBlockCollection::InSequence)?,
         Symbol::OpenMapping(_) => blocks.push(OpenBlockCollection::InMapping(false))?,
-        Symbol::BeginKey(_) => set_indentless(false, blocks)?,
+        Symbol::BeginKey(_) | Symbol::One(Kind::Key | Kind::Value, _) => {
+            set_indentless(false, blocks)?
+        }
+        Symbol::One(Kind::Entry, _) => set_indentless(true, blocks)?,
         Symbol::Close => {
             let _ = blocks.pop();
         }
-        Symbol::One(kind, _) => match kind {
-            Kind::Entry => set_indentless(true, blocks)?,
-            Kind::Key | Kind::Value => set_indentless(false, blocks)?,
-            _ => {}
-        },
+        _ => {}
     }
     Ok(())
 }
@@ -200,14 +200,11 @@ fn depth_behind(depth: usize, symbol: Symbol) -> Result<usize, AllocError>
     ensures { IfOk result (λ d. d ≡ depth_behind depth symbol) }
 {
     match symbol {
-        Symbol::One(kind, _) => match kind {
-            Kind::SeqOpen | Kind::MapOpen => match depth.checked_add(1) {
-                None => Err(AllocError),
-                Some(more) => Ok(more),
-            },
-            Kind::SeqClose | Kind::MapClose => Ok(depth.saturating_sub(1)),
-            _ => Ok(depth),
+        Symbol::One(Kind::SeqOpen | Kind::MapOpen, _) => match depth.checked_add(1) {
+            None => Err(AllocError),
+            Some(more) => Ok(more),
         },
+        Symbol::One(Kind::SeqClose | Kind::MapClose, _) => Ok(depth.saturating_sub(1)),
         _ => Ok(depth),
     }
 }

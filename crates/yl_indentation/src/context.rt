@@ -1,7 +1,8 @@
 //! What is kept of the elements before a place.
-ghost use Rattle.std.specs.Prelude.{◌≡◌, OnOk, reverse};
+ghost use Rattle.std.specs.Prelude.{◌≡◌, ◌++◌, OnOk, reverse};
 ghost use Rattle.std.specs.Option.{option_to_list};
 ghost use Rattle.yl_indentation.specs.Facts.{is_entry_after, is_checked};
+ghost use Rattle.yl_indentation.specs.declared.element.Element.TheVariants.{Other};
 ghost use Rattle.yl_indentation.specs.Context.{nothing_open, with_lexeme_in, with_lexeme, open_after, after, around, expectation_around, fact_here, fact_in};
 
 use crate::element::{Element, Site};
@@ -173,6 +174,21 @@ impl<A: Allocator> Context<A> {
                 expectation,
             }),
         }
+    }
+
+    /// Adds the fact of a lexeme that is no bracket and no marker, as most are, if its place is
+    /// checked, and goes on after it. The only error is out of memory.
+    pub fn read_other(&mut self, site: Site, facts: &mut Vec<Fact, A>) -> Result<(), AllocError>
+        ensures facts { OnOk result (facts.new.items ≡ facts.old.items ++ fact_in self.old (Other site)) }
+        ensures behind { OnOk result (self.new ≡ after (Other site) self.old) }
+    {
+        if let Some(fact) = self.fact_here(site) {
+            facts.push(fact)?;
+        }
+        note(site.token.kind, &mut self.collections)?;
+        self.just_opened = false;
+        self.latest = Some(site.token);
+        Ok(())
     }
 
     /// The fact of an element, if its place is checked.

@@ -23,6 +23,9 @@ pub fn push_fact<A: Allocator>(
     ensures facts { OnOk result (facts.new.items ≡ facts.old.items ++ fact_in context.old element) }
     ensures context { OnOk result (context.new ≡ after element context.old) }
 {
+    if let Element::Other(site) = element {
+        return context.read_other(site, facts);
+    }
     if let Some(fact) = context.fact(element) {
         facts.push(fact)?;
     }

@@ -1,15 +1,17 @@
 -- Bridge: what the length and the first letter of a word say of it before it is compared.
-use Rattle.std.specs.Prelude.{ℕ, Bool, false, not, ◌&&◌, ◌==◌, nat_le, List, [], ◌∷◌, length, codes}
+use Rattle.std.specs.Prelude.{ℕ, Bool, false, ◌&&◌, ◌||◌, ◌==◌, List, [], ◌∷◌, length, codes}
 use Rattle.std.specs.List.{list_any}
 
--- the letters with which truthy words begin
-abbrev pub first_letters : List ℕ
-first_letters = codes "FNOTYfnoty"
+abbrev pub is_among_letters : ℕ → List ℕ → Bool
+is_among_letters c letters = list_any (λ letter. letter == c) letters
 
-abbrev pub is_first_letter : ℕ → Bool
-is_first_letter c = list_any (λ letter. letter == c) first_letters
+-- the letters with which truthy words begin that have so many letters more
+abbrev pub is_first_letter : ℕ → ℕ → Bool
+is_first_letter more c =
+    (more == 1 && is_among_letters c (codes "NOno")) || (more == 2 && is_among_letters c (codes "OYoy"))
+    || (more == 3 && is_among_letters c (codes "Tt")) || (more == 4 && is_among_letters c (codes "Ff"))
 
--- with two to five letters, of which the first begins some truthy word
+-- with as many letters as some truthy word that begins so
 abbrev pub may_be_truthy : List ℕ → Bool
 may_be_truthy [] = false
-may_be_truthy (c ∷ cs) = not (length cs == 0) && nat_le (length cs) 4 && is_first_letter c
+may_be_truthy (c ∷ cs) = is_first_letter (length cs) c

@@ -5,7 +5,7 @@ ghost use Rattle.yl_lexeme.specs.Lexeme.{is_document_marker};
 ghost use Rattle.yl_layout.specs.DocumentStart.{document_start, forbidden_finding, forbidden_start, is_bare, is_document_before, is_start_marker, forbidden_text, missing_finding, missing_start, missing_text};
 
 use crate::report::report;
-use crate::span::{Place, Span};
+use crate::span::Span;
 use std::alloc::{AllocError, Allocator};
 use yl_lexeme::Kind;
 use yl_text::{Finding, Pos, RuleId};
@@ -43,10 +43,10 @@ fn is_document_before(before: &Option<Span>) -> bool
 }
 
 /// Whether a document begins with its content.
-fn is_bare(place: &Place) -> bool
-    ensures { result ≡ is_bare place.now.before place.now.here }
+fn is_bare(before: &Option<Span>, x: &Span) -> bool
+    ensures { result ≡ is_bare before.now x.now }
 {
-    is_content(place.here.kind) && !is_document_before(&place.before)
+    is_content(x.kind) && !is_document_before(before)
 }
 
 fn is_start(kind: Kind) -> bool
@@ -97,13 +97,14 @@ fn report_forbidden<A: Allocator>(
 
 fn push_missing_start<A: Allocator>(
     problems: &mut Vec<Finding<A>, A>,
-    place: &Place,
+    before: &Option<Span>,
+    x: &Span,
 ) -> Result<(), AllocError>
     ensures { OnOk result (problems.new.items ≡ problems.old.items
-        ++ missing_start place.now.before place.now.here) }
+        ++ missing_start before.now x.now) }
 {
-    if is_bare(place) {
-        report_missing(problems, &place.here)
+    if is_bare(before, x) {
+        report_missing(problems, x)
     } else {
         Ok(())
     }
@@ -126,17 +127,18 @@ fn push_forbidden_start<A: Allocator>(
 pub(crate) fn push_document_start<A: Allocator>(
     problems: &mut Vec<Finding<A>, A>,
     options: &Option<DocumentStartOptions>,
-    place: &Place,
+    before: &Option<Span>,
+    x: &Span,
 ) -> Result<(), AllocError>
     ensures { OnOk result (problems.new.items ≡ problems.old.items
-        ++ document_start options.now place.now.before place.now.here) }
+        ++ document_start options.now before.now x.now) }
 {
     let Some(options) = options else {
         return Ok(());
     };
     if options.present {
-        push_missing_start(problems, place)
+        push_missing_start(problems, before, x)
     } else {
-        push_forbidden_start(problems, &place.here)
+        push_forbidden_start(problems, x)
     }
 }

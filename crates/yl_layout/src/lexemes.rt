@@ -19,26 +19,58 @@ use yl_lexeme::{Kind, LexemeAtLine};
 use yl_marks::KeyFacts;
 use yl_text::Finding;
 
-/// The rules on indicators: at a lexeme of each kind at most one of them finds something.
+/// A lexeme between its neighbours: the one before it, and the first of those behind it.
+fn place_between<A: Allocator>(
+    before: &Option<Span>,
+    here: &Span,
+    behind: &[LexemeAtLine<'_, A>],
+) -> Place
+    ensures before { result.before ≡ before.now }
+    ensures here { result.here ≡ here.now }
+    ensures after { result.after
+        ≡ first_span (map (λ x. lexeme_at_line x.line x.lexeme.now) behind.now) }
+{
+    Place {
+        before: *before,
+        here: *here,
+        after: first_span(behind),
+    }
+}
+
+/// The rules on indicators: at a lexeme of each kind at most one of them finds something. Only where
+/// one is asked are the neighbours looked at.
 fn push_at_indicator<A: Allocator>(
     problems: &mut Vec<Finding<A>, A>,
     options: &LexemeOptions,
-    place: &Place,
+    before: &Option<Span>,
+    here: &Span,
+    behind: &[LexemeAtLine<'_, A>],
 ) -> Result<(), AllocError>
     ensures { OnOk result (problems.new.items ≡ problems.old.items
-        ++ indicator_findings place.now.here.kind options.now
-        place.now.before place.now.here place.now.after) }
+        ++ indicator_findings here.now.kind options.now before.now here.now
+        (first_span (map (λ x. lexeme_at_line x.line x.lexeme.now) behind.now))) }
 {
-    match place.here.kind {
+    match here.kind {
         Kind::MapOpen | Kind::MapClose => {
-            push_brackets(problems, Flow::Mapping, &options.braces, place)
+            let place = place_between(before, here, behind);
+            push_brackets(problems, Flow::Mapping, &options.braces, &place)
         }
         Kind::SeqOpen | Kind::SeqClose => {
-            push_brackets(problems, Flow::Sequence, &options.brackets, place)
+            let place = place_between(before, here, behind);
+            push_brackets(problems, Flow::Sequence, &options.brackets, &place)
         }
-        Kind::Comma => push_commas(problems, &options.commas, place),
-        Kind::Value | Kind::Key => push_colons(problems, &options.colons, place),
-        Kind::Entry => push_hyphens(problems, &options.hyphens, place),
+        Kind::Comma => {
+            let place = place_between(before, here, behind);
+            push_commas(problems, &options.commas, &place)
+        }
+        Kind::Value | Kind::Key => {
+            let place = place_between(before, here, behind);
+            push_colons(problems, &options.colons, &place)
+        }
+        Kind::Entry => {
+            let place = place_between(before, here, behind);
+            push_hyphens(problems, &options.hyphens, &place)
+        }
         Kind::Directive
         | Kind::DocStart
         | Kind::DocEnd
@@ -69,16 +101,19 @@ fn push_values<A: Allocator + Copy>(
 fn push_at<A: Allocator + Copy>(
     problems: &mut Vec<Finding<A>, A>,
     options: &LexemeOptions,
-    place: &Place,
+    before: &Option<Span>,
+    here: &Span,
+    behind: &[LexemeAtLine<'_, A>],
     value: &str,
     key: KeyFacts,
 ) -> Result<(), AllocError>
     ensures { OnOk result (problems.new.items ≡ problems.old.items
-        ++ findings_of options.now place.now.before place.now.here value.now key place.now.after) }
+        ++ findings_of options.now before.now here.now value.now key
+        (first_span (map (λ x. lexeme_at_line x.line x.lexeme.now) behind.now))) }
 {
-    push_at_indicator(problems, options, place)?;
-    push_document_start(problems, &options.document_start, place)?;
-    push_values(problems, options, &place.here, value, key)?;
+    push_at_indicator(problems, options, before, here, behind)?;
+    push_document_start(problems, &options.document_start, before, here)?;
+    push_values(problems, options, here, value, key)?;
     Ok(())
 }
 
@@ -109,12 +144,15 @@ fn problems_of<A: Allocator + Copy>(
     for (i, at) in lexemes.iter().enumerate() {
         let (_, behind) = lexemes.split_at(i + 1);
         let here = span_of(at);
-        let place = Place {
-            before,
-            here,
-            after: first_span(behind),
-        };
-        push_at(&mut problems, options, &place, at.lexeme.value(), keys[i])?;
+        push_at(
+            &mut problems,
+            options,
+            &before,
+            &here,
+            behind,
+            at.lexeme.value(),
+            keys[i],
+        )?;
         before = Some(here);
     }
     Ok(problems)

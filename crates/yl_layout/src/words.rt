@@ -37,14 +37,14 @@ fn word_at(index: usize) -> &'static str
     }
 }
 
-/// Whether some truthy word begins with this letter.
-fn is_first_letter(letter: u8) -> bool
-    ensures { result ≡ is_first_letter letter }
+/// Whether some truthy word begins with this letter and has so many more.
+fn is_first_letter(more: usize, letter: u8) -> bool
+    ensures { result ≡ is_first_letter more letter }
 {
-    matches!(
-        letter,
-        b'F' | b'N' | b'O' | b'T' | b'Y' | b'f' | b'n' | b'o' | b't' | b'y'
-    )
+    (more == 1 && matches!(letter, b'N' | b'O' | b'n' | b'o'))
+        || (more == 2 && matches!(letter, b'O' | b'Y' | b'o' | b'y'))
+        || (more == 3 && matches!(letter, b'T' | b't'))
+        || (more == 4 && matches!(letter, b'F' | b'f'))
 }
 
 /// What the length and the first letter say: whether a word may be truthy.
@@ -53,7 +53,7 @@ fn may_be_truthy(word: &[u8]) -> bool
 {
     match word {
         [] => false,
-        [first, rest @ ..] => !rest.is_empty() && rest.len() <= 4 && is_first_letter(*first),
+        [first, rest @ ..] => is_first_letter(rest.len(), *first),
     }
 }
 

@@ -44,7 +44,7 @@ right_false : (a b : Bool) → (a || b) ≡ false → b ≡ false
 right_false true b h = cc
 right_false false b h = h
 
-abbrev keyed : Token → ℕ → Option KeyedToken → Option ℕ → KeyedToken
+abbrev pub keyed : Token → ℕ → Option KeyedToken → Option ℕ → KeyedToken
 keyed x depth latest key = record {
   kind = x.kind;
   start = x.start;
@@ -55,7 +55,7 @@ keyed x depth latest key = record {
   key = key;
 }
 
-keyless : (x : Token) (depth : ℕ) (latest : Option KeyedToken) (unit : Option KeyStart) → is_value x.kind ≡ false → keyed_token_at x depth latest unit ≡ keyed x depth latest None
+pub keyless : (x : Token) (depth : ℕ) (latest : Option KeyedToken) (unit : Option KeyStart) → is_value x.kind ≡ false → keyed_token_at x depth latest unit ≡ keyed x depth latest None
 keyless x depth latest unit h = ap (λ b. keyed x depth latest (cond b (key_at x.start.col unit) None)) h
 
 not_asked : (count depth : ℕ) (latest : Option KeyedToken) (kept other : KeyUnitValue KeyStart) (xs : List Token) → list_any (λ x. is_value x.kind) xs ≡ false →

@@ -8,3 +8,5 @@ pub mod FactsByLines
 pub mod WholeLines
 pub mod Columns
 pub mod Indices
+pub mod SingleKeys
+pub mod Unmarked

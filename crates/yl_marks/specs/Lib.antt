@@ -3,3 +3,5 @@ pub mod Marks
 pub mod ByLine
 pub mod Facts
 pub mod FactsByLine
+pub mod SingleKeys
+pub mod Unmarked

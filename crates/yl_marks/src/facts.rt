@@ -72,7 +72,7 @@ fn fact_by(ahead: KeyFacts, m: Marking, next: Option<KeyedToken>) -> KeyFacts
 }
 
 /// What is said of the lexeme behind this one.
-fn next_ahead(ahead: KeyFacts, m: Marking) -> KeyFacts
+pub fn next_ahead(ahead: KeyFacts, m: Marking) -> KeyFacts
     ensures { result ≡ next_ahead ahead m }
 {
     KeyFacts {

@@ -1,14 +1,16 @@
 //! The marks of a document and what its keys say of its lexemes, line by line.
 
-ghost use Rattle.std.specs.Prelude.{◌≡◌, ◌++◌, map, OnOk};
+ghost use Rattle.std.specs.Prelude.{◌≡◌, ◌<◌, ◌+◌, ◌^◌, ◌++◌, false, length, map, true, OnOk};
 ghost use Rattle.yl_marks.specs.ByLine.{marks_of_line};
 ghost use Rattle.yl_marks.specs.FactsByLine.{behind_keyed_line, facts_of_line, key_marker_at_start};
 ghost use Rattle.yl_marks.specs.Keys.{lexeme_at_line, token_of};
 ghost use Rattle.yl_marks.specs.Marks.{closings_of_all};
+ghost use Rattle.yl_marks.specs.SingleKeys.{has_single_keys};
 
 use crate::facts::{KeyFacts, push_facts};
 use crate::keys::line_pieces;
 use crate::marks::{close_all, marks, note_keys};
+use crate::single_keys::{has_single_keys, mark_single_keys};
 use crate::symbol::{Earlier, KeyStart, KeyedToken, MOST, OpenBlock, Symbol};
 use crate::token::{Token, token_of};
 use std::alloc::{AllocError, Allocator};
@@ -85,6 +87,55 @@ impl<A: Allocator + Copy> KeyMarker<A> {
         if first.saturating_add(line.len()) > MOST {
             return Err(AllocError);
         }
+        if has_single_keys(line) {
+            return self.read_single_keys(line, symbols, keys);
+        }
+        self.read_any(line, symbols, keys)
+    }
+
+    /// Reads the lexemes of such a line in one pass.
+    fn read_single_keys(
+        &mut self,
+        line: &[LexemeAtLine<'_, A>],
+        symbols: &mut Vec<Symbol, A>,
+        keys: &mut Vec<KeyFacts, A>,
+    ) -> Result<(), AllocError>
+        requires count { self.old.marks.count + length line.now < 2 ^ 32 }
+        requires single { has_single_keys false (map token_of (map (λ x. lexeme_at_line x.line x.lexeme.now) line.now)) ≡ true }
+        ensures marks { OnOk result (symbols.new.items
+            ≡ symbols.old.items ++ marks_of_line self.old.marks (map token_of (map (λ x. lexeme_at_line x.line x.lexeme.now) line.now))) }
+        ensures keys { OnOk result (keys.new.items
+            ≡ keys.old.items ++ facts_of_line self.old (map token_of (map (λ x. lexeme_at_line x.line x.lexeme.now) line.now))) }
+        ensures behind { OnOk result (self.new ≡ behind_keyed_line self.old (map token_of (map (λ x. lexeme_at_line x.line x.lexeme.now) line.now))) }
+    {
+        let (passed, ahead) = mark_single_keys(
+            line,
+            self.earlier,
+            self.ahead,
+            &mut self.collections,
+            symbols,
+            keys,
+        )?;
+        self.earlier = passed;
+        self.ahead = ahead;
+        Ok(())
+    }
+
+    /// Reads the lexemes of any line: first where its keys begin, and then the marks.
+    fn read_any(
+        &mut self,
+        line: &[LexemeAtLine<'_, A>],
+        symbols: &mut Vec<Symbol, A>,
+        keys: &mut Vec<KeyFacts, A>,
+    ) -> Result<(), AllocError>
+        requires { self.old.marks.count + length line.now < 2 ^ 32 }
+        ensures marks { OnOk result (symbols.new.items
+            ≡ symbols.old.items ++ marks_of_line self.old.marks (map token_of (map (λ x. lexeme_at_line x.line x.lexeme.now) line.now))) }
+        ensures keys { OnOk result (keys.new.items
+            ≡ keys.old.items ++ facts_of_line self.old (map token_of (map (λ x. lexeme_at_line x.line x.lexeme.now) line.now))) }
+        ensures behind { OnOk result (self.new ≡ behind_keyed_line self.old (map token_of (map (λ x. lexeme_at_line x.line x.lexeme.now) line.now))) }
+    {
+        let first = self.earlier.count;
         read_tokens(line, &mut self.tokens)?;
         let earlier = line_pieces(&self.tokens, self.earlier, &mut self.unit, &mut self.pieces)?;
         note_keys(&mut self.begins, first, &self.pieces)?;

@@ -78,7 +78,7 @@ pub fn place_of(index: usize, piece: KeyedToken) -> Option<KeyStart>
 }
 
 /// How many lexemes stand before the key of a Value in this column.
-fn key_at(column: u32, key: Option<KeyStart>) -> Option<usize>
+pub fn key_at(column: u32, key: Option<KeyStart>) -> Option<usize>
     ensures { result ≡ key_at column key }
 {
     match key {

@@ -11,6 +11,7 @@ mod keys;
 mod lines;
 mod marker;
 mod marks;
+mod single_keys;
 mod symbol;
 mod token;
 

@@ -1,7 +1,9 @@
 //! The marks of a document.
 
 ghost use Rattle.std.specs.Prelude.{◌≡◌, ◌++◌, ◌<◌, ◌+◌, ◌^◌, ◌||◌, ℕ, length, reverse, false, OnOk, slice_index_or};
-ghost use Rattle.yl_marks.specs.Marks.{is_in_mapping, continues, closes_collection, collections_left, closings, collection_to_open, with_collection, opening, is_at, AreBegins, marks_at, open_behind, marks, open_behind_all, closings_of_all};
+ghost use Rattle.yl_marks.specs.Marks.{is_in_mapping, continues, closes_collection, collections_left, closings, collection_to_open, with_collection, opening, is_at, AreBegins, marks_at, open_behind, marks, open_behind_all, closings_of_all, key_mark};
+ghost use Rattle.yl_marks.specs.Unmarked.{may_have_marks};
+ghost use Rattle.yl_lexeme.specs.Lexeme.{is_entry};
 
 use crate::symbol::{KeyedToken, Marking, OpenBlock, Symbol};
 use std::alloc::{AllocError, Allocator};
@@ -18,10 +20,16 @@ fn is_in_mapping(m: Marking) -> bool
         }
 }
 
+fn is_entry(kind: Kind) -> bool
+    ensures { result ≡ is_entry kind }
+{
+    matches!(kind, Kind::Entry)
+}
+
 fn continues(m: Marking, c: OpenBlock) -> bool
     ensures { result ≡ continues m c }
 {
-    matches!(m.piece.kind, Kind::Entry) || (c.is_mapping && is_in_mapping(m))
+    is_entry(m.piece.kind) || (c.is_mapping && is_in_mapping(m))
 }
 
 /// Whether the lexeme closes the collection.
@@ -78,7 +86,7 @@ fn open<A: Allocator>(
             column,
         })?;
         symbols.push(Symbol::OpenMapping(i))?;
-    } else if matches!(m.piece.kind, Kind::Entry) && !here {
+    } else if is_entry(m.piece.kind) && !here {
         collections.push(OpenBlock {
             is_mapping: false,
             column,
@@ -116,8 +124,38 @@ pub fn note_keys<A: Allocator>(
     Ok(())
 }
 
-/// A lexeme with its marks.
-fn mark_one<A: Allocator>(
+/// The marks of a lexeme of this index, which stand before it.
+fn mark_place<A: Allocator>(
+    m: Marking,
+    i: u32,
+    collections: &mut Vec<OpenBlock, A>,
+    symbols: &mut Vec<Symbol, A>,
+) -> Result<(), AllocError>
+    ensures left { OnOk result (reverse collections.new.items ≡ open_behind m (reverse collections.old.items)) }
+    ensures marks { OnOk result (let new = collection_to_open m (collections_left m (reverse collections.old.items)) in
+        symbols.new.items ≡ symbols.old.items ++ closings m (reverse collections.old.items) ++ opening new i ++ key_mark m.begins_key i) }
+{
+    close(m, collections, symbols)?;
+    open(m, i, collections, symbols)?;
+    if m.begins_key {
+        symbols.push(Symbol::BeginKey(i))?;
+    }
+    Ok(())
+}
+
+/// Whether a lexeme may have marks: it is the first of its line, a document marker or an entry, or stands in a mapping of its column.
+fn may_have_marks(m: Marking) -> bool
+    ensures { result ≡ may_have_marks m }
+{
+    m.piece.is_first
+        || m.piece.kind.is_document_marker()
+        || is_entry(m.piece.kind)
+        || is_in_mapping(m)
+}
+
+/// A lexeme with its marks. Most lexemes have none.
+#[tactic(auto, using(crate::proofs::Unmarked::unmarked_open, crate::proofs::Unmarked::unmarked_marks))]
+pub fn mark_one<A: Allocator>(
     m: Marking,
     i: u32,
     collections: &mut Vec<OpenBlock, A>,
@@ -126,11 +164,11 @@ fn mark_one<A: Allocator>(
     ensures left { OnOk result (reverse collections.new.items ≡ open_behind m (reverse collections.old.items)) }
     ensures marks { OnOk result (symbols.new.items ≡ symbols.old.items ++ marks_at m i (reverse collections.old.items)) }
 {
-    close(m, collections, symbols)?;
-    open(m, i, collections, symbols)?;
-    if m.begins_key {
-        symbols.push(Symbol::BeginKey(i))?;
+    if !may_have_marks(m) {
+        symbols.push(Symbol::One(m.piece.kind, i))?;
+        return Ok(());
     }
+    mark_place(m, i, collections, symbols)?;
     symbols.push(Symbol::One(m.piece.kind, i))?;
     Ok(())
 }

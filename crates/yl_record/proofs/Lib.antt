@@ -7,3 +7,4 @@ mod Keeping
 mod Masked
 mod Put
 mod Steps
+mod Spaces

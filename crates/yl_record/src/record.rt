@@ -119,19 +119,6 @@ impl<A: Allocator> Record<A> {
     }
 }
 
-/// The same lexemes, in no more room than they take.
-fn fitted<A: Allocator + Copy>(lexemes: Vec<Lexeme<A>, A>) -> Result<Vec<Lexeme<A>, A>, AllocError>
-    ensures { IfOk result (λ fitted. fitted.items ≡ lexemes.items) }
-{
-    let mut lexemes = lexemes;
-    if lexemes.len() == lexemes.capacity() {
-        return Ok(lexemes);
-    }
-    let mut fitted = Vec::with_capacity(*lexemes.allocator(), lexemes.len())?;
-    fitted.append(&mut lexemes)?;
-    Ok(fitted)
-}
-
 /// An indentation, and a state if there is one.
 fn beside_of<A: Allocator>(indentation: u32, state: Option<LineState<A>>) -> Beside<A>
     ensures indentation { indentation_beside result ≡ indentation }
@@ -172,7 +159,8 @@ fn with_extra<A: Allocator>(beside: Beside<A>, extra: Box<Extra<A>, A>) -> Besid
     }
 }
 
-/// The record of a row that told this, with its fault and a scalar that ends below it left out.
+/// The record of a row that told this, with its fault and a scalar that ends below it left out. The list is kept as it is: a scanner
+/// makes it no larger than its lexemes and that scalar take.
 pub fn record_of<A: Allocator + Copy>(
     alloc: A,
     indentation: u32,
@@ -182,7 +170,6 @@ pub fn record_of<A: Allocator + Copy>(
 ) -> Result<Record<A>, AllocError>
     ensures { IfOk result (λ r. r ≡ record { indentation = indentation; entry = record { state = state; lexemes = lexemes.items; comment = comment; fault = None } }) }
 {
-    let lexemes = fitted(lexemes)?;
     let beside = beside_of(indentation, state);
     let Some(comment) = comment else {
         return Ok(Record { lexemes, beside });

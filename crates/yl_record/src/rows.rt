@@ -16,11 +16,18 @@ use yl_lexeme::Lexeme;
 use yl_row::PlacedScanFault;
 use yl_scan::{FaultAbove, LexemeAbove, Step};
 
-/// How many spaces a row begins with.
+/// How many bytes at the front are spaces.
+fn leading_spaces_in(bytes: &[u8]) -> usize
+    ensures { result ≡ indentation bytes.now }
+{
+    bytes.iter().take_while(|byte| **byte == b' ').count()
+}
+
+/// How many spaces a row begins with. A space is one byte, and no byte of another character is one.
 fn leading_spaces(text: &str) -> usize
     ensures { result ≡ indentation (chars text.now) }
 {
-    text.chars().take_while(|c| *c == ' ').count()
+    leading_spaces_in(text.as_bytes())
 }
 
 /// The same, of a row that is not too long.
@@ -61,6 +68,7 @@ fn put_fault<A: Allocator>(
 }
 
 /// Adds a lexeme that began so many rows before this line, if there is one.
+#[inline(always)]
 fn add_ended<A: Allocator>(
     records: &mut Vec<Record<A>, A>,
     taken: u32,
@@ -81,6 +89,7 @@ fn add_ended<A: Allocator>(
 }
 
 /// Sets a fault in a lexeme that began so many rows before this line, if there is one.
+#[inline(always)]
 fn add_failed<A: Allocator>(
     alloc: A,
     records: &mut Vec<Record<A>, A>,

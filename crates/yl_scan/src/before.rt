@@ -34,6 +34,7 @@ pub fn state_before<A: Allocator + Copy>(
 }
 
 /// The state of a row, by what stands before it, if that is wanted, and by whether it is sound.
+#[inline(always)]
 pub fn state_for<A: Allocator + Copy>(
     before: Option<LineState<A>>,
     sound: Soundness,

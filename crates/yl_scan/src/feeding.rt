@@ -23,6 +23,7 @@ use crate::room::{Room, read_lexemes};
 use crate::state::LineState;
 use crate::step::{FaultAbove, LexemeAbove, Soundness, Step};
 use std::alloc::{AllocError, Allocator};
+use std::mem;
 use yl_lexeme::{Kind, Lexeme, Style, Surroundings};
 use yl_row::{
     OpenScalar, PlacedScanFault, RowEnd, ScalarReader, ScanFault, first_tab, of_scalar, read_row,
@@ -93,6 +94,16 @@ fn silent<A: Allocator + Copy>(alloc: A, before: Option<LineState<A>>, sound: So
     }
 }
 
+/// How many lexemes of a row that was read to this end are told late: a scalar that may go on below is, once it has ended.
+fn late_lexemes<A: Allocator + Copy>(end: &RowEnd<A>) -> usize
+    ensures { result ≤ 1 }
+{
+    match end {
+        RowEnd::Opens(_) => 1,
+        RowEnd::Read(_) | RowEnd::Stops(_) => 0,
+    }
+}
+
 /// What a row tells that was read to this end. Puts where it leaves the scanner.
 #[inline(always)]
 fn row_end<A: Allocator + Copy>(
@@ -114,28 +125,39 @@ fn row_end<A: Allocator + Copy>(
     ensures begins { (k : SurroundingsValue) → BeginsAt line (phase_value false k resting.new) }
     ensures halts { (k : SurroundingsValue) → is_halted (phase_value false k resting.new) ≡ is_some result.failed }
 {
-    let mut step = Step {
-        ended: None,
-        lexemes,
-        comment: None,
-        sound,
-        state: state_for(before, sound),
-        failed: None,
-    };
+    let state = state_for(before, sound);
     match end {
-        RowEnd::Read(comment) => {
-            step.comment = comment;
-            step
-        }
+        RowEnd::Read(comment) => Step {
+            ended: None,
+            lexemes,
+            comment,
+            sound,
+            state,
+            failed: None,
+        },
         RowEnd::Opens(scalar) => {
             *resting = Phase::Within(line, scalar);
-            step
+            Step {
+                ended: None,
+                lexemes,
+                comment: None,
+                sound,
+                state,
+                failed: None,
+            }
         }
         RowEnd::Stops(fault) => {
-            keep(&mut step.lexemes, fault);
-            step.failed = Some(FaultAbove { ago: 0, fault });
+            let mut lexemes = lexemes;
+            keep(&mut lexemes, fault);
             *resting = Phase::Halted(reach_of(fault));
-            step
+            Step {
+                ended: None,
+                lexemes,
+                comment: None,
+                sound,
+                state,
+                failed: Some(FaultAbove { ago: 0, fault }),
+            }
         }
     }
 }
@@ -215,7 +237,7 @@ fn read_on<A: Allocator + Copy>(
         fresh,
         row,
     )?;
-    let lexemes = read_lexemes(alloc, room)?;
+    let lexemes = read_lexemes(alloc, room, late_lexemes(&end))?;
     Ok(row_end(line, before, sound, lexemes, end, resting))
 }
 
@@ -390,10 +412,9 @@ fn halted_row<A: Allocator + Copy>(
     step
 }
 
-/// Reads a row where the scanner stands in this phase before it, its lexemes into a list whose room is used from row to row. Puts the phase
-/// behind it.
+/// Reads a row where the scanner stood in this phase before it, which was taken out. Puts the phase behind it.
 #[inline(always)]
-pub fn fed_row<A: Allocator + Copy>(
+fn taken_row<A: Allocator + Copy>(
     alloc: A,
     surroundings: &mut Surroundings<'_, A>,
     room: &mut Room<A>,
@@ -430,6 +451,39 @@ pub fn fed_row<A: Allocator + Copy>(
             resting,
         ),
         Phase::Halted(reach) => Ok(halted_row(alloc, before, reach, row, resting)),
+    }
+}
+
+/// Reads a row where the scanner stands in this phase before it, its lexemes into a list whose room is used from row to row. Puts the phase
+/// behind it. Where the scanner stands between lexemes the phase stays in its place, since it is large to move.
+#[inline(always)]
+pub fn fed_row<A: Allocator + Copy>(
+    alloc: A,
+    surroundings: &mut Surroundings<'_, A>,
+    room: &mut Room<A>,
+    line: u32,
+    before: Option<LineState<A>>,
+    row: &[char],
+    resting: &mut Phase<A>,
+) -> Result<Step<A>, AllocError>
+    requires fits { length row.now < 2 ^ 31 }
+    requires in_step { IsInStep line resting.old }
+    ensures told { IfOk result (λ step. (rows : List (List ℕ)) →
+        remaining_output line (phase_value (line == 0) (new_row (surroundings_value surroundings.old)) resting.old) (row.now ∷ rows)
+        ≡ output_with_step line (step_value line (state_before (phase_value (line == 0) (new_row (surroundings_value surroundings.old)) resting.old)) step) (remaining_output (line + 1) (phase_value false (new_row (surroundings_value surroundings.new)) resting.new) rows)) }
+    ensures state { IfOk result (λ step. step.state ≡ state_for before step.sound) }
+    ensures in_step { OnOk result (IsInStep (line + 1) resting.new) }
+    ensures refused { OnErr result (resting.new ≡ Between) }
+    ensures in_text { IfOk result (λ step. BeginsInText line step) }
+    ensures in_order { IfOk result (λ step. (k : SurroundingsValue) → IsInOrder line (begun_at (phase_value (line == 0) (new_row (surroundings_value surroundings.old)) resting.old)) (begun_at (phase_value false k resting.new)) step) }
+    ensures halts { IfOk result (λ step. (k : SurroundingsValue) → is_halted (phase_value false k resting.new) ≡ (is_halted (phase_value (line == 0) (new_row (surroundings_value surroundings.old)) resting.old) || is_some step.failed)) }
+{
+    match resting {
+        Phase::Between => fresh_row(alloc, surroundings, room, line, before, row, resting),
+        Phase::Within(..) | Phase::Halted(_) => {
+            let taken = mem::replace(resting, Phase::Between);
+            taken_row(alloc, surroundings, room, line, before, taken, row, resting)
+        }
     }
 }
 

@@ -1,6 +1,6 @@
 //! Where the lexemes of a row are read to.
 
-ghost use Rattle.std.specs.Prelude.{◌≡◌, IfOk};
+ghost use Rattle.std.specs.Prelude.{◌≡◌, ◌≤◌, IfOk};
 
 use std::alloc::{AllocError, Allocator};
 use std::mem;
@@ -14,24 +14,28 @@ pub struct Room<A: Allocator> {
     pub comes_back: bool,
 }
 
-/// The same lexemes in a new list, in no more room than they take. The list keeps its room.
+/// The same lexemes in a new list, in no more room than they and so many that come late take. The list keeps its room.
 fn fitted<A: Allocator + Copy>(
     alloc: A,
     list: &mut Vec<Lexeme<A>, A>,
+    late: usize,
 ) -> Result<Vec<Lexeme<A>, A>, AllocError>
+    requires { late ≤ 1 }
     ensures { IfOk result (λ lexemes. lexemes.items ≡ list.old.items) }
 {
-    let mut lexemes = Vec::with_capacity(alloc, list.len())?;
+    let mut lexemes = Vec::with_capacity(alloc, list.len() + late)?;
     lexemes.append(list)?;
     Ok(lexemes)
 }
 
-/// The lexemes, to be told: in the list itself where it comes back, and else in no more room than they take.
+/// The lexemes, to be told: in the list itself where it comes back, and else in no more room than they and so many that come late take.
 #[inline(always)]
 pub fn read_lexemes<A: Allocator + Copy>(
     alloc: A,
     room: &mut Room<A>,
+    late: usize,
 ) -> Result<Vec<Lexeme<A>, A>, AllocError>
+    requires { late ≤ 1 }
     ensures { IfOk result (λ lexemes. lexemes.items ≡ room.old.lexemes.items) }
 {
     if room.lexemes.is_empty() {
@@ -40,5 +44,5 @@ pub fn read_lexemes<A: Allocator + Copy>(
     if room.comes_back {
         return Ok(mem::replace(&mut room.lexemes, Vec::new(alloc)));
     }
-    fitted(alloc, &mut room.lexemes)
+    fitted(alloc, &mut room.lexemes, late)
 }

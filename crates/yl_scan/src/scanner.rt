@@ -18,7 +18,6 @@ use crate::state::LineState;
 use crate::step::Step;
 use std::alloc::{AllocError, Allocator};
 use std::marker::Model;
-use std::mem;
 use yl_lexeme::{BracketStack, ColumnStack, Kind, Lexeme, Meter, Surroundings};
 use yl_text::{Row, characters_of};
 
@@ -154,7 +153,6 @@ impl<'a, A: Allocator + Copy> Scanner<'a, A> {
             &mut self.room,
             line,
             before,
-            mem::replace(&mut self.resting, Phase::Between),
             &self.characters,
             &mut self.resting,
         )

@@ -8,7 +8,7 @@ loop-i-preserved g c =
     findings_more (λ x. lexeme_at_line x.line x.lexeme.now) c.args.options.now c.loop-i.before
     c.args.lexemes.now _ c.args.keys.now c.loop-i.i c.index-lexemes-i.result _ _ _ _ _ _
     c.loop-i.problems.items _ _ c.loop-i-test.true (omega arith) c.index-lexemes-i.is
-    c.split_at.ensures.back c.first_span.ensures c.span_of-here.ensures c.value.ensures
+    c.split_at.ensures.back refl c.span_of-here.ensures c.value.ensures
     c.in_ok-push_at.ensures refl c.loop-i.invariant
 
 pub returns : goal.returns

@@ -21,11 +21,9 @@ returns-clause-told g c = IfOk-weaker c.fed_row.result _ _ (λ step told rows.
     let row = chars c.args.text.now in
     let below = remaining_output (s.line + 1) (phase_value (eqb (s.line + 1) 0) (new_row (surroundings_value c.fed_row.new.surroundings)) c.fed_row.new.resting) rows in
     ap (λ (v : ScannerValue). remaining_output v.line v.stand (row ∷ rows)) (sym c.self.view_is)
-    ∙ ap (λ resting. remaining_output s.line (stand resting) (row ∷ rows)) (sym c.replace.ensures.value)
-    ∙ ap (λ cs. remaining_output s.line (stand c.replace.result) (cs ∷ rows)) (sym (c.deref.ensures.value ∙ c.in_ok-characters_of.ensures.ok))
+    ∙ ap (λ cs. remaining_output s.line (stand s.resting) (cs ∷ rows)) (sym (c.deref.ensures.value ∙ c.in_ok-characters_of.ensures.ok))
     ∙ told rows
-    ∙ ap (λ b. output_with_step s.line (step_value s.line (state_before (stand c.replace.result)) step) (remaining_output (s.line + 1) (phase_value b (new_row (surroundings_value c.fed_row.new.surroundings)) c.fed_row.new.resting) rows)) (sym (past_start s.line))
-    ∙ ap (λ resting. output_with_step s.line (step_value s.line (state_before (stand resting)) step) below) c.replace.ensures.value
+    ∙ ap (λ b. output_with_step s.line (step_value s.line (state_before (stand s.resting)) step) (remaining_output (s.line + 1) (phase_value b (new_row (surroundings_value c.fed_row.new.surroundings)) c.fed_row.new.resting) rows)) (sym (past_start s.line))
     ∙ ap (λ (v : ScannerValue). output_with_step v.line (step_value v.line (state_before v.stand) step) below) c.self.view_is) c.fed_row.ensures.told
 
 pub returns-clause-state : goal.returns-clause-state
@@ -39,9 +37,9 @@ returns-clause-in_order g c = IfOk-weaker c.fed_row.result _ _ (λ step order.
     let s = c.self.inside in
     let k = new_row (surroundings_value c.fed_row.new.surroundings) in
     let stand = phase_value (eqb s.line 0) (new_row (surroundings_value s.surroundings)) in
-    same_order s.line _ (begun_at (stand c.replace.result)) _ (begun_at (phase_value false k c.fed_row.new.resting)) _ step
+    same_order s.line _ (begun_at (stand s.resting)) _ (begun_at (phase_value false k c.fed_row.new.resting)) _ step
     (ap (λ (v : ScannerValue). v.line) c.self.view_is)
-    (ap (λ resting. begun_at (stand resting)) c.replace.ensures.value ∙ ap (λ (v : ScannerValue). begun_at v.stand) c.self.view_is)
+    (ap (λ (v : ScannerValue). begun_at v.stand) c.self.view_is)
     (ap (λ b. begun_at (phase_value b k c.fed_row.new.resting)) (sym (past_start s.line)))
     (order k)) c.fed_row.ensures.in_order
 
@@ -49,8 +47,6 @@ pub returns-clause-halts : goal.returns-clause-halts
 returns-clause-halts g c = IfOk-weaker c.fed_row.result _ _ (λ step halts.
     let s = c.self.inside in
     let k = new_row (surroundings_value c.fed_row.new.surroundings) in
-    let stand = phase_value (eqb s.line 0) (new_row (surroundings_value s.surroundings)) in
     ap (λ b. is_halted (phase_value b k c.fed_row.new.resting)) (past_start s.line)
     ∙ halts k
-    ∙ ap (λ resting. is_halted (stand resting) || is_some step.failed) c.replace.ensures.value
     ∙ ap (λ (v : ScannerValue). is_halted v.stand || is_some step.failed) c.self.view_is) c.fed_row.ensures.halts

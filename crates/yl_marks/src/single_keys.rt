@@ -1,0 +1,116 @@
+//! Lines in which each key is one scalar or alias, directly before its Value. Most lines are such, and one pass over their lexemes marks them.
+
+ghost use Rattle.std.specs.Prelude.{◌≡◌, ◌<◌, ◌≤◌, ◌+◌, ◌^◌, ◌++◌, length, map, reverse, false, None, OnOk, IfOk};
+ghost use Rattle.yl_marks.specs.Keys.{lexeme_at_line, token_of};
+ghost use Rattle.yl_marks.specs.SingleKeys.{facts_of, has_single_keys, is_key_next, leaf_place, marks_of, may_follow, open_behind_each, single_fact, single_markings, HasPassed};
+
+use crate::facts::{KeyFacts, next_ahead};
+use crate::keys::{depth_behind, key_at, piece_at, place_of};
+use crate::marks::mark_one;
+use crate::symbol::{Earlier, KeyStart, KeyedToken, Marking, OpenBlock, Symbol};
+use crate::token::token_of;
+use std::alloc::{AllocError, Allocator};
+use yl_lexeme::{Kind, LexemeAtLine};
+
+/// Whether a lexeme may stand in such a line: it is no property, and no Value directly behind a closing bracket.
+fn may_follow(is_behind_closing: bool, kind: Kind) -> bool
+    ensures { result ≡ may_follow is_behind_closing kind }
+{
+    match kind {
+        Kind::Anchor | Kind::Tag => false,
+        Kind::Value => !is_behind_closing,
+        _ => true,
+    }
+}
+
+/// Whether each key of a line is one scalar or alias, directly before its Value.
+pub fn has_single_keys<A: Allocator>(line: &[LexemeAtLine<'_, A>]) -> bool
+    ensures { result ≡ has_single_keys false (map token_of (map (λ x. lexeme_at_line x.line x.lexeme.now) line.now)) }
+{
+    let mut is_behind_closing = false;
+    let mut rest = line;
+    while let [at, behind @ ..] = rest {
+        let kind = at.lexeme.kind();
+        if !may_follow(is_behind_closing, kind) {
+            return false;
+        }
+        is_behind_closing = kind.is_closing();
+        rest = behind;
+    }
+    true
+}
+
+/// The place of a scalar or an alias of this index, if a key may begin at it.
+fn leaf_place(index: usize, piece: KeyedToken) -> Option<KeyStart>
+    ensures { result ≡ leaf_place index piece }
+{
+    match piece.kind {
+        Kind::Scalar(_) | Kind::Alias => place_of(index, piece),
+        _ => None,
+    }
+}
+
+/// Whether a Value comes next whose key begins at this place.
+fn is_key_next<A: Allocator>(place: Option<KeyStart>, behind: &[LexemeAtLine<'_, A>]) -> bool
+    ensures { result ≡ is_key_next place (map token_of (map (λ x. lexeme_at_line x.line x.lexeme.now) behind.now)) }
+{
+    match behind {
+        [] => false,
+        [next, ..] => {
+            matches!(next.lexeme.kind(), Kind::Value)
+                && key_at(next.lexeme.start().col, place).is_some()
+        }
+    }
+}
+
+/// The facts of a lexeme of such a line. `ahead` is what the lexemes before it say of it.
+fn single_fact(ahead: KeyFacts, m: Marking) -> KeyFacts
+    ensures { result ≡ single_fact ahead m }
+{
+    KeyFacts {
+        is_key: m.begins_key | ahead.is_key,
+        has_tag: !m.begins_key & ahead.has_tag,
+    }
+}
+
+/// Puts the lexemes of such a line with their marks behind the symbols, and their facts behind `keys`. Answers with what counts of them and
+/// the earlier ones, and what they say of the lexeme behind them.
+pub fn mark_single_keys<A: Allocator>(
+    line: &[LexemeAtLine<'_, A>],
+    mut earlier: Earlier,
+    mut ahead: KeyFacts,
+    collections: &mut Vec<OpenBlock, A>,
+    symbols: &mut Vec<Symbol, A>,
+    keys: &mut Vec<KeyFacts, A>,
+) -> Result<(Earlier, KeyFacts), AllocError>
+    requires count { earlier.count + length line.now < 2 ^ 32 }
+    requires depth { earlier.depth ≤ earlier.count }
+    ensures marks { OnOk result (let ms = single_markings earlier.count earlier.depth earlier.latest None (map token_of (map (λ x. lexeme_at_line x.line x.lexeme.now) line.now)) in
+        symbols.new.items ≡ symbols.old.items ++ marks_of (reverse collections.old.items) earlier.count ms) }
+    ensures left { OnOk result (let ms = single_markings earlier.count earlier.depth earlier.latest None (map token_of (map (λ x. lexeme_at_line x.line x.lexeme.now) line.now)) in
+        reverse collections.new.items ≡ open_behind_each (reverse collections.old.items) ms) }
+    ensures facts { OnOk result (let ms = single_markings earlier.count earlier.depth earlier.latest None (map token_of (map (λ x. lexeme_at_line x.line x.lexeme.now) line.now)) in
+        keys.new.items ≡ keys.old.items ++ facts_of ahead ms) }
+    ensures behind { IfOk result (λ r. HasPassed earlier ahead (map token_of (map (λ x. lexeme_at_line x.line x.lexeme.now) line.now)) r.0 r.1) }
+{
+    let mut place = None;
+    let mut rest = line;
+    while let [at, behind @ ..] = rest {
+        let piece = piece_at(token_of(at), earlier, place);
+        place = leaf_place(earlier.count, piece);
+        let m = Marking {
+            piece,
+            begins_key: is_key_next(place, behind),
+        };
+        mark_one(m, earlier.count as u32, collections, symbols)?;
+        keys.push(single_fact(ahead, m))?;
+        ahead = next_ahead(ahead, m);
+        earlier = Earlier {
+            count: earlier.count + 1,
+            depth: depth_behind(piece.kind, earlier.depth),
+            latest: Some(piece),
+        };
+        rest = behind;
+    }
+    Ok((earlier, ahead))
+}
