@@ -1,10 +1,10 @@
 //! What edits are answered, over both stores: the report before them and after each, and that each took no more work than it may.
+use crate::sessions::{edit, opened};
 use crate::shown::{name_of, report_shown};
-use std::alloc::Global;
+use std::alloc::{AllocError, Global};
 use std::process::Abort;
 use std::test::Fail;
 use yl_chunks::ChunkStore;
-use yl_config::Config;
 use yl_session::{Session, Work};
 use yl_text::{LineStore, PlainStore, TextFault};
 
@@ -18,41 +18,76 @@ fn answer_shown(
     answer: Result<Work, TextFault>,
     scanned: u32,
     documents: u32,
-) -> Result<String, Fail> {
-    let name = match answer {
-        Ok(work) if work.scanned <= scanned && work.documents <= documents => "edited",
-        Ok(work) => {
-            return Ok(format!(in alloc; "scanned {}, documents {}", work.scanned, work.documents)?);
+) -> Result<String, AllocError> {
+    match answer {
+        Ok(work) if work.scanned <= scanned && work.documents <= documents => {
+            String::from_str(alloc, "edited")
         }
-        Err(fault) => name_of(fault),
-    };
-    Ok(String::from_str(alloc, name)?)
+        Ok(work) => { format!(in alloc; "scanned {}, documents {}", work.scanned, work.documents) }
+        Err(fault) => String::from_str(alloc, name_of(fault)),
+    }
 }
 
-// Makes the edits, and shows the report of the text before them and after each, or why one was refused.
-fn transcript<S: LineStore<Alloc = Global>>(
+// Makes an edit, and shows how it was answered and the report behind it.
+fn edit_shown<S: LineStore>(
     alloc: Global,
-    text: &str,
+    session: &mut Session<S>,
+    change: &Change,
+) -> Result<String, AllocError> {
+    let (a, b, bytes, scanned, documents) = *change;
+    let answer = edit(session, a, b, bytes);
+    let answered = answer_shown(alloc, answer, scanned, documents)?;
+    let report = report_shown(alloc, session)?;
+    format!(in alloc; "-- {answered}\n{report}")
+}
+
+// Makes the edits, and shows the report before them and after each, or why one was refused.
+fn edits_shown<S: LineStore>(
+    alloc: Global,
+    session: &mut Session<S>,
     changes: &[Change],
-) -> Result<String, Fail> {
-    let mut session: Session<S> = Session::open(alloc, Config::standard(), text.as_bytes())?;
-    let mut shown = report_shown(alloc, session.problems())?;
-    for (a, b, bytes, scanned, documents) in changes {
-        let answer = session.edit(*a, *b, bytes);
-        let answered = answer_shown(alloc, answer, *scanned, *documents)?;
-        let report = report_shown(alloc, session.problems())?;
-        let piece = format!(in alloc; "-- {answered}\n{report}")?;
+) -> Result<String, AllocError> {
+    let mut shown = report_shown(alloc, session)?;
+    for change in changes {
+        let piece = edit_shown(alloc, session, change)?;
         shown.push_str(piece.as_str())?;
     }
     Ok(shown)
 }
 
-// Over both stores.
-fn transcripts(alloc: Global, text: &str, changes: &[Change]) -> Result<[String; 2], Fail> {
-    Ok([
-        transcript::<PlainStore<Global>>(alloc, text, changes)?,
-        transcript::<ChunkStore<Global>>(alloc, text, changes)?,
-    ])
+// The same for a session that is opened over a text.
+fn transcript<S: LineStore<Alloc = Global>>(
+    alloc: Global,
+    text: &str,
+    changes: &[Change],
+) -> Result<String, Fail> {
+    let mut session: Session<S> = opened(alloc, text.as_bytes())?;
+    Ok(edits_shown(alloc, &mut session, changes)?)
+}
+
+// Whether that is shown over a store.
+fn check_over<S: LineStore<Alloc = Global>>(
+    rt: &impl Abort,
+    alloc: Global,
+    text: &str,
+    changes: &[Change],
+    wanted: &str,
+) -> Result<(), Fail> {
+    let shown = transcript::<S>(alloc, text, changes)?;
+    assert_eq!(rt; shown.as_str(), wanted, "{text:?}");
+    Ok(())
+}
+
+// Whether that is shown over both stores.
+fn check(
+    rt: &impl Abort,
+    alloc: Global,
+    text: &str,
+    changes: &[Change],
+    wanted: &str,
+) -> Result<(), Fail> {
+    check_over::<PlainStore<Global>>(rt, alloc, text, changes, wanted)?;
+    check_over::<ChunkStore<Global>>(rt, alloc, text, changes, wanted)
 }
 
 // A text, edits, and what is shown.
@@ -60,14 +95,12 @@ pub(crate) type Line = (&'static str, &'static [Change], &'static str);
 
 pub(crate) fn check_rows(rt: &impl Abort, alloc: Global, rows: &[Line]) -> Result<(), Fail> {
     for (text, changes, wanted) in rows {
-        for shown in transcripts(alloc, text, changes)? {
-            assert_eq!(rt; shown.as_str(), *wanted, "{text:?}");
-        }
+        check(rt, alloc, text, changes, wanted)?;
     }
     Ok(())
 }
 
-const EDITED: &[Line] = &[
+static EDITED: &[Line] = &[
     // A plain scalar goes on into a new line.
     ("---\n- a\n- b\n", &[(2, 3, b"  b\n", 3, 1)], "-- edited\n"),
     // A quote is opened, and closed again.
@@ -162,7 +195,7 @@ fn edits_renew_the_report(rt: HostRuntime) -> Result<(), Fail> {
 }
 
 // Where documents begin and end, what a fault hides, and what comments silence is another after these edits.
-const CUT: &[Line] = &[
+static CUT: &[Line] = &[
     // A document begins with a scalar that was not closed. What the fault hid in the one before is shown, and that is not derived again.
     (
         "---\nk: 1\nk: 2\n...\n'x\n",
@@ -267,7 +300,7 @@ const CUT: &[Line] = &[
 ];
 
 // Lines are put in and taken out before, inside and behind what has problems: what stands behind them moves.
-const MOVED: &[Line] = &[
+static MOVED: &[Line] = &[
     (
         "---\na:  1\n---\nb:  1\nc: 1 \n---\nd:  1\n",
         &[
@@ -307,7 +340,15 @@ fn edits_move_documents_and_faults(rt: HostRuntime) -> Result<(), Fail> {
 }
 
 // A line before the others, a line and how often it stands, edits, and what is shown.
-const LONG: [(&str, &str, usize, &[Change], &str); 4] = [
+type Long = (
+    &'static str,
+    &'static str,
+    usize,
+    &'static [Change],
+    &'static str,
+);
+
+static LONG: &[Long] = &[
     (
         "---\na: @\n",
         "b: 1\n",
@@ -332,62 +373,82 @@ const LONG: [(&str, &str, usize, &[Change], &str); 4] = [
     ),
 ];
 
+// A line, and behind it another as often as this.
+pub(crate) fn repeated(
+    alloc: Global,
+    head: &str,
+    line: &str,
+    count: usize,
+) -> Result<String, AllocError> {
+    let mut text = String::from_str(alloc, head)?;
+    for _ in 0..count {
+        text.push_str(line)?;
+    }
+    Ok(text)
+}
+
 #[test]
 fn edits_of_long_texts_are_little_work(rt: HostRuntime) -> Result<(), Fail> {
     let alloc = rt.alloc();
     for (head, line, count, changes, wanted) in LONG {
-        let mut text = String::from_str(alloc, head)?;
-        for _ in 0..count {
-            text.push_str(line)?;
-        }
-        for shown in transcripts(alloc, text.as_str(), changes)? {
-            assert_eq!(rt; shown.as_str(), wanted, "{count} times {line:?}");
-        }
+        let text = repeated(alloc, head, line, *count)?;
+        check(&rt, alloc, text.as_str(), changes, wanted)?;
     }
     Ok(())
+}
+
+// A mapping of so many keys.
+pub(crate) fn keys(alloc: Global, count: u32) -> Result<String, AllocError> {
+    let mut text = String::from_str(alloc, "---\n")?;
+    for n in 0..count {
+        let line = format!(in alloc; "k{n:05}: v\n")?;
+        text.push_str(line.as_str())?;
+    }
+    Ok(text)
 }
 
 // 10,000 keys, one of which is edited.
 #[test]
 fn an_edit_among_many_keys(rt: HostRuntime) -> Result<(), Fail> {
-    let alloc = rt.alloc();
-    let mut text = String::from_str(alloc, "---\n")?;
-    for n in 0..10_000u32 {
-        text.push_str(format!(in alloc; "k{n:05}: v\n")?.as_str())?;
-    }
-    for shown in transcripts(alloc, text.as_str(), &[(5000, 5001, b"z: v\n", 3, 1)])? {
-        assert_eq!(rt; shown.as_str(), "-- edited\n");
-    }
-    Ok(())
+    let text = keys(rt.alloc(), 10_000)?;
+    let changes: &[Change] = &[(5000, 5001, b"z: v\n", 3, 1)];
+    check(&rt, rt.alloc(), text.as_str(), changes, "-- edited\n")
+}
+
+// Edits behind which lines stand that are put in at once: the last of these, and lines far above it.
+static BEHIND: &[Change] = &[
+    (1199, 1200, b"k:  v\n", u32::MAX, u32::MAX),
+    (3, 3, b"a: 1\n---\n", u32::MAX, u32::MAX),
+    (700, 710, b"", u32::MAX, u32::MAX),
+    (1191, 1192, b"k: v\n", u32::MAX, u32::MAX),
+];
+
+const BEHIND_SHOWN: &str = "-- edited\n1200:4 too many spaces after colon\n\
+     -- edited\n1202:4 too many spaces after colon\n\
+     -- edited\n1192:4 too many spaces after colon\n\
+     -- edited\n";
+
+// These documents are put in once more behind the first of them, and edited.
+fn doubled<S: LineStore>(
+    alloc: Global,
+    session: &mut Session<S>,
+    many: &[u8],
+) -> Result<String, Fail> {
+    edit(session, 2, 2, many)?;
+    Ok(edits_shown(alloc, session, BEHIND)?)
+}
+
+fn doubled_shown<S: LineStore<Alloc = Global>>(alloc: Global, many: &[u8]) -> Result<String, Fail> {
+    let mut session: Session<S> = opened(alloc, many)?;
+    doubled(alloc, &mut session, many)
 }
 
 // 600 documents are put in at once, and the last of them is edited, and then lines far above it: places among the documents are taken
 // anew, and move.
 #[test]
 fn edits_behind_many_new_documents(rt: HostRuntime) -> Result<(), Fail> {
-    let alloc = rt.alloc();
-    let mut many = String::new(alloc);
-    for _ in 0..600 {
-        many.push_str("---\nk: v\n")?;
-    }
-    let many = many.as_str().as_bytes();
-    let mut session: Session<ChunkStore<Global>> = Session::open(alloc, Config::standard(), many)?;
-    session.edit(2, 2, many)?;
-    let edits: [(u64, u64, &[u8], &str); 4] = [
-        (
-            1199,
-            1200,
-            b"k:  v\n",
-            "1200:4 too many spaces after colon\n",
-        ),
-        (3, 3, b"a: 1\n---\n", "1202:4 too many spaces after colon\n"),
-        (700, 710, b"", "1192:4 too many spaces after colon\n"),
-        (1191, 1192, b"k: v\n", ""),
-    ];
-    for (a, b, bytes, wanted) in edits {
-        session.edit(a, b, bytes)?;
-        let shown = report_shown(alloc, session.problems())?;
-        assert_eq!(rt; shown.as_str(), wanted);
-    }
+    let many = repeated(rt.alloc(), "", "---\nk: v\n", 600)?;
+    let shown = doubled_shown::<ChunkStore<Global>>(rt.alloc(), many.as_str().as_bytes())?;
+    assert_eq!(rt; shown.as_str(), BEHIND_SHOWN);
     Ok(())
 }

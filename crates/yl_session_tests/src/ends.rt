@@ -2,7 +2,7 @@
 use crate::edits::{Line, check_rows};
 use std::test::Fail;
 
-const ENDS: &[Line] = &[
+static ENDS: &[Line] = &[
     // A problem of the first document comes, moves and goes; those below move.
     (
         "---\na: 1\n---\nb:  1\n---\nc:  1\n",

@@ -2,7 +2,7 @@
 use crate::edits::{Line, check_rows};
 use std::test::Fail;
 
-const FAULTS: &[Line] = &[
+static FAULTS: &[Line] = &[
     // Above the document with the fault, in it, below it; then it goes, another comes above, and goes.
     (
         "---\na:  1\n---\nb: 1 \n---\n\"x\" \"y\"\nc:  1\n---\nd:  1 \n",

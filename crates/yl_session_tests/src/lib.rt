@@ -17,6 +17,8 @@ mod rows;
 #[cfg(test)]
 mod seams;
 #[cfg(test)]
+mod sessions;
+#[cfg(test)]
 mod shown;
 #[cfg(test)]
 mod silences;

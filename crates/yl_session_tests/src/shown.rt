@@ -1,11 +1,11 @@
-//! What a session shows, as text, and compared with what is wanted.
+//! What a session shows, and what an edit is answered, as text.
 use std::alloc::{AllocError, Allocator, Global};
 use yl_report::Problem;
-use yl_session::Session;
+use yl_session::{Session, Work};
 use yl_text::{LineStore, TextFault};
 
 /// The problems, a line each: line, column, message.
-pub fn report_shown<A: Allocator>(
+fn problems_shown<A: Allocator>(
     alloc: Global,
     problems: &[Problem<A>],
 ) -> Result<String, AllocError> {
@@ -18,6 +18,26 @@ pub fn report_shown<A: Allocator>(
         text.push_str(piece.as_str())?;
     }
     Ok(text)
+}
+
+/// The rules of the problems and which of these are errors, a line each.
+fn rules_shown<A: Allocator>(alloc: Global, problems: &[Problem<A>]) -> Result<String, AllocError> {
+    let mut text = String::new(alloc);
+    for problem in problems {
+        let rule = problem.rule();
+        let is_error = problem.is_error();
+        let piece = format!(in alloc; "{rule:?} {is_error}\n")?;
+        text.push_str(piece.as_str())?;
+    }
+    Ok(text)
+}
+
+/// The report of a session.
+pub fn report_shown<S: LineStore>(
+    alloc: Global,
+    session: &Session<S>,
+) -> Result<String, AllocError> {
+    problems_shown(alloc, session.problems())
 }
 
 /// The lines, a bar after each.
@@ -33,6 +53,28 @@ pub fn lines_shown<S: LineStore>(
     Ok(text)
 }
 
+/// The rules of the report, and the status, asked without strictness and with it.
+fn judgement_shown<S: LineStore>(
+    alloc: Global,
+    session: &Session<S>,
+) -> Result<String, AllocError> {
+    let rules = rules_shown(alloc, session.problems())?;
+    let status = session.status(false);
+    let strict = session.status(true);
+    format!(in alloc; "{rules}{status} {strict}")
+}
+
+/// All that a session shows: its lines, its report with rules and levels, its status.
+pub fn state_shown<S: LineStore>(
+    alloc: Global,
+    session: &Session<S>,
+) -> Result<String, AllocError> {
+    let lines = lines_shown(alloc, session)?;
+    let report = report_shown(alloc, session)?;
+    let judgement = judgement_shown(alloc, session)?;
+    format!(in alloc; "{lines}\n{report}{judgement}\n")
+}
+
 /// What a fault of an edit is called.
 pub fn name_of(fault: TextFault) -> &'static str {
     match fault {
@@ -45,29 +87,14 @@ pub fn name_of(fault: TextFault) -> &'static str {
     }
 }
 
-/// Whether the problems are the same.
-fn are_same<A: Allocator>(problems: &[Problem<A>], wanted: &[Problem<A>]) -> bool {
-    problems.len() == wanted.len()
-        && problems.iter().zip(wanted).all(|(a, b)| {
-            a.line() == b.line()
-                && a.column() == b.column()
-                && a.rule() == b.rule()
-                && a.is_error() == b.is_error()
-                && a.message() == b.message()
-        })
-}
-
-/// Whether two sessions show the same.
-pub fn show_same<S: LineStore>(session: &Session<S>, wanted: &Session<S>) -> bool {
-    if session.len() != wanted.len() {
-        return false;
-    }
-    for i in 0..session.len() {
-        if session.line(i) != wanted.line(i) {
-            return false;
+/// How an edit was answered: what work it was, or why it was refused.
+pub fn answer_shown(alloc: Global, answer: Result<Work, TextFault>) -> Result<String, AllocError> {
+    match answer {
+        Ok(work) => {
+            let scanned = work.scanned;
+            let documents = work.documents;
+            format!(in alloc; "scanned {scanned}, documents {documents}")
         }
+        Err(fault) => String::from_str(alloc, name_of(fault)),
     }
-    session.status(false) == wanted.status(false)
-        && session.status(true) == wanted.status(true)
-        && are_same(session.problems(), wanted.problems())
 }

@@ -2,7 +2,7 @@
 use crate::edits::{Line, check_rows};
 use std::test::Fail;
 
-const SILENCES: &[Line] = &[
+static SILENCES: &[Line] = &[
     // What the first document silences holds on, and no longer.
     (
         "---\n# yamllint disable rule:colons\na:  1\n---\nb:  1 \n---\nc:  1\n",
