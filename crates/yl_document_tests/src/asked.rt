@@ -11,6 +11,9 @@ use yl_lexeme::{LexemeAtLine, Meter};
 /// What a question is answered where memory is refused.
 pub const MEMORY: &str = "Memory";
 
+/// What tests say of a question that is answered although memory is refused.
+pub const UNREFUSED: &str = "answered without the memory";
+
 /// What is asked of a document's lexemes.
 #[derive(Clone, Copy, Debug)]
 pub enum Question {
@@ -112,6 +115,27 @@ pub fn asked(
     }
 }
 
+/// Refuses each growth in turn: the first of which there is none, and the answer then; or the first whose refusal is
+/// not answered by MEMORY, and UNREFUSED.
+fn answer_at(
+    alloc: Global,
+    heap: Heap<'_>,
+    question: Question,
+    spots: &[Spot],
+) -> Result<(u64, String), AllocError> {
+    for n in 1..u64::MAX {
+        let shown = asked(alloc, heap, question, spots, n)?;
+        if heap.is_armed() {
+            heap.refuse(0);
+            return Ok((n, shown));
+        }
+        if shown.as_str() != MEMORY {
+            return Ok((n, String::from_str(alloc, UNREFUSED)?));
+        }
+    }
+    Err(AllocError)
+}
+
 /// Each growth is refused in turn. There are more than so many, and without refusal the answer is what is wanted.
 pub fn refuse_each(
     rt: &impl Abort,
@@ -122,16 +146,10 @@ pub fn refuse_each(
     least: u64,
     wanted: &str,
 ) -> Result<(), AllocError> {
-    for n in 1..u64::MAX {
-        let shown = asked(alloc, heap, question, spots, n)?;
-        let is_met = !heap.is_armed();
-        heap.refuse(0);
-        let right = if is_met { MEMORY } else { wanted };
-        assert_eq!(rt; shown.as_str(), right, "{question:?}, the {n}th growth");
-        if !is_met {
-            assert!(rt; n > least, "{question:?}, {n} growths");
-            return Ok(());
-        }
-    }
+    let (n, shown) = answer_at(alloc, heap, question, spots)?;
+    assert!(rt;
+        n > least && shown.as_str() == wanted,
+        "{question:?}, the {n}th growth: {shown}"
+    );
     Ok(())
 }
