@@ -3,6 +3,14 @@
 #![tactic(auto)]
 
 #[cfg(test)]
+mod asked;
+#[cfg(test)]
+mod by_line;
+#[cfg(test)]
 mod events;
+#[cfg(test)]
+mod lexemes;
+#[cfg(test)]
+mod shown;
 #[cfg(test)]
 mod tree;

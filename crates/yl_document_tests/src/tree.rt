@@ -67,6 +67,19 @@ fn show<A: Allocator>(
     Ok(())
 }
 
+/// The problems, a line each.
+fn shown<A: Allocator>(alloc: Global, found: &[Finding<A>]) -> Result<String, AllocError> {
+    let mut text = String::new(alloc);
+    show(alloc, found, &mut text)?;
+    Ok(text)
+}
+
+/// What the rule finds in one document, a line for each problem.
+fn problems_in(alloc: Global, rule: Rule, events: &[Event<'_>]) -> Result<String, AllocError> {
+    let found = found_in(alloc, rule, events)?;
+    shown(alloc, found.as_slice())
+}
+
 /// What a text holds.
 fn scanned(alloc: Global, text: &str) -> Result<ScannedText<Global>, Fail> {
     let rows = split(alloc, text.as_bytes())?;

@@ -1,4 +1,4 @@
-use super::{Rule, anchors_with, found_in, key_duplicates_with};
+use super::{Rule, anchors_with, found_in, key_duplicates_with, problems_in};
 use std::alloc::{AllocError, Global};
 use std::test::Fail;
 use yl_events::{Event, EventAnchor, EventKind};
@@ -35,40 +35,60 @@ fn names(alloc: Global) -> Result<Vec<String>, AllocError> {
     Ok(names)
 }
 
-/// A mapping of these keys.
+/// Puts a key in this line and a missing value behind the events.
+pub(crate) fn push_key<'a>(
+    events: &mut Vec<Event<'a>>,
+    name: &'a str,
+    line: u32,
+) -> Result<(), AllocError> {
+    events.push(plain(name, line))?;
+    events.push(event(EventKind::Empty, line))?;
+    Ok(())
+}
+
+/// A mapping of these keys, behind which the first stands once more.
 fn mapping<'a>(alloc: Global, names: &'a [String]) -> Result<Vec<Event<'a>>, AllocError> {
     let mut events = Vec::new(alloc);
     events.push(event(EventKind::MappingStart, 0))?;
     for name in names {
-        events.push(plain(name.as_str(), 1))?;
-        events.push(event(EventKind::Empty, 1))?;
+        push_key(&mut events, name.as_str(), 1)?;
     }
     if let Some(name) = names.first() {
-        events.push(plain(name.as_str(), 2))?;
-        events.push(event(EventKind::Empty, 2))?;
+        push_key(&mut events, name.as_str(), 2)?;
     }
     events.push(event(EventKind::MappingEnd, 3))?;
     Ok(events)
 }
 
-// The first of 100,000 keys stands once more behind them.
-#[test]
-fn one_large_mapping(rt: HostRuntime) -> Result<(), Fail> {
-    let alloc = rt.alloc();
+// What the rule finds where the first of 100,000 keys stands once more behind them.
+fn problems_of_large_mapping(alloc: Global, rule: Rule) -> Result<String, AllocError> {
     let names = names(alloc)?;
     let events = mapping(alloc, &names)?;
-    for rule in [key_duplicates_with(false), Rule::KeyOrdering] {
-        let found = found_in(alloc, rule, &events)?;
-        assert_eq!(rt; found.len(), 1);
-        assert_eq!(rt; found[0].line(), 3);
-    }
+    problems_in(alloc, rule, &events)
+}
+
+#[test]
+fn a_repeated_key_in_a_large_mapping(rt: HostRuntime) -> Result<(), Fail> {
+    let shown = problems_of_large_mapping(rt.alloc(), key_duplicates_with(false))?;
+    assert_eq!(rt;
+        shown.as_str(),
+        "3:1 key-duplicates duplication of key \"k000000\" in mapping\n"
+    );
     Ok(())
 }
 
-// 100,000 mappings, each the value of the one key of the mapping around it.
 #[test]
-fn nested_mappings(rt: HostRuntime) -> Result<(), Fail> {
-    let alloc = rt.alloc();
+fn order_of_a_large_mapping(rt: HostRuntime) -> Result<(), Fail> {
+    let shown = problems_of_large_mapping(rt.alloc(), Rule::KeyOrdering)?;
+    assert_eq!(rt;
+        shown.as_str(),
+        "3:1 key-ordering wrong ordering of key \"k000000\" in mapping\n"
+    );
+    Ok(())
+}
+
+/// 100,000 mappings, each the value of the one key of the mapping around it.
+fn nested(alloc: Global) -> Result<Vec<Event<'static>>, AllocError> {
     let mut events = Vec::new(alloc);
     for line in 0..COUNT {
         events.push(event(EventKind::MappingStart, line))?;
@@ -78,17 +98,20 @@ fn nested_mappings(rt: HostRuntime) -> Result<(), Fail> {
     for line in 0..COUNT {
         events.push(event(EventKind::MappingEnd, COUNT + line))?;
     }
-    for rule in [key_duplicates_with(false), Rule::KeyOrdering] {
-        let found = found_in(alloc, rule, &events)?;
-        assert_eq!(rt; found.len(), 0);
-    }
+    Ok(events)
+}
+
+#[test]
+fn nested_mappings(rt: HostRuntime) -> Result<(), Fail> {
+    let events = nested(rt.alloc())?;
+    let repeated = problems_in(rt.alloc(), key_duplicates_with(false), &events)?;
+    let misplaced = problems_in(rt.alloc(), Rule::KeyOrdering, &events)?;
+    assert!(rt; repeated.is_empty() && misplaced.is_empty());
     Ok(())
 }
 
-// 100,000 anchors of one name: each but the first repeats it, each but the last is not used.
-#[test]
-fn anchors_of_one_name(rt: HostRuntime) -> Result<(), Fail> {
-    let alloc = rt.alloc();
+/// 100,000 anchors of one name, and an alias of it behind them.
+fn repeated_anchors(alloc: Global) -> Result<Vec<Event<'static>>, AllocError> {
     let mut events = Vec::new(alloc);
     events.push(event(EventKind::SequenceStart, 0))?;
     for line in 0..COUNT {
@@ -96,7 +119,14 @@ fn anchors_of_one_name(rt: HostRuntime) -> Result<(), Fail> {
     }
     events.push(event(EventKind::Alias("x"), COUNT))?;
     events.push(event(EventKind::SequenceEnd, COUNT))?;
-    let found = found_in(alloc, anchors_with(true, true, true), &events)?;
+    Ok(events)
+}
+
+// Each anchor but the first repeats the name, and each but the last is not used.
+#[test]
+fn anchors_of_one_name(rt: HostRuntime) -> Result<(), Fail> {
+    let events = repeated_anchors(rt.alloc())?;
+    let found = found_in(rt.alloc(), anchors_with(true, true, true), &events)?;
     assert_eq!(rt; found.len(), 199_998);
     Ok(())
 }
