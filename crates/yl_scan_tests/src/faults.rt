@@ -1,10 +1,10 @@
 //! Scan faults and their places.
-use crate::scans::told;
+use crate::scans::{check_told, told};
 use std::alloc::{AllocError, Global};
 use std::test::Fail;
 
 /// Texts, and what they hold.
-const FAULTS: [(&str, &str); 21] = [
+const FAULTS: &[(&str, &str)] = &[
     ("|\n   \n  x\n", "Rows s-s-\nFault BadIndentation 0 +1:3\n"),
     (
         "--- a: 1\n",
@@ -87,10 +87,7 @@ const FAULTS: [(&str, &str); 21] = [
 
 #[test]
 fn faults_and_what_stands_before_them(rt: HostRuntime) -> Result<(), Fail> {
-    for (text, want) in FAULTS {
-        assert_eq!(rt; told(rt.alloc(), text)?.as_str(), want);
-    }
-    Ok(())
+    check_told(&rt, rt.alloc(), FAULTS)
 }
 
 /// A document of one key of so many letters, and a value behind it.

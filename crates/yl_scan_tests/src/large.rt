@@ -60,6 +60,20 @@ fn push_state(
     }
 }
 
+/// Feeds rows, and adds the states of those that are sound.
+fn push_states(
+    alloc: Global,
+    scanner: &mut Scanner<'_, Global>,
+    rows: &[Row<Global>],
+    meter: &mut Meter,
+    states: &mut Vec<LineState<Global>>,
+) -> Result<(), AllocError> {
+    for row in rows {
+        push_state(alloc, scanner, row, meter, states)?;
+    }
+    Ok(())
+}
+
 /// The states of the rows that are sound, where these rows are fed so many times.
 fn states_of(
     alloc: Global,
@@ -70,9 +84,7 @@ fn states_of(
     let mut meter = Meter::new();
     let mut states = Vec::new(alloc);
     for _i in 0..count {
-        for row in rows {
-            push_state(alloc, &mut scanner, row, &mut meter, &mut states)?;
-        }
+        push_states(alloc, &mut scanner, rows, &mut meter, &mut states)?;
     }
     Ok(states)
 }

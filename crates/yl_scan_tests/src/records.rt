@@ -42,11 +42,27 @@ fn all_fed<A: Allocator + Copy>(
     Ok(())
 }
 
-/// The records of a text of these rows.
-fn records_of(global: Global, rows: &[Row<Global>]) -> Result<Vec<Record<Global>>, AllocError> {
-    let mut recorder = Recorder::start(&global);
-    all_fed(global, &mut recorder, rows)?;
+/// The records behind these rows, which are fed so many times.
+fn recorded(
+    global: Global,
+    recorder: Recorder<'_, Global>,
+    times: usize,
+    rows: &[Row<Global>],
+) -> Result<Vec<Record<Global>>, AllocError> {
+    let mut recorder = recorder;
+    for _i in 0..times {
+        all_fed(global, &mut recorder, rows)?;
+    }
     recorder.finish()
+}
+
+/// The records of a text of these rows, so many times.
+fn records_of(
+    global: Global,
+    times: usize,
+    rows: &[Row<Global>],
+) -> Result<Vec<Record<Global>>, AllocError> {
+    recorded(global, Recorder::start(&global), times, rows)
 }
 
 fn show_levels<A: Allocator>(

@@ -3,6 +3,7 @@
 use crate::bounds::{MANY, are_short, is_short};
 use refusing::Refusing;
 use std::alloc::{AllocError, Allocator, Global};
+use std::process::Abort;
 use std::test::Fail;
 use yl_lexeme::{Lexeme, Meter};
 use yl_scan::{LineComment, LineFault, LineLexeme, ScannedText, Scanner, Step, scan};
@@ -131,4 +132,16 @@ pub(crate) fn scanned(alloc: Global, text: &str) -> Result<ScannedText<Global>, 
 pub(crate) fn told(alloc: Global, text: &str) -> Result<String, Fail> {
     let scanned = scanned(alloc, text)?;
     Ok(shown(alloc, &scanned)?)
+}
+
+/// Checks what texts hold. A row is a text, and what is shown of it.
+pub(crate) fn check_told(
+    rt: &impl Abort,
+    alloc: Global,
+    rows: &[(&str, &str)],
+) -> Result<(), Fail> {
+    for (text, want) in rows {
+        assert_eq!(rt; told(alloc, text)?.as_str(), *want, "{text:?}");
+    }
+    Ok(())
 }

@@ -2,17 +2,30 @@
 use crate::scans::{fed, pass};
 use std::alloc::{AllocError, Global};
 use std::test::Fail;
-use yl_lexeme::Meter;
-use yl_scan::{LineState, Scanner, Step};
+use yl_lexeme::{Kind, Meter};
+use yl_scan::{FaultAbove, Scanner, Step};
 use yl_text::{Row, split};
 
-/// How many rows above the row that tells it a lexeme began, if one has ended: behind so many rows.
-fn show_ended(shown: &mut String, line: u32, step: &Step<Global>) -> Result<(), AllocError> {
+/// How many rows above the row that tells it a lexeme began, if one has ended.
+fn ago(step: &Step<Global>) -> Option<u32> {
     match &step.ended {
+        None => None,
+        Some(ended) => Some(ended.ago),
+    }
+}
+
+/// Behind so many rows, how long ago a lexeme began, if one has ended.
+fn show_ended(
+    alloc: Global,
+    shown: &mut String,
+    line: u32,
+    step: &Step<Global>,
+) -> Result<(), AllocError> {
+    match ago(step) {
         None => Ok(()),
-        Some(ended) => {
-            let ago = ended.ago;
-            write!(shown, "{line}-{ago} ")
+        Some(ago) => {
+            let piece = format!(in alloc; "{line}-{ago} ")?;
+            shown.push_str(piece.as_str())
         }
     }
 }
@@ -27,7 +40,7 @@ fn show_fed_end(
 ) -> Result<(), AllocError> {
     let line = scanner.line();
     let step = fed(alloc, scanner, row, meter)?;
-    show_ended(shown, line, &step)
+    show_ended(alloc, shown, line, &step)
 }
 
 /// For each lexeme that ends below its first row: how many rows were fed before the row that shows
@@ -40,7 +53,7 @@ fn ends(alloc: Global, rows: &[Row<Global>]) -> Result<String, AllocError> {
         show_fed_end(alloc, &mut scanner, row, &mut meter, &mut shown)?;
     }
     let line = scanner.line();
-    show_ended(&mut shown, line, &scanner.finish()?)?;
+    show_ended(alloc, &mut shown, line, &scanner.finish()?)?;
     Ok(shown)
 }
 
@@ -59,14 +72,35 @@ fn how_many_rows_ago_a_lexeme_began(rt: HostRuntime) -> Result<(), Fail> {
     Ok(())
 }
 
+/// One more than the innermost column.
+fn level_of(scanner: &Scanner<'_, Global>) -> Option<u32> {
+    scanner.levels().top()
+}
+
+/// The innermost bracket.
+fn bracket_of(scanner: &Scanner<'_, Global>) -> Option<Kind> {
+    scanner.brackets().top()
+}
+
+/// A column and a bracket.
+fn show_innermost(
+    shown: &mut String,
+    level: Option<u32>,
+    bracket: Option<Kind>,
+) -> Result<(), AllocError> {
+    write!(shown, "{level:?} {bracket:?} ")
+}
+
+/// The last lexeme's kind, and whether a fault has come before.
+fn show_last(shown: &mut String, last: Option<Kind>, is_stopped: bool) -> Result<(), AllocError> {
+    write!(shown, "{last:?} {is_stopped}\n")
+}
+
 /// What a scanner shows: the innermost column and bracket, the last lexeme's kind, and whether a
 /// fault has come before.
 fn show_place(shown: &mut String, scanner: &Scanner<'_, Global>) -> Result<(), AllocError> {
-    let level = scanner.levels().top();
-    let bracket = scanner.brackets().top();
-    let last = scanner.last();
-    let is_stopped = scanner.is_stopped();
-    write!(shown, "{level:?} {bracket:?} {last:?} {is_stopped}\n")
+    show_innermost(shown, level_of(scanner), bracket_of(scanner))?;
+    show_last(shown, scanner.last(), scanner.is_stopped())
 }
 
 /// What a scanner shows before the first row and behind each.
@@ -95,13 +129,18 @@ fn what_a_scanner_shows_between_rows(rt: HostRuntime) -> Result<(), Fail> {
     Ok(())
 }
 
+/// A fault of a row, if there is one.
+fn show_failed(shown: &mut String, failed: Option<FaultAbove>) -> Result<(), AllocError> {
+    write!(shown, "{failed:?}")
+}
+
 /// How much a step tells: the lexeme that has ended, the others, the comment, the fault.
 fn show_step(shown: &mut String, step: &Step<Global>) -> Result<(), AllocError> {
     let ended = step.ended.is_some();
     let count = step.lexemes.len();
     let comment = step.comment.is_some();
-    let failed = step.failed;
-    write!(shown, "{ended} {count} {comment} {failed:?}")
+    write!(shown, "{ended} {count} {comment} ")?;
+    show_failed(shown, step.failed)
 }
 
 /// How many rows were fed, whether the scanner has stopped, and what is counted.
@@ -157,23 +196,26 @@ fn rows_behind_a_fault(rt: HostRuntime) -> Result<(), Fail> {
     Ok(())
 }
 
-/// What a scanner that is resumed by this state tells of a row, and whether it has stopped behind it.
-fn resumed_step(
-    alloc: Global,
-    state: &LineState<Global>,
-    row: &Row<Global>,
-) -> Result<(Step<Global>, bool), AllocError> {
-    let mut meter = Meter::new();
-    let mut resumed = Scanner::resume(&alloc, state)?;
-    let step = fed(alloc, &mut resumed, row, &mut meter)?;
-    Ok((step, resumed.is_stopped()))
-}
-
 /// Whether steps have the same state and fault, and as many lexemes.
 fn are_alike(some: &Step<Global>, other: &Step<Global>) -> bool {
     some.state() == other.state()
         && some.lexemes.len() == other.lexemes.len()
         && some.failed == other.failed
+}
+
+/// Whether this scanner tells the same of a row, where this is the row's step and this says whether
+/// a scanner has stopped behind it.
+fn tells_again(
+    alloc: Global,
+    scanner: Scanner<'_, Global>,
+    row: &Row<Global>,
+    step: &Step<Global>,
+    is_stopped: bool,
+) -> Result<bool, AllocError> {
+    let mut scanner = scanner;
+    let mut meter = Meter::new();
+    let again = fed(alloc, &mut scanner, row, &mut meter)?;
+    Ok(are_alike(&again, step) && scanner.is_stopped() == is_stopped)
 }
 
 /// Whether a scanner that is resumed before a row tells the same of it, where this is the row's step
@@ -187,8 +229,9 @@ fn is_told_again(
     match step.state() {
         None => Ok(None),
         Some(state) => {
-            let (again, has_stopped) = resumed_step(alloc, state, row)?;
-            Ok(Some(are_alike(&again, step) && has_stopped == is_stopped))
+            let resumed = Scanner::resume(&alloc, state)?;
+            let same = tells_again(alloc, resumed, row, step, is_stopped)?;
+            Ok(Some(same))
         }
     }
 }

@@ -1,23 +1,10 @@
 //! Deep texts.
-use super::all_fed;
+use super::records_of;
 use crate::deep::{depths, steps_of};
-use std::alloc::{AllocError, Global};
+use std::alloc::Global;
 use std::test::Fail;
-use yl_record::{Record, Recorder};
-use yl_text::{Row, split};
-
-/// The records of these rows, told so many times.
-fn recorded(
-    global: Global,
-    times: usize,
-    rows: &[Row<Global>],
-) -> Result<Vec<Record<Global>>, AllocError> {
-    let mut recorder = Recorder::start(&global);
-    for _i in 0..times {
-        all_fed(global, &mut recorder, rows)?;
-    }
-    recorder.finish()
-}
+use yl_record::Record;
+use yl_text::split;
 
 /// How many records there are, how many lexemes the last has, and how deep it lies.
 fn summary(records: &[Record<Global>]) -> Option<(usize, usize, (usize, usize))> {
@@ -35,7 +22,7 @@ fn records_of_deep_rows(rt: HostRuntime) -> Result<(), Fail> {
     ];
     for (text, times, want) in rows {
         let rows = split(rt.alloc(), text.as_bytes())?;
-        let records = recorded(rt.alloc(), times, &rows)?;
+        let records = records_of(rt.alloc(), times, &rows)?;
         assert_eq!(rt; summary(&records), Some(want));
     }
     Ok(())

@@ -1,6 +1,6 @@
 //! Recorders that begin again at each sound row, and that are cut there.
 use super::texts::TEXTS;
-use super::{all_fed, fed, records_of, shown};
+use super::{all_fed, fed, recorded, records_of, shown};
 use crate::deep::times;
 use std::alloc::{AllocError, Global};
 use std::test::Fail;
@@ -31,23 +31,31 @@ fn resumed(
     state: &LineState<Global>,
     rows: &[Row<Global>],
 ) -> Result<Vec<Record<Global>>, AllocError> {
-    let mut recorder = Recorder::resume(&global, state)?;
-    all_fed(global, &mut recorder, rows)?;
-    recorder.finish()
+    recorded(global, Recorder::resume(&global, state)?, 1, rows)
 }
 
-/// The records of the rows above the last of these, which is sound.
-fn cut(global: Global, rows: &[Row<Global>]) -> Result<Vec<Record<Global>>, AllocError> {
-    let Some((last, above)) = rows.split_last() else {
-        return Err(AllocError);
-    };
-    let mut recorder = Recorder::start(&global);
-    all_fed(global, &mut recorder, above)?;
-    fed(global, &mut recorder, last, &mut Meter::new())?;
+/// The records of these rows, where the row behind them is sound.
+fn cut_above(
+    global: Global,
+    recorder: Recorder<'_, Global>,
+    rows: &[Row<Global>],
+    next: &Row<Global>,
+) -> Result<Vec<Record<Global>>, AllocError> {
+    let mut recorder = recorder;
+    all_fed(global, &mut recorder, rows)?;
+    fed(global, &mut recorder, next, &mut Meter::new())?;
     if recorder.state().is_none() {
         return Err(AllocError);
     }
     Ok(recorder.cut())
+}
+
+/// The records of the rows above the last of these, which is sound.
+fn cut(global: Global, rows: &[Row<Global>]) -> Result<Vec<Record<Global>>, AllocError> {
+    match rows.split_last() {
+        None => Err(AllocError),
+        Some((last, above)) => cut_above(global, Recorder::start(&global), above, last),
+    }
 }
 
 /// Whether both are shown alike.
@@ -83,10 +91,17 @@ fn agreements(
     Ok((sound, below, above))
 }
 
+fn row_agreements(
+    global: Global,
+    rows: &[Row<Global>],
+) -> Result<(usize, usize, usize), AllocError> {
+    let records = records_of(global, 1, rows)?;
+    agreements(global, rows, &records)
+}
+
 fn text_agreements(global: Global, text: &str) -> Result<(usize, usize, usize), Fail> {
     let rows = split(global, text.as_bytes())?;
-    let records = records_of(global, &rows)?;
-    Ok(agreements(global, &rows, &records)?)
+    Ok(row_agreements(global, &rows)?)
 }
 
 #[test]

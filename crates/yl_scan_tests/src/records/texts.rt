@@ -138,23 +138,51 @@ pub const TEXTS: [(&str, usize, &str); 14] = [
 
 /// The records of a text, told when it has ended.
 fn told_whole(global: Global, rows: &[Row<Global>]) -> Result<String, AllocError> {
-    let records = records_of(global, rows)?;
+    let records = records_of(global, 1, rows)?;
     shown(global, &records)
+}
+
+/// Feeds a row, shows the records that are complete then, and lets them go.
+fn show_complete(
+    global: Global,
+    shown: &mut String,
+    recorder: &mut Recorder<'_, Global>,
+    row: &Row<Global>,
+    meter: &mut Meter,
+) -> Result<(), AllocError> {
+    fed(global, recorder, row, meter)?;
+    let complete = recorder.complete();
+    let count = complete.len();
+    show_records(shown, complete)?;
+    recorder.let_go(count);
+    Ok(())
+}
+
+/// Shows the records that are told when the text has ended.
+fn show_rest(shown: &mut String, recorder: Recorder<'_, Global>) -> Result<(), AllocError> {
+    let records = recorder.finish()?;
+    show_records(shown, &records)
+}
+
+/// Shows the records of rows, each as soon as it is complete.
+fn show_by_rows(
+    global: Global,
+    shown: &mut String,
+    recorder: Recorder<'_, Global>,
+    rows: &[Row<Global>],
+) -> Result<(), AllocError> {
+    let mut recorder = recorder;
+    let mut meter = Meter::new();
+    for row in rows {
+        show_complete(global, shown, &mut recorder, row, &mut meter)?;
+    }
+    show_rest(shown, recorder)
 }
 
 /// The records of a text, each told as soon as it is complete.
 fn told_by_rows(global: Global, rows: &[Row<Global>]) -> Result<String, AllocError> {
-    let mut recorder = Recorder::start(&global);
-    let mut meter = Meter::new();
     let mut shown = String::new(global);
-    for row in rows {
-        fed(global, &mut recorder, row, &mut meter)?;
-        let complete = recorder.complete();
-        show_records(&mut shown, complete)?;
-        let count = complete.len();
-        recorder.let_go(count);
-    }
-    show_records(&mut shown, &recorder.finish()?)?;
+    show_by_rows(global, &mut shown, Recorder::start(&global), rows)?;
     Ok(shown)
 }
 
