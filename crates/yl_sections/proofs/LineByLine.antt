@@ -48,7 +48,7 @@ use Rattle.yl_sections.specs.Sections.{lexemes_of}
 use Rattle.yl_sections.specs.Judge.{built_by, document_of, kept_of_section}
 use Rattle.yl_sections.specs.Kept.{BuiltValue, KeptValue, counted_of, event_findings, facts_of, is_on, items_if, kept_of, tree_options_of}
 use Rattle.yl_sections.proofs.Documents.{counted_within}
-use Rattle.yl_sections.specs.declared.reading.Reading.{Reading}
+use Rattle.yl_sections.specs.declared.reading.DocumentReading.{DocumentReading}
 use Rattle.yl_sections.specs.Reading.{Ends, FindsAll, Gives, GivesOrFails, IsQuiet, IsReading, ReadsOn, counted_in, fault_told}
 use Rattle.yl_sections.proofs.FrontRows.{none_found}
 
@@ -355,7 +355,7 @@ none_if : (b : Bool) (fs : List Fact) → fs ≡ [] → [] ≡ items_if b fs
 none_if true fs e = sym e
 none_if false fs e = refl
 
-pub nothing_read : {A T : Type 0} (config : Config) (rs : List RecordValue) (f : T → LexemeValue) (ys : List T) (r : Reading A) → (length ys == 0) ≡ true → r.keys.items ≡ [] → r.facts.items ≡ [] → r.found.items ≡ [] → r.fault ≡ None
+pub nothing_read : {A T : Type 0} (config : Config) (rs : List RecordValue) (f : T → LexemeValue) (ys : List T) (r : DocumentReading A) → (length ys == 0) ≡ true → r.keys.items ≡ [] → r.facts.items ≡ [] → r.found.items ≡ [] → r.fault ≡ None
     → IsReading config rs (map f ys) (document_of (map f ys)) r
 nothing_read config rs f [] r e keys facts found fault = record {
   fault = fault;
@@ -367,7 +367,7 @@ nothing_read config rs f (y ∷ ys) r e keys facts found fault = absurd (omega (
 
 -- ---- what is kept
 
-pub inside_read : {A X : Type 0} (config : Config) (rs : List RecordValue) (f : X → LexemeValue) (xs ys zs : List X) (r : Reading A) → xs ≡ zs → ys ≡ zs → IsReading config rs (map f xs) (document_of (map f xs)) r
+pub inside_read : {A X : Type 0} (config : Config) (rs : List RecordValue) (f : X → LexemeValue) (xs ys zs : List X) (r : DocumentReading A) → xs ≡ zs → ys ≡ zs → IsReading config rs (map f xs) (document_of (map f xs)) r
     → counted_of (map f ys) r.fault ≤ length ys
 inside_read {A} {X} config rs f xs ys zs r a b reads =
     let here : counted_of (map f xs) (document_of (map f xs)).fault ≤ length (map f xs) = counted_within (map f xs) (document_of (map f xs)) refl in
@@ -375,7 +375,7 @@ inside_read {A} {X} config rs f xs ys zs r a b reads =
     let long : length ys ≡ length xs = ap (λ (vs : List X). length vs) (b ∙ sym a) in
     omega (arith, here, same, long, length-map xs f)
 
-pub kept_read : {A X E : Type 0} (config : Config) (rs : List RecordValue) (f : X → LexemeValue) (xs ys zs : List X) (r : Reading A) (k : Result KeptValue E) → xs ≡ zs → ys ≡ zs → map f zs ≡ lexemes_of rs
+pub kept_read : {A X E : Type 0} (config : Config) (rs : List RecordValue) (f : X → LexemeValue) (xs ys zs : List X) (r : DocumentReading A) (k : Result KeptValue E) → xs ≡ zs → ys ≡ zs → map f zs ≡ lexemes_of rs
     → IsReading config rs (map f xs) (document_of (map f xs)) r → ((b : BuiltValue) → IsReading config rs (map f ys) b r → IfOk k (λ v. v ≡ kept_of config rs b)) → IfOk k (λ v. v ≡ kept_of_section config rs)
 unfolding kept_of_section
 kept_read {A} {X} {E} config rs f xs ys zs r k a b are reads keeps =

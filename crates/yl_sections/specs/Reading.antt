@@ -10,11 +10,11 @@ use Rattle.yl_tree.specs.declared.tree_rules.TreeRules.{TreeRules}
 use Rattle.yl_tree.specs.TreeRules.{Finds}
 use Rattle.yl_config.specs.declared.config.Config.{Config}
 use Rattle.yl_record.specs.Records.{RecordValue}
-use Rattle.yl_sections.specs.declared.reading.Reading.{Reading}
+use Rattle.yl_sections.specs.declared.reading.DocumentReading.{DocumentReading}
 use Rattle.yl_sections.specs.Kept.{BuiltValue, counted_of, event_findings, facts_of}
 
 -- what was read of a document that gives this
-pub record IsReading {A : Type 0} (config : Config) (rs : List RecordValue) (xs : List LexemeValue) (b : BuiltValue) (r : Reading A) : Type 0 where
+pub record IsReading {A : Type 0} (config : Config) (rs : List RecordValue) (xs : List LexemeValue) (b : BuiltValue) (r : DocumentReading A) : Type 0 where
   pub fault : r.fault ≡ b.fault
   pub keys : r.keys.items ≡ key_facts xs
   pub facts : r.facts.items ≡ facts_of config rs xs (counted_of xs b.fault)

@@ -16,7 +16,7 @@ use crate::comments::{kept_comments, shown_comments};
 use crate::fault::{SectionFault, comment_lines, counted, scan_fault, section_fault};
 use crate::kept::Kept;
 use crate::lexemes::lexemes_of;
-use crate::reading::{Reading, read_document};
+use crate::reading::{DocumentReading, read_document};
 use crate::rules::found;
 use crate::sections::section_len;
 use std::alloc::{AllocError, Allocator};
@@ -76,7 +76,7 @@ fn keep<A: Allocator + Copy>(
     config: &Config,
     records: &[&Record<A>],
     lexemes: &[LexemeAtLine<'_, A>],
-    reading: Reading<A>,
+    reading: DocumentReading<A>,
 ) -> Result<Kept<A>, AllocError>
     requires few { length records.now < 2 ^ 32 }
     requires lexemes { map (λ x. lexeme_at_line x.line x.lexeme.now) lexemes.now ≡ lexemes_of (map (λ r. r.now) records.now) }
@@ -85,7 +85,7 @@ fn keep<A: Allocator + Copy>(
     ensures { (b : BuiltValue) → IsReading config.now (map (λ r. r.now) records.now) (map (λ x. lexeme_at_line x.line x.lexeme.now) lexemes.now) b reading
         → IfOk result (λ k. k ≡ kept_of config.now (map (λ r. r.now) records.now) b) }
 {
-    let Reading {
+    let DocumentReading {
         keys,
         facts,
         found: in_tree,

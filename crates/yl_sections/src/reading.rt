@@ -33,7 +33,7 @@ use yl_tree::TreeRules;
 /// What was read of a document: what its keys say of each lexeme, what the rule indentation checks, what the rules on keys and anchors
 /// find, and its parse fault. Under a fault these find nothing.
 #[derive(Drop)]
-pub struct Reading<A: Allocator> {
+pub struct DocumentReading<A: Allocator> {
     pub keys: Vec<KeyFacts, A>,
     pub facts: Vec<Fact, A>,
     pub found: Vec<Finding<A>, A>,
@@ -278,7 +278,7 @@ fn read_some<'a, A: Allocator + Copy>(
     config: &Config,
     records: &[&'a Record<A>],
     lexemes: &[LexemeAtLine<'a, A>],
-) -> Result<Reading<A>, AllocError>
+) -> Result<DocumentReading<A>, AllocError>
     requires { 0 < length lexemes.now }
     ensures { IfOk result (λ r. IsReading config.now (map (λ r. r.now) records.now) (map (λ x. lexeme_at_line x.line x.lexeme.now) lexemes.now)
         (document_of (map (λ x. lexeme_at_line x.line x.lexeme.now) lexemes.now)) r) }
@@ -296,7 +296,7 @@ fn read_some<'a, A: Allocator + Copy>(
         &mut facts,
     )?;
     let ending = end(alloc, lexemes, reader, fault)?;
-    Ok(Reading {
+    Ok(DocumentReading {
         keys,
         facts: checked(config, facts),
         found: ending.found,
@@ -322,7 +322,7 @@ pub fn read_document<'a, A: Allocator + Copy>(
     records: &[&'a Record<A>],
     lexemes: &[LexemeAtLine<'a, A>],
     meter: &mut Meter,
-) -> Result<Reading<A>, AllocError>
+) -> Result<DocumentReading<A>, AllocError>
     requires { meter.old.documents < 2 ^ 32 - 1 }
     ensures read { IfOk result (λ r. IsReading config.now (map (λ r. r.now) records.now) (map (λ x. lexeme_at_line x.line x.lexeme.now) lexemes.now)
         (document_of (map (λ x. lexeme_at_line x.line x.lexeme.now) lexemes.now)) r) }
@@ -330,7 +330,7 @@ pub fn read_document<'a, A: Allocator + Copy>(
         ≡ record meter.old { documents = meter.old.documents + document_count (map (λ x. lexeme_at_line x.line x.lexeme.now) lexemes.now) } }
 {
     if lexemes.is_empty() {
-        return Ok(Reading {
+        return Ok(DocumentReading {
             keys: Vec::new(alloc),
             facts: Vec::new(alloc),
             found: Vec::new(alloc),
