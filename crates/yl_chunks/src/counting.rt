@@ -3,6 +3,7 @@ ghost use Rattle.std.specs.Prelude.{◌≡◌, ◌+◌, ◌-◌, ◌^◌, ◌<�
 ghost use Rattle.yl_text.specs.Store.{IsRange};
 ghost use Rattle.yl_chunks.specs.Chunks.{items_of, AreStarts, IsPlace, in_list};
 
+use crate::MOST;
 use crate::places::{Place, Starts, joined};
 use std::alloc::Allocator;
 
@@ -37,6 +38,29 @@ pub(crate) fn start_of<T, A: Allocator>(chunks: &[Vec<T, A>], starts: &Starts<A>
     }
 }
 
+/// How many chunks are looked through from the first one that can hold an item.
+const NEAR: usize = 8;
+
+/// Chunks among which `last_start` finds its own: the first, and the end. A full list is in chunks of about `MOST` items, so that a few
+/// do but where many chunks have fewer.
+fn near<T, A: Allocator>(chunks: &[Vec<T, A>], starts: &Starts<A>, i: usize) -> (usize, usize)
+    requires starts { AreStarts chunks.now starts.now }
+    requires some { 0 < length chunks.now }
+    ensures ordered { result.0 < result.1 }
+    ensures within { result.1 ≤ length chunks.now }
+    ensures least { length (items_of (take result.0 chunks.now)) ≤ i }
+    ensures most { result.1 < length chunks.now → i < length (items_of (take result.1 chunks.now)) }
+{
+    let first = i / MOST;
+    if first >= chunks.len() || start_of(chunks, starts, first) > i {
+        return (0, chunks.len());
+    }
+    if chunks.len() - first > NEAR && i < start_of(chunks, starts, first + NEAR) {
+        return (first, first + NEAR);
+    }
+    (first, chunks.len())
+}
+
 /// The last chunk before which no more than `i` items stand.
 pub(crate) fn last_start<T, A: Allocator>(
     chunks: &[Vec<T, A>],
@@ -49,8 +73,7 @@ pub(crate) fn last_start<T, A: Allocator>(
     ensures least { length (items_of (take result chunks.now)) ≤ i }
     ensures most { result + 1 < length chunks.now → i < length (items_of (take (result + 1) chunks.now)) }
 {
-    let mut low = 0;
-    let mut high = chunks.len();
+    let (mut low, mut high) = near(chunks, starts, i);
     while high - low > 1 {
         let middle = low + (high - low) / 2;
         if start_of(chunks, starts, middle) <= i {

@@ -3,8 +3,7 @@ use Rattle.std.proofs.Common.{◌≡◌, ℕ, ◌+◌, ◌-◌, ◌%◌, ◌^◌
 use Rattle.std.proofs.lemmas.Bool.{cases_lt}
 use Rattle.std.proofs.lemmas.Bool.Decides.{nat_tests}
 use Rattle.std.specs.List.{prefix_len}
-use Rattle.std.specs.Str.{IsAscii}
-use Rattle.std.proofs.lemmas.List.{drop-drop, length-take-le, length-drop, take-append-drop, length-take, get_or-take, get_or-drop, get_or_past}
+use Rattle.std.proofs.lemmas.List.{drop-drop, length-take-le, length-drop, take-append-drop, length-take, get_or-take, get_or-drop}
 use Rattle.std.proofs.lemmas.List.Folds.{prefix_len-append}
 use Rattle.std.proofs.lemmas.List.Sums.{prefix_len-le-length, prefix_len_passes}
 use Rattle.std.proofs.lemmas.Simd.{length-chunk, leading_from_mask_l, trailing_mask_l}
@@ -73,14 +72,6 @@ no_break_before t s r is behind k d l =
           let at : get_or (take r (drop s t)) i d ≡ get_or (take (s + r) t) k d = get_or-take r (drop s t) i d (omega arith) ∙ get_or-drop s t i d ∙ ap (λ (j : ℕ). get_or t j d) (omega arith) ∙ sym same in
           let h = behind i d (omega (arith, length-take r (drop s t), length-drop s t)) in
           (λ e. h.0 (at ∙ e), λ e. h.1 (at ∙ e))
-    ]
-
--- and it is ASCII
-pub printable_is_ascii : (t : List ℕ) → special_place t ≡ length t → IsAscii t
-printable_is_ascii t all i =
-    elim (cases_lt i (length t)) [
-      | inl inside ↦ let tells = printable_bounds (get_or t i 0) (prefix_len_passes is_printable_ascii t i 0 (omega (arith, all))) in omega arith
-      | inr past ↦ omega (arith, get_or_past t i 0 past)
     ]
 
 -- a byte is within the text

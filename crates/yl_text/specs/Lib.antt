@@ -5,6 +5,7 @@ pub mod Edit
 pub mod Fault
 pub mod Finding
 pub mod Message
+pub mod Kept
 pub mod Lines
 pub mod Special
 pub mod Split

@@ -2,7 +2,7 @@
 ghost use Rattle.std.specs.Prelude.{◌≡◌, [], IfOk, OnOk, OnErr, length, IsTrue};
 ghost use Rattle.std.specs.Str.{IsAscii, chars};
 
-use crate::{Row, first_special};
+use crate::Row;
 use std::alloc::{AllocError, Allocator};
 
 /// Decodes the characters (code points) of a line, without its break, into the buffer in place of
@@ -24,8 +24,9 @@ pub fn characters_of<B: Allocator>(text: &str, buffer: &mut Vec<char, B>) -> Res
     ensures ok { OnOk result (buffer.new.items ≡ chars text.now) }
     ensures err { OnErr result (buffer.new.items ≡ []) }
 {
-    if is_ascii(text) {
-        return widened(text.as_bytes(), buffer);
+    let bytes = text.as_bytes();
+    if are_ascii(bytes) {
+        return widened(bytes, buffer);
     }
     buffer.clear();
     buffer.try_reserve(text.len())?;
@@ -35,11 +36,15 @@ pub fn characters_of<B: Allocator>(text: &str, buffer: &mut Vec<char, B>) -> Res
     Ok(())
 }
 
-/// Whether all characters are ASCII. Most lines are printable ASCII, which is seen at once.
-fn is_ascii(text: &str) -> bool
-    ensures { IsTrue result → IsAscii text.now }
+/// Whether all bytes are ASCII. They are all looked at, with no way out on the way, so that several are at once.
+fn are_ascii(bytes: &[u8]) -> bool
+    ensures { IsTrue result → IsAscii bytes.now }
 {
-    first_special(text.as_bytes()) == text.len() || text.is_ascii()
+    let mut all = true;
+    for byte in bytes {
+        all &= *byte < 0x80;
+    }
+    all
 }
 
 /// The bytes, each taken for a character, in place of what the buffer holds.

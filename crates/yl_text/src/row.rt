@@ -2,6 +2,7 @@
 ghost use Rattle.std.specs.Prelude.{◌≡◌, ◌+◌, length, IfOk};
 ghost use Rattle.yl_text.specs.Lines.{break_bytes};
 
+use arrayvec::ArrayString;
 use std::alloc::{AllocError, Allocator};
 use std::marker::Model;
 
@@ -32,21 +33,37 @@ impl Break {
     }
 }
 
+/// How many bytes a text has at the most that lies in the line itself.
+const SHORT: usize = 16;
+
+/// A line's text in UTF-8 and its break. They stand in one enum, so that a short text, which takes no memory of its own, makes the
+/// line no larger.
+#[derive(Drop)]
+enum KeptLine<A: Allocator> {
+    Short {
+        end: Break,
+        text: ArrayString<SHORT>,
+    },
+    Long {
+        end: Break,
+        text: String<A>,
+    },
+}
+
 /// A line: its text in UTF-8, and the break behind it. In contracts it is a `RowValue`, the text's bytes
-/// and the break.
+/// and the break. A text of at most 16 bytes takes no allocation.
 #[derive(Drop)]
 pub struct Row<A: Allocator> {
-    text: String<A>,
-    end: Break,
+    kept: KeptLine<A>,
 }
 
 impl<A: Allocator> Model for Row<A> {
-    ghost use Rattle.std.specs.Prelude.{string_bytes};
+    ghost use Rattle.yl_text.specs.Kept.{end_kept, text_kept};
     ghost use Rattle.yl_text.specs.Lines.{RowValue};
 
     ghost Value = { RowValue };
 
-    ghost view = { λ r. record { text = string_bytes r.text; end = r.end } };
+    ghost view = { λ r. record { text = text_kept r.kept; end = end_kept r.kept } };
 }
 
 impl<A: Allocator> Row<A> {
@@ -57,30 +74,40 @@ impl<A: Allocator> Row<A> {
         ensures text { IfOk result (λ row. row.text ≡ text.now) }
         ensures end { IfOk result (λ row. row.end ≡ end) }
     {
-        Ok(Row {
-            text: String::from_str(alloc, text)?,
-            end,
-        })
+        let kept = match ArrayString::from(text) {
+            Ok(text) => KeptLine::Short { end, text },
+            Err(_) => KeptLine::Long {
+                end,
+                text: String::from_str(alloc, text)?,
+            },
+        };
+        Ok(Row { kept })
     }
 
     /// The line without its break, not copied.
     pub fn as_str(&self) -> &str
         ensures { result.now ≡ self.now.text }
     {
-        self.text.as_str()
+        match &self.kept {
+            KeptLine::Short { text, .. } => text.as_str(),
+            KeptLine::Long { text, .. } => text.as_str(),
+        }
     }
 
     /// The break behind the line.
     pub fn end(&self) -> Break
         ensures { result ≡ self.now.end }
     {
-        self.end
+        match self.kept {
+            KeptLine::Short { end, .. } => end,
+            KeptLine::Long { end, .. } => end,
+        }
     }
 
     /// How many bytes the line has, its break counted.
     pub fn bytes(&self) -> usize
         ensures { result ≡ length self.now.text + length (break_bytes self.now.end) }
     {
-        self.text.len() + self.end.len()
+        self.as_str().len() + self.end().len()
     }
 }

@@ -12,7 +12,10 @@ fn of_split(rt: HostRuntime) -> Result<(), Fail> {
     let heap = Refusing::new(rt.alloc());
     for n in 1..u64::MAX {
         heap.refuse(n);
-        let answer = split(&heap, b"a: 1\r\nb\rc\n");
+        let answer = split(
+            &heap,
+            b"a: a value of some words\r\nb is of some words too\rc: and so is this one\n",
+        );
         if heap.is_armed() {
             heap.refuse(0);
             let rows = answer?;
@@ -29,9 +32,22 @@ fn of_split(rt: HostRuntime) -> Result<(), Fail> {
 fn of_a_row(rt: HostRuntime) -> Result<(), Fail> {
     let heap = Refusing::new(rt.alloc());
     heap.refuse(1);
-    assert!(rt; Row::new(&heap, "a", Break::Lf).is_err());
-    let row = Row::new(&heap, "a", Break::Lf)?;
-    assert_eq!(rt; row.as_str(), "a");
+    assert!(rt; Row::new(&heap, "a: a value of some words", Break::Lf).is_err());
+    let row = Row::new(&heap, "a: a value of some words", Break::Lf)?;
+    assert_eq!(rt; row.as_str(), "a: a value of some words");
+    Ok(())
+}
+
+// A text of at most 16 bytes takes none.
+#[test]
+fn of_a_short_row(rt: HostRuntime) -> Result<(), Fail> {
+    let heap = Refusing::new(rt.alloc());
+    heap.refuse(1);
+    let row = Row::new(&heap, "sixteen of bytes", Break::Cr)?;
+    assert!(rt; heap.is_armed());
+    assert_eq!(rt; row.as_str(), "sixteen of bytes");
+    assert!(rt; row.end() == Break::Cr);
+    assert!(rt; Row::new(&heap, "seventeen bytes..", Break::Lf).is_err());
     Ok(())
 }
 

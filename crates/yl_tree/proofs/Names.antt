@@ -8,6 +8,9 @@ use Rattle.std.specs.declared.cmp.Ordering.TheVariants.{Less, Equal, Greater}
 use Rattle.std.specs.Cmp.Lexicographic.{slice_cmp, nat_list_cmp_total}
 use Rattle.yl_tree.specs.KeyRules.{is_greater}
 use Rattle.yl_tree.specs.Greatest.{is_some_greater}
+use Rattle.yl_tree.specs.NameSets.{is_above, is_among}
+use Rattle.std.proofs.lemmas.List.Folds.{list_any-append}
+use Rattle.std.proofs.lemmas.Slice.Eq.{bytes_eq-Decides}
 
 or_cond : (b x : Bool) → cond b true x ≡ (b || x)
 or_cond true x = refl
@@ -74,3 +77,43 @@ greatest_stays (Some g) k h q = absorbed (is_greater k q) (is_greater g.now q) (
 pub greatest_changes : (o : Option (Bor (List ℕ))) (k : List ℕ) → is_some_greater o k ≡ false → (q : List ℕ) → is_greater k q ≡ (is_greater k q || is_some_greater o q)
 greatest_changes None k h q = absorbing (is_greater k q) false (λ e. cc)
 greatest_changes (Some g) k h q = absorbing (is_greater k q) (is_greater g.now q) (by_order g.now k q (slice_cmp nat_cmp (chars g.now) (chars k)) refl h)
+
+-- ---- keys none of which is greater than the greatest
+
+of_itself : (o : Ordering) → o ≡ ordering_reverse o → is_gt o ≡ false
+of_itself Less e = refl
+of_itself Equal e = refl
+of_itself Greater e = cc
+
+not_above_itself : (k : List ℕ) → is_greater k k ≡ false
+not_above_itself k = of_itself (slice_cmp nat_cmp (chars k) (chars k)) (nat_list_cmp_total.antisymm (chars k) (chars k))
+
+refuted : (b c : Bool) → (b ≡ true → c ≡ true) → c ≡ false → b ≡ false
+refuted true c f e = sym (f refl) ∙ e
+refuted false c f e = refl
+
+above_key : (g : Option (Bor (List ℕ))) (key q : List ℕ) → is_above g key ≡ true → is_above g q ≡ false → is_greater q key ≡ false
+above_key None key q a n = cc
+above_key (Some g) key q a n = refuted (is_greater q key) (is_greater q g.now) (λ h. both_greater q key g.now h a) n
+
+one_of : (b c x : Bool) → (b || (c || false)) ≡ true → (b ≡ true → x ≡ false) → (c ≡ true → x ≡ false) → x ≡ false
+one_of true c x e f g = f refl
+one_of false true x e f g = g refl
+one_of false false x e f g = cc
+
+module _ (keys : List (Bor (List ℕ))) (g : Option (Bor (List ℕ))) (key : Bor (List ℕ)) (below : (q : List ℕ) → is_among keys q ≡ true → is_above g q ≡ false) (q : List ℕ)
+    (h : is_among (keys ++ key ∷ []) q ≡ true) where
+  split : (is_among keys q || (bytes_eq key.now q || false)) ≡ true
+  split = sym (list_any-append (λ (x : Bor (List ℕ)). bytes_eq x.now q) keys (key ∷ [])) ∙ h
+
+  same : bytes_eq key.now q ≡ true → q ≡ key.now
+  same e = sym ((bytes_eq-Decides key.now q).0 e)
+
+  -- a key that is greater than the greatest
+  pub below_new : is_above g key.now ≡ true → is_above (Some key) q ≡ false
+  below_new a = one_of (is_among keys q) (bytes_eq key.now q) (is_greater q key.now) split (λ i. above_key g key.now q a (below q i))
+      (λ e. ap (λ (x : List ℕ). is_greater x key.now) (same e) ∙ not_above_itself key.now)
+
+  -- one that is not
+  pub below_old : is_above g key.now ≡ false → is_above g q ≡ false
+  below_old n = one_of (is_among keys q) (bytes_eq key.now q) (is_above g q) split (below q) (λ e. ap (is_above g) (same e) ∙ n)

@@ -10,7 +10,8 @@ use Rattle.yl_tree.specs.Anchors.{anchors}
 use Rattle.yl_tree.specs.Frames.{IsBehind}
 use Rattle.yl_tree.specs.Greatest.{is_some_greater}
 use Rattle.yl_tree.specs.KeyRules.{duplicate_at, is_greater, misplaced_at}
-use Rattle.yl_tree.specs.NameSets.{has_name, is_among}
+use Rattle.yl_tree.specs.ManyKeys.{is_among_many}
+use Rattle.yl_tree.specs.NameSets.{is_among}
 
 -- the walk stands behind some events, at which this was found; with what is found at these, which
 -- are to come, it is all that the rule finds
@@ -25,7 +26,7 @@ pub record FindsByWalk {M A : Type 0} (speaks_against : List ℕ → List ℕ �
 
 abbrev pub FindsDuplicates : {A : Type 0} → DuplicateFinder A → List EventValue → List FindingValue → Type 0
 FindsDuplicates f es all =
-    FindsByWalk (λ key q. bytes_eq key q) (λ s q. is_among s.first.items q || has_name s.others q)
+    FindsByWalk (λ key q. bytes_eq key q) (λ s q. is_among s.few.items q || is_among_many s.many q)
     (duplicate_at f.options) f.walk f.found.items es all
 
 abbrev pub FindsMisplaced : {A : Type 0} → MisplacedFinder A → List EventValue → List FindingValue → Type 0

@@ -2,8 +2,9 @@ pub mod Anchors
 pub mod Finders
 pub mod Frames
 pub mod Greatest
-pub mod Keys
 pub mod KeyRules
+pub mod Keys
+pub mod ManyKeys
 pub mod Messages
 pub mod NameSets
 pub mod OpenNodes

@@ -4,15 +4,16 @@ ghost use Rattle.yl_text.specs.Finding.{FindingValue};
 ghost use Rattle.yl_events.specs.Event.{EventValue, event_value};
 ghost use Rattle.yl_tree.specs.Keys.{earlier_keys};
 ghost use Rattle.yl_tree.specs.KeyRules.{duplicate_at, is_duplicate, is_judged, key_duplicates};
-ghost use Rattle.yl_tree.specs.NameSets.{has_name, is_among};
+ghost use Rattle.yl_tree.specs.NameSets.{is_among};
+ghost use Rattle.yl_tree.specs.ManyKeys.{is_among_many};
 ghost use Rattle.yl_tree.specs.Frames.{IsBehind};
 
+use crate::many_keys::ManyKeys;
 use crate::messages::{name_problem, push_found};
-use crate::name_set::{NameSet, has_name, insert_name, is_among};
+use crate::name_set::is_among;
 use crate::options::KeyDuplicatesOptions;
 use crate::walk::{self, KeyMemory, Walk};
 use arrayvec::ArrayVec;
-use indexmap::IndexSet;
 use std::alloc::{AllocError, Allocator};
 use yl_events::Event;
 use yl_text::{Finding, RuleId};
@@ -20,11 +21,44 @@ use yl_text::{Finding, RuleId};
 /// How many keys of a mapping are kept with it and take no memory of their own.
 const FEW: usize = 8;
 
-/// The earlier keys of a mapping: the first few, and a set of the others.
+/// The earlier keys of a mapping: they lie with it while they are few, and all together elsewhere once they are many.
 #[derive(Drop)]
 struct KeySet<'a, A: Allocator + Copy> {
-    first: ArrayVec<&'a str, FEW>,
-    others: NameSet<'a, A>,
+    alloc: A,
+    few: ArrayVec<&'a str, FEW>,
+    many: Option<Box<ManyKeys<'a, A>, A>>,
+}
+
+/// Whether it is one of many keys, if there are many.
+fn is_among_many<'a, A: Allocator + Copy>(many: &Option<Box<ManyKeys<'a, A>, A>>, key: &str) -> bool
+    ensures { result ≡ is_among_many many.now key.now }
+{
+    match many {
+        None => false,
+        Some(keys) => keys.has(key),
+    }
+}
+
+/// Puts a key behind those that are many, or behind so many that they are no longer few.
+fn insert_among_many<'a, A: Allocator + Copy>(
+    alloc: A,
+    few: &mut ArrayVec<&'a str, FEW>,
+    many: &mut Option<Box<ManyKeys<'a, A>, A>>,
+    key: &'a str,
+) -> Result<(), AllocError>
+    ensures { OnOk result ((q : List ℕ) → is_among few.new.items q || is_among_many many.new q
+        ≡ bytes_eq key.now q || (is_among few.old.items q || is_among_many many.old q)) }
+{
+    match many {
+        Some(keys) => keys.insert(key),
+        None => {
+            let mut keys = ManyKeys::of(alloc, few)?;
+            keys.insert(key)?;
+            *many = Some(Box::new(alloc, keys)?);
+            few.clear();
+            Ok(())
+        }
+    }
 }
 
 impl<'a, A: Allocator + Copy> KeyMemory for KeySet<'a, A> {
@@ -36,25 +70,26 @@ impl<'a, A: Allocator + Copy> KeyMemory for KeySet<'a, A> {
 
     ghost speaks_against = { λ key q. bytes_eq key q };
 
-    ghost is_against = { λ s q. is_among s.first.items q || has_name s.others q };
+    ghost is_against = { λ s q. is_among s.few.items q || is_among_many s.many q };
 
     fn empty(alloc: A) -> Self {
         KeySet {
-            first: ArrayVec::new(),
-            others: IndexSet::new(alloc),
+            alloc,
+            few: ArrayVec::new(),
+            many: None,
         }
     }
 
     fn remember(&mut self, key: &'a str) -> Result<(), AllocError> {
-        if self.first.is_full() {
-            return insert_name(&mut self.others, key);
+        if self.many.is_none() && !self.few.is_full() {
+            self.few.push(key);
+            return Ok(());
         }
-        self.first.push(key);
-        Ok(())
+        insert_among_many(self.alloc, &mut self.few, &mut self.many, key)
     }
 
     fn is_against(&self, key: &str) -> bool {
-        is_among(&self.first, key) || has_name(&self.others, key)
+        is_among(&self.few, key) || is_among_many(&self.many, key)
     }
 }
 
@@ -72,7 +107,7 @@ fn is_duplicate<'a, A: Allocator + Copy>(
 ) -> bool
     ensures { (before : List EventValue)
         → IsBehind (λ key q. bytes_eq key q)
-        (λ s q. is_among s.first.items q || has_name s.others q) walk.now before
+        (λ s q. is_among s.few.items q || is_among_many s.many q) walk.now before
         → result ≡ is_duplicate options.now (earlier_keys before) name.now }
 {
     is_judged(options, name) && walk::is_spoken_against(walk, name)
@@ -87,7 +122,7 @@ fn push_duplicate<'a, A: Allocator + Copy>(
 ) -> Result<(), AllocError>
     ensures { (before after : List EventValue)
         → IsBehind (λ key q. bytes_eq key q)
-        (λ s q. is_among s.first.items q || has_name s.others q) walk.now before
+        (λ s q. is_among s.few.items q || is_among_many s.many q) walk.now before
         → OnOk result (found.new.items
         ≡ found.old.items ++ duplicate_at options.now before (event_value event.now) after) }
 {

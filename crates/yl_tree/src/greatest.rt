@@ -15,7 +15,7 @@ pub(crate) struct Greatest<'a, A: Allocator> {
 }
 
 /// Whether the first is greater, by code points.
-fn is_greater(a: &str, b: &str) -> bool
+pub(crate) fn is_greater(a: &str, b: &str) -> bool
     ensures { result ≡ is_greater a.now b.now }
 {
     a > b

@@ -6,6 +6,7 @@ mod anchor_rule;
 mod duplicates;
 mod greatest;
 mod laws;
+mod many_keys;
 mod messages;
 mod name_set;
 mod options;

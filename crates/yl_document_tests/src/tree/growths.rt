@@ -91,7 +91,7 @@ fn many_keys(alloc: Global) -> Result<Vec<Event<'static>>, AllocError> {
     Ok(events)
 }
 
-// The last of many keys are kept in a set.
+// Of many keys a run is kept that ascends, until a repeated one ends it, and then a set.
 #[test]
 fn each_growth_of_many_keys(rt: HostRuntime) -> Result<(), Fail> {
     let events = many_keys(rt.alloc())?;

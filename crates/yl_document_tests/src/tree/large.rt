@@ -77,6 +77,20 @@ fn a_repeated_key_in_a_large_mapping(rt: HostRuntime) -> Result<(), Fail> {
     Ok(())
 }
 
+// No key of it is greater than one before.
+#[test]
+fn a_repeated_key_in_a_large_descending_mapping(rt: HostRuntime) -> Result<(), Fail> {
+    let mut names = names(rt.alloc())?;
+    names.reverse();
+    let events = mapping(rt.alloc(), &names)?;
+    let shown = problems_in(rt.alloc(), key_duplicates_with(false), &events)?;
+    assert_eq!(rt;
+        shown.as_str(),
+        "3:1 key-duplicates duplication of key \"k099999\" in mapping\n"
+    );
+    Ok(())
+}
+
 #[test]
 fn order_of_a_large_mapping(rt: HostRuntime) -> Result<(), Fail> {
     let shown = problems_of_large_mapping(rt.alloc(), Rule::KeyOrdering)?;

@@ -6,8 +6,8 @@ use Rattle.std.proofs.lemmas.List.{map-id}
 use Rattle.std.proofs.lemmas.Str.{chars-IsAscii}
 use Rattle.yl_text.proofs.decode.characters_of.Goals as goal
 
-pub returns-then-is_ascii-clause-ok : goal.returns-then-is_ascii-clause-ok
-returns-then-is_ascii-clause-ok g c = grind (arith, common_steps, chars-IsAscii)
+pub returns-then-are_ascii-clause-ok : goal.returns-then-are_ascii-clause-ok
+returns-then-are_ascii-clause-ok g c = grind (arith, common_steps, chars-IsAscii)
 
 pub returns-clause-ok : goal.returns-clause-ok
 returns-clause-ok g c =
