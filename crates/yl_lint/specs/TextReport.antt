@@ -114,14 +114,18 @@ comments_in_sections line (k ∷ ks) = map (moved_comment line) k.comments ++ co
 
 -- ---- the report
 
--- of a text with this first line, which ends there, in whose lines the rules found this, and of whose sections this is kept
+-- all that is found in a text that ends there, in whose lines the rules found this, and of whose sections this is kept
+abbrev pub found_of_kept : Config → List FindingValue → Pos → List KeptValue → List FindingValue
+found_of_kept config in_lines end ks =
+    let seen = shown ks in
+    in_lines
+    ++ (fault_in_sections 0 end ks
+    ++ findings_in_sections (options_of config).indentation (measure_of (facts_in_sections seen)) 0 empty_measure seen)
+
+-- the report of a text with this first line
 unfoldable pub report_of_kept : Config → List FindingValue → List ℕ → Pos → List KeptValue → List ProblemValue
 report_of_kept config in_lines first end ks =
-    let seen = shown ks in
-    report_of (levels_of config) (disables_file first) (is_silenced (comments_in_sections 0 seen))
-    (in_lines
-    ++ (fault_in_sections 0 end ks
-    ++ findings_in_sections (options_of config).indentation (measure_of (facts_in_sections seen)) 0 empty_measure seen))
+    report_of (levels_of config) (disables_file first) (is_silenced (comments_in_sections 0 (shown ks))) (found_of_kept config in_lines end ks)
 
 abbrev pub records_of : List RowValue → List RecordValue
 records_of rows = records (characters_in rows)

@@ -1,7 +1,8 @@
 //! The report of a text, from what is kept of its sections.
 ghost use Rattle.std.specs.Prelude.{◌≡◌, ◌≤◌, ◌++◌, length, map, take, IfOk, OnOk};
 ghost use Rattle.yl_indentation.specs.Measures.{empty_measure, measure_of};
-ghost use Rattle.yl_lint.specs.TextReport.{facts_in_sections, findings_in_section, findings_in_sections, report_of_kept, shown};
+ghost use Rattle.yl_lint.specs.TextReport.{facts_in_sections, findings_in_section, findings_in_sections, found_of_kept, report_of_kept, shown};
+ghost use Rattle.yl_lint.specs.Unsilenced.{unsilenced_of_kept};
 
 use crate::comments::comments_in_sections;
 use crate::fault::push_fault;
@@ -75,23 +76,52 @@ fn push_sections<A: Allocator + Copy>(
     Ok(())
 }
 
+/// All that is found in a text that ends at `end`, in whose lines the rules on lines found these, and of whose sections this is kept, in
+/// order.
+fn found_of_kept<A: Allocator + Copy>(
+    alloc: A,
+    config: &Config,
+    mut found: Vec<Finding<A>, A>,
+    end: Pos,
+    kept: &[&Kept<A>],
+) -> Result<Vec<Finding<A>, A>, AllocError>
+    ensures { IfOk result (λ v. v.items ≡ found_of_kept config.now found.items end (map (λ k. k.now) kept.now)) }
+{
+    let seen = &kept[..count_shown(kept)];
+    push_fault(alloc, end, kept, &mut found)?;
+    let options = config.indentation_options();
+    push_sections(alloc, options, measure_of(seen), seen, &mut found)?;
+    Ok(found)
+}
+
 /// The report of a text whose first line is `first`, which ends at `end`, in whose lines the rules on lines found these, and of whose
 /// sections this is kept, in order. The only error is out of memory.
 pub fn report_of_kept<A: Allocator + Copy>(
     alloc: A,
     config: &Config,
-    mut found: Vec<Finding<A>, A>,
+    found: Vec<Finding<A>, A>,
     first: &str,
     end: Pos,
     kept: &[&Kept<A>],
 ) -> Result<Vec<Problem<A>, A>, AllocError>
     ensures { IfOk result (λ problems. problems.items ≡ report_of_kept config.now found.items first.now end (map (λ k. k.now) kept.now)) }
 {
-    let seen = &kept[..count_shown(kept)];
-    let comments = comments_in_sections(alloc, seen)?;
+    let comments = comments_in_sections(alloc, &kept[..count_shown(kept)])?;
     let silences = Silences::read(alloc, first, &comments)?;
-    push_fault(alloc, end, kept, &mut found)?;
-    let options = config.indentation_options();
-    push_sections(alloc, options, measure_of(seen), seen, &mut found)?;
+    let found = found_of_kept(alloc, config, found, end, kept)?;
     arrange(alloc, found, config.levels(), &silences)
+}
+
+/// The same as if no comment silenced anything.
+pub fn unsilenced_of_kept<A: Allocator + Copy>(
+    alloc: A,
+    config: &Config,
+    found: Vec<Finding<A>, A>,
+    end: Pos,
+    kept: &[&Kept<A>],
+) -> Result<Vec<Problem<A>, A>, AllocError>
+    ensures { IfOk result (λ problems. problems.items ≡ unsilenced_of_kept config.now found.items end (map (λ k. k.now) kept.now)) }
+{
+    let found = found_of_kept(alloc, config, found, end, kept)?;
+    arrange(alloc, found, config.levels(), &Silences::none(alloc))
 }

@@ -1,6 +1,8 @@
 //! Laws of reports.
 ghost use Rattle.yl_lint.specs.Laws.{OneReport, ReportReports};
+ghost use Rattle.yl_lint.specs.Unsilenced.{IsHeardOfText};
 
+use yl_report::heard_reports;
 use yl_sections::one_kept;
 
 /// Laws: a text has one report, which rests on the derivations of its documents alone, and `report` computes it.
@@ -9,4 +11,11 @@ pub fn one_report()
     ensures computed { ReportReports }
 {
     one_kept();
+}
+
+/// A law: the report of a text is what its comments leave of the one that none silences.
+pub fn heard_of_text()
+    ensures { IsHeardOfText }
+{
+    heard_reports();
 }

@@ -4,7 +4,7 @@
 //! on lines find: `report_of_lines`. Sections after the first with a fault are hidden.
 //!
 //! For a session, which keeps the records and what is kept of the sections, there are two of the steps by themselves: `kept_of_records` and
-//! `report_with_kept`.
+//! `report_with_kept`. It can ask too what would be reported if no comment silenced anything: `unsilenced_with_kept`.
 #![tactic(auto)]
 
 mod assembling;
@@ -19,7 +19,7 @@ mod moving;
 pub use assembling::{push_section, report_of_kept};
 pub use comments::push_comments;
 pub use kept::kept_of_records;
-pub use laws::one_report;
+pub use laws::{heard_of_text, one_report};
 pub use lines::find_in_lines;
-pub use lint::{report_of_lines, report_of_text, report_with_kept};
+pub use lint::{report_of_lines, report_of_text, report_with_kept, unsilenced_with_kept};
 pub use moving::{line_below, push_moved};

@@ -5,8 +5,9 @@ ghost use Rattle.yl_text.specs.Lines.{lines_of};
 ghost use Rattle.yl_text.specs.Store.{AreLines};
 ghost use Rattle.yl_lint.specs.Left.{kept_left, lines_left};
 ghost use Rattle.yl_lint.specs.TextReport.{document_total, kept_of_text, report, report_of_kept};
+ghost use Rattle.yl_lint.specs.Unsilenced.{unsilenced_report};
 
-use crate::assembling::report_of_kept;
+use crate::assembling::{report_of_kept, unsilenced_of_kept};
 use crate::kept::{SectionReader, kept_of_lines, lent};
 use crate::lines::{LineReader, end_of, find_in_lines, first_text};
 use std::alloc::{AllocError, Allocator};
@@ -30,6 +31,21 @@ pub fn report_with_kept<L: Lines>(
 {
     let found = find_in_lines(alloc, config, lines)?;
     report_of_kept(alloc, config, found, first_text(lines), end_of(lines), kept)
+}
+
+/// The same as if no comment silenced anything.
+pub fn unsilenced_with_kept<L: Lines>(
+    alloc: L::Alloc,
+    config: &Config,
+    lines: &L,
+    kept: &[&Kept<L::Alloc>],
+) -> Result<Vec<Problem<L::Alloc>, L::Alloc>, AllocError>
+    requires lines { AreLines (L.rows lines.now) }
+    requires kept { map (λ k. k.now) kept.now ≡ kept_of_text config.now (L.rows lines.now) }
+    ensures { IfOk result (λ problems. problems.items ≡ unsilenced_report config.now (L.rows lines.now)) }
+{
+    let found = find_in_lines(alloc, config, lines)?;
+    unsilenced_of_kept(alloc, config, found, end_of(lines), kept)
 }
 
 /// The report of the lines of a text under a configuration, in order. Counts its lines and its documents in the meter. The only error is

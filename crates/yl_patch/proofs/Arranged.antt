@@ -14,6 +14,7 @@ use Rattle.yl_rules.specs.declared.level.Level.{Level}
 use Rattle.yl_rules.specs.Levels.{LevelTable}
 use Rattle.yl_report.specs.Report.{ProblemValue, finding_order, order_in_line, insert_by, insert_once, sorted_once, is_reported, is_syntax, with_level, report_of}
 use Rattle.yl_report.proofs.Unique.{one_arrangement}
+use Rattle.yl_report.proofs.Filtered.{all_filter, filter_in, in_filter}
 use Rattle.yl_report.proofs.Inserted.{sorted_once_arranged}
 use Rattle.yl_report.proofs.Unique.{In, in_from, from_in}
 use Rattle.yl_lint.specs.TextReport.{moved}
@@ -160,14 +161,6 @@ arranged_alike levels s t n xs h e = ap (λ (fs : List FindingValue). filter_map
 
 -- ---- lines apart
 
-all_cond : (P : FindingValue → Type 0) (b : Bool) (x : FindingValue) (ys : List FindingValue) → P x → AllByRecursion P ys → AllByRecursion P (cond b (x ∷ ys) ys)
-all_cond P true x ys p h = (p, h)
-all_cond P false x ys p h = h
-
-all_filter : (P : FindingValue → Type 0) (p : FindingValue → Bool) (xs : List FindingValue) → AllByRecursion P xs → AllByRecursion P (filter p xs)
-all_filter P p [] h = tt
-all_filter P p (x ∷ xs) h = all_cond P (p x) x (filter p xs) h.0 (all_filter P p xs h.1)
-
 pub arranged_apart : (levels : LevelTable) (s : RuleId → ℕ → Bool) (n : ℕ) (xs ys : List FindingValue) → AllByRecursion (λ f. f.line ≤ n) xs → AllByRecursion (λ f. n < f.line) ys
     → arranged levels s (xs ++ ys) ≡ arranged levels s xs ++ arranged levels s ys
 arranged_apart levels s n xs ys h k =
@@ -204,30 +197,6 @@ sorted_same xs ys s =
       all = λ f h. a.all f (from_in f ys (s.there f (in_from f xs h)));
       only = λ f h. from_in f xs (s.back f (in_from f ys (a.only f h)));
     })
-
-in_cond : (b : Bool) (f x : FindingValue) (ys : List FindingValue) → In f (cond b (x ∷ ys) ys) → ((f ≡ x) × (b ≡ true)) ⊎ In f ys
-in_cond true f x ys (inl e) = inl (e, refl)
-in_cond true f x ys (inr h) = inr h
-in_cond false f x ys h = inr h
-
-cond_in : (b : Bool) (f x : FindingValue) (ys : List FindingValue) → ((f ≡ x) × (b ≡ true)) ⊎ In f ys → In f (cond b (x ∷ ys) ys)
-cond_in true f x ys (inl e) = inl e.0
-cond_in true f x ys (inr h) = inr h
-cond_in false f x ys (inl e) = absurd (cc)
-cond_in false f x ys (inr h) = h
-
-in_filter : (p : FindingValue → Bool) (f : FindingValue) (xs : List FindingValue) → In f (filter p xs) → In f xs × (p f ≡ true)
-in_filter p f [] h = absurd h
-in_filter p f (x ∷ xs) h = deeper (in_cond (p x) f x (filter p xs) h) (in_filter p f xs)
-  where
-    deeper : ((f ≡ x) × (p x ≡ true)) ⊎ In f (filter p xs) → (In f (filter p xs) → In f xs × (p f ≡ true)) → In f (x ∷ xs) × (p f ≡ true)
-    deeper (inl e) b = (inl e.0, ap p e.0 ∙ e.1)
-    deeper (inr g) b = let r = b g in (inr r.0, r.1)
-
-filter_in : (p : FindingValue → Bool) (f : FindingValue) (xs : List FindingValue) → In f xs → p f ≡ true → In f (filter p xs)
-filter_in p f [] h t = absurd h
-filter_in p f (x ∷ xs) (inl e) t = cond_in (p x) f x (filter p xs) (inl (e, sym (ap p e) ∙ t))
-filter_in p f (x ∷ xs) (inr h) t = cond_in (p x) f x (filter p xs) (inr (filter_in p f xs h t))
 
 filter_same : (p : FindingValue → Bool) (xs ys : List FindingValue) → AreSame xs ys → AreSame (filter p xs) (filter p ys)
 filter_same p xs ys s = record {

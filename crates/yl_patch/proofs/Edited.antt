@@ -21,6 +21,7 @@ use Rattle.yl_lint.specs.TextReport.{comments_in_sections, end_of_lines, facts_i
 use Rattle.yl_patch.specs.Cut.{IsInside, is_filled}
 use Rattle.yl_patch.specs.Patched.{is_upto, patched}
 use Rattle.yl_patch.specs.Plain.{IsPlain, row_sum}
+use Rattle.yl_patch.specs.Seen.{IsSeen, sections_between}
 use Rattle.yl_patch.specs.Speaking.{SpeakAlike}
 use Rattle.yl_patch.specs.Settled.{fault_behind, found_by_fault, hides_below, settled, settled_below}
 use Rattle.yl_patch.specs.There.{found_there}
@@ -54,7 +55,7 @@ same_between xs ys zs all s = record {
 
 -- ---- what sections show
 
-comments_same : (line : ℕ) (ks : List KeptValue) → comments_in_sections line (shown ks) ≡ comments_in_sections line (settled ks)
+pub comments_same : (line : ℕ) (ks : List KeptValue) → comments_in_sections line (shown ks) ≡ comments_in_sections line (settled ks)
 comments_same line [] = refl
 comments_same line (k ∷ ks) = ap (λ (cs : List PlacedCommentValue). map (moved_comment line) k.comments ++ cs) (later k.fault (comments_same (line + k.rows) ks))
   where
@@ -122,11 +123,6 @@ settled_report config in_lines first end ks plain loud =
     ∙ (ap (λ (seen : List KeptValue). report_of l false (is_silenced (comments_in_sections 0 seen)) (in_lines ++ (fault_in_sections 0 end all ++ findings_in_sections o (measured seen) 0 empty_measure seen))) (shown_plain all plain)
     ∙ ap (λ (fs : List FindingValue). report_of l false s (in_lines ++ (fs ++ findings_in_sections o w 0 empty_measure all))) (no_fault 0 end all plain))))))
 
-report_by : (config : Config) (rows : List RowValue) (ks : List KeptValue) → ks ≡ kept_of_text config rows → AllByRecursion IsPlain (settled ks) → disables_file (first_text rows) ≡ false
-    → report config rows ≡ report_with config rows (settled ks)
-unfolding report
-report_by config rows ks is plain loud = ap (report_with config rows) (sym is) ∙ settled_report config (findings_in_lines (options_of config) rows) (first_text rows) (end_of_lines rows) ks plain loud
-
 -- ---- an edit of a text in which some sections may be hidden: those touched and what stands behind them are so before and after it
 
 module _ (config : Config) (rows ins : List RowValue) (kept new : List KeptValue) (a b from end : ℕ) (t : Touched)
@@ -152,20 +148,36 @@ module _ (config : Config) (rows ins : List RowValue) (kept new : List KeptValue
   touched_is : take (end - from) (drop from (settled kept)) ≡ settled_below h ls
   touched_is = settled_touched kept new from end h within within' above
 
-  pub report_edited : kept ≡ kept_of_text config rows → splice kept from end new ≡ kept_of_text config rows' → AllByRecursion IsPlain (settled kept) → AllByRecursion IsPlain put_new → hides_below h ls ≡ hides_below h new
-      → disables_file (first_text rows) ≡ false → disables_file (first_text rows') ≡ false
+  pub report_edited : (head head' : List ℕ) → disables_file head ≡ false → disables_file head' ≡ false → AllByRecursion IsPlain (settled kept) → AllByRecursion IsPlain put_new → hides_below h ls ≡ hides_below h new
       → t.first ≡ row_sum ks → t.old_end ≡ t.first + row_sum ls → t.new_end ≡ t.first + row_sum new → (e : Ends) → e.begins ≡ (t.first == 0) → e.ends ≡ (t.old_end == length rows)
       → (e.begins ≡ false → is_filled (slice_get rows t.first) ≡ true) → (e.begins ≡ false → is_filled (slice_get rows' t.first) ≡ true) → (e.ends ≡ false → is_filled (slice_get rows t.old_end) ≡ true)
       → SpeakAlike (settled_below h ls) put_new → measured (settled_below h ls) ≡ measured put_new
-      → (i j : ℕ) (put old : List ProblemValue) → old ≡ report config rows → i ≡ prefix_len (is_upto t.first) old → j ≡ prefix_len (is_upto t.old_end) old
+      → (i j : ℕ) (put old : List ProblemValue) → old ≡ report_with config head rows kept → i ≡ prefix_len (is_upto t.first) old → j ≡ prefix_len (is_upto t.old_end) old
       → put ≡ arranged (levels_of config) (is_silenced (comments_in_sections 0 (settled ks ++ put_new))) (map (moved t.first) (found_there (options_of config) e (measured (settled kept)) (measured (settled ks)) qs put_new))
-      → patched i j put t.old_end t.new_end old ≡ report config rows'
-  report_edited is is' plain plainₙ below loud loud' first old_end new_end e begins ends filled filled' filled'' alike same i j put old old_is i_is j_is put_is =
+      → patched i j put t.old_end t.new_end old ≡ report_with config head' rows' (splice kept from end new)
+  report_edited head head' loud loud' plain plainₙ below first old_end new_end e begins ends filled filled' filled'' alike same i j put old old_is i_is j_is put_is =
       let spliced = settled_splice kept new from end h within within' above below in
       let all = plain_put kept new from end h within within' above plain plainₙ below in
-      report_renewed config rows ins (settled kept) put_new a b from end t ordered within (omega (arith, within', length_settled false kept)) inside
-      (report_by config rows kept is plain loud) (report_by config rows' (splice kept from end new) is' all loud' ∙ ap (report_with config rows') (sym spliced)) plain plainₙ loud loud'
+      report_renewed config rows ins (settled kept) put_new a b from end t ordered within (omega (arith, within', length_settled false kept)) inside head head' loud loud' plain plainₙ
       (omega (arith, first, ap row_sum front_is, rows_settled false ks)) (omega (arith, old_end, ap row_sum touched_is, rows_settled h ls)) (omega (arith, new_end, rows_settled h new)) e begins ends filled filled' filled''
-      (subst (λ (xs : List KeptValue). SpeakAlike xs put_new) (sym touched_is) alike) (ap measured touched_is ∙ same) i j put old old_is i_is j_is
+      (subst (λ (xs : List KeptValue). SpeakAlike xs put_new) (sym touched_is) alike) (ap measured touched_is ∙ same) i j put old
+      (old_is ∙ settled_report config (findings_in_lines (options_of config) rows) head (end_of_lines rows) kept plain loud) i_is j_is
       (put_is
       ∙ ap (λ (xs : List KeptValue). arranged (levels_of config) (is_silenced (comments_in_sections 0 (xs ++ put_new))) (map (moved t.first) (found_there (options_of config) e (measured (settled kept)) (measured xs) qs put_new))) (sym front_is))
+      ∙ (ap (report_with config head' rows') spliced ∙ sym (settled_report config (findings_in_lines (options_of config) rows') head' (end_of_lines rows') (splice kept from end new) all loud'))
+
+-- ---- an edit of a text whose report is this
+
+pub report_as_shown : (config : Config) (rows ins : List RowValue) (kept new : List KeptValue) (a b from end sound : ℕ) (t : Touched) (h : Bool) (found : List FindingValue)
+    → IsSeen config rows ins kept new a b from end sound t h found → a ≤ b → from ≤ end → end ≤ length kept → kept ≡ kept_of_text config rows → splice kept from end new ≡ kept_of_text config (splice rows a b ins)
+    → disables_file (first_text rows) ≡ false → disables_file (first_text (splice rows a b ins)) ≡ false → SpeakAlike (settled_below h (sections_between from end kept)) (settled_below h new)
+    → (i j : ℕ) (put old : List ProblemValue) → old ≡ report config rows → i ≡ prefix_len (is_upto t.first) old → j ≡ prefix_len (is_upto t.old_end) old
+    → put ≡ arranged (levels_of config) (is_silenced (comments_in_sections 0 (settled (take from kept) ++ settled_below h new))) found
+    → patched i j put t.old_end t.new_end old ≡ report config (splice rows a b ins)
+unfolding report
+report_as_shown config rows ins kept new a b from end sound t h found seen ordered within within' is is' loud loud' alike i j put old old_is i_is j_is put_is =
+    report_edited config rows ins kept new a b from end t ordered within within' seen.inside h seen.hides.above (first_text rows) (first_text (splice rows a b ins)) loud loud' seen.plain seen.new_plain seen.below
+    seen.first seen.old_end seen.new_end seen.ends seen.begins_text seen.ends_text seen.old_seam seen.new_seam seen.behind_seam alike seen.measure i j put old
+    (old_is ∙ ap (report_with config (first_text rows) rows) (sym is)) i_is j_is
+    (put_is ∙ ap (arranged (levels_of config) (is_silenced (comments_in_sections 0 (settled (take from kept) ++ settled_below h new)))) seen.there)
+    ∙ ap (report_with config (first_text (splice rows a b ins)) (splice rows a b ins)) is'

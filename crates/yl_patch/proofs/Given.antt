@@ -1,5 +1,5 @@
 -- What follows of optional values, and of one report and its parts.
-use Rattle.std.proofs.Common.{◌≡◌, ℕ, Bool, true, false, List, [], Option, Some, None, refl, ap, sym, ◌∙◌, arith}
+use Rattle.std.proofs.Common.{◌≡◌, ℕ, Bool, true, false, List, [], Option, Some, None, refl, ap, sym, subst, ◌∙◌, arith}
 use Rattle.std.proofs.lemmas.List.{map-append}
 use Rattle.std.specs.Option.{SomeIff}
 use Rattle.std.specs.Prelude.{not, IfSome, IfOk, Result, Ok, Err, ◌++◌, map}
@@ -20,6 +20,9 @@ use Rattle.yl_patch.proofs.Sections.{sections_moved}
 pub is_so : (b : Bool) → not b ≡ false → b ≡ true
 is_so true h = refl
 is_so false h = sym h
+
+pub in_some : {X : Type 0} (P : X → Type 0) (o : Option X) (x : X) → o ≡ Some x → IfSome o P → P x
+in_some {X = X} P o x e h = subst (λ (v : Option X). IfSome v P) e h
 
 pub then : {X : Type 0} {P Q : X → Type 0} (o : Option X) → IfSome o P → ((x : X) → P x → Q x) → IfSome o Q
 then None p f = tt
@@ -61,3 +64,7 @@ put_together o e whole before down rows ks p start lines first last none in_line
 
 pub same_there : (o : RuleOptions) (e : Ends) (w v b d : Measure) (xs ys : List RowValue) (ks : List KeptValue) → w ≡ v → b ≡ d → xs ≡ ys → found_there o e w b xs ks ≡ found_there o e v d ys ks
 same_there o e w v b d xs ys ks f g h = rw (f, g, h) refl
+
+pub then_each : {X : Type 0} {P Q R S T : X → Type 0} (o : Option X) → IfSome o P → IfSome o Q → IfSome o R → IfSome o S → ((x : X) → P x → Q x → R x → S x → T x) → IfSome o T
+then_each None p q r s f = tt
+then_each (Some x) p q r s f = f x p q r s

@@ -10,7 +10,9 @@ pub mod Settled
 pub mod Shifted
 pub mod Shown
 pub mod Silenced
+pub mod Said
 pub mod SilencingSections
 pub mod Spoken
 pub mod Walks
 pub mod Given
+pub mod WithoutSilences

@@ -19,7 +19,7 @@ use Rattle.yl_config.specs.Config.{levels_of, options_of}
 use Rattle.yl_report.specs.Directive.{disables_file, is_silenced}
 use Rattle.yl_report.specs.Report.{ProblemValue, report_of}
 use Rattle.yl_sections.specs.Kept.{KeptValue, items_if}
-use Rattle.yl_lint.specs.TextReport.{findings_from, findings_in_lines, findings_in_sections, fault_in_sections, comments_in_sections, moved, moved_comment, shown, first_text, end_of_lines, report, report_of_kept}
+use Rattle.yl_lint.specs.TextReport.{findings_from, findings_in_lines, findings_in_sections, fault_in_sections, comments_in_sections, moved, moved_comment, shown, end_of_lines, report_of_kept}
 use Rattle.yl_patch.specs.Cut.{IsInside, is_filled}
 use Rattle.yl_patch.specs.Patched.{is_upto, patched}
 use Rattle.yl_patch.specs.Plain.{IsPlain, row_sum}
@@ -64,13 +64,13 @@ module _ (config : Config) (first : List ℕ) (end : Pos) (rows : List RowValue)
       ∙ (ap (λ (seen : List KeptValue). report_of (levels_of config) false (is_silenced (comments_in_sections 0 seen)) (found seen (fault_in_sections 0 end ks))) (shown_plain ks plain)
       ∙ (ap (λ (fs : List FindingValue). arranged (levels_of config) silenced (found ks fs)) (no_fault 0 end ks plain) ∙ ap (arranged (levels_of config) silenced) whole_part))
 
--- the report of a text of whose sections this is kept
-abbrev pub report_with : Config → List RowValue → List KeptValue → List ProblemValue
-report_with config rows ks = report_of_kept config (findings_in_lines (options_of config) rows) (first_text rows) (end_of_lines rows) ks
+-- the report of a text with this first line, of whose sections this is kept
+abbrev pub report_with : Config → List ℕ → List RowValue → List KeptValue → List ProblemValue
+report_with config first rows ks = report_of_kept config (findings_in_lines (options_of config) rows) first (end_of_lines rows) ks
 
-report_is : (config : Config) (rows : List RowValue) (ks : List KeptValue) → report config rows ≡ report_with config rows ks → AllByRecursion IsPlain ks → disables_file (first_text rows) ≡ false
-    → report config rows ≡ arranged (levels_of config) (is_silenced (comments_in_sections 0 ks)) (part (options_of config) (measured ks) true true empty_measure rows ks)
-report_is config rows ks e plain loud = e ∙ plain_report config (first_text rows) (end_of_lines rows) rows ks plain loud
+report_is : (config : Config) (first : List ℕ) (rows : List RowValue) (ks : List KeptValue) → AllByRecursion IsPlain ks → disables_file first ≡ false
+    → report_with config first rows ks ≡ arranged (levels_of config) (is_silenced (comments_in_sections 0 ks)) (part (options_of config) (measured ks) true true empty_measure rows ks)
+report_is config first rows ks plain loud = plain_report config first (end_of_lines rows) rows ks plain loud
 
 -- ---- three parts, of which the second becomes another
 
@@ -153,7 +153,7 @@ module _ (cs xs ys ds : List PlacedCommentValue) (first n m : ℕ) (low : AllByR
 
 -- a text of three parts, the second of which becomes another
 module _ (config : Config) (ks ls news ms : List KeptValue) (plain : AllByRecursion IsPlain ks) (plain' : AllByRecursion IsPlain ls) (plainₙ : AllByRecursion IsPlain news) (plain'' : AllByRecursion IsPlain ms)
-    (alike : SpeakAlike ls news) (same : measured ls ≡ measured news) where
+    (alike : SpeakAlike ls news) (same : measured ls ≡ measured news) (head head' : List ℕ) (loud : disables_file head ≡ false) (loud' : disables_file head' ≡ false) where
   abbrev opts : RuleOptions
   opts = options_of config
 
@@ -192,14 +192,12 @@ module _ (config : Config) (ks ls news ms : List KeptValue) (plain : AllByRecurs
 
   renewed_parts : (fs ps qs bs : List RowValue) → row_sum ks ≡ length fs → row_sum ls ≡ length ps → row_sum news ≡ length qs
       → 0 < length ps → 0 < length qs → is_seam fs ps ≡ true → is_seam fs qs ≡ true → is_seam ps bs ≡ true
-      → report config (fs ++ (ps ++ bs)) ≡ report_with config (fs ++ (ps ++ bs)) (ks ++ (ls ++ ms)) → report config (fs ++ (qs ++ bs)) ≡ report_with config (fs ++ (qs ++ bs)) (ks ++ (news ++ ms))
-      → disables_file (first_text (fs ++ (ps ++ bs))) ≡ false → disables_file (first_text (fs ++ (qs ++ bs))) ≡ false
-      → (i j up down : ℕ) (put old : List ProblemValue) → old ≡ report config (fs ++ (ps ++ bs)) → i ≡ prefix_len (is_upto (length fs)) old → j ≡ prefix_len (is_upto up) old → up ≡ length fs + length ps → down ≡ length fs + length qs
+      → (i j up down : ℕ) (put old : List ProblemValue) → old ≡ report_with config head (fs ++ (ps ++ bs)) (ks ++ (ls ++ ms)) → i ≡ prefix_len (is_upto (length fs)) old → j ≡ prefix_len (is_upto up) old → up ≡ length fs + length ps → down ≡ length fs + length qs
       → (e : Ends) → e.begins ≡ if_none fs true → e.ends ≡ if_none bs true → put ≡ arranged levels (is_silenced (comments_in_sections 0 (ks ++ news))) (map (moved (length fs)) (found_there opts e wholly (measured ks) qs news))
-      → patched i j put up down old ≡ report config (fs ++ (qs ++ bs))
-  renewed_parts fs [] qs bs f g h some _ _ _ _ _ _ _ _ _ _ _ _ _ _ _ _ _ _ _ _ _ _ _ = absurd (omega (arith, some))
-  renewed_parts fs (p ∷ ps) [] bs f g h _ some _ _ _ _ _ _ _ _ _ _ _ _ _ _ _ _ _ _ _ _ _ _ = absurd (omega (arith, some))
-  renewed_parts fs (p ∷ ps) (q ∷ qs) bs f g h _ _ seam seam' behind_seam is is' loud loud' i j up down put old old_is i_is j_is up_is down_is e begins ends put_is =
+      → patched i j put up down old ≡ report_with config head' (fs ++ (qs ++ bs)) (ks ++ (news ++ ms))
+  renewed_parts fs [] qs bs f g h some _ _ _ _ _ _ _ _ _ _ _ _ _ _ _ _ _ _ _ = absurd (omega (arith, some))
+  renewed_parts fs (p ∷ ps) [] bs f g h _ some _ _ _ _ _ _ _ _ _ _ _ _ _ _ _ _ _ _ = absurd (omega (arith, some))
+  renewed_parts fs (p ∷ ps) (q ∷ qs) bs f g h _ _ seam seam' behind_seam i j up down put old old_is i_is j_is up_is down_is e begins ends put_is =
       let first = length fs in
       let n = length (p ∷ ps) in
       let m = length (q ∷ qs) in
@@ -223,7 +221,7 @@ module _ (config : Config) (ks ls news ms : List KeptValue) (plain : AllByRecurs
       let old_rows = fs ++ ((p ∷ ps) ++ bs) in
       let new_rows = fs ++ ((q ∷ qs) ++ bs) in
       let old_parts =
-      report_is config old_rows (ks ++ (ls ++ ms)) is all loud
+      report_is config head old_rows (ks ++ (ls ++ ms)) all loud
       ∙ (ap (λ (z : RuleId → ℕ → Bool). arranged levels z (part opts wholly true true empty_measure old_rows (ks ++ (ls ++ ms)))) (old_says first n f g)
       ∙ three_parts levels s opts p fs ps bs ks ls ms wholly plain plain' plain'' f g seam behind_seam) in
       let front_is : front levels s' opts q fs qs bs ks news ms wholly plain plainₙ plain'' f h seam' behind_seam' ≡ a =
@@ -232,7 +230,7 @@ module _ (config : Config) (ks ls news ms : List KeptValue) (plain : AllByRecurs
       ap (λ (d : Measure). behind levels s' opts q fs qs bs ks news ms wholly plain plainₙ plain'' f h seam' behind_seam' (and_later (measured ks) d)) (sym same)
       ∙ ap (λ (z : RuleId → ℕ → Bool). arranged levels z (part opts wholly false true before bs ms)) (says_behind cs xs ys ds first n m low low' lowₙ within withinₙ alike.switches some some') in
       let new_parts =
-      report_is config new_rows (ks ++ (news ++ ms)) is' all' loud'
+      report_is config head' new_rows (ks ++ (news ++ ms)) all' loud'
       ∙ (ap (λ (d : Measure). arranged levels (is_silenced (comments_in_sections 0 (ks ++ (news ++ ms)))) (part opts d true true empty_measure new_rows (ks ++ (news ++ ms)))) same_whole
       ∙ (ap (λ (z : RuleId → ℕ → Bool). arranged levels z (part opts wholly true true empty_measure new_rows (ks ++ (news ++ ms)))) (new_says first m f h)
       ∙ (three_parts levels s' opts q fs qs bs ks news ms wholly plain plainₙ plain'' f h seam' behind_seam'
@@ -244,7 +242,7 @@ module _ (config : Config) (ks ls news ms : List KeptValue) (plain : AllByRecurs
       let there : found_there opts e wholly (measured ks) (q ∷ qs) news ≡ found =
       found_is_part opts e wholly (measured ks) (q ∷ qs) news
       ∙ (ap (λ begins. part opts wholly begins e.ends (measured ks) (q ∷ qs) news) begins ∙ ap (λ ends. part opts wholly (if_none fs true) ends (measured ks) (q ∷ qs) news) ends) in
-      patched_so a b c b' old (report config new_rows) put first n m i j up down (old_is ∙ old_parts) new_parts
+      patched_so a b c b' old (report_with config head' new_rows (ks ++ (news ++ ms))) put first n m i j up down (old_is ∙ old_parts) new_parts
       (put_is
       ∙ (ap (λ (fs : List FindingValue). arranged levels (is_silenced (comments_in_sections 0 (ks ++ news))) (map (moved first) fs)) there
       ∙ (ap (λ (zs : List PlacedCommentValue). arranged levels (is_silenced zs) (map (moved first) found)) (comments_two ks news first (sym f))
@@ -346,15 +344,14 @@ module _ (config : Config) (rows ins : List RowValue) (kept new : List KeptValue
   bs_none : (t.old_end == length rows) ≡ if_none bs true
   bs_none = none_by bs t.old_end (length rows) (λ e. omega (arith, bs_length, e, inside.back)) (λ e. omega (arith, bs_length, e))
 
-  pub report_renewed : report config rows ≡ report_with config rows kept → report config rows' ≡ report_with config rows' (splice kept from end new) → AllByRecursion IsPlain kept → AllByRecursion IsPlain new
-      → disables_file (first_text rows) ≡ false → disables_file (first_text rows') ≡ false
+  pub report_renewed : (head head' : List ℕ) → disables_file head ≡ false → disables_file head' ≡ false → AllByRecursion IsPlain kept → AllByRecursion IsPlain new
       → t.first ≡ row_sum ks → t.old_end ≡ t.first + row_sum ls → t.new_end ≡ t.first + row_sum new → (e : Ends) → e.begins ≡ (t.first == 0) → e.ends ≡ (t.old_end == length rows)
       → (e.begins ≡ false → is_filled (slice_get rows t.first) ≡ true) → (e.begins ≡ false → is_filled (slice_get rows' t.first) ≡ true) → (e.ends ≡ false → is_filled (slice_get rows t.old_end) ≡ true)
       → SpeakAlike ls new → measured ls ≡ measured new
-      → (i j : ℕ) (put old : List ProblemValue) → old ≡ report config rows → i ≡ prefix_len (is_upto t.first) old → j ≡ prefix_len (is_upto t.old_end) old
+      → (i j : ℕ) (put old : List ProblemValue) → old ≡ report_with config head rows kept → i ≡ prefix_len (is_upto t.first) old → j ≡ prefix_len (is_upto t.old_end) old
       → put ≡ arranged (levels_of config) (is_silenced (comments_in_sections 0 (ks ++ new))) (map (moved t.first) (found_there (options_of config) e (measured kept) (measured ks) qs new))
-      → patched i j put t.old_end t.new_end old ≡ report config rows'
-  report_renewed is is' plain plainₙ loud loud' first old_end new_end e begins ends filled filled' filled'' alike same i j put old old_is i_is j_is put_is =
+      → patched i j put t.old_end t.new_end old ≡ report_with config head' rows' (splice kept from end new)
+  report_renewed head head' loud loud' plain plainₙ first old_end new_end e begins ends filled filled' filled'' alike same i j put old old_is i_is j_is put_is =
       let split = subst (λ xs. AllByRecursion IsPlain xs) kept_three plain in
       let rest = all_back IsPlain ks (ls ++ ms) split in
       let begins_is = begins ∙ fs_none in
@@ -362,14 +359,11 @@ module _ (config : Config) (rows ins : List RowValue) (kept new : List KeptValue
       let seam = front_seam fs ps (λ h. filled_there rows t.first (t.old_end - t.first) (omega (arith, inside.old_some)) (filled (begins_is ∙ h))) in
       let seam' = front_seam fs qs (λ h. filled_there rows' t.first (t.new_end - t.first) (omega (arith, inside.new_some)) (filled' (begins_is ∙ h))) in
       let seam'' = back_seam ps bs (λ h. ap is_filled (head_dropped rows t.old_end) ∙ filled'' (ends_is ∙ h)) in
-      renewed_parts config ks ls new ms (all_front IsPlain ks (ls ++ ms) split) (all_front IsPlain ls ms rest) plainₙ (all_back IsPlain ls ms rest) alike same fs ps qs bs
+      renewed_parts config ks ls new ms (all_front IsPlain ks (ls ++ ms) split) (all_front IsPlain ls ms rest) plainₙ (all_back IsPlain ls ms rest) alike same head head' loud loud' fs ps qs bs
       (omega (arith, first, fs_length)) (omega (arith, old_end, ps_length)) (omega (arith, new_end, qs_length)) (omega (arith, ps_length, inside.old_some)) (omega (arith, qs_length, inside.new_some)) seam seam' seam''
-      (sym (ap (report config) rows_three) ∙ (is ∙ (ap (report_with config rows) kept_three ∙ ap (λ xs. report_with config xs (ks ++ (ls ++ ms))) rows_three)))
-      (sym (ap (report config) rows_three') ∙ (is' ∙ ap (λ xs. report_with config xs (splice kept from end new)) rows_three'))
-      (ap (λ xs. disables_file (first_text xs)) (sym rows_three) ∙ loud) (ap (λ xs. disables_file (first_text xs)) (sym rows_three') ∙ loud')
-      i j t.old_end t.new_end put old (old_is ∙ ap (report config) rows_three) (i_is ∙ ap (λ n. prefix_len (is_upto n) old) (sym fs_length)) j_is (omega (arith, fs_length, ps_length, inside.old_some)) (omega (arith, fs_length, qs_length, inside.new_some))
+      i j t.old_end t.new_end put old (old_is ∙ (ap (report_with config head rows) kept_three ∙ ap (λ xs. report_with config head xs (ks ++ (ls ++ ms))) rows_three)) (i_is ∙ ap (λ n. prefix_len (is_upto n) old) (sym fs_length)) j_is (omega (arith, fs_length, ps_length, inside.old_some)) (omega (arith, fs_length, qs_length, inside.new_some))
       e begins_is ends_is
       (put_is
       ∙ (ap (λ n. arranged (levels_of config) (is_silenced (comments_in_sections 0 (ks ++ new))) (map (moved n) (found_there (options_of config) e (measured kept) (measured ks) qs new))) (sym fs_length)
       ∙ ap (λ (xs : List KeptValue). arranged (levels_of config) (is_silenced (comments_in_sections 0 (ks ++ new))) (map (moved (length fs)) (found_there (options_of config) e (measured xs) (measured ks) qs new))) kept_three))
-      ∙ ap (report config) (sym rows_three')
+      ∙ ap (λ xs. report_with config head' xs (splice kept from end new)) (sym rows_three')

@@ -12,7 +12,7 @@ use Rattle.yl_patch.proofs.Sections.{no_comments}
 use Rattle.yl_patch.proofs.Settled.{comments_hidden, hides_sound, silent_settled, sound_settled}
 
 -- sections without comments
-none_alike : (ls ns : List KeptValue) → comments_in_sections 0 ls ≡ [] → comments_in_sections 0 ns ≡ [] → SpeakAlike ls ns
+pub none_alike : (ls ns : List KeptValue) → comments_in_sections 0 ls ≡ [] → comments_in_sections 0 ns ≡ [] → SpeakAlike ls ns
 none_alike ls ns e f = record {
   old = subst (λ (cs : List PlacedCommentValue). AllByRecursion (SpeaksWithin (row_sum ls)) cs) (sym e) tt;
   new = subst (λ (cs : List PlacedCommentValue). AllByRecursion (SpeaksWithin (row_sum ns)) cs) (sym f) tt;

@@ -1,9 +1,7 @@
 //! What is found in the touched lines.
 ghost use Rattle.std.specs.Prelude.{◌≡◌, ◌++◌, map, false, IfOk, OnOk};
 ghost use Rattle.std.specs.Option.{option_map};
-ghost use Rattle.yl_config.specs.Config.{levels_of, options_of};
-ghost use Rattle.yl_report.specs.Report.{report_of};
-ghost use Rattle.yl_report.specs.Silence.{is_file_silenced_by, is_silenced_at};
+ghost use Rattle.yl_config.specs.Config.{options_of};
 ghost use Rattle.yl_sections.specs.Owned.{section_fault_value};
 ghost use Rattle.yl_lint.specs.TextReport.{findings_in_section, findings_in_sections, moved, syntax_finding};
 ghost use Rattle.yl_patch.specs.Settled.{found_by_fault, settled, settled_one};
@@ -16,7 +14,6 @@ use std::alloc::{AllocError, Allocator};
 use yl_config::Config;
 use yl_indentation::{IndentationOptions, Measure};
 use yl_lint::{find_in_lines, line_below, push_moved, push_section};
-use yl_report::{Problem, Silences, arrange};
 use yl_sections::{Kept, SectionFault};
 use yl_text::{Finding, Lines, Pos, RuleId};
 
@@ -118,7 +115,7 @@ fn find_in_some_lines<L: Lines>(
 }
 
 /// What is found in these lines, of which the first stands `down` lines below the first of the text, and in the sections that have them.
-fn find_there<L: Lines>(
+pub fn find_there<L: Lines>(
     alloc: L::Alloc,
     config: &Config,
     ends: Ends,
@@ -136,24 +133,4 @@ fn find_there<L: Lines>(
     let options = config.indentation_options();
     push_sections(alloc, options, whole, down, before, kept, &mut found)?;
     Ok(found)
-}
-
-/// The problems of these lines, of which the first stands `down` lines below the first of the text, and of the sections that have them,
-/// where so much is silenced.
-pub fn problems_there<L: Lines>(
-    alloc: L::Alloc,
-    config: &Config,
-    ends: Ends,
-    lines: &L,
-    down: u32,
-    whole: Measure,
-    before: Measure,
-    kept: &[Kept<L::Alloc>],
-    silences: &Silences<L::Alloc>,
-) -> Result<Vec<Problem<L::Alloc>, L::Alloc>, AllocError>
-    ensures { IfOk result (λ v. v.items ≡ report_of (levels_of config.now) (is_file_silenced_by silences.now) (is_silenced_at silences.now)
-        (map (moved down) (found_there (options_of config.now) ends whole before (L.rows lines.now) (settled kept.now)))) }
-{
-    let found = find_there(alloc, config, ends, lines, down, whole, before, kept)?;
-    arrange(alloc, found, config.levels(), silences)
 }

@@ -1,6 +1,8 @@
 pub mod Addressed
 pub mod Ends
+pub mod Filtered
 pub mod HasLine
+pub mod Heard
 pub mod Inserted
 pub mod LastSwitch
 pub mod Noted

@@ -1,6 +1,7 @@
 pub mod Addressed
 pub mod Arranged
 pub mod Directive
+pub mod Heard
 pub mod Report
 pub mod Silence
 pub mod Switched

@@ -49,7 +49,7 @@ pub fn one_arrangement()
     ensures exists { SortedOnceArranges }
 {}
 
-fn is_syntax(rule: RuleId) -> bool
+pub fn is_syntax(rule: RuleId) -> bool
     ensures { result ≡ spec.is_syntax rule }
 {
     matches!(rule, RuleId::Syntax)

@@ -5,6 +5,7 @@
 mod arranging;
 mod comment;
 mod directive;
+mod hearing;
 mod marks;
 mod noting;
 mod printing;
@@ -12,6 +13,7 @@ mod problem;
 mod silence;
 
 pub use arranging::{arrange, compare, one_arrangement};
+pub use hearing::{copies, heard_reports, retain_heard};
 pub use printing::write_report;
 pub use problem::{Problem, status};
 pub use silence::Silences;

@@ -1,4 +1,5 @@
 mod Bounds
+mod Changed
 mod Read
 mod Renewed
 mod Places

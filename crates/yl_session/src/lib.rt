@@ -8,6 +8,7 @@ mod beginning;
 mod guide;
 mod planning;
 mod reading;
+mod renewing;
 mod replaying;
 mod session;
 mod work;

@@ -1,25 +1,25 @@
 //! A text that is kept open, with its report.
-ghost use Rattle.std.specs.Prelude.{◌≡◌, ◌<◌, ◌≤◌, ◌+◌, ◌^◌, ◌↔◌, IsTrue, length, drop, slice_get, vec_len, vec_capacity, Some, Ok, MatchOption, MatchResult, IfOk, IfSome, OnOk, OnErr};
-ghost use Rattle.std.specs.List.{AllByRecursion, splice};
+ghost use Rattle.std.specs.Prelude.{◌≡◌, ◌<◌, ◌≤◌, ◌+◌, ◌^◌, ◌↔◌, IsTrue, length, slice_get, Some, Ok, MatchResult, IfOk, OnOk, OnErr};
+ghost use Rattle.std.specs.List.{splice};
 ghost use Rattle.yl_text.specs.Lines.{RowValue};
 ghost use Rattle.yl_text.specs.Fault.{IsText, IsFaultOf};
 ghost use Rattle.yl_text.specs.Store.{AreLines, IsRange};
 ghost use Rattle.yl_text.specs.Edit.{CanEdit, edited_text, incoming_lines, inserted_rows};
 ghost use Rattle.yl_session.specs.State.{OneState};
 ghost use Rattle.yl_record.specs.Records.{characters_in};
-ghost use Rattle.yl_patch.specs.Patched.{IsLow, patched};
 ghost use Rattle.yl_session.specs.Runs.{IsNothing};
 ghost use Rattle.yl_session.specs.Work.{IsWork};
 
 use crate::beginning::{OpenedText, begin};
 use crate::guide::put_kept;
-use crate::planning::{Renewal, make_room, planned};
+use crate::planning::{make_room, planned};
+use crate::renewing::{Renewal, renew};
 use crate::work::Work;
 use std::alloc::{AllocError, Allocator};
 use std::marker::Model;
 use yl_chunks::Chunks;
 use yl_config::Config;
-use yl_patch::{Overview, put_patch};
+use yl_patch::Overview;
 use yl_record::Record;
 use yl_rejudge::Place;
 use yl_report::{Problem, status};
@@ -27,7 +27,8 @@ use yl_sections::Kept;
 use yl_text::{LineStore, Row, TextFault, split};
 
 /// The lines of a text, with a record of each, what is kept of its sections and known of all of them, places
-/// among them, and its report under a configuration.
+/// among them, its report under a configuration, and, once it is known, what would be reported if no comment
+/// silenced anything.
 #[derive(Drop)]
 pub struct Session<S: LineStore> {
     alloc: S::Alloc,
@@ -38,12 +39,15 @@ pub struct Session<S: LineStore> {
     places: Vec<Place, S::Alloc>,
     overview: Overview,
     problems: Vec<Problem<S::Alloc>, S::Alloc>,
+    unsilenced: Vec<Problem<S::Alloc>, S::Alloc>,
+    is_known: bool,
 }
 
 impl<S: LineStore> Model for Session<S> {
-    ghost use Rattle.std.specs.Prelude.{◌≡◌};
+    ghost use Rattle.std.specs.Prelude.{◌≡◌, true};
     ghost use Rattle.yl_session.specs.State.{SessionValue};
     ghost use Rattle.yl_lint.specs.TextReport.{kept_of_text, records_of, report};
+    ghost use Rattle.yl_lint.specs.Unsilenced.{unsilenced_report};
     ghost use Rattle.std.specs.List.{AllByRecursion};
     ghost use Rattle.yl_patch.specs.Plain.{IsOverviewOf};
     ghost use Rattle.yl_rejudge.specs.Places.{IsAt};
@@ -58,7 +62,8 @@ impl<S: LineStore> Model for Session<S> {
         × (s.kept.items ≡ kept_of_text s.config (S.rows s.store))
         × (s.problems.items ≡ report s.config (S.rows s.store))
         × IsOverviewOf s.kept.items s.overview
-        × AllByRecursion (IsAt s.kept.items) s.places.items };
+        × AllByRecursion (IsAt s.kept.items) s.places.items
+        × (s.is_known ≡ true → s.unsilenced.items ≡ unsilenced_report s.config (S.rows s.store)) };
 }
 
 impl<S: LineStore> Session<S> {
@@ -96,6 +101,8 @@ impl<S: LineStore> Session<S> {
             places,
             overview,
             problems,
+            unsilenced: Vec::new(alloc),
+            is_known: false,
         })
     }
 
@@ -154,6 +161,8 @@ impl<S: LineStore> Session<S> {
             &self.places,
             self.overview,
             &self.problems,
+            &self.unsilenced,
+            self.is_known,
             a,
             b,
             rows.as_slice(),
@@ -164,6 +173,7 @@ impl<S: LineStore> Session<S> {
             &mut self.kept,
             &mut self.places,
             &mut self.problems,
+            &mut self.unsilenced,
             &plan,
         )?;
         self.store.splice(a, b, rows)?;
@@ -173,8 +183,16 @@ impl<S: LineStore> Session<S> {
             &mut plan.rescan.records,
         );
         put_kept(&mut self.kept, &mut self.places, &mut plan.rejudged);
-        self.overview = plan.renewal.overview;
-        renew(&mut self.problems, plan.renewal);
+        let Renewal {
+            report,
+            unsilenced,
+            is_known,
+            overview,
+        } = plan.renewal;
+        self.overview = overview;
+        self.is_known = is_known;
+        renew(&mut self.problems, report);
+        renew(&mut self.unsilenced, unsilenced);
         Ok(plan.work)
     }
 
@@ -225,27 +243,6 @@ impl<S: LineStore> Session<S> {
 pub fn one_state()
     ensures { OneState }
 {}
-
-/// Puts the new report in place of the old one, or patches it, where there is room; where there is neither, it stays.
-fn renew<A: Allocator>(problems: &mut Vec<Problem<A>, A>, renewal: Renewal<A>)
-    requires range { IfSome renewal.patch (λ p. IsRange p.from p.end (length problems.old.items)) }
-    requires low { IfSome renewal.patch (λ p. AllByRecursion IsLow (drop p.end problems.old.items)) }
-    requires room { IfSome renewal.patch (λ p. vec_len problems.old + vec_len p.problems ≤ vec_capacity problems.old) }
-    ensures { MatchOption renewal.whole
-        (MatchOption renewal.patch (problems.new.items ≡ problems.old.items) (λ p. problems.new.items ≡ patched p.from p.end p.problems.items p.up p.down problems.old.items))
-        (λ v. problems.new.items ≡ v.items) }
-{
-    let Renewal {
-        patch,
-        whole,
-        overview: _,
-    } = renewal;
-    match (whole, patch) {
-        (Some(whole), _) => *problems = whole,
-        (None, Some(mut patch)) => put_patch(problems, &mut patch),
-        (None, None) => {}
-    }
-}
 
 /// Whether no line is replaced by no bytes.
 fn is_nothing(a: usize, b: usize, bytes: &[u8]) -> bool

@@ -146,6 +146,41 @@ static SILENCES: &[Line] = &[
          -- edited\n6:4 too many spaces after colon\n7:4 too many spaces after colon\n12:4 too many spaces after colon\n12:6 trailing spaces\n14:4 too many spaces after colon\n16:4 too many spaces after colon\n\
          -- edited\n6:4 too many spaces after colon\n7:4 too many spaces after colon\n10:4 trailing spaces\n11:4 too many spaces after colon\n11:6 trailing spaces\n13:4 too many spaces after colon\n15:4 too many spaces after colon\n",
     ),
+    // What no comment silences is kept while one does, patched, and told again.
+    (
+        "---\na:  1\n---\nb:  1 \n---\nc:  1\n",
+        &[
+            (1, 1, b"# yamllint disable\n", 3, 1),
+            (6, 7, b"c:  1 \n", 3, 1),
+            (4, 5, b"b: 1\n", 3, 2),
+            (1, 2, b"", 2, 1),
+            (3, 3, b"# yamllint disable rule:colons\n", 3, 1),
+            (1, 2, b"a:  1 \nx:  1\n", 4, 2),
+            (6, 6, b"\"\n", 5, 1),
+            (6, 7, b"", 4, 2),
+            (3, 4, b"", 4, 2),
+            (0, 0, b"# yamllint disable-file\n", 2, 1),
+            (5, 6, b"b:  1\n", 3, 2),
+            (0, 1, b"", 1, 1),
+            (5, 6, b"c: 1 # yamllint disable-line\n", 4, 1),
+            (5, 6, b"c:  1\n", 3, 1),
+        ],
+        "2:4 too many spaces after colon\n4:4 too many spaces after colon\n4:6 trailing spaces\n6:4 too many spaces after colon\n\
+         -- edited\n\
+         -- edited\n\
+         -- edited\n\
+         -- edited\n2:4 too many spaces after colon\n6:4 too many spaces after colon\n6:6 trailing spaces\n\
+         -- edited\n2:4 too many spaces after colon\n7:6 trailing spaces\n\
+         -- edited\n2:4 too many spaces after colon\n2:6 trailing spaces\n3:4 too many spaces after colon\n8:6 trailing spaces\n\
+         -- edited\n2:4 too many spaces after colon\n2:6 trailing spaces\n3:4 too many spaces after colon\n8:1 syntax error: document marker in quoted scalar\n9:6 trailing spaces\n\
+         -- edited\n2:4 too many spaces after colon\n2:6 trailing spaces\n3:4 too many spaces after colon\n8:6 trailing spaces\n\
+         -- edited\n2:4 too many spaces after colon\n2:6 trailing spaces\n3:4 too many spaces after colon\n7:6 trailing spaces\n\
+         -- edited\n\
+         -- edited\n\
+         -- edited\n2:4 too many spaces after colon\n2:6 trailing spaces\n3:4 too many spaces after colon\n7:6 trailing spaces\n\
+         -- edited\n2:4 too many spaces after colon\n2:6 trailing spaces\n3:4 too many spaces after colon\n7:1 duplication of key \"c\" in mapping\n7:6 trailing spaces\n\
+         -- edited\n2:4 too many spaces after colon\n2:6 trailing spaces\n3:4 too many spaces after colon\n7:1 duplication of key \"c\" in mapping\n7:6 trailing spaces\n",
+    ),
 ];
 
 #[test]

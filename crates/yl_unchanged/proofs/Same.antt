@@ -21,6 +21,7 @@ use Rattle.yl_config.specs.declared.config.Config.{Config}
 use Rattle.yl_config.specs.Config.{options_of}
 use Rattle.yl_sections.specs.Kept.{KeptValue}
 use Rattle.yl_lint.specs.TextReport.{findings_from, findings_in_lines, first_text, text_in, width_of_line, end_of_lines, kept_of_text, report, report_of_kept}
+use Rattle.yl_lint.specs.Unsilenced.{unsilenced_of_kept, unsilenced_report}
 use Rattle.yl_lint.proofs.Rows.{rows_at}
 use Rattle.yl_unchanged.specs.Alike.{IsAlike, AreAlike}
 
@@ -182,21 +183,33 @@ end_same config old new s =
     ap (λ n. place (n - 1) (width_of_line (slice_get new (length new - 1)))) s.count
     ∙ ap (λ (r : Option RowValue). place (length old - 1) (width_of_line r)) s.last
 
+lines_same : (config : Config) (old new : List RowValue) → AreSame config old new → findings_in_lines (options_of config) new ≡ findings_in_lines (options_of config) old
+lines_same config old new s =
+    let o = options_of config in
+    ap (λ (fs : List FindingValue). fs ++ run_findings o.run new) s.found ∙ ap (λ (fs : List FindingValue). findings_from o.row 1 old ++ fs) (runs_same config o.run old new s)
+
 report_same : (config : Config) (old new : List RowValue) → AreSame config old new → kept_of_text config new ≡ kept_of_text config old → report config new ≡ report config old
 unfolding report
 report_same config old new s k =
     let o = options_of config in
-    let lines : findings_in_lines o new ≡ findings_in_lines o old =
-    ap (λ (fs : List FindingValue). fs ++ run_findings o.run new) s.found ∙ ap (λ (fs : List FindingValue). findings_from o.row 1 old ++ fs) (runs_same config o.run old new s) in
-    ap (λ (fs : List FindingValue). report_of_kept config fs (first_text new) (end_of_lines new) (kept_of_text config new)) lines
+    ap (λ (fs : List FindingValue). report_of_kept config fs (first_text new) (end_of_lines new) (kept_of_text config new)) (lines_same config old new s)
     ∙ (ap (λ (r : Option RowValue). report_of_kept config (findings_in_lines o old) (text_in r) (end_of_lines new) (kept_of_text config new)) s.first
     ∙ (ap (λ (p : Pos). report_of_kept config (findings_in_lines o old) (first_text old) p (kept_of_text config new)) (end_same config old new s)
     ∙ ap (λ (ks : List KeptValue). report_of_kept config (findings_in_lines o old) (first_text old) (end_of_lines old) ks) k))
 
+unsilenced_same : (config : Config) (old new : List RowValue) → AreSame config old new → kept_of_text config new ≡ kept_of_text config old → unsilenced_report config new ≡ unsilenced_report config old
+unfolding unsilenced_report
+unsilenced_same config old new s k =
+    ap (λ (fs : List FindingValue). unsilenced_of_kept config fs (end_of_lines new) (kept_of_text config new)) (lines_same config old new s)
+    ∙ (ap (λ (p : Pos). unsilenced_of_kept config (findings_in_lines (options_of config) old) p (kept_of_text config new)) (end_same config old new s)
+    ∙ ap (λ (ks : List KeptValue). unsilenced_of_kept config (findings_in_lines (options_of config) old) (end_of_lines old) ks) k)
+
 -- an edit within a text
 pub edit_leaves : (config : Config) (rows new : List RowValue) (a b : ℕ) → 0 < a → b < length rows → b ≡ a + length new → AreAlike (options_of config).row (a + 1) (drop a rows) new
-    → kept_of_text config (splice rows a b new) ≡ kept_of_text config rows → report config (splice rows a b new) ≡ report config rows
-edit_leaves config rows new a b z l e h k = report_same config rows (splice rows a b new) (are_same_texts config rows new a b z l e h) k
+    → kept_of_text config (splice rows a b new) ≡ kept_of_text config rows
+    → (report config (splice rows a b new) ≡ report config rows) × (unsilenced_report config (splice rows a b new) ≡ unsilenced_report config rows)
+edit_leaves config rows new a b z l e h k =
+    let same = are_same_texts config rows new a b z l e h in (report_same config rows (splice rows a b new) same k, unsilenced_same config rows (splice rows a b new) same k)
 
 -- ---- lists compared
 

@@ -7,9 +7,9 @@ use Rattle.yl_lint.proofs.assembling.report_of_kept.Goals as goal
 
 pub returns : goal.returns
 returns g c =
-    let same = put_together c.args.config.now c.args.found.items c.push_fault.new.found.items c.push_sections.new.found.items c.args.first.now c.args.end (map (λ k. k.now) c.args.kept.now)
-    (map (λ k. k.now) (take c.count_shown.result c.args.kept.now)) (level_of c.levels.result.now) c.indentation_options-options.result.now c.measure_of.result (map placed_comment_value c.deref.result.now)
+    let same = put_together c.args.config.now c.args.found.items c.in_ok-found.found.items c.args.first.now c.args.end (map (λ k. k.now) c.args.kept.now)
+    (map (λ k. k.now) (take c.count_shown.result c.args.kept.now)) (level_of c.levels.result.now) (map placed_comment_value c.deref.result.now)
     (is_file_silenced_by c.in_ok-silences.silences) (is_silenced_at c.in_ok-silences.silences)
     c.count_shown.ensures.shown (ap (map placed_comment_value) c.deref.ensures.value ∙ c.in_ok-comments.ensures) c.in_ok-silences.ensures.file c.in_ok-silences.ensures.lines
-    c.in_ok-push_fault.ensures c.indentation_options-options.ensures c.measure_of.ensures c.in_ok-push_sections.ensures c.levels.ensures in
+    c.in_ok-found.ensures c.levels.ensures in
     rw same at c.arrange.ensures

@@ -2,8 +2,14 @@ use Rattle.std.proofs.Common.{arith, ◌∙◌, sym}
 use Rattle.yl_unchanged.proofs.Same.{edit_leaves}
 use Rattle.yl_unchanged.proofs.unchanged.leaves_report.Goals as goal
 
-pub returns : goal.returns
-returns g c = λ e.
+pub returns-clause-report : goal.returns-clause-report
+returns-clause-report g c = λ e.
     let rows = g.S.Lines.rows c.args.store.now in
-    edit_leaves c.args.config.now rows c.args.rows.now c.args.a c.args.b (c.is_inner.ensures.place c.if-not-is_inner.false).0 (omega (arith, (c.is_inner.ensures.place c.if-not-is_inner.false).1, c.len.ensures)) (c.is_inner.ensures.count c.if-not-is_inner.false)
-    (c.in_ok-same.ensures e) (sym c.requires.new ∙ (c.stays.ensures c.if-not-stays.false ∙ c.requires.kept))
+    (edit_leaves c.args.config.now rows c.args.rows.now c.args.a c.args.b (c.is_inner.ensures.place c.if-not-is_inner.false).0 (omega (arith, (c.is_inner.ensures.place c.if-not-is_inner.false).1, c.len.ensures)) (c.is_inner.ensures.count c.if-not-is_inner.false)
+    (c.in_ok-same.ensures e) (sym c.requires.new ∙ (c.stays.ensures c.if-not-stays.false ∙ c.requires.kept))).0
+
+pub returns-clause-unsilenced : goal.returns-clause-unsilenced
+returns-clause-unsilenced g c = λ e.
+    let rows = g.S.Lines.rows c.args.store.now in
+    (edit_leaves c.args.config.now rows c.args.rows.now c.args.a c.args.b (c.is_inner.ensures.place c.if-not-is_inner.false).0 (omega (arith, (c.is_inner.ensures.place c.if-not-is_inner.false).1, c.len.ensures)) (c.is_inner.ensures.count c.if-not-is_inner.false)
+    (c.in_ok-same.ensures e) (sym c.requires.new ∙ (c.stays.ensures c.if-not-stays.false ∙ c.requires.kept))).1

@@ -1,19 +1,22 @@
-use Rattle.std.proofs.Common.{◌≡◌, ℕ, refl, Option, Some, None, List, Result, Ok, Err, drop, take, length, arith, ap, sym, subst, ◌∙◌}
+use Rattle.std.proofs.Common.{◌≡◌, ℕ, refl, Option, List, Result, Ok, Err, drop, take, length, arith, ap, sym, subst, ◌∙◌}
 use Rattle.std.specs.List.{AllByRecursion, splice}
 use Rattle.yl_text.specs.Store.{AreLines, IsRange}
 use Rattle.yl_record.specs.Records.{RecordValue}
 use Rattle.yl_sections.specs.Kept.{KeptValue}
 use Rattle.yl_lint.specs.TextReport.{kept_of_text, records_of, report}
+use Rattle.yl_lint.specs.Unsilenced.{unsilenced_report}
 use Rattle.yl_session.proofs.Bounds.{few_kept, few_lines, few_records, few_rows, few_rows_put}
-use Rattle.std.specs.Prelude.{OnErr, MatchOption, IfSome}
+use Rattle.std.specs.Prelude.{OnErr}
 use Rattle.yl_text.specs.Lines.{RowValue}
 use Rattle.yl_config.specs.declared.config.Config.{Config}
 use Rattle.yl_report.specs.Report.{ProblemValue}
 use Rattle.yl_patch.specs.Plain.{IsOverviewOf}
-use Rattle.yl_patch.specs.Patched.{IsLow, patched}
+use Rattle.yl_patch.specs.Patched.{patched}
 use Rattle.yl_patch.specs.declared.shifting.ReportPatch.{ReportPatch}
 use Rattle.yl_rejudge.specs.declared.places.Place.{Place}
 use Rattle.yl_rejudge.specs.Places.{IsAt, rows_kept}
+use Rattle.yl_session.specs.Change.{IsFit, Makes}
+use Rattle.yl_session.proofs.Changed.{made_so}
 use Rattle.yl_session.specs.State.{SessionValue}
 use Rattle.yl_session.proofs.session.Session.change.Goals as goal
 
@@ -39,14 +42,6 @@ returns-in_err-splice-clause-err g c =
 renewed : {X : Type 0} {all : List X} {rows new : List RowValue} (held old items : List X) (i j : ℕ) (f : List RowValue → List X) → rows ≡ new → all ≡ splice held i j items → held ≡ old → splice old i j items ≡ f rows → all ≡ f new
 renewed held old items i j f e is same made = rw (is, same, made, e) refl
 
--- a report that was patched or renewed, or stays
-shown_so : {X V P : Type 0} {shown old lent : List X} {rows before new : List RowValue} (items : V → List X) (put : P → List X → List X) (f : List RowValue → List X) → rows ≡ new → (patch : Option P) (whole : Option V) → old ≡ f before → old ≡ lent
-    → MatchOption whole (MatchOption patch (shown ≡ old) (λ p. shown ≡ put p old)) (λ v. shown ≡ items v)
-    → IfSome patch (λ p. put p lent ≡ f rows) → IfSome whole (λ v. items v ≡ f rows) → (patch ≡ None → whole ≡ None → f rows ≡ f before) → shown ≡ f new
-shown_so items put f e None None h l is patched made stays = is ∙ (h ∙ (sym (stays refl refl) ∙ ap f e))
-shown_so items put f e (Some p) None h l is patched made stays = is ∙ (ap (put p) l ∙ (patched ∙ ap f e))
-shown_so items put f e patch (Some v) h l is patched made stays = is ∙ (made ∙ ap f e)
-
 abbrev put_of : {A : Type 0} → ReportPatch A → List ProblemValue → List ProblemValue
 put_of p old = patched p.from p.end p.problems.items p.up p.down old
 
@@ -54,13 +49,15 @@ put_of p old = patched p.from p.end p.problems.items p.up p.down old
 pub planned-requires-clause-at : goal.planned-requires-clause-at
 planned-requires-clause-at g c = subst (λ (ps : List Place). AllByRecursion (IsAt c.self.inside.kept.items) ps) (sym c.deref.ensures.value) c.self.invariant.5
 
-pub renew-requires-clause-range : goal.renew-requires-clause-range
-renew-requires-clause-range g c =
-    subst (λ (ps : List ProblemValue). IfSome c.in_ok-plan.plan.renewal.patch (λ p. IsRange p.from p.end (length ps))) (c.deref-2.ensures.value ∙ sym c.make_room.ensures.problems) c.in_ok-plan.ensures.patch_range
+pub planned-requires-clause-known : goal.planned-requires-clause-known
+planned-requires-clause-known g c = λ h. c.deref-3.ensures.value ∙ c.self.invariant.6 h
 
-pub renew-requires-clause-low : goal.renew-requires-clause-low
-renew-requires-clause-low g c =
-    subst (λ (ps : List ProblemValue). IfSome c.in_ok-plan.plan.renewal.patch (λ p. AllByRecursion IsLow (drop p.end ps))) (c.deref-2.ensures.value ∙ sym c.make_room.ensures.problems) c.in_ok-plan.ensures.patch_low
+pub renew-requires-clause-fit : goal.renew-requires-clause-fit
+renew-requires-clause-fit g c = subst (λ (ps : List ProblemValue). IsFit ps c.in_ok-plan.plan.renewal.report.patch) (c.deref-2.ensures.value ∙ sym c.make_room.ensures.problems) c.in_ok-plan.ensures.fit
+
+pub renew-requires-2-clause-fit : goal.renew-requires-2-clause-fit
+renew-requires-2-clause-fit g c =
+    subst (λ (ps : List ProblemValue). IsFit ps c.in_ok-plan.plan.renewal.unsilenced.patch) (c.deref-3.ensures.value ∙ sym c.make_room.ensures.unsilenced) c.in_ok-plan.ensures.unsilenced_fit
 
 pub make_room-requires-clause-few : goal.make_room-requires-clause-few
 make_room-requires-clause-few g c =
@@ -82,6 +79,7 @@ invariant_of-self g c = (
   c.make_room.ensures.problems ∙ c.self.invariant.3,
   subst (λ (ks : List KeptValue). IsOverviewOf ks c.self.inside.overview) (sym c.make_room.ensures.kept) c.self.invariant.4,
   subst (λ (ks : List KeptValue). AllByRecursion (IsAt ks) c.make_room.new.places.items) (sym c.make_room.ensures.kept) c.make_room.ensures.places,
+  λ h. c.make_room.ensures.unsilenced ∙ c.self.invariant.6 h,
 )
 
 pub invariant_of-self-in_err-splice : goal.invariant_of-self-in_err-splice
@@ -94,6 +92,7 @@ invariant_of-self-in_err-splice g c =
       c.make_room.ensures.problems ∙ (c.self.invariant.3 ∙ ap (report c.self.inside.config) e),
       subst (λ (ks : List KeptValue). IsOverviewOf ks c.self.inside.overview) (sym c.make_room.ensures.kept) c.self.invariant.4,
       subst (λ (ks : List KeptValue). AllByRecursion (IsAt ks) c.make_room.new.places.items) (sym c.make_room.ensures.kept) c.make_room.ensures.places,
+      λ h. c.make_room.ensures.unsilenced ∙ (c.self.invariant.6 h ∙ ap (unsilenced_report c.self.inside.config) e),
     )
 
 -- what room was made in is what was kept
@@ -142,9 +141,16 @@ invariant_of-self-2 g c =
       subst P e (subst Q here c.requires.lines),
       renewed c.make_room.new.records.items c.self.inside.records.items plan.rescan.records.items plan.rescan.from plan.rescan.old_end records_of put c.fill_room.ensures.items c.make_room.ensures.records c.in_ok-plan.ensures.records,
       renewed c.make_room.new.kept.items c.self.inside.kept.items plan.rejudged.kept.items plan.rejudged.from plan.rejudged.end (kept_of_text c.self.inside.config) put c.put_kept.ensures.items c.make_room.ensures.kept c.in_ok-plan.ensures.kept,
-      shown_so (λ v. v.items) put_of (report c.self.inside.config) put plan.renewal.patch plan.renewal.whole (c.make_room.ensures.problems ∙ c.self.invariant.3) (c.make_room.ensures.problems ∙ sym c.deref-2.ensures.value) c.renew.ensures c.in_ok-plan.ensures.patch c.in_ok-plan.ensures.whole c.in_ok-plan.ensures.stays,
+      made_so c.make_room.new.problems.items (λ v. v.items) put_of plan.renewal.report.patch plan.renewal.report.whole c.renew.ensures
+          (subst (λ (ps : List ProblemValue). Makes ps (report c.self.inside.config (splice rows c.args.a c.args.b c.as_slice.result.now)) plan.renewal.report) (c.deref-2.ensures.value ∙ sym c.make_room.ensures.problems) c.in_ok-plan.ensures.report)
+          ∙ ap (report c.self.inside.config) put,
       subst (λ (ks : List KeptValue). IsOverviewOf ks plan.renewal.overview) (sym (c.put_kept.ensures.items ∙ ap (λ (ks : List KeptValue). splice ks plan.rejudged.from plan.rejudged.end plan.rejudged.kept.items) c.make_room.ensures.kept)) c.in_ok-plan.ensures.overview,
       c.put_kept.ensures.places,
+      λ h.
+          made_so c.make_room.new.unsilenced.items (λ v. v.items) put_of plan.renewal.unsilenced.patch plan.renewal.unsilenced.whole c.renew-2.ensures
+          (subst (λ (ps : List ProblemValue). Makes ps (unsilenced_report c.self.inside.config (splice rows c.args.a c.args.b c.as_slice.result.now)) plan.renewal.unsilenced) (c.deref-3.ensures.value ∙ sym c.make_room.ensures.unsilenced)
+          (c.in_ok-plan.ensures.unsilenced h))
+          ∙ ap (unsilenced_report c.self.inside.config) put,
     )
 
 pub returns-clause-problems : goal.returns-clause-problems
@@ -152,4 +158,6 @@ returns-clause-problems g c =
     let rows = g.S.Lines.rows c.self.inside.store in
     let put : splice rows c.args.a c.args.b c.as_slice.result.now ≡ g.S.Lines.rows c.splice.new.self = ap (λ (ps : List RowValue). splice rows c.args.a c.args.b ps) c.as_slice.ensures.value ∙ sym c.in_ok-splice.ensures.ok in
     let plan = c.in_ok-plan.plan in
-    shown_so (λ v. v.items) put_of (report c.self.inside.config) put plan.renewal.patch plan.renewal.whole (c.make_room.ensures.problems ∙ c.self.invariant.3) (c.make_room.ensures.problems ∙ sym c.deref-2.ensures.value) c.renew.ensures c.in_ok-plan.ensures.patch c.in_ok-plan.ensures.whole c.in_ok-plan.ensures.stays
+    made_so c.make_room.new.problems.items (λ v. v.items) put_of plan.renewal.report.patch plan.renewal.report.whole c.renew.ensures
+    (subst (λ (ps : List ProblemValue). Makes ps (report c.self.inside.config (splice rows c.args.a c.args.b c.as_slice.result.now)) plan.renewal.report) (c.deref-2.ensures.value ∙ sym c.make_room.ensures.problems) c.in_ok-plan.ensures.report)
+    ∙ ap (report c.self.inside.config) put

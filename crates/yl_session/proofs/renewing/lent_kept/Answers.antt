@@ -3,7 +3,7 @@ use Rattle.std.specs.List.{slice_get}
 use Rattle.std.proofs.lemmas.List.{map-append, take_all, take_more}
 use Rattle.std.proofs.lemmas.Option.{get_or_from_slice_get, slice_get_within}
 use Rattle.yl_sections.specs.Kept.{KeptValue}
-use Rattle.yl_session.proofs.planning.lent_kept.Goals as goal
+use Rattle.yl_session.proofs.renewing.lent_kept.Goals as goal
 
 -- one more is lent
 lent_more : (xs new : List (Bor KeptValue)) (ks : List KeptValue) (i : ℕ) (r : Bor KeptValue) → new ≡ xs ++ r ∷ [] → map (λ (b : Bor KeptValue). b.now) xs ≡ take i ks → slice_get ks i ≡ Some r.now

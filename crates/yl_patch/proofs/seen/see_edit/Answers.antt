@@ -1,0 +1,71 @@
+use Rattle.std.proofs.Common.{◌==◌, ◌-◌, ◌++◌, false, List, length, map, take, drop, arith, ap, sym, subst, ◌∙◌}
+use Rattle.std.specs.List.{slice_get, splice}
+use Rattle.yl_text.specs.Finding.{FindingValue}
+use Rattle.yl_text.specs.Lines.{RowValue}
+use Rattle.yl_config.specs.Config.{options_of}
+use Rattle.yl_lint.specs.TextReport.{moved}
+use Rattle.yl_patch.specs.Cut.{IsInside, is_filled}
+use Rattle.yl_patch.specs.Settled.{settled, settled_below}
+use Rattle.yl_patch.specs.There.{found_there, lines_there}
+use Rattle.yl_patch.proofs.Given.{is_so, same_there}
+use Rattle.yl_patch.proofs.Renewed.{spliced_length}
+use Rattle.yl_patch.proofs.Sections.{measured}
+use Rattle.yl_patch.proofs.Walks.{rows_until}
+use Rattle.yl_patch.proofs.seen.see_edit.Goals as goal
+
+pub new-window-requires : goal.new-window-requires
+new-window-requires g c =
+    let rows = g.S.Lines.rows c.args.store.now in
+    let t = c.in-Some-find_touched.touched in
+    let inside = subst (λ n. IsInside t c.args.a c.args.b (length c.args.rows.now) n) c.len-lines.ensures (c.is_inside.ensures c.if-not-is_inside.false) in
+    let n = spliced_length rows c.args.rows.now c.args.a c.args.b c.requires.range.ordered c.requires.range.within in
+    let here = ap (λ (xs : List RowValue). length xs) c.new-patched.ensures in record {
+      ordered = omega (arith, inside.new_some);
+      within = omega (arith, inside.fits, inside.back, n, here);
+    }
+
+pub hides_before-requires-clause-sound : goal.hides_before-requires-clause-sound
+hides_before-requires-clause-sound g c = (c.requires.overview (is_so c.args.overview.is_plain c.if-not-overview.false)).sound
+
+pub measure_above-before-requires-clause-whole : goal.measure_above-before-requires-clause-whole
+measure_above-before-requires-clause-whole g c = (c.requires.overview (is_so c.args.overview.is_plain c.if-not-overview.false)).whole
+
+pub returns-clause-known : goal.returns-clause-known
+returns-clause-known g c = is_so c.args.overview.is_plain c.if-not-overview.false
+
+pub returns-clause-seen : goal.returns-clause-seen
+returns-clause-seen g c =
+    let rows = g.S.Lines.rows c.args.store.now in
+    let ins = c.args.rows.now in
+    let t = c.in-Some-find_touched.touched in
+    let config = c.args.config.now in
+    let kept = c.args.kept.now.items in
+    let known = c.requires.overview (is_so c.args.overview.is_plain c.if-not-overview.false) in
+    let alike = c.if-not-is_alike.false in
+    let cut = c.if-not-is_cut.false in
+    let e = c.ends_of-ends.result in
+    let hidden = c.in-Some.hidden in
+    let before = take c.args.from kept in
+    let qs = take (t.new_end - t.first) (drop t.first (splice rows c.args.a c.args.b ins)) in
+    let window = c.new-window.ensures ∙ ap (λ (xs : List RowValue). take (t.new_end - t.first) (drop t.first xs)) c.new-patched.ensures in
+    let there =
+    same_there (options_of config) e c.args.overview.whole (measured (settled kept)) c.measure_above-before.result (measured (settled before)) c.new-window.result qs (settled c.shown_of-shown.result.now) known.whole c.measure_above-before.ensures window
+    ∙ ap (λ (fs : List FindingValue). lines_there (options_of config) e qs ++ fs) (c.shown_of-shown.ensures.findings (options_of config).indentation (measured (settled kept)) (measured (settled before)) 0) in record {
+      hides = c.in-Some.ensures;
+      plain = known.plain;
+      new_plain = c.is_alike.ensures.plain alike;
+      below = c.is_alike.ensures.below alike;
+      measure = c.is_alike.ensures.measure alike;
+      inside = subst (λ n. IsInside t c.args.a c.args.b (length ins) n) c.len-lines.ensures (c.is_inside.ensures c.if-not-is_inside.false);
+      first = c.in-Some-find_touched.ensures.first ∙ c.requires.from_row;
+      old_end =
+          omega (arith, c.in-Some-find_touched.ensures.first, c.in-Some-find_touched.ensures.old_end, c.requires.from_row, c.requires.end_row, rows_until kept c.args.from c.args.end c.requires.kept_range.ordered c.requires.kept_range.within);
+      new_end = c.in-Some-find_touched.ensures.new_end;
+      ends = e;
+      begins_text = c.ends_of-ends.ensures.begins;
+      ends_text = c.ends_of-ends.ensures.ends ∙ ap (λ n. t.old_end == n) c.len-lines.ensures;
+      old_seam = c.is_cut.ensures.old cut;
+      new_seam = λ h. ap (λ (xs : List RowValue). is_filled (slice_get xs t.first)) (sym c.new-patched.ensures) ∙ c.is_cut.ensures.new cut h;
+      behind_seam = c.is_cut.ensures.behind cut;
+      there = c.in_ok-found.ensures ∙ ap (map (moved t.first)) there;
+    }

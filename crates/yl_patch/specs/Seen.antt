@@ -1,0 +1,44 @@
+-- Bridge: what is seen of an edit in the lines of the touched sections, whatever comments say.
+use Rattle.std.specs.Prelude.{◌≡◌, ◌+◌, ◌-◌, ◌==◌, ℕ, Bool, true, false, length, map, take, drop, slice_get, List}
+use Rattle.std.specs.List.{AllByRecursion, splice}
+use Rattle.yl_text.specs.Finding.{FindingValue}
+use Rattle.yl_text.specs.Lines.{RowValue}
+use Rattle.yl_indentation.specs.Measures.{measure_of}
+use Rattle.yl_config.specs.declared.config.Config.{Config}
+use Rattle.yl_config.specs.Config.{options_of}
+use Rattle.yl_sections.specs.Kept.{KeptValue}
+use Rattle.yl_lint.specs.TextReport.{facts_in_sections, moved}
+use Rattle.yl_patch.specs.Cut.{IsInside, is_filled}
+use Rattle.yl_patch.specs.Plain.{IsPlain, row_sum}
+use Rattle.yl_patch.specs.Settled.{IsHidden, hides_below, settled, settled_below}
+use Rattle.yl_patch.specs.There.{found_there}
+use Rattle.yl_patch.specs.declared.touched.Ends.{Ends}
+use Rattle.yl_patch.specs.declared.touched.Touched.{Touched}
+
+-- the sections from one on, before another
+abbrev pub sections_between : ℕ → ℕ → List KeptValue → List KeptValue
+sections_between from end ks = take (end - from) (drop from ks)
+
+-- the new lines of the touched sections
+abbrev pub new_lines_of : Touched → ℕ → ℕ → List RowValue → List RowValue → List RowValue
+new_lines_of t a b rows ins = take (t.new_end - t.first) (drop t.first (splice rows a b ins))
+
+-- in their lines, which may begin the text and end it, this is found, where those above are hidden or not; the edit changes neither
+-- what they hide nor the measure, and the lines that it touches are theirs
+pub record IsSeen (config : Config) (rows ins : List RowValue) (kept new : List KeptValue) (a b from end sound : ℕ) (t : Touched) (hidden : Bool) (found : List FindingValue) : Type 0 where
+  pub hides : IsHidden kept sound from hidden
+  pub plain : AllByRecursion IsPlain (settled kept)
+  pub new_plain : AllByRecursion IsPlain (settled_below hidden new)
+  pub below : hides_below hidden (sections_between from end kept) ≡ hides_below hidden new
+  pub measure : measure_of (facts_in_sections (settled_below hidden (sections_between from end kept))) ≡ measure_of (facts_in_sections (settled_below hidden new))
+  pub inside : IsInside t a b (length ins) (length rows)
+  pub first : t.first ≡ row_sum (take from kept)
+  pub old_end : t.old_end ≡ t.first + row_sum (sections_between from end kept)
+  pub new_end : t.new_end ≡ t.first + row_sum new
+  pub ends : Ends
+  pub begins_text : ends.begins ≡ (t.first == 0)
+  pub ends_text : ends.ends ≡ (t.old_end == length rows)
+  pub old_seam : ends.begins ≡ false → is_filled (slice_get rows t.first) ≡ true
+  pub new_seam : ends.begins ≡ false → is_filled (slice_get (splice rows a b ins) t.first) ≡ true
+  pub behind_seam : ends.ends ≡ false → is_filled (slice_get rows t.old_end) ≡ true
+  pub there : found ≡ map (moved t.first) (found_there (options_of config) ends (measure_of (facts_in_sections (settled kept))) (measure_of (facts_in_sections (settled (take from kept)))) (new_lines_of t a b rows ins) (settled_below hidden new))

@@ -1,0 +1,112 @@
+//! What is seen of an edit in the lines of the touched sections.
+ghost use Rattle.std.specs.Prelude.{◌≡◌, ◌<◌, ◌+◌, ◌^◌, true, false, length, take, slice_get, IfOk, IfSome};
+ghost use Rattle.std.specs.List.{splice};
+ghost use Rattle.yl_text.specs.Store.{AreLines, IsRange};
+ghost use Rattle.yl_lint.specs.TextReport.{kept_of_text};
+ghost use Rattle.yl_patch.specs.Cut.{is_filled};
+ghost use Rattle.yl_patch.specs.Plain.{IsOverviewOf, row_sum};
+ghost use Rattle.yl_patch.specs.Seen.{IsSeen};
+
+use crate::overview::{Overview, is_alike, measure_above};
+use crate::sound::{hides_before, shown_of};
+use crate::there::find_there;
+use crate::touched::{Ends, Touched, ends_of, find_touched, is_filled, is_inside};
+use crate::window::Window;
+use std::alloc::{AllocError, Allocator};
+use yl_chunks::Chunks;
+use yl_config::Config;
+use yl_sections::Kept;
+use yl_text::{Finding, LineStore, Lines, Patched, Row};
+
+/// What is seen of an edit: where the touched sections stand, whether a fault above hides them, and what is found in their lines.
+#[derive(Drop)]
+pub struct SeenEdit<A: Allocator> {
+    pub touched: Touched,
+    pub hidden: bool,
+    pub found: Vec<Finding<A>, A>,
+}
+
+/// Whether this line is not empty, or the text begins or ends there.
+fn is_seam<L: Lines>(is_end: bool, lines: &L, i: usize) -> bool
+    ensures { result ≡ true → is_end ≡ false → is_filled (slice_get (L.rows lines.now) i) ≡ true }
+{
+    is_end || is_filled(lines, i)
+}
+
+/// Whether the touched lines begin with one that is not empty, in the old text and in the new one, and those behind them too; where
+/// they begin the text or end it, nothing is asked there.
+fn is_cut<L: Lines, M: Lines>(old: &L, new: &M, touched: Touched, ends: Ends) -> bool
+    ensures old { result ≡ true → ends.begins ≡ false → is_filled (slice_get (L.rows old.now) touched.first) ≡ true }
+    ensures new { result ≡ true → ends.begins ≡ false → is_filled (slice_get (M.rows new.now) touched.first) ≡ true }
+    ensures behind { result ≡ true → ends.ends ≡ false → is_filled (slice_get (L.rows old.now) touched.old_end) ≡ true }
+{
+    is_seam(ends.begins, old, touched.first as usize)
+        && is_seam(ends.begins, new, touched.first as usize)
+        && is_seam(ends.ends, old, touched.old_end as usize)
+}
+
+/// What is seen of the edit that puts these rows in place of the lines a to b, whatever comments say; none where it does not show that what
+/// is found elsewhere stays. Of the sections, `kept` is what was kept, and `new` is to be kept in place of that of those from `from` on,
+/// before `end`, which stand from `from_row` on, before `end_row`. The only error is out of memory.
+pub fn see_edit<S: LineStore>(
+    alloc: S::Alloc,
+    config: &Config,
+    store: &S,
+    a: usize,
+    b: usize,
+    rows: &[Row<S::Alloc>],
+    kept: &Chunks<Kept<S::Alloc>, S::Alloc>,
+    overview: Overview,
+    from: usize,
+    end: usize,
+    from_row: usize,
+    end_row: usize,
+    new: &[Kept<S::Alloc>],
+) -> Result<Option<SeenEdit<S::Alloc>>, AllocError>
+    requires range { IsRange a b (length (S.rows store.now)) }
+    requires few { length (S.rows store.now) + length rows.now < 2 ^ 64 }
+    requires overview { IsOverviewOf kept.now.items overview }
+    requires kept_range { IsRange from end (length kept.now.items) }
+    requires from_row { from_row ≡ row_sum (take from kept.now.items) }
+    requires end_row { end_row ≡ row_sum (take end kept.now.items) }
+    ensures known { IfOk result (λ o. IfSome o (λ _. overview.is_plain ≡ true)) }
+    ensures seen { IfOk result (λ o. IfSome o (λ s. IsSeen config.now (S.rows store.now) rows.now kept.now.items new.now a b from end overview.sound s.touched s.hidden s.found.items)) }
+{
+    if !overview.is_plain {
+        return Ok(None);
+    }
+    let Some(hidden) = hides_before(kept, overview.sound, from) else {
+        return Ok(None);
+    };
+    if !is_alike(hidden, kept, from, end, new) {
+        return Ok(None);
+    }
+    let Some(touched) = find_touched(from_row, end_row, new) else {
+        return Ok(None);
+    };
+    let patched = Patched::new(store, a, b, rows);
+    let lines = store.len();
+    let ends = ends_of(touched, lines);
+    if !is_inside(touched, a, b, rows.len(), lines) || !is_cut(store, &patched, touched, ends) {
+        return Ok(None);
+    }
+    let window = Window::new(patched, touched.first as usize, touched.new_end as usize);
+    let whole = overview.whole;
+    let before = measure_above(kept, from, hidden, whole);
+    let shown = shown_of(hidden, new);
+    let found = find_there(
+        alloc,
+        config,
+        ends,
+        &window,
+        touched.first,
+        whole,
+        before,
+        shown,
+    )?;
+    Ok(Some(SeenEdit {
+        touched,
+        hidden,
+        found,
+    }))
+}

@@ -1,0 +1,60 @@
+//! What the comments of a whole text silence.
+ghost use Rattle.std.specs.Prelude.{◌≡◌, ◌≤◌, ◌-◌, length, map, take, drop, IfOk, IfSome};
+ghost use Rattle.yl_lexeme.specs.PlacedComments.{placed_comment_value};
+ghost use Rattle.yl_report.specs.Directive.{disables_file, is_silenced};
+ghost use Rattle.yl_report.specs.Silence.{is_file_silenced_by, is_silenced_at};
+ghost use Rattle.yl_lint.specs.TextReport.{comments_in_sections, first_text, shown};
+ghost use Rattle.yl_patch.specs.Plain.{IsOverviewOf};
+
+use crate::overview::Overview;
+use std::alloc::{AllocError, Allocator};
+use yl_chunks::Spliced;
+use yl_lexeme::PlacedComment;
+use yl_lint::{line_below, push_comments};
+use yl_report::Silences;
+use yl_sections::Kept;
+use yl_text::Lines;
+
+/// The comments of the sections from one on, before `end`, once some are kept in place of others; the first of these begins at `row`.
+fn comments_among<'a, A: Allocator + Copy>(
+    alloc: A,
+    sections: &Spliced<'a, Kept<A>, A>,
+    from: usize,
+    end: usize,
+    row: u32,
+) -> Result<Vec<PlacedComment<'a>, A>, AllocError>
+    requires { end ≤ length sections.now }
+    ensures { IfOk result (λ v. map placed_comment_value v.items ≡ comments_in_sections row (take (end - from) (drop from sections.now))) }
+{
+    let mut comments = Vec::new(alloc);
+    let mut line = row;
+    for i in from..end {
+        let one = sections.get(i);
+        push_comments(line, one.comments(), &mut comments)?;
+        line = line_below(line, one.rows())?;
+    }
+    Ok(comments)
+}
+
+/// What the first of these lines and the comments of their sections silence, where none of the sections has a fault; none where one has,
+/// or too little is known of them. The only error is out of memory.
+pub fn silences_of_text<L: Lines>(
+    alloc: L::Alloc,
+    lines: &L,
+    sections: &Spliced<'_, Kept<L::Alloc>, L::Alloc>,
+    overview: Overview,
+) -> Result<Option<Silences<L::Alloc>>, AllocError>
+    requires { IsOverviewOf sections.now overview }
+    ensures file { IfOk result (λ o. IfSome o (λ s. is_file_silenced_by s ≡ disables_file (first_text (L.rows lines.now)))) }
+    ensures lines { IfOk result (λ o. IfSome o (λ s. is_silenced_at s ≡ is_silenced (comments_in_sections 0 (shown sections.now)))) }
+{
+    let count = sections.len();
+    if lines.len() == 0 || !overview.is_plain || overview.sound != count {
+        return Ok(None);
+    }
+    let silencing = overview.silencing;
+    let stop = count.min(silencing.end);
+    let comments = comments_among(alloc, sections, silencing.from, stop, silencing.row)?;
+    let silences = Silences::read(alloc, lines.row(0).as_str(), &comments)?;
+    Ok(Some(silences))
+}

@@ -1,0 +1,38 @@
+-- What becomes of problems, from what becomes of their parts.
+use Rattle.std.proofs.Common.{◌≡◌, ℕ, Bool, true, false, List, Option, Some, None, ap, ◌∙◌}
+use Rattle.std.specs.Prelude.{IfSome, MatchOption, is_some}
+use Rattle.yl_text.specs.Lines.{RowValue}
+use Rattle.yl_text.specs.declared.finding.RuleId.{RuleId}
+use Rattle.yl_config.specs.declared.config.Config.{Config}
+use Rattle.yl_report.specs.Directive.{disables_file, is_silenced}
+use Rattle.yl_report.specs.Heard.{heard}
+use Rattle.yl_report.specs.Report.{ProblemValue}
+use Rattle.yl_sections.specs.Kept.{KeptValue}
+use Rattle.yl_lint.specs.TextReport.{comments_in_sections, first_text, kept_of_text, report, shown}
+use Rattle.yl_lint.specs.Unsilenced.{IsHeardOfText, unsilenced_report}
+
+pub both : {X : Type 0} (P Q : X → Type 0) (o : Option X) → IfSome o P → IfSome o Q → IfSome o (λ x. P x × Q x)
+both P Q None p q = tt
+both P Q (Some x) p q = (p, q)
+
+-- where there is one
+pub there_so : {X : Type 0} (P : X → Type 0) (N : Type 0) (o : Option X) → is_some o ≡ true → IfSome o P → MatchOption o N P
+there_so P N None e p = absurd (cc)
+there_so P N (Some x) e p = p
+
+-- problems that were patched or renewed, or stay
+pub made_so : {X V P : Type 0} {shown new : List X} (old : List X) (items : V → List X) (put : P → List X → List X) (patch : Option P) (whole : Option V)
+    → MatchOption whole (MatchOption patch (shown ≡ old) (λ p. shown ≡ put p old)) (λ v. shown ≡ items v) → MatchOption whole (MatchOption patch (old ≡ new) (λ p. put p old ≡ new)) (λ v. items v ≡ new) → shown ≡ new
+made_so old items put None None h m = h ∙ m
+made_so old items put (Some p) None h m = h ∙ m
+made_so old items put patch (Some v) h m = h ∙ m
+
+-- what comments leave of the report that none silences
+pub heard_so : (config : Config) (rows lines : List RowValue) (file : Bool) (s : RuleId → ℕ → Bool) (ks : List KeptValue) (left lent all : List ProblemValue) → IsHeardOfText → file ≡ disables_file (first_text lines) → lines ≡ rows
+    → s ≡ is_silenced (comments_in_sections 0 (shown ks)) → ks ≡ kept_of_text config rows → left ≡ heard file s lent → lent ≡ all → all ≡ unsilenced_report config rows → left ≡ report config rows
+heard_so config rows lines file s ks left lent all law is_file is_lines is_said is_kept is_left is_lent is_all =
+    let u = unsilenced_report config rows in
+    is_left
+    ∙ (ap (λ (ps : List ProblemValue). heard file s ps) (is_lent ∙ is_all)
+    ∙ (ap (λ (b : Bool). heard b s u) (is_file ∙ ap (λ (ls : List RowValue). disables_file (first_text ls)) is_lines)
+    ∙ (ap (λ (t : RuleId → ℕ → Bool). heard (disables_file (first_text rows)) t u) (is_said ∙ ap (λ (xs : List KeptValue). is_silenced (comments_in_sections 0 (shown xs))) is_kept) ∙ law config rows)))

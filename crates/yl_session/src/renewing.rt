@@ -1,0 +1,366 @@
+//! What becomes of a report, and of what would be reported if no comment silenced anything.
+ghost use Rattle.std.specs.Prelude.{◌≡◌, ◌≤◌, ◌<◌, ◌^◌, ◌+◌, true, false, length, map, take, vec_len, vec_capacity, IfOk, IfSome, MatchOption, None, List, OnOk};
+ghost use Rattle.std.specs.List.{splice};
+ghost use Rattle.yl_text.specs.Store.{AreLines, IsRange};
+ghost use Rattle.yl_report.specs.Heard.{heard};
+ghost use Rattle.yl_report.specs.Report.{ProblemValue};
+ghost use Rattle.yl_report.specs.Silence.{is_file_silenced_by, is_silenced_at};
+ghost use Rattle.yl_lint.specs.TextReport.{kept_of_text, report};
+ghost use Rattle.yl_lint.specs.Unsilenced.{unsilenced_report};
+ghost use Rattle.yl_rejudge.specs.Places.{rows_kept};
+ghost use Rattle.yl_patch.specs.Patched.{patched};
+ghost use Rattle.yl_patch.specs.Plain.{IsOverviewOf};
+ghost use Rattle.yl_session.specs.Change.{IsFit, Makes, Patches};
+
+use std::alloc::{AllocError, Allocator};
+use yl_chunks::{Chunks, Spliced};
+use yl_config::Config;
+use yl_lint::{heard_of_text, report_with_kept, unsilenced_with_kept};
+use yl_patch::{
+    Overview, ReportPatch, overview_after, overview_renewed, patched_report, patched_unsilenced,
+    put_patch, silences_of_text,
+};
+use yl_rejudge::Rejudged;
+use yl_report::{Problem, Silences, copies, retain_heard};
+use yl_sections::Kept;
+use yl_text::{LineStore, Patched, Row};
+use yl_unchanged::leaves_report;
+
+/// What becomes of a list of problems: it is patched, or there is a whole new one; where there is neither, it stays.
+#[derive(Drop)]
+pub struct Change<A: Allocator> {
+    pub patch: Option<ReportPatch<A>>,
+    pub whole: Option<Vec<Problem<A>, A>>,
+}
+
+/// What becomes of a report, and of what would be reported if no comment silenced anything, as long as that is known. And what is known of
+/// all sections then.
+#[derive(Drop)]
+pub struct Renewal<A: Allocator> {
+    pub report: Change<A>,
+    pub unsilenced: Change<A>,
+    pub is_known: bool,
+    pub overview: Overview,
+}
+
+/// What is kept of these sections, lent.
+fn lent_kept<'a, A: Allocator + Copy>(
+    alloc: A,
+    sections: &Spliced<'a, Kept<A>, A>,
+) -> Result<Vec<&'a Kept<A>, A>, AllocError>
+    ensures { IfOk result (λ all. map (λ k. k.now) all.items ≡ sections.now) }
+{
+    let mut all = Vec::new(alloc);
+    for i in 0..sections.len() {
+        all.push(sections.get(i))?;
+    }
+    Ok(all)
+}
+
+/// The report as if no comment silenced anything, after the edit that puts these rows in place of the lines a to b: patched, where there is a
+/// patch, and put together where there is none.
+fn unsilenced_after<S: LineStore>(
+    alloc: S::Alloc,
+    config: &Config,
+    store: &S,
+    a: usize,
+    b: usize,
+    rows: &[Row<S::Alloc>],
+    sections: &Spliced<'_, Kept<S::Alloc>, S::Alloc>,
+    unsilenced: &[Problem<S::Alloc>],
+    patch: Option<ReportPatch<S::Alloc>>,
+) -> Result<Vec<Problem<S::Alloc>, S::Alloc>, AllocError>
+    requires range { IsRange a b (length (S.rows store.now)) }
+    requires old { AreLines (S.rows store.now) }
+    requires lines { AreLines (splice (S.rows store.now) a b rows.now) }
+    requires new { sections.now ≡ kept_of_text config.now (splice (S.rows store.now) a b rows.now) }
+    requires fit { IsFit unsilenced.now patch }
+    requires patch { Patches unsilenced.now (unsilenced_report config.now (splice (S.rows store.now) a b rows.now)) patch }
+    ensures { IfOk result (λ problems. problems.items ≡ unsilenced_report config.now (splice (S.rows store.now) a b rows.now)) }
+{
+    let Some(mut patch) = patch else {
+        let all = lent_kept(alloc, sections)?;
+        let edited = Patched::new(store, a, b, rows);
+        return unsilenced_with_kept(alloc, config, &edited, &all);
+    };
+    let mut problems = copies(alloc, unsilenced, patch.problems.len())?;
+    put_patch(&mut problems, &mut patch);
+    Ok(problems)
+}
+
+/// What is left of these problems where so much is silenced.
+fn heard_of<A: Allocator + Copy>(
+    alloc: A,
+    problems: &[Problem<A>],
+    silences: &Silences<A>,
+) -> Result<Vec<Problem<A>, A>, AllocError>
+    ensures { IfOk result (λ left. left.items ≡ heard (is_file_silenced_by silences.now) (is_silenced_at silences.now) problems.now) }
+{
+    let mut left = copies(alloc, problems, 0)?;
+    retain_heard(&mut left, silences);
+    Ok(left)
+}
+
+/// What becomes of the report, where comments leave another part of what is found; none where a fault hides some of them. It takes time with
+/// the problems of the text alone, where it is known what would be reported if no comment silenced anything.
+fn heard_after<S: LineStore>(
+    alloc: S::Alloc,
+    config: &Config,
+    store: &S,
+    a: usize,
+    b: usize,
+    rows: &[Row<S::Alloc>],
+    sections: &Spliced<'_, Kept<S::Alloc>, S::Alloc>,
+    overview: Overview,
+    unsilenced: &[Problem<S::Alloc>],
+    patch: Option<ReportPatch<S::Alloc>>,
+) -> Result<Option<Renewal<S::Alloc>>, AllocError>
+    requires range { IsRange a b (length (S.rows store.now)) }
+    requires old { AreLines (S.rows store.now) }
+    requires lines { AreLines (splice (S.rows store.now) a b rows.now) }
+    requires new { sections.now ≡ kept_of_text config.now (splice (S.rows store.now) a b rows.now) }
+    requires overview { IsOverviewOf sections.now overview }
+    requires fit { IsFit unsilenced.now patch }
+    requires patch { Patches unsilenced.now (unsilenced_report config.now (splice (S.rows store.now) a b rows.now)) patch }
+    ensures fit { IfOk result (λ o. IfSome o (λ r. (old : List ProblemValue) → IsFit old r.report.patch × IsFit old r.unsilenced.patch)) }
+    ensures report { IfOk result (λ o. IfSome o (λ r. (old : List ProblemValue) → Makes old (report config.now (splice (S.rows store.now) a b rows.now)) r.report)) }
+    ensures unsilenced { IfOk result (λ o. IfSome o (λ r. (old : List ProblemValue) → Makes old (unsilenced_report config.now (splice (S.rows store.now) a b rows.now)) r.unsilenced)) }
+    ensures overview { IfOk result (λ o. IfSome o (λ r. r.overview ≡ overview)) }
+{
+    let edited = Patched::new(store, a, b, rows);
+    let said = silences_of_text(alloc, &edited, sections, overview)?;
+    let Some(silences) = said else {
+        return Ok(None);
+    };
+    let all = unsilenced_after(
+        alloc, config, store, a, b, rows, sections, unsilenced, patch,
+    )?;
+    heard_of_text();
+    let left = heard_of(alloc, &all, &silences)?;
+    Ok(Some(Renewal {
+        report: Change {
+            patch: None,
+            whole: Some(left),
+        },
+        unsilenced: Change {
+            patch: None,
+            whole: Some(all),
+        },
+        is_known: true,
+        overview,
+    }))
+}
+
+/// What becomes of what would be reported if no comment silenced anything, where it is known: it is patched, where it is seen that a patch does.
+fn patch_unsilenced<S: LineStore>(
+    alloc: S::Alloc,
+    config: &Config,
+    store: &S,
+    a: usize,
+    b: usize,
+    rows: &[Row<S::Alloc>],
+    kept: &Chunks<Kept<S::Alloc>, S::Alloc>,
+    overview: Overview,
+    unsilenced: &[Problem<S::Alloc>],
+    is_known: bool,
+    new: &Rejudged<S::Alloc>,
+) -> Result<Option<ReportPatch<S::Alloc>>, AllocError>
+    requires range { IsRange a b (length (S.rows store.now)) }
+    requires old { AreLines (S.rows store.now) }
+    requires lines { AreLines (splice (S.rows store.now) a b rows.now) }
+    requires kept { kept.now.items ≡ kept_of_text config.now (S.rows store.now) }
+    requires overview { IsOverviewOf kept.now.items overview }
+    requires known { is_known ≡ true → unsilenced.now ≡ unsilenced_report config.now (S.rows store.now) }
+    requires kept_range { IsRange new.now.from new.now.end (length kept.now.items) }
+    requires from_row { new.now.from_row ≡ rows_kept (take new.now.from kept.now.items) }
+    requires end_row { new.now.end_row ≡ rows_kept (take new.now.end kept.now.items) }
+    requires new { splice kept.now.items new.now.from new.now.end new.now.kept.items ≡ kept_of_text config.now (splice (S.rows store.now) a b rows.now) }
+    ensures fit { IfOk result (λ o. IsFit unsilenced.now o) }
+    ensures patch { IfOk result (λ o. Patches unsilenced.now (unsilenced_report config.now (splice (S.rows store.now) a b rows.now)) o) }
+{
+    if !is_known {
+        return Ok(None);
+    }
+    let patch = patched_unsilenced(
+        alloc,
+        config,
+        store,
+        a,
+        b,
+        rows,
+        kept,
+        overview,
+        new.from,
+        new.end,
+        new.from_row,
+        new.end_row,
+        &new.kept,
+        unsilenced,
+    )?;
+    Ok(patch)
+}
+
+/// What becomes of the report where it is put together anew. What would be reported if no comment silenced anything is not known then.
+fn whole_renewal<S: LineStore>(
+    alloc: S::Alloc,
+    config: &Config,
+    store: &S,
+    a: usize,
+    b: usize,
+    rows: &[Row<S::Alloc>],
+    sections: &Spliced<'_, Kept<S::Alloc>, S::Alloc>,
+) -> Result<Renewal<S::Alloc>, AllocError>
+    requires range { IsRange a b (length (S.rows store.now)) }
+    requires old { AreLines (S.rows store.now) }
+    requires lines { AreLines (splice (S.rows store.now) a b rows.now) }
+    requires new { sections.now ≡ kept_of_text config.now (splice (S.rows store.now) a b rows.now) }
+    ensures fit { IfOk result (λ r. (old : List ProblemValue) → IsFit old r.report.patch × IsFit old r.unsilenced.patch) }
+    ensures report { IfOk result (λ r. (old : List ProblemValue) → Makes old (report config.now (splice (S.rows store.now) a b rows.now)) r.report) }
+    ensures known { IfOk result (λ r. r.is_known ≡ false) }
+    ensures overview { IfOk result (λ r. IsOverviewOf sections.now r.overview) }
+{
+    let all = lent_kept(alloc, sections)?;
+    let edited = Patched::new(store, a, b, rows);
+    let whole = report_with_kept(alloc, config, &edited, &all)?;
+    Ok(Renewal {
+        report: Change {
+            patch: None,
+            whole: Some(whole),
+        },
+        unsilenced: Change {
+            patch: None,
+            whole: Some(Vec::new(alloc)),
+        },
+        is_known: false,
+        overview: overview_renewed(sections),
+    })
+}
+
+/// Whether some section may have a comment that silences.
+fn may_silence(overview: Overview) -> bool {
+    overview.silencing.from < overview.silencing.end
+}
+
+/// What becomes of the report by the edit that puts these rows in place of the lines a to b, where what is kept of the sections becomes
+/// this: where it is seen, it stays or is patched, or comments leave another part of what is found.
+pub fn renewal_of<S: LineStore>(
+    alloc: S::Alloc,
+    config: &Config,
+    store: &S,
+    a: usize,
+    b: usize,
+    rows: &[Row<S::Alloc>],
+    kept: &Chunks<Kept<S::Alloc>, S::Alloc>,
+    overview: Overview,
+    problems: &[Problem<S::Alloc>],
+    unsilenced: &[Problem<S::Alloc>],
+    is_known: bool,
+    new: &Rejudged<S::Alloc>,
+) -> Result<Renewal<S::Alloc>, AllocError>
+    requires range { IsRange a b (length (S.rows store.now)) }
+    requires old { AreLines (S.rows store.now) }
+    requires lines { AreLines (splice (S.rows store.now) a b rows.now) }
+    requires kept { kept.now.items ≡ kept_of_text config.now (S.rows store.now) }
+    requires overview { IsOverviewOf kept.now.items overview }
+    requires problems { problems.now ≡ report config.now (S.rows store.now) }
+    requires known { is_known ≡ true → unsilenced.now ≡ unsilenced_report config.now (S.rows store.now) }
+    requires kept_range { IsRange new.now.from new.now.end (length kept.now.items) }
+    requires from_row { new.now.from_row ≡ rows_kept (take new.now.from kept.now.items) }
+    requires end_row { new.now.end_row ≡ rows_kept (take new.now.end kept.now.items) }
+    requires few { length kept.now.items + vec_len new.now.kept < 2 ^ 64 }
+    requires new { splice kept.now.items new.now.from new.now.end new.now.kept.items ≡ kept_of_text config.now (splice (S.rows store.now) a b rows.now) }
+    ensures fit { IfOk result (λ r. IsFit problems.now r.report.patch) }
+    ensures report { IfOk result (λ r. Makes problems.now (report config.now (splice (S.rows store.now) a b rows.now)) r.report) }
+    ensures unsilenced_fit { IfOk result (λ r. IsFit unsilenced.now r.unsilenced.patch) }
+    ensures unsilenced { IfOk result (λ r. r.is_known ≡ true → Makes unsilenced.now (unsilenced_report config.now (splice (S.rows store.now) a b rows.now)) r.unsilenced) }
+    ensures overview { IfOk result (λ r. IsOverviewOf (splice kept.now.items new.now.from new.now.end new.now.kept.items) r.overview) }
+{
+    let (from, end) = (new.from, new.end);
+    let after = overview_after(overview, kept, from, end, &new.kept);
+    if leaves_report(alloc, config, store, a, b, rows, kept, from, end, &new.kept)? {
+        return Ok(Renewal {
+            report: Change {
+                patch: None,
+                whole: None,
+            },
+            unsilenced: Change {
+                patch: None,
+                whole: None,
+            },
+            is_known,
+            overview: after,
+        });
+    }
+    let other = patch_unsilenced(
+        alloc, config, store, a, b, rows, kept, overview, unsilenced, is_known, new,
+    )?;
+    let patch = patched_report(
+        alloc,
+        config,
+        store,
+        a,
+        b,
+        rows,
+        kept,
+        overview,
+        from,
+        end,
+        new.from_row,
+        new.end_row,
+        &new.kept,
+        problems,
+    )?;
+    if patch.is_some() {
+        let is_known = other.is_some();
+        return Ok(Renewal {
+            report: Change { patch, whole: None },
+            unsilenced: Change {
+                patch: other,
+                whole: None,
+            },
+            is_known,
+            overview: after,
+        });
+    }
+    let sections = Spliced::new(kept, from, end, &new.kept);
+    if may_silence(overview) || may_silence(after) {
+        let heard = heard_after(
+            alloc, config, store, a, b, rows, &sections, after, unsilenced, other,
+        )?;
+        if let Some(renewal) = heard {
+            return Ok(renewal);
+        }
+    }
+    let renewal = whole_renewal(alloc, config, store, a, b, rows, &sections)?;
+    Ok(renewal)
+}
+
+/// Makes room for what a patch puts in.
+pub fn make_patch_room<A: Allocator>(
+    problems: &mut Vec<Problem<A>, A>,
+    patch: &Option<ReportPatch<A>>,
+) -> Result<(), AllocError>
+    ensures problems { problems.new.items ≡ problems.old.items }
+    ensures room { OnOk result (IfSome patch.now (λ p. vec_len problems.new + vec_len p.problems ≤ vec_capacity problems.new)) }
+{
+    if let Some(patch) = patch {
+        problems.try_reserve(patch.problems.len())?;
+    }
+    Ok(())
+}
+
+/// Puts the new problems in place of the old ones, or patches these, where there is room; where there is neither, they stay.
+pub fn renew<A: Allocator>(problems: &mut Vec<Problem<A>, A>, change: Change<A>)
+    requires fit { IsFit problems.old.items change.patch }
+    requires room { IfSome change.patch (λ p. vec_len problems.old + vec_len p.problems ≤ vec_capacity problems.old) }
+    ensures { MatchOption change.whole
+        (MatchOption change.patch (problems.new.items ≡ problems.old.items) (λ p. problems.new.items ≡ patched p.from p.end p.problems.items p.up p.down problems.old.items))
+        (λ v. problems.new.items ≡ v.items) }
+{
+    let Change { patch, whole } = change;
+    match (whole, patch) {
+        (Some(whole), _) => *problems = whole,
+        (None, Some(mut patch)) => put_patch(problems, &mut patch),
+        (None, None) => {}
+    }
+}
