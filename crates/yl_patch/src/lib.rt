@@ -26,4 +26,4 @@ pub use overview::{Overview, overview_after, overview_of, overview_renewed};
 pub use patching::{patched_report, patched_unsilenced};
 pub use shifting::{ReportPatch, put_patch};
 pub use silencing::Silencing;
-pub use whole::silences_of_text;
+pub use whole::{is_unsilenced, silences_of_text};

@@ -1,16 +1,19 @@
 //! What the comments of a whole text silence.
-ghost use Rattle.std.specs.Prelude.{◌≡◌, ◌≤◌, ◌-◌, length, map, take, drop, IfOk, IfSome};
+ghost use Rattle.std.specs.Prelude.{◌≡◌, ◌≤◌, ◌-◌, true, length, map, take, drop, IfOk, IfSome};
+ghost use Rattle.yl_config.specs.declared.config.Config.{Config};
 ghost use Rattle.yl_lexeme.specs.PlacedComments.{placed_comment_value};
 ghost use Rattle.yl_report.specs.Directive.{disables_file, is_silenced};
 ghost use Rattle.yl_report.specs.Silence.{is_file_silenced_by, is_silenced_at};
-ghost use Rattle.yl_lint.specs.TextReport.{comments_in_sections, first_text, shown};
+ghost use Rattle.yl_lint.specs.TextReport.{comments_in_sections, first_text, kept_of_text, report, shown};
+ghost use Rattle.yl_lint.specs.Unsilenced.{unsilenced_report};
 ghost use Rattle.yl_patch.specs.Plain.{IsOverviewOf};
 
+use crate::loud::is_loud;
 use crate::overview::Overview;
 use std::alloc::{AllocError, Allocator};
 use yl_chunks::Spliced;
 use yl_lexeme::PlacedComment;
-use yl_lint::{line_below, push_comments};
+use yl_lint::{heard_of_text, line_below, push_comments};
 use yl_report::Silences;
 use yl_sections::Kept;
 use yl_text::Lines;
@@ -57,4 +60,22 @@ pub fn silences_of_text<L: Lines>(
     let comments = comments_among(alloc, sections, silencing.from, stop, silencing.row)?;
     let silences = Silences::read(alloc, lines.row(0).as_str(), &comments)?;
     Ok(Some(silences))
+}
+
+/// Whether it is seen that no comment silences anything of the report of these lines. The only error is out of memory.
+pub fn is_unsilenced<L: Lines>(
+    alloc: L::Alloc,
+    lines: &L,
+    overview: Overview,
+) -> Result<bool, AllocError>
+    ensures { IfOk result (λ seen. seen ≡ true → (config : Config) → IsOverviewOf (kept_of_text config (L.rows lines.now)) overview
+        → report config (L.rows lines.now) ≡ unsilenced_report config (L.rows lines.now)) }
+{
+    let silencing = overview.silencing;
+    if !overview.is_plain || silencing.from < silencing.end {
+        return Ok(false);
+    }
+    heard_of_text();
+    let loud = is_loud(alloc, lines)?;
+    Ok(loud)
 }

@@ -17,8 +17,8 @@ use yl_chunks::{Chunks, Spliced};
 use yl_config::Config;
 use yl_lint::{heard_of_text, report_with_kept, unsilenced_with_kept};
 use yl_patch::{
-    Overview, ReportPatch, overview_after, overview_renewed, patched_report, patched_unsilenced,
-    put_patch, silences_of_text,
+    Overview, ReportPatch, is_unsilenced, overview_after, overview_renewed, patched_report,
+    patched_unsilenced, put_patch, silences_of_text,
 };
 use yl_rejudge::Rejudged;
 use yl_report::{Problem, Silences, copies, retain_heard};
@@ -200,6 +200,58 @@ fn patch_unsilenced<S: LineStore>(
     Ok(patch)
 }
 
+/// What becomes of the report, where comments leave another part of what is found. Where it is not known what would be reported if no comment
+/// silenced anything, that was the report itself, if it is seen that none did.
+fn heard_renewal<S: LineStore>(
+    alloc: S::Alloc,
+    config: &Config,
+    store: &S,
+    a: usize,
+    b: usize,
+    rows: &[Row<S::Alloc>],
+    kept: &Chunks<Kept<S::Alloc>, S::Alloc>,
+    overview: Overview,
+    problems: &[Problem<S::Alloc>],
+    unsilenced: &[Problem<S::Alloc>],
+    is_known: bool,
+    other: Option<ReportPatch<S::Alloc>>,
+    new: &Rejudged<S::Alloc>,
+    sections: &Spliced<'_, Kept<S::Alloc>, S::Alloc>,
+    after: Overview,
+) -> Result<Option<Renewal<S::Alloc>>, AllocError>
+    requires range { IsRange a b (length (S.rows store.now)) }
+    requires old { AreLines (S.rows store.now) }
+    requires lines { AreLines (splice (S.rows store.now) a b rows.now) }
+    requires kept { kept.now.items ≡ kept_of_text config.now (S.rows store.now) }
+    requires overview { IsOverviewOf kept.now.items overview }
+    requires problems { problems.now ≡ report config.now (S.rows store.now) }
+    requires kept_range { IsRange new.now.from new.now.end (length kept.now.items) }
+    requires from_row { new.now.from_row ≡ rows_kept (take new.now.from kept.now.items) }
+    requires end_row { new.now.end_row ≡ rows_kept (take new.now.end kept.now.items) }
+    requires new { splice kept.now.items new.now.from new.now.end new.now.kept.items ≡ kept_of_text config.now (splice (S.rows store.now) a b rows.now) }
+    requires fit { IsFit unsilenced.now other }
+    requires patch { Patches unsilenced.now (unsilenced_report config.now (splice (S.rows store.now) a b rows.now)) other }
+    requires sections { sections.now ≡ kept_of_text config.now (splice (S.rows store.now) a b rows.now) }
+    requires after { IsOverviewOf sections.now after }
+    ensures fit { IfOk result (λ o. IfSome o (λ r. (old : List ProblemValue) → IsFit old r.report.patch × IsFit old r.unsilenced.patch)) }
+    ensures report { IfOk result (λ o. IfSome o (λ r. (old : List ProblemValue) → Makes old (report config.now (splice (S.rows store.now) a b rows.now)) r.report)) }
+    ensures unsilenced { IfOk result (λ o. IfSome o (λ r. (old : List ProblemValue) → Makes old (unsilenced_report config.now (splice (S.rows store.now) a b rows.now)) r.unsilenced)) }
+    ensures overview { IfOk result (λ o. IfSome o (λ r. r.overview ≡ after)) }
+{
+    if is_known {
+        return heard_after(
+            alloc, config, store, a, b, rows, sections, after, unsilenced, other,
+        );
+    }
+    let is_seen = is_unsilenced(alloc, store, overview)?;
+    let patch = patch_unsilenced(
+        alloc, config, store, a, b, rows, kept, overview, problems, is_seen, new,
+    )?;
+    heard_after(
+        alloc, config, store, a, b, rows, sections, after, problems, patch,
+    )
+}
+
 /// What becomes of the report where it is put together anew. What would be reported if no comment silenced anything is not known then.
 fn whole_renewal<S: LineStore>(
     alloc: S::Alloc,
@@ -324,8 +376,9 @@ pub fn renewal_of<S: LineStore>(
     }
     let sections = Spliced::new(kept, from, end, &new.kept);
     if may_silence(overview) || may_silence(after) {
-        let heard = heard_after(
-            alloc, config, store, a, b, rows, &sections, after, unsilenced, other,
+        let heard = heard_renewal(
+            alloc, config, store, a, b, rows, kept, overview, problems, unsilenced, is_known,
+            other, new, &sections, after,
         )?;
         if let Some(renewal) = heard {
             return Ok(renewal);

@@ -51,8 +51,12 @@ whole_renewal-requires-clause-new g c =
     c.new-sections.ensures ∙ (ap (λ (ks : List KeptValue). splice c.args.kept.now.items c.args.new.now.from c.args.new.now.end ks) c.deref-4.ensures.value ∙ c.requires.new)
 
 -- where comments leave another part
-pub heard_after-requires-clause-overview : goal.heard_after-requires-clause-overview
-heard_after-requires-clause-overview g c =
+pub heard_renewal-requires-clause-sections : goal.heard_renewal-requires-clause-sections
+heard_renewal-requires-clause-sections g c =
+    c.new-sections.ensures ∙ (ap (λ (ks : List KeptValue). splice c.args.kept.now.items c.args.new.now.from c.args.new.now.end ks) c.deref-4.ensures.value ∙ c.requires.new)
+
+pub heard_renewal-requires-clause-after : goal.heard_renewal-requires-clause-after
+heard_renewal-requires-clause-after g c =
     subst (λ (ks : List KeptValue). IsOverviewOf ks c.overview_after-after.result)
     (ap (λ (ks : List KeptValue). splice c.args.kept.now.items c.args.new.now.from c.args.new.now.end ks) (c.deref.ensures.value ∙ sym c.deref-4.ensures.value) ∙ sym c.new-sections.ensures) c.overview_after-after.ensures
 
