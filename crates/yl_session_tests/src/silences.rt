@@ -181,6 +181,35 @@ static SILENCES: &[Line] = &[
          -- edited\n2:4 too many spaces after colon\n2:6 trailing spaces\n3:4 too many spaces after colon\n7:1 duplication of key \"c\" in mapping\n7:6 trailing spaces\n\
          -- edited\n2:4 too many spaces after colon\n2:6 trailing spaces\n3:4 too many spaces after colon\n7:1 duplication of key \"c\" in mapping\n7:6 trailing spaces\n",
     ),
+    // Where none silenced anything, the first one that does is told of the report itself, also behind a fault.
+    (
+        "---\na:  1 \n---\nb:  1\n---\nc:  1 \n",
+        &[
+            (3, 4, b"b: \"1\n", 5, 1),
+            (3, 4, b"b:  1 \n", 5, 2),
+            (3, 3, b"# yamllint disable rule:colons\n", 3, 1),
+            (1, 2, b"a: 1 \n", 3, 2),
+            (3, 4, b"", 2, 1),
+            (4, 5, b"\"---\n", 4, 1),
+            (4, 5, b"---\n", 4, 2),
+            (0, 0, b"# yamllint disable-file\n", 2, 1),
+            (4, 5, b"b:  1\n", 3, 2),
+            (0, 1, b"", 1, 1),
+            (5, 6, b"c:  1 \n# yamllint disable\nd:  1 \n", 5, 1),
+        ],
+        "2:4 too many spaces after colon\n2:6 trailing spaces\n4:4 too many spaces after colon\n6:4 too many spaces after colon\n6:6 trailing spaces\n\
+         -- edited\n2:4 too many spaces after colon\n2:6 trailing spaces\n5:1 syntax error: document marker in quoted scalar\n6:6 trailing spaces\n\
+         -- edited\n2:4 too many spaces after colon\n2:6 trailing spaces\n4:4 too many spaces after colon\n4:6 trailing spaces\n6:4 too many spaces after colon\n6:6 trailing spaces\n\
+         -- edited\n2:4 too many spaces after colon\n2:6 trailing spaces\n5:6 trailing spaces\n7:6 trailing spaces\n\
+         -- edited\n2:5 trailing spaces\n5:6 trailing spaces\n7:6 trailing spaces\n\
+         -- edited\n2:5 trailing spaces\n4:4 too many spaces after colon\n4:6 trailing spaces\n6:4 too many spaces after colon\n6:6 trailing spaces\n\
+         -- edited\n2:5 trailing spaces\n4:4 too many spaces after colon\n4:6 trailing spaces\n5:1 syntax error: quoted scalar is not closed\n6:6 trailing spaces\n\
+         -- edited\n2:5 trailing spaces\n4:4 too many spaces after colon\n4:6 trailing spaces\n6:4 too many spaces after colon\n6:6 trailing spaces\n\
+         -- edited\n\
+         -- edited\n\
+         -- edited\n2:5 trailing spaces\n4:4 too many spaces after colon\n6:4 too many spaces after colon\n6:6 trailing spaces\n\
+         -- edited\n2:5 trailing spaces\n4:4 too many spaces after colon\n6:4 too many spaces after colon\n6:6 trailing spaces\n",
+    ),
 ];
 
 #[test]
