@@ -4,7 +4,7 @@ ghost use Rattle.std.specs.List.{AllByRecursion, splice};
 ghost use Rattle.yl_text.specs.Store.{IsRange};
 ghost use Rattle.yl_indentation.specs.Measures.{measure_of};
 ghost use Rattle.yl_lint.specs.TextReport.{facts_in_sections};
-ghost use Rattle.yl_patch.specs.Plain.{IsOverviewOf, IsPlain, IsSoundUpto};
+ghost use Rattle.yl_patch.specs.Plain.{IsOverviewOf, IsPlain, IsSoundUpto, row_sum};
 ghost use Rattle.yl_patch.specs.Settled.{hides_below, settled, settled_below};
 
 use crate::plain::{are_all_plain, are_plain};
@@ -205,16 +205,18 @@ pub fn is_alike<A: Allocator + Copy>(
     are_shown_alike(kept, from, end, new)
 }
 
-/// The overview once this is kept in place of what is kept of the sections from one on, before `end`. It looks at these alone, and
-/// says that sections are plain only where they were.
+/// The overview once this is kept in place of what is kept of the sections from one on, before `end`, which begin behind `from_row` lines.
+/// It looks at these alone, and says that sections are plain only where they were.
 pub fn overview_after<A: Allocator + Copy>(
     overview: Overview,
     kept: &Chunks<Kept<A>, A>,
     from: usize,
     end: usize,
+    from_row: usize,
     new: &[Kept<A>],
 ) -> Overview
     requires range { IsRange from end (length kept.now.items) }
+    requires row { from_row ≡ row_sum (take from kept.now.items) }
     requires overview { IsOverviewOf kept.now.items overview }
     ensures { IsOverviewOf (splice kept.now.items from end new.now) result }
 {
@@ -233,7 +235,7 @@ pub fn overview_after<A: Allocator + Copy>(
     if !is_alike(hidden, kept, from, end, new) {
         return unknown;
     }
-    let Some(silencing) = silencing_after(overview.silencing, kept, from, end, new) else {
+    let Some(silencing) = silencing_after(overview.silencing, kept, from, end, from_row, new) else {
         return unknown;
     };
     let Some(sound) = sound_after(overview.sound, kept, from, end, new) else {

@@ -179,44 +179,48 @@ fn moved_start<A: Allocator + Copy>(
     Some((at, row))
 }
 
-/// The same where no section before those may silence a rule.
+/// The same where no section before those may silence a rule; so many lines stand before them.
 fn start_here<A: Allocator + Copy>(
     kept: &Chunks<Kept<A>, A>,
     from: usize,
     end: usize,
+    from_row: usize,
     new: &[Kept<A>],
 ) -> (usize, u32)
     requires range { IsRange from end (length kept.now.items) }
+    requires row { from_row ≡ row_sum (take from kept.now.items) }
     requires silent { AllByRecursion IsSilent (take from kept.now.items) }
     ensures { IsStart (splice kept.now.items from end new.now) result.0 result.1 }
 {
-    match count_rows_between(kept, 0, from) {
-        Some(row) => (from, row),
-        None => (0, 0),
+    if from_row > u32::MAX as usize {
+        return (0, 0);
     }
+    (from, from_row as u32)
 }
 
 /// Before which section none may silence a rule, and how many lines stand there, once these are kept in place of those from one on,
-/// before `end`.
+/// before `end`, which begin behind `from_row` lines.
 fn start_after<A: Allocator + Copy>(
     silencing: Silencing,
     kept: &Chunks<Kept<A>, A>,
     from: usize,
     end: usize,
+    from_row: usize,
     new: &[Kept<A>],
 ) -> (usize, u32)
     requires range { IsRange from end (length kept.now.items) }
+    requires row { from_row ≡ row_sum (take from kept.now.items) }
     requires silencing { IsSilencingOf kept.now.items silencing }
     ensures { IsStart (splice kept.now.items from end new.now) result.0 result.1 }
 {
     if silencing.end <= silencing.from && !are_silent(new) {
-        return start_here(kept, from, end, new);
+        return start_here(kept, from, end, from_row, new);
     }
     if silencing.from <= from {
         return (silencing.from, silencing.row);
     }
     if silencing.from < end || !are_silent(new) {
-        return start_here(kept, from, end, new);
+        return start_here(kept, from, end, from_row, new);
     }
     match moved_start(silencing, kept, from, end, new) {
         Some(start) => start,
@@ -245,21 +249,23 @@ fn end_after<A: Allocator + Copy>(
     (silencing.end - (end - from)).checked_add(new.len())
 }
 
-/// Which sections may silence rules, once these are kept in place of those from one on, before `end`; none where they are too many to be
-/// counted.
+/// Which sections may silence rules, once these are kept in place of those from one on, before `end`, which begin behind `from_row` lines;
+/// none where they are too many to be counted.
 pub fn silencing_after<A: Allocator + Copy>(
     silencing: Silencing,
     kept: &Chunks<Kept<A>, A>,
     from: usize,
     end: usize,
+    from_row: usize,
     new: &[Kept<A>],
 ) -> Option<Silencing>
     requires range { IsRange from end (length kept.now.items) }
+    requires row { from_row ≡ row_sum (take from kept.now.items) }
     requires silencing { IsSilencingOf kept.now.items silencing }
     ensures { IfSome result (λ s. IsSilencingOf (splice kept.now.items from end new.now) s) }
 {
     let behind = end_after(silencing, kept, from, end, new)?;
-    let (first, row) = start_after(silencing, kept, from, end, new);
+    let (first, row) = start_after(silencing, kept, from, end, from_row, new);
     Some(Silencing {
         from: first,
         row,

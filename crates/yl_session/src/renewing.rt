@@ -328,7 +328,7 @@ pub fn renewal_of<S: LineStore>(
     ensures overview { IfOk result (λ r. IsOverviewOf (splice kept.now.items new.now.from new.now.end new.now.kept.items) r.overview) }
 {
     let (from, end) = (new.from, new.end);
-    let after = overview_after(overview, kept, from, end, &new.kept);
+    let after = overview_after(overview, kept, from, end, new.from_row, &new.kept);
     if leaves_report(alloc, config, store, a, b, rows, kept, from, end, &new.kept)? {
         return Ok(Renewal {
             report: Change {

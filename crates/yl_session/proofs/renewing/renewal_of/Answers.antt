@@ -16,6 +16,9 @@ patched_report-requires-clause-few g c =
 pub patched_report-requires-clause-from_row : goal.patched_report-requires-clause-from_row
 patched_report-requires-clause-from_row g c = c.requires.from_row ∙ same_sum (take c.args.new.now.from c.args.kept.now.items)
 
+pub overview_after-after-requires-clause-row : goal.overview_after-after-requires-clause-row
+overview_after-after-requires-clause-row g c = c.requires.from_row ∙ same_sum (take c.args.new.now.from c.args.kept.now.items)
+
 pub patched_report-requires-clause-end_row : goal.patched_report-requires-clause-end_row
 patched_report-requires-clause-end_row g c = c.requires.end_row ∙ same_sum (take c.args.new.now.end c.args.kept.now.items)
 
