@@ -23,7 +23,7 @@ use Rattle.yl_patch.specs.Patched.{is_upto, patched}
 use Rattle.yl_patch.specs.Plain.{IsPlain, row_sum}
 use Rattle.yl_patch.specs.Seen.{IsSeen, sections_between}
 use Rattle.yl_patch.specs.Speaking.{SpeakAlike}
-use Rattle.yl_patch.specs.Settled.{fault_behind, found_by_fault, hides_below, settled, settled_below}
+use Rattle.yl_patch.specs.Settled.{LeavesBelow, fault_behind, found_by_fault, hides_below, settled, settled_below}
 use Rattle.yl_patch.specs.There.{found_there}
 use Rattle.yl_patch.specs.declared.touched.Ends.{Ends}
 use Rattle.yl_patch.specs.declared.touched.Touched.{Touched}
@@ -148,7 +148,7 @@ module _ (config : Config) (rows ins : List RowValue) (kept new : List KeptValue
   touched_is : take (end - from) (drop from (settled kept)) ≡ settled_below h ls
   touched_is = settled_touched kept new from end h within within' above
 
-  pub report_edited : (head head' : List ℕ) → disables_file head ≡ false → disables_file head' ≡ false → AllByRecursion IsPlain (settled kept) → AllByRecursion IsPlain put_new → hides_below h ls ≡ hides_below h new
+  pub report_edited : (head head' : List ℕ) → disables_file head ≡ false → disables_file head' ≡ false → AllByRecursion IsPlain (settled kept) → AllByRecursion IsPlain put_new → LeavesBelow h ls new (drop end kept)
       → t.first ≡ row_sum ks → t.old_end ≡ t.first + row_sum ls → t.new_end ≡ t.first + row_sum new → (e : Ends) → e.begins ≡ (t.first == 0) → e.ends ≡ (t.old_end == length rows)
       → (e.begins ≡ false → is_filled (slice_get rows t.first) ≡ true) → (e.begins ≡ false → is_filled (slice_get rows' t.first) ≡ true) → (e.ends ≡ false → is_filled (slice_get rows t.old_end) ≡ true)
       → SpeakAlike (settled_below h ls) put_new → measured (settled_below h ls) ≡ measured put_new

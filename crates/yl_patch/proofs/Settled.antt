@@ -13,7 +13,7 @@ use Rattle.yl_indentation.proofs.Measured.{and_later_assoc, measure_is_local}
 use Rattle.yl_sections.specs.Kept.{KeptValue, SectionFaultValue, Here, Behind}
 use Rattle.yl_lint.specs.TextReport.{comments_in_sections, facts_in_sections, findings_in_section, findings_in_sections}
 use Rattle.yl_patch.specs.Plain.{IsPlain, IsSilent, IsSound, IsWithin, row_sum}
-use Rattle.yl_patch.specs.Settled.{IsFaultWithin, fault_behind, found_by_fault, hides_below, settled, settled_below, settled_one}
+use Rattle.yl_patch.specs.Settled.{IsFaultWithin, LeavesBelow, fault_behind, found_by_fault, hides_below, settled, settled_below, settled_one}
 use Rattle.yl_patch.proofs.Sections.{all_both, and_later_none, comments_both, measured, measured_both}
 use Rattle.yl_patch.proofs.Walks.{all_drop, all_take, all_three, got, measure_put, one_at, one_more}
 
@@ -74,25 +74,31 @@ module _ (ks new : List KeptValue) (from end : ℕ) (h : Bool) (l : from ≤ end
   pub settled_touched : take (end - from) (drop from (settled ks)) ≡ settled_below h touched
   settled_touched = ap (take (end - from)) (settled_drop from false ks ∙ ap (λ (b : Bool). settled_below b (drop from ks)) above) ∙ settled_take (end - from) h (drop from ks)
 
-  pub settled_splice : hides_below h touched ≡ hides_below h new → splice (settled ks) from end (settled_below h new) ≡ settled (splice ks from end new)
+  pub settled_splice : LeavesBelow h touched new (drop end ks) → splice (settled ks) from end (settled_below h new) ≡ settled (splice ks from end new)
   settled_splice same =
       let front = take from ks in
       let back = drop end ks in
       let put = settled_below h new in
-      let behind : hides_below false (take end ks) ≡ hides_below h new =
-      ap (hides_below false) (until ks from end l m) ∙ (hides_both false front touched ∙ (ap (λ (b : Bool). hides_below b touched) above ∙ same)) in
+      let behind : hides_below false (take end ks) ≡ hides_below h touched =
+      ap (hides_below false) (until ks from end l m) ∙ (hides_both false front touched ∙ ap (λ (b : Bool). hides_below b touched) above) in
       ap (λ (xs : List KeptValue). xs ++ (put ++ drop end (settled ks))) (settled_take from false ks)
-      ∙ (ap (λ (xs : List KeptValue). settled front ++ (put ++ xs)) (settled_drop end false ks ∙ ap (λ (b : Bool). settled_below b back) behind)
+      ∙ (ap (λ (xs : List KeptValue). settled front ++ (put ++ xs)) (settled_drop end false ks ∙ (ap (λ (b : Bool). settled_below b back) behind ∙ same))
       ∙ sym (settled_both false front (new ++ back) ∙ ap (λ (xs : List KeptValue). settled front ++ xs) (ap (λ (b : Bool). settled_below b (new ++ back)) above ∙ settled_both h new back)))
 
-  pub plain_put : AllByRecursion IsPlain (settled ks) → AllByRecursion IsPlain (settled_below h new) → hides_below h touched ≡ hides_below h new → AllByRecursion IsPlain (settled (splice ks from end new))
+  pub plain_put : AllByRecursion IsPlain (settled ks) → AllByRecursion IsPlain (settled_below h new) → LeavesBelow h touched new (drop end ks) → AllByRecursion IsPlain (settled (splice ks from end new))
   plain_put plain put same =
       subst (λ (xs : List KeptValue). AllByRecursion IsPlain xs) (settled_splice same)
       (all_three IsPlain (settled ks) (settled_below h new) from end (all_take IsPlain (settled ks) from plain) put (all_drop IsPlain (settled ks) end plain))
 
-  pub settled_put : measured (settled_below h touched) ≡ measured (settled_below h new) → hides_below h touched ≡ hides_below h new → measured (settled ks) ≡ measured (settled (splice ks from end new))
+  pub settled_put : measured (settled_below h touched) ≡ measured (settled_below h new) → LeavesBelow h touched new (drop end ks) → measured (settled ks) ≡ measured (settled (splice ks from end new))
   settled_put measure same =
       measure_put (settled ks) (settled_below h new) from end l (omega (arith, m, length_settled false ks)) (ap measured settled_touched ∙ measure) ∙ ap measured (settled_splice same)
+
+-- at the text's end nothing stands behind them
+pub nothing_below : (h : Bool) (old new ks : List KeptValue) (end : ℕ) → length ks ≡ end → LeavesBelow h old new (drop end ks)
+nothing_below h old new ks end e =
+    let none : drop end ks ≡ [] = same_lists _ _ (search (rules, places)) (λ k d q. grind (arith, places)) in
+    ap (settled_below (hides_below h old)) none ∙ sym (ap (settled_below (hides_below h new)) none)
 
 -- ---- sections without fault
 

@@ -23,7 +23,7 @@ use Rattle.yl_lint.specs.Unsilenced.{unsilenced_of_kept, unsilenced_report}
 use Rattle.yl_patch.specs.Patched.{is_upto, patched}
 use Rattle.yl_patch.specs.Plain.{IsPlain, row_sum}
 use Rattle.yl_patch.specs.Seen.{IsSeen, new_lines_of, sections_between}
-use Rattle.yl_patch.specs.Settled.{hides_below, settled, settled_below, settled_one}
+use Rattle.yl_patch.specs.Settled.{LeavesBelow, hides_below, settled, settled_below, settled_one}
 use Rattle.yl_patch.specs.There.{found_there, lines_there}
 use Rattle.yl_patch.specs.declared.touched.Ends.{Ends}
 use Rattle.yl_patch.specs.declared.touched.Touched.{Touched}
@@ -138,6 +138,16 @@ unsilenced_with config rows ks is =
 there_bare : (o : RuleOptions) (e : Ends) (w before : Measure) (rows : List RowValue) (ks : List KeptValue) → found_there o e w before rows ks ≡ found_there o e w before rows (all_bare ks)
 there_bare o e w before rows ks = ap (λ (fs : List FindingValue). lines_there o e rows ++ fs) (sym (findings_bare o.indentation w 0 before ks))
 
+-- what stands behind the touched sections
+below_bare : (h : Bool) (from end : ℕ) (ks new : List KeptValue) → LeavesBelow h (sections_between from end ks) new (drop end ks)
+    → LeavesBelow h (sections_between from end (all_bare ks)) (all_bare new) (drop end (all_bare ks))
+below_bare h from end ks new same =
+    let ls = sections_between from end ks in
+    let back = drop end ks in
+    let at : (b : Bool) → settled_below b (drop end (all_bare ks)) ≡ all_bare (settled_below b back) = λ b. ap (settled_below b) (drop-map bare end ks) ∙ settled_bare b back in
+    ap (λ (b : Bool). settled_below b (drop end (all_bare ks))) (ap (hides_below h) (between_bare from end ks) ∙ hides_bare h ls)
+    ∙ (at (hides_below h ls) ∙ (ap (λ (xs : List KeptValue). all_bare xs) same ∙ sym (ap (λ (b : Bool). settled_below b (drop end (all_bare ks))) (hides_bare h new) ∙ at (hides_below h new))))
+
 -- ---- an edit
 
 pub unsilenced_edited : (config : Config) (rows ins : List RowValue) (kept new : List KeptValue) (a b from end sound : ℕ) (t : Touched) (h : Bool) (found : List FindingValue)
@@ -166,7 +176,7 @@ unsilenced_edited config rows ins kept new a b from end sound t h found seen ord
     ∙ (ap (λ (w : Measure). found_there o seen.ends (measured (settled (all_bare kept))) w qs (all_bare (settled_below h new))) (sym (ap measured front ∙ measured_bare (settled ks)))
     ∙ ap (found_there o seen.ends (measured (settled (all_bare kept))) (measured (settled (take from (all_bare kept)))) qs) (sym (settled_bare h new))))) in
     report_edited config rows ins (all_bare kept) (all_bare new) a b from end t ordered within (subst (λ (n : ℕ). end ≤ n) (sym (length-map kept bare)) within') seen.inside h above [] [] refl refl
-    (settled_plain false kept seen.plain) (settled_plain h new seen.new_plain) (ap (hides_below h) (between_bare from end kept) ∙ (hides_bare h ls ∙ (seen.below ∙ sym (hides_bare h new))))
+    (settled_plain false kept seen.plain) (settled_plain h new seen.new_plain) (below_bare h from end kept new seen.below)
     (seen.first ∙ sym (ap row_sum (take-map bare from kept) ∙ rows_bare ks)) (seen.old_end ∙ sym (ap (λ (n : ℕ). t.first + n) (ap row_sum (between_bare from end kept) ∙ rows_bare ls)))
     (seen.new_end ∙ sym (ap (λ (n : ℕ). t.first + n) (rows_bare new))) seen.ends seen.begins_text seen.ends_text seen.old_seam seen.new_seam seen.behind_seam
     (none_alike (settled_below h (sections_between from end (all_bare kept))) (settled_below h (all_bare new)) (ap (comments_in_sections 0) touched ∙ no_comments 0 (settled_below h ls)) (ap (comments_in_sections 0) (settled_bare h new) ∙ no_comments 0 (settled_below h new)))

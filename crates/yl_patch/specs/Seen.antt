@@ -10,7 +10,7 @@ use Rattle.yl_sections.specs.Kept.{KeptValue}
 use Rattle.yl_lint.specs.TextReport.{facts_in_sections, moved}
 use Rattle.yl_patch.specs.Cut.{IsInside, is_filled}
 use Rattle.yl_patch.specs.Plain.{IsPlain, row_sum}
-use Rattle.yl_patch.specs.Settled.{IsHidden, hides_below, settled, settled_below}
+use Rattle.yl_patch.specs.Settled.{IsHidden, LeavesBelow, settled, settled_below}
 use Rattle.yl_patch.specs.There.{found_there}
 use Rattle.yl_patch.specs.declared.touched.Ends.{Ends}
 use Rattle.yl_patch.specs.declared.touched.Touched.{Touched}
@@ -29,7 +29,7 @@ pub record IsSeen (config : Config) (rows ins : List RowValue) (kept new : List 
   pub hides : IsHidden kept sound from hidden
   pub plain : AllByRecursion IsPlain (settled kept)
   pub new_plain : AllByRecursion IsPlain (settled_below hidden new)
-  pub below : hides_below hidden (sections_between from end kept) ≡ hides_below hidden new
+  pub below : LeavesBelow hidden (sections_between from end kept) new (drop end kept)
   pub measure : measure_of (facts_in_sections (settled_below hidden (sections_between from end kept))) ≡ measure_of (facts_in_sections (settled_below hidden new))
   pub inside : IsInside t a b (length ins) (length rows)
   pub first : t.first ≡ row_sum (take from kept)

@@ -36,6 +36,10 @@ abbrev pub hides_below : Bool → List KeptValue → Bool
 hides_below hidden [] = hidden
 hides_below hidden (k ∷ ks) = hides_below (hidden || is_some k.fault) ks
 
+-- of what stands behind these sections the same is shown behind those
+abbrev pub LeavesBelow : Bool → List KeptValue → List KeptValue → List KeptValue → Type 0
+LeavesBelow hidden old new behind = settled_below (hides_below hidden old) behind ≡ settled_below (hides_below hidden new) behind
+
 -- the fault, if there is one, stands at a place in the first lines of its section
 abbrev pub IsFaultWithin : ℕ → Option SectionFaultValue → Type 0
 IsFaultWithin rows None = Unit {0}

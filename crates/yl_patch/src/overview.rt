@@ -5,7 +5,7 @@ ghost use Rattle.yl_text.specs.Store.{IsRange};
 ghost use Rattle.yl_indentation.specs.Measures.{measure_of};
 ghost use Rattle.yl_lint.specs.TextReport.{facts_in_sections};
 ghost use Rattle.yl_patch.specs.Plain.{IsOverviewOf, IsPlain, IsSoundUpto, row_sum};
-ghost use Rattle.yl_patch.specs.Settled.{hides_below, settled, settled_below};
+ghost use Rattle.yl_patch.specs.Settled.{LeavesBelow, hides_below, settled, settled_below};
 
 use crate::plain::{are_all_plain, are_plain};
 use crate::silencing::{Silencing, silencing_after, silencing_of, silencing_of_all};
@@ -168,8 +168,25 @@ pub fn overview_renewed<A: Allocator + Copy>(sections: &Spliced<'_, Kept<A>, A>)
     }
 }
 
-/// Whether the new sections are plain as far as they are shown, and have the measure of those from one on, before `end`, and a fault
-/// where these have one.
+/// Whether of what stands behind the sections from one on, before `end`, the same is shown behind the new ones.
+fn leaves_below<A: Allocator + Copy>(
+    kept: &Chunks<Kept<A>, A>,
+    from: usize,
+    end: usize,
+    new: &[Kept<A>],
+) -> bool
+    requires { IsRange from end (length kept.now.items) }
+    ensures { result ≡ true → LeavesBelow false (take (end - from) (drop from kept.now.items)) new.now (drop end kept.now.items) }
+{
+    let count = kept.len();
+    if end == count {
+        return true;
+    }
+    hides_between(kept, from, end) == hides(new)
+}
+
+/// Whether the new sections are plain as far as they are shown, and have the measure of those from one on, before `end`, and leave
+/// what stands behind these.
 fn are_shown_alike<A: Allocator + Copy>(
     kept: &Chunks<Kept<A>, A>,
     from: usize,
@@ -179,11 +196,11 @@ fn are_shown_alike<A: Allocator + Copy>(
     requires { IsRange from end (length kept.now.items) }
     ensures plain { result ≡ true → AllByRecursion IsPlain (settled new.now) }
     ensures measure { result ≡ true → measure_of (facts_in_sections (settled (take (end - from) (drop from kept.now.items)))) ≡ measure_of (facts_in_sections (settled new.now)) }
-    ensures below { result ≡ true → hides_below false (take (end - from) (drop from kept.now.items)) ≡ hides_below false new.now }
+    ensures below { result ≡ true → LeavesBelow false (take (end - from) (drop from kept.now.items)) new.now (drop end kept.now.items) }
 {
     are_plain(new)
         && is_same_measure(measure_between(kept, from, end), measure_of(new))
-        && hides_between(kept, from, end) == hides(new)
+        && leaves_below(kept, from, end, new)
 }
 
 /// The same where these sections are hidden or not.
@@ -197,7 +214,7 @@ pub fn is_alike<A: Allocator + Copy>(
     requires { IsRange from end (length kept.now.items) }
     ensures plain { result ≡ true → AllByRecursion IsPlain (settled_below hidden new.now) }
     ensures measure { result ≡ true → measure_of (facts_in_sections (settled_below hidden (take (end - from) (drop from kept.now.items)))) ≡ measure_of (facts_in_sections (settled_below hidden new.now)) }
-    ensures below { result ≡ true → hides_below hidden (take (end - from) (drop from kept.now.items)) ≡ hides_below hidden new.now }
+    ensures below { result ≡ true → LeavesBelow hidden (take (end - from) (drop from kept.now.items)) new.now (drop end kept.now.items) }
 {
     if hidden {
         return true;

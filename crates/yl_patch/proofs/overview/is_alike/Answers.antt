@@ -1,7 +1,7 @@
-use Rattle.std.proofs.Common.{◌≡◌, ◌-◌, Bool, take, drop, sym, subst}
+use Rattle.std.proofs.Common.{◌≡◌, ◌-◌, Bool, take, drop, ap, sym, subst}
 use Rattle.std.specs.List.{AllByRecursion}
 use Rattle.yl_patch.specs.Plain.{IsPlain}
-use Rattle.yl_patch.specs.Settled.{hides_below, settled_below}
+use Rattle.yl_patch.specs.Settled.{LeavesBelow, settled_below}
 use Rattle.yl_patch.proofs.Sections.{measured}
 use Rattle.yl_patch.proofs.Settled.{hidden_plain, hides_alike, measured_hidden}
 use Rattle.yl_patch.proofs.overview.is_alike.Goals as goal
@@ -17,4 +17,5 @@ returns-then-hidden-clause-measure g c = λ _.
 pub returns-then-hidden-clause-below : goal.returns-then-hidden-clause-below
 returns-then-hidden-clause-below g c = λ _.
     let old = take (c.args.end - c.args.from) (drop c.args.from c.args.kept.now.items) in
-    subst (λ (b : Bool). hides_below b old ≡ hides_below b c.args.new.now) (sym c.if-hidden.true) (hides_alike old c.args.new.now)
+    let back = drop c.args.end c.args.kept.now.items in
+    subst (λ (b : Bool). LeavesBelow b old c.args.new.now back) (sym c.if-hidden.true) (ap (λ (b : Bool). settled_below b back) (hides_alike old c.args.new.now))
