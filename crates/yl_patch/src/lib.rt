@@ -2,8 +2,8 @@
 //!
 //! The problems of a text are those of its sections, one after another. Up to the first with a fault they are all that is found in
 //! them, its fault too; after it they are what the rules on lines find. So an edit within some sections changes the problems of their
-//! lines alone, and moves those below them. That is so where a fault in them neither comes nor goes, or they end the text, and what their comments say of the
-//! lines below stays.
+//! lines alone, and moves those below them. That is so where a fault in them neither comes nor goes, or they end the text, and what their
+//! comments say of the lines below stays.
 #![tactic(auto)]
 
 mod comments;
