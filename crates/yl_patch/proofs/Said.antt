@@ -1,8 +1,8 @@
 -- What the comments of all sections say, where none has a fault, and what they leave where there are none.
-use Rattle.std.proofs.Common.{◌≡◌, ℕ, ◌-◌, ◌<◌, ◌≤◌, Bool, true, false, List, [], ◌∷◌, Option, Some, None, length, take, drop, refl, cond, ap, sym, subst, ◌∙◌, arith, rules}
+use Rattle.std.proofs.Common.{◌≡◌, ℕ, ◌-◌, ◌<◌, ◌≤◌, Bool, true, false, List, [], ◌∷◌, Option, Some, None, length, take, drop, refl, cond, ap, sym, subst, ◌∙◌, arith}
 use Rattle.std.specs.Prelude.{◌||◌}
 use Rattle.std.specs.List.{AllByRecursion, filter}
-use Rattle.std.proofs.lemmas.List.{same_lists, places}
+use Rattle.std.proofs.lemmas.List.{take_all}
 use Rattle.yl_text.specs.Lines.{RowValue}
 use Rattle.yl_lexeme.specs.Lexeme.{PlacedCommentValue}
 use Rattle.yl_config.specs.declared.config.Config.{Config}
@@ -20,15 +20,13 @@ use Rattle.yl_patch.proofs.Sections.{no_comments}
 use Rattle.yl_patch.proofs.Settled.{sound_settled}
 use Rattle.yl_patch.proofs.SilencingSections.{comments_known, none_before}
 
-whole : (ks : List KeptValue) → take (length ks) ks ≡ ks
-whole ks = same_lists _ _ (search (rules, places)) (λ k d q. grind (arith, places))
-
 pub all_said : (ks : List KeptValue) (s : Silencing) (n stop : ℕ) → IsSilencingOf ks s → IsSoundUpto ks n → n ≡ length ks → stop ≤ length ks → (stop < length ks → s.end ≤ stop)
     → comments_in_sections s.row (take (stop - s.from) (drop s.from ks)) ≡ comments_in_sections 0 (shown ks)
 all_said ks s n stop known sound e l m =
-    let all_sound = subst (λ (xs : List KeptValue). AllByRecursion IsSound xs) (ap (λ k. take k ks) e ∙ whole ks) sound.sound in
+    let whole = take_all (length ks) ks (omega arith) in
+    let all_sound = subst (λ (xs : List KeptValue). AllByRecursion IsSound xs) (ap (λ k. take k ks) e ∙ whole) sound.sound in
     comments_known ks s (length ks) stop known (omega arith) l m
-    ∙ (ap (comments_in_sections 0) (whole ks) ∙ sym (comments_same 0 ks ∙ ap (comments_in_sections 0) (sound_settled ks all_sound)))
+    ∙ (ap (comments_in_sections 0) whole ∙ sym (comments_same 0 ks ∙ ap (comments_in_sections 0) (sound_settled ks all_sound)))
 
 -- ---- no comments
 
@@ -54,7 +52,7 @@ pub unsilenced_so : (config : Config) (rows : List RowValue) (o : Overview) → 
 unsilenced_so config rows o law known plain none loud =
     let ks = kept_of_text config rows in
     let u = unsilenced_report config rows in
-    let silent = subst (λ (xs : List KeptValue). AllByRecursion IsSilent xs) (whole ks) (none_before ks o.silencing (length ks) (known plain).silencing (omega arith) none) in
+    let silent = subst (λ (xs : List KeptValue). AllByRecursion IsSilent xs) (take_all (length ks) ks (omega arith)) (none_before ks o.silencing (length ks) (known plain).silencing (omega arith) none) in
     sym (law config rows)
     ∙ (ap (λ (b : Bool). heard b (is_silenced (comments_in_sections 0 (shown ks))) u) loud
     ∙ (ap (λ (cs : List PlacedCommentValue). heard false (is_silenced cs) u) (no_comments 0 (shown ks) (silent_shown ks silent)) ∙ all_heard u))

@@ -2,7 +2,7 @@
 use Rattle.std.proofs.Common.{◌≡◌, ℕ, zero, suc, ◌+◌, ◌-◌, ◌<◌, ◌≤◌, Bool, true, false, List, [], ◌∷◌, ◌++◌, length, take, drop, get_or, Option, Some, None, refl, ap, sym, subst, ◌∙◌, arith, rules, append-nil}
 use Rattle.std.specs.Prelude.{◌||◌, is_some}
 use Rattle.std.specs.List.{AllByRecursion, slice_get, splice}
-use Rattle.std.proofs.lemmas.List.{length-take-le, same_lists, places, take-append-drop}
+use Rattle.std.proofs.lemmas.List.{at_drop_all, length-take-le, same_lists, places, take-append-drop}
 use Rattle.yl_text.specs.Finding.{FindingValue}
 use Rattle.yl_lexeme.specs.Lexeme.{PlacedCommentValue}
 use Rattle.yl_indentation.specs.declared.fact.Fact.{Fact}
@@ -97,8 +97,7 @@ module _ (ks new : List KeptValue) (from end : ℕ) (h : Bool) (l : from ≤ end
 -- at the text's end nothing stands behind them
 pub nothing_below : (h : Bool) (old new ks : List KeptValue) (end : ℕ) → length ks ≡ end → LeavesBelow h old new (drop end ks)
 nothing_below h old new ks end e =
-    let none : drop end ks ≡ [] = same_lists _ _ (search (rules, places)) (λ k d q. grind (arith, places)) in
-    ap (settled_below (hides_below h old)) none ∙ sym (ap (settled_below (hides_below h new)) none)
+    at_drop_all (settled_below (hides_below h old)) ks end (omega (arith, e)) ∙ sym (at_drop_all (settled_below (hides_below h new)) ks end (omega (arith, e)))
 
 -- ---- sections without fault
 

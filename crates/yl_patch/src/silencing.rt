@@ -192,10 +192,10 @@ fn start_here<A: Allocator + Copy>(
     requires silent { AllByRecursion IsSilent (take from kept.now.items) }
     ensures { IsStart (splice kept.now.items from end new.now) result.0 result.1 }
 {
-    if from_row > u32::MAX as usize {
-        return (0, 0);
+    match u32::try_from(from_row) {
+        Ok(row) => (from, row),
+        Err(_) => (0, 0),
     }
-    (from, from_row as u32)
 }
 
 /// Before which section none may silence a rule, and how many lines stand there, once these are kept in place of those from one on,

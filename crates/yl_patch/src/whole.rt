@@ -62,7 +62,8 @@ pub fn silences_of_text<L: Lines>(
     Ok(Some(silences))
 }
 
-/// Whether it is seen that no comment silences anything of the report of these lines. The only error is out of memory.
+/// Whether it is seen that no comment silences anything of the report of these lines, of whose sections the overview is this; false says
+/// nothing. The only error is out of memory.
 pub fn is_unsilenced<L: Lines>(
     alloc: L::Alloc,
     lines: &L,
