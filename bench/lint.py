@@ -3,7 +3,8 @@
 
 PROGRAM is the path of our `yamllint`. Inputs of MIB MiB (10 unless said otherwise) are made in a folder that goes away again: many
 small documents as Kubernetes has them, CI files, flow as JSON has it, comments, block scalars, plain scalars over lines, nested
-mappings; one document of short lines, and one of lines of 11 bytes. For each, our program prints its report to /dev/null, and a C program over libyaml
+mappings; one document of short lines, and one of lines of 11 bytes. A last one, of short lines too, is 6.4 times as large, so of 64
+MiB unless said otherwise, which is as much as a text may have. For each, our program prints its report to /dev/null, and a C program over libyaml
 (`parse.c`, built by gcc -O2; Debian's package is libyaml-dev) reads all events of the same file and drops them. They run in turns,
 each in a fresh process, and the least of five times counts, the processor's time of program and system. Where PYTHON_YAMLLINT is
 given (the path of Debian's `yamllint`), it runs once over the first 200 kB. Memory is the peak of the process, and at least this
@@ -33,6 +34,8 @@ FORMS = {
     "short": ("---\n", "k{n}: v{n}\n"),
     "eleven": ("---\n", "k{n:06}: v\n"),
 }
+# The form of the large text, how many times as large it is, and the bytes that are left out of it, so that its last pieces fit.
+LARGE = ("short", 6.4, 64 * 1024)
 # The lines of a small file, and how often it is linted.
 SMALL_LINES = 20
 SMALL_RUNS = 50
@@ -97,16 +100,16 @@ def main():
     with tempfile.TemporaryDirectory() as folder:
         libyaml = build(folder)
         path = os.path.join(folder, "input.yaml")
-        for form in FORMS:
-            write_text(path, size * MIB, form)
+        for form, times, less in [(form, 1, 0) for form in FORMS] + [LARGE]:
+            write_text(path, size * times * MIB - less, form)
             ours, theirs = [], []
             for _ in range(5):
                 ours.append(run([program, path], True))
                 theirs.append(run([libyaml, path]))
             mine, peer = min(t for t, _ in ours), min(t for t, _ in theirs)
             memory = max(m for _, m in ours) / os.path.getsize(path)
-            times = f"{python_time(folder, path, python) * os.path.getsize(path) / MIB / mine:8.0f}" if python else ""
-            print(f"{size:3g} {form:10} {mine:7.3f} {peer:10.3f} {mine / peer:7.2f} {memory:12.1f} {times}", flush=True)
+            faster = f"{python_time(folder, path, python) * os.path.getsize(path) / MIB / mine:8.0f}" if python else ""
+            print(f"{size * times:3g} {form:10} {mine:7.3f} {peer:10.3f} {mine / peer:7.2f} {memory:12.1f} {faster}", flush=True)
         print(f"a file of {SMALL_LINES} lines: {small_time(folder, program):.1f} ms")
 
 

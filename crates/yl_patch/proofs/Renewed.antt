@@ -13,6 +13,7 @@ use Rattle.yl_rules.specs.EndOfFile.{end_of_file}
 use Rattle.yl_rules.specs.Levels.{LevelTable}
 use Rattle.yl_indentation.specs.declared.measure.Measure.{Measure}
 use Rattle.yl_indentation.specs.Measures.{and_later, empty_measure}
+use Rattle.yl_indentation.proofs.Measured.{and_later_assoc}
 use Rattle.yl_settings.specs.declared.options.RuleOptions.{RuleOptions}
 use Rattle.yl_config.specs.declared.config.Config.{Config}
 use Rattle.yl_config.specs.Config.{levels_of, options_of}
@@ -23,6 +24,7 @@ use Rattle.yl_lint.specs.TextReport.{findings_from, findings_in_lines, findings_
 use Rattle.yl_patch.specs.Cut.{IsInside, is_filled}
 use Rattle.yl_patch.specs.Patched.{is_upto, patched}
 use Rattle.yl_patch.specs.Plain.{IsPlain, row_sum}
+use Rattle.yl_patch.specs.Settled.{measure_upto}
 use Rattle.yl_patch.specs.Speaking.{SpeakAlike, SpeaksWithin, switch_texts}
 use Rattle.yl_patch.specs.There.{found_there}
 use Rattle.yl_patch.specs.declared.touched.Ends.{Ends}
@@ -153,7 +155,7 @@ module _ (cs xs ys ds : List PlacedCommentValue) (first n m : ℕ) (low : AllByR
 
 -- a text of three parts, the second of which becomes another
 module _ (config : Config) (ks ls news ms : List KeptValue) (plain : AllByRecursion IsPlain ks) (plain' : AllByRecursion IsPlain ls) (plainₙ : AllByRecursion IsPlain news) (plain'' : AllByRecursion IsPlain ms)
-    (alike : SpeakAlike ls news) (same : measured ls ≡ measured news) (head head' : List ℕ) (loud : disables_file head ≡ false) (loud' : disables_file head' ≡ false) where
+    (alike : SpeakAlike ls news) (same : measure_upto (measured ks) ls ≡ measure_upto (measured ks) news) (head head' : List ℕ) (loud : disables_file head ≡ false) (loud' : disables_file head' ≡ false) where
   abbrev opts : RuleOptions
   opts = options_of config
 
@@ -178,7 +180,10 @@ module _ (config : Config) (ks ls news ms : List KeptValue) (plain : AllByRecurs
   same_whole : measured (ks ++ (news ++ ms)) ≡ wholly
   same_whole =
       measured_both ks (news ++ ms)
-      ∙ (ap (λ (m : Measure). and_later (measured ks) m) (measured_both news ms ∙ (ap (λ (m : Measure). and_later m (measured ms)) (sym same) ∙ sym (measured_both ls ms))) ∙ sym (measured_both ks (ls ++ ms)))
+      ∙ (ap (and_later (measured ks)) (measured_both news ms)
+      ∙ (sym (and_later_assoc (measured ks) (measured news) (measured ms))
+      ∙ (ap (λ (m : Measure). and_later m (measured ms)) (sym same)
+      ∙ (and_later_assoc (measured ks) (measured ls) (measured ms) ∙ (ap (and_later (measured ks)) (sym (measured_both ls ms)) ∙ sym (measured_both ks (ls ++ ms)))))))
 
   -- what is silenced, where the second part has these comments and so many lines
   abbrev says_of : List PlacedCommentValue → ℕ → ℕ → RuleId → ℕ → Bool
@@ -227,7 +232,7 @@ module _ (config : Config) (ks ls news ms : List KeptValue) (plain : AllByRecurs
       let front_is : front levels s' opts q fs qs bs ks news ms wholly plain plainₙ plain'' f h seam' behind_seam' ≡ a =
       arranged_alike levels s' s first (part opts wholly true false empty_measure fs ks) (front_between levels s opts p fs ps bs ks ls ms wholly plain plain' plain'' f g seam behind_seam) (says_front cs xs ys ds first n m low low' lowₙ within withinₙ alike.switches some some') in
       let back_is : behind levels s' opts q fs qs bs ks news ms wholly plain plainₙ plain'' f h seam' behind_seam' (and_later (measured ks) (measured news)) ≡ c =
-      ap (λ (d : Measure). behind levels s' opts q fs qs bs ks news ms wholly plain plainₙ plain'' f h seam' behind_seam' (and_later (measured ks) d)) (sym same)
+      ap (λ (d : Measure). behind levels s' opts q fs qs bs ks news ms wholly plain plainₙ plain'' f h seam' behind_seam' d) (sym same)
       ∙ ap (λ (z : RuleId → ℕ → Bool). arranged levels z (part opts wholly false true before bs ms)) (says_behind cs xs ys ds first n m low low' lowₙ within withinₙ alike.switches some some') in
       let new_parts =
       report_is config head' new_rows (ks ++ (news ++ ms)) all' loud'
@@ -347,7 +352,7 @@ module _ (config : Config) (rows ins : List RowValue) (kept new : List KeptValue
   pub report_renewed : (head head' : List ℕ) → disables_file head ≡ false → disables_file head' ≡ false → AllByRecursion IsPlain kept → AllByRecursion IsPlain new
       → t.first ≡ row_sum ks → t.old_end ≡ t.first + row_sum ls → t.new_end ≡ t.first + row_sum new → (e : Ends) → e.begins ≡ (t.first == 0) → e.ends ≡ (t.old_end == length rows)
       → (e.begins ≡ false → is_filled (slice_get rows t.first) ≡ true) → (e.begins ≡ false → is_filled (slice_get rows' t.first) ≡ true) → (e.ends ≡ false → is_filled (slice_get rows t.old_end) ≡ true)
-      → SpeakAlike ls new → measured ls ≡ measured new
+      → SpeakAlike ls new → measure_upto (measured ks) ls ≡ measure_upto (measured ks) new
       → (i j : ℕ) (put old : List ProblemValue) → old ≡ report_with config head rows kept → i ≡ prefix_len (is_upto t.first) old → j ≡ prefix_len (is_upto t.old_end) old
       → put ≡ arranged (levels_of config) (is_silenced (comments_in_sections 0 (ks ++ new))) (map (moved t.first) (found_there (options_of config) e (measured kept) (measured ks) qs new))
       → patched i j put t.old_end t.new_end old ≡ report_with config head' rows' (splice kept from end new)

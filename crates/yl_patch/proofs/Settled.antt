@@ -13,7 +13,7 @@ use Rattle.yl_indentation.proofs.Measured.{and_later_assoc, measure_is_local}
 use Rattle.yl_sections.specs.Kept.{KeptValue, SectionFaultValue, Here, Behind}
 use Rattle.yl_lint.specs.TextReport.{comments_in_sections, facts_in_sections, findings_in_section, findings_in_sections}
 use Rattle.yl_patch.specs.Plain.{IsPlain, IsSilent, IsSound, IsWithin, row_sum}
-use Rattle.yl_patch.specs.Settled.{IsFaultWithin, LeavesBelow, fault_behind, found_by_fault, hides_below, settled, settled_below, settled_one}
+use Rattle.yl_patch.specs.Settled.{IsFaultWithin, LeavesBelow, fault_behind, found_by_fault, hides_below, measure_upto, settled, settled_below, settled_one}
 use Rattle.yl_patch.proofs.Sections.{all_both, and_later_none, comments_both, measured, measured_both}
 use Rattle.yl_patch.proofs.Walks.{all_drop, all_take, all_three, got, measure_put, one_at, one_more}
 
@@ -90,9 +90,17 @@ module _ (ks new : List KeptValue) (from end : ℕ) (h : Bool) (l : from ≤ end
       subst (λ (xs : List KeptValue). AllByRecursion IsPlain xs) (settled_splice same)
       (all_three IsPlain (settled ks) (settled_below h new) from end (all_take IsPlain (settled ks) from plain) put (all_drop IsPlain (settled ks) end plain))
 
-  pub settled_put : measured (settled_below h touched) ≡ measured (settled_below h new) → LeavesBelow h touched new (drop end ks) → measured (settled ks) ≡ measured (settled (splice ks from end new))
+  -- the measure up to their end, by the sections as they are shown
+  pub measure_seen : measure_upto (measured (settled (take from ks))) (settled_below h touched) ≡ measure_upto (measured (settled (take from ks))) (settled_below h new)
+      → measure_upto (measured (take from (settled ks))) (take (end - from) (drop from (settled ks))) ≡ measure_upto (measured (take from (settled ks))) (settled_below h new)
+  measure_seen measure =
+      ap (λ (xs : List KeptValue). measure_upto (measured xs) (take (end - from) (drop from (settled ks)))) (settled_take from false ks)
+      ∙ (ap (measure_upto (measured (settled (take from ks)))) settled_touched ∙ (measure ∙ ap (λ (xs : List KeptValue). measure_upto (measured xs) (settled_below h new)) (sym (settled_take from false ks))))
+
+  pub settled_put : measure_upto (measured (settled (take from ks))) (settled_below h touched) ≡ measure_upto (measured (settled (take from ks))) (settled_below h new) → LeavesBelow h touched new (drop end ks)
+      → measured (settled ks) ≡ measured (settled (splice ks from end new))
   settled_put measure same =
-      measure_put (settled ks) (settled_below h new) from end l (omega (arith, m, length_settled false ks)) (ap measured settled_touched ∙ measure) ∙ ap measured (settled_splice same)
+      measure_put (settled ks) (settled_below h new) from end l (omega (arith, m, length_settled false ks)) (measure_seen measure) ∙ ap measured (settled_splice same)
 
 -- at the text's end nothing stands behind them
 pub nothing_below : (h : Bool) (old new ks : List KeptValue) (end : ℕ) → length ks ≡ end → LeavesBelow h old new (drop end ks)

@@ -23,7 +23,7 @@ use Rattle.yl_lint.specs.Unsilenced.{unsilenced_of_kept, unsilenced_report}
 use Rattle.yl_patch.specs.Patched.{is_upto, patched}
 use Rattle.yl_patch.specs.Plain.{IsPlain, row_sum}
 use Rattle.yl_patch.specs.Seen.{IsSeen, new_lines_of, sections_between}
-use Rattle.yl_patch.specs.Settled.{LeavesBelow, hides_below, settled, settled_below, settled_one}
+use Rattle.yl_patch.specs.Settled.{LeavesBelow, hides_below, measure_upto, settled, settled_below, settled_one}
 use Rattle.yl_patch.specs.There.{found_there, lines_there}
 use Rattle.yl_patch.specs.declared.touched.Ends.{Ends}
 use Rattle.yl_patch.specs.declared.touched.Touched.{Touched}
@@ -164,6 +164,12 @@ unsilenced_edited config rows ins kept new a b from end sound t h found seen ord
     let above : hides_below false (take from (all_bare kept)) ≡ h = ap (hides_below false) (take-map bare from kept) ∙ (hides_bare false ks ∙ seen.hides.above) in
     let touched : settled_below h (sections_between from end (all_bare kept)) ≡ all_bare (settled_below h ls) = ap (settled_below h) (between_bare from end kept) ∙ settled_bare h ls in
     let front : settled (take from (all_bare kept)) ≡ all_bare (settled ks) = ap settled (take-map bare from kept) ∙ settled_bare false ks in
+    let above_is : measured (settled (take from (all_bare kept))) ≡ measured (settled ks) = ap measured front ∙ measured_bare (settled ks) in
+    let measure : measure_upto (measured (settled (take from (all_bare kept)))) (settled_below h (sections_between from end (all_bare kept))) ≡ measure_upto (measured (settled (take from (all_bare kept)))) (settled_below h (all_bare new)) =
+    ap (λ (m : Measure). measure_upto m (settled_below h (sections_between from end (all_bare kept)))) above_is
+    ∙ (ap (and_later (measured (settled ks))) (ap measured touched ∙ measured_bare (settled_below h ls))
+    ∙ (seen.measure
+    ∙ sym (ap (λ (m : Measure). measure_upto m (settled_below h (all_bare new))) above_is ∙ ap (and_later (measured (settled ks))) (ap measured (settled_bare h new) ∙ measured_bare (settled_below h new))))) in
     let none : comments_in_sections 0 (settled (take from (all_bare kept)) ++ settled_below h (all_bare new)) ≡ [] =
     ap (λ (xs : List KeptValue). comments_in_sections 0 (xs ++ settled_below h (all_bare new))) front
     ∙ (ap (λ (xs : List KeptValue). comments_in_sections 0 (all_bare (settled ks) ++ xs)) (settled_bare h new)
@@ -173,14 +179,14 @@ unsilenced_edited config rows ins kept new a b from end sound t h found seen ord
     ∙ ap (map (moved t.first))
     (there_bare o seen.ends (measured (settled kept)) (measured (settled ks)) qs (settled_below h new)
     ∙ (ap (λ (w : Measure). found_there o seen.ends w (measured (settled ks)) qs (all_bare (settled_below h new))) (sym (ap measured (settled_bare false kept) ∙ measured_bare (settled kept)))
-    ∙ (ap (λ (w : Measure). found_there o seen.ends (measured (settled (all_bare kept))) w qs (all_bare (settled_below h new))) (sym (ap measured front ∙ measured_bare (settled ks)))
+    ∙ (ap (λ (w : Measure). found_there o seen.ends (measured (settled (all_bare kept))) w qs (all_bare (settled_below h new))) (sym above_is)
     ∙ ap (found_there o seen.ends (measured (settled (all_bare kept))) (measured (settled (take from (all_bare kept)))) qs) (sym (settled_bare h new))))) in
     report_edited config rows ins (all_bare kept) (all_bare new) a b from end t ordered within (subst (λ (n : ℕ). end ≤ n) (sym (length-map kept bare)) within') seen.inside h above [] [] refl refl
     (settled_plain false kept seen.plain) (settled_plain h new seen.new_plain) (below_bare h from end kept new seen.below)
     (seen.first ∙ sym (ap row_sum (take-map bare from kept) ∙ rows_bare ks)) (seen.old_end ∙ sym (ap (λ (n : ℕ). t.first + n) (ap row_sum (between_bare from end kept) ∙ rows_bare ls)))
     (seen.new_end ∙ sym (ap (λ (n : ℕ). t.first + n) (rows_bare new))) seen.ends seen.begins_text seen.ends_text seen.old_seam seen.new_seam seen.behind_seam
     (none_alike (settled_below h (sections_between from end (all_bare kept))) (settled_below h (all_bare new)) (ap (comments_in_sections 0) touched ∙ no_comments 0 (settled_below h ls)) (ap (comments_in_sections 0) (settled_bare h new) ∙ no_comments 0 (settled_below h new)))
-    (ap measured touched ∙ (measured_bare (settled_below h ls) ∙ (seen.measure ∙ sym (ap measured (settled_bare h new) ∙ measured_bare (settled_below h new))))) i j put old (old_is ∙ unsilenced_with config rows kept is) i_is j_is
+    measure i j put old (old_is ∙ unsilenced_with config rows kept is) i_is j_is
     (put_is
     ∙ (ap (λ (cs : List PlacedCommentValue). arranged l (is_silenced cs) found) (sym none)
     ∙ ap (arranged l (is_silenced (comments_in_sections 0 (settled (take from (all_bare kept)) ++ settled_below h (all_bare new))))) there))

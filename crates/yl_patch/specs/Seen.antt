@@ -10,7 +10,7 @@ use Rattle.yl_sections.specs.Kept.{KeptValue}
 use Rattle.yl_lint.specs.TextReport.{facts_in_sections, moved}
 use Rattle.yl_patch.specs.Cut.{IsInside, is_filled}
 use Rattle.yl_patch.specs.Plain.{IsPlain, row_sum}
-use Rattle.yl_patch.specs.Settled.{IsHidden, LeavesBelow, settled, settled_below}
+use Rattle.yl_patch.specs.Settled.{IsHidden, LeavesBelow, measure_upto, settled, settled_below}
 use Rattle.yl_patch.specs.There.{found_there}
 use Rattle.yl_patch.specs.declared.touched.Ends.{Ends}
 use Rattle.yl_patch.specs.declared.touched.Touched.{Touched}
@@ -24,13 +24,13 @@ abbrev pub new_lines_of : Touched → ℕ → ℕ → List RowValue → List Row
 new_lines_of t a b rows ins = take (t.new_end - t.first) (drop t.first (splice rows a b ins))
 
 -- in their lines, which may begin the text and end it, this is found, where those above are hidden or not; the edit changes neither
--- what they hide nor the measure, and the lines that it touches are theirs
+-- what they hide nor the measure up to their end, and the lines that it touches are theirs
 pub record IsSeen (config : Config) (rows ins : List RowValue) (kept new : List KeptValue) (a b from end sound : ℕ) (t : Touched) (hidden : Bool) (found : List FindingValue) : Type 0 where
   pub hides : IsHidden kept sound from hidden
   pub plain : AllByRecursion IsPlain (settled kept)
   pub new_plain : AllByRecursion IsPlain (settled_below hidden new)
   pub below : LeavesBelow hidden (sections_between from end kept) new (drop end kept)
-  pub measure : measure_of (facts_in_sections (settled_below hidden (sections_between from end kept))) ≡ measure_of (facts_in_sections (settled_below hidden new))
+  pub measure : measure_upto (measure_of (facts_in_sections (settled (take from kept)))) (settled_below hidden (sections_between from end kept)) ≡ measure_upto (measure_of (facts_in_sections (settled (take from kept)))) (settled_below hidden new)
   pub inside : IsInside t a b (length ins) (length rows)
   pub first : t.first ≡ row_sum (take from kept)
   pub old_end : t.old_end ≡ t.first + row_sum (sections_between from end kept)

@@ -2,8 +2,10 @@
 -- behind it nothing is found.
 use Rattle.std.specs.Prelude.{◌≡◌, ◌<◌, ◌+◌, ℕ, Bool, true, false, ◌||◌, take, List, [], ◌∷◌, ◌++◌, Option, Some, None, is_some}
 use Rattle.yl_text.specs.Finding.{FindingValue}
+use Rattle.yl_indentation.specs.declared.measure.Measure.{Measure}
+use Rattle.yl_indentation.specs.Measures.{and_later, measure_of}
 use Rattle.yl_sections.specs.Kept.{KeptValue, SectionFaultValue, Here, Behind}
-use Rattle.yl_lint.specs.TextReport.{syntax_finding}
+use Rattle.yl_lint.specs.TextReport.{facts_in_sections, syntax_finding}
 
 -- the problem of a fault at a place of the section
 abbrev pub found_by_fault : Option SectionFaultValue → List FindingValue
@@ -30,6 +32,10 @@ settled_below hidden (k ∷ ks) = settled_one hidden k ∷ settled_below (hidden
 -- those of a text, from its first one on
 abbrev pub settled : List KeptValue → List KeptValue
 settled ks = settled_below false ks
+
+-- the measure of facts of this one and of those of these sections behind them
+abbrev pub measure_upto : Measure → List KeptValue → Measure
+measure_upto above ks = and_later above (measure_of (facts_in_sections ks))
 
 -- what stands behind these sections is hidden, where they are hidden or not
 abbrev pub hides_below : Bool → List KeptValue → Bool

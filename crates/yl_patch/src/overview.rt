@@ -5,7 +5,7 @@ ghost use Rattle.yl_text.specs.Store.{IsRange};
 ghost use Rattle.yl_indentation.specs.Measures.{measure_of};
 ghost use Rattle.yl_lint.specs.TextReport.{facts_in_sections};
 ghost use Rattle.yl_patch.specs.Plain.{IsOverviewOf, IsPlain, IsSoundUpto, row_sum};
-ghost use Rattle.yl_patch.specs.Settled.{LeavesBelow, hides_below, settled, settled_below};
+ghost use Rattle.yl_patch.specs.Settled.{LeavesBelow, hides_below, measure_upto, settled, settled_below};
 
 use crate::plain::{are_all_plain, are_plain};
 use crate::silencing::{Silencing, silencing_after, silencing_of, silencing_of_all};
@@ -185,21 +185,23 @@ fn leaves_below<A: Allocator + Copy>(
     hides_between(kept, from, end) == hides(new)
 }
 
-/// Whether the new sections are plain as far as they are shown, and have the measure of those from one on, before `end`, and leave
-/// what stands behind these.
+/// Whether the new sections are plain as far as they are shown, and behind facts of the measure `above` leave the measure as those from
+/// one on, before `end`, do, and leave what stands behind these.
 fn are_shown_alike<A: Allocator + Copy>(
     kept: &Chunks<Kept<A>, A>,
     from: usize,
     end: usize,
+    above: Measure,
     new: &[Kept<A>],
 ) -> bool
     requires { IsRange from end (length kept.now.items) }
     ensures plain { result ≡ true → AllByRecursion IsPlain (settled new.now) }
-    ensures measure { result ≡ true → measure_of (facts_in_sections (settled (take (end - from) (drop from kept.now.items)))) ≡ measure_of (facts_in_sections (settled new.now)) }
+    ensures measure { result ≡ true → measure_upto above (settled (take (end - from) (drop from kept.now.items))) ≡ measure_upto above (settled new.now) }
     ensures below { result ≡ true → LeavesBelow false (take (end - from) (drop from kept.now.items)) new.now (drop end kept.now.items) }
 {
+    let old = measure_between(kept, from, end);
     are_plain(new)
-        && is_same_measure(measure_between(kept, from, end), measure_of(new))
+        && is_same_measure(above.and_later(old), above.and_later(measure_of(new)))
         && leaves_below(kept, from, end, new)
 }
 
@@ -209,17 +211,18 @@ pub fn is_alike<A: Allocator + Copy>(
     kept: &Chunks<Kept<A>, A>,
     from: usize,
     end: usize,
+    above: Measure,
     new: &[Kept<A>],
 ) -> bool
     requires { IsRange from end (length kept.now.items) }
     ensures plain { result ≡ true → AllByRecursion IsPlain (settled_below hidden new.now) }
-    ensures measure { result ≡ true → measure_of (facts_in_sections (settled_below hidden (take (end - from) (drop from kept.now.items)))) ≡ measure_of (facts_in_sections (settled_below hidden new.now)) }
+    ensures measure { result ≡ true → measure_upto above (settled_below hidden (take (end - from) (drop from kept.now.items))) ≡ measure_upto above (settled_below hidden new.now) }
     ensures below { result ≡ true → LeavesBelow hidden (take (end - from) (drop from kept.now.items)) new.now (drop end kept.now.items) }
 {
     if hidden {
         return true;
     }
-    are_shown_alike(kept, from, end, new)
+    are_shown_alike(kept, from, end, above, new)
 }
 
 /// The overview once this is kept in place of what is kept of the sections from one on, before `end`, which begin behind `from_row` lines.
@@ -249,7 +252,8 @@ pub fn overview_after<A: Allocator + Copy>(
     let Some(hidden) = hides_before(kept, overview.sound, from) else {
         return unknown;
     };
-    if !is_alike(hidden, kept, from, end, new) {
+    let above = measure_above(kept, from, hidden, overview.whole);
+    if !is_alike(hidden, kept, from, end, above, new) {
         return unknown;
     }
     let Some(silencing) = silencing_after(overview.silencing, kept, from, end, from_row, new) else {

@@ -78,7 +78,9 @@ pub fn see_edit<S: LineStore>(
     let Some(hidden) = hides_before(kept, overview.sound, from) else {
         return Ok(None);
     };
-    if !is_alike(hidden, kept, from, end, new) {
+    let whole = overview.whole;
+    let before = measure_above(kept, from, hidden, whole);
+    if !is_alike(hidden, kept, from, end, before, new) {
         return Ok(None);
     }
     let Some(touched) = find_touched(from_row, end_row, new) else {
@@ -91,8 +93,6 @@ pub fn see_edit<S: LineStore>(
         return Ok(None);
     }
     let window = Window::new(patched, touched.first as usize, touched.new_end as usize);
-    let whole = overview.whole;
-    let before = measure_above(kept, from, hidden, whole);
     let shown = shown_of(hidden, new);
     let found = find_there(
         alloc,

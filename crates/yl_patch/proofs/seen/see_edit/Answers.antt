@@ -1,11 +1,12 @@
-use Rattle.std.proofs.Common.{◌==◌, ◌-◌, ◌++◌, false, List, length, map, take, drop, arith, ap, sym, subst, ◌∙◌}
+use Rattle.std.proofs.Common.{◌≡◌, ◌==◌, ◌-◌, ◌++◌, false, List, length, map, take, drop, arith, ap, sym, subst, ◌∙◌}
 use Rattle.std.specs.List.{slice_get, splice}
 use Rattle.yl_text.specs.Finding.{FindingValue}
 use Rattle.yl_text.specs.Lines.{RowValue}
+use Rattle.yl_indentation.specs.declared.measure.Measure.{Measure}
 use Rattle.yl_config.specs.Config.{options_of}
 use Rattle.yl_lint.specs.TextReport.{moved}
 use Rattle.yl_patch.specs.Cut.{IsInside, is_filled}
-use Rattle.yl_patch.specs.Settled.{settled, settled_below}
+use Rattle.yl_patch.specs.Settled.{measure_upto, settled, settled_below}
 use Rattle.yl_patch.specs.There.{found_there, lines_there}
 use Rattle.yl_patch.proofs.Given.{is_so, same_there}
 use Rattle.yl_patch.proofs.Renewed.{spliced_length}
@@ -55,7 +56,9 @@ returns-clause-seen g c =
       plain = known.plain;
       new_plain = c.is_alike.ensures.plain alike;
       below = c.is_alike.ensures.below alike;
-      measure = c.is_alike.ensures.measure alike;
+      measure =
+          subst (λ (m : Measure). measure_upto m (settled_below hidden (take (c.args.end - c.args.from) (drop c.args.from kept))) ≡ measure_upto m (settled_below hidden c.args.new.now)) c.measure_above-before.ensures
+          (c.is_alike.ensures.measure alike);
       inside = subst (λ n. IsInside t c.args.a c.args.b (length ins) n) c.len-lines.ensures (c.is_inside.ensures c.if-not-is_inside.false);
       first = c.in-Some-find_touched.ensures.first ∙ c.requires.from_row;
       old_end =
