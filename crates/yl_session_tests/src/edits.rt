@@ -339,6 +339,69 @@ fn edits_move_documents_and_faults(rt: HostRuntime) -> Result<(), Fail> {
     check_rows(&rt, rt.alloc(), CUT)
 }
 
+// Edits of documents that have a part of the measure of all, or would have it if others did not.
+static MEASURED: &[Line] = &[
+    // The first document has the measure; what others have comes and goes.
+    (
+        "---\na:\n  b: 1\n---\nc:\n    d: 1\n---\ne:\n    f: 1\n",
+        &[
+            (5, 6, b"", 3, 2),
+            (4, 5, b"c:  1\n", 4, 2),
+            (4, 5, b"c:\n  - 1\n  - 2\n", 6, 2),
+            (5, 7, b"    - 1 \n", 4, 2),
+            (8, 9, b"   f: \"1\n", 3, 1),
+            (4, 6, b"c:\n- 1\n", 5, 2),
+            (8, 9, b"   f: \"1\"\n", 3, 1),
+            (2, 3, b"    b: 1\n", 4, 2),
+            (5, 6, b"  - 1\n", 4, 2),
+            (8, 9, b"  f: 1\n", 3, 1),
+        ],
+        "6:5 wrong indentation: expected 2 but found 4\n9:5 wrong indentation: expected 2 but found 4\n\
+         -- edited\n8:5 wrong indentation: expected 2 but found 4\n\
+         -- edited\n5:4 too many spaces after colon\n8:5 wrong indentation: expected 2 but found 4\n\
+         -- edited\n10:5 wrong indentation: expected 2 but found 4\n\
+         -- edited\n6:5 wrong indentation: expected 2 but found 4\n6:8 trailing spaces\n9:5 wrong indentation: expected 2 but found 4\n\
+         -- edited\n6:5 wrong indentation: expected 2 but found 4\n6:8 trailing spaces\n9:4 wrong indentation: expected 2 but found 3\n9:7 syntax error: quoted scalar is not closed\n\
+         -- edited\n6:1 wrong indentation: expected 2 but found 0\n9:4 wrong indentation: expected 2 but found 3\n9:7 syntax error: quoted scalar is not closed\n\
+         -- edited\n6:1 wrong indentation: expected 2 but found 0\n9:4 wrong indentation: expected 2 but found 3\n\
+         -- edited\n6:1 wrong indentation: expected 4 but found 0\n9:4 wrong indentation: expected 4 but found 3\n\
+         -- edited\n6:3 wrong indentation: expected 4 but found 2\n9:4 wrong indentation: expected 4 but found 3\n\
+         -- edited\n6:3 wrong indentation: expected 4 but found 2\n9:3 wrong indentation: expected 4 but found 2\n",
+    ),
+    // The second document has the first step, or the third, or a part of it.
+    (
+        "---\na: 1\n---\nb:\n  c: 1\n---\nd:\n    e: 1\n---\nf:\n  g: 1\n",
+        &[
+            (4, 5, b"    c: 1\n", 4, 2),
+            (3, 5, b"b: 1\n", 4, 2),
+            (6, 7, b"", 3, 2),
+            (1, 2, b"a:\n  - 1\n", 5, 2),
+            (9, 10, b"    g: 1\n", 3, 1),
+            (2, 3, b"  - 1\n  - c:\n    - 2\n", 6, 2),
+            (2, 5, b"", 3, 2),
+            (8, 9, b"  g: [1\n", 3, 1),
+            (8, 9, b"  g: [1]\n", 3, 1),
+            (4, 5, b"b:\n   c: 1\n", 5, 2),
+        ],
+        "8:5 wrong indentation: expected 2 but found 4\n\
+         -- edited\n11:3 wrong indentation: expected 4 but found 2\n\
+         -- edited\n10:3 wrong indentation: expected 4 but found 2\n\
+         -- edited\n\
+         -- edited\n\
+         -- edited\n10:5 wrong indentation: expected 2 but found 4\n\
+         -- edited\n5:5 wrong indentation: expected 6 but found 4\n12:5 wrong indentation: expected 2 but found 4\n\
+         -- edited\n\
+         -- edited\n10:1 syntax error: comma or closing bracket expected\n\
+         -- edited\n\
+         -- edited\n5:1 duplication of key \"b\" in mapping\n10:3 wrong indentation: expected 3 but found 2\n",
+    ),
+];
+
+#[test]
+fn edits_leave_the_measure_or_change_it(rt: HostRuntime) -> Result<(), Fail> {
+    check_rows(&rt, rt.alloc(), MEASURED)
+}
+
 // A line before the others, a line and how often it stands, edits, and what is shown.
 type Long = (
     &'static str,
