@@ -6,6 +6,7 @@
 
 mod beginning;
 mod guide;
+mod known;
 mod planning;
 mod reading;
 mod renewing;

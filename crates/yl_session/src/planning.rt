@@ -11,13 +11,13 @@ ghost use Rattle.yl_session.specs.Change.{IsFit, Makes};
 ghost use Rattle.yl_session.specs.Work.{IsWork};
 
 use crate::guide::{nearest, refresh};
+use crate::known::Known;
 use crate::renewing::{Renewal, make_patch_room, renewal_of};
 use crate::work::Work;
 use std::alloc::{AllocError, Allocator};
 use yl_chunks::{Chunks, Spliced};
 use yl_config::Config;
 use yl_lexeme::Meter;
-use yl_patch::Overview;
 use yl_record::Record;
 use yl_rejudge::{Place, Rejudged, rejudge};
 use yl_report::Problem;
@@ -82,12 +82,8 @@ pub fn planned<S: LineStore>(
     config: &Config,
     store: &S,
     records: &Chunks<Record<S::Alloc>, S::Alloc>,
-    kept: &Chunks<Kept<S::Alloc>, S::Alloc>,
     places: &[Place],
-    overview: Overview,
-    problems: &[Problem<S::Alloc>],
-    unsilenced: &[Problem<S::Alloc>],
-    is_known: bool,
+    known: &Known<'_, S::Alloc>,
     a: usize,
     b: usize,
     rows: &[Row<S::Alloc>],
@@ -96,33 +92,33 @@ pub fn planned<S: LineStore>(
     requires old { AreLines (S.rows store.now) }
     requires lines { AreLines (splice (S.rows store.now) a b rows.now) }
     requires records { records.now.items ≡ records_of (S.rows store.now) }
-    requires kept { kept.now.items ≡ kept_of_text config.now (S.rows store.now) }
-    requires at { AllByRecursion (IsAt kept.now.items) places.now }
-    requires overview { IsOverviewOf kept.now.items overview }
-    requires problems { problems.now ≡ report config.now (S.rows store.now) }
-    requires known { is_known ≡ true → unsilenced.now ≡ unsilenced_report config.now (S.rows store.now) }
+    requires kept { known.now.kept.now.items ≡ kept_of_text config.now (S.rows store.now) }
+    requires at { AllByRecursion (IsAt known.now.kept.now.items) places.now }
+    requires overview { IsOverviewOf known.now.kept.now.items known.now.overview }
+    requires problems { known.now.problems.now ≡ report config.now (S.rows store.now) }
+    requires known { known.now.is_known ≡ true → known.now.unsilenced.now ≡ unsilenced_report config.now (S.rows store.now) }
     ensures range { IfOk result (λ p. IsRange p.rescan.from p.rescan.old_end (length records.now.items)) }
     ensures records { IfOk result (λ p. splice records.now.items p.rescan.from p.rescan.old_end p.rescan.records.items ≡ records_of (splice (S.rows store.now) a b rows.now)) }
-    ensures kept_range { IfOk result (λ p. IsRange p.rejudged.from p.rejudged.end (length kept.now.items)) }
-    ensures from_row { IfOk result (λ p. p.rejudged.from_row ≡ rows_kept (take p.rejudged.from kept.now.items)) }
-    ensures end_row { IfOk result (λ p. p.rejudged.end_row ≡ rows_kept (take p.rejudged.end kept.now.items)) }
-    ensures kept { IfOk result (λ p. splice kept.now.items p.rejudged.from p.rejudged.end p.rejudged.kept.items ≡ kept_of_text config.now (splice (S.rows store.now) a b rows.now)) }
-    ensures fit { IfOk result (λ p. IsFit problems.now p.renewal.report.patch) }
-    ensures report { IfOk result (λ p. Makes problems.now (report config.now (splice (S.rows store.now) a b rows.now)) p.renewal.report) }
-    ensures unsilenced_fit { IfOk result (λ p. IsFit unsilenced.now p.renewal.unsilenced.patch) }
-    ensures unsilenced { IfOk result (λ p. p.renewal.is_known ≡ true → Makes unsilenced.now (unsilenced_report config.now (splice (S.rows store.now) a b rows.now)) p.renewal.unsilenced) }
-    ensures overview { IfOk result (λ p. IsOverviewOf (splice kept.now.items p.rejudged.from p.rejudged.end p.rejudged.kept.items) p.renewal.overview) }
+    ensures kept_range { IfOk result (λ p. IsRange p.rejudged.from p.rejudged.end (length known.now.kept.now.items)) }
+    ensures from_row { IfOk result (λ p. p.rejudged.from_row ≡ rows_kept (take p.rejudged.from known.now.kept.now.items)) }
+    ensures end_row { IfOk result (λ p. p.rejudged.end_row ≡ rows_kept (take p.rejudged.end known.now.kept.now.items)) }
+    ensures kept { IfOk result (λ p. splice known.now.kept.now.items p.rejudged.from p.rejudged.end p.rejudged.kept.items ≡ kept_of_text config.now (splice (S.rows store.now) a b rows.now)) }
+    ensures fit { IfOk result (λ p. IsFit known.now.problems.now p.renewal.report.patch) }
+    ensures report { IfOk result (λ p. Makes known.now.problems.now (report config.now (splice (S.rows store.now) a b rows.now)) p.renewal.report) }
+    ensures unsilenced_fit { IfOk result (λ p. IsFit known.now.unsilenced.now p.renewal.unsilenced.patch) }
+    ensures unsilenced { IfOk result (λ p. p.renewal.is_known ≡ true → Makes known.now.unsilenced.now (unsilenced_report config.now (splice (S.rows store.now) a b rows.now)) p.renewal.unsilenced) }
+    ensures overview { IfOk result (λ p. IsOverviewOf (splice known.now.kept.now.items p.rejudged.from p.rejudged.end p.rejudged.kept.items) p.renewal.overview) }
     ensures work { IfOk result (λ p. IsWork (characters_in (S.rows store.now)) (characters_in (splice (S.rows store.now) a b rows.now)) a b (length rows.now) p.work) }
 {
     let mut meter = Meter::new();
     let rescan = rescan(alloc, store, a, b, rows, records, &mut meter)?;
-    let near = nearest(kept, places, rescan.from);
+    let near = nearest(known.kept, places, rescan.from);
     let rejudged = {
         let spliced = Spliced::new(records, rescan.from, rescan.old_end, &rescan.records);
         rejudge(
             alloc,
             config,
-            kept,
+            known.kept,
             near,
             records,
             &spliced,
@@ -132,9 +128,7 @@ pub fn planned<S: LineStore>(
             &mut meter,
         )?
     };
-    let renewal = renewal_of(
-        alloc, config, store, a, b, rows, kept, overview, problems, unsilenced, is_known, &rejudged,
-    )?;
+    let renewal = renewal_of(alloc, config, store, a, b, rows, known, &rejudged)?;
     Ok(Plan {
         rescan,
         rejudged,

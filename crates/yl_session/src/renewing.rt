@@ -12,8 +12,9 @@ ghost use Rattle.yl_patch.specs.Patched.{patched};
 ghost use Rattle.yl_patch.specs.Plain.{IsOverviewOf};
 ghost use Rattle.yl_session.specs.Change.{IsFit, Makes, Patches};
 
+use crate::known::Known;
 use std::alloc::{AllocError, Allocator};
-use yl_chunks::{Chunks, Spliced};
+use yl_chunks::Spliced;
 use yl_config::Config;
 use yl_lint::{heard_of_text, report_with_kept, unsilenced_with_kept};
 use yl_patch::{
@@ -159,26 +160,23 @@ fn patch_unsilenced<S: LineStore>(
     a: usize,
     b: usize,
     rows: &[Row<S::Alloc>],
-    kept: &Chunks<Kept<S::Alloc>, S::Alloc>,
-    overview: Overview,
-    unsilenced: &[Problem<S::Alloc>],
-    is_known: bool,
+    known: &Known<'_, S::Alloc>,
     new: &Rejudged<S::Alloc>,
 ) -> Result<Option<ReportPatch<S::Alloc>>, AllocError>
     requires range { IsRange a b (length (S.rows store.now)) }
     requires old { AreLines (S.rows store.now) }
     requires lines { AreLines (splice (S.rows store.now) a b rows.now) }
-    requires kept { kept.now.items ≡ kept_of_text config.now (S.rows store.now) }
-    requires overview { IsOverviewOf kept.now.items overview }
-    requires known { is_known ≡ true → unsilenced.now ≡ unsilenced_report config.now (S.rows store.now) }
-    requires kept_range { IsRange new.now.from new.now.end (length kept.now.items) }
-    requires from_row { new.now.from_row ≡ rows_kept (take new.now.from kept.now.items) }
-    requires end_row { new.now.end_row ≡ rows_kept (take new.now.end kept.now.items) }
-    requires new { splice kept.now.items new.now.from new.now.end new.now.kept.items ≡ kept_of_text config.now (splice (S.rows store.now) a b rows.now) }
-    ensures fit { IfOk result (λ o. IsFit unsilenced.now o) }
-    ensures patch { IfOk result (λ o. Patches unsilenced.now (unsilenced_report config.now (splice (S.rows store.now) a b rows.now)) o) }
+    requires kept { known.now.kept.now.items ≡ kept_of_text config.now (S.rows store.now) }
+    requires overview { IsOverviewOf known.now.kept.now.items known.now.overview }
+    requires known { known.now.is_known ≡ true → known.now.unsilenced.now ≡ unsilenced_report config.now (S.rows store.now) }
+    requires kept_range { IsRange new.now.from new.now.end (length known.now.kept.now.items) }
+    requires from_row { new.now.from_row ≡ rows_kept (take new.now.from known.now.kept.now.items) }
+    requires end_row { new.now.end_row ≡ rows_kept (take new.now.end known.now.kept.now.items) }
+    requires new { splice known.now.kept.now.items new.now.from new.now.end new.now.kept.items ≡ kept_of_text config.now (splice (S.rows store.now) a b rows.now) }
+    ensures fit { IfOk result (λ o. IsFit known.now.unsilenced.now o) }
+    ensures patch { IfOk result (λ o. Patches known.now.unsilenced.now (unsilenced_report config.now (splice (S.rows store.now) a b rows.now)) o) }
 {
-    if !is_known {
+    if !known.is_known {
         return Ok(None);
     }
     let patch = patched_unsilenced(
@@ -188,14 +186,14 @@ fn patch_unsilenced<S: LineStore>(
         a,
         b,
         rows,
-        kept,
-        overview,
+        known.kept,
+        known.overview,
         new.from,
         new.end,
         new.from_row,
         new.end_row,
         &new.kept,
-        unsilenced,
+        known.unsilenced,
     )?;
     Ok(patch)
 }
@@ -209,11 +207,7 @@ fn heard_renewal<S: LineStore>(
     a: usize,
     b: usize,
     rows: &[Row<S::Alloc>],
-    kept: &Chunks<Kept<S::Alloc>, S::Alloc>,
-    overview: Overview,
-    problems: &[Problem<S::Alloc>],
-    unsilenced: &[Problem<S::Alloc>],
-    is_known: bool,
+    known: &Known<'_, S::Alloc>,
     other: Option<ReportPatch<S::Alloc>>,
     new: &Rejudged<S::Alloc>,
     sections: &Spliced<'_, Kept<S::Alloc>, S::Alloc>,
@@ -222,15 +216,15 @@ fn heard_renewal<S: LineStore>(
     requires range { IsRange a b (length (S.rows store.now)) }
     requires old { AreLines (S.rows store.now) }
     requires lines { AreLines (splice (S.rows store.now) a b rows.now) }
-    requires kept { kept.now.items ≡ kept_of_text config.now (S.rows store.now) }
-    requires overview { IsOverviewOf kept.now.items overview }
-    requires problems { problems.now ≡ report config.now (S.rows store.now) }
-    requires kept_range { IsRange new.now.from new.now.end (length kept.now.items) }
-    requires from_row { new.now.from_row ≡ rows_kept (take new.now.from kept.now.items) }
-    requires end_row { new.now.end_row ≡ rows_kept (take new.now.end kept.now.items) }
-    requires new { splice kept.now.items new.now.from new.now.end new.now.kept.items ≡ kept_of_text config.now (splice (S.rows store.now) a b rows.now) }
-    requires fit { IsFit unsilenced.now other }
-    requires patch { Patches unsilenced.now (unsilenced_report config.now (splice (S.rows store.now) a b rows.now)) other }
+    requires kept { known.now.kept.now.items ≡ kept_of_text config.now (S.rows store.now) }
+    requires overview { IsOverviewOf known.now.kept.now.items known.now.overview }
+    requires problems { known.now.problems.now ≡ report config.now (S.rows store.now) }
+    requires kept_range { IsRange new.now.from new.now.end (length known.now.kept.now.items) }
+    requires from_row { new.now.from_row ≡ rows_kept (take new.now.from known.now.kept.now.items) }
+    requires end_row { new.now.end_row ≡ rows_kept (take new.now.end known.now.kept.now.items) }
+    requires new { splice known.now.kept.now.items new.now.from new.now.end new.now.kept.items ≡ kept_of_text config.now (splice (S.rows store.now) a b rows.now) }
+    requires fit { IsFit known.now.unsilenced.now other }
+    requires patch { Patches known.now.unsilenced.now (unsilenced_report config.now (splice (S.rows store.now) a b rows.now)) other }
     requires sections { sections.now ≡ kept_of_text config.now (splice (S.rows store.now) a b rows.now) }
     requires after { IsOverviewOf sections.now after }
     ensures fit { IfOk result (λ o. IfSome o (λ r. (old : List ProblemValue) → IsFit old r.report.patch × IsFit old r.unsilenced.patch)) }
@@ -238,17 +232,40 @@ fn heard_renewal<S: LineStore>(
     ensures unsilenced { IfOk result (λ o. IfSome o (λ r. (old : List ProblemValue) → Makes old (unsilenced_report config.now (splice (S.rows store.now) a b rows.now)) r.unsilenced)) }
     ensures overview { IfOk result (λ o. IfSome o (λ r. r.overview ≡ after)) }
 {
-    if is_known {
+    if known.is_known {
         return heard_after(
-            alloc, config, store, a, b, rows, sections, after, unsilenced, other,
+            alloc,
+            config,
+            store,
+            a,
+            b,
+            rows,
+            sections,
+            after,
+            known.unsilenced,
+            other,
         );
     }
-    let is_seen = is_unsilenced(alloc, store, overview)?;
-    let patch = patch_unsilenced(
-        alloc, config, store, a, b, rows, kept, overview, problems, is_seen, new,
-    )?;
+    let is_seen = is_unsilenced(alloc, store, known.overview)?;
+    let shown = Known {
+        kept: known.kept,
+        overview: known.overview,
+        problems: known.problems,
+        unsilenced: known.problems,
+        is_known: is_seen,
+    };
+    let patch = patch_unsilenced(alloc, config, store, a, b, rows, &shown, new)?;
     heard_after(
-        alloc, config, store, a, b, rows, sections, after, problems, patch,
+        alloc,
+        config,
+        store,
+        a,
+        b,
+        rows,
+        sections,
+        after,
+        known.problems,
+        patch,
     )
 }
 
@@ -302,32 +319,29 @@ pub fn renewal_of<S: LineStore>(
     a: usize,
     b: usize,
     rows: &[Row<S::Alloc>],
-    kept: &Chunks<Kept<S::Alloc>, S::Alloc>,
-    overview: Overview,
-    problems: &[Problem<S::Alloc>],
-    unsilenced: &[Problem<S::Alloc>],
-    is_known: bool,
+    known: &Known<'_, S::Alloc>,
     new: &Rejudged<S::Alloc>,
 ) -> Result<Renewal<S::Alloc>, AllocError>
     requires range { IsRange a b (length (S.rows store.now)) }
     requires old { AreLines (S.rows store.now) }
     requires lines { AreLines (splice (S.rows store.now) a b rows.now) }
-    requires kept { kept.now.items ≡ kept_of_text config.now (S.rows store.now) }
-    requires overview { IsOverviewOf kept.now.items overview }
-    requires problems { problems.now ≡ report config.now (S.rows store.now) }
-    requires known { is_known ≡ true → unsilenced.now ≡ unsilenced_report config.now (S.rows store.now) }
-    requires kept_range { IsRange new.now.from new.now.end (length kept.now.items) }
-    requires from_row { new.now.from_row ≡ rows_kept (take new.now.from kept.now.items) }
-    requires end_row { new.now.end_row ≡ rows_kept (take new.now.end kept.now.items) }
-    requires few { length kept.now.items + vec_len new.now.kept < 2 ^ 64 }
-    requires new { splice kept.now.items new.now.from new.now.end new.now.kept.items ≡ kept_of_text config.now (splice (S.rows store.now) a b rows.now) }
-    ensures fit { IfOk result (λ r. IsFit problems.now r.report.patch) }
-    ensures report { IfOk result (λ r. Makes problems.now (report config.now (splice (S.rows store.now) a b rows.now)) r.report) }
-    ensures unsilenced_fit { IfOk result (λ r. IsFit unsilenced.now r.unsilenced.patch) }
-    ensures unsilenced { IfOk result (λ r. r.is_known ≡ true → Makes unsilenced.now (unsilenced_report config.now (splice (S.rows store.now) a b rows.now)) r.unsilenced) }
-    ensures overview { IfOk result (λ r. IsOverviewOf (splice kept.now.items new.now.from new.now.end new.now.kept.items) r.overview) }
+    requires kept { known.now.kept.now.items ≡ kept_of_text config.now (S.rows store.now) }
+    requires overview { IsOverviewOf known.now.kept.now.items known.now.overview }
+    requires problems { known.now.problems.now ≡ report config.now (S.rows store.now) }
+    requires known { known.now.is_known ≡ true → known.now.unsilenced.now ≡ unsilenced_report config.now (S.rows store.now) }
+    requires kept_range { IsRange new.now.from new.now.end (length known.now.kept.now.items) }
+    requires from_row { new.now.from_row ≡ rows_kept (take new.now.from known.now.kept.now.items) }
+    requires end_row { new.now.end_row ≡ rows_kept (take new.now.end known.now.kept.now.items) }
+    requires few { length known.now.kept.now.items + vec_len new.now.kept < 2 ^ 64 }
+    requires new { splice known.now.kept.now.items new.now.from new.now.end new.now.kept.items ≡ kept_of_text config.now (splice (S.rows store.now) a b rows.now) }
+    ensures fit { IfOk result (λ r. IsFit known.now.problems.now r.report.patch) }
+    ensures report { IfOk result (λ r. Makes known.now.problems.now (report config.now (splice (S.rows store.now) a b rows.now)) r.report) }
+    ensures unsilenced_fit { IfOk result (λ r. IsFit known.now.unsilenced.now r.unsilenced.patch) }
+    ensures unsilenced { IfOk result (λ r. r.is_known ≡ true → Makes known.now.unsilenced.now (unsilenced_report config.now (splice (S.rows store.now) a b rows.now)) r.unsilenced) }
+    ensures overview { IfOk result (λ r. IsOverviewOf (splice known.now.kept.now.items new.now.from new.now.end new.now.kept.items) r.overview) }
 {
     let (from, end) = (new.from, new.end);
+    let (kept, overview) = (known.kept, known.overview);
     let after = overview_after(overview, kept, from, end, new.from_row, &new.kept);
     if leaves_report(alloc, config, store, a, b, rows, kept, from, end, &new.kept)? {
         return Ok(Renewal {
@@ -339,13 +353,11 @@ pub fn renewal_of<S: LineStore>(
                 patch: None,
                 whole: None,
             },
-            is_known,
+            is_known: known.is_known,
             overview: after,
         });
     }
-    let other = patch_unsilenced(
-        alloc, config, store, a, b, rows, kept, overview, unsilenced, is_known, new,
-    )?;
+    let other = patch_unsilenced(alloc, config, store, a, b, rows, known, new)?;
     let patch = patched_report(
         alloc,
         config,
@@ -360,7 +372,7 @@ pub fn renewal_of<S: LineStore>(
         new.from_row,
         new.end_row,
         &new.kept,
-        problems,
+        known.problems,
     )?;
     if patch.is_some() {
         let is_known = other.is_some();
@@ -377,8 +389,7 @@ pub fn renewal_of<S: LineStore>(
     let sections = Spliced::new(kept, from, end, &new.kept);
     if may_silence(overview) || may_silence(after) {
         let heard = heard_renewal(
-            alloc, config, store, a, b, rows, kept, overview, problems, unsilenced, is_known,
-            other, new, &sections, after,
+            alloc, config, store, a, b, rows, known, other, new, &sections, after,
         )?;
         if let Some(renewal) = heard {
             return Ok(renewal);

@@ -12,6 +12,7 @@ ghost use Rattle.yl_session.specs.Work.{IsWork};
 
 use crate::beginning::{OpenedText, begin};
 use crate::guide::put_kept;
+use crate::known::Known;
 use crate::planning::{make_room, planned};
 use crate::renewing::{Renewal, renew};
 use crate::work::Work;
@@ -152,21 +153,26 @@ impl<S: LineStore> Session<S> {
         ensures work { IfOk result (λ work. IsWork (characters_in self.old.rows) (characters_in (splice self.old.rows a b rows.old.items)) a b (length rows.old.items) work) }
         ensures err { OnErr result (self.new ≡ self.old) }
     {
-        let mut plan = planned(
-            self.alloc,
-            &self.config,
-            &self.store,
-            &self.records,
-            &self.kept,
-            &self.places,
-            self.overview,
-            &self.problems,
-            &self.unsilenced,
-            self.is_known,
-            a,
-            b,
-            rows.as_slice(),
-        )?;
+        let mut plan = {
+            let known = Known {
+                kept: &self.kept,
+                overview: self.overview,
+                problems: &self.problems,
+                unsilenced: &self.unsilenced,
+                is_known: self.is_known,
+            };
+            planned(
+                self.alloc,
+                &self.config,
+                &self.store,
+                &self.records,
+                &self.places,
+                &known,
+                a,
+                b,
+                rows.as_slice(),
+            )?
+        };
         make_room(
             self.alloc,
             &mut self.records,

@@ -70,7 +70,7 @@ rejudge-requires-clause-meter g c =
 
 pub renewal_of-requires-clause-few : goal.renewal_of-requires-clause-few
 renewal_of-requires-clause-few g c =
-    omega (arith, few_kept c.args.config.now (g.S.Lines.rows c.args.store.now) c.args.kept.now.items c.requires.old c.requires.kept, c.in_ok-rejudged.rejudged.kept.small)
+    omega (arith, few_kept c.args.config.now (g.S.Lines.rows c.args.store.now) c.args.known.now.kept.now.items c.requires.old c.requires.kept, c.in_ok-rejudged.rejudged.kept.small)
 
 pub returns-clause-work : goal.returns-clause-work
 returns-clause-work g c =

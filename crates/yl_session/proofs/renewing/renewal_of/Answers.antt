@@ -14,13 +14,13 @@ patched_report-requires-clause-few g c =
     omega (arith, few_lines (g.S.Lines.rows c.args.store.now) c.requires.old, few_new (g.S.Lines.rows c.args.store.now) c.args.rows.now c.args.a c.args.b c.requires.lines)
 
 pub patched_report-requires-clause-from_row : goal.patched_report-requires-clause-from_row
-patched_report-requires-clause-from_row g c = c.requires.from_row ∙ same_sum (take c.args.new.now.from c.args.kept.now.items)
+patched_report-requires-clause-from_row g c = c.requires.from_row ∙ same_sum (take c.args.new.now.from c.args.known.now.kept.now.items)
 
 pub overview_after-after-requires-clause-row : goal.overview_after-after-requires-clause-row
-overview_after-after-requires-clause-row g c = c.requires.from_row ∙ same_sum (take c.args.new.now.from c.args.kept.now.items)
+overview_after-after-requires-clause-row g c = c.requires.from_row ∙ same_sum (take c.args.new.now.from c.args.known.now.kept.now.items)
 
 pub patched_report-requires-clause-end_row : goal.patched_report-requires-clause-end_row
-patched_report-requires-clause-end_row g c = c.requires.end_row ∙ same_sum (take c.args.new.now.end c.args.kept.now.items)
+patched_report-requires-clause-end_row g c = c.requires.end_row ∙ same_sum (take c.args.new.now.end c.args.known.now.kept.now.items)
 
 pub new-sections-requires-clause-few : goal.new-sections-requires-clause-few
 new-sections-requires-clause-few g c = omega (arith, c.requires.few, ap (λ (ks : List KeptValue). length ks) c.deref-4.ensures.value)
@@ -28,11 +28,11 @@ new-sections-requires-clause-few g c = omega (arith, c.requires.few, ap (λ (ks 
 -- what is lent of the new sections is what is kept of them
 pub returns-then-branch-clause-overview : goal.returns-then-branch-clause-overview
 returns-then-branch-clause-overview g c =
-    subst (λ (ks : List KeptValue). IsOverviewOf (splice c.args.kept.now.items c.args.new.now.from c.args.new.now.end ks) c.overview_after-after.result) c.deref.ensures.value c.overview_after-after.ensures
+    subst (λ (ks : List KeptValue). IsOverviewOf (splice c.args.known.now.kept.now.items c.args.new.now.from c.args.new.now.end ks) c.overview_after-after.result) c.deref.ensures.value c.overview_after-after.ensures
 
 pub returns-then-is_some-clause-overview : goal.returns-then-is_some-clause-overview
 returns-then-is_some-clause-overview g c =
-    subst (λ (ks : List KeptValue). IsOverviewOf (splice c.args.kept.now.items c.args.new.now.from c.args.new.now.end ks) c.overview_after-after.result) c.deref.ensures.value c.overview_after-after.ensures
+    subst (λ (ks : List KeptValue). IsOverviewOf (splice c.args.known.now.kept.now.items c.args.new.now.from c.args.new.now.end ks) c.overview_after-after.result) c.deref.ensures.value c.overview_after-after.ensures
 
 pub returns-then-branch-clause-report : goal.returns-then-branch-clause-report
 returns-then-branch-clause-report g c = c.requires.problems ∙ sym (c.in_ok-leaves_report.ensures.report c.if-branch.true)
@@ -51,37 +51,37 @@ returns-then-is_some-clause-unsilenced g c = λ h. there_so _ _ c.in_ok-other.ot
 
 pub whole_renewal-requires-clause-new : goal.whole_renewal-requires-clause-new
 whole_renewal-requires-clause-new g c =
-    c.new-sections.ensures ∙ (ap (λ (ks : List KeptValue). splice c.args.kept.now.items c.args.new.now.from c.args.new.now.end ks) c.deref-4.ensures.value ∙ c.requires.new)
+    c.new-sections.ensures ∙ (ap (λ (ks : List KeptValue). splice c.args.known.now.kept.now.items c.args.new.now.from c.args.new.now.end ks) c.deref-4.ensures.value ∙ c.requires.new)
 
 -- where comments leave another part
 pub heard_renewal-requires-clause-sections : goal.heard_renewal-requires-clause-sections
 heard_renewal-requires-clause-sections g c =
-    c.new-sections.ensures ∙ (ap (λ (ks : List KeptValue). splice c.args.kept.now.items c.args.new.now.from c.args.new.now.end ks) c.deref-4.ensures.value ∙ c.requires.new)
+    c.new-sections.ensures ∙ (ap (λ (ks : List KeptValue). splice c.args.known.now.kept.now.items c.args.new.now.from c.args.new.now.end ks) c.deref-4.ensures.value ∙ c.requires.new)
 
 pub heard_renewal-requires-clause-after : goal.heard_renewal-requires-clause-after
 heard_renewal-requires-clause-after g c =
     subst (λ (ks : List KeptValue). IsOverviewOf ks c.overview_after-after.result)
-    (ap (λ (ks : List KeptValue). splice c.args.kept.now.items c.args.new.now.from c.args.new.now.end ks) (c.deref.ensures.value ∙ sym c.deref-4.ensures.value) ∙ sym c.new-sections.ensures) c.overview_after-after.ensures
+    (ap (λ (ks : List KeptValue). splice c.args.known.now.kept.now.items c.args.new.now.from c.args.new.now.end ks) (c.deref.ensures.value ∙ sym c.deref-4.ensures.value) ∙ sym c.new-sections.ensures) c.overview_after-after.ensures
 
 pub returns-in-Some-clause-fit : goal.returns-in-Some-clause-fit
-returns-in-Some-clause-fit g c = (in_some _ c.in_ok-heard.heard c.in-Some.renewal c.in-Some.is c.in_ok-heard.ensures.fit c.args.problems.now).0
+returns-in-Some-clause-fit g c = (in_some _ c.in_ok-heard.heard c.in-Some.renewal c.in-Some.is c.in_ok-heard.ensures.fit c.args.known.now.problems.now).0
 
 pub returns-in-Some-clause-report : goal.returns-in-Some-clause-report
-returns-in-Some-clause-report g c = in_some _ c.in_ok-heard.heard c.in-Some.renewal c.in-Some.is c.in_ok-heard.ensures.report c.args.problems.now
+returns-in-Some-clause-report g c = in_some _ c.in_ok-heard.heard c.in-Some.renewal c.in-Some.is c.in_ok-heard.ensures.report c.args.known.now.problems.now
 
 pub returns-in-Some-clause-unsilenced_fit : goal.returns-in-Some-clause-unsilenced_fit
-returns-in-Some-clause-unsilenced_fit g c = (in_some _ c.in_ok-heard.heard c.in-Some.renewal c.in-Some.is c.in_ok-heard.ensures.fit c.args.unsilenced.now).1
+returns-in-Some-clause-unsilenced_fit g c = (in_some _ c.in_ok-heard.heard c.in-Some.renewal c.in-Some.is c.in_ok-heard.ensures.fit c.args.known.now.unsilenced.now).1
 
 pub returns-in-Some-clause-unsilenced : goal.returns-in-Some-clause-unsilenced
-returns-in-Some-clause-unsilenced g c = λ h. in_some _ c.in_ok-heard.heard c.in-Some.renewal c.in-Some.is c.in_ok-heard.ensures.unsilenced c.args.unsilenced.now
+returns-in-Some-clause-unsilenced g c = λ h. in_some _ c.in_ok-heard.heard c.in-Some.renewal c.in-Some.is c.in_ok-heard.ensures.unsilenced c.args.known.now.unsilenced.now
 
 pub returns-in-Some-clause-overview : goal.returns-in-Some-clause-overview
 returns-in-Some-clause-overview g c =
-    let items = splice c.args.kept.now.items c.args.new.now.from c.args.new.now.end c.args.new.now.kept.items in
+    let items = splice c.args.known.now.kept.now.items c.args.new.now.from c.args.new.now.end c.args.new.now.kept.items in
     subst (λ (o : Overview). IsOverviewOf items o) (sym (in_some _ c.in_ok-heard.heard c.in-Some.renewal c.in-Some.is c.in_ok-heard.ensures.overview))
-    (subst (λ (ks : List KeptValue). IsOverviewOf (splice c.args.kept.now.items c.args.new.now.from c.args.new.now.end ks) c.overview_after-after.result) c.deref.ensures.value c.overview_after-after.ensures)
+    (subst (λ (ks : List KeptValue). IsOverviewOf (splice c.args.known.now.kept.now.items c.args.new.now.from c.args.new.now.end ks) c.overview_after-after.result) c.deref.ensures.value c.overview_after-after.ensures)
 
 pub returns-clause-overview : goal.returns-clause-overview
 returns-clause-overview g c =
     subst (λ (ks : List KeptValue). IsOverviewOf ks c.in_ok-renewal.renewal.overview)
-    (c.new-sections.ensures ∙ ap (λ (ks : List KeptValue). splice c.args.kept.now.items c.args.new.now.from c.args.new.now.end ks) c.deref-4.ensures.value) c.in_ok-renewal.ensures.overview
+    (c.new-sections.ensures ∙ ap (λ (ks : List KeptValue). splice c.args.known.now.kept.now.items c.args.new.now.from c.args.new.now.end ks) c.deref-4.ensures.value) c.in_ok-renewal.ensures.overview
