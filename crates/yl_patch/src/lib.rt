@@ -22,7 +22,7 @@ mod touched;
 mod whole;
 mod window;
 
-pub use overview::{Overview, overview_after, overview_of, overview_renewed};
+pub use overview::{Overview, SectionEdit, overview_after, overview_of, overview_renewed};
 pub use patching::{patched_report, patched_unsilenced};
 pub use shifting::{ReportPatch, put_patch};
 pub use silencing::Silencing;

@@ -27,6 +27,17 @@ pub struct Overview {
     pub silencing: Silencing,
 }
 
+/// What is kept of the sections from one on, before `end`, both counted from 0, becomes this. They begin with the line `from_row`, and
+/// those behind them with `end_row`.
+#[derive(Drop)]
+pub struct SectionEdit<'a, A: Allocator> {
+    pub from: usize,
+    pub end: usize,
+    pub from_row: usize,
+    pub end_row: usize,
+    pub kept: &'a [Kept<A>],
+}
+
 fn is_same_step(one: Option<u32>, other: Option<u32>) -> bool
     ensures { result ≡ true → one ≡ other }
 {
@@ -225,20 +236,16 @@ pub fn is_alike<A: Allocator + Copy>(
     are_shown_alike(kept, from, end, above, new)
 }
 
-/// The overview once this is kept in place of what is kept of the sections from one on, before `end`, which begin behind `from_row` lines.
-/// It looks at these alone, and says that sections are plain only where they were.
+/// The overview once some sections become others. It looks at these alone, and says that sections are plain only where they were.
 pub fn overview_after<A: Allocator + Copy>(
     overview: Overview,
     kept: &Chunks<Kept<A>, A>,
-    from: usize,
-    end: usize,
-    from_row: usize,
-    new: &[Kept<A>],
+    edit: &SectionEdit<'_, A>,
 ) -> Overview
-    requires range { IsRange from end (length kept.now.items) }
-    requires row { from_row ≡ row_sum (take from kept.now.items) }
+    requires range { IsRange edit.now.from edit.now.end (length kept.now.items) }
+    requires row { edit.now.from_row ≡ row_sum (take edit.now.from kept.now.items) }
     requires overview { IsOverviewOf kept.now.items overview }
-    ensures { IsOverviewOf (splice kept.now.items from end new.now) result }
+    ensures { IsOverviewOf (splice kept.now.items edit.now.from edit.now.end edit.now.kept.now) result }
 {
     let unknown = Overview {
         is_plain: false,
@@ -249,17 +256,24 @@ pub fn overview_after<A: Allocator + Copy>(
     if !overview.is_plain {
         return unknown;
     }
-    let Some(hidden) = hides_before(kept, overview.sound, from) else {
+    let Some(hidden) = hides_before(kept, overview.sound, edit.from) else {
         return unknown;
     };
-    let above = measure_above(kept, from, hidden, overview.whole);
-    if !is_alike(hidden, kept, from, end, above, new) {
+    let above = measure_above(kept, edit.from, hidden, overview.whole);
+    if !is_alike(hidden, kept, edit.from, edit.end, above, edit.kept) {
         return unknown;
     }
-    let Some(silencing) = silencing_after(overview.silencing, kept, from, end, from_row, new) else {
+    let Some(silencing) = silencing_after(
+        overview.silencing,
+        kept,
+        edit.from,
+        edit.end,
+        edit.from_row,
+        edit.kept,
+    ) else {
         return unknown;
     };
-    let Some(sound) = sound_after(overview.sound, kept, from, end, new) else {
+    let Some(sound) = sound_after(overview.sound, kept, edit.from, edit.end, edit.kept) else {
         return unknown;
     };
     Overview {

@@ -11,7 +11,7 @@ ghost use Rattle.yl_patch.specs.Patched.{IsLow, is_upto, patched};
 ghost use Rattle.yl_patch.specs.Plain.{IsOverviewOf, row_sum};
 
 use crate::loud::is_loud;
-use crate::overview::Overview;
+use crate::overview::{Overview, SectionEdit};
 use crate::places::count_upto;
 use crate::seen::{SeenEdit, see_edit};
 use crate::shifting::{ReportPatch, are_low};
@@ -73,8 +73,7 @@ fn patch_of<A: Allocator + Copy>(
 }
 
 /// What the edit that puts these rows in place of the lines a to b does to the report, where it is seen that a patch does; none where it is
-/// not. Of the sections, `kept` is what was kept, and `new` is to be kept in place of that of those from `from` on, before `end`, which stand
-/// from `from_row` on, before `end_row`. The only error is out of memory.
+/// not. `kept` is what was kept of the sections, of which the edit changes some. The only error is out of memory.
 pub fn patched_report<S: LineStore>(
     alloc: S::Alloc,
     config: &Config,
@@ -84,33 +83,27 @@ pub fn patched_report<S: LineStore>(
     rows: &[Row<S::Alloc>],
     kept: &Chunks<Kept<S::Alloc>, S::Alloc>,
     overview: Overview,
-    from: usize,
-    end: usize,
-    from_row: usize,
-    end_row: usize,
-    new: &[Kept<S::Alloc>],
+    edit: &SectionEdit<'_, S::Alloc>,
     problems: &[Problem<S::Alloc>],
 ) -> Result<Option<ReportPatch<S::Alloc>>, AllocError>
     requires range { IsRange a b (length (S.rows store.now)) }
     requires few { length (S.rows store.now) + length rows.now < 2 ^ 64 }
     requires kept { kept.now.items ≡ kept_of_text config.now (S.rows store.now) }
     requires overview { IsOverviewOf kept.now.items overview }
-    requires kept_range { IsRange from end (length kept.now.items) }
-    requires from_row { from_row ≡ row_sum (take from kept.now.items) }
-    requires end_row { end_row ≡ row_sum (take end kept.now.items) }
-    requires new { splice kept.now.items from end new.now ≡ kept_of_text config.now (splice (S.rows store.now) a b rows.now) }
+    requires kept_range { IsRange edit.now.from edit.now.end (length kept.now.items) }
+    requires from_row { edit.now.from_row ≡ row_sum (take edit.now.from kept.now.items) }
+    requires end_row { edit.now.end_row ≡ row_sum (take edit.now.end kept.now.items) }
+    requires new { splice kept.now.items edit.now.from edit.now.end edit.now.kept.now ≡ kept_of_text config.now (splice (S.rows store.now) a b rows.now) }
     requires problems { problems.now ≡ report config.now (S.rows store.now) }
     ensures range { IfOk result (λ o. IfSome o (λ p. IsRange p.from p.end (length problems.now))) }
     ensures low { IfOk result (λ o. IfSome o (λ p. AllByRecursion IsLow (drop p.end problems.now))) }
     ensures report { IfOk result (λ o. IfSome o (λ p. patched p.from p.end p.problems.items p.up p.down problems.now ≡ report config.now (splice (S.rows store.now) a b rows.now))) }
 {
-    let seen = see_edit(
-        alloc, config, store, a, b, rows, kept, overview, from, end, from_row, end_row, new,
-    )?;
+    let seen = see_edit(alloc, config, store, a, b, rows, kept, overview, edit)?;
     let Some(seen) = seen else {
         return Ok(None);
     };
-    let speaks_alike = speak_as_shown(alloc, seen.hidden, kept, from, end, new)?;
+    let speaks_alike = speak_as_shown(alloc, seen.hidden, kept, edit.from, edit.end, edit.kept)?;
     if !speaks_alike {
         return Ok(None);
     }
@@ -118,8 +111,8 @@ pub fn patched_report<S: LineStore>(
     if !is_loud(alloc, store)? || !is_loud(alloc, &edited)? {
         return Ok(None);
     }
-    let above = shown_before(kept, overview.sound, from, seen.hidden);
-    let shown = shown_of(seen.hidden, new);
+    let above = shown_before(kept, overview.sound, edit.from, seen.hidden);
+    let shown = shown_of(seen.hidden, edit.kept);
     let first = seen.touched.first;
     let silences = silences_upto(alloc, kept, overview.silencing, above, first, shown)?;
     let patch = patch_of(alloc, config, problems, seen, &silences)?;
@@ -136,29 +129,23 @@ pub fn patched_unsilenced<S: LineStore>(
     rows: &[Row<S::Alloc>],
     kept: &Chunks<Kept<S::Alloc>, S::Alloc>,
     overview: Overview,
-    from: usize,
-    end: usize,
-    from_row: usize,
-    end_row: usize,
-    new: &[Kept<S::Alloc>],
+    edit: &SectionEdit<'_, S::Alloc>,
     problems: &[Problem<S::Alloc>],
 ) -> Result<Option<ReportPatch<S::Alloc>>, AllocError>
     requires range { IsRange a b (length (S.rows store.now)) }
     requires few { length (S.rows store.now) + length rows.now < 2 ^ 64 }
     requires kept { kept.now.items ≡ kept_of_text config.now (S.rows store.now) }
     requires overview { IsOverviewOf kept.now.items overview }
-    requires kept_range { IsRange from end (length kept.now.items) }
-    requires from_row { from_row ≡ row_sum (take from kept.now.items) }
-    requires end_row { end_row ≡ row_sum (take end kept.now.items) }
-    requires new { splice kept.now.items from end new.now ≡ kept_of_text config.now (splice (S.rows store.now) a b rows.now) }
+    requires kept_range { IsRange edit.now.from edit.now.end (length kept.now.items) }
+    requires from_row { edit.now.from_row ≡ row_sum (take edit.now.from kept.now.items) }
+    requires end_row { edit.now.end_row ≡ row_sum (take edit.now.end kept.now.items) }
+    requires new { splice kept.now.items edit.now.from edit.now.end edit.now.kept.now ≡ kept_of_text config.now (splice (S.rows store.now) a b rows.now) }
     requires problems { problems.now ≡ unsilenced_report config.now (S.rows store.now) }
     ensures range { IfOk result (λ o. IfSome o (λ p. IsRange p.from p.end (length problems.now))) }
     ensures low { IfOk result (λ o. IfSome o (λ p. AllByRecursion IsLow (drop p.end problems.now))) }
     ensures report { IfOk result (λ o. IfSome o (λ p. patched p.from p.end p.problems.items p.up p.down problems.now ≡ unsilenced_report config.now (splice (S.rows store.now) a b rows.now))) }
 {
-    let seen = see_edit(
-        alloc, config, store, a, b, rows, kept, overview, from, end, from_row, end_row, new,
-    )?;
+    let seen = see_edit(alloc, config, store, a, b, rows, kept, overview, edit)?;
     let Some(seen) = seen else {
         return Ok(None);
     };

@@ -7,7 +7,7 @@ ghost use Rattle.yl_patch.specs.Cut.{is_filled};
 ghost use Rattle.yl_patch.specs.Plain.{IsOverviewOf, row_sum};
 ghost use Rattle.yl_patch.specs.Seen.{IsSeen};
 
-use crate::overview::{Overview, is_alike, measure_above};
+use crate::overview::{Overview, SectionEdit, is_alike, measure_above};
 use crate::sound::{hides_before, shown_of};
 use crate::there::find_there;
 use crate::touched::{Ends, Touched, ends_of, find_touched, is_filled, is_inside};
@@ -46,8 +46,7 @@ fn is_cut<L: Lines, M: Lines>(old: &L, new: &M, touched: Touched, ends: Ends) ->
 }
 
 /// What is seen of the edit that puts these rows in place of the lines a to b, whatever comments say; none where it does not show that what
-/// is found elsewhere stays. Of the sections, `kept` is what was kept, and `new` is to be kept in place of that of those from `from` on,
-/// before `end`, which stand from `from_row` on, before `end_row`. The only error is out of memory.
+/// is found elsewhere stays. `kept` is what was kept of the sections, of which the edit changes some. The only error is out of memory.
 pub fn see_edit<S: LineStore>(
     alloc: S::Alloc,
     config: &Config,
@@ -57,33 +56,29 @@ pub fn see_edit<S: LineStore>(
     rows: &[Row<S::Alloc>],
     kept: &Chunks<Kept<S::Alloc>, S::Alloc>,
     overview: Overview,
-    from: usize,
-    end: usize,
-    from_row: usize,
-    end_row: usize,
-    new: &[Kept<S::Alloc>],
+    edit: &SectionEdit<'_, S::Alloc>,
 ) -> Result<Option<SeenEdit<S::Alloc>>, AllocError>
     requires range { IsRange a b (length (S.rows store.now)) }
     requires few { length (S.rows store.now) + length rows.now < 2 ^ 64 }
     requires overview { IsOverviewOf kept.now.items overview }
-    requires kept_range { IsRange from end (length kept.now.items) }
-    requires from_row { from_row ≡ row_sum (take from kept.now.items) }
-    requires end_row { end_row ≡ row_sum (take end kept.now.items) }
+    requires kept_range { IsRange edit.now.from edit.now.end (length kept.now.items) }
+    requires from_row { edit.now.from_row ≡ row_sum (take edit.now.from kept.now.items) }
+    requires end_row { edit.now.end_row ≡ row_sum (take edit.now.end kept.now.items) }
     ensures known { IfOk result (λ o. IfSome o (λ _. overview.is_plain ≡ true)) }
-    ensures seen { IfOk result (λ o. IfSome o (λ s. IsSeen config.now (S.rows store.now) rows.now kept.now.items new.now a b from end overview.sound s.touched s.hidden s.found.items)) }
+    ensures seen { IfOk result (λ o. IfSome o (λ s. IsSeen config.now (S.rows store.now) rows.now kept.now.items edit.now.kept.now a b edit.now.from edit.now.end overview.sound s.touched s.hidden s.found.items)) }
 {
     if !overview.is_plain {
         return Ok(None);
     }
-    let Some(hidden) = hides_before(kept, overview.sound, from) else {
+    let Some(hidden) = hides_before(kept, overview.sound, edit.from) else {
         return Ok(None);
     };
     let whole = overview.whole;
-    let before = measure_above(kept, from, hidden, whole);
-    if !is_alike(hidden, kept, from, end, before, new) {
+    let before = measure_above(kept, edit.from, hidden, whole);
+    if !is_alike(hidden, kept, edit.from, edit.end, before, edit.kept) {
         return Ok(None);
     }
-    let Some(touched) = find_touched(from_row, end_row, new) else {
+    let Some(touched) = find_touched(edit.from_row, edit.end_row, edit.kept) else {
         return Ok(None);
     };
     let patched = Patched::new(store, a, b, rows);
@@ -93,7 +88,7 @@ pub fn see_edit<S: LineStore>(
         return Ok(None);
     }
     let window = Window::new(patched, touched.first as usize, touched.new_end as usize);
-    let shown = shown_of(hidden, new);
+    let shown = shown_of(hidden, edit.kept);
     let found = find_there(
         alloc,
         config,

@@ -18,8 +18,8 @@ use yl_chunks::Spliced;
 use yl_config::Config;
 use yl_lint::{heard_of_text, report_with_kept, unsilenced_with_kept};
 use yl_patch::{
-    Overview, ReportPatch, is_unsilenced, overview_after, overview_renewed, patched_report,
-    patched_unsilenced, put_patch, silences_of_text,
+    Overview, ReportPatch, SectionEdit, is_unsilenced, overview_after, overview_renewed,
+    patched_report, patched_unsilenced, put_patch, silences_of_text,
 };
 use yl_rejudge::Rejudged;
 use yl_report::{Problem, Silences, copies, retain_heard};
@@ -161,7 +161,7 @@ fn patch_unsilenced<S: LineStore>(
     b: usize,
     rows: &[Row<S::Alloc>],
     known: &Known<'_, S::Alloc>,
-    new: &Rejudged<S::Alloc>,
+    edit: &SectionEdit<'_, S::Alloc>,
 ) -> Result<Option<ReportPatch<S::Alloc>>, AllocError>
     requires range { IsRange a b (length (S.rows store.now)) }
     requires old { AreLines (S.rows store.now) }
@@ -169,10 +169,10 @@ fn patch_unsilenced<S: LineStore>(
     requires kept { known.now.kept.now.items ≡ kept_of_text config.now (S.rows store.now) }
     requires overview { IsOverviewOf known.now.kept.now.items known.now.overview }
     requires known { known.now.is_known ≡ true → known.now.unsilenced.now ≡ unsilenced_report config.now (S.rows store.now) }
-    requires kept_range { IsRange new.now.from new.now.end (length known.now.kept.now.items) }
-    requires from_row { new.now.from_row ≡ rows_kept (take new.now.from known.now.kept.now.items) }
-    requires end_row { new.now.end_row ≡ rows_kept (take new.now.end known.now.kept.now.items) }
-    requires new { splice known.now.kept.now.items new.now.from new.now.end new.now.kept.items ≡ kept_of_text config.now (splice (S.rows store.now) a b rows.now) }
+    requires kept_range { IsRange edit.now.from edit.now.end (length known.now.kept.now.items) }
+    requires from_row { edit.now.from_row ≡ rows_kept (take edit.now.from known.now.kept.now.items) }
+    requires end_row { edit.now.end_row ≡ rows_kept (take edit.now.end known.now.kept.now.items) }
+    requires new { splice known.now.kept.now.items edit.now.from edit.now.end edit.now.kept.now ≡ kept_of_text config.now (splice (S.rows store.now) a b rows.now) }
     ensures fit { IfOk result (λ o. IsFit known.now.unsilenced.now o) }
     ensures patch { IfOk result (λ o. Patches known.now.unsilenced.now (unsilenced_report config.now (splice (S.rows store.now) a b rows.now)) o) }
 {
@@ -188,11 +188,7 @@ fn patch_unsilenced<S: LineStore>(
         rows,
         known.kept,
         known.overview,
-        new.from,
-        new.end,
-        new.from_row,
-        new.end_row,
-        &new.kept,
+        edit,
         known.unsilenced,
     )?;
     Ok(patch)
@@ -209,7 +205,7 @@ fn heard_renewal<S: LineStore>(
     rows: &[Row<S::Alloc>],
     known: &Known<'_, S::Alloc>,
     other: Option<ReportPatch<S::Alloc>>,
-    new: &Rejudged<S::Alloc>,
+    edit: &SectionEdit<'_, S::Alloc>,
     sections: &Spliced<'_, Kept<S::Alloc>, S::Alloc>,
     after: Overview,
 ) -> Result<Option<Renewal<S::Alloc>>, AllocError>
@@ -219,10 +215,10 @@ fn heard_renewal<S: LineStore>(
     requires kept { known.now.kept.now.items ≡ kept_of_text config.now (S.rows store.now) }
     requires overview { IsOverviewOf known.now.kept.now.items known.now.overview }
     requires problems { known.now.problems.now ≡ report config.now (S.rows store.now) }
-    requires kept_range { IsRange new.now.from new.now.end (length known.now.kept.now.items) }
-    requires from_row { new.now.from_row ≡ rows_kept (take new.now.from known.now.kept.now.items) }
-    requires end_row { new.now.end_row ≡ rows_kept (take new.now.end known.now.kept.now.items) }
-    requires new { splice known.now.kept.now.items new.now.from new.now.end new.now.kept.items ≡ kept_of_text config.now (splice (S.rows store.now) a b rows.now) }
+    requires kept_range { IsRange edit.now.from edit.now.end (length known.now.kept.now.items) }
+    requires from_row { edit.now.from_row ≡ rows_kept (take edit.now.from known.now.kept.now.items) }
+    requires end_row { edit.now.end_row ≡ rows_kept (take edit.now.end known.now.kept.now.items) }
+    requires new { splice known.now.kept.now.items edit.now.from edit.now.end edit.now.kept.now ≡ kept_of_text config.now (splice (S.rows store.now) a b rows.now) }
     requires fit { IsFit known.now.unsilenced.now other }
     requires patch { Patches known.now.unsilenced.now (unsilenced_report config.now (splice (S.rows store.now) a b rows.now)) other }
     requires sections { sections.now ≡ kept_of_text config.now (splice (S.rows store.now) a b rows.now) }
@@ -254,7 +250,7 @@ fn heard_renewal<S: LineStore>(
         unsilenced: known.problems,
         is_known: is_seen,
     };
-    let patch = patch_unsilenced(alloc, config, store, a, b, rows, &shown, new)?;
+    let patch = patch_unsilenced(alloc, config, store, a, b, rows, &shown, edit)?;
     heard_after(
         alloc,
         config,
@@ -342,8 +338,16 @@ pub fn renewal_of<S: LineStore>(
 {
     let (from, end) = (new.from, new.end);
     let (kept, overview) = (known.kept, known.overview);
-    let after = overview_after(overview, kept, from, end, new.from_row, &new.kept);
-    if leaves_report(alloc, config, store, a, b, rows, kept, from, end, &new.kept)? {
+    let judged = new.kept.as_slice();
+    let edit = SectionEdit {
+        from,
+        end,
+        from_row: new.from_row,
+        end_row: new.end_row,
+        kept: judged,
+    };
+    let after = overview_after(overview, kept, &edit);
+    if leaves_report(alloc, config, store, a, b, rows, kept, from, end, judged)? {
         return Ok(Renewal {
             report: Change {
                 patch: None,
@@ -357,7 +361,7 @@ pub fn renewal_of<S: LineStore>(
             overview: after,
         });
     }
-    let other = patch_unsilenced(alloc, config, store, a, b, rows, known, new)?;
+    let other = patch_unsilenced(alloc, config, store, a, b, rows, known, &edit)?;
     let patch = patched_report(
         alloc,
         config,
@@ -367,11 +371,7 @@ pub fn renewal_of<S: LineStore>(
         rows,
         kept,
         overview,
-        from,
-        end,
-        new.from_row,
-        new.end_row,
-        &new.kept,
+        &edit,
         known.problems,
     )?;
     if patch.is_some() {
@@ -386,10 +386,10 @@ pub fn renewal_of<S: LineStore>(
             overview: after,
         });
     }
-    let sections = Spliced::new(kept, from, end, &new.kept);
+    let sections = Spliced::new(kept, from, end, judged);
     if may_silence(overview) || may_silence(after) {
         let heard = heard_renewal(
-            alloc, config, store, a, b, rows, known, other, new, &sections, after,
+            alloc, config, store, a, b, rows, known, other, &edit, &sections, after,
         )?;
         if let Some(renewal) = heard {
             return Ok(renewal);

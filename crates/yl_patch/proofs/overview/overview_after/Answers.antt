@@ -21,17 +21,17 @@ pub returns : goal.returns
 returns g c = λ h.
     let s = c.requires.overview (is_so c.args.overview.is_plain c.if-not-overview.false) in
     let ks = c.args.kept.now.items in
-    let from = c.args.from in
-    let end = c.args.end in
+    let from = c.args.edit.now.from in
+    let end = c.args.edit.now.end in
     let range = c.requires.range in
     let alike = c.if-not-is_alike.false in
     let hidden = c.in-Some.hidden in
     let above = c.in-Some.ensures.above in
     let measure =
-    subst (λ (m : Measure). measure_upto m (settled_below hidden (take (end - from) (drop from ks))) ≡ measure_upto m (settled_below hidden c.args.new.now)) c.measure_above-above.ensures (c.is_alike.ensures.measure alike) in
+    subst (λ (m : Measure). measure_upto m (settled_below hidden (take (end - from) (drop from ks))) ≡ measure_upto m (settled_below hidden c.args.edit.now.kept.now)) c.measure_above-above.ensures (c.is_alike.ensures.measure alike) in
     let below = c.is_alike.ensures.below alike in record {
-      plain = plain_put ks c.args.new.now from end hidden range.ordered range.within above s.plain (c.is_alike.ensures.plain alike) below;
+      plain = plain_put ks c.args.edit.now.kept.now from end hidden range.ordered range.within above s.plain (c.is_alike.ensures.plain alike) below;
       sound = c.in-Some-sound_after.ensures;
-      whole = s.whole ∙ settled_put ks c.args.new.now from end hidden range.ordered range.within above measure below;
+      whole = s.whole ∙ settled_put ks c.args.edit.now.kept.now from end hidden range.ordered range.within above measure below;
       silencing = c.in-Some-silencing_after.ensures;
     }

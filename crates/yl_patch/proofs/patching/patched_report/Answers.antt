@@ -32,7 +32,7 @@ returns-clause-report g c =
     let t = s.touched in
     let hidden = s.hidden in
     let seen = in_some _ c.in_ok-seen.seen s c.in-Some.is c.in_ok-seen.ensures.seen in
-    let before = take c.args.from kept in
+    let before = take c.args.edit.now.from kept in
     let silences = c.in_ok-silences.silences in
     let loud = c.in_ok-is_loud.ensures c.if-not-branch.false in
     let loud' = c.in_ok-is_loud-2.ensures c.if-not-branch-2.false in
@@ -40,13 +40,13 @@ returns-clause-report g c =
     let said =
     c.in_ok-silences.ensures.lines
     ∙ ap is_silenced (ap (λ cs. cs ++ comments_in_sections t.first c.shown_of-shown.result.now) c.shown_before-above.ensures.comments
-    ∙ (ap (λ cs. comments_in_sections 0 (settled before) ++ cs) (comments_shown hidden t.first c.args.new.now c.shown_of-shown.result.now c.shown_of-shown.ensures.items speaks.shown)
-    ∙ sym (comments_both 0 t.first (settled before) (settled_below hidden c.args.new.now) (omega (arith, rows_settled false before, seen.first))))) in
+    ∙ (ap (λ cs. comments_in_sections 0 (settled before) ++ cs) (comments_shown hidden t.first c.args.edit.now.kept.now c.shown_of-shown.result.now c.shown_of-shown.ensures.items speaks.shown)
+    ∙ sym (comments_both 0 t.first (settled before) (settled_below hidden c.args.edit.now.kept.now) (omega (arith, rows_settled false before, seen.first))))) in
     then_each c.in_ok-patch.patch c.in_ok-patch.ensures.from c.in_ok-patch.ensures.end c.in_ok-patch.ensures.put c.in_ok-patch.ensures.shift (λ p i j put shift.
     ap (λ n. patched p.from p.end p.problems.items n p.down c.args.problems.now) shift.0
     ∙ (ap (λ n. patched p.from p.end p.problems.items t.old_end n c.args.problems.now) shift.1
-    ∙ report_as_shown config rows ins kept c.args.new.now c.args.a c.args.b c.args.from c.args.end c.args.overview.sound t hidden s.found.items seen c.requires.range.ordered c.requires.kept_range.ordered c.requires.kept_range.within
+    ∙ report_as_shown config rows ins kept c.args.edit.now.kept.now c.args.a c.args.b c.args.edit.now.from c.args.edit.now.end c.args.overview.sound t hidden s.found.items seen c.requires.range.ordered c.requires.kept_range.ordered c.requires.kept_range.within
     c.requires.kept c.requires.new loud (ap (λ (xs : List RowValue). disables_file (first_text xs)) (sym c.new-edited.ensures) ∙ loud') speaks.alike p.from p.end p.problems.items c.args.problems.now c.requires.problems i j
     (put
-    ∙ same_silences (levels_of config) (is_file_silenced_by silences) (is_silenced_at silences) (is_silenced (comments_in_sections 0 (settled before ++ settled_below hidden c.args.new.now))) s.found.items s.found.items
+    ∙ same_silences (levels_of config) (is_file_silenced_by silences) (is_silenced_at silences) (is_silenced (comments_in_sections 0 (settled before ++ settled_below hidden c.args.edit.now.kept.now))) s.found.items s.found.items
     c.in_ok-silences.ensures.file said refl)))

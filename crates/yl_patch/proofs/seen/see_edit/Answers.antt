@@ -46,7 +46,7 @@ returns-clause-seen g c =
     let cut = c.if-not-is_cut.false in
     let e = c.ends_of-ends.result in
     let hidden = c.in-Some.hidden in
-    let before = take c.args.from kept in
+    let before = take c.args.edit.now.from kept in
     let qs = take (t.new_end - t.first) (drop t.first (splice rows c.args.a c.args.b ins)) in
     let window = c.new-window.ensures ∙ ap (λ (xs : List RowValue). take (t.new_end - t.first) (drop t.first xs)) c.new-patched.ensures in
     let there =
@@ -57,12 +57,12 @@ returns-clause-seen g c =
       new_plain = c.is_alike.ensures.plain alike;
       below = c.is_alike.ensures.below alike;
       measure =
-          subst (λ (m : Measure). measure_upto m (settled_below hidden (take (c.args.end - c.args.from) (drop c.args.from kept))) ≡ measure_upto m (settled_below hidden c.args.new.now)) c.measure_above-before.ensures
+          subst (λ (m : Measure). measure_upto m (settled_below hidden (take (c.args.edit.now.end - c.args.edit.now.from) (drop c.args.edit.now.from kept))) ≡ measure_upto m (settled_below hidden c.args.edit.now.kept.now)) c.measure_above-before.ensures
           (c.is_alike.ensures.measure alike);
       inside = subst (λ n. IsInside t c.args.a c.args.b (length ins) n) c.len-lines.ensures (c.is_inside.ensures c.if-not-is_inside.false);
       first = c.in-Some-find_touched.ensures.first ∙ c.requires.from_row;
       old_end =
-          omega (arith, c.in-Some-find_touched.ensures.first, c.in-Some-find_touched.ensures.old_end, c.requires.from_row, c.requires.end_row, rows_until kept c.args.from c.args.end c.requires.kept_range.ordered c.requires.kept_range.within);
+          omega (arith, c.in-Some-find_touched.ensures.first, c.in-Some-find_touched.ensures.old_end, c.requires.from_row, c.requires.end_row, rows_until kept c.args.edit.now.from c.args.edit.now.end c.requires.kept_range.ordered c.requires.kept_range.within);
       new_end = c.in-Some-find_touched.ensures.new_end;
       ends = e;
       begins_text = c.ends_of-ends.ensures.begins;

@@ -23,16 +23,16 @@ pub patched_report-requires-clause-end_row : goal.patched_report-requires-clause
 patched_report-requires-clause-end_row g c = c.requires.end_row ∙ same_sum (take c.args.new.now.end c.args.known.now.kept.now.items)
 
 pub new-sections-requires-clause-few : goal.new-sections-requires-clause-few
-new-sections-requires-clause-few g c = omega (arith, c.requires.few, ap (λ (ks : List KeptValue). length ks) c.deref-4.ensures.value)
+new-sections-requires-clause-few g c = omega (arith, c.requires.few, ap (λ (ks : List KeptValue). length ks) c.as_slice-judged.ensures.value)
 
 -- what is lent of the new sections is what is kept of them
 pub returns-then-branch-clause-overview : goal.returns-then-branch-clause-overview
 returns-then-branch-clause-overview g c =
-    subst (λ (ks : List KeptValue). IsOverviewOf (splice c.args.known.now.kept.now.items c.args.new.now.from c.args.new.now.end ks) c.overview_after-after.result) c.deref.ensures.value c.overview_after-after.ensures
+    subst (λ (ks : List KeptValue). IsOverviewOf (splice c.args.known.now.kept.now.items c.args.new.now.from c.args.new.now.end ks) c.overview_after-after.result) c.as_slice-judged.ensures.value c.overview_after-after.ensures
 
 pub returns-then-is_some-clause-overview : goal.returns-then-is_some-clause-overview
 returns-then-is_some-clause-overview g c =
-    subst (λ (ks : List KeptValue). IsOverviewOf (splice c.args.known.now.kept.now.items c.args.new.now.from c.args.new.now.end ks) c.overview_after-after.result) c.deref.ensures.value c.overview_after-after.ensures
+    subst (λ (ks : List KeptValue). IsOverviewOf (splice c.args.known.now.kept.now.items c.args.new.now.from c.args.new.now.end ks) c.overview_after-after.result) c.as_slice-judged.ensures.value c.overview_after-after.ensures
 
 pub returns-then-branch-clause-report : goal.returns-then-branch-clause-report
 returns-then-branch-clause-report g c = c.requires.problems ∙ sym (c.in_ok-leaves_report.ensures.report c.if-branch.true)
@@ -51,17 +51,16 @@ returns-then-is_some-clause-unsilenced g c = λ h. there_so _ _ c.in_ok-other.ot
 
 pub whole_renewal-requires-clause-new : goal.whole_renewal-requires-clause-new
 whole_renewal-requires-clause-new g c =
-    c.new-sections.ensures ∙ (ap (λ (ks : List KeptValue). splice c.args.known.now.kept.now.items c.args.new.now.from c.args.new.now.end ks) c.deref-4.ensures.value ∙ c.requires.new)
+    c.new-sections.ensures ∙ (ap (λ (ks : List KeptValue). splice c.args.known.now.kept.now.items c.args.new.now.from c.args.new.now.end ks) c.as_slice-judged.ensures.value ∙ c.requires.new)
 
 -- where comments leave another part
 pub heard_renewal-requires-clause-sections : goal.heard_renewal-requires-clause-sections
 heard_renewal-requires-clause-sections g c =
-    c.new-sections.ensures ∙ (ap (λ (ks : List KeptValue). splice c.args.known.now.kept.now.items c.args.new.now.from c.args.new.now.end ks) c.deref-4.ensures.value ∙ c.requires.new)
+    c.new-sections.ensures ∙ (ap (λ (ks : List KeptValue). splice c.args.known.now.kept.now.items c.args.new.now.from c.args.new.now.end ks) c.as_slice-judged.ensures.value ∙ c.requires.new)
 
 pub heard_renewal-requires-clause-after : goal.heard_renewal-requires-clause-after
 heard_renewal-requires-clause-after g c =
-    subst (λ (ks : List KeptValue). IsOverviewOf ks c.overview_after-after.result)
-    (ap (λ (ks : List KeptValue). splice c.args.known.now.kept.now.items c.args.new.now.from c.args.new.now.end ks) (c.deref.ensures.value ∙ sym c.deref-4.ensures.value) ∙ sym c.new-sections.ensures) c.overview_after-after.ensures
+    subst (λ (ks : List KeptValue). IsOverviewOf ks c.overview_after-after.result) (sym c.new-sections.ensures) c.overview_after-after.ensures
 
 pub returns-in-Some-clause-fit : goal.returns-in-Some-clause-fit
 returns-in-Some-clause-fit g c = (in_some _ c.in_ok-heard.heard c.in-Some.renewal c.in-Some.is c.in_ok-heard.ensures.fit c.args.known.now.problems.now).0
@@ -79,9 +78,9 @@ pub returns-in-Some-clause-overview : goal.returns-in-Some-clause-overview
 returns-in-Some-clause-overview g c =
     let items = splice c.args.known.now.kept.now.items c.args.new.now.from c.args.new.now.end c.args.new.now.kept.items in
     subst (λ (o : Overview). IsOverviewOf items o) (sym (in_some _ c.in_ok-heard.heard c.in-Some.renewal c.in-Some.is c.in_ok-heard.ensures.overview))
-    (subst (λ (ks : List KeptValue). IsOverviewOf (splice c.args.known.now.kept.now.items c.args.new.now.from c.args.new.now.end ks) c.overview_after-after.result) c.deref.ensures.value c.overview_after-after.ensures)
+    (subst (λ (ks : List KeptValue). IsOverviewOf (splice c.args.known.now.kept.now.items c.args.new.now.from c.args.new.now.end ks) c.overview_after-after.result) c.as_slice-judged.ensures.value c.overview_after-after.ensures)
 
 pub returns-clause-overview : goal.returns-clause-overview
 returns-clause-overview g c =
     subst (λ (ks : List KeptValue). IsOverviewOf ks c.in_ok-renewal.renewal.overview)
-    (c.new-sections.ensures ∙ ap (λ (ks : List KeptValue). splice c.args.known.now.kept.now.items c.args.new.now.from c.args.new.now.end ks) c.deref-4.ensures.value) c.in_ok-renewal.ensures.overview
+    (c.new-sections.ensures ∙ ap (λ (ks : List KeptValue). splice c.args.known.now.kept.now.items c.args.new.now.from c.args.new.now.end ks) c.as_slice-judged.ensures.value) c.in_ok-renewal.ensures.overview
