@@ -8,7 +8,7 @@ patched_unsilenced-requires-clause-few g c =
     omega (arith, few_lines (g.S.Lines.rows c.args.store.now) c.requires.old, few_new (g.S.Lines.rows c.args.store.now) c.args.rows.now c.args.a c.args.b c.requires.lines)
 
 pub patched_unsilenced-requires-clause-problems : goal.patched_unsilenced-requires-clause-problems
-patched_unsilenced-requires-clause-problems g c = c.requires.known c.if-not-is_known.false
+patched_unsilenced-requires-clause-problems g c = c.requires.known c.if-not-known.false
 
 pub returns-clause-fit : goal.returns-clause-fit
 returns-clause-fit g c = both _ _ c.in_ok-patch.patch c.in_ok-patch.ensures.range c.in_ok-patch.ensures.low

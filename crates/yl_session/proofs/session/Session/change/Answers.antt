@@ -6,7 +6,7 @@ use Rattle.yl_sections.specs.Kept.{KeptValue}
 use Rattle.yl_lint.specs.TextReport.{kept_of_text, records_of, report}
 use Rattle.yl_lint.specs.Unsilenced.{unsilenced_report}
 use Rattle.yl_session.proofs.Bounds.{few_kept, few_lines, few_records, few_rows, few_rows_put}
-use Rattle.std.specs.Prelude.{OnErr}
+use Rattle.std.specs.Prelude.{OnErr, OnOk}
 use Rattle.yl_text.specs.Lines.{RowValue}
 use Rattle.yl_config.specs.declared.config.Config.{Config}
 use Rattle.yl_report.specs.Report.{ProblemValue}
@@ -25,6 +25,11 @@ held : {X E P : Type 0} (r : Result X E) → P → OnErr r P
 held (Ok x) p = tt
 held (Err e) p = p
 
+-- what holds holds where it is done
+held_so : {X E P : Type 0} (r : Result X E) → P → OnOk r P
+held_so (Ok x) p = p
+held_so (Err e) p = tt
+
 abbrev state : Config → List RowValue → List ProblemValue → SessionValue
 state c ps problems = record { config = c; rows = ps; problems = problems }
 
@@ -38,6 +43,10 @@ returns-in_err-splice-clause-err g c =
     (ap (λ (ps : List RowValue). state c.self.inside.config ps c.make_room.new.problems.items) c.in_err-splice.ensures.err
     ∙ (ap (λ (ps : List ProblemValue). state c.self.inside.config (g.S.Lines.rows c.self.inside.store) ps) c.make_room.ensures.problems ∙ c.self.view_is))
 
+pub returns-in_err-splice-clause-problems : goal.returns-in_err-splice-clause-problems
+returns-in_err-splice-clause-problems g c =
+    held_so c.from_residual-in_err-splice.result (c.make_room.ensures.problems ∙ (c.self.invariant.3 ∙ ap (report c.self.inside.config) (sym c.in_err-splice.ensures.err)))
+
 -- a list that was renewed of new lines
 renewed : {X : Type 0} {all : List X} {rows new : List RowValue} (held old items : List X) (i j : ℕ) (f : List RowValue → List X) → rows ≡ new → all ≡ splice held i j items → held ≡ old → splice old i j items ≡ f rows → all ≡ f new
 renewed held old items i j f e is same made = rw (is, same, made, e) refl
@@ -47,17 +56,17 @@ put_of p old = patched p.from p.end p.problems.items p.up p.down old
 
 -- what is lent is what is kept
 pub planned-requires-clause-at : goal.planned-requires-clause-at
-planned-requires-clause-at g c = subst (λ (ps : List Place). AllByRecursion (IsAt c.self.inside.kept.items) ps) (sym c.deref.ensures.value) c.self.invariant.5
+planned-requires-clause-at g c = subst (λ (ps : List Place). AllByRecursion (IsAt c.self.inside.kept.items) ps) (sym c.deref-3.ensures.value) c.self.invariant.5
 
 pub planned-requires-clause-known : goal.planned-requires-clause-known
-planned-requires-clause-known g c = λ h. c.deref-3.ensures.value ∙ c.self.invariant.6 h
+planned-requires-clause-known g c = λ h. c.deref-2.ensures.value ∙ c.self.invariant.6 h
 
 pub renew-requires-clause-fit : goal.renew-requires-clause-fit
-renew-requires-clause-fit g c = subst (λ (ps : List ProblemValue). IsFit ps c.in_ok-plan.plan.renewal.report.patch) (c.deref-2.ensures.value ∙ sym c.make_room.ensures.problems) c.in_ok-plan.ensures.fit
+renew-requires-clause-fit g c = subst (λ (ps : List ProblemValue). IsFit ps c.in_ok-plan.plan.renewal.report.patch) (c.deref.ensures.value ∙ sym c.make_room.ensures.problems) c.in_ok-plan.ensures.fit
 
 pub renew-requires-2-clause-fit : goal.renew-requires-2-clause-fit
 renew-requires-2-clause-fit g c =
-    subst (λ (ps : List ProblemValue). IsFit ps c.in_ok-plan.plan.renewal.unsilenced.patch) (c.deref-3.ensures.value ∙ sym c.make_room.ensures.unsilenced) c.in_ok-plan.ensures.unsilenced_fit
+    subst (λ (ps : List ProblemValue). IsFit ps c.in_ok-plan.plan.renewal.unsilenced.patch) (c.deref-2.ensures.value ∙ sym c.make_room.ensures.unsilenced) c.in_ok-plan.ensures.unsilenced_fit
 
 pub make_room-requires-clause-few : goal.make_room-requires-clause-few
 make_room-requires-clause-few g c =
@@ -142,13 +151,13 @@ invariant_of-self-2 g c =
       renewed c.make_room.new.records.items c.self.inside.records.items plan.rescan.records.items plan.rescan.from plan.rescan.old_end records_of put c.fill_room.ensures.items c.make_room.ensures.records c.in_ok-plan.ensures.records,
       renewed c.make_room.new.kept.items c.self.inside.kept.items plan.rejudged.kept.items plan.rejudged.from plan.rejudged.end (kept_of_text c.self.inside.config) put c.put_kept.ensures.items c.make_room.ensures.kept c.in_ok-plan.ensures.kept,
       made_so c.make_room.new.problems.items (λ v. v.items) put_of plan.renewal.report.patch plan.renewal.report.whole c.renew.ensures
-          (subst (λ (ps : List ProblemValue). Makes ps (report c.self.inside.config (splice rows c.args.a c.args.b c.as_slice.result.now)) plan.renewal.report) (c.deref-2.ensures.value ∙ sym c.make_room.ensures.problems) c.in_ok-plan.ensures.report)
+          (subst (λ (ps : List ProblemValue). Makes ps (report c.self.inside.config (splice rows c.args.a c.args.b c.as_slice.result.now)) plan.renewal.report) (c.deref.ensures.value ∙ sym c.make_room.ensures.problems) c.in_ok-plan.ensures.report)
           ∙ ap (report c.self.inside.config) put,
       subst (λ (ks : List KeptValue). IsOverviewOf ks plan.renewal.overview) (sym (c.put_kept.ensures.items ∙ ap (λ (ks : List KeptValue). splice ks plan.rejudged.from plan.rejudged.end plan.rejudged.kept.items) c.make_room.ensures.kept)) c.in_ok-plan.ensures.overview,
       c.put_kept.ensures.places,
       λ h.
           made_so c.make_room.new.unsilenced.items (λ v. v.items) put_of plan.renewal.unsilenced.patch plan.renewal.unsilenced.whole c.renew-2.ensures
-          (subst (λ (ps : List ProblemValue). Makes ps (unsilenced_report c.self.inside.config (splice rows c.args.a c.args.b c.as_slice.result.now)) plan.renewal.unsilenced) (c.deref-3.ensures.value ∙ sym c.make_room.ensures.unsilenced)
+          (subst (λ (ps : List ProblemValue). Makes ps (unsilenced_report c.self.inside.config (splice rows c.args.a c.args.b c.as_slice.result.now)) plan.renewal.unsilenced) (c.deref-2.ensures.value ∙ sym c.make_room.ensures.unsilenced)
           (c.in_ok-plan.ensures.unsilenced h))
           ∙ ap (unsilenced_report c.self.inside.config) put,
     )
@@ -159,5 +168,5 @@ returns-clause-problems g c =
     let put : splice rows c.args.a c.args.b c.as_slice.result.now ≡ g.S.Lines.rows c.splice.new.self = ap (λ (ps : List RowValue). splice rows c.args.a c.args.b ps) c.as_slice.ensures.value ∙ sym c.in_ok-splice.ensures.ok in
     let plan = c.in_ok-plan.plan in
     made_so c.make_room.new.problems.items (λ v. v.items) put_of plan.renewal.report.patch plan.renewal.report.whole c.renew.ensures
-    (subst (λ (ps : List ProblemValue). Makes ps (report c.self.inside.config (splice rows c.args.a c.args.b c.as_slice.result.now)) plan.renewal.report) (c.deref-2.ensures.value ∙ sym c.make_room.ensures.problems) c.in_ok-plan.ensures.report)
+    (subst (λ (ps : List ProblemValue). Makes ps (report c.self.inside.config (splice rows c.args.a c.args.b c.as_slice.result.now)) plan.renewal.report) (c.deref.ensures.value ∙ sym c.make_room.ensures.problems) c.in_ok-plan.ensures.report)
     ∙ ap (report c.self.inside.config) put
