@@ -17,10 +17,11 @@ use Rattle.yl_config.specs.Config.{levels_of, options_of}
 use Rattle.yl_report.specs.Directive.{disables_file, is_silenced}
 use Rattle.yl_report.specs.Report.{ProblemValue, report_of}
 use Rattle.yl_sections.specs.Kept.{KeptValue, SectionFaultValue, Here, Behind}
+use Rattle.yl_rejudge.specs.Places.{rows_kept}
 use Rattle.yl_lint.specs.TextReport.{comments_in_sections, end_of_lines, facts_in_sections, fault_in_sections, fault_or_later, findings_in_lines, findings_in_section, findings_in_sections, first_text, kept_of_text, moved, moved_comment, report, report_of_kept, shown, syntax_finding, unless_fault}
 use Rattle.yl_patch.specs.Cut.{IsInside, is_filled}
 use Rattle.yl_patch.specs.Patched.{is_upto, patched}
-use Rattle.yl_patch.specs.Plain.{IsPlain, row_sum}
+use Rattle.yl_patch.specs.Plain.{IsPlain}
 use Rattle.yl_patch.specs.Seen.{IsSeen, sections_between}
 use Rattle.yl_patch.specs.Speaking.{SpeakAlike}
 use Rattle.yl_patch.specs.Settled.{LeavesBelow, fault_behind, found_by_fault, hides_below, measure_upto, settled, settled_below}
@@ -149,7 +150,7 @@ module _ (config : Config) (rows ins : List RowValue) (kept new : List KeptValue
   touched_is = settled_touched kept new from end h within within' above
 
   pub report_edited : (head head' : List ℕ) → disables_file head ≡ false → disables_file head' ≡ false → AllByRecursion IsPlain (settled kept) → AllByRecursion IsPlain put_new → LeavesBelow h ls new (drop end kept)
-      → t.first ≡ row_sum ks → t.old_end ≡ t.first + row_sum ls → t.new_end ≡ t.first + row_sum new → (e : Ends) → e.begins ≡ (t.first == 0) → e.ends ≡ (t.old_end == length rows)
+      → t.first ≡ rows_kept ks → t.old_end ≡ t.first + rows_kept ls → t.new_end ≡ t.first + rows_kept new → (e : Ends) → e.begins ≡ (t.first == 0) → e.ends ≡ (t.old_end == length rows)
       → (e.begins ≡ false → is_filled (slice_get rows t.first) ≡ true) → (e.begins ≡ false → is_filled (slice_get rows' t.first) ≡ true) → (e.ends ≡ false → is_filled (slice_get rows t.old_end) ≡ true)
       → SpeakAlike (settled_below h ls) put_new → measure_upto (measured (settled ks)) (settled_below h ls) ≡ measure_upto (measured (settled ks)) put_new
       → (i j : ℕ) (put old : List ProblemValue) → old ≡ report_with config head rows kept → i ≡ prefix_len (is_upto t.first) old → j ≡ prefix_len (is_upto t.old_end) old
@@ -159,7 +160,7 @@ module _ (config : Config) (rows ins : List RowValue) (kept new : List KeptValue
       let spliced = settled_splice kept new from end h within within' above below in
       let all = plain_put kept new from end h within within' above plain plainₙ below in
       report_renewed config rows ins (settled kept) put_new a b from end t ordered within (omega (arith, within', length_settled false kept)) inside head head' loud loud' plain plainₙ
-      (omega (arith, first, ap row_sum front_is, rows_settled false ks)) (omega (arith, old_end, ap row_sum touched_is, rows_settled h ls)) (omega (arith, new_end, rows_settled h new)) e begins ends filled filled' filled''
+      (omega (arith, first, ap rows_kept front_is, rows_settled false ks)) (omega (arith, old_end, ap rows_kept touched_is, rows_settled h ls)) (omega (arith, new_end, rows_settled h new)) e begins ends filled filled' filled''
       (subst (λ (xs : List KeptValue). SpeakAlike xs put_new) (sym touched_is) alike) (measure_seen kept new from end h within within' above same) i j put old
       (old_is ∙ settled_report config (findings_in_lines (options_of config) rows) head (end_of_lines rows) kept plain loud) i_is j_is
       (put_is

@@ -15,8 +15,9 @@ use Rattle.yl_indentation.specs.Measures.{and_later}
 use Rattle.yl_settings.specs.declared.options.RuleOptions.{RuleOptions}
 use Rattle.yl_report.specs.Report.{ProblemValue}
 use Rattle.yl_sections.specs.Kept.{KeptValue, items_if}
+use Rattle.yl_rejudge.specs.Places.{rows_kept}
 use Rattle.yl_lint.specs.TextReport.{moved, findings_from, findings_in_sections}
-use Rattle.yl_patch.specs.Plain.{IsPlain, row_sum}
+use Rattle.yl_patch.specs.Plain.{IsPlain}
 use Rattle.yl_patch.proofs.Arranged.{AreSame, arranged, arranged_same, arranged_apart, arranged_moved, below, lower, in_front, in_behind, in_either}
 use Rattle.yl_patch.proofs.Lines.{Between, between_both, empty_lines_between, end_of_file_between, first_apart, if_none, is_seam, last_apart, new_lines_between, rows_apart, rows_between, runs_apart}
 use Rattle.yl_patch.proofs.Sections.{between_wider, between_moved, measured, sections_apart, sections_between}
@@ -35,7 +36,7 @@ if_between : (low high : ℕ) (b : Bool) (fs : List FindingValue) → Between lo
 if_between low high true fs h = h
 if_between low high false fs h = tt
 
-pub part_between : (o : RuleOptions) (whole : Measure) (begins ends : Bool) (before : Measure) (rows : List RowValue) (ks : List KeptValue) (high : ℕ) → AllByRecursion IsPlain ks → length rows ≤ high → row_sum ks ≤ high
+pub part_between : (o : RuleOptions) (whole : Measure) (begins ends : Bool) (before : Measure) (rows : List RowValue) (ks : List KeptValue) (high : ℕ) → AllByRecursion IsPlain ks → length rows ≤ high → rows_kept ks ≤ high
     → Between 0 high (part o whole begins ends before rows ks)
 part_between o whole begins ends before rows ks high h l m =
     let n = length rows in
@@ -88,7 +89,7 @@ lines_above n high [] h = tt
 lines_above n high (f ∷ fs) h = (h.0.0, lines_above n high fs h.1)
 
 module _ (levels : LevelTable) (s : RuleId → ℕ → Bool) (o : RuleOptions) (whole : Measure) (begins ends : Bool) (before : Measure) (xs ys : List RowValue) (ks ls : List KeptValue)
-    (plain : AllByRecursion IsPlain ks) (plain' : AllByRecursion IsPlain ls) (fit : row_sum ks ≡ length xs) (seam : is_seam xs ys ≡ true) where
+    (plain : AllByRecursion IsPlain ks) (plain' : AllByRecursion IsPlain ls) (fit : rows_kept ks ≡ length xs) (seam : is_seam xs ys ≡ true) where
   abbrev m : List FindingValue → List FindingValue
   m fs = map (moved (length xs)) fs
 
@@ -149,12 +150,12 @@ module _ (levels : LevelTable) (s : RuleId → ℕ → Bool) (o : RuleOptions) (
   front_low : Between 0 (length xs) first_part
   front_low = part_between o whole begins (if_none ys ends) before xs ks (length xs) plain (omega arith) (omega (arith, fit))
 
-  second_between : Between 0 (length ys + row_sum ls) second_part
-  second_between = part_between o whole (if_none xs begins) ends later ys ls (length ys + row_sum ls) plain' (omega arith) (omega arith)
+  second_between : Between 0 (length ys + rows_kept ls) second_part
+  second_between = part_between o whole (if_none xs begins) ends later ys ls (length ys + rows_kept ls) plain' (omega arith) (omega arith)
 
   back_high : AllByRecursion (λ f. length xs < f.line) (m second_part)
   back_high =
-      let high = length ys + row_sum ls in
+      let high = length ys + rows_kept ls in
       let b = between_moved (length xs) 0 high second_part second_between in
       lines_above (length xs) (length xs + high) (m second_part) (between_wider (length xs + 0) (length xs + high) (length xs) (length xs + high) (m second_part) (omega arith) (omega arith) b)
 
@@ -165,7 +166,7 @@ module _ (levels : LevelTable) (s : RuleId → ℕ → Bool) (o : RuleOptions) (
       (front r₁ (m r₂) n₁ (m n₂) e₁ (m e₂) z₁ (m z₂) s₁ (m s₂) ++ back r₁ (m r₂) n₁ (m n₂) e₁ (m e₂) z₁ (m z₂) s₁ (m s₂)) (members r₁ (m r₂) n₁ (m n₂) e₁ (m e₂) z₁ (m z₂) s₁ (m s₂))
       ∙ (ap (λ (fs : List FindingValue). arranged levels s (first_part ++ fs)) back_is
       ∙ (arranged_apart levels s (length xs) first_part (m second_part) (lines_at_most (length xs) first_part front_low) back_high
-      ∙ ap (λ (ps : List ProblemValue). arranged levels s first_part ++ ps) (arranged_moved levels s (length xs) second_part (lines_above 0 (length ys + row_sum ls) second_part second_between)))))
+      ∙ ap (λ (ps : List ProblemValue). arranged levels s first_part ++ ps) (arranged_moved levels s (length xs) second_part (lines_above 0 (length ys + rows_kept ls) second_part second_between)))))
 
 -- ---- a list of problems, patched
 

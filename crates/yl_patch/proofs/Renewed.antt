@@ -20,10 +20,11 @@ use Rattle.yl_config.specs.Config.{levels_of, options_of}
 use Rattle.yl_report.specs.Directive.{disables_file, is_silenced}
 use Rattle.yl_report.specs.Report.{ProblemValue, report_of}
 use Rattle.yl_sections.specs.Kept.{KeptValue, items_if}
+use Rattle.yl_rejudge.specs.Places.{rows_kept}
 use Rattle.yl_lint.specs.TextReport.{findings_from, findings_in_lines, findings_in_sections, fault_in_sections, comments_in_sections, moved, moved_comment, shown, end_of_lines, report_of_kept}
 use Rattle.yl_patch.specs.Cut.{IsInside, is_filled}
 use Rattle.yl_patch.specs.Patched.{is_upto, patched}
-use Rattle.yl_patch.specs.Plain.{IsPlain, row_sum}
+use Rattle.yl_patch.specs.Plain.{IsPlain}
 use Rattle.yl_patch.specs.Settled.{measure_upto}
 use Rattle.yl_patch.specs.Speaking.{SpeakAlike, SpeaksWithin, switch_texts}
 use Rattle.yl_patch.specs.There.{found_there}
@@ -78,7 +79,7 @@ report_is config first rows ks plain loud = plain_report config first (end_of_li
 
 module _ (levels : LevelTable) (s : RuleId → ℕ → Bool) (o : RuleOptions) (p : RowValue) (fs ps bs : List RowValue) (ks ls ms : List KeptValue) (whole : Measure)
     (plain : AllByRecursion IsPlain ks) (plain' : AllByRecursion IsPlain ls) (plain'' : AllByRecursion IsPlain ms)
-    (fit : row_sum ks ≡ length fs) (fit' : row_sum ls ≡ length (p ∷ ps)) (seam : is_seam fs (p ∷ ps) ≡ true) (seam' : is_seam (p ∷ ps) bs ≡ true) where
+    (fit : rows_kept ks ≡ length fs) (fit' : rows_kept ls ≡ length (p ∷ ps)) (seam : is_seam fs (p ∷ ps) ≡ true) (seam' : is_seam (p ∷ ps) bs ≡ true) where
   abbrev front : List ProblemValue
   front = arranged levels s (part o whole true false empty_measure fs ks)
 
@@ -109,7 +110,7 @@ module _ (levels : LevelTable) (s : RuleId → ℕ → Bool) (o : RuleOptions) (
 
   in_back_lines : (before : Measure) → AllByRecursion (λ q. 0 < q.line) (behind before)
   in_back_lines before =
-      let high = length bs + row_sum ms in
+      let high = length bs + rows_kept ms in
       let found = part o whole false true before bs ms in
       arranged_lines (λ l. 0 < l) levels (below (length (p ∷ ps)) (below (length fs) s)) found
       (lines_above 0 high found (part_between o whole false true before bs ms high plain'' (omega arith) (omega arith)))
@@ -189,13 +190,13 @@ module _ (config : Config) (ks ls news ms : List KeptValue) (plain : AllByRecurs
   abbrev says_of : List PlacedCommentValue → ℕ → ℕ → RuleId → ℕ → Bool
   says_of zs first n = is_silenced (cs ++ (map (moved_comment first) zs ++ map (moved_comment (first + n)) ds))
 
-  old_says : (first n : ℕ) → row_sum ks ≡ first → row_sum ls ≡ n → is_silenced (comments_in_sections 0 (ks ++ (ls ++ ms))) ≡ says_of xs first n
+  old_says : (first n : ℕ) → rows_kept ks ≡ first → rows_kept ls ≡ n → is_silenced (comments_in_sections 0 (ks ++ (ls ++ ms))) ≡ says_of xs first n
   old_says first n e f = ap is_silenced (comments_three ks ls ms first (first + n) (sym e) (omega (arith, f)))
 
-  new_says : (first n : ℕ) → row_sum ks ≡ first → row_sum news ≡ n → is_silenced (comments_in_sections 0 (ks ++ (news ++ ms))) ≡ says_of ys first n
+  new_says : (first n : ℕ) → rows_kept ks ≡ first → rows_kept news ≡ n → is_silenced (comments_in_sections 0 (ks ++ (news ++ ms))) ≡ says_of ys first n
   new_says first n e f = ap is_silenced (comments_three ks news ms first (first + n) (sym e) (omega (arith, f)))
 
-  renewed_parts : (fs ps qs bs : List RowValue) → row_sum ks ≡ length fs → row_sum ls ≡ length ps → row_sum news ≡ length qs
+  renewed_parts : (fs ps qs bs : List RowValue) → rows_kept ks ≡ length fs → rows_kept ls ≡ length ps → rows_kept news ≡ length qs
       → 0 < length ps → 0 < length qs → is_seam fs ps ≡ true → is_seam fs qs ≡ true → is_seam ps bs ≡ true
       → (i j up down : ℕ) (put old : List ProblemValue) → old ≡ report_with config head (fs ++ (ps ++ bs)) (ks ++ (ls ++ ms)) → i ≡ prefix_len (is_upto (length fs)) old → j ≡ prefix_len (is_upto up) old → up ≡ length fs + length ps → down ≡ length fs + length qs
       → (e : Ends) → e.begins ≡ if_none fs true → e.ends ≡ if_none bs true → put ≡ arranged levels (is_silenced (comments_in_sections 0 (ks ++ news))) (map (moved (length fs)) (found_there opts e wholly (measured ks) qs news))
@@ -350,7 +351,7 @@ module _ (config : Config) (rows ins : List RowValue) (kept new : List KeptValue
   bs_none = none_by bs t.old_end (length rows) (λ e. omega (arith, bs_length, e, inside.back)) (λ e. omega (arith, bs_length, e))
 
   pub report_renewed : (head head' : List ℕ) → disables_file head ≡ false → disables_file head' ≡ false → AllByRecursion IsPlain kept → AllByRecursion IsPlain new
-      → t.first ≡ row_sum ks → t.old_end ≡ t.first + row_sum ls → t.new_end ≡ t.first + row_sum new → (e : Ends) → e.begins ≡ (t.first == 0) → e.ends ≡ (t.old_end == length rows)
+      → t.first ≡ rows_kept ks → t.old_end ≡ t.first + rows_kept ls → t.new_end ≡ t.first + rows_kept new → (e : Ends) → e.begins ≡ (t.first == 0) → e.ends ≡ (t.old_end == length rows)
       → (e.begins ≡ false → is_filled (slice_get rows t.first) ≡ true) → (e.begins ≡ false → is_filled (slice_get rows' t.first) ≡ true) → (e.ends ≡ false → is_filled (slice_get rows t.old_end) ≡ true)
       → SpeakAlike ls new → measure_upto (measured ks) ls ≡ measure_upto (measured ks) new
       → (i j : ℕ) (put old : List ProblemValue) → old ≡ report_with config head rows kept → i ≡ prefix_len (is_upto t.first) old → j ≡ prefix_len (is_upto t.old_end) old

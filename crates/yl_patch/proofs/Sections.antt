@@ -16,8 +16,9 @@ use Rattle.yl_indentation.specs.Measures.{empty_measure, and_later, first, measu
 use Rattle.yl_indentation.specs.Problems.{finding_at, finding_by, finding_by_width, indent_problems, not_as_expected, indentation_width}
 use Rattle.yl_indentation.proofs.Measured.{and_later_assoc, measure_is_local}
 use Rattle.yl_sections.specs.Kept.{KeptValue, SectionFaultValue}
+use Rattle.yl_rejudge.specs.Places.{rows_kept}
 use Rattle.yl_lint.specs.TextReport.{moved, shown, unless_fault, fault_or_later, fault_in_sections, comments_in_sections, moved_comment, findings_in_section, findings_in_sections, facts_in_sections}
-use Rattle.yl_patch.specs.Plain.{IsPlain, IsSilent, row_sum}
+use Rattle.yl_patch.specs.Plain.{IsPlain, IsSilent}
 use Rattle.yl_patch.proofs.Lines.{Between, between_both}
 
 -- ---- sections that have no fault, and those that silence nothing
@@ -49,7 +50,7 @@ all_back P (x ∷ xs) ys h = all_back P xs ys h.1
 
 -- ---- comments of sections one after another
 
-pub comments_both : (line there : ℕ) (ks ls : List KeptValue) → there ≡ line + row_sum ks → comments_in_sections line (ks ++ ls) ≡ comments_in_sections line ks ++ comments_in_sections there ls
+pub comments_both : (line there : ℕ) (ks ls : List KeptValue) → there ≡ line + rows_kept ks → comments_in_sections line (ks ++ ls) ≡ comments_in_sections line ks ++ comments_in_sections there ls
 comments_both line there [] ls e = ap (λ n. comments_in_sections n ls) (omega (arith, e))
 comments_both line there (k ∷ ks) ls e =
     ap (λ (cs : List PlacedCommentValue). map (moved_comment line) k.comments ++ cs) (comments_both (line + k.rows) there ks ls (omega (arith, e)))
@@ -74,11 +75,11 @@ comments_moved n line there (k ∷ ks) e =
     ∙ sym (map-append (moved_comment n) (map (moved_comment line) k.comments) (comments_in_sections (line + k.rows) ks)))
 
 -- of two parts, and of three
-pub comments_two : (ks ls : List KeptValue) (first : ℕ) → first ≡ row_sum ks → comments_in_sections 0 (ks ++ ls) ≡ comments_in_sections 0 ks ++ map (moved_comment first) (comments_in_sections 0 ls)
+pub comments_two : (ks ls : List KeptValue) (first : ℕ) → first ≡ rows_kept ks → comments_in_sections 0 (ks ++ ls) ≡ comments_in_sections 0 ks ++ map (moved_comment first) (comments_in_sections 0 ls)
 comments_two ks ls first e =
     comments_both 0 first ks ls (omega (arith, e)) ∙ ap (λ (cs : List PlacedCommentValue). comments_in_sections 0 ks ++ cs) (comments_moved first 0 first ls (omega arith))
 
-pub comments_three : (ks ls ms : List KeptValue) (first there : ℕ) → first ≡ row_sum ks → there ≡ first + row_sum ls
+pub comments_three : (ks ls ms : List KeptValue) (first there : ℕ) → first ≡ rows_kept ks → there ≡ first + rows_kept ls
     → comments_in_sections 0 (ks ++ (ls ++ ms)) ≡ comments_in_sections 0 ks ++ (map (moved_comment first) (comments_in_sections 0 ls) ++ map (moved_comment there) (comments_in_sections 0 ms))
 comments_three ks ls ms first there e f =
     comments_both 0 first ks (ls ++ ms) (omega (arith, e))
@@ -92,7 +93,7 @@ lower_comments line rows high [] l h = tt
 lower_comments line rows high (c ∷ cs) l h = (omega (arith, l, h.0), lower_comments line rows high cs l h.1)
 
 -- they stand in the lines of their sections
-pub comments_within : (line high : ℕ) (ks : List KeptValue) → AllByRecursion IsPlain ks → line + row_sum ks ≤ high → AllByRecursion (λ c. c.line < high) (comments_in_sections line ks)
+pub comments_within : (line high : ℕ) (ks : List KeptValue) → AllByRecursion IsPlain ks → line + rows_kept ks ≤ high → AllByRecursion (λ c. c.line < high) (comments_in_sections line ks)
 comments_within line high [] h l = tt
 comments_within line high (k ∷ ks) h l =
     all_both (λ c. c.line < high) (map (moved_comment line) k.comments) (comments_in_sections (line + k.rows) ks) (lower_comments line k.rows high k.comments (omega (arith, l)) h.0.comments)
@@ -139,7 +140,7 @@ sections_moved o whole before n line there (k ∷ ks) e =
     ∙ (ap (λ (fs : List FindingValue). fs ++ map (moved n) (findings_in_sections o whole (line + k.rows) later ks)) (all_moved n line there (k.found ++ indent_problems o before whole k.facts) e)
     ∙ sym (map-append (moved n) (findings_in_section o whole line before k) (findings_in_sections o whole (line + k.rows) later ks)))
 
-sections_both : (o : IndentationOptions) (whole before : Measure) (line there : ℕ) (ks ls : List KeptValue) → there ≡ line + row_sum ks
+sections_both : (o : IndentationOptions) (whole before : Measure) (line there : ℕ) (ks ls : List KeptValue) → there ≡ line + rows_kept ks
     → findings_in_sections o whole line before (ks ++ ls) ≡ findings_in_sections o whole line before ks ++ findings_in_sections o whole there (and_later before (measured ks)) ls
 sections_both o whole before line there [] ls e =
     ap (λ k. findings_in_sections o whole k before ls) (omega (arith, e)) ∙ ap (λ (m : Measure). findings_in_sections o whole there m ls) (sym (and_later_none before))
@@ -152,10 +153,10 @@ sections_both o whole before line there (k ∷ ks) ls e =
     ∙ ap (λ (b : Measure). findings_in_sections o whole line before (k ∷ ks) ++ findings_in_sections o whole there b ls) m)
 
 pub sections_apart : (o : IndentationOptions) (whole before : Measure) (ks ls : List KeptValue)
-    → findings_in_sections o whole 0 before (ks ++ ls) ≡ findings_in_sections o whole 0 before ks ++ map (moved (row_sum ks)) (findings_in_sections o whole 0 (and_later before (measured ks)) ls)
+    → findings_in_sections o whole 0 before (ks ++ ls) ≡ findings_in_sections o whole 0 before ks ++ map (moved (rows_kept ks)) (findings_in_sections o whole 0 (and_later before (measured ks)) ls)
 sections_apart o whole before ks ls =
-    sections_both o whole before 0 (row_sum ks) ks ls (omega arith)
-    ∙ ap (λ (fs : List FindingValue). findings_in_sections o whole 0 before ks ++ fs) (sections_moved o whole (and_later before (measured ks)) (row_sum ks) 0 (row_sum ks) ls (omega arith))
+    sections_both o whole before 0 (rows_kept ks) ks ls (omega arith)
+    ∙ ap (λ (fs : List FindingValue). findings_in_sections o whole 0 before ks ++ fs) (sections_moved o whole (and_later before (measured ks)) (rows_kept ks) 0 (rows_kept ks) ls (omega arith))
 
 -- ---- the lines of what is found
 
@@ -195,7 +196,7 @@ indented_there rows o before whole (f ∷ fs) h =
     let here = and_later before (measure_at f.column f.expectation) in
     between_both 0 rows (finding_at o here (is_flush whole) f) (indent_problems o here whole fs) (by_there rows o.indent_sequences (is_flush whole) (indentation_width o here (is_flush whole)) f f.expectation h.0) (indented_there rows o here whole fs h.1)
 
-pub sections_between : (o : IndentationOptions) (whole before : Measure) (line high : ℕ) (ks : List KeptValue) → AllByRecursion IsPlain ks → line + row_sum ks ≤ high → Between line high (findings_in_sections o whole line before ks)
+pub sections_between : (o : IndentationOptions) (whole before : Measure) (line high : ℕ) (ks : List KeptValue) → AllByRecursion IsPlain ks → line + rows_kept ks ≤ high → Between line high (findings_in_sections o whole line before ks)
 sections_between o whole before line high [] h l = tt
 sections_between o whole before line high (k ∷ ks) h l =
     let later = and_later before (measure_of k.facts) in

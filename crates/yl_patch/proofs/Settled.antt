@@ -11,11 +11,13 @@ use Rattle.yl_indentation.specs.declared.options.IndentationOptions.{Indentation
 use Rattle.yl_indentation.specs.Measures.{and_later, measure_of}
 use Rattle.yl_indentation.proofs.Measured.{and_later_assoc, measure_is_local}
 use Rattle.yl_sections.specs.Kept.{KeptValue, SectionFaultValue, Here, Behind}
+use Rattle.yl_rejudge.specs.Places.{rows_kept}
 use Rattle.yl_lint.specs.TextReport.{comments_in_sections, facts_in_sections, findings_in_section, findings_in_sections}
-use Rattle.yl_patch.specs.Plain.{IsPlain, IsSilent, IsSound, IsWithin, row_sum}
+use Rattle.yl_patch.specs.Plain.{IsPlain, IsSilent, IsSound, IsWithin}
 use Rattle.yl_patch.specs.Settled.{IsFaultWithin, LeavesBelow, fault_behind, found_by_fault, hides_below, measure_upto, settled, settled_below, settled_one}
 use Rattle.yl_patch.proofs.Sections.{all_both, and_later_none, comments_both, measured, measured_both}
-use Rattle.yl_patch.proofs.Walks.{all_drop, all_take, all_three, got, measure_put, one_at, one_more}
+use Rattle.yl_rejudge.proofs.KeptRows.{got}
+use Rattle.yl_patch.proofs.Walks.{all_drop, all_take, all_three, measure_put, one_at, one_more}
 
 -- ---- sections one after another
 
@@ -35,7 +37,7 @@ one_rows : (h : Bool) (k : KeptValue) → (settled_one h k).rows ≡ k.rows
 one_rows true k = refl
 one_rows false k = refl
 
-pub rows_settled : (h : Bool) (ks : List KeptValue) → row_sum (settled_below h ks) ≡ row_sum ks
+pub rows_settled : (h : Bool) (ks : List KeptValue) → rows_kept (settled_below h ks) ≡ rows_kept ks
 rows_settled h [] = refl
 rows_settled h (k ∷ ks) = omega (arith, one_rows h k, rows_settled (h || is_some k.fault) ks)
 
@@ -217,7 +219,7 @@ comments_one line k = refl
 
 comments_first : (ks ls : List KeptValue) (k : KeptValue) → AllByRecursion IsSound ks → hides_below false (ks ++ k ∷ []) ≡ true → comments_in_sections 0 (ks ++ k ∷ []) ≡ comments_in_sections 0 (settled ((ks ++ k ∷ []) ++ ls))
 comments_first ks ls k sound h =
-    let there = row_sum ks in
+    let there = rows_kept ks in
     let one : settled (ks ++ k ∷ []) ≡ ks ++ settled_one false k ∷ [] =
     settled_both false ks (k ∷ []) ∙ (ap (λ (b : Bool). settled ks ++ settled_below b (k ∷ [])) (sound_hides ks sound) ∙ ap (λ (xs : List KeptValue). xs ++ settled_one false k ∷ []) (sound_settled ks sound)) in
     let all : settled ((ks ++ k ∷ []) ++ ls) ≡ (ks ++ settled_one false k ∷ []) ++ settled_below true ls =
@@ -225,7 +227,7 @@ comments_first ks ls k sound h =
     let front = ks ++ settled_one false k ∷ [] in
     comments_both 0 there ks (k ∷ []) (omega arith)
     ∙ (sym (comments_both 0 there ks (settled_one false k ∷ []) (omega arith))
-    ∙ (sym (append-nil (comments_in_sections 0 front)) ∙ (ap (λ (cs : List PlacedCommentValue). comments_in_sections 0 front ++ cs) (sym (comments_hidden (row_sum front) ls)) ∙ (sym (comments_both 0 (row_sum front) front (settled_below true ls) (omega arith)) ∙ ap (comments_in_sections 0) (sym all)))))
+    ∙ (sym (append-nil (comments_in_sections 0 front)) ∙ (ap (λ (cs : List PlacedCommentValue). comments_in_sections 0 front ++ cs) (sym (comments_hidden (rows_kept front) ls)) ∙ (sym (comments_both 0 (rows_kept front) front (settled_below true ls) (omega arith)) ∙ ap (comments_in_sections 0) (sym all)))))
 
 pub comments_above : (ks : List KeptValue) (n from : ℕ) → n < from → from ≤ length ks → AllByRecursion IsSound (take n ks) → hides_below false (take (n + 1) ks) ≡ true
     → comments_in_sections 0 (take (n + 1) ks) ≡ comments_in_sections 0 (settled (take from ks))

@@ -4,8 +4,9 @@ use Rattle.std.specs.Prelude.{if◌then◌else◌}
 use Rattle.std.specs.List.{AllByRecursion}
 use Rattle.yl_lexeme.specs.Lexeme.{PlacedCommentValue}
 use Rattle.yl_sections.specs.Kept.{KeptValue}
+use Rattle.yl_rejudge.specs.Places.{rows_kept}
 use Rattle.yl_lint.specs.TextReport.{comments_in_sections}
-use Rattle.yl_patch.specs.Plain.{IsSilent, row_sum}
+use Rattle.yl_patch.specs.Plain.{IsSilent}
 use Rattle.yl_patch.specs.Settled.{hides_below, settled_below}
 use Rattle.yl_patch.specs.Speaking.{SpeakAlike, SpeakAsShown, SpeaksWithin, switch_texts}
 use Rattle.yl_patch.proofs.Sections.{no_comments}
@@ -14,8 +15,8 @@ use Rattle.yl_patch.proofs.Settled.{comments_hidden, hides_sound, silent_settled
 -- sections without comments
 pub none_alike : (ls ns : List KeptValue) → comments_in_sections 0 ls ≡ [] → comments_in_sections 0 ns ≡ [] → SpeakAlike ls ns
 none_alike ls ns e f = record {
-  old = subst (λ (cs : List PlacedCommentValue). AllByRecursion (SpeaksWithin (row_sum ls)) cs) (sym e) tt;
-  new = subst (λ (cs : List PlacedCommentValue). AllByRecursion (SpeaksWithin (row_sum ns)) cs) (sym f) tt;
+  old = subst (λ (cs : List PlacedCommentValue). AllByRecursion (SpeaksWithin (rows_kept ls)) cs) (sym e) tt;
+  new = subst (λ (cs : List PlacedCommentValue). AllByRecursion (SpeaksWithin (rows_kept ns)) cs) (sym f) tt;
   switches = ap switch_texts (e ∙ sym f);
 }
 

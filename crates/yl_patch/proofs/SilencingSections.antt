@@ -6,8 +6,9 @@ use Rattle.std.proofs.lemmas.Bool.{cases_lt}
 use Rattle.std.proofs.lemmas.List.{same_lists, places}
 use Rattle.yl_lexeme.specs.Lexeme.{PlacedCommentValue}
 use Rattle.yl_sections.specs.Kept.{KeptValue}
+use Rattle.yl_rejudge.specs.Places.{rows_kept}
 use Rattle.yl_lint.specs.TextReport.{comments_in_sections, moved_comment}
-use Rattle.yl_patch.specs.Plain.{IsSilencingOf, IsSilent, IsStart, row_sum}
+use Rattle.yl_patch.specs.Plain.{IsSilencingOf, IsSilent, IsStart}
 use Rattle.yl_patch.specs.declared.silencing.Silencing.{Silencing}
 use Rattle.yl_patch.proofs.Renewed.{spliced_back, spliced_front, spliced_length}
 use Rattle.yl_patch.proofs.Sections.{all_back, all_both, all_front, comments_both, no_comments}
@@ -37,15 +38,15 @@ start_more ks ls from row s =
     let same = take_front ks ls from s.within in record {
       within = omega (arith, s.within, length-append ks ls);
       silent = subst (λ (xs : List KeptValue). Silent xs) (sym same) s.silent;
-      rows = s.rows ∙ ap row_sum (sym same);
+      rows = s.rows ∙ ap rows_kept (sym same);
     }
 
-pub start_here : (ks ls : List KeptValue) (from row : ℕ) → length ks ≡ from → row ≡ row_sum ks → Silent ks → IsStart (ks ++ ls) from row
+pub start_here : (ks ls : List KeptValue) (from row : ℕ) → length ks ≡ from → row ≡ rows_kept ks → Silent ks → IsStart (ks ++ ls) from row
 start_here ks ls from row l e h =
     let same = take_whole ks ls from l in record {
       within = omega (arith, l, length-append ks ls);
       silent = subst (λ (xs : List KeptValue). Silent xs) (sym same) h;
-      rows = e ∙ ap row_sum (sym same);
+      rows = e ∙ ap rows_kept (sym same);
     }
 
 pub silent_more : (ks : List KeptValue) (k : KeptValue) (s : Silencing) → IsSilent k → IsSilencingOf ks s → IsSilencingOf (ks ++ k ∷ []) s
@@ -64,7 +65,7 @@ start_stays ks ns a b from row l h m s =
     let same = spliced_front ks ns a b from l h m in record {
       within = omega (arith, spliced_length ks ns a b l h, l, h, m);
       silent = subst (λ (xs : List KeptValue). Silent xs) (sym same) s.silent;
-      rows = s.rows ∙ ap row_sum (sym same);
+      rows = s.rows ∙ ap rows_kept (sym same);
     }
 
 front_three : (ks : List KeptValue) (a b from : ℕ) → a ≤ b → b ≤ from → from ≤ length ks → take from ks ≡ take a ks ++ (take (b - a) (drop a ks) ++ take (from - b) (drop b ks))
@@ -74,11 +75,11 @@ front_three' : (ks ns : List KeptValue) (a b from at : ℕ) → a ≤ b → b �
     → take at (splice ks a b ns) ≡ take a ks ++ (ns ++ take (from - b) (drop b ks))
 front_three' ks ns a b from at l h m e = same_lists _ _ (search (rules, places)) (λ k d o. grind (arith, places))
 
-pub start_put : (ks ns : List KeptValue) (a b row : ℕ) → a ≤ b → b ≤ length ks → Silent (take a ks) → row ≡ row_sum (take a ks) → IsStart (splice ks a b ns) a row
+pub start_put : (ks ns : List KeptValue) (a b row : ℕ) → a ≤ b → b ≤ length ks → Silent (take a ks) → row ≡ rows_kept (take a ks) → IsStart (splice ks a b ns) a row
 start_put ks ns a b row l h silent e = start_stays ks ns a b a row l h (omega arith) (record { within = omega (arith, l, h); silent = silent; rows = e })
 
 pub start_moved : (ks ns : List KeptValue) (a b from row at new gone come : ℕ) → a ≤ b → b ≤ from → IsStart ks from row → Silent ns
-    → gone ≡ row_sum (take (b - a) (drop a ks)) → come ≡ row_sum ns → at + b ≡ from + a + length ns → new + gone ≡ row + come → IsStart (splice ks a b ns) at new
+    → gone ≡ rows_kept (take (b - a) (drop a ks)) → come ≡ rows_kept ns → at + b ≡ from + a + length ns → new + gone ≡ row + come → IsStart (splice ks a b ns) at new
 start_moved ks ns a b from row at new gone come l h s silent gone_is come_is at_is new_is =
     let x = take a ks in
     let y = take (b - a) (drop a ks) in
@@ -90,7 +91,7 @@ start_moved ks ns a b from row at new gone come l h s silent gone_is come_is at_
       silent =
           subst (λ (xs : List KeptValue). Silent xs) (sym now)
           (all_both IsSilent x (ns ++ z) (all_front IsSilent x (y ++ z) parts) (all_both IsSilent ns z silent (all_back IsSilent y z (all_back IsSilent x (y ++ z) parts))));
-      rows = omega (arith, new_is, gone_is, come_is, s.rows, ap row_sum old, ap row_sum now, rows_both x (y ++ z), rows_both y z, rows_both x (ns ++ z), rows_both ns z);
+      rows = omega (arith, new_is, gone_is, come_is, s.rows, ap rows_kept old, ap rows_kept now, rows_both x (y ++ z), rows_both y z, rows_both x (ns ++ z), rows_both ns z);
     }
 
 drop_more : (ks : List KeptValue) (n m : ℕ) → n ≤ m → Silent (drop n ks) → Silent (drop m ks)
@@ -153,7 +154,7 @@ comments_known ks s from stop known l h m = ⊎_elim some none (cases_lt s.from 
         let y = take (stop - s.from) (drop s.from ks) in
         let z = take (from - stop) (drop stop ks) in
         let parts : take from ks ≡ x ++ (y ++ z) = same_lists _ _ (search (rules, places)) (λ k d q. grind (arith, places)) in
-        let below = s.row + row_sum y in
+        let below = s.row + rows_kept y in
         sym (ap (λ (xs : List KeptValue). comments_in_sections 0 xs) parts
         ∙ (comments_both 0 s.row x (y ++ z) (omega (arith, known.start.rows))
         ∙ (ap (λ (cs : List PlacedCommentValue). cs ++ comments_in_sections s.row (y ++ z)) (no_comments 0 x known.start.silent)

@@ -2,19 +2,18 @@
 use Rattle.std.proofs.Common.{◌≡◌, ℕ, zero, suc, ◌+◌, ◌-◌, ◌<◌, ◌≤◌, List, [], ◌∷◌, ◌++◌, length, take, drop, get_or, Some, ap, sym, refl, subst, ◌∙◌, arith, rules, add-one, append-nil}
 use Rattle.std.specs.List.{AllByRecursion, slice_get, splice}
 use Rattle.std.proofs.Math.Seq.{drop-cons}
-use Rattle.std.proofs.lemmas.Option.{get_or_from_slice_get, slice_get_within}
+use Rattle.std.proofs.lemmas.Option.{slice_get_within}
 use Rattle.std.proofs.lemmas.List.{same_lists, places, get_or-drop, take_more, take-append-drop, length-take}
 use Rattle.yl_text.specs.Lines.{RowValue}
 use Rattle.yl_indentation.specs.declared.measure.Measure.{Measure}
 use Rattle.yl_indentation.specs.Measures.{and_later, measure_of}
 use Rattle.yl_indentation.proofs.Measured.{and_later_assoc, measure_is_local}
 use Rattle.yl_sections.specs.Kept.{KeptValue}
+use Rattle.yl_rejudge.specs.Places.{rows_kept}
+use Rattle.yl_rejudge.proofs.KeptRows.{got}
 use Rattle.yl_lint.specs.TextReport.{facts_in_sections}
-use Rattle.yl_patch.specs.Plain.{IsPlain, row_sum}
+use Rattle.yl_patch.specs.Plain.{IsPlain}
 use Rattle.yl_patch.proofs.Sections.{all_back, all_both, all_front, and_later_so, measured, measured_both}
-
-pub got : (ks : List KeptValue) (i : ℕ) (k : KeptValue) → slice_get ks i ≡ Some k → k ≡ get_or ks i k
-got ks i k h = sym (get_or_from_slice_get ks i k k h)
 
 pub got_behind : (ks : List KeptValue) (from i : ℕ) (k : KeptValue) → slice_get ks (from + i) ≡ Some k → k ≡ get_or (drop from ks) i k
 got_behind ks from i k h = got ks (from + i) k h ∙ sym (get_or-drop from ks i k)
@@ -75,17 +74,17 @@ pub plain_more : (ks : List KeptValue) (i : ℕ) (k : KeptValue) → slice_get k
 plain_more ks i k at one before = all_more IsPlain ks i k (slice_get_within ks i k at) (got ks i k at) one before
 
 -- how many lines stand before a section, behind one before it
-pub rows_both : (ks ls : List KeptValue) → row_sum (ks ++ ls) ≡ row_sum ks + row_sum ls
+pub rows_both : (ks ls : List KeptValue) → rows_kept (ks ++ ls) ≡ rows_kept ks + rows_kept ls
 rows_both [] ls = omega arith
 rows_both (k ∷ ks) ls = let e = rows_both ks ls in omega (arith, e)
 
-pub rows_until : (ks : List KeptValue) (from end : ℕ) → from ≤ end → end ≤ length ks → row_sum (take end ks) ≡ row_sum (take from ks) + row_sum (take (end - from) (drop from ks))
+pub rows_until : (ks : List KeptValue) (from end : ℕ) → from ≤ end → end ≤ length ks → rows_kept (take end ks) ≡ rows_kept (take from ks) + rows_kept (take (end - from) (drop from ks))
 rows_until ks from end l h =
     let parts : take end ks ≡ take from ks ++ take (end - from) (drop from ks) = same_lists _ _ (search (rules, places)) (λ n d o. grind (arith, places)) in
-    ap row_sum parts ∙ rows_both (take from ks) (take (end - from) (drop from ks))
+    ap rows_kept parts ∙ rows_both (take from ks) (take (end - from) (drop from ks))
 
-pub rows_more : (ks : List KeptValue) (i : ℕ) (k : KeptValue) (rows new : ℕ) → i < length ks → k ≡ get_or ks i k → rows ≡ row_sum (take i ks) → new ≡ rows + k.rows → new ≡ row_sum (take (i + 1) ks)
-rows_more ks i k rows new l e before is = omega (arith, before, is, ap row_sum (one_more ks i k l e), rows_both (take i ks) (k ∷ []))
+pub rows_more : (ks : List KeptValue) (i : ℕ) (k : KeptValue) (rows new : ℕ) → i < length ks → k ≡ get_or ks i k → rows ≡ rows_kept (take i ks) → new ≡ rows + k.rows → new ≡ rows_kept (take (i + 1) ks)
+rows_more ks i k rows new l e before is = omega (arith, before, is, ap rows_kept (one_more ks i k l e), rows_both (take i ks) (k ∷ []))
 
 -- parts of sections of one kind
 pub all_take : {X : Type 0} (P : X → Type 0) (xs : List X) (n : ℕ) → AllByRecursion P xs → AllByRecursion P (take n xs)

@@ -1,11 +1,10 @@
 -- What is found in sections does not rest on their comments; so a report that no comment silences is that of the sections without them.
-use Rattle.std.proofs.Common.{◌≡◌, ℕ, ◌+◌, ◌-◌, ◌≤◌, ◌==◌, Bool, true, false, List, [], ◌∷◌, ◌++◌, length, map, take, drop, Option, Some, None, refl, ap, sym, subst, ◌∙◌, arith}
+use Rattle.std.proofs.Common.{◌≡◌, ℕ, ◌+◌, ◌-◌, ◌≤◌, Bool, true, false, List, [], ◌∷◌, ◌++◌, length, map, take, drop, Option, Some, None, refl, ap, sym, subst, ◌∙◌}
 use Rattle.std.specs.Prelude.{◌||◌, is_some}
 use Rattle.std.specs.List.{AllByRecursion, splice, prefix_len}
 use Rattle.std.proofs.lemmas.List.{take-map, drop-map, map-append, length-map}
 use Rattle.yl_text.specs.Finding.{FindingValue}
 use Rattle.yl_text.specs.Lines.{RowValue}
-use Rattle.yl_text.specs.declared.finding.RuleId.{RuleId}
 use Rattle.yl_text.specs.declared.position.Pos.{Pos}
 use Rattle.yl_lexeme.specs.Lexeme.{PlacedCommentValue}
 use Rattle.yl_indentation.specs.declared.fact.Fact.{Fact}
@@ -18,10 +17,11 @@ use Rattle.yl_settings.specs.declared.options.RuleOptions.{RuleOptions}
 use Rattle.yl_report.specs.Directive.{is_silenced}
 use Rattle.yl_report.specs.Report.{ProblemValue, report_of}
 use Rattle.yl_sections.specs.Kept.{KeptValue, SectionFaultValue, Here, Behind}
+use Rattle.yl_rejudge.specs.Places.{rows_kept}
 use Rattle.yl_lint.specs.TextReport.{comments_in_sections, end_of_lines, facts_in_sections, fault_in_sections, fault_or_later, finding_of_fault, findings_in_lines, findings_in_section, findings_in_sections, found_of_kept, kept_of_text, moved, place_after, report_of_kept, shown, syntax_finding, unless_fault}
 use Rattle.yl_lint.specs.Unsilenced.{unsilenced_of_kept, unsilenced_report}
 use Rattle.yl_patch.specs.Patched.{is_upto, patched}
-use Rattle.yl_patch.specs.Plain.{IsPlain, row_sum}
+use Rattle.yl_patch.specs.Plain.{IsPlain}
 use Rattle.yl_patch.specs.Seen.{IsSeen, new_lines_of, sections_between}
 use Rattle.yl_patch.specs.Settled.{LeavesBelow, hides_below, measure_upto, settled, settled_below, settled_one}
 use Rattle.yl_patch.specs.There.{found_there, lines_there}
@@ -89,7 +89,7 @@ settled_bare h (k ∷ ks) = ap (λ (l : KeptValue). l ∷ settled_below (h || is
     one true = refl
     one false = refl
 
-rows_bare : (ks : List KeptValue) → row_sum (all_bare ks) ≡ row_sum ks
+rows_bare : (ks : List KeptValue) → rows_kept (all_bare ks) ≡ rows_kept ks
 rows_bare [] = refl
 rows_bare (k ∷ ks) = ap (λ (n : ℕ). k.rows + n) (rows_bare ks)
 
@@ -183,7 +183,7 @@ unsilenced_edited config rows ins kept new a b from end sound t h found seen ord
     ∙ ap (found_there o seen.ends (measured (settled (all_bare kept))) (measured (settled (take from (all_bare kept)))) qs) (sym (settled_bare h new))))) in
     report_edited config rows ins (all_bare kept) (all_bare new) a b from end t ordered within (subst (λ (n : ℕ). end ≤ n) (sym (length-map kept bare)) within') seen.inside h above [] [] refl refl
     (settled_plain false kept seen.plain) (settled_plain h new seen.new_plain) (below_bare h from end kept new seen.below)
-    (seen.first ∙ sym (ap row_sum (take-map bare from kept) ∙ rows_bare ks)) (seen.old_end ∙ sym (ap (λ (n : ℕ). t.first + n) (ap row_sum (between_bare from end kept) ∙ rows_bare ls)))
+    (seen.first ∙ sym (ap rows_kept (take-map bare from kept) ∙ rows_bare ks)) (seen.old_end ∙ sym (ap (λ (n : ℕ). t.first + n) (ap rows_kept (between_bare from end kept) ∙ rows_bare ls)))
     (seen.new_end ∙ sym (ap (λ (n : ℕ). t.first + n) (rows_bare new))) seen.ends seen.begins_text seen.ends_text seen.old_seam seen.new_seam seen.behind_seam
     (none_alike (settled_below h (sections_between from end (all_bare kept))) (settled_below h (all_bare new)) (ap (comments_in_sections 0) touched ∙ no_comments 0 (settled_below h ls)) (ap (comments_in_sections 0) (settled_bare h new) ∙ no_comments 0 (settled_below h new)))
     measure i j put old (old_is ∙ unsilenced_with config rows kept is) i_is j_is

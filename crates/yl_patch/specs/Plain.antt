@@ -1,9 +1,10 @@
 -- Meaning: sections whose part in a report is theirs alone: what is found in them, the text's fault too, and the comments that silence stand in their own lines.
-use Rattle.std.specs.Prelude.{◌≡◌, ◌<◌, ◌≤◌, ◌+◌, ℕ, true, length, take, drop, List, [], ◌∷◌, None}
+use Rattle.std.specs.Prelude.{◌≡◌, ◌<◌, ◌≤◌, ℕ, true, length, take, drop, List, [], None}
 use Rattle.std.specs.List.{AllByRecursion}
 use Rattle.yl_text.specs.Finding.{FindingValue}
 use Rattle.yl_indentation.specs.Measures.{measure_of}
 use Rattle.yl_sections.specs.Kept.{KeptValue}
+use Rattle.yl_rejudge.specs.Places.{rows_kept}
 use Rattle.yl_lint.specs.TextReport.{facts_in_sections}
 use Rattle.yl_patch.specs.declared.overview.Overview.{Overview}
 use Rattle.yl_patch.specs.declared.silencing.Silencing.{Silencing}
@@ -31,16 +32,11 @@ pub record IsSoundUpto (ks : List KeptValue) (n : ℕ) : Type 0 where
 abbrev pub IsSilent : KeptValue → Type 0
 IsSilent k = k.comments ≡ []
 
--- how many lines sections have
-abbrev pub row_sum : List KeptValue → ℕ
-row_sum [] = 0
-row_sum (k ∷ ks) = k.rows + row_sum ks
-
 -- the sections before one are silent, and have so many lines
 pub record IsStart (ks : List KeptValue) (from row : ℕ) : Type 0 where
   pub within : from ≤ length ks
   pub silent : AllByRecursion IsSilent (take from ks)
-  pub rows : row ≡ row_sum (take from ks)
+  pub rows : row ≡ rows_kept (take from ks)
 
 -- each section that is not silent is among those that it names
 pub record IsSilencingOf (ks : List KeptValue) (s : Silencing) : Type 0 where

@@ -7,9 +7,10 @@ use Rattle.yl_indentation.specs.Measures.{measure_of}
 use Rattle.yl_config.specs.declared.config.Config.{Config}
 use Rattle.yl_config.specs.Config.{options_of}
 use Rattle.yl_sections.specs.Kept.{KeptValue}
+use Rattle.yl_rejudge.specs.Places.{rows_kept}
 use Rattle.yl_lint.specs.TextReport.{facts_in_sections, moved}
 use Rattle.yl_patch.specs.Cut.{IsInside, is_filled}
-use Rattle.yl_patch.specs.Plain.{IsPlain, row_sum}
+use Rattle.yl_patch.specs.Plain.{IsPlain}
 use Rattle.yl_patch.specs.Settled.{IsHidden, LeavesBelow, measure_upto, settled, settled_below}
 use Rattle.yl_patch.specs.There.{found_there}
 use Rattle.yl_patch.specs.declared.touched.Ends.{Ends}
@@ -32,9 +33,9 @@ pub record IsSeen (config : Config) (rows ins : List RowValue) (kept new : List 
   pub below : LeavesBelow hidden (sections_between from end kept) new (drop end kept)
   pub measure : measure_upto (measure_of (facts_in_sections (settled (take from kept)))) (settled_below hidden (sections_between from end kept)) ≡ measure_upto (measure_of (facts_in_sections (settled (take from kept)))) (settled_below hidden new)
   pub inside : IsInside t a b (length ins) (length rows)
-  pub first : t.first ≡ row_sum (take from kept)
-  pub old_end : t.old_end ≡ t.first + row_sum (sections_between from end kept)
-  pub new_end : t.new_end ≡ t.first + row_sum new
+  pub first : t.first ≡ rows_kept (take from kept)
+  pub old_end : t.old_end ≡ t.first + rows_kept (sections_between from end kept)
+  pub new_end : t.new_end ≡ t.first + rows_kept new
   pub ends : Ends
   pub begins_text : ends.begins ≡ (t.first == 0)
   pub ends_text : ends.ends ≡ (t.old_end == length rows)

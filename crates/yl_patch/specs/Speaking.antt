@@ -4,8 +4,8 @@ use Rattle.std.specs.List.{AllByRecursion, filter, starts_with}
 use Rattle.yl_lexeme.specs.Lexeme.{PlacedCommentValue}
 use Rattle.yl_report.specs.Directive.{own_line}
 use Rattle.yl_sections.specs.Kept.{KeptValue}
+use Rattle.yl_rejudge.specs.Places.{rows_kept}
 use Rattle.yl_lint.specs.TextReport.{comments_in_sections}
-use Rattle.yl_patch.specs.Plain.{row_sum}
 use Rattle.yl_patch.specs.Settled.{settled_below}
 
 -- it may switch rules; one that begins so speaks of one line alone
@@ -22,8 +22,8 @@ SpeaksWithin rows c = may_switch c ≡ false → own_line c < rows
 
 -- the comments of these sections speak of no single line behind them, and those that may switch rules have the same texts in both
 pub record SpeakAlike (ls ns : List KeptValue) : Type 0 where
-  pub old : AllByRecursion (SpeaksWithin (row_sum ls)) (comments_in_sections 0 ls)
-  pub new : AllByRecursion (SpeaksWithin (row_sum ns)) (comments_in_sections 0 ns)
+  pub old : AllByRecursion (SpeaksWithin (rows_kept ls)) (comments_in_sections 0 ls)
+  pub new : AllByRecursion (SpeaksWithin (rows_kept ns)) (comments_in_sections 0 ns)
   pub switches : switch_texts (comments_in_sections 0 ls) ≡ switch_texts (comments_in_sections 0 ns)
 
 -- what is shown of these does, where a fault above hides them or not, and all comments of the latter are shown if it does not

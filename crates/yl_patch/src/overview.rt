@@ -3,8 +3,9 @@ ghost use Rattle.std.specs.Prelude.{◌≡◌, ◌≤◌, ◌-◌, true, false, 
 ghost use Rattle.std.specs.List.{AllByRecursion, splice};
 ghost use Rattle.yl_text.specs.Store.{IsRange};
 ghost use Rattle.yl_indentation.specs.Measures.{measure_of};
+ghost use Rattle.yl_rejudge.specs.Places.{rows_kept};
 ghost use Rattle.yl_lint.specs.TextReport.{facts_in_sections};
-ghost use Rattle.yl_patch.specs.Plain.{IsOverviewOf, IsPlain, IsSoundUpto, row_sum};
+ghost use Rattle.yl_patch.specs.Plain.{IsOverviewOf, IsPlain, IsSoundUpto};
 ghost use Rattle.yl_patch.specs.Settled.{LeavesBelow, hides_below, measure_upto, settled, settled_below};
 
 use crate::plain::{are_all_plain, are_plain};
@@ -243,7 +244,7 @@ pub fn overview_after<A: Allocator + Copy>(
     edit: &SectionEdit<'_, A>,
 ) -> Overview
     requires range { IsRange edit.now.from edit.now.end (length kept.now.items) }
-    requires row { edit.now.from_row ≡ row_sum (take edit.now.from kept.now.items) }
+    requires row { edit.now.from_row ≡ rows_kept (take edit.now.from kept.now.items) }
     requires overview { IsOverviewOf kept.now.items overview }
     ensures { IsOverviewOf (splice kept.now.items edit.now.from edit.now.end edit.now.kept.now) result }
 {

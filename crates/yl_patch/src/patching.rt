@@ -5,10 +5,11 @@ ghost use Rattle.yl_text.specs.Store.{AreLines, IsRange};
 ghost use Rattle.yl_config.specs.Config.{levels_of};
 ghost use Rattle.yl_report.specs.Report.{report_of};
 ghost use Rattle.yl_report.specs.Silence.{is_file_silenced_by, is_silenced_at};
+ghost use Rattle.yl_rejudge.specs.Places.{rows_kept};
 ghost use Rattle.yl_lint.specs.TextReport.{kept_of_text, report};
 ghost use Rattle.yl_lint.specs.Unsilenced.{unsilenced_report};
 ghost use Rattle.yl_patch.specs.Patched.{IsLow, is_upto, patched};
-ghost use Rattle.yl_patch.specs.Plain.{IsOverviewOf, row_sum};
+ghost use Rattle.yl_patch.specs.Plain.{IsOverviewOf};
 
 use crate::loud::is_loud;
 use crate::overview::{Overview, SectionEdit};
@@ -91,8 +92,8 @@ pub fn patched_report<S: LineStore>(
     requires kept { kept.now.items ≡ kept_of_text config.now (S.rows store.now) }
     requires overview { IsOverviewOf kept.now.items overview }
     requires kept_range { IsRange edit.now.from edit.now.end (length kept.now.items) }
-    requires from_row { edit.now.from_row ≡ row_sum (take edit.now.from kept.now.items) }
-    requires end_row { edit.now.end_row ≡ row_sum (take edit.now.end kept.now.items) }
+    requires from_row { edit.now.from_row ≡ rows_kept (take edit.now.from kept.now.items) }
+    requires end_row { edit.now.end_row ≡ rows_kept (take edit.now.end kept.now.items) }
     requires new { splice kept.now.items edit.now.from edit.now.end edit.now.kept.now ≡ kept_of_text config.now (splice (S.rows store.now) a b rows.now) }
     requires problems { problems.now ≡ report config.now (S.rows store.now) }
     ensures range { IfOk result (λ o. IfSome o (λ p. IsRange p.from p.end (length problems.now))) }
@@ -137,8 +138,8 @@ pub fn patched_unsilenced<S: LineStore>(
     requires kept { kept.now.items ≡ kept_of_text config.now (S.rows store.now) }
     requires overview { IsOverviewOf kept.now.items overview }
     requires kept_range { IsRange edit.now.from edit.now.end (length kept.now.items) }
-    requires from_row { edit.now.from_row ≡ row_sum (take edit.now.from kept.now.items) }
-    requires end_row { edit.now.end_row ≡ row_sum (take edit.now.end kept.now.items) }
+    requires from_row { edit.now.from_row ≡ rows_kept (take edit.now.from kept.now.items) }
+    requires end_row { edit.now.end_row ≡ rows_kept (take edit.now.end kept.now.items) }
     requires new { splice kept.now.items edit.now.from edit.now.end edit.now.kept.now ≡ kept_of_text config.now (splice (S.rows store.now) a b rows.now) }
     requires problems { problems.now ≡ unsilenced_report config.now (S.rows store.now) }
     ensures range { IfOk result (λ o. IfSome o (λ p. IsRange p.from p.end (length problems.now))) }

@@ -2,9 +2,10 @@
 ghost use Rattle.std.specs.Prelude.{◌≡◌, ◌<◌, ◌+◌, ◌^◌, true, false, length, take, slice_get, IfOk, IfSome};
 ghost use Rattle.std.specs.List.{splice};
 ghost use Rattle.yl_text.specs.Store.{AreLines, IsRange};
+ghost use Rattle.yl_rejudge.specs.Places.{rows_kept};
 ghost use Rattle.yl_lint.specs.TextReport.{kept_of_text};
 ghost use Rattle.yl_patch.specs.Cut.{is_filled};
-ghost use Rattle.yl_patch.specs.Plain.{IsOverviewOf, row_sum};
+ghost use Rattle.yl_patch.specs.Plain.{IsOverviewOf};
 ghost use Rattle.yl_patch.specs.Seen.{IsSeen};
 
 use crate::overview::{Overview, SectionEdit, is_alike, measure_above};
@@ -62,8 +63,8 @@ pub fn see_edit<S: LineStore>(
     requires few { length (S.rows store.now) + length rows.now < 2 ^ 64 }
     requires overview { IsOverviewOf kept.now.items overview }
     requires kept_range { IsRange edit.now.from edit.now.end (length kept.now.items) }
-    requires from_row { edit.now.from_row ≡ row_sum (take edit.now.from kept.now.items) }
-    requires end_row { edit.now.end_row ≡ row_sum (take edit.now.end kept.now.items) }
+    requires from_row { edit.now.from_row ≡ rows_kept (take edit.now.from kept.now.items) }
+    requires end_row { edit.now.end_row ≡ rows_kept (take edit.now.end kept.now.items) }
     ensures known { IfOk result (λ o. IfSome o (λ _. overview.is_plain ≡ true)) }
     ensures seen { IfOk result (λ o. IfSome o (λ s. IsSeen config.now (S.rows store.now) rows.now kept.now.items edit.now.kept.now a b edit.now.from edit.now.end overview.sound s.touched s.hidden s.found.items)) }
 {

@@ -6,8 +6,9 @@ ghost use Rattle.yl_lexeme.specs.PlacedComments.{placed_comment_value};
 ghost use Rattle.yl_report.specs.Directive.{is_silenced};
 ghost use Rattle.yl_report.specs.Silence.{is_file_silenced_by, is_silenced_at};
 ghost use Rattle.yl_sections.specs.Kept.{KeptValue};
+ghost use Rattle.yl_rejudge.specs.Places.{rows_kept};
 ghost use Rattle.yl_lint.specs.TextReport.{comments_in_sections};
-ghost use Rattle.yl_patch.specs.Plain.{IsSilencingOf, IsSilent, IsStart, row_sum};
+ghost use Rattle.yl_patch.specs.Plain.{IsSilencingOf, IsSilent, IsStart};
 
 use crate::comments::{comments_between, with_comments_of};
 use crate::touched::count_rows;
@@ -88,7 +89,7 @@ fn any_of(count: usize) -> Silencing
 /// The same once one section more stands behind so many, which have so many lines.
 fn with_one<A: Allocator>(silencing: Silencing, count: usize, row: u32, one: &Kept<A>) -> Silencing
     requires { count + 1 < 2 ^ 64 }
-    ensures { (ks : List KeptValue) → length ks ≡ count → row ≡ row_sum ks → IsSilencingOf ks silencing → IsSilencingOf (ks ++ one.now ∷ []) result }
+    ensures { (ks : List KeptValue) → length ks ≡ count → row ≡ rows_kept ks → IsSilencingOf ks silencing → IsSilencingOf (ks ++ one.now ∷ []) result }
 {
     if is_silent(one) {
         return silencing;
@@ -148,7 +149,7 @@ pub fn count_rows_between<A: Allocator + Copy>(
     end: usize,
 ) -> Option<u32>
     requires { IsRange from end (length kept.now.items) }
-    ensures { IfSome result (λ n. n ≡ row_sum (take (end - from) (drop from kept.now.items))) }
+    ensures { IfSome result (λ n. n ≡ rows_kept (take (end - from) (drop from kept.now.items))) }
 {
     let mut sum: u32 = 0;
     for i in 0..end - from {
@@ -188,7 +189,7 @@ fn start_here<A: Allocator + Copy>(
     new: &[Kept<A>],
 ) -> (usize, u32)
     requires range { IsRange from end (length kept.now.items) }
-    requires row { from_row ≡ row_sum (take from kept.now.items) }
+    requires row { from_row ≡ rows_kept (take from kept.now.items) }
     requires silent { AllByRecursion IsSilent (take from kept.now.items) }
     ensures { IsStart (splice kept.now.items from end new.now) result.0 result.1 }
 {
@@ -209,7 +210,7 @@ fn start_after<A: Allocator + Copy>(
     new: &[Kept<A>],
 ) -> (usize, u32)
     requires range { IsRange from end (length kept.now.items) }
-    requires row { from_row ≡ row_sum (take from kept.now.items) }
+    requires row { from_row ≡ rows_kept (take from kept.now.items) }
     requires silencing { IsSilencingOf kept.now.items silencing }
     ensures { IsStart (splice kept.now.items from end new.now) result.0 result.1 }
 {
@@ -260,7 +261,7 @@ pub fn silencing_after<A: Allocator + Copy>(
     new: &[Kept<A>],
 ) -> Option<Silencing>
     requires range { IsRange from end (length kept.now.items) }
-    requires row { from_row ≡ row_sum (take from kept.now.items) }
+    requires row { from_row ≡ rows_kept (take from kept.now.items) }
     requires silencing { IsSilencingOf kept.now.items silencing }
     ensures { IfSome result (λ s. IsSilencingOf (splice kept.now.items from end new.now) s) }
 {

@@ -1,7 +1,7 @@
 //! Where in a text the sections stand that an edit touches.
 ghost use Rattle.std.specs.Prelude.{◌≡◌, ◌==◌, ◌≤◌, ◌+◌, ◌<◌, ◌^◌, true, slice_get, IfSome};
+ghost use Rattle.yl_rejudge.specs.Places.{rows_kept};
 ghost use Rattle.yl_patch.specs.Cut.{IsInside, is_filled};
-ghost use Rattle.yl_patch.specs.Plain.{row_sum};
 
 use std::alloc::Allocator;
 use yl_sections::Kept;
@@ -24,7 +24,7 @@ pub struct Ends {
 
 /// How many lines these sections have.
 pub fn count_rows<A: Allocator>(kept: &[Kept<A>]) -> Option<u32>
-    ensures { IfSome result (λ n. n ≡ row_sum kept.now) }
+    ensures { IfSome result (λ n. n ≡ rows_kept kept.now) }
 {
     let mut sum: u32 = 0;
     for one in kept {
@@ -49,7 +49,7 @@ pub fn find_touched<A: Allocator>(
 ) -> Option<Touched>
     ensures first { IfSome result (λ t. t.first ≡ from_row) }
     ensures old_end { IfSome result (λ t. t.old_end ≡ end_row) }
-    ensures new_end { IfSome result (λ t. t.new_end ≡ t.first + row_sum new.now) }
+    ensures new_end { IfSome result (λ t. t.new_end ≡ t.first + rows_kept new.now) }
 {
     let first = narrow(from_row)?;
     let old_end = narrow(end_row)?;

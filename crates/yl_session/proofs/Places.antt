@@ -1,12 +1,13 @@
 -- Places among sections, and where they are once some sections become others.
-use Rattle.std.proofs.Common.{◌≡◌, ℕ, zero, suc, ◌+◌, ◌-◌, ◌<◌, ◌≤◌, ◌⊎◌, inl, inr, List, [], ◌∷◌, ◌++◌, length, take, drop, get_or, Some, refl, ap, sym, subst, ◌∙◌, arith, rules, add-one, length-append}
+use Rattle.std.proofs.Common.{◌≡◌, ℕ, zero, suc, ◌+◌, ◌-◌, ◌<◌, ◌≤◌, ◌⊎◌, inl, inr, List, [], ◌∷◌, ◌++◌, length, take, drop, get_or, Some, refl, ap, sym, subst, ◌∙◌, arith, rules}
 use Rattle.std.specs.List.{AllByRecursion, slice_get, slice_set, splice}
-use Rattle.std.proofs.lemmas.List.{same_lists, places, take_more, take-append-drop}
-use Rattle.std.proofs.lemmas.Option.{get_or_from_slice_get, slice_get_within}
+use Rattle.std.proofs.lemmas.List.{same_lists, places}
+use Rattle.std.proofs.lemmas.Option.{slice_get_within}
 use Rattle.yl_sections.specs.Kept.{KeptValue}
 use Rattle.yl_rejudge.specs.declared.places.Place.{Place}
 use Rattle.yl_rejudge.specs.Places.{IsAt, rows_kept}
-use Rattle.yl_patch.specs.Plain.{row_sum}
+use Rattle.yl_rejudge.proofs.KeptRows.{got, rows_more}
+use Rattle.yl_patch.proofs.Walks.{rows_both, rows_until}
 
 -- ---- what holds of each item
 
@@ -36,32 +37,9 @@ at_head P (y ∷ xs) (suc i) x l e h = at_head P xs i x (omega (arith, l)) e h
 
 -- ---- rows of sections
 
-rows_both : (ks ls : List KeptValue) → rows_kept (ks ++ ls) ≡ rows_kept ks + rows_kept ls
-rows_both [] ls = omega arith
-rows_both (k ∷ ks) ls = let e = rows_both ks ls in omega (arith, e)
-
-pub same_sum : (ks : List KeptValue) → rows_kept ks ≡ row_sum ks
-same_sum [] = refl
-same_sum (k ∷ ks) = ap (λ n. k.rows + n) (same_sum ks)
-
--- no more rows than all sections have
-pub rows_within : (ks : List KeptValue) (i : ℕ) → rows_kept (take i ks) ≤ rows_kept ks
-rows_within ks i =
-    let e : rows_kept (take i ks ++ drop i ks) ≡ rows_kept ks = ap rows_kept (take-append-drop i ks) in
-    omega (arith, e, rows_both (take i ks) (drop i ks))
-
 -- one section on
 pub rows_on : (ks : List KeptValue) (i : ℕ) (k : KeptValue) → slice_get ks i ≡ Some k → rows_kept (take (i + 1) ks) ≡ rows_kept (take i ks) + k.rows
-rows_on ks i k h =
-    let more : take (i + 1) ks ≡ take i ks ++ k ∷ [] = take_more ks i k (slice_get_within ks i k h) ∙ ap (λ (x : KeptValue). take i ks ++ x ∷ []) (get_or_from_slice_get ks i k k h) in
-    let sum : rows_kept (take (i + 1) ks) ≡ rows_kept (take i ks) + rows_kept (k ∷ []) = ap rows_kept more ∙ rows_both (take i ks) (k ∷ []) in
-    omega (arith, sum)
-
--- the rows up to a section, behind one before it
-pub rows_until : (ks : List KeptValue) (i j : ℕ) → i ≤ j → j ≤ length ks → rows_kept (take j ks) ≡ rows_kept (take i ks) + rows_kept (take (j - i) (drop i ks))
-rows_until ks i j l h =
-    let parts : take j ks ≡ take i ks ++ take (j - i) (drop i ks) = same_lists _ _ (search (rules, places)) (λ n d o. grind (arith, places)) in
-    ap rows_kept parts ∙ rows_both (take i ks) (take (j - i) (drop i ks))
+rows_on ks i k h = rows_more ks i k (slice_get_within ks i k h) (got ks i k h)
 
 -- what is put in has no more rows than all have then
 pub rows_put : (ks ns : List KeptValue) (i j : ℕ) → rows_kept ns ≤ rows_kept (splice ks i j ns)

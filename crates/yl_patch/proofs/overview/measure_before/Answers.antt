@@ -1,7 +1,8 @@
 use Rattle.std.proofs.Common.{ap, arith, ◌∙◌}
 use Rattle.yl_indentation.specs.Measures.{and_later}
 use Rattle.yl_patch.proofs.BeforeFault.{measure_found}
-use Rattle.yl_patch.proofs.Walks.{got, measure_last}
+use Rattle.yl_rejudge.proofs.KeptRows.{got}
+use Rattle.yl_patch.proofs.Walks.{measure_last}
 use Rattle.yl_patch.proofs.overview.measure_before.Goals as goal
 
 pub returns-then-is_same_measure : goal.returns-then-is_same_measure

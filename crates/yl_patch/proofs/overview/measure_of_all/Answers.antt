@@ -3,7 +3,7 @@ use Rattle.yl_indentation.specs.Measures.{and_later, measure_of}
 use Rattle.yl_lint.specs.TextReport.{facts_in_sections}
 use Rattle.yl_patch.specs.Settled.{settled}
 use Rattle.yl_patch.proofs.Settled.{measured_none, settled_last, settled_next}
-use Rattle.yl_patch.proofs.Walks.{got}
+use Rattle.yl_rejudge.proofs.KeptRows.{got}
 use Rattle.yl_patch.proofs.overview.measure_of_all.Goals as goal
 
 pub returns-then-has_fault : goal.returns-then-has_fault

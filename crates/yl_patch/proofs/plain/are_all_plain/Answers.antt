@@ -4,7 +4,7 @@ use Rattle.yl_sections.specs.Kept.{KeptValue}
 use Rattle.yl_patch.specs.Plain.{IsPlain}
 use Rattle.yl_patch.specs.Settled.{settled}
 use Rattle.yl_patch.proofs.Settled.{none_left, plain_last, plain_next}
-use Rattle.yl_patch.proofs.Walks.{got}
+use Rattle.yl_rejudge.proofs.KeptRows.{got}
 use Rattle.yl_patch.proofs.plain.are_all_plain.Goals as goal
 
 pub returns-then-has_fault : goal.returns-then-has_fault

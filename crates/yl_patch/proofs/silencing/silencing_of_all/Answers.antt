@@ -2,7 +2,8 @@ use Rattle.std.proofs.Common.{List, length, take, sym, subst, arith, ◌<◌}
 use Rattle.std.proofs.lemmas.List.{length-take-le}
 use Rattle.yl_sections.specs.Kept.{KeptValue}
 use Rattle.yl_patch.specs.Plain.{IsSilencingOf}
-use Rattle.yl_patch.proofs.Walks.{got, one_more, rows_more}
+use Rattle.yl_rejudge.proofs.KeptRows.{got}
+use Rattle.yl_patch.proofs.Walks.{one_more, rows_more}
 use Rattle.yl_patch.proofs.silencing.silencing_of_all.Goals as goal
 
 pub loop-i-preserved : goal.loop-i-preserved

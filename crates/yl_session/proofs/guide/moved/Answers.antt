@@ -1,6 +1,7 @@
-use Rattle.std.proofs.Common.{◌≡◌, ◌+◌, ◌-◌, ◌≤◌, length, take, arith}
-use Rattle.yl_rejudge.specs.Places.{rows_kept}
-use Rattle.yl_session.proofs.Places.{moves_at, rows_until, rows_within, stays_at}
+use Rattle.std.proofs.Common.{◌+◌, ◌-◌, ◌≤◌, arith}
+use Rattle.yl_rejudge.proofs.KeptRows.{rows_front}
+use Rattle.yl_patch.proofs.Walks.{rows_until}
+use Rattle.yl_session.proofs.Places.{moves_at}
 use Rattle.yl_session.proofs.guide.moved.Goals as goal
 
 pub overflow_sub-result-2 : goal.overflow_sub-result-2
@@ -11,11 +12,11 @@ overflow_sub-result-2 g c =
 
 pub overflow_add-result-3 : goal.overflow_add-result-3
 overflow_add-result-3 g c =
-    omega (arith, rows_within c.args.kept.now.items c.args.place.section, rows_within c.args.kept.now.items c.args.new.now.from, c.requires.at.row, c.requires.from_row, c.requires.few_rows.0)
+    omega (arith, rows_front c.args.kept.now.items c.args.place.section, rows_front c.args.kept.now.items c.args.new.now.from, c.requires.at.row, c.requires.from_row, c.requires.few_rows.0)
 
 pub overflow_add-result-4 : goal.overflow_add-result-4
 overflow_add-result-4 g c =
-    omega (arith, rows_within c.args.kept.now.items c.args.place.section, rows_within c.args.kept.now.items c.args.new.now.from, c.requires.at.row, c.requires.from_row, c.requires.few_rows.0, c.requires.few_rows.1)
+    omega (arith, rows_front c.args.kept.now.items c.args.place.section, rows_front c.args.kept.now.items c.args.new.now.from, c.requires.at.row, c.requires.from_row, c.requires.few_rows.0, c.requires.few_rows.1)
 
 pub returns : goal.returns
 returns g c =

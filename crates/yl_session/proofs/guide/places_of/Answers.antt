@@ -1,12 +1,13 @@
-use Rattle.std.proofs.Common.{◌+◌, ◌≤◌, length, arith}
-use Rattle.yl_rejudge.specs.Places.{IsAt, rows_kept}
-use Rattle.yl_session.proofs.Places.{all_either, rows_on, rows_within}
+use Rattle.std.proofs.Common.{◌+◌, arith}
+use Rattle.yl_rejudge.specs.Places.{IsAt}
+use Rattle.yl_rejudge.proofs.KeptRows.{rows_front}
+use Rattle.yl_session.proofs.Places.{all_either, rows_on}
 use Rattle.yl_session.proofs.guide.places_of.Goals as goal
 
 pub overflow_add-row : goal.overflow_add-row
 overflow_add-row g c =
     let ks = c.args.kept.now.items in
-    omega (arith, c.requires, c.rows.ensures, c.loop-section.invariant.row, rows_on ks c.loop-section.section c.get.result.now c.get.ensures, rows_within ks (c.loop-section.section + 1))
+    omega (arith, c.requires, c.rows.ensures, c.loop-section.invariant.row, rows_on ks c.loop-section.section c.get.result.now c.get.ensures, rows_front ks (c.loop-section.section + 1))
 
 pub loop-section-preserved : goal.loop-section-preserved
 loop-section-preserved g c =

@@ -1,4 +1,4 @@
-use Rattle.std.proofs.Common.{◌≡◌, List, length, take, arith, ap, sym, subst, ◌∙◌}
+use Rattle.std.proofs.Common.{List, length, arith, ap, sym, subst, ◌∙◌}
 use Rattle.std.specs.List.{splice}
 use Rattle.yl_sections.specs.Kept.{KeptValue}
 use Rattle.yl_patch.specs.Plain.{IsOverviewOf}
@@ -6,21 +6,11 @@ use Rattle.yl_patch.specs.declared.overview.Overview.{Overview}
 use Rattle.yl_patch.proofs.Given.{in_some}
 use Rattle.yl_session.proofs.Bounds.{few_lines, few_new}
 use Rattle.yl_session.proofs.Changed.{both, there_so}
-use Rattle.yl_session.proofs.Places.{same_sum}
 use Rattle.yl_session.proofs.renewing.renewal_of.Goals as goal
 
 pub patched_report-requires-clause-few : goal.patched_report-requires-clause-few
 patched_report-requires-clause-few g c =
     omega (arith, few_lines (g.S.Lines.rows c.args.store.now) c.requires.old, few_new (g.S.Lines.rows c.args.store.now) c.args.rows.now c.args.a c.args.b c.requires.lines)
-
-pub patched_report-requires-clause-from_row : goal.patched_report-requires-clause-from_row
-patched_report-requires-clause-from_row g c = c.requires.from_row ∙ same_sum (take c.args.new.now.from c.args.known.now.kept.now.items)
-
-pub overview_after-after-requires-clause-row : goal.overview_after-after-requires-clause-row
-overview_after-after-requires-clause-row g c = c.requires.from_row ∙ same_sum (take c.args.new.now.from c.args.known.now.kept.now.items)
-
-pub patched_report-requires-clause-end_row : goal.patched_report-requires-clause-end_row
-patched_report-requires-clause-end_row g c = c.requires.end_row ∙ same_sum (take c.args.new.now.end c.args.known.now.kept.now.items)
 
 pub new-sections-requires-clause-few : goal.new-sections-requires-clause-few
 new-sections-requires-clause-few g c = omega (arith, c.requires.few, ap (λ (ks : List KeptValue). length ks) c.as_slice-judged.ensures.value)
