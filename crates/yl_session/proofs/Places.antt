@@ -51,14 +51,6 @@ module _ (ks ns : List KeptValue) (i j : ℕ) (ordered : i ≤ j) (within : j �
   put_length : length (splice ks i j ns) + j ≡ length ks + i + length ns
   put_length = grind (arith, places)
 
-  -- a place before the sections that change stays
-  pub stays_at : (p : Place) → p.section ≤ i → IsAt ks p → IsAt (splice ks i j ns) p
-  stays_at p l h =
-      let front : take p.section (splice ks i j ns) ≡ take p.section ks = same_lists _ _ (search (rules, places)) (λ n d o. grind (arith, places)) in record {
-        section = omega (arith, put_length, l);
-        row = h.row ∙ ap rows_kept (sym front);
-      }
-
   -- a place behind them moves
   pub moves_at : (s row new_s new_row : ℕ) → j ≤ s → s ≤ length ks → row ≡ rows_kept (take s ks) → new_s + j ≡ s + i + length ns
       → new_row + rows_kept (take j ks) ≡ row + rows_kept (take i ks) + rows_kept ns → IsAt (splice ks i j ns) (record { section = new_s; row = new_row })
