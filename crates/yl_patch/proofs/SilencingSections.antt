@@ -109,6 +109,11 @@ pub end_moved : (ks ns : List KeptValue) (a b end last at : ℕ) → a ≤ b →
 end_moved ks ns a b end last at l h m o silent e =
     subst (λ (xs : List KeptValue). Silent xs) (sym (spliced_back ks ns a b last at l o h e)) (drop_more ks end last m silent)
 
+pub end_within : (ks ns : List KeptValue) (a b end r at : ℕ) → a ≤ b → b ≤ length ks → end ≤ b → r ≤ length ns → Silent (drop end ks) → Silent (drop r ns) → at ≡ a + r → Silent (drop at (splice ks a b ns))
+end_within ks ns a b end r at l h m o silent silentₙ e =
+    let same : drop at (splice ks a b ns) ≡ drop r ns ++ drop b ks = same_lists _ _ (search (rules, places)) (λ k d w. grind (arith, places)) in
+    subst (λ (xs : List KeptValue). Silent xs) (sym same) (all_both IsSilent (drop r ns) (drop b ks) silentₙ (drop_more ks end b m silent))
+
 -- ---- what the comments before one say
 
 -- one section more, of those before an end

@@ -229,6 +229,18 @@ fn start_after<A: Allocator + Copy>(
     }
 }
 
+/// From which of these sections on none may silence a rule.
+fn silent_from<A: Allocator>(kept: &[Kept<A>]) -> usize
+    ensures within { result ≤ length kept.now }
+    ensures silent { AllByRecursion IsSilent (drop result kept.now) }
+{
+    let mut end = kept.len();
+    while end > 0 && is_silent(&kept[end - 1]) {
+        end -= 1;
+    }
+    end
+}
+
 /// From which section on none may silence a rule, once these are kept in place of those from one on, before `end`.
 fn end_after<A: Allocator + Copy>(
     silencing: Silencing,
@@ -245,7 +257,7 @@ fn end_after<A: Allocator + Copy>(
         return Some(silencing.end);
     }
     if silencing.end <= end {
-        return from.checked_add(new.len());
+        return from.checked_add(silent_from(new));
     }
     (silencing.end - (end - from)).checked_add(new.len())
 }
