@@ -28,8 +28,8 @@ pub struct Overview {
     pub silencing: Silencing,
 }
 
-/// What is kept of the sections from one on, before `end`, both counted from 0, becomes this. They begin with the line `from_row`, and
-/// those behind them with `end_row`.
+/// An edit of sections: what is kept of those from one on, before `end`, becomes this. The first of them begins with the line `from_row`,
+/// the first behind them with `end_row`. Sections and lines are counted from 0.
 #[derive(Drop)]
 pub struct SectionEdit<'a, A: Allocator> {
     pub from: usize,
@@ -237,7 +237,7 @@ pub fn is_alike<A: Allocator + Copy>(
     are_shown_alike(kept, from, end, above, new)
 }
 
-/// The overview once some sections become others. It looks at these alone, and says that sections are plain only where they were.
+/// The overview once the sections are edited. It looks at those of the edit alone, and says that sections are plain only where they were.
 pub fn overview_after<A: Allocator + Copy>(
     overview: Overview,
     kept: &Chunks<Kept<A>, A>,

@@ -74,7 +74,7 @@ fn patch_of<A: Allocator + Copy>(
 }
 
 /// What the edit that puts these rows in place of the lines a to b does to the report, where it is seen that a patch does; none where it is
-/// not. `kept` is what was kept of the sections, of which the edit changes some. The only error is out of memory.
+/// not. `kept` is what was kept of the sections, and `edit` is what becomes of it. The only error is out of memory.
 pub fn patched_report<S: LineStore>(
     alloc: S::Alloc,
     config: &Config,

@@ -47,7 +47,7 @@ fn is_cut<L: Lines, M: Lines>(old: &L, new: &M, touched: Touched, ends: Ends) ->
 }
 
 /// What is seen of the edit that puts these rows in place of the lines a to b, whatever comments say; none where it does not show that what
-/// is found elsewhere stays. `kept` is what was kept of the sections, of which the edit changes some. The only error is out of memory.
+/// is found elsewhere stays. `kept` is what was kept of the sections, and `edit` is what becomes of it. The only error is out of memory.
 pub fn see_edit<S: LineStore>(
     alloc: S::Alloc,
     config: &Config,
