@@ -138,6 +138,10 @@ kept_of_text config rows = map (kept_of_section config) (sections (records_of ro
 abbrev pub document_total : List RowValue → ℕ
 document_total rows = documents_in (sections (records_of rows))
 
+-- the report of these lines, if this is kept of their sections
+abbrev pub report_by : Config → List RowValue → List KeptValue → List ProblemValue
+report_by config rows ks = report_of_kept config (findings_in_lines (options_of config) rows) (first_text rows) (end_of_lines rows) ks
+
 -- the report of the lines of a text under a configuration
 unfoldable pub report : Config → List RowValue → List ProblemValue
-report config rows = report_of_kept config (findings_in_lines (options_of config) rows) (first_text rows) (end_of_lines rows) (kept_of_text config rows)
+report config rows = report_by config rows (kept_of_text config rows)

@@ -13,7 +13,7 @@ pub fn one_report()
     one_kept();
 }
 
-/// A law: the report of a text is what its comments leave of the one that none silences.
+/// A law: whatever is kept of the sections of a text, the report is what the comments leave of the one that none silences.
 pub fn heard_of_text()
     ensures { IsHeardOfText }
 {

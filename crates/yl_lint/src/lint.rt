@@ -4,8 +4,8 @@ ghost use Rattle.std.specs.Str.{chars};
 ghost use Rattle.yl_text.specs.Lines.{lines_of};
 ghost use Rattle.yl_text.specs.Store.{AreLines};
 ghost use Rattle.yl_lint.specs.Left.{kept_left, lines_left};
-ghost use Rattle.yl_lint.specs.TextReport.{document_total, kept_of_text, report, report_of_kept};
-ghost use Rattle.yl_lint.specs.Unsilenced.{unsilenced_report};
+ghost use Rattle.yl_lint.specs.TextReport.{document_total, report, report_by, report_of_kept};
+ghost use Rattle.yl_lint.specs.Unsilenced.{unsilenced_by};
 
 use crate::assembling::{report_of_kept, unsilenced_of_kept};
 use crate::kept::{SectionReader, kept_of_lines, lent};
@@ -17,8 +17,7 @@ use yl_report::Problem;
 use yl_sections::Kept;
 use yl_text::{Break, Lines, MAX_BYTES, cut_line};
 
-/// The report of the lines of a text under a configuration, in order, where this is kept of its sections, in order. The only error is out
-/// of memory.
+/// The report of these lines under a configuration, in order, if this is kept of their sections, in order. The only error is out of memory.
 pub fn report_with_kept<L: Lines>(
     alloc: L::Alloc,
     config: &Config,
@@ -26,8 +25,7 @@ pub fn report_with_kept<L: Lines>(
     kept: &[&Kept<L::Alloc>],
 ) -> Result<Vec<Problem<L::Alloc>, L::Alloc>, AllocError>
     requires lines { AreLines (L.rows lines.now) }
-    requires kept { map (λ k. k.now) kept.now ≡ kept_of_text config.now (L.rows lines.now) }
-    ensures { IfOk result (λ problems. problems.items ≡ report config.now (L.rows lines.now)) }
+    ensures { IfOk result (λ problems. problems.items ≡ report_by config.now (L.rows lines.now) (map (λ k. k.now) kept.now)) }
 {
     let found = find_in_lines(alloc, config, lines)?;
     report_of_kept(alloc, config, found, first_text(lines), end_of(lines), kept)
@@ -41,8 +39,7 @@ pub fn unsilenced_with_kept<L: Lines>(
     kept: &[&Kept<L::Alloc>],
 ) -> Result<Vec<Problem<L::Alloc>, L::Alloc>, AllocError>
     requires lines { AreLines (L.rows lines.now) }
-    requires kept { map (λ k. k.now) kept.now ≡ kept_of_text config.now (L.rows lines.now) }
-    ensures { IfOk result (λ problems. problems.items ≡ unsilenced_report config.now (L.rows lines.now)) }
+    ensures { IfOk result (λ problems. problems.items ≡ unsilenced_by config.now (L.rows lines.now) (map (λ k. k.now) kept.now)) }
 {
     let found = find_in_lines(alloc, config, lines)?;
     unsilenced_of_kept(alloc, config, found, end_of(lines), kept)

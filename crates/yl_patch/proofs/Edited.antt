@@ -18,7 +18,7 @@ use Rattle.yl_report.specs.Directive.{disables_file, is_silenced}
 use Rattle.yl_report.specs.Report.{ProblemValue, report_of}
 use Rattle.yl_sections.specs.Kept.{KeptValue, SectionFaultValue, Here, Behind}
 use Rattle.yl_rejudge.specs.Places.{rows_kept}
-use Rattle.yl_lint.specs.TextReport.{comments_in_sections, end_of_lines, facts_in_sections, fault_in_sections, fault_or_later, findings_in_lines, findings_in_section, findings_in_sections, first_text, kept_of_text, moved, moved_comment, report, report_of_kept, shown, syntax_finding, unless_fault}
+use Rattle.yl_lint.specs.TextReport.{comments_in_sections, end_of_lines, facts_in_sections, fault_in_sections, fault_or_later, findings_in_lines, findings_in_section, findings_in_sections, first_text, moved, moved_comment, report_by, report_of_kept, shown, syntax_finding, unless_fault}
 use Rattle.yl_patch.specs.Cut.{IsInside, is_filled}
 use Rattle.yl_patch.specs.Patched.{is_upto, patched}
 use Rattle.yl_patch.specs.Plain.{IsPlain}
@@ -170,15 +170,12 @@ module _ (config : Config) (rows ins : List RowValue) (kept new : List KeptValue
 -- ---- an edit of a text whose report is this
 
 pub report_as_shown : (config : Config) (rows ins : List RowValue) (kept new : List KeptValue) (a b from end sound : ℕ) (t : Touched) (h : Bool) (found : List FindingValue)
-    → IsSeen config rows ins kept new a b from end sound t h found → a ≤ b → from ≤ end → end ≤ length kept → kept ≡ kept_of_text config rows → splice kept from end new ≡ kept_of_text config (splice rows a b ins)
+    → IsSeen config rows ins kept new a b from end sound t h found → a ≤ b → from ≤ end → end ≤ length kept
     → disables_file (first_text rows) ≡ false → disables_file (first_text (splice rows a b ins)) ≡ false → SpeakAlike (settled_below h (sections_between from end kept)) (settled_below h new)
-    → (i j : ℕ) (put old : List ProblemValue) → old ≡ report config rows → i ≡ prefix_len (is_upto t.first) old → j ≡ prefix_len (is_upto t.old_end) old
+    → (i j : ℕ) (put old : List ProblemValue) → old ≡ report_by config rows kept → i ≡ prefix_len (is_upto t.first) old → j ≡ prefix_len (is_upto t.old_end) old
     → put ≡ arranged (levels_of config) (is_silenced (comments_in_sections 0 (settled (take from kept) ++ settled_below h new))) found
-    → patched i j put t.old_end t.new_end old ≡ report config (splice rows a b ins)
-unfolding report
-report_as_shown config rows ins kept new a b from end sound t h found seen ordered within within' is is' loud loud' alike i j put old old_is i_is j_is put_is =
+    → patched i j put t.old_end t.new_end old ≡ report_by config (splice rows a b ins) (splice kept from end new)
+report_as_shown config rows ins kept new a b from end sound t h found seen ordered within within' loud loud' alike i j put old old_is i_is j_is put_is =
     report_edited config rows ins kept new a b from end t ordered within within' seen.inside h seen.hides.above (first_text rows) (first_text (splice rows a b ins)) loud loud' seen.plain seen.new_plain seen.below
-    seen.first seen.old_end seen.new_end seen.ends seen.begins_text seen.ends_text seen.old_seam seen.new_seam seen.behind_seam alike seen.measure i j put old
-    (old_is ∙ ap (report_with config (first_text rows) rows) (sym is)) i_is j_is
+    seen.first seen.old_end seen.new_end seen.ends seen.begins_text seen.ends_text seen.old_seam seen.new_seam seen.behind_seam alike seen.measure i j put old old_is i_is j_is
     (put_is ∙ ap (arranged (levels_of config) (is_silenced (comments_in_sections 0 (settled (take from kept) ++ settled_below h new)))) seen.there)
-    ∙ ap (report_with config (first_text (splice rows a b ins)) (splice rows a b ins)) is'

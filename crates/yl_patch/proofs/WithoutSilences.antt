@@ -18,8 +18,8 @@ use Rattle.yl_report.specs.Directive.{is_silenced}
 use Rattle.yl_report.specs.Report.{ProblemValue, report_of}
 use Rattle.yl_sections.specs.Kept.{KeptValue, SectionFaultValue, Here, Behind}
 use Rattle.yl_rejudge.specs.Places.{rows_kept}
-use Rattle.yl_lint.specs.TextReport.{comments_in_sections, end_of_lines, facts_in_sections, fault_in_sections, fault_or_later, finding_of_fault, findings_in_lines, findings_in_section, findings_in_sections, found_of_kept, kept_of_text, moved, place_after, report_of_kept, shown, syntax_finding, unless_fault}
-use Rattle.yl_lint.specs.Unsilenced.{unsilenced_of_kept, unsilenced_report}
+use Rattle.yl_lint.specs.TextReport.{comments_in_sections, end_of_lines, facts_in_sections, fault_in_sections, fault_or_later, finding_of_fault, findings_in_lines, findings_in_section, findings_in_sections, found_of_kept, moved, place_after, report_of_kept, shown, syntax_finding, unless_fault}
+use Rattle.yl_lint.specs.Unsilenced.{unsilenced_by, unsilenced_of_kept}
 use Rattle.yl_patch.specs.Patched.{is_upto, patched}
 use Rattle.yl_patch.specs.Plain.{IsPlain}
 use Rattle.yl_patch.specs.Seen.{IsSeen, new_lines_of, sections_between}
@@ -130,10 +130,8 @@ bare_report config in_lines end ks =
     ap (report_of l false (is_silenced [])) (found_bare config in_lines end ks)
     ∙ ap (λ (cs : List PlacedCommentValue). report_of l false (is_silenced cs) (found_of_kept config in_lines end (all_bare ks))) (sym (ap (comments_in_sections 0) (shown_bare ks) ∙ no_comments 0 (shown ks)))
 
-unsilenced_with : (config : Config) (rows : List RowValue) (ks : List KeptValue) → ks ≡ kept_of_text config rows → unsilenced_report config rows ≡ report_with config [] rows (all_bare ks)
-unfolding unsilenced_report
-unsilenced_with config rows ks is =
-    ap (unsilenced_of_kept config (findings_in_lines (options_of config) rows) (end_of_lines rows)) (sym is) ∙ bare_report config (findings_in_lines (options_of config) rows) (end_of_lines rows) ks
+unsilenced_with : (config : Config) (rows : List RowValue) (ks : List KeptValue) → unsilenced_by config rows ks ≡ report_with config [] rows (all_bare ks)
+unsilenced_with config rows ks = bare_report config (findings_in_lines (options_of config) rows) (end_of_lines rows) ks
 
 there_bare : (o : RuleOptions) (e : Ends) (w before : Measure) (rows : List RowValue) (ks : List KeptValue) → found_there o e w before rows ks ≡ found_there o e w before rows (all_bare ks)
 there_bare o e w before rows ks = ap (λ (fs : List FindingValue). lines_there o e rows ++ fs) (sym (findings_bare o.indentation w 0 before ks))
@@ -151,11 +149,11 @@ below_bare h from end ks new same =
 -- ---- an edit
 
 pub unsilenced_edited : (config : Config) (rows ins : List RowValue) (kept new : List KeptValue) (a b from end sound : ℕ) (t : Touched) (h : Bool) (found : List FindingValue)
-    → IsSeen config rows ins kept new a b from end sound t h found → a ≤ b → from ≤ end → end ≤ length kept → kept ≡ kept_of_text config rows → splice kept from end new ≡ kept_of_text config (splice rows a b ins)
-    → (i j : ℕ) (put old : List ProblemValue) → old ≡ unsilenced_report config rows → i ≡ prefix_len (is_upto t.first) old → j ≡ prefix_len (is_upto t.old_end) old
+    → IsSeen config rows ins kept new a b from end sound t h found → a ≤ b → from ≤ end → end ≤ length kept
+    → (i j : ℕ) (put old : List ProblemValue) → old ≡ unsilenced_by config rows kept → i ≡ prefix_len (is_upto t.first) old → j ≡ prefix_len (is_upto t.old_end) old
     → put ≡ arranged (levels_of config) (is_silenced []) found
-    → patched i j put t.old_end t.new_end old ≡ unsilenced_report config (splice rows a b ins)
-unsilenced_edited config rows ins kept new a b from end sound t h found seen ordered within within' is is' i j put old old_is i_is j_is put_is =
+    → patched i j put t.old_end t.new_end old ≡ unsilenced_by config (splice rows a b ins) (splice kept from end new)
+unsilenced_edited config rows ins kept new a b from end sound t h found seen ordered within within' i j put old old_is i_is j_is put_is =
     let o = options_of config in
     let l = levels_of config in
     let ls = sections_between from end kept in
@@ -186,8 +184,8 @@ unsilenced_edited config rows ins kept new a b from end sound t h found seen ord
     (seen.first ∙ sym (ap rows_kept (take-map bare from kept) ∙ rows_bare ks)) (seen.old_end ∙ sym (ap (λ (n : ℕ). t.first + n) (ap rows_kept (between_bare from end kept) ∙ rows_bare ls)))
     (seen.new_end ∙ sym (ap (λ (n : ℕ). t.first + n) (rows_bare new))) seen.ends seen.begins_text seen.ends_text seen.old_seam seen.new_seam seen.behind_seam
     (none_alike (settled_below h (sections_between from end (all_bare kept))) (settled_below h (all_bare new)) (ap (comments_in_sections 0) touched ∙ no_comments 0 (settled_below h ls)) (ap (comments_in_sections 0) (settled_bare h new) ∙ no_comments 0 (settled_below h new)))
-    measure i j put old (old_is ∙ unsilenced_with config rows kept is) i_is j_is
+    measure i j put old (old_is ∙ unsilenced_with config rows kept) i_is j_is
     (put_is
     ∙ (ap (λ (cs : List PlacedCommentValue). arranged l (is_silenced cs) found) (sym none)
     ∙ ap (arranged l (is_silenced (comments_in_sections 0 (settled (take from (all_bare kept)) ++ settled_below h (all_bare new))))) there))
-    ∙ (ap (report_with config [] (splice rows a b ins)) (splice_bare kept new from end) ∙ sym (unsilenced_with config (splice rows a b ins) (splice kept from end new) is'))
+    ∙ (ap (report_with config [] (splice rows a b ins)) (splice_bare kept new from end) ∙ sym (unsilenced_with config (splice rows a b ins) (splice kept from end new)))

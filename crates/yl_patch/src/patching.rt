@@ -6,8 +6,8 @@ ghost use Rattle.yl_config.specs.Config.{levels_of};
 ghost use Rattle.yl_report.specs.Report.{report_of};
 ghost use Rattle.yl_report.specs.Silence.{is_file_silenced_by, is_silenced_at};
 ghost use Rattle.yl_rejudge.specs.Places.{rows_kept};
-ghost use Rattle.yl_lint.specs.TextReport.{kept_of_text, report};
-ghost use Rattle.yl_lint.specs.Unsilenced.{unsilenced_report};
+ghost use Rattle.yl_lint.specs.TextReport.{report_by};
+ghost use Rattle.yl_lint.specs.Unsilenced.{unsilenced_by};
 ghost use Rattle.yl_patch.specs.Patched.{IsLow, is_upto, patched};
 ghost use Rattle.yl_patch.specs.Plain.{IsOverviewOf};
 
@@ -74,7 +74,7 @@ fn patch_of<A: Allocator + Copy>(
 }
 
 /// What the edit that puts these rows in place of the lines a to b does to the report, where it is seen that a patch does; none where it is
-/// not. `kept` is what was kept of the sections, and `edit` is what becomes of it. The only error is out of memory.
+/// not. `kept` is what was kept of the sections, whatever it is, and `edit` is what becomes of it. The only error is out of memory.
 pub fn patched_report<S: LineStore>(
     alloc: S::Alloc,
     config: &Config,
@@ -89,16 +89,14 @@ pub fn patched_report<S: LineStore>(
 ) -> Result<Option<ReportPatch<S::Alloc>>, AllocError>
     requires range { IsRange a b (length (S.rows store.now)) }
     requires few { length (S.rows store.now) + length rows.now < 2 ^ 64 }
-    requires kept { kept.now.items ≡ kept_of_text config.now (S.rows store.now) }
     requires overview { IsOverviewOf kept.now.items overview }
     requires kept_range { IsRange edit.now.from edit.now.end (length kept.now.items) }
     requires from_row { edit.now.from_row ≡ rows_kept (take edit.now.from kept.now.items) }
     requires end_row { edit.now.end_row ≡ rows_kept (take edit.now.end kept.now.items) }
-    requires new { splice kept.now.items edit.now.from edit.now.end edit.now.kept.now ≡ kept_of_text config.now (splice (S.rows store.now) a b rows.now) }
-    requires problems { problems.now ≡ report config.now (S.rows store.now) }
+    requires problems { problems.now ≡ report_by config.now (S.rows store.now) kept.now.items }
     ensures range { IfOk result (λ o. IfSome o (λ p. IsRange p.from p.end (length problems.now))) }
     ensures low { IfOk result (λ o. IfSome o (λ p. AllByRecursion IsLow (drop p.end problems.now))) }
-    ensures report { IfOk result (λ o. IfSome o (λ p. patched p.from p.end p.problems.items p.up p.down problems.now ≡ report config.now (splice (S.rows store.now) a b rows.now))) }
+    ensures report { IfOk result (λ o. IfSome o (λ p. patched p.from p.end p.problems.items p.up p.down problems.now ≡ report_by config.now (splice (S.rows store.now) a b rows.now) (splice kept.now.items edit.now.from edit.now.end edit.now.kept.now))) }
 {
     let seen = see_edit(alloc, config, store, a, b, rows, kept, overview, edit)?;
     let Some(seen) = seen else {
@@ -135,16 +133,14 @@ pub fn patched_unsilenced<S: LineStore>(
 ) -> Result<Option<ReportPatch<S::Alloc>>, AllocError>
     requires range { IsRange a b (length (S.rows store.now)) }
     requires few { length (S.rows store.now) + length rows.now < 2 ^ 64 }
-    requires kept { kept.now.items ≡ kept_of_text config.now (S.rows store.now) }
     requires overview { IsOverviewOf kept.now.items overview }
     requires kept_range { IsRange edit.now.from edit.now.end (length kept.now.items) }
     requires from_row { edit.now.from_row ≡ rows_kept (take edit.now.from kept.now.items) }
     requires end_row { edit.now.end_row ≡ rows_kept (take edit.now.end kept.now.items) }
-    requires new { splice kept.now.items edit.now.from edit.now.end edit.now.kept.now ≡ kept_of_text config.now (splice (S.rows store.now) a b rows.now) }
-    requires problems { problems.now ≡ unsilenced_report config.now (S.rows store.now) }
+    requires problems { problems.now ≡ unsilenced_by config.now (S.rows store.now) kept.now.items }
     ensures range { IfOk result (λ o. IfSome o (λ p. IsRange p.from p.end (length problems.now))) }
     ensures low { IfOk result (λ o. IfSome o (λ p. AllByRecursion IsLow (drop p.end problems.now))) }
-    ensures report { IfOk result (λ o. IfSome o (λ p. patched p.from p.end p.problems.items p.up p.down problems.now ≡ unsilenced_report config.now (splice (S.rows store.now) a b rows.now))) }
+    ensures report { IfOk result (λ o. IfSome o (λ p. patched p.from p.end p.problems.items p.up p.down problems.now ≡ unsilenced_by config.now (splice (S.rows store.now) a b rows.now) (splice kept.now.items edit.now.from edit.now.end edit.now.kept.now))) }
 {
     let seen = see_edit(alloc, config, store, a, b, rows, kept, overview, edit)?;
     let Some(seen) = seen else {

@@ -3,7 +3,6 @@ ghost use Rattle.std.specs.Prelude.{◌≡◌, ◌<◌, ◌+◌, ◌^◌, true, 
 ghost use Rattle.std.specs.List.{splice};
 ghost use Rattle.yl_text.specs.Store.{AreLines, IsRange};
 ghost use Rattle.yl_rejudge.specs.Places.{rows_kept};
-ghost use Rattle.yl_lint.specs.TextReport.{kept_of_text};
 ghost use Rattle.yl_patch.specs.Cut.{is_filled};
 ghost use Rattle.yl_patch.specs.Plain.{IsOverviewOf};
 ghost use Rattle.yl_patch.specs.Seen.{IsSeen};

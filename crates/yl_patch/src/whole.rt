@@ -1,11 +1,12 @@
 //! What the comments of a whole text silence.
-ghost use Rattle.std.specs.Prelude.{◌≡◌, ◌≤◌, ◌-◌, true, length, map, take, drop, IfOk, IfSome};
+ghost use Rattle.std.specs.Prelude.{◌≡◌, ◌≤◌, ◌-◌, true, List, length, map, take, drop, IfOk, IfSome};
 ghost use Rattle.yl_config.specs.declared.config.Config.{Config};
 ghost use Rattle.yl_lexeme.specs.PlacedComments.{placed_comment_value};
 ghost use Rattle.yl_report.specs.Directive.{disables_file, is_silenced};
 ghost use Rattle.yl_report.specs.Silence.{is_file_silenced_by, is_silenced_at};
-ghost use Rattle.yl_lint.specs.TextReport.{comments_in_sections, first_text, kept_of_text, report, shown};
-ghost use Rattle.yl_lint.specs.Unsilenced.{unsilenced_report};
+ghost use Rattle.yl_sections.specs.Kept.{KeptValue};
+ghost use Rattle.yl_lint.specs.TextReport.{comments_in_sections, first_text, report_by, shown};
+ghost use Rattle.yl_lint.specs.Unsilenced.{unsilenced_by};
 ghost use Rattle.yl_patch.specs.Plain.{IsOverviewOf};
 
 use crate::loud::is_loud;
@@ -62,15 +63,15 @@ pub fn silences_of_text<L: Lines>(
     Ok(Some(silences))
 }
 
-/// Whether it is seen that no comment silences anything of the report of these lines, of whose sections the overview is this; false says
-/// nothing. The only error is out of memory.
+/// Whether it is seen that no comment silences anything of the report of these lines, whatever is kept of their sections, if the overview
+/// of that is this; false says nothing. The only error is out of memory.
 pub fn is_unsilenced<L: Lines>(
     alloc: L::Alloc,
     lines: &L,
     overview: Overview,
 ) -> Result<bool, AllocError>
-    ensures { IfOk result (λ seen. seen ≡ true → (config : Config) → IsOverviewOf (kept_of_text config (L.rows lines.now)) overview
-        → report config (L.rows lines.now) ≡ unsilenced_report config (L.rows lines.now)) }
+    ensures { IfOk result (λ seen. seen ≡ true → (config : Config) (ks : List KeptValue) → IsOverviewOf ks overview
+        → report_by config (L.rows lines.now) ks ≡ unsilenced_by config (L.rows lines.now) ks) }
 {
     let silencing = overview.silencing;
     if !overview.is_plain || silencing.from < silencing.end {

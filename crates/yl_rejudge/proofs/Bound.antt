@@ -11,8 +11,8 @@ use Rattle.yl_sections.specs.Kept.{document_count, documents_in}
 use Rattle.yl_sections.proofs.Cuts.{last_anew}
 use Rattle.yl_rejudge.specs.Places.{changed_sections}
 use Rattle.yl_rejudge.specs.Alike.{GoOnAlike}
-use Rattle.yl_rejudge.specs.Documents.{documents_holding}
-use Rattle.yl_rejudge.proofs.SectionStarts.{starts_after, start_there, start_found, IsPlaceIn, rows_ordered, rows_apart, same_before, not_first, front_same, starts_past, quiet, from_row}
+use Rattle.yl_rejudge.specs.Documents.{documents_holding, IsInSection}
+use Rattle.yl_rejudge.proofs.SectionStarts.{starts_after, start_there, start_found, IsPlaceIn, rows_ordered, rows_apart, same_before, not_first, front_same, starts_past, from_row}
 use Rattle.yl_rejudge.proofs.SectionsEdited.{AreCut, rows_of_sections, some_judged, ends, within_new, changed_none, changed_some}
 
 -- ---- documents at lines
@@ -130,6 +130,15 @@ pub is_false : (b : Bool) → (b ≡ true → ⊥) → b ≡ false
 is_false true h = absurd (h refl)
 is_false false h = refl
 
+-- among the rows of a section none begins below one of them
+pub in_section : (rs : List RecordValue) (p from i : ℕ) → row_total (take p (sections rs)) ≤ from → i < row_total (take (p + 1) (sections rs)) → IsInSection rs from i
+in_section rs p from i low high j l o = is_false (is_start_at rs j) (λ b.
+    let h = start_found rs j b in
+    elim (cases_lt p h.j) [
+      | inl k ↦ omega (arith, o, high, h.at, rows_ordered (sections rs) (p + 1) h.j (omega (arith, k)))
+      | inr k ↦ omega (arith, l, low, h.at, rows_ordered (sections rs) h.j p (omega (arith, k)))
+    ])
+
 module _ (old new : List RecordValue) (p p0 q x y z from old_end end : ℕ) (c : AreCut old new p q x y z from old_end end) (d : AreNext old new p p0 q from old_end end) where
   -- a section that begins at row `from` or before it in both is judged from, or stays
   pub in_front : (i : ℕ) → i ≤ from → is_start_at old i ≡ true → is_start_at new i ≡ true → i ≤ x
@@ -150,12 +159,6 @@ module _ (old new : List RecordValue) (p p0 q x y z from old_end end : ℕ) (c :
   no_start_before i l o = is_false (is_start_at new i) (λ b. let a = same_before old new from i c.before o ∙ b in let k = in_front i (omega (arith, o)) a b in omega (arith, l, k))
 
   -- so many rows after the end
-  at_old : (e : ℕ) → kind_after None (take old_end old) ≡ kind_after None (take end new) → is_start_at new (end + e) ≡ true → is_start_at old (old_end + e) ≡ true
-  at_old e k b =
-      from_row None old old_end e
-      ∙ (ap (λ (last : Option Kind). starts_after last (drop old_end old) e) k
-      ∙ (ap (λ (es : List RecordValue). starts_after (kind_after None (take end new)) es e) c.behind ∙ (sym (from_row None new end e) ∙ b)))
-
   not_kept : (e : ℕ) → x ≤ end + e → end + e < z → is_start_at new (end + e) ≡ true → IsPlaceIn (sections old) (old_end + e) → ⊥
   not_kept e o l b h = elim (cases_lt h.j p) [
     | inl k ↦ let a = rows_apart old h.j p h.some k (omega (arith, c.ordered, c.within)) in omega (arith, a, h.at, c.x_is, c.front, d.old_range)
@@ -173,15 +176,13 @@ module _ (old new : List RecordValue) (p p0 q x y z from old_end end : ℕ) (c :
     ]
   ]
 
-  after : (e : ℕ) → x ≤ end + e → end + e < z → GoOnAlike old new old_end end → is_start_at new (end + e) ≡ false
-  after e o l (inl w) = starts_past None new (end + e) (omega (arith, w))
-  after e o l (inr (inr w)) = from_row None new end e ∙ quiet (kind_after None (take end new)) (drop end new) e w
-  after e o l (inr (inl w)) = is_false (is_start_at new (end + e)) (λ b. not_kept e o l b (start_found old (old_end + e) (at_old e w b)))
+  after : (e : ℕ) → x ≤ end + e → end + e < z → is_start_at new (end + e) ≡ false
+  after e o l = is_false (is_start_at new (end + e)) (λ b. not_kept e o l b (start_found old (old_end + e) (d.alike e b)))
 
   pub no_start_after : (i : ℕ) → x ≤ i → end ≤ i → i < z → is_start_at new i ≡ false
   no_start_after i o a l =
       let n : end + (i - end) ≡ i = omega (arith, a) in
-      ap (λ k. is_start_at new k) (sym n) ∙ after (i - end) (omega (arith, n, o)) (omega (arith, n, l)) d.alike
+      ap (λ k. is_start_at new k) (sym n) ∙ after (i - end) (omega (arith, n, o)) (omega (arith, n, l))
 
   pub first_or : (x ≡ 0) ⊎ (is_start_at new x ≡ true)
   first_or = elim c.first [

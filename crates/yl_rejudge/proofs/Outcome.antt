@@ -12,7 +12,7 @@ use Rattle.yl_rejudge.specs.Alike.{GoOnAlike}
 use Rattle.yl_rejudge.specs.Documents.{TakesNothing, AreFront, EndsAnew, documents_holding}
 use Rattle.yl_rejudge.proofs.KeptRows.{rows_front}
 use Rattle.yl_rejudge.proofs.SectionsEdited.{AreCut, rows_of_kept, rows_to, count_kept, within_new, changed, kept_spliced}
-use Rattle.yl_rejudge.proofs.Bound.{AreNext, z_high, documents_near}
+use Rattle.yl_rejudge.proofs.Bound.{AreNext, in_section, z_high, documents_near}
 use Rattle.yl_rejudge.proofs.Anew.{high, changed_anew, documents_anew, kept_anew, section_there, section_reaches}
 use Rattle.yl_sections.specs.Front.{IsFront}
 
@@ -100,12 +100,13 @@ module _ (config : Config) (old new : List RecordValue) (kept : List KeptValue) 
     | inr g ↦
         let there = o.last g.0 g.1.0 g.1.1 in
         let front = h.front g.0 g.1.0 in
+        let low : row_total (take p (sections old)) ≤ from = omega (arith, g.1.1, xe, at p) in
         absurd (not_seen (record {
           section = omega (arith, there.0, count);
           before = omega (arith, g.1.1, xe);
           after = omega (arith, there.1, at (p + 1));
           start = g.1.0;
-          front = λ i r a b e. (λ l. front.sound i r l e, λ l. front.bare i r l e);
+          front = λ i r a b e. (λ l. front.sound i r l e, λ l. front.bare i r l (in_section old p from i low (omega (arith, b, at (p + 1)))) e);
         }))
   ]
 

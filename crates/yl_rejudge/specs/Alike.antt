@@ -1,11 +1,9 @@
 -- Meaning: where sections of two texts begin in the same rows.
-use Rattle.std.specs.Prelude.{◌≡◌, ◌⊎◌, ℕ, List, [], length, take, drop, None}
-use Rattle.std.specs.List.{AllByRecursion}
+use Rattle.std.specs.Prelude.{◌≡◌, ◌+◌, ℕ, true, List}
 use Rattle.yl_record.specs.Records.{RecordValue}
-use Rattle.yl_sections.specs.Local.{kind_after}
+use Rattle.yl_sections.specs.Local.{is_start_at}
 
--- the rows of the old text from i on are those of the new one from j on: then sections begin in the same ones of them, since there are
--- none, or the last lexeme before is of one kind, or they have no lexemes
+-- the rows of the old text from i on are those of the new one from j on, and where a section begins with one of them in the new text, it
+-- does so in the old one
 abbrev pub GoOnAlike : List RecordValue → List RecordValue → ℕ → ℕ → Type 0
-GoOnAlike old new i j =
-    (j ≡ length new) ⊎ ((kind_after None (take i old) ≡ kind_after None (take j new)) ⊎ AllByRecursion (λ r. r.entry.lexemes ≡ []) (drop j new))
+GoOnAlike old new i j = (e : ℕ) → is_start_at new (j + e) ≡ true → is_start_at old (i + e) ≡ true

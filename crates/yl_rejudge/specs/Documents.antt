@@ -4,7 +4,7 @@ use Rattle.yl_record.specs.Records.{RecordValue}
 use Rattle.yl_sections.specs.Sections.{lexemes_of}
 use Rattle.yl_sections.specs.Local.{is_start_at}
 use Rattle.yl_sections.specs.Kept.{document_count, KeptValue}
-use Rattle.yl_sections.specs.Front.{IsBare, IsFront}
+use Rattle.yl_sections.specs.Front.{IsBare}
 use Rattle.yl_rejudge.specs.Places.{rows_kept}
 
 -- how many documents of these sections, of which the first begins at this line, hold one of the lines from r to m
@@ -13,11 +13,20 @@ documents_holding line r m [] = 0
 documents_holding line r m (s ∷ ss) =
     (if leb line m && ltb r (line + length s) then document_count (lexemes_of s) else 0) + documents_holding (line + length s) r m ss
 
+-- no section begins with one of the rows below `from` down to row i
+abbrev pub IsInSection : List RecordValue → (from i : ℕ) → Type 0
+IsInSection rs from i = (j : ℕ) → from < j → j ≤ i → is_start_at rs j ≡ false
+
+-- no scan fault begins above row `from`, and of the rows from it on nothing was read, down to where a section begins
+pub record ReadsNothing (rs : List RecordValue) (from : ℕ) : Type 0 where
+  pub sound : (i : ℕ) (r : RecordValue) → i < from → slice_get rs i ≡ Some r → r.entry.fault ≡ None
+  pub bare : (i : ℕ) (r : RecordValue) → from ≤ i → IsInSection rs from i → slice_get rs i ≡ Some r → IsBare r
+
 -- row `from` is there in the new text, and where a section begins with it that did not begin in the old text, nothing was read of the
--- old rows from it on: so the section above it, which ends there now, has all that it had
+-- old rows from it on, down to where one begins: so the section above it, which ends there now, has all that it had
 pub record TakesNothing (old new : List RecordValue) (from : ℕ) : Type 0 where
   pub within : from < length new
-  pub front : is_start_at old from ≡ false → is_start_at new from ≡ true → IsFront from old
+  pub front : is_start_at old from ≡ false → is_start_at new from ≡ true → ReadsNothing old from
 
 -- of the rows from x on to before `end` all that is read begins before row `from`, and no scan fault does
 abbrev pub AreFront : List RecordValue → (x from end : ℕ) → Type 0

@@ -1,8 +1,8 @@
 -- Scanning rows again.
-use Rattle.std.proofs.Common.{◌≡◌, ℕ, zero, suc, ◌+◌, ◌-◌, ◌<◌, ◌≤◌, ◌&&◌, nat_le, Bool, true, false, List, [], ◌∷◌, ◌++◌, length, map, take, drop, Option, Some, None, refl, ap, sym, ◌∙◌, arith, inl, inr, length-append}
+use Rattle.std.proofs.Common.{◌≡◌, ℕ, zero, suc, ◌+◌, ◌-◌, ◌<◌, ◌≤◌, true, false, List, [], ◌∷◌, ◌++◌, length, map, take, drop, Option, Some, None, refl, ap, sym, ◌∙◌, subst, arith, inl, inr, length-append}
 use Rattle.std.specs.Prelude.{slice_get, IsSome}
 use Rattle.std.specs.Str.{chars}
-use Rattle.std.proofs.lemmas.Bool.{le-leb, cases_lt}
+use Rattle.std.proofs.lemmas.Bool.{cases_lt}
 use Rattle.std.proofs.lemmas.List.{drop-map, length-map, length-drop}
 use Rattle.std.proofs.Math.ListN.{drop_of_length-le}
 use Rattle.std.proofs.lemmas.Option.{slice_get_within, get_or_from_slice_get}
@@ -16,17 +16,16 @@ use Rattle.yl_row.specs.declared.fault.PlacedScanFault.{PlacedScanFault}
 use Rattle.yl_row.specs.Fault.{is_unclosed}
 use Rattle.yl_row.specs.Step.{FoundLexemeValue}
 use Rattle.yl_row.specs.ScalarReader.{open_found}
-use Rattle.yl_row.specs.Entries.{RowEntry, LineStateValue, entries, lexeme_of, stopped_rows}
+use Rattle.yl_row.specs.Entries.{RowEntry, LineStateValue, lexeme_of, stopped_rows}
 use Rattle.yl_row.specs.Run.{entries_by}
 use Rattle.yl_scan.specs.Output.{PhaseValue, Fresh, Within, Halted, rows_to}
-use Rattle.yl_scan.specs.Restart.{state_at, from_state}
+use Rattle.yl_scan.specs.Restart.{state_at}
 use Rattle.yl_scan.specs.Settled.{with_last}
-use Rattle.yl_scan.proofs.Resumed.{resumed}
 use Rattle.yl_record.specs.Parts.{entries_in, indentations_in, with_fault_in}
 use Rattle.yl_record.specs.Records.{RecordValue, characters_in, records, records_from, records_with}
 use Rattle.yl_record.specs.Recorded.{RecorderValue, entries_with_scalar, entries_with_rest, if_wanted, recorded}
-use Rattle.yl_rescan.specs.Agree.{agree, state_of_row, BeginsAt}
-use Rattle.yl_rescan.proofs.Rows.{with_drop, records_state, records_length}
+use Rattle.yl_rescan.specs.Agree.{state_of_row, BeginsAt, GoesOn}
+use Rattle.yl_rescan.proofs.Rows.{records_length, sound_behind, state_behind}
 
 -- ---- what is put into records late leaves their states alone
 
@@ -97,13 +96,6 @@ recorded_state v rows i wanted l =
     ∙ (rest_state (entries_in v.records) v.taken v.stand rows i (omega (arith, l, length-map v.records (λ r. r.entry)))
     ∙ entry_state v.records i))
 
--- row i, from row r on
-state_behind : (rs : List RecordValue) (r i : ℕ) → r ≤ i → state_of_row (drop r rs) (i - r) ≡ state_of_row rs i
-state_behind rs zero i l = let e : i - 0 ≡ i = omega arith in ap (λ n. state_of_row rs n) e
-state_behind [] (suc r) i l = refl
-state_behind (e ∷ es) (suc r) zero l = absurd (omega (arith, l))
-state_behind (e ∷ es) (suc r) (suc i) l = let n : suc i - suc r ≡ i - r = omega arith in ap (λ k. state_of_row (drop r es) k) n ∙ state_behind es r i (omega (arith, l))
-
 -- ---- rows
 
 rows_at : (rows : List RowValue) (i : ℕ) (row : RowValue) → slice_get rows i ≡ Some row → drop i rows ≡ row ∷ drop (i + 1) rows
@@ -120,11 +112,7 @@ pub begins_told : (rows : List RowValue) (told : List (List ℕ) → List Record
     → told (characters_in (drop row rows)) ≡ drop row (records (characters_in rows))
 begins_told rows told row None begins start resume = rw begins (start refl (characters_in rows))
 begins_told rows told row (Some s) begins start resume =
-    let t = characters_in rows in
-    let at : state_at (entries t) row ≡ Some s = sym (records_state t row) ∙ begins in
-    resume s refl (characters_in (drop row rows)) ∙ (ap (λ (qs : List (List ℕ)). records_from s qs) (characters_dropped row rows)
-    ∙ (ap (λ (ns : List ℕ). records_with ns (from_state s (drop row t))) (sym (drop-map indentation row t))
-    ∙ (ap (λ (es : List RowEntry). records_with (drop row (map indentation t)) es) (sym (resumed t row s at)) ∙ sym (with_drop row (map indentation t) (entries t)))))
+    resume s refl (characters_in (drop row rows)) ∙ (ap (λ (qs : List (List ℕ)). records_from s qs) (characters_dropped row rows) ∙ sym (sound_behind (characters_in rows) row s begins))
 
 -- a row more
 pub told_next : (old new : List (List ℕ) → List RecordValue) (rows : List RowValue) (i : ℕ) (row : RowValue) (text : List ℕ) (total : List RecordValue)
@@ -151,27 +139,15 @@ cut_told v rest items total r i fed whole told =
     let n : length v.records - 1 ≡ i - r = omega (arith, fed) in
     told rest ∙ (ap (λ k. take k (recorded v rest)) n ∙ ap (λ es. take (i - r) es) whole)
 
--- one row more that does not agree
-pub least_more : (p : ℕ → Bool) (stop i : ℕ) → ((j : ℕ) → stop ≤ j → j < i → p j ≡ false) → (nat_le stop i && p i) ≡ false → (j : ℕ) → stop ≤ j → j < i + 1 → p j ≡ false
-least_more p stop i below here j s l = elim (cases_lt j i) [
+-- scanning goes on over one row more
+pub on_over : (old total : List RecordValue) (cut : Option ℕ) (stop b i : ℕ) → ((j : ℕ) → stop ≤ j → j < i → GoesOn old cut (j - stop + b) (state_of_row total j))
+    → (stop ≤ i → GoesOn old cut (i - stop + b) (state_of_row total i)) → (j : ℕ) → stop ≤ j → j < i + 1 → GoesOn old cut (j - stop + b) (state_of_row total j)
+on_over old total cut stop b i below here j s l = elim (cases_lt j i) [
   | inl k ↦ below j s k
   | inr k ↦
       let same : i ≡ j = omega (arith, k, l) in
-      let now : nat_le stop i ≡ true = le-leb stop i (omega (arith, s, same)) in
-      ap p (sym same) ∙ (ap (λ b. b && p i) (sym now) ∙ here)
+      subst (λ n. GoesOn old cut (n - stop + b) (state_of_row total n)) same (here (omega (arith, s, same)))
 ]
-
--- a stop is at a row from `stop` on that agrees
-pub stopped : (t b : Bool) → (t && b) ≡ true → (t ≡ true) × (b ≡ true)
-stopped true true e = (refl, refl)
-stopped true false e = (refl, e)
-stopped false b e = absurd (cc)
-
--- what agrees is there
-pub is_there : (o p : Option LineStateValue) → agree o p ≡ true → IsSome p
-is_there (Some s) (Some t) h = refl
-is_there (Some s) None h = absurd (cc)
-is_there None p h = absurd (cc)
 
 pub characters_length : (rows : List RowValue) → length (characters_in rows) ≡ length rows
 characters_length rows = length-map rows (λ (row : RowValue). chars row.text)
@@ -184,3 +160,6 @@ all_told v rows r end i at ended whole =
     let n : end - r ≡ length (drop r all) = omega (arith, at, length-drop r all, records_length (characters_in rows), characters_length rows) in
     ap (λ (qs : List RowValue). recorded v (characters_in qs)) (sym (drop_of_length-le rows {i = i} (omega (arith, ended))))
     ∙ (whole ∙ (sym (take-length (drop r all)) ∙ ap (λ k. take k (drop r all)) (sym n)))
+
+pub some_end : {X : Type 0} (o : Option X) (x : X) → o ≡ Some x → IsSome o
+some_end o x h = subst IsSome (sym h) refl

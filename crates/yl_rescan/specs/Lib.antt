@@ -1,2 +1,4 @@
 pub mod Agree
+pub mod Held
+pub mod Made
 pub mod Rescan

@@ -1,38 +1,183 @@
 //! The records of an edited text.
-ghost use Rattle.std.specs.Prelude.{◌≡◌, ◌≤◌, ◌<◌, ◌+◌, ◌-◌, ◌^◌, true, length, take, drop, IfOk, OnOk, if◌then◌else◌};
+ghost use Rattle.std.specs.Prelude.{◌≡◌, ◌≤◌, ◌<◌, ◌+◌, ◌-◌, ◌^◌, ◌++◌, true, false, Some, None, Option, length, take, drop, IfOk, IfSome, OnOk};
 ghost use Rattle.std.specs.List.{splice};
 ghost use Rattle.yl_text.specs.Store.{AreLines, IsRange};
-ghost use Rattle.yl_record.specs.Records.{characters_in, records};
+ghost use Rattle.yl_row.specs.Entries.{Stopped};
+ghost use Rattle.yl_record.specs.Records.{characters_in, records_from};
+ghost use Rattle.yl_sections.specs.Local.{is_start_at};
+ghost use Rattle.yl_rejudge.specs.Alike.{GoOnAlike};
+ghost use Rattle.yl_rejudge.specs.Documents.{TakesNothing};
+ghost use Rattle.yl_rescan.specs.Agree.{counterpart, next_cut, MayKeep};
+ghost use Rattle.yl_rescan.specs.Held.{AreHeld, IsCutAt};
+ghost use Rattle.yl_rescan.specs.Made.{WasRescanned};
 ghost use Rattle.yl_rescan.specs.Rescan.{IsRescan};
+ghost use Rattle.yl_rescan.specs.declared.scanning.ScanEnd.TheVariants.{TextEnd};
 
-use crate::scanning::{last_sound, rescan_from};
+use crate::scanning::{ScanEnd, Scanned, last_sound, rescan_from, unread};
 use std::alloc::{AllocError, Allocator};
-use yl_chunks::Chunks;
+use yl_chunks::{Chunks, Spliced};
 use yl_lexeme::Meter;
 use yl_record::Record;
-use yl_text::{LineStore, Patched, Row};
+use yl_rejudge::is_start_at;
+use yl_text::{LineStore, Lines, Patched, Row, rows_fit};
 
 /// What an edit does to a text's records: these come in place of those from `from` on, before `old_end`. They are those of the new
-/// text's rows from `from` on, before `end`. Rows are counted from 0.
+/// text's rows from `from` on, before `end`. Rows are counted from 0. From row `cut` on, where there is one, the records that are kept
+/// are not those of the new text: reading has stopped above it.
 #[derive(Drop)]
 pub struct Rescanned<A: Allocator> {
     pub from: usize,
     pub old_end: usize,
     pub end: usize,
     pub records: Vec<Record<A>, A>,
+    pub cut: Option<usize>,
 }
 
-/// The old row that stands where scanning ended.
-fn old_end(agreed: bool, end: usize, stop: usize, b: usize, len: usize) -> usize
-    requires { agreed ≡ true → (stop ≤ end) × (end + b < 2 ^ 64) }
-    ensures { result ≡ (if agreed then end - stop + b else len) }
+/// The old row that stands where scanning ended; old rows from `stop` on lie as far behind `b`.
+fn counterpart(why: ScanEnd, end: usize, stop: usize, b: usize, len: usize) -> usize
+    requires { (why ≡ TextEnd → ⊥) → (stop ≤ end) × (end + b < 2 ^ 64) }
+    ensures { result ≡ counterpart why end stop b len }
 {
-    if agreed { end - stop + b } else { len }
+    match why {
+        ScanEnd::TextEnd => len,
+        _ => end - stop + b,
+    }
 }
 
-/// Scans a text again, where these rows are put in place of those from a on, before b. `old` is the old text's records. It begins at the
-/// last sound row above the edit, and goes on to the first row behind it whose state is the old one's, or to the end. Counts the rows
-/// that it scans. Nothing is changed; the only error is memory.
+/// From which row on the records are to be kept that are not those of the new text, if there is one.
+fn next_cut(why: ScanEnd, cut: Option<usize>, at: usize, end: usize) -> Option<usize>
+    requires { IfSome cut (λ n. n + end < 2 ^ 64) }
+    ensures { result ≡ next_cut why cut at end }
+{
+    match (why, cut) {
+        (ScanEnd::Agreed, Some(row)) if at < row => Some(row - at + end),
+        (ScanEnd::Halted, None) => Some(end),
+        _ => None,
+    }
+}
+
+/// Whether what is kept behind the new records may be: a section begins with the row at which they are cut, or it is the new text's.
+fn may_keep<A: Allocator + Copy>(
+    old: &Chunks<Record<A>, A>,
+    from: usize,
+    at: usize,
+    new: &[Record<A>],
+    why: ScanEnd,
+    cut: Option<usize>,
+) -> bool
+    requires range { IsRange from at (length old.now.items) }
+    requires few { length old.now.items + length new.now < 2 ^ 64 }
+    ensures kept { result ≡ true → MayKeep (splice old.now.items from at new.now) why cut }
+    ensures refused { result ≡ false → MayKeep (splice old.now.items from at new.now) why cut → ⊥ }
+{
+    match (why, cut) {
+        (_, Some(row)) => is_start_at(&Spliced::new(old, from, at, new), row),
+        (ScanEnd::Halted, None) => false,
+        _ => true,
+    }
+}
+
+/// The new records, and behind them those of rows of which nothing is read, to the text's end.
+fn with_unread<L: Lines>(
+    alloc: L::Alloc,
+    lines: &L,
+    from: usize,
+    old_len: usize,
+    end: usize,
+    records: Vec<Record<L::Alloc>, L::Alloc>,
+) -> Result<Rescanned<L::Alloc>, AllocError>
+    requires lines { AreLines (L.rows lines.now) }
+    requires within { end ≤ length (L.rows lines.now) }
+    ensures from { IfOk result (λ r. r.from ≡ from) }
+    ensures old_end { IfOk result (λ r. r.old_end ≡ old_len) }
+    ensures end { IfOk result (λ r. r.end ≡ length (L.rows lines.now)) }
+    ensures cut { IfOk result (λ r. r.cut ≡ None) }
+    ensures records { IfOk result (λ r. r.records.items ≡ records.items ++ records_from Stopped (characters_in (drop end (L.rows lines.now)))) }
+{
+    let mut all = records;
+    let mut rest = unread(alloc, lines, end)?;
+    all.append(&mut rest)?;
+    Ok(Rescanned {
+        from,
+        old_end: old_len,
+        end: lines.len(),
+        records: all,
+        cut: None,
+    })
+}
+
+/// The same as `rescan`, where the edit does not begin below the row at which the old records are cut.
+fn rescan_above<S: LineStore>(
+    alloc: S::Alloc,
+    store: &S,
+    a: usize,
+    b: usize,
+    rows: &[Row<S::Alloc>],
+    old: &Chunks<Record<S::Alloc>, S::Alloc>,
+    cut: Option<usize>,
+    meter: &mut Meter,
+) -> Result<Rescanned<S::Alloc>, AllocError>
+    requires range { IsRange a b (length (S.rows store.now)) }
+    requires old_lines { AreLines (S.rows store.now) }
+    requires lines { AreLines (splice (S.rows store.now) a b rows.now) }
+    requires held { AreHeld (characters_in (S.rows store.now)) cut old.now.items }
+    requires above { IfSome cut (λ n. a ≤ n) }
+    requires meter { meter.old.lines ≡ 0 }
+    ensures made { IfOk result (λ r. WasRescanned old.now.items (characters_in (S.rows store.now)) (characters_in (splice (S.rows store.now) a b rows.now)) r.cut a b (length rows.now) r.from r.old_end r.end meter.new.lines r.records.items) }
+    ensures documents { OnOk result (meter.new.documents ≡ meter.old.documents) }
+{
+    let from = last_sound(old, a);
+    let stop = a + rows.len();
+    let patched = Patched::new(store, a, b, rows);
+    let found = rescan_from(alloc, &patched, old, cut, &from, stop, b, meter)?;
+    let Scanned { records, end, why } = found;
+    let at = counterpart(why, end, stop, b, old.len());
+    let next = next_cut(why, cut, at, end);
+    if !may_keep(old, from.row, at, &records, why, next) {
+        let rescanned = with_unread(alloc, &patched, from.row, old.len(), end, records)?;
+        return Ok(rescanned);
+    }
+    Ok(Rescanned {
+        from: from.row,
+        old_end: at,
+        end,
+        records,
+        cut: next,
+    })
+}
+
+/// The same, where it begins below row `cut`, at which the old records are cut: there reading has stopped, and so it has in the new text.
+/// So the new text's rows are not read, nor are those below it; the former count as scanned.
+fn rescan_below<S: LineStore>(
+    alloc: S::Alloc,
+    store: &S,
+    a: usize,
+    b: usize,
+    rows: &[Row<S::Alloc>],
+    old: &Chunks<Record<S::Alloc>, S::Alloc>,
+    cut: usize,
+    meter: &mut Meter,
+) -> Result<Rescanned<S::Alloc>, AllocError>
+    requires range { IsRange a b (length (S.rows store.now)) }
+    requires old_lines { AreLines (S.rows store.now) }
+    requires lines { AreLines (splice (S.rows store.now) a b rows.now) }
+    requires held { IsCutAt (characters_in (S.rows store.now)) cut old.now.items }
+    requires below { cut < a }
+    requires meter { meter.old.lines ≡ 0 }
+    ensures made { IfOk result (λ r. WasRescanned old.now.items (characters_in (S.rows store.now)) (characters_in (splice (S.rows store.now) a b rows.now)) r.cut a b (length rows.now) r.from r.old_end r.end meter.new.lines r.records.items) }
+    ensures documents { OnOk result (meter.new.documents ≡ meter.old.documents) }
+{
+    let patched = Patched::new(store, a, b, rows);
+    rows_fit(&patched);
+    let rescanned = with_unread(alloc, &patched, cut, old.len(), cut, Vec::new(alloc))?;
+    meter.lines = rows.len() as u32;
+    Ok(rescanned)
+}
+
+/// Scans a text again, where these rows are put in place of those from a on, before b. `old` is the records that are kept of the old text,
+/// from row `cut` on, if there is one, as they were before reading stopped there. It begins at the last sound row above the edit, and goes
+/// on to the first row behind it whose state is the old one's, or to the end. Where reading stops, it goes no further than to a row with
+/// which a section begins: what stands below it is kept. Counts the rows that it scans. Nothing is changed; the only error is memory.
 pub fn rescan<S: LineStore>(
     alloc: S::Alloc,
     store: &S,
@@ -40,30 +185,30 @@ pub fn rescan<S: LineStore>(
     b: usize,
     rows: &[Row<S::Alloc>],
     old: &Chunks<Record<S::Alloc>, S::Alloc>,
+    cut: Option<usize>,
     meter: &mut Meter,
 ) -> Result<Rescanned<S::Alloc>, AllocError>
     requires range { IsRange a b (length (S.rows store.now)) }
     requires old_lines { AreLines (S.rows store.now) }
     requires lines { AreLines (splice (S.rows store.now) a b rows.now) }
-    requires records { old.now.items ≡ records (characters_in (S.rows store.now)) }
+    requires held { AreHeld (characters_in (S.rows store.now)) cut old.now.items }
     requires meter { meter.old.lines ≡ 0 }
     ensures range { IfOk result (λ r. IsRange r.from r.old_end (length old.now.items)) }
-    ensures records { IfOk result (λ r. splice old.now.items r.from r.old_end r.records.items ≡ records (characters_in (splice (S.rows store.now) a b rows.now))) }
-    ensures before { IfOk result (λ r. take r.from old.now.items ≡ take r.from (records (characters_in (splice (S.rows store.now) a b rows.now)))) }
-    ensures behind { IfOk result (λ r. drop r.old_end old.now.items ≡ drop r.end (records (characters_in (splice (S.rows store.now) a b rows.now)))) }
+    ensures held { IfOk result (λ r. AreHeld (characters_in (splice (S.rows store.now) a b rows.now)) r.cut (splice old.now.items r.from r.old_end r.records.items)) }
+    ensures before { IfOk result (λ r. take r.from old.now.items ≡ take r.from (splice old.now.items r.from r.old_end r.records.items)) }
+    ensures behind { IfOk result (λ r. drop r.old_end old.now.items ≡ drop r.end (splice old.now.items r.from r.old_end r.records.items)) }
     ensures within { IfOk result (λ r. r.end ≤ length (splice (S.rows store.now) a b rows.now)) }
     ensures len { IfOk result (λ r. r.end ≡ r.from + length r.records.items) }
-    ensures work { IfOk result (λ r. IsRescan (characters_in (S.rows store.now)) (characters_in (splice (S.rows store.now) a b rows.now)) a b (length rows.now) r.from r.old_end r.end meter.new.lines) }
+    ensures alike { IfOk result (λ r. GoOnAlike old.now.items (splice old.now.items r.from r.old_end r.records.items) r.old_end r.end) }
+    ensures taken { IfOk result (λ r. TakesNothing old.now.items (splice old.now.items r.from r.old_end r.records.items) r.from) }
+    ensures below { IfOk result (λ r. IfSome r.cut (λ n. r.end ≤ n)) }
+    ensures work { IfOk result (λ r. IsRescan (characters_in (S.rows store.now)) (characters_in (splice (S.rows store.now) a b rows.now)) a b (length rows.now) r.from r.end meter.new.lines) }
     ensures documents { OnOk result (meter.new.documents ≡ meter.old.documents) }
 {
-    let from = last_sound(old, a);
-    let stop = a + rows.len();
-    let patched = Patched::new(store, a, b, rows);
-    let found = rescan_from(alloc, &patched, old, &from, stop, b, meter)?;
-    Ok(Rescanned {
-        from: from.row,
-        old_end: old_end(found.agreed, found.end, stop, b, old.len()),
-        end: found.end,
-        records: found.records,
-    })
+    if let Some(row) = cut {
+        if a > row {
+            return rescan_below(alloc, store, a, b, rows, old, row, meter);
+        }
+    }
+    rescan_above(alloc, store, a, b, rows, old, cut, meter)
 }

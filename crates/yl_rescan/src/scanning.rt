@@ -1,15 +1,18 @@
 //! Rows that are scanned again.
-ghost use Rattle.std.specs.Prelude.{◌≡◌, ◌≤◌, ◌<◌, ◌+◌, ◌-◌, ◌^◌, ◌&&◌, ℕ, List, [], true, false, nat_le, Some, None, IfOk, OnOk, option_map, length, take, drop, if◌then◌else◌};
+ghost use Rattle.std.specs.Prelude.{◌≡◌, ◌↔◌, ◌≤◌, ◌<◌, ◌+◌, ◌-◌, ◌^◌, ℕ, List, [], true, IsTrue, IsSome, Some, None, IfOk, IfSome, OnOk, false, option_map, length, take, drop};
 ghost use Rattle.yl_text.specs.Store.{AreLines};
-ghost use Rattle.yl_row.specs.Entries.{LineStateValue};
+ghost use Rattle.yl_row.specs.Entries.{LineStateValue, Stopped};
 ghost use Rattle.yl_record.specs.Records.{characters_in, records, records_from};
 ghost use Rattle.yl_record.specs.Recorded.{recorded};
-ghost use Rattle.yl_rescan.specs.Agree.{agree, agrees, state_of_row, BeginsAt, BeginsBelow};
+ghost use Rattle.yl_sections.specs.Local.{is_start_at};
+ghost use Rattle.yl_rescan.specs.Agree.{agree, agrees, state_of_row, read_beyond, BeginsAt, BeginsBelow, EndsAt, GoesOn, StopsAt};
+ghost use Rattle.yl_rescan.specs.declared.scanning.ScanEnd.TheVariants.{Agreed, Halted, TextEnd};
 
 use std::alloc::{AllocError, Allocator};
-use yl_chunks::Chunks;
+use yl_chunks::{Chunks, Spliced};
 use yl_lexeme::Meter;
 use yl_record::{Record, Recorder};
+use yl_rejudge::is_start_at;
 use yl_scan::LineState;
 use yl_text::{Lines, rows_fit};
 
@@ -64,18 +67,89 @@ fn agree<A: Allocator + Copy>(
     }
 }
 
-/// Whether row `i` is one from `stop` on and agrees with the old one.
-fn is_stop<A: Allocator + Copy>(
+/// Whether this is the state of a row at which reading has stopped.
+fn is_stopped<A: Allocator + Copy>(state: Option<&LineState<A>>) -> bool
+    ensures { IsTrue result ↔ (option_map (λ s. s.now) state.entry ≡ Some Stopped) }
+{
+    match state {
+        None => false,
+        Some(state) => state.is_stopped(),
+    }
+}
+
+/// Whether this row of the old records is sound, and a section begins with it; false says nothing.
+fn is_old_start<A: Allocator + Copy>(records: &Chunks<Record<A>, A>, row: usize) -> bool
+    ensures sound { result ≡ true → IsSome (state_of_row records.now.items row) }
+    ensures start { result ≡ true → is_start_at records.now.items row ≡ true }
+{
+    if row >= records.len() || records.get(row).state().is_none() {
+        return false;
+    }
+    is_start_at(&Spliced::new(records, 0, 0, &[]), row)
+}
+
+/// Why scanning ends before a row.
+#[derive(Clone, Copy, Debug)]
+pub enum ScanEnd {
+    /// The row agrees with the old one.
+    Agreed,
+    /// Reading has stopped above it.
+    Halted,
+    /// There is none.
+    TextEnd,
+}
+
+/// Why scanning ends before a row of this state, whose counterpart is the old row `at`, if it does. It ends where they agree, down to where
+/// the old records are cut. Where reading has stopped, it ends where a section begins with the old row, or from where these are cut on.
+fn scan_end<A: Allocator + Copy>(
     old: &Chunks<Record<A>, A>,
+    cut: Option<usize>,
+    at: usize,
+    state: Option<&LineState<A>>,
+) -> Option<ScanEnd>
+    ensures agrees { result ≡ Some Agreed → (agree (state_of_row old.now.items at) (option_map (λ s. s.now) state.entry) ≡ true) × IfSome cut (λ n. at ≤ n) }
+    ensures stopped { result ≡ Some Halted → (option_map (λ s. s.now) state.entry ≡ Some Stopped) × StopsAt old.now.items cut at }
+    ensures goes_on { result ≡ None → GoesOn old.now.items cut at (option_map (λ s. s.now) state.entry) }
+    ensures reads { IfSome result (λ why. read_beyond why ≡ 1) }
+{
+    let Some(row) = cut else {
+        if agree(old, at, state) {
+            return Some(ScanEnd::Agreed);
+        }
+        if is_stopped(state) && is_old_start(old, at) {
+            return Some(ScanEnd::Halted);
+        }
+        return None;
+    };
+    if at <= row && agree(old, at, state) {
+        return Some(ScanEnd::Agreed);
+    }
+    if at >= row && is_stopped(state) {
+        return Some(ScanEnd::Halted);
+    }
+    None
+}
+
+/// The same of row `i`, if it is one from `stop` on; the old row of such a one lies as far behind `b`.
+fn end_at<A: Allocator + Copy>(
+    old: &Chunks<Record<A>, A>,
+    cut: Option<usize>,
     i: usize,
     stop: usize,
     b: usize,
     state: Option<&LineState<A>>,
-) -> bool
+) -> Option<ScanEnd>
     requires { i + b < 2 ^ 64 }
-    ensures { result ≡ (nat_le stop i && agree (state_of_row old.now.items (i - stop + b)) (option_map (λ s. s.now) state.entry)) }
+    ensures after { IsSome result → stop ≤ i }
+    ensures agrees { result ≡ Some Agreed → (agree (state_of_row old.now.items (i - stop + b)) (option_map (λ s. s.now) state.entry) ≡ true) × IfSome cut (λ n. i - stop + b ≤ n) }
+    ensures stopped { result ≡ Some Halted → (option_map (λ s. s.now) state.entry ≡ Some Stopped) × StopsAt old.now.items cut (i - stop + b) }
+    ensures goes_on { result ≡ None → stop ≤ i → GoesOn old.now.items cut (i - stop + b) (option_map (λ s. s.now) state.entry) }
+    ensures reads { IfSome result (λ why. read_beyond why ≡ 1) }
 {
-    i >= stop && agree(old, i - stop + b, state)
+    if i < stop {
+        return None;
+    }
+    scan_end(old, cut, i - stop + b, state)
 }
 
 /// A recorder before a sound row with this state, or at a text's start. The only error is memory.
@@ -98,16 +172,16 @@ fn recorder_at<'a, A: Allocator + Copy>(
 pub struct Scanned<A: Allocator> {
     pub records: Vec<Record<A>, A>,
     pub end: usize,
-    /// Whether row `end` agrees with the old one. If not, it is the text's end.
-    pub agreed: bool,
+    pub why: ScanEnd,
 }
 
-/// Scans the rows from the restart on, to the first from `stop` on that agrees with the old one, which lies as far behind `b`, or to the
-/// end. The only error is memory.
+/// Scans the rows from the restart on, to the first from `stop` on at which scanning ends, or to the text's end. The old row of one from
+/// `stop` on lies as far behind `b`. The only error is memory.
 pub fn rescan_from<L: Lines>(
     alloc: L::Alloc,
     lines: &L,
     old: &Chunks<Record<L::Alloc>, L::Alloc>,
+    cut: Option<usize>,
     from: &Restart<'_, L::Alloc>,
     stop: usize,
     b: usize,
@@ -121,27 +195,47 @@ pub fn rescan_from<L: Lines>(
     requires meter { meter.old.lines + length (L.rows lines.now) < 2 ^ 32 }
     ensures records { IfOk result (λ r. r.records.items ≡ take (r.end - from.now.row) (drop from.now.row (records (characters_in (L.rows lines.now))))) }
     ensures end { IfOk result (λ r. (from.now.row ≤ r.end) × (r.end ≤ length (L.rows lines.now))) }
-    ensures agreed { IfOk result (λ r. r.agreed ≡ true → (stop ≤ r.end) × (r.end < length (L.rows lines.now)) × (agrees old.now.items (records (characters_in (L.rows lines.now))) stop b r.end ≡ true)) }
-    ensures whole { IfOk result (λ r. r.agreed ≡ false → r.end ≡ length (L.rows lines.now)) }
-    ensures least { IfOk result (λ r. (j : ℕ) → stop ≤ j → j < r.end → agrees old.now.items (records (characters_in (L.rows lines.now))) stop b j ≡ false) }
-    ensures counted { IfOk result (λ r. meter.new.lines ≡ meter.old.lines + (r.end - from.now.row) + (if r.agreed then 1 else 0)) }
+    ensures agrees { IfOk result (λ r. r.why ≡ Agreed → EndsAt stop (length (L.rows lines.now)) r.end × (agrees old.now.items (records (characters_in (L.rows lines.now))) stop b r.end ≡ true) × IfSome cut (λ n. r.end - stop + b ≤ n)) }
+    ensures stopped { IfOk result (λ r. r.why ≡ Halted → EndsAt stop (length (L.rows lines.now)) r.end × (state_of_row (records (characters_in (L.rows lines.now))) r.end ≡ Some Stopped) × StopsAt old.now.items cut (r.end - stop + b)) }
+    ensures whole { IfOk result (λ r. r.why ≡ TextEnd → r.end ≡ length (L.rows lines.now)) }
+    ensures goes_on { IfOk result (λ r. (j : ℕ) → stop ≤ j → j < r.end → GoesOn old.now.items cut (j - stop + b) (state_of_row (records (characters_in (L.rows lines.now))) j)) }
+    ensures counted { IfOk result (λ r. meter.new.lines ≡ meter.old.lines + (r.end - from.now.row) + read_beyond r.why) }
     ensures documents { OnOk result (meter.new.documents ≡ meter.old.documents) }
 {
     rows_fit(lines);
     let mut recorder = recorder_at(&alloc, from.state)?;
     for i in from.row..lines.len() {
         recorder.feed_text(lines.row(i).as_str(), meter)?;
-        if is_stop(old, i, stop, b, recorder.state()) {
+        if let Some(why) = end_at(old, cut, i, stop, b, recorder.state()) {
             return Ok(Scanned {
                 records: recorder.cut(),
                 end: i,
-                agreed: true,
+                why,
             });
         }
     }
     Ok(Scanned {
         records: recorder.finish()?,
         end: lines.len(),
-        agreed: false,
+        why: ScanEnd::TextEnd,
     })
+}
+
+/// The records of the rows from one on, where reading has stopped above it: nothing is read of them. The only error is memory.
+pub fn unread<L: Lines>(
+    alloc: L::Alloc,
+    lines: &L,
+    from: usize,
+) -> Result<Vec<Record<L::Alloc>, L::Alloc>, AllocError>
+    requires lines { AreLines (L.rows lines.now) }
+    requires within { from ≤ length (L.rows lines.now) }
+    ensures { IfOk result (λ records. records.items ≡ records_from Stopped (characters_in (drop from (L.rows lines.now)))) }
+{
+    rows_fit(lines);
+    let mut passed = Meter::new();
+    let mut recorder = Recorder::resume(&alloc, &LineState::stopped())?;
+    for i in from..lines.len() {
+        recorder.feed_text(lines.row(i).as_str(), &mut passed)?;
+    }
+    recorder.finish()
 }

@@ -1,18 +1,18 @@
 -- How many lines and records there are, also after an edit.
-use Rattle.std.proofs.Common.{◌≡◌, ◌^◌, ◌+◌, ◌≤◌, ◌<◌, ◌++◌, ℕ, List, length, take, drop, map, arith, length-append}
+use Rattle.std.proofs.Common.{◌≡◌, ◌^◌, ◌+◌, ◌≤◌, ◌<◌, ◌++◌, ◌∙◌, ℕ, List, Option, length, take, drop, map, arith, length-append}
 use Rattle.std.proofs.lemmas.List.{length-map}
 use Rattle.std.specs.List.{splice}
-use Rattle.yl_text.specs.Character.{indentation}
+use Rattle.std.specs.Str.{chars}
 use Rattle.yl_text.specs.Lines.{RowValue}
 use Rattle.yl_text.specs.Store.{AreLines}
 use Rattle.yl_text.proofs.Edited.{length-lines}
-use Rattle.std.specs.Str.{chars}
-use Rattle.yl_row.specs.Entries.{entries}
-use Rattle.yl_lint.specs.TextReport.{kept_of_text, records_of}
-use Rattle.yl_record.specs.Records.{characters_in}
-use Rattle.yl_lint.proofs.Rows.{few_with}
-use Rattle.yl_config.specs.declared.config.Config.{Config}
+use Rattle.yl_record.specs.Records.{RecordValue, characters_in}
+use Rattle.yl_rescan.specs.Held.{AreHeld}
+use Rattle.yl_rescan.proofs.Held.{held_length}
+use Rattle.yl_sections.specs.Judge.{kept_of_section}
 use Rattle.yl_sections.specs.Kept.{KeptValue}
+use Rattle.yl_sections.specs.Sections.{sections}
+use Rattle.yl_config.specs.declared.config.Config.{Config}
 use Rattle.yl_rejudge.specs.Places.{rows_kept}
 use Rattle.yl_rejudge.proofs.SectionsEdited.{count_kept, few_sections, rows_of_kept}
 use Rattle.yl_session.proofs.Places.{rows_put}
@@ -26,18 +26,18 @@ few_lines ps h = omega (arith, length-lines ps h.lines.ended, h.short)
 pub few_new : (ps ns : List RowValue) (a b : ℕ) → AreLines (splice ps a b ns) → length ns < 2 ^ 30
 few_new ps ns a b h = omega (arith, new_within ps ns a b, few_lines (splice ps a b ns) h)
 
--- no more records than lines
-pub few_records : (ps : List RowValue) → length (records_of ps) ≤ length ps
-few_records ps =
-    omega (arith, few_with (map indentation (characters_in ps)) (entries (characters_in ps)), length-map (characters_in ps) indentation, length-map ps (λ (row : RowValue). chars row.text))
+-- a record a line
+pub count_records : (ps : List RowValue) (cut : Option ℕ) (rs : List RecordValue) → AreHeld (characters_in ps) cut rs → length rs ≡ length ps
+count_records ps cut rs h = held_length (characters_in ps) cut rs h ∙ length-map ps (λ (row : RowValue). chars row.text)
 
--- no more sections than records and one, and as many rows
-pub few_kept : (config : Config) (ps : List RowValue) (ks : List KeptValue) → AreLines ps → ks ≡ kept_of_text config ps → length ks < 2 ^ 31
-few_kept config ps ks lines is = omega (arith, few_lines ps lines, few_records ps, few_sections (records_of ps), count_kept config (records_of ps) ks is)
+-- as many rows of sections, and no more sections than those and one
+pub few_kept : (config : Config) (ps : List RowValue) (cut : Option ℕ) (rs : List RecordValue) (ks : List KeptValue) → AreLines ps → AreHeld (characters_in ps) cut rs → ks ≡ map (kept_of_section config) (sections rs) → length ks < 2 ^ 31
+few_kept config ps cut rs ks lines held is = omega (arith, few_lines ps lines, count_records ps cut rs held, few_sections rs, count_kept config rs ks is)
 
-pub few_rows : (config : Config) (ps : List RowValue) (ks : List KeptValue) → AreLines ps → ks ≡ kept_of_text config ps → rows_kept ks < 2 ^ 31
-few_rows config ps ks lines is = omega (arith, few_lines ps lines, few_records ps, rows_of_kept config (records_of ps) ks is)
+pub few_rows : (config : Config) (ps : List RowValue) (cut : Option ℕ) (rs : List RecordValue) (ks : List KeptValue) → AreLines ps → AreHeld (characters_in ps) cut rs → ks ≡ map (kept_of_section config) (sections rs) → rows_kept ks < 2 ^ 31
+few_rows config ps cut rs ks lines held is = omega (arith, few_lines ps lines, count_records ps cut rs held, rows_of_kept config rs ks is)
 
 -- the same of what is put in place of some
-pub few_rows_put : (config : Config) (ps : List RowValue) (ks ns : List KeptValue) (i j : ℕ) → AreLines ps → splice ks i j ns ≡ kept_of_text config ps → rows_kept ns < 2 ^ 31
-few_rows_put config ps ks ns i j lines is = omega (arith, rows_put ks ns i j, few_rows config ps (splice ks i j ns) lines is)
+pub few_rows_put : (config : Config) (ps : List RowValue) (cut : Option ℕ) (rs : List RecordValue) (ks ns : List KeptValue) (i j : ℕ) → AreLines ps → AreHeld (characters_in ps) cut rs
+    → splice ks i j ns ≡ map (kept_of_section config) (sections rs) → rows_kept ns < 2 ^ 31
+few_rows_put config ps cut rs ks ns i j lines held is = omega (arith, rows_put ks ns i j, few_rows config ps cut rs (splice ks i j ns) lines held is)

@@ -1,5 +1,5 @@
 -- What becomes of problems, from what becomes of their parts.
-use Rattle.std.proofs.Common.{◌≡◌, ℕ, Bool, true, false, List, Option, Some, None, ap, ◌∙◌}
+use Rattle.std.proofs.Common.{◌≡◌, ℕ, Bool, true, false, Bor, List, map, Option, Some, None, ap, ◌∙◌}
 use Rattle.std.specs.Prelude.{IfSome, MatchOption, is_some}
 use Rattle.yl_text.specs.Lines.{RowValue}
 use Rattle.yl_text.specs.declared.finding.RuleId.{RuleId}
@@ -8,8 +8,8 @@ use Rattle.yl_report.specs.Directive.{disables_file, is_silenced}
 use Rattle.yl_report.specs.Heard.{heard}
 use Rattle.yl_report.specs.Report.{ProblemValue}
 use Rattle.yl_sections.specs.Kept.{KeptValue}
-use Rattle.yl_lint.specs.TextReport.{comments_in_sections, first_text, kept_of_text, report, shown}
-use Rattle.yl_lint.specs.Unsilenced.{IsHeardOfText, unsilenced_report}
+use Rattle.yl_lint.specs.TextReport.{comments_in_sections, first_text, report_by, shown}
+use Rattle.yl_lint.specs.Unsilenced.{IsHeardOfText, unsilenced_by}
 
 pub both : {X : Type 0} (P Q : X → Type 0) (o : Option X) → IfSome o P → IfSome o Q → IfSome o (λ x. P x × Q x)
 both P Q None p q = tt
@@ -27,12 +27,19 @@ made_so old items put None None h m = h ∙ m
 made_so old items put (Some p) None h m = h ∙ m
 made_so old items put patch (Some v) h m = h ∙ m
 
+-- the report by lines, and by what is lent of what is kept of their sections
+pub report_told : (config : Config) (lines rows : List RowValue) (lent all : List (Bor KeptValue)) (ks : List KeptValue) → lines ≡ rows → lent ≡ all → map (λ (b : Bor KeptValue). b.now) all ≡ ks
+    → report_by config lines (map (λ (b : Bor KeptValue). b.now) lent) ≡ report_by config rows ks
+report_told config lines rows lent all ks is same kept =
+    ap (λ (ps : List RowValue). report_by config ps (map (λ (b : Bor KeptValue). b.now) lent)) is
+    ∙ ap (λ (js : List KeptValue). report_by config rows js) (ap (λ (bs : List (Bor KeptValue)). map (λ (b : Bor KeptValue). b.now) bs) same ∙ kept)
+
 -- what comments leave of the report that none silences
 pub heard_so : (config : Config) (rows lines : List RowValue) (file : Bool) (s : RuleId → ℕ → Bool) (ks : List KeptValue) (left lent all : List ProblemValue) → IsHeardOfText → file ≡ disables_file (first_text lines) → lines ≡ rows
-    → s ≡ is_silenced (comments_in_sections 0 (shown ks)) → ks ≡ kept_of_text config rows → left ≡ heard file s lent → lent ≡ all → all ≡ unsilenced_report config rows → left ≡ report config rows
-heard_so config rows lines file s ks left lent all law is_file is_lines is_said is_kept is_left is_lent is_all =
-    let u = unsilenced_report config rows in
+    → s ≡ is_silenced (comments_in_sections 0 (shown ks)) → left ≡ heard file s lent → lent ≡ all → all ≡ unsilenced_by config rows ks → left ≡ report_by config rows ks
+heard_so config rows lines file s ks left lent all law is_file is_lines is_said is_left is_lent is_all =
+    let u = unsilenced_by config rows ks in
     is_left
     ∙ (ap (λ (ps : List ProblemValue). heard file s ps) (is_lent ∙ is_all)
     ∙ (ap (λ (b : Bool). heard b s u) (is_file ∙ ap (λ (ls : List RowValue). disables_file (first_text ls)) is_lines)
-    ∙ (ap (λ (t : RuleId → ℕ → Bool). heard (disables_file (first_text rows)) t u) (is_said ∙ ap (λ (xs : List KeptValue). is_silenced (comments_in_sections 0 (shown xs))) is_kept) ∙ law config rows)))
+    ∙ (ap (λ (t : RuleId → ℕ → Bool). heard (disables_file (first_text rows)) t u) is_said ∙ law config rows ks)))

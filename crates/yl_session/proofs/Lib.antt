@@ -1,5 +1,12 @@
 mod Bounds
 mod Changed
+mod HeldSections
+mod HeldKept
+mod HeldStops
+mod HeldCut
+mod HeldShown
+mod HeldReport
+mod HeldDocuments
 mod Read
 mod Renewed
 mod Places

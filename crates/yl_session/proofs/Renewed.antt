@@ -1,91 +1,85 @@
--- What is renewed of a session's text, and what it took.
-use Rattle.std.proofs.Common.{◌≡◌, ◌≤◌, ◌<◌, ◌+◌, ◌⊎◌, inl, inr, ℕ, zero, suc, List, length, take, [], ◌∷◌, Option, Some, None, refl, arith, ap, sym, subst, ◌∙◌}
-use Rattle.std.specs.Prelude.{IsSome}
-use Rattle.std.specs.List.{splice}
-use Rattle.std.specs.Str.{chars}
-use Rattle.std.proofs.lemmas.List.{length-map}
+-- What an edit took: which rows were scanned, and which documents derived.
+use Rattle.std.proofs.Common.{◌≡◌, ◌≤◌, ◌<◌, ◌+◌, ◌-◌, ◌⊎◌, inl, inr, ℕ, zero, suc, false, true, List, length, [], ◌∷◌, Option, Some, None, ap, sym, ◌∙◌, arith}
+use Rattle.std.specs.Prelude.{IfSome, IsSome}
 use Rattle.yl_text.specs.Lines.{RowValue}
 use Rattle.yl_text.specs.Store.{AreLines}
-use Rattle.yl_row.specs.Entries.{RowEntry, LineStateValue, Stopped, Stands, entries}
+use Rattle.yl_row.specs.Entries.{RowEntry, LineStateValue, entries}
 use Rattle.yl_scan.specs.Restart.{state_at}
-use Rattle.yl_scan.proofs.Edits.{above}
-use Rattle.yl_record.specs.Records.{RecordValue, records, characters_in}
+use Rattle.yl_record.specs.Records.{RecordValue, records}
+use Rattle.yl_sections.specs.Local.{is_start_at}
 use Rattle.yl_sections.specs.Sections.{sections}
-use Rattle.yl_sections.proofs.Last.{last_kept, stopped_empty}
-use Rattle.yl_sections.proofs.Lost.{lost_rows}
-use Rattle.yl_rescan.specs.Rescan.{IsRescan, IsRestart}
-use Rattle.yl_rescan.proofs.Rows.{each_row, records_length}
-use Rattle.yl_rescan.proofs.Edits.{characters_spliced}
-use Rattle.yl_rejudge.specs.Alike.{GoOnAlike}
-use Rattle.yl_rejudge.specs.Documents.{documents_holding, TakesNothing}
+use Rattle.yl_rejudge.specs.Documents.{documents_holding}
+use Rattle.yl_rejudge.proofs.SectionStarts.{not_first}
+use Rattle.yl_rescan.specs.Held.{AreHeld, IsCutAt}
+use Rattle.yl_rescan.specs.Rescan.{IsRescan, IsRestart, IsStop}
+use Rattle.yl_rescan.proofs.Rows.{each_row}
 use Rattle.yl_session.specs.Work.{IsWork}
+use Rattle.yl_session.proofs.HeldDocuments.{documents_above, documents_behind, documents_upto, holding_more}
 
-by_state : (old new : List (List ℕ)) (i j : ℕ) (s : LineStateValue) → state_at (entries old) i ≡ Some s → state_at (entries new) j ≡ Some s → GoOnAlike (records old) (records new) i j
-by_state old new i j Stopped x y = inr (inr (stopped_empty new j y))
-by_state old new i j (Stands levels brackets last) x y = inr (inl (last_kept old i levels brackets last x ∙ sym (last_kept new j levels brackets last y)))
-
--- where scanning stopped, both texts go on alike
-pub go_on_alike : (old new : List (List ℕ)) (rs us : List RecordValue) → rs ≡ records old → us ≡ records new → (a b k r i j n : ℕ) → IsRescan old new a b k r i j n → GoOnAlike rs us i j
-go_on_alike old new rs us rs_are us_are a b k r i j n h = elim h.ended [
-  | inl e ↦ inl (e.1 ∙ sym (ap (λ (vs : List RecordValue). length vs) us_are ∙ records_length new))
-  | inr s ↦ rw (rs_are, us_are) (by_state old new i j s.state s.before s.after)
-]
-
--- the state at a row that is there
-state_within : (es : List RowEntry) (i : ℕ) (s : LineStateValue) → state_at es i ≡ Some s → i < length es
-state_within [] i s h = absurd (cc)
-state_within (e ∷ es) zero s h = omega arith
-state_within (e ∷ es) (suc i) s h = let l = state_within es i s h in omega (arith, l)
-
-some_of : {X : Type 0} (o : Option X) → IsSome o → (x : X) × (o ≡ Some x)
-some_of None h = absurd (cc)
-some_of (Some x) h = (x, refl)
-
--- a text has a row, and the row at which scanning began is one
+-- a text has a row
 pub has_row : (ps : List RowValue) → AreLines ps → 0 < length ps
 has_row [] h = absurd h.lines.ended
 has_row (p ∷ ps) h = omega arith
 
-pub restart_within : (t : List (List ℕ)) (a r : ℕ) → 0 < length t → IsRestart t a r → r < length t
+-- ---- where scanning began and ended
+
+state_within : (es : List RowEntry) (i : ℕ) → IsSome (state_at es i) → i < length es
+state_within [] i h = absurd (cc)
+state_within (e ∷ es) zero h = omega arith
+state_within (e ∷ es) (suc i) h = let l = state_within es i h in omega (arith, l)
+
+restart_within : (t : List (List ℕ)) (a r : ℕ) → 0 < length t → IsRestart t a r → r < length t
 restart_within t a r some h = elim h.place [
   | inl z ↦ omega (arith, some, z)
-  | inr p ↦ let s = some_of (state_at (entries t) r) p.1 in omega (arith, state_within (entries t) r s.0 s.1, each_row t)
+  | inr p ↦ omega (arith, state_within (entries t) r p.1, each_row t)
 ]
 
--- where a section begins at that row anew, nothing was read of the old rows from there on
-takes_nothing : (old new : List (List ℕ)) (a r : ℕ) → r < length new → (r < a → take (r + 1) old ≡ take (r + 1) new) → IsRestart new a r → TakesNothing (records old) (records new) r
-takes_nothing old new a r within same h = record {
-  within = omega (arith, within, records_length new);
-  front = lost_rows old new r (above h.place) (sound h.place);
-} where
-  above : (r ≡ 0) ⊎ ((r < a) × IsSome (state_at (entries new) r)) → (r ≡ 0) ⊎ (take (r + 1) old ≡ take (r + 1) new)
-  above (inl z) = inl z
-  above (inr p) = inr (same p.0)
+-- not below the row at which it ends at the latest
+restart_before : (old new : List (List ℕ)) (a b k r m : ℕ) → 0 < length new → IsRestart new a r → IsStop old new (a + k) b m → r ≤ m
+restart_before old new a b k r m some h stop = elim stop.place [
+  | inl p ↦ let l = p.0 in elim h.place [
+    | inl z ↦ omega (arith, z)
+    | inr q ↦ let o = q.0 in omega (arith, l, o)
+  ]
+  | inr e ↦ omega (arith, e, restart_within new a r some h)
+]
 
-  sound : (r ≡ 0) ⊎ ((r < a) × IsSome (state_at (entries new) r)) → (r ≡ 0) ⊎ IsSome (state_at (entries new) r)
-  sound (inl z) = inl z
-  sound (inr p) = inr p.1
+-- ---- documents
 
--- rows above the edit stay
-pub stays : (ps ns : List RowValue) (a b r : ℕ) → a ≤ length ps → r < a → take (r + 1) (characters_in ps) ≡ take (r + 1) (characters_in (splice ps a b ns))
-stays ps ns a b r within l =
-    let xs = characters_in ps in
-    let few : a ≤ length xs = omega (arith, within, length-map ps (λ (row : RowValue). chars row.text)) in
-    above xs (characters_in ns) a b r few l ∙ ap (λ (us : List (List ℕ)). take (r + 1) us) (sym (characters_spliced ps ns a b))
+differ : (old : List RecordValue) → is_start_at old 0 ≡ true → ⊥
+differ rs h = let f = not_first rs in let g : true ≡ false = sym h ∙ f in absurd (cc)
+
+-- the records that are kept hold no more documents above the row at which they are cut
+held_few : (t : List (List ℕ)) (cut : Option ℕ) (us : List RecordValue) (from end : ℕ) → AreHeld t cut us → IfSome cut (λ c. end ≤ c) → documents_holding 0 from (end - 1) (sections us) ≤ documents_holding 0 from (end - 1) (sections (records t))
+held_few t None us from end held below = let e = ap (λ (rs : List RecordValue). documents_holding 0 from (end - 1) (sections rs)) held in omega (arith, e)
+held_few t (Some zero) us from end held below = absurd (differ us held.start)
+held_few t (Some (suc c)) us from end held below = documents_above t (suc c) us from (end - 1) held (omega (arith, below))
+
+few_documents : (old new : List (List ℕ)) (a b k from end n : ℕ) → 0 < length new → (h : IsRescan old new a b k from end n) → documents_holding 0 from (end - 1) (sections (records new)) ≤ documents_holding 0 h.r h.m (sections (records new))
+few_documents old new a b k from end n some h =
+    let all = sections (records new) in
+    elim h.above [
+      | inl is ↦
+          let e = ap (λ i. documents_holding 0 i (end - 1) all) is in
+          elim h.below [
+            | inl l ↦ omega (arith, e, holding_more all 0 h.r (end - 1) h.m (omega (arith, l)))
+            | inr s ↦ omega (arith, e, documents_upto new s.row h.r (end - 1) h.m s.stopped s.within)
+          ]
+      | inr p ↦
+          let l = p.0 in
+          documents_behind new from h.r (end - 1) h.m p.1 (omega (arith, l, restart_before old new a b k h.r h.m some h.restart h.stop)) (restart_within new a h.r some h.restart)
+    ]
 
 -- the rows that were scanned, and the documents that were derived
-pub is_work : (old new : List (List ℕ)) (rs us : List RecordValue) (a b k r i j n scanned documents : ℕ) → rs ≡ records old → us ≡ records new → 0 < length new
-    → (r < a → take (r + 1) old ≡ take (r + 1) new) → IsRescan old new a b k r i j n → scanned ≡ n
-    → (TakesNothing rs us r → (m : ℕ) → j ≤ m + 1 → documents ≤ documents_holding 0 r m (sections us))
+pub is_work : (old new : List (List ℕ)) (cut : Option ℕ) (us : List RecordValue) (a b k from end n scanned documents : ℕ) → 0 < length new → AreHeld new cut us → IfSome cut (λ c. end ≤ c)
+    → IsRescan old new a b k from end n → scanned ≡ n → ((m : ℕ) → end ≤ m + 1 → documents ≤ documents_holding 0 from m (sections us))
     → IsWork old new a b k (record { scanned = scanned; documents = documents })
-is_work old new rs us a b k r i j n scanned documents rs_are us_are row same h s few =
-    let taken : TakesNothing rs us r = rw (rs_are, us_are) (takes_nothing old new a r (restart_within new a r row h.restart) same h.restart) in
-    record {
-      r = r;
-      m = h.m;
-      restart = h.restart;
-      stop = h.stop;
-      some = omega (arith, h.some, s);
-      few = omega (arith, h.few, s);
-      documents = subst (λ (vs : List RecordValue). documents ≤ documents_holding 0 r h.m (sections vs)) us_are (few taken h.m h.within);
-    }
+is_work old new cut us a b k from end n scanned documents row held below h s few = record {
+  r = h.r;
+  m = h.m;
+  restart = h.restart;
+  stop = h.stop;
+  some = omega (arith, h.some, s);
+  few = omega (arith, h.few, s);
+  documents = let l = few (end - 1) (omega arith) in omega (arith, l, held_few new cut us from end held below, few_documents old new a b k from end n row h);
+}

@@ -1,10 +1,13 @@
 //! What an edit is to change, made beside what there is.
-ghost use Rattle.std.specs.Prelude.{◌≡◌, ◌≤◌, ◌<◌, ◌^◌, ◌+◌, true, Some, length, take, vec_len, vec_capacity, IfOk, IfSome, OnOk};
+ghost use Rattle.std.specs.Prelude.{◌≡◌, ◌≤◌, ◌<◌, ◌^◌, ◌+◌, true, Some, length, map, take, vec_len, vec_capacity, IfOk, IfSome, OnOk};
 ghost use Rattle.std.specs.List.{AllByRecursion, splice};
 ghost use Rattle.yl_text.specs.Store.{AreLines, IsRange};
-ghost use Rattle.yl_lint.specs.TextReport.{kept_of_text, records_of, report};
-ghost use Rattle.yl_lint.specs.Unsilenced.{unsilenced_report};
+ghost use Rattle.yl_lint.specs.TextReport.{report};
+ghost use Rattle.yl_lint.specs.Unsilenced.{unsilenced_by};
 ghost use Rattle.yl_record.specs.Records.{characters_in};
+ghost use Rattle.yl_sections.specs.Judge.{kept_of_section};
+ghost use Rattle.yl_sections.specs.Sections.{sections};
+ghost use Rattle.yl_rescan.specs.Held.{AreHeld};
 ghost use Rattle.yl_rejudge.specs.Places.{IsAt, rows_kept};
 ghost use Rattle.yl_patch.specs.Plain.{IsOverviewOf};
 ghost use Rattle.yl_session.specs.Change.{IsFit, Makes};
@@ -76,12 +79,14 @@ pub fn make_room<A: Allocator + Copy>(
     Ok(())
 }
 
-/// What the edit is to change that puts these rows in place of the lines a to b. Nothing is changed yet. The only error is out of memory.
+/// What the edit is to change that puts these rows in place of the lines a to b. The records from row `cut` on, where there is one, stand
+/// below a scan fault and are as they were before it. Nothing is changed yet. The only error is out of memory.
 pub fn planned<S: LineStore>(
     alloc: S::Alloc,
     config: &Config,
     store: &S,
     records: &Chunks<Record<S::Alloc>, S::Alloc>,
+    cut: Option<usize>,
     places: &[Place],
     known: &Known<'_, S::Alloc>,
     a: usize,
@@ -91,27 +96,29 @@ pub fn planned<S: LineStore>(
     requires range { IsRange a b (length (S.rows store.now)) }
     requires old { AreLines (S.rows store.now) }
     requires lines { AreLines (splice (S.rows store.now) a b rows.now) }
-    requires records { records.now.items ≡ records_of (S.rows store.now) }
-    requires kept { known.now.kept.now.items ≡ kept_of_text config.now (S.rows store.now) }
+    requires held { AreHeld (characters_in (S.rows store.now)) cut records.now.items }
+    requires kept { known.now.kept.now.items ≡ map (kept_of_section config.now) (sections records.now.items) }
     requires at { AllByRecursion (IsAt known.now.kept.now.items) places.now }
     requires overview { IsOverviewOf known.now.kept.now.items known.now.overview }
     requires problems { known.now.problems.now ≡ report config.now (S.rows store.now) }
-    requires known { known.now.is_known ≡ true → known.now.unsilenced.now ≡ unsilenced_report config.now (S.rows store.now) }
+    requires known { known.now.is_known ≡ true → known.now.unsilenced.now ≡ unsilenced_by config.now (S.rows store.now) known.now.kept.now.items }
     ensures range { IfOk result (λ p. IsRange p.rescan.from p.rescan.old_end (length records.now.items)) }
-    ensures records { IfOk result (λ p. splice records.now.items p.rescan.from p.rescan.old_end p.rescan.records.items ≡ records_of (splice (S.rows store.now) a b rows.now)) }
+    ensures held { IfOk result (λ p. AreHeld (characters_in (splice (S.rows store.now) a b rows.now)) p.rescan.cut (splice records.now.items p.rescan.from p.rescan.old_end p.rescan.records.items)) }
     ensures kept_range { IfOk result (λ p. IsRange p.rejudged.from p.rejudged.end (length known.now.kept.now.items)) }
     ensures from_row { IfOk result (λ p. p.rejudged.from_row ≡ rows_kept (take p.rejudged.from known.now.kept.now.items)) }
     ensures end_row { IfOk result (λ p. p.rejudged.end_row ≡ rows_kept (take p.rejudged.end known.now.kept.now.items)) }
-    ensures kept { IfOk result (λ p. splice known.now.kept.now.items p.rejudged.from p.rejudged.end p.rejudged.kept.items ≡ kept_of_text config.now (splice (S.rows store.now) a b rows.now)) }
+    ensures kept { IfOk result (λ p. splice known.now.kept.now.items p.rejudged.from p.rejudged.end p.rejudged.kept.items
+        ≡ map (kept_of_section config.now) (sections (splice records.now.items p.rescan.from p.rescan.old_end p.rescan.records.items))) }
     ensures fit { IfOk result (λ p. IsFit known.now.problems.now p.renewal.report.patch) }
     ensures report { IfOk result (λ p. Makes known.now.problems.now (report config.now (splice (S.rows store.now) a b rows.now)) p.renewal.report) }
     ensures unsilenced_fit { IfOk result (λ p. IsFit known.now.unsilenced.now p.renewal.unsilenced.patch) }
-    ensures unsilenced { IfOk result (λ p. p.renewal.is_known ≡ true → Makes known.now.unsilenced.now (unsilenced_report config.now (splice (S.rows store.now) a b rows.now)) p.renewal.unsilenced) }
+    ensures unsilenced { IfOk result (λ p. p.renewal.is_known ≡ true
+        → Makes known.now.unsilenced.now (unsilenced_by config.now (splice (S.rows store.now) a b rows.now) (splice known.now.kept.now.items p.rejudged.from p.rejudged.end p.rejudged.kept.items)) p.renewal.unsilenced) }
     ensures overview { IfOk result (λ p. IsOverviewOf (splice known.now.kept.now.items p.rejudged.from p.rejudged.end p.rejudged.kept.items) p.renewal.overview) }
     ensures work { IfOk result (λ p. IsWork (characters_in (S.rows store.now)) (characters_in (splice (S.rows store.now) a b rows.now)) a b (length rows.now) p.work) }
 {
     let mut meter = Meter::new();
-    let rescan = rescan(alloc, store, a, b, rows, records, &mut meter)?;
+    let rescan = rescan(alloc, store, a, b, rows, records, cut, &mut meter)?;
     let near = nearest(known.kept, places, rescan.from);
     let rejudged = {
         let spliced = Spliced::new(records, rescan.from, rescan.old_end, &rescan.records);

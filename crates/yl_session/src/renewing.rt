@@ -5,8 +5,8 @@ ghost use Rattle.yl_text.specs.Store.{AreLines, IsRange};
 ghost use Rattle.yl_report.specs.Heard.{heard};
 ghost use Rattle.yl_report.specs.Report.{ProblemValue};
 ghost use Rattle.yl_report.specs.Silence.{is_file_silenced_by, is_silenced_at};
-ghost use Rattle.yl_lint.specs.TextReport.{kept_of_text, report};
-ghost use Rattle.yl_lint.specs.Unsilenced.{unsilenced_report};
+ghost use Rattle.yl_lint.specs.TextReport.{report_by};
+ghost use Rattle.yl_lint.specs.Unsilenced.{unsilenced_by};
 ghost use Rattle.yl_rejudge.specs.Places.{rows_kept};
 ghost use Rattle.yl_patch.specs.Patched.{patched};
 ghost use Rattle.yl_patch.specs.Plain.{IsOverviewOf};
@@ -74,10 +74,9 @@ fn unsilenced_after<S: LineStore>(
     requires range { IsRange a b (length (S.rows store.now)) }
     requires old { AreLines (S.rows store.now) }
     requires lines { AreLines (splice (S.rows store.now) a b rows.now) }
-    requires new { sections.now ≡ kept_of_text config.now (splice (S.rows store.now) a b rows.now) }
     requires fit { IsFit unsilenced.now patch }
-    requires patch { Patches unsilenced.now (unsilenced_report config.now (splice (S.rows store.now) a b rows.now)) patch }
-    ensures { IfOk result (λ problems. problems.items ≡ unsilenced_report config.now (splice (S.rows store.now) a b rows.now)) }
+    requires patch { Patches unsilenced.now (unsilenced_by config.now (splice (S.rows store.now) a b rows.now) sections.now) patch }
+    ensures { IfOk result (λ problems. problems.items ≡ unsilenced_by config.now (splice (S.rows store.now) a b rows.now) sections.now) }
 {
     let Some(mut patch) = patch else {
         let all = lent_kept(alloc, sections)?;
@@ -119,13 +118,12 @@ fn heard_after<S: LineStore>(
     requires range { IsRange a b (length (S.rows store.now)) }
     requires old { AreLines (S.rows store.now) }
     requires lines { AreLines (splice (S.rows store.now) a b rows.now) }
-    requires new { sections.now ≡ kept_of_text config.now (splice (S.rows store.now) a b rows.now) }
     requires overview { IsOverviewOf sections.now overview }
     requires fit { IsFit unsilenced.now patch }
-    requires patch { Patches unsilenced.now (unsilenced_report config.now (splice (S.rows store.now) a b rows.now)) patch }
+    requires patch { Patches unsilenced.now (unsilenced_by config.now (splice (S.rows store.now) a b rows.now) sections.now) patch }
     ensures fit { IfOk result (λ o. IfSome o (λ r. (old : List ProblemValue) → IsFit old r.report.patch × IsFit old r.unsilenced.patch)) }
-    ensures report { IfOk result (λ o. IfSome o (λ r. (old : List ProblemValue) → Makes old (report config.now (splice (S.rows store.now) a b rows.now)) r.report)) }
-    ensures unsilenced { IfOk result (λ o. IfSome o (λ r. (old : List ProblemValue) → Makes old (unsilenced_report config.now (splice (S.rows store.now) a b rows.now)) r.unsilenced)) }
+    ensures report { IfOk result (λ o. IfSome o (λ r. (old : List ProblemValue) → Makes old (report_by config.now (splice (S.rows store.now) a b rows.now) sections.now) r.report)) }
+    ensures unsilenced { IfOk result (λ o. IfSome o (λ r. (old : List ProblemValue) → Makes old (unsilenced_by config.now (splice (S.rows store.now) a b rows.now) sections.now) r.unsilenced)) }
     ensures overview { IfOk result (λ o. IfSome o (λ r. r.overview ≡ overview)) }
 {
     let edited = Patched::new(store, a, b, rows);
@@ -166,15 +164,13 @@ fn patch_unsilenced<S: LineStore>(
     requires range { IsRange a b (length (S.rows store.now)) }
     requires old { AreLines (S.rows store.now) }
     requires lines { AreLines (splice (S.rows store.now) a b rows.now) }
-    requires kept { known.now.kept.now.items ≡ kept_of_text config.now (S.rows store.now) }
     requires overview { IsOverviewOf known.now.kept.now.items known.now.overview }
-    requires known { known.now.is_known ≡ true → known.now.unsilenced.now ≡ unsilenced_report config.now (S.rows store.now) }
+    requires known { known.now.is_known ≡ true → known.now.unsilenced.now ≡ unsilenced_by config.now (S.rows store.now) known.now.kept.now.items }
     requires kept_range { IsRange edit.now.from edit.now.end (length known.now.kept.now.items) }
     requires from_row { edit.now.from_row ≡ rows_kept (take edit.now.from known.now.kept.now.items) }
     requires end_row { edit.now.end_row ≡ rows_kept (take edit.now.end known.now.kept.now.items) }
-    requires new { splice known.now.kept.now.items edit.now.from edit.now.end edit.now.kept.now ≡ kept_of_text config.now (splice (S.rows store.now) a b rows.now) }
     ensures fit { IfOk result (λ o. IsFit known.now.unsilenced.now o) }
-    ensures patch { IfOk result (λ o. Patches known.now.unsilenced.now (unsilenced_report config.now (splice (S.rows store.now) a b rows.now)) o) }
+    ensures patch { IfOk result (λ o. Patches known.now.unsilenced.now (unsilenced_by config.now (splice (S.rows store.now) a b rows.now) (splice known.now.kept.now.items edit.now.from edit.now.end edit.now.kept.now)) o) }
 {
     if !known.is_known {
         return Ok(None);
@@ -212,20 +208,18 @@ fn heard_renewal<S: LineStore>(
     requires range { IsRange a b (length (S.rows store.now)) }
     requires old { AreLines (S.rows store.now) }
     requires lines { AreLines (splice (S.rows store.now) a b rows.now) }
-    requires kept { known.now.kept.now.items ≡ kept_of_text config.now (S.rows store.now) }
     requires overview { IsOverviewOf known.now.kept.now.items known.now.overview }
-    requires problems { known.now.problems.now ≡ report config.now (S.rows store.now) }
+    requires problems { known.now.problems.now ≡ report_by config.now (S.rows store.now) known.now.kept.now.items }
     requires kept_range { IsRange edit.now.from edit.now.end (length known.now.kept.now.items) }
     requires from_row { edit.now.from_row ≡ rows_kept (take edit.now.from known.now.kept.now.items) }
     requires end_row { edit.now.end_row ≡ rows_kept (take edit.now.end known.now.kept.now.items) }
-    requires new { splice known.now.kept.now.items edit.now.from edit.now.end edit.now.kept.now ≡ kept_of_text config.now (splice (S.rows store.now) a b rows.now) }
     requires fit { IsFit known.now.unsilenced.now other }
-    requires patch { Patches known.now.unsilenced.now (unsilenced_report config.now (splice (S.rows store.now) a b rows.now)) other }
-    requires sections { sections.now ≡ kept_of_text config.now (splice (S.rows store.now) a b rows.now) }
+    requires sections { sections.now ≡ splice known.now.kept.now.items edit.now.from edit.now.end edit.now.kept.now }
+    requires patch { Patches known.now.unsilenced.now (unsilenced_by config.now (splice (S.rows store.now) a b rows.now) sections.now) other }
     requires after { IsOverviewOf sections.now after }
     ensures fit { IfOk result (λ o. IfSome o (λ r. (old : List ProblemValue) → IsFit old r.report.patch × IsFit old r.unsilenced.patch)) }
-    ensures report { IfOk result (λ o. IfSome o (λ r. (old : List ProblemValue) → Makes old (report config.now (splice (S.rows store.now) a b rows.now)) r.report)) }
-    ensures unsilenced { IfOk result (λ o. IfSome o (λ r. (old : List ProblemValue) → Makes old (unsilenced_report config.now (splice (S.rows store.now) a b rows.now)) r.unsilenced)) }
+    ensures report { IfOk result (λ o. IfSome o (λ r. (old : List ProblemValue) → Makes old (report_by config.now (splice (S.rows store.now) a b rows.now) sections.now) r.report)) }
+    ensures unsilenced { IfOk result (λ o. IfSome o (λ r. (old : List ProblemValue) → Makes old (unsilenced_by config.now (splice (S.rows store.now) a b rows.now) sections.now) r.unsilenced)) }
     ensures overview { IfOk result (λ o. IfSome o (λ r. r.overview ≡ after)) }
 {
     if known.is_known {
@@ -278,9 +272,8 @@ fn whole_renewal<S: LineStore>(
     requires range { IsRange a b (length (S.rows store.now)) }
     requires old { AreLines (S.rows store.now) }
     requires lines { AreLines (splice (S.rows store.now) a b rows.now) }
-    requires new { sections.now ≡ kept_of_text config.now (splice (S.rows store.now) a b rows.now) }
     ensures fit { IfOk result (λ r. (old : List ProblemValue) → IsFit old r.report.patch × IsFit old r.unsilenced.patch) }
-    ensures report { IfOk result (λ r. (old : List ProblemValue) → Makes old (report config.now (splice (S.rows store.now) a b rows.now)) r.report) }
+    ensures report { IfOk result (λ r. (old : List ProblemValue) → Makes old (report_by config.now (splice (S.rows store.now) a b rows.now) sections.now) r.report) }
     ensures known { IfOk result (λ r. r.is_known ≡ false) }
     ensures overview { IfOk result (λ r. IsOverviewOf sections.now r.overview) }
 {
@@ -321,19 +314,18 @@ pub fn renewal_of<S: LineStore>(
     requires range { IsRange a b (length (S.rows store.now)) }
     requires old { AreLines (S.rows store.now) }
     requires lines { AreLines (splice (S.rows store.now) a b rows.now) }
-    requires kept { known.now.kept.now.items ≡ kept_of_text config.now (S.rows store.now) }
     requires overview { IsOverviewOf known.now.kept.now.items known.now.overview }
-    requires problems { known.now.problems.now ≡ report config.now (S.rows store.now) }
-    requires known { known.now.is_known ≡ true → known.now.unsilenced.now ≡ unsilenced_report config.now (S.rows store.now) }
+    requires problems { known.now.problems.now ≡ report_by config.now (S.rows store.now) known.now.kept.now.items }
+    requires known { known.now.is_known ≡ true → known.now.unsilenced.now ≡ unsilenced_by config.now (S.rows store.now) known.now.kept.now.items }
     requires kept_range { IsRange new.now.from new.now.end (length known.now.kept.now.items) }
     requires from_row { new.now.from_row ≡ rows_kept (take new.now.from known.now.kept.now.items) }
     requires end_row { new.now.end_row ≡ rows_kept (take new.now.end known.now.kept.now.items) }
     requires few { length known.now.kept.now.items + vec_len new.now.kept < 2 ^ 64 }
-    requires new { splice known.now.kept.now.items new.now.from new.now.end new.now.kept.items ≡ kept_of_text config.now (splice (S.rows store.now) a b rows.now) }
     ensures fit { IfOk result (λ r. IsFit known.now.problems.now r.report.patch) }
-    ensures report { IfOk result (λ r. Makes known.now.problems.now (report config.now (splice (S.rows store.now) a b rows.now)) r.report) }
+    ensures report { IfOk result (λ r. Makes known.now.problems.now (report_by config.now (splice (S.rows store.now) a b rows.now) (splice known.now.kept.now.items new.now.from new.now.end new.now.kept.items)) r.report) }
     ensures unsilenced_fit { IfOk result (λ r. IsFit known.now.unsilenced.now r.unsilenced.patch) }
-    ensures unsilenced { IfOk result (λ r. r.is_known ≡ true → Makes known.now.unsilenced.now (unsilenced_report config.now (splice (S.rows store.now) a b rows.now)) r.unsilenced) }
+    ensures unsilenced { IfOk result (λ r. r.is_known ≡ true
+        → Makes known.now.unsilenced.now (unsilenced_by config.now (splice (S.rows store.now) a b rows.now) (splice known.now.kept.now.items new.now.from new.now.end new.now.kept.items)) r.unsilenced) }
     ensures overview { IfOk result (λ r. IsOverviewOf (splice known.now.kept.now.items new.now.from new.now.end new.now.kept.items) r.overview) }
 {
     let (from, end) = (new.from, new.end);

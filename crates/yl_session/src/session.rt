@@ -29,13 +29,16 @@ use yl_text::{LineStore, Row, TextFault, split};
 
 /// The lines of a text, with a record of each, what is kept of its sections and known of all of them, places
 /// among them, its report under a configuration, and, once it is known, what would be reported if no comment
-/// silenced anything.
+/// silenced anything. The records from row `cut` on, where there is one, stand below a scan fault, behind
+/// which nothing is read: they are as they were before it came, so that they need not be made again once it
+/// goes. What is kept of the sections is kept by these records; of those below a fault the report shows nothing.
 #[derive(Drop)]
 pub struct Session<S: LineStore> {
     alloc: S::Alloc,
     config: Config,
     store: S,
     records: Chunks<Record<S::Alloc>, S::Alloc>,
+    cut: Option<usize>,
     kept: Chunks<Kept<S::Alloc>, S::Alloc>,
     places: Vec<Place, S::Alloc>,
     overview: Overview,
@@ -45,10 +48,14 @@ pub struct Session<S: LineStore> {
 }
 
 impl<S: LineStore> Model for Session<S> {
-    ghost use Rattle.std.specs.Prelude.{◌≡◌, true};
+    ghost use Rattle.std.specs.Prelude.{◌≡◌, true, map};
     ghost use Rattle.yl_session.specs.State.{SessionValue};
-    ghost use Rattle.yl_lint.specs.TextReport.{kept_of_text, records_of, report};
-    ghost use Rattle.yl_lint.specs.Unsilenced.{unsilenced_report};
+    ghost use Rattle.yl_record.specs.Records.{characters_in};
+    ghost use Rattle.yl_sections.specs.Judge.{kept_of_section};
+    ghost use Rattle.yl_sections.specs.Sections.{sections};
+    ghost use Rattle.yl_rescan.specs.Held.{AreHeld};
+    ghost use Rattle.yl_lint.specs.TextReport.{report};
+    ghost use Rattle.yl_lint.specs.Unsilenced.{unsilenced_by};
     ghost use Rattle.std.specs.List.{AllByRecursion};
     ghost use Rattle.yl_patch.specs.Plain.{IsOverviewOf};
     ghost use Rattle.yl_rejudge.specs.Places.{IsAt};
@@ -59,12 +66,12 @@ impl<S: LineStore> Model for Session<S> {
     ghost view = { λ s. record { config = s.config; rows = S.rows s.store; problems = s.problems.items } };
 
     ghost invariant = { λ s. AreLines (S.rows s.store)
-        × (s.records.items ≡ records_of (S.rows s.store))
-        × (s.kept.items ≡ kept_of_text s.config (S.rows s.store))
+        × AreHeld (characters_in (S.rows s.store)) s.cut s.records.items
+        × (s.kept.items ≡ map (kept_of_section s.config) (sections s.records.items))
         × (s.problems.items ≡ report s.config (S.rows s.store))
         × IsOverviewOf s.kept.items s.overview
         × AllByRecursion (IsAt s.kept.items) s.places.items
-        × (s.is_known ≡ true → s.unsilenced.items ≡ unsilenced_report s.config (S.rows s.store)) };
+        × (s.is_known ≡ true → s.unsilenced.items ≡ unsilenced_by s.config (S.rows s.store) s.kept.items) };
 }
 
 impl<S: LineStore> Session<S> {
@@ -98,6 +105,7 @@ impl<S: LineStore> Session<S> {
             config,
             store,
             records,
+            cut: None,
             kept,
             places,
             overview,
@@ -166,6 +174,7 @@ impl<S: LineStore> Session<S> {
                 &self.config,
                 &self.store,
                 &self.records,
+                self.cut,
                 &self.places,
                 &known,
                 a,
@@ -188,6 +197,7 @@ impl<S: LineStore> Session<S> {
             plan.rescan.old_end,
             &mut plan.rescan.records,
         );
+        self.cut = plan.rescan.cut;
         put_kept(&mut self.kept, &mut self.places, &mut plan.rejudged);
         let Renewal {
             report,

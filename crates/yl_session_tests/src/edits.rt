@@ -79,7 +79,7 @@ fn check_over<S: LineStore<Alloc = Global>>(
 }
 
 // Whether that is shown over both stores.
-fn check(
+pub(crate) fn check(
     rt: &impl Abort,
     alloc: Global,
     text: &str,

@@ -11,6 +11,8 @@ mod faults;
 #[cfg(test)]
 mod growth;
 #[cfg(test)]
+mod hidden;
+#[cfg(test)]
 mod refused;
 #[cfg(test)]
 mod rows;

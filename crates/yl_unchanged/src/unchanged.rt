@@ -2,8 +2,8 @@
 ghost use Rattle.std.specs.Prelude.{◌≡◌, ◌<◌, ◌+◌, length, true, IfOk};
 ghost use Rattle.std.specs.List.{splice};
 ghost use Rattle.yl_text.specs.Store.{AreLines, IsRange};
-ghost use Rattle.yl_lint.specs.TextReport.{kept_of_text, report};
-ghost use Rattle.yl_lint.specs.Unsilenced.{unsilenced_report};
+ghost use Rattle.yl_lint.specs.TextReport.{report_by};
+ghost use Rattle.yl_lint.specs.Unsilenced.{unsilenced_by};
 
 use crate::comparing::are_same;
 use crate::lines::are_alike;
@@ -37,8 +37,8 @@ fn stays<A: Allocator + Copy>(
 
 /// Whether the edit that puts these rows in place of the lines a to b, b not included, leaves the report as it is, and what would be
 /// reported if no comment silenced anything, as far as the edited lines and the sections that were judged again show: true only where it
-/// does. Of the sections, `kept` is what was kept, and `new` is what
-/// is to be kept in place of those from `from` on, before `end`. The only error is out of memory.
+/// does. Of the sections, `kept` is what was kept, whatever it is, and `new` is what is to be kept in place of those from `from` on, before
+/// `end`. The only error is out of memory.
 pub fn leaves_report<S: LineStore>(
     alloc: S::Alloc,
     config: &Config,
@@ -54,11 +54,9 @@ pub fn leaves_report<S: LineStore>(
     requires range { IsRange a b (length (S.rows store.now)) }
     requires old { AreLines (S.rows store.now) }
     requires lines { AreLines (splice (S.rows store.now) a b rows.now) }
-    requires kept { kept.now.items ≡ kept_of_text config.now (S.rows store.now) }
     requires kept_range { IsRange from end (length kept.now.items) }
-    requires new { splice kept.now.items from end new.now ≡ kept_of_text config.now (splice (S.rows store.now) a b rows.now) }
-    ensures report { IfOk result (λ same. same ≡ true → report config.now (splice (S.rows store.now) a b rows.now) ≡ report config.now (S.rows store.now)) }
-    ensures unsilenced { IfOk result (λ same. same ≡ true → unsilenced_report config.now (splice (S.rows store.now) a b rows.now) ≡ unsilenced_report config.now (S.rows store.now)) }
+    ensures report { IfOk result (λ same. same ≡ true → report_by config.now (splice (S.rows store.now) a b rows.now) (splice kept.now.items from end new.now) ≡ report_by config.now (S.rows store.now) kept.now.items) }
+    ensures unsilenced { IfOk result (λ same. same ≡ true → unsilenced_by config.now (splice (S.rows store.now) a b rows.now) (splice kept.now.items from end new.now) ≡ unsilenced_by config.now (S.rows store.now) kept.now.items) }
 {
     if !is_inner(a, b, rows.len(), store.len()) || !stays(kept, from, end, new) {
         return Ok(false);

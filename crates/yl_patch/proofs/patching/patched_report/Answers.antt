@@ -46,7 +46,7 @@ returns-clause-report g c =
     ap (λ n. patched p.from p.end p.problems.items n p.down c.args.problems.now) shift.0
     ∙ (ap (λ n. patched p.from p.end p.problems.items t.old_end n c.args.problems.now) shift.1
     ∙ report_as_shown config rows ins kept c.args.edit.now.kept.now c.args.a c.args.b c.args.edit.now.from c.args.edit.now.end c.args.overview.sound t hidden s.found.items seen c.requires.range.ordered c.requires.kept_range.ordered c.requires.kept_range.within
-    c.requires.kept c.requires.new loud (ap (λ (xs : List RowValue). disables_file (first_text xs)) (sym c.new-edited.ensures) ∙ loud') speaks.alike p.from p.end p.problems.items c.args.problems.now c.requires.problems i j
+    loud (ap (λ (xs : List RowValue). disables_file (first_text xs)) (sym c.new-edited.ensures) ∙ loud') speaks.alike p.from p.end p.problems.items c.args.problems.now c.requires.problems i j
     (put
     ∙ same_silences (levels_of config) (is_file_silenced_by silences) (is_silenced_at silences) (is_silenced (comments_in_sections 0 (settled before ++ settled_below hidden c.args.edit.now.kept.now))) s.found.items s.found.items
     c.in_ok-silences.ensures.file said refl)))

@@ -21,5 +21,5 @@ returns-clause-report g c =
     ap (λ n. patched p.from p.end p.problems.items n p.down c.args.problems.now) shift.0
     ∙ (ap (λ n. patched p.from p.end p.problems.items t.old_end n c.args.problems.now) shift.1
     ∙ unsilenced_edited config rows ins kept c.args.edit.now.kept.now c.args.a c.args.b c.args.edit.now.from c.args.edit.now.end c.args.overview.sound t s.hidden s.found.items seen c.requires.range.ordered c.requires.kept_range.ordered c.requires.kept_range.within
-    c.requires.kept c.requires.new p.from p.end p.problems.items c.args.problems.now c.requires.problems i j
+    p.from p.end p.problems.items c.args.problems.now c.requires.problems i j
     (put ∙ same_silences (levels_of config) (is_file_silenced_by none) (is_silenced_at none) (is_silenced []) s.found.items s.found.items c.none.ensures.file c.none.ensures.lines refl)))

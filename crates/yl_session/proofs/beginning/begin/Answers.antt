@@ -1,12 +1,14 @@
-use Rattle.std.proofs.Common.{List, arith, subst, sym, ◌∙◌}
+use Rattle.std.proofs.Common.{List, None, arith, refl, subst, sym, ◌∙◌}
 use Rattle.yl_sections.specs.Kept.{KeptValue}
+use Rattle.yl_lint.specs.TextReport.{records_of}
 use Rattle.yl_patch.specs.Plain.{IsOverviewOf}
 use Rattle.yl_session.proofs.Bounds.{few_rows}
 use Rattle.yl_session.proofs.beginning.begin.Goals as goal
 
 pub places_of-requires : goal.places_of-requires
 places_of-requires g c =
-    omega (arith, few_rows c.args.config.now (g.S.Lines.rows c.args.store.now) c.in_ok-kept.kept.items c.requires (c.in_ok-kept.ensures ∙ c.in_ok-records.ensures.kept))
+    let rows = g.S.Lines.rows c.args.store.now in
+    omega (arith, few_rows c.args.config.now rows None (records_of rows) c.in_ok-kept.kept.items c.requires refl (c.in_ok-kept.ensures ∙ c.in_ok-records.ensures.kept))
 
 pub returns-clause-overview : goal.returns-clause-overview
 returns-clause-overview g c =

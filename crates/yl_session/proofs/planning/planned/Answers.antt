@@ -1,19 +1,32 @@
-use Rattle.std.proofs.Common.{◌≡◌, ◌+◌, ◌-◌, ◌≤◌, ◌⊎◌, inl, inr, ℕ, List, length, map, arith, ap, subst, sym, ◌∙◌}
+use Rattle.std.proofs.Common.{◌≡◌, ◌+◌, ◌-◌, ◌≤◌, ℕ, List, Option, length, map, take, drop, arith, ap, subst, sym, ◌∙◌}
 use Rattle.std.proofs.lemmas.List.{length-map}
 use Rattle.std.specs.List.{splice}
 use Rattle.std.specs.Str.{chars}
 use Rattle.yl_text.specs.Lines.{RowValue}
 use Rattle.yl_lexeme.specs.declared.meter.Meter.{Meter}
+use Rattle.yl_report.specs.Report.{ProblemValue}
 use Rattle.yl_record.specs.Records.{RecordValue, characters_in}
-use Rattle.yl_lint.specs.TextReport.{records_of}
-use Rattle.yl_rescan.proofs.Rows.{records_length}
-use Rattle.yl_session.proofs.Bounds.{few_kept, few_lines, few_new, few_records}
-use Rattle.yl_session.proofs.Renewed.{go_on_alike, has_row, is_work, stays}
+use Rattle.yl_sections.specs.Judge.{kept_of_section}
+use Rattle.yl_sections.specs.Kept.{KeptValue}
+use Rattle.yl_sections.specs.Sections.{sections}
+use Rattle.yl_rejudge.specs.Alike.{GoOnAlike}
+use Rattle.yl_rejudge.specs.Documents.{TakesNothing}
+use Rattle.yl_rescan.specs.Held.{AreHeld}
+use Rattle.yl_config.specs.declared.config.Config.{Config}
+use Rattle.yl_lint.specs.TextReport.{report, report_by}
+use Rattle.yl_session.specs.Change.{Makes}
+use Rattle.yl_session.proofs.Bounds.{count_records, few_kept, few_lines}
+use Rattle.yl_session.proofs.HeldReport.{held_report}
+use Rattle.yl_session.proofs.Renewed.{has_row, is_work}
 use Rattle.yl_session.proofs.planning.planned.Goals as goal
 
 -- what is spliced is what was scanned
-spliced_is : (olds news seen all spliced : List RecordValue) (i j : ℕ) → seen ≡ news → spliced ≡ splice olds i j seen → splice olds i j news ≡ all → spliced ≡ all
-spliced_is olds news seen all spliced i j s is whole = is ∙ (ap (λ (rs : List RecordValue). splice olds i j rs) s ∙ whole)
+spliced_is : (olds news seen spliced : List RecordValue) (i j : ℕ) → seen ≡ news → spliced ≡ splice olds i j seen → spliced ≡ splice olds i j news
+spliced_is olds news seen spliced i j s is = is ∙ ap (λ (rs : List RecordValue). splice olds i j rs) s
+
+-- a record is kept of each new line
+count_new : (ps : List RowValue) (cut : Option ℕ) (spliced rs : List RecordValue) → spliced ≡ rs → AreHeld (characters_in ps) cut rs → length spliced ≡ length ps
+count_new ps cut spliced rs is held = ap (λ (us : List RecordValue). length us) is ∙ count_records ps cut rs held
 
 -- a meter that began with no document
 less : {n none some : ℕ} → n ≤ none + some → none ≡ 0 → n ≤ some
@@ -28,60 +41,115 @@ new-spliced-requires-clause-few g c =
     omega (
       arith,
       few_lines rows c.requires.old,
-      few_records rows,
-      ap (λ (rs : List RecordValue). length rs) c.requires.records,
+      count_records rows c.args.cut c.args.records.now.items c.requires.held,
       few_lines (splice rows c.args.a c.args.b c.args.rows.now) c.requires.lines,
       c.in_ok-rescan.ensures.within,
       c.in_ok-rescan.ensures.len,
       ap (λ (rs : List RecordValue). length rs) c.deref.ensures.value,
     )
 
+pub rejudge-requires-clause-before : goal.rejudge-requires-clause-before
+rejudge-requires-clause-before g c =
+    let r = c.in_ok-rescan.rescan in
+    let is = spliced_is c.args.records.now.items r.records.items c.deref.result.now c.new-spliced.result r.from r.old_end c.deref.ensures.value c.new-spliced.ensures in
+    c.in_ok-rescan.ensures.before ∙ ap (λ (rs : List RecordValue). take r.from rs) (sym is)
+
+pub rejudge-requires-clause-behind : goal.rejudge-requires-clause-behind
+rejudge-requires-clause-behind g c =
+    let r = c.in_ok-rescan.rescan in
+    let is = spliced_is c.args.records.now.items r.records.items c.deref.result.now c.new-spliced.result r.from r.old_end c.deref.ensures.value c.new-spliced.ensures in
+    c.in_ok-rescan.ensures.behind ∙ ap (λ (rs : List RecordValue). drop r.end rs) (sym is)
+
 pub rejudge-requires-clause-alike : goal.rejudge-requires-clause-alike
 rejudge-requires-clause-alike g c =
-    let rows = g.S.Lines.rows c.args.store.now in
-    let new = splice rows c.args.a c.args.b c.args.rows.now in
-    let is = spliced_is c.args.records.now.items c.in_ok-rescan.rescan.records.items c.deref.result.now (records_of new) c.new-spliced.result c.in_ok-rescan.rescan.from c.in_ok-rescan.rescan.old_end c.deref.ensures.value c.new-spliced.ensures c.in_ok-rescan.ensures.records in
-    go_on_alike (characters_in rows) (characters_in new) c.args.records.now.items c.new-spliced.result c.requires.records is
-    c.args.a c.args.b (length c.args.rows.now) c.in_ok-rescan.rescan.from c.in_ok-rescan.rescan.old_end c.in_ok-rescan.rescan.end c.rescan.new.meter.lines c.in_ok-rescan.ensures.work
+    let r = c.in_ok-rescan.rescan in
+    let is = spliced_is c.args.records.now.items r.records.items c.deref.result.now c.new-spliced.result r.from r.old_end c.deref.ensures.value c.new-spliced.ensures in
+    subst (λ (rs : List RecordValue). GoOnAlike c.args.records.now.items rs r.old_end r.end) (sym is) c.in_ok-rescan.ensures.alike
 
 pub rejudge-requires-clause-range : goal.rejudge-requires-clause-range
 rejudge-requires-clause-range g c =
-    let rows = g.S.Lines.rows c.args.store.now in
-    let new = splice rows c.args.a c.args.b c.args.rows.now in
-    let is = spliced_is c.args.records.now.items c.in_ok-rescan.rescan.records.items c.deref.result.now (records_of new) c.new-spliced.result c.in_ok-rescan.rescan.from c.in_ok-rescan.rescan.old_end c.deref.ensures.value c.new-spliced.ensures c.in_ok-rescan.ensures.records in
+    let new = splice (g.S.Lines.rows c.args.store.now) c.args.a c.args.b c.args.rows.now in
+    let r = c.in_ok-rescan.rescan in
+    let olds = c.args.records.now.items in
+    let is = spliced_is olds r.records.items c.deref.result.now c.new-spliced.result r.from r.old_end c.deref.ensures.value c.new-spliced.ensures in
     record {
       ordered = omega (arith, c.in_ok-rescan.ensures.len);
-      within = omega (arith, c.in_ok-rescan.ensures.within, ap (λ (rs : List RecordValue). length rs) is, records_length (characters_in new), length-map new (λ (row : RowValue). chars row.text));
+      within = omega (arith, c.in_ok-rescan.ensures.within, count_new new r.cut c.new-spliced.result (splice olds r.from r.old_end r.records.items) is c.in_ok-rescan.ensures.held);
     }
 
 pub rejudge-requires-clause-few : goal.rejudge-requires-clause-few
 rejudge-requires-clause-few g c =
     let rows = g.S.Lines.rows c.args.store.now in
     let new = splice rows c.args.a c.args.b c.args.rows.now in
-    let is = spliced_is c.args.records.now.items c.in_ok-rescan.rescan.records.items c.deref.result.now (records_of new) c.new-spliced.result c.in_ok-rescan.rescan.from c.in_ok-rescan.rescan.old_end c.deref.ensures.value c.new-spliced.ensures c.in_ok-rescan.ensures.records in
-    (omega (arith, few_lines rows c.requires.old, few_records rows, ap (λ (rs : List RecordValue). length rs) c.requires.records), omega (arith, few_lines new c.requires.lines, few_records new, ap (λ (rs : List RecordValue). length rs) is))
+    let r = c.in_ok-rescan.rescan in
+    let olds = c.args.records.now.items in
+    let is = spliced_is olds r.records.items c.deref.result.now c.new-spliced.result r.from r.old_end c.deref.ensures.value c.new-spliced.ensures in
+    (omega (arith, few_lines rows c.requires.old, count_records rows c.args.cut olds c.requires.held), omega (arith, few_lines new c.requires.lines, count_new new r.cut c.new-spliced.result (splice olds r.from r.old_end r.records.items) is c.in_ok-rescan.ensures.held))
 
 pub rejudge-requires-clause-meter : goal.rejudge-requires-clause-meter
 rejudge-requires-clause-meter g c =
     let rows = g.S.Lines.rows c.args.store.now in
     let new = splice rows c.args.a c.args.b c.args.rows.now in
-    let is = spliced_is c.args.records.now.items c.in_ok-rescan.rescan.records.items c.deref.result.now (records_of new) c.new-spliced.result c.in_ok-rescan.rescan.from c.in_ok-rescan.rescan.old_end c.deref.ensures.value c.new-spliced.ensures c.in_ok-rescan.ensures.records in
-    omega (arith, few_lines new c.requires.lines, few_records new, ap (λ (rs : List RecordValue). length rs) is, c.in_ok-rescan.ensures.documents, ap (λ (m : Meter). m.documents) c.new-meter.ensures)
+    let r = c.in_ok-rescan.rescan in
+    let olds = c.args.records.now.items in
+    let is = spliced_is olds r.records.items c.deref.result.now c.new-spliced.result r.from r.old_end c.deref.ensures.value c.new-spliced.ensures in
+    omega (
+      arith,
+      few_lines new c.requires.lines,
+      count_new new r.cut c.new-spliced.result (splice olds r.from r.old_end r.records.items) is c.in_ok-rescan.ensures.held,
+      c.in_ok-rescan.ensures.documents,
+      ap (λ (m : Meter). m.documents) c.new-meter.ensures,
+    )
 
 pub renewal_of-requires-clause-few : goal.renewal_of-requires-clause-few
 renewal_of-requires-clause-few g c =
-    omega (arith, few_kept c.args.config.now (g.S.Lines.rows c.args.store.now) c.args.known.now.kept.now.items c.requires.old c.requires.kept, c.in_ok-rejudged.rejudged.kept.small)
+    omega (arith, few_kept c.args.config.now (g.S.Lines.rows c.args.store.now) c.args.cut c.args.records.now.items c.args.known.now.kept.now.items c.requires.old c.requires.held c.requires.kept, c.in_ok-rejudged.rejudged.kept.small)
+
+-- the report is that of the text, whatever is kept of what stands below a fault
+reported : (config : Config) (ps : List RowValue) (cut : Option ℕ) (rs : List RecordValue) (ks : List KeptValue) → AreHeld (characters_in ps) cut rs → ks ≡ map (kept_of_section config) (sections rs) → report_by config ps ks ≡ report config ps
+reported config ps cut rs ks held is = ap (λ (ls : List KeptValue). report_by config ps ls) is ∙ held_report config ps cut rs held
+
+pub renewal_of-requires-clause-problems : goal.renewal_of-requires-clause-problems
+renewal_of-requires-clause-problems g c =
+    c.requires.problems ∙ sym (reported c.args.config.now (g.S.Lines.rows c.args.store.now) c.args.cut c.args.records.now.items c.args.known.now.kept.now.items c.requires.held c.requires.kept)
+
+-- what is kept then
+kept_is : (config : Config) (ks : List KeptValue) (spliced rs : List RecordValue) → ks ≡ map (kept_of_section config) (sections spliced) → spliced ≡ rs → ks ≡ map (kept_of_section config) (sections rs)
+kept_is config ks spliced rs kept is = kept ∙ ap (λ (us : List RecordValue). map (kept_of_section config) (sections us)) is
+
+pub returns-clause-kept : goal.returns-clause-kept
+returns-clause-kept g c =
+    let r = c.in_ok-rescan.rescan in
+    let j = c.in_ok-rejudged.rejudged in
+    let olds = c.args.records.now.items in
+    let is = spliced_is olds r.records.items c.deref.result.now c.new-spliced.result r.from r.old_end c.deref.ensures.value c.new-spliced.ensures in
+    kept_is c.args.config.now (splice c.args.known.now.kept.now.items j.from j.end j.kept.items) c.new-spliced.result (splice olds r.from r.old_end r.records.items) c.in_ok-rejudged.ensures.kept is
+
+pub returns-clause-report : goal.returns-clause-report
+returns-clause-report g c =
+    let rows = g.S.Lines.rows c.args.store.now in
+    let new = splice rows c.args.a c.args.b c.args.rows.now in
+    let r = c.in_ok-rescan.rescan in
+    let j = c.in_ok-rejudged.rejudged in
+    let olds = c.args.records.now.items in
+    let us = splice olds r.from r.old_end r.records.items in
+    let ks = splice c.args.known.now.kept.now.items j.from j.end j.kept.items in
+    let is = spliced_is olds r.records.items c.deref.result.now c.new-spliced.result r.from r.old_end c.deref.ensures.value c.new-spliced.ensures in
+    subst (λ (ps : List ProblemValue). Makes c.args.known.now.problems.now ps c.in_ok-renewal.renewal.report)
+    (reported c.args.config.now new r.cut us ks c.in_ok-rescan.ensures.held (kept_is c.args.config.now ks c.new-spliced.result us c.in_ok-rejudged.ensures.kept is)) c.in_ok-renewal.ensures.report
 
 pub returns-clause-work : goal.returns-clause-work
 returns-clause-work g c =
     let rows = g.S.Lines.rows c.args.store.now in
     let new = splice rows c.args.a c.args.b c.args.rows.now in
-    let is = spliced_is c.args.records.now.items c.in_ok-rescan.rescan.records.items c.deref.result.now (records_of new) c.new-spliced.result c.in_ok-rescan.rescan.from c.in_ok-rescan.rescan.old_end c.deref.ensures.value c.new-spliced.ensures c.in_ok-rescan.ensures.records in
-    is_work (characters_in rows) (characters_in new) c.args.records.now.items c.new-spliced.result c.args.a c.args.b (length c.args.rows.now) c.in_ok-rescan.rescan.from c.in_ok-rescan.rescan.old_end c.in_ok-rescan.rescan.end c.rescan.new.meter.lines
-    c.rejudge.new.meter.lines c.rejudge.new.meter.documents c.requires.records is (omega (arith, has_row new c.requires.lines, length-map new (λ (row : RowValue). chars row.text)))
-    (λ l. stays rows c.args.rows.now c.args.a c.args.b c.in_ok-rescan.rescan.from (omega (arith, c.requires.range.ordered, c.requires.range.within)) l) c.in_ok-rescan.ensures.work
-    c.in_ok-rejudged.ensures.lines
-    (λ h m l. less (c.in_ok-rejudged.ensures.documents h m l) (omega (arith, c.in_ok-rescan.ensures.documents, ap (λ (m : Meter). m.documents) c.new-meter.ensures)))
+    let r = c.in_ok-rescan.rescan in
+    let olds = c.args.records.now.items in
+    let is = spliced_is olds r.records.items c.deref.result.now c.new-spliced.result r.from r.old_end c.deref.ensures.value c.new-spliced.ensures in
+    let taken = subst (λ (us : List RecordValue). TakesNothing olds us r.from) (sym is) c.in_ok-rescan.ensures.taken in
+    is_work (characters_in rows) (characters_in new) r.cut c.new-spliced.result c.args.a c.args.b (length c.args.rows.now) r.from r.end c.rescan.new.meter.lines c.rejudge.new.meter.lines c.rejudge.new.meter.documents
+    (omega (arith, has_row new c.requires.lines, length-map new (λ (row : RowValue). chars row.text))) (subst (λ (us : List RecordValue). AreHeld (characters_in new) r.cut us) (sym is) c.in_ok-rescan.ensures.held)
+    c.in_ok-rescan.ensures.below c.in_ok-rescan.ensures.work c.in_ok-rejudged.ensures.lines
+    (λ m l. less (c.in_ok-rejudged.ensures.documents taken m l) (omega (arith, c.in_ok-rescan.ensures.documents, ap (λ (m : Meter). m.documents) c.new-meter.ensures)))
 
 pub returns-clause-overview : goal.returns-clause-overview
 returns-clause-overview g c = c.in_ok-renewal.ensures.overview

@@ -16,4 +16,4 @@ returns-clause-report g c =
     let s = c.in-Some.silences in
     λ old.
     heard_so c.args.config.now rows c.new-edited.result (is_file_silenced_by s) (is_silenced_at s) c.args.sections.now c.in_ok-left.left.items c.deref.result.now c.in_ok-all.all.items c.heard_of_text.ensures
-    (in_some _ c.in_ok-said.said s c.in-Some.is c.in_ok-said.ensures.file) c.new-edited.ensures (in_some _ c.in_ok-said.said s c.in-Some.is c.in_ok-said.ensures.lines) c.requires.new c.in_ok-left.ensures c.deref.ensures.value c.in_ok-all.ensures
+    (in_some _ c.in_ok-said.said s c.in-Some.is c.in_ok-said.ensures.file) c.new-edited.ensures (in_some _ c.in_ok-said.said s c.in-Some.is c.in_ok-said.ensures.lines) c.in_ok-left.ensures c.deref.ensures.value c.in_ok-all.ensures

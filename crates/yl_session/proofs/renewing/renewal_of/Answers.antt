@@ -1,9 +1,12 @@
-use Rattle.std.proofs.Common.{List, length, arith, ap, sym, subst, ◌∙◌}
+use Rattle.std.proofs.Common.{◌≡◌, ℕ, List, length, arith, ap, sym, subst, ◌∙◌}
 use Rattle.std.specs.List.{splice}
 use Rattle.yl_sections.specs.Kept.{KeptValue}
+use Rattle.yl_lint.specs.TextReport.{report_by}
+use Rattle.yl_lint.specs.Unsilenced.{unsilenced_by}
 use Rattle.yl_patch.specs.Plain.{IsOverviewOf}
 use Rattle.yl_patch.specs.declared.overview.Overview.{Overview}
 use Rattle.yl_patch.proofs.Given.{in_some}
+use Rattle.yl_session.specs.Change.{Makes, Patches}
 use Rattle.yl_session.proofs.Bounds.{few_lines, few_new}
 use Rattle.yl_session.proofs.Changed.{both, there_so}
 use Rattle.yl_session.proofs.renewing.renewal_of.Goals as goal
@@ -16,6 +19,9 @@ pub new-sections-requires-clause-few : goal.new-sections-requires-clause-few
 new-sections-requires-clause-few g c = omega (arith, c.requires.few, ap (λ (ks : List KeptValue). length ks) c.as_slice-judged.ensures.value)
 
 -- what is lent of the new sections is what is kept of them
+sections_are : (olds : List KeptValue) (from end : ℕ) (lent new all : List KeptValue) → all ≡ splice olds from end lent → lent ≡ new → all ≡ splice olds from end new
+sections_are olds from end lent new all is same = is ∙ ap (λ (ks : List KeptValue). splice olds from end ks) same
+
 pub returns-then-branch-clause-overview : goal.returns-then-branch-clause-overview
 returns-then-branch-clause-overview g c =
     subst (λ (ks : List KeptValue). IsOverviewOf (splice c.args.known.now.kept.now.items c.args.new.now.from c.args.new.now.end ks) c.overview_after-after.result) c.as_slice-judged.ensures.value c.overview_after-after.ensures
@@ -25,28 +31,37 @@ returns-then-is_some-clause-overview g c =
     subst (λ (ks : List KeptValue). IsOverviewOf (splice c.args.known.now.kept.now.items c.args.new.now.from c.args.new.now.end ks) c.overview_after-after.result) c.as_slice-judged.ensures.value c.overview_after-after.ensures
 
 pub returns-then-branch-clause-report : goal.returns-then-branch-clause-report
-returns-then-branch-clause-report g c = c.requires.problems ∙ sym (c.in_ok-leaves_report.ensures.report c.if-branch.true)
+returns-then-branch-clause-report g c =
+    let new = splice (g.S.Lines.rows c.args.store.now) c.args.a c.args.b c.args.rows.now in
+    let put = ap (λ (ks : List KeptValue). report_by c.args.config.now new (splice c.args.known.now.kept.now.items c.args.new.now.from c.args.new.now.end ks)) c.as_slice-judged.ensures.value in
+    c.requires.problems ∙ (sym (c.in_ok-leaves_report.ensures.report c.if-branch.true) ∙ put)
 
 pub returns-then-branch-clause-unsilenced : goal.returns-then-branch-clause-unsilenced
-returns-then-branch-clause-unsilenced g c = λ h. c.requires.known h ∙ sym (c.in_ok-leaves_report.ensures.unsilenced c.if-branch.true)
+returns-then-branch-clause-unsilenced g c = λ h.
+    let new = splice (g.S.Lines.rows c.args.store.now) c.args.a c.args.b c.args.rows.now in
+    let put = ap (λ (ks : List KeptValue). unsilenced_by c.args.config.now new (splice c.args.known.now.kept.now.items c.args.new.now.from c.args.new.now.end ks)) c.as_slice-judged.ensures.value in
+    c.requires.known h ∙ (sym (c.in_ok-leaves_report.ensures.unsilenced c.if-branch.true) ∙ put)
 
 pub returns-then-is_some-clause-fit : goal.returns-then-is_some-clause-fit
 returns-then-is_some-clause-fit g c = both _ _ c.in_ok-patch.patch c.in_ok-patch.ensures.range c.in_ok-patch.ensures.low
 
 pub returns-then-is_some-clause-report : goal.returns-then-is_some-clause-report
-returns-then-is_some-clause-report g c = there_so _ _ c.in_ok-patch.patch (sym c.is_some.ensures ∙ c.if-is_some.true) c.in_ok-patch.ensures.report
+returns-then-is_some-clause-report g c =
+    let new = splice (g.S.Lines.rows c.args.store.now) c.args.a c.args.b c.args.rows.now in
+    let Q : List KeptValue → Type 0 = λ ks. Patches c.args.known.now.problems.now (report_by c.args.config.now new (splice c.args.known.now.kept.now.items c.args.new.now.from c.args.new.now.end ks)) c.in_ok-patch.patch in
+    there_so _ _ c.in_ok-patch.patch (sym c.is_some.ensures ∙ c.if-is_some.true) (subst Q c.as_slice-judged.ensures.value c.in_ok-patch.ensures.report)
 
 pub returns-then-is_some-clause-unsilenced : goal.returns-then-is_some-clause-unsilenced
-returns-then-is_some-clause-unsilenced g c = λ h. there_so _ _ c.in_ok-other.other (sym c.is_some-is_known.ensures ∙ h) c.in_ok-other.ensures.patch
-
-pub whole_renewal-requires-clause-new : goal.whole_renewal-requires-clause-new
-whole_renewal-requires-clause-new g c =
-    c.new-sections.ensures ∙ (ap (λ (ks : List KeptValue). splice c.args.known.now.kept.now.items c.args.new.now.from c.args.new.now.end ks) c.as_slice-judged.ensures.value ∙ c.requires.new)
+returns-then-is_some-clause-unsilenced g c = λ h.
+    let new = splice (g.S.Lines.rows c.args.store.now) c.args.a c.args.b c.args.rows.now in
+    let Q : List KeptValue → Type 0 = λ ks. Patches c.args.known.now.unsilenced.now (unsilenced_by c.args.config.now new (splice c.args.known.now.kept.now.items c.args.new.now.from c.args.new.now.end ks)) c.in_ok-other.other in
+    there_so _ _ c.in_ok-other.other (sym c.is_some-is_known.ensures ∙ h) (subst Q c.as_slice-judged.ensures.value c.in_ok-other.ensures.patch)
 
 -- where comments leave another part
-pub heard_renewal-requires-clause-sections : goal.heard_renewal-requires-clause-sections
-heard_renewal-requires-clause-sections g c =
-    c.new-sections.ensures ∙ (ap (λ (ks : List KeptValue). splice c.args.known.now.kept.now.items c.args.new.now.from c.args.new.now.end ks) c.as_slice-judged.ensures.value ∙ c.requires.new)
+pub heard_renewal-requires-clause-patch : goal.heard_renewal-requires-clause-patch
+heard_renewal-requires-clause-patch g c =
+    let new = splice (g.S.Lines.rows c.args.store.now) c.args.a c.args.b c.args.rows.now in
+    subst (λ (ks : List KeptValue). Patches c.args.known.now.unsilenced.now (unsilenced_by c.args.config.now new ks) c.in_ok-other.other) (sym c.new-sections.ensures) c.in_ok-other.ensures.patch
 
 pub heard_renewal-requires-clause-after : goal.heard_renewal-requires-clause-after
 heard_renewal-requires-clause-after g c =
@@ -56,19 +71,39 @@ pub returns-in-Some-clause-fit : goal.returns-in-Some-clause-fit
 returns-in-Some-clause-fit g c = (in_some _ c.in_ok-heard.heard c.in-Some.renewal c.in-Some.is c.in_ok-heard.ensures.fit c.args.known.now.problems.now).0
 
 pub returns-in-Some-clause-report : goal.returns-in-Some-clause-report
-returns-in-Some-clause-report g c = in_some _ c.in_ok-heard.heard c.in-Some.renewal c.in-Some.is c.in_ok-heard.ensures.report c.args.known.now.problems.now
+returns-in-Some-clause-report g c =
+    let rows = splice (g.S.Lines.rows c.args.store.now) c.args.a c.args.b c.args.rows.now in
+    let olds = c.args.known.now.kept.now.items in
+    let new = c.args.new.now in
+    let is = sections_are olds new.from new.end c.as_slice-judged.result.now new.kept.items c.new-sections.result c.new-sections.ensures c.as_slice-judged.ensures.value in
+    subst (λ (ks : List KeptValue). Makes c.args.known.now.problems.now (report_by c.args.config.now rows ks) c.in-Some.renewal.report) is
+    (in_some _ c.in_ok-heard.heard c.in-Some.renewal c.in-Some.is c.in_ok-heard.ensures.report c.args.known.now.problems.now)
 
 pub returns-in-Some-clause-unsilenced_fit : goal.returns-in-Some-clause-unsilenced_fit
 returns-in-Some-clause-unsilenced_fit g c = (in_some _ c.in_ok-heard.heard c.in-Some.renewal c.in-Some.is c.in_ok-heard.ensures.fit c.args.known.now.unsilenced.now).1
 
 pub returns-in-Some-clause-unsilenced : goal.returns-in-Some-clause-unsilenced
-returns-in-Some-clause-unsilenced g c = λ h. in_some _ c.in_ok-heard.heard c.in-Some.renewal c.in-Some.is c.in_ok-heard.ensures.unsilenced c.args.known.now.unsilenced.now
+returns-in-Some-clause-unsilenced g c = λ h.
+    let rows = splice (g.S.Lines.rows c.args.store.now) c.args.a c.args.b c.args.rows.now in
+    let olds = c.args.known.now.kept.now.items in
+    let new = c.args.new.now in
+    let is = sections_are olds new.from new.end c.as_slice-judged.result.now new.kept.items c.new-sections.result c.new-sections.ensures c.as_slice-judged.ensures.value in
+    subst (λ (ks : List KeptValue). Makes c.args.known.now.unsilenced.now (unsilenced_by c.args.config.now rows ks) c.in-Some.renewal.unsilenced) is
+    (in_some _ c.in_ok-heard.heard c.in-Some.renewal c.in-Some.is c.in_ok-heard.ensures.unsilenced c.args.known.now.unsilenced.now)
 
 pub returns-in-Some-clause-overview : goal.returns-in-Some-clause-overview
 returns-in-Some-clause-overview g c =
     let items = splice c.args.known.now.kept.now.items c.args.new.now.from c.args.new.now.end c.args.new.now.kept.items in
     subst (λ (o : Overview). IsOverviewOf items o) (sym (in_some _ c.in_ok-heard.heard c.in-Some.renewal c.in-Some.is c.in_ok-heard.ensures.overview))
     (subst (λ (ks : List KeptValue). IsOverviewOf (splice c.args.known.now.kept.now.items c.args.new.now.from c.args.new.now.end ks) c.overview_after-after.result) c.as_slice-judged.ensures.value c.overview_after-after.ensures)
+
+pub returns-clause-report : goal.returns-clause-report
+returns-clause-report g c =
+    let rows = splice (g.S.Lines.rows c.args.store.now) c.args.a c.args.b c.args.rows.now in
+    let olds = c.args.known.now.kept.now.items in
+    let new = c.args.new.now in
+    let is = sections_are olds new.from new.end c.as_slice-judged.result.now new.kept.items c.new-sections.result c.new-sections.ensures c.as_slice-judged.ensures.value in
+    subst (λ (ks : List KeptValue). Makes c.args.known.now.problems.now (report_by c.args.config.now rows ks) c.in_ok-renewal.renewal.report) is (c.in_ok-renewal.ensures.report c.args.known.now.problems.now)
 
 pub returns-clause-overview : goal.returns-clause-overview
 returns-clause-overview g c =

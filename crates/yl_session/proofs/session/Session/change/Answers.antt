@@ -1,11 +1,14 @@
-use Rattle.std.proofs.Common.{◌≡◌, ℕ, refl, Option, List, Result, Ok, Err, drop, take, length, arith, ap, sym, subst, ◌∙◌}
+use Rattle.std.proofs.Common.{◌≡◌, ℕ, refl, Option, List, Result, Ok, Err, drop, map, take, length, arith, ap, sym, subst, ◌∙◌}
 use Rattle.std.specs.List.{AllByRecursion, splice}
 use Rattle.yl_text.specs.Store.{AreLines, IsRange}
-use Rattle.yl_record.specs.Records.{RecordValue}
+use Rattle.yl_record.specs.Records.{RecordValue, characters_in}
+use Rattle.yl_sections.specs.Judge.{kept_of_section}
 use Rattle.yl_sections.specs.Kept.{KeptValue}
-use Rattle.yl_lint.specs.TextReport.{kept_of_text, records_of, report}
-use Rattle.yl_lint.specs.Unsilenced.{unsilenced_report}
-use Rattle.yl_session.proofs.Bounds.{few_kept, few_lines, few_records, few_rows, few_rows_put}
+use Rattle.yl_sections.specs.Sections.{sections}
+use Rattle.yl_rescan.specs.Held.{AreHeld}
+use Rattle.yl_lint.specs.TextReport.{report}
+use Rattle.yl_lint.specs.Unsilenced.{unsilenced_by}
+use Rattle.yl_session.proofs.Bounds.{few_kept, few_lines, count_records, few_rows, few_rows_put}
 use Rattle.std.specs.Prelude.{OnErr, OnOk}
 use Rattle.yl_text.specs.Lines.{RowValue}
 use Rattle.yl_config.specs.declared.config.Config.{Config}
@@ -47,9 +50,20 @@ pub returns-in_err-splice-clause-problems : goal.returns-in_err-splice-clause-pr
 returns-in_err-splice-clause-problems g c =
     held_so c.from_residual-in_err-splice.result (c.make_room.ensures.problems ∙ (c.self.invariant.3 ∙ ap (report c.self.inside.config) (sym c.in_err-splice.ensures.err)))
 
--- a list that was renewed of new lines
-renewed : {X : Type 0} {all : List X} {rows new : List RowValue} (held old items : List X) (i j : ℕ) (f : List RowValue → List X) → rows ≡ new → all ≡ splice held i j items → held ≡ old → splice old i j items ≡ f rows → all ≡ f new
-renewed held old items i j f e is same made = rw (is, same, made, e) refl
+-- records that are the same are kept of the same lines
+held_same : (ps qs : List RowValue) (cut : Option ℕ) (rs us : List RecordValue) → ps ≡ qs → us ≡ rs → AreHeld (characters_in ps) cut rs → AreHeld (characters_in qs) cut us
+held_same ps qs cut rs us lines same h = subst (λ (es : List RecordValue). AreHeld (characters_in qs) cut es) (sym same) (subst (λ (xs : List RowValue). AreHeld (characters_in xs) cut rs) lines h)
+
+-- and what is kept of their sections is the same
+kept_same : (config : Config) (ks ls : List KeptValue) (rs us : List RecordValue) → ls ≡ ks → us ≡ rs → ks ≡ map (kept_of_section config) (sections rs) → ls ≡ map (kept_of_section config) (sections us)
+kept_same config ks ls rs us same records is = same ∙ (is ∙ ap (λ (es : List RecordValue). map (kept_of_section config) (sections es)) (sym records))
+
+unsilenced_same : (config : Config) (ps qs : List RowValue) (ks ls : List KeptValue) → ps ≡ qs → ls ≡ ks → unsilenced_by config ps ks ≡ unsilenced_by config qs ls
+unsilenced_same config ps qs ks ls lines same = ap (λ (xs : List RowValue). unsilenced_by config xs ks) lines ∙ ap (λ (js : List KeptValue). unsilenced_by config qs js) (sym same)
+
+-- a list in which some items were put in place of others
+put_in : {X : Type 0} (all held old items : List X) (i j : ℕ) → all ≡ splice held i j items → held ≡ old → all ≡ splice old i j items
+put_in all held old items i j is same = is ∙ ap (λ xs. splice xs i j items) same
 
 abbrev put_of : {A : Type 0} → ReportPatch A → List ProblemValue → List ProblemValue
 put_of p old = patched p.from p.end p.problems.items p.up p.down old
@@ -71,37 +85,42 @@ renew-requires-2-clause-fit g c =
 pub make_room-requires-clause-few : goal.make_room-requires-clause-few
 make_room-requires-clause-few g c =
     let rows = g.S.Lines.rows c.self.inside.store in
-    omega (arith, few_lines rows c.self.invariant.0, few_records rows, ap (λ (rs : List RecordValue). length rs) c.self.invariant.1, c.in_ok-plan.plan.rescan.records.small)
+    omega (arith, few_lines rows c.self.invariant.0, count_records rows c.self.inside.cut c.self.inside.records.items c.self.invariant.1, c.in_ok-plan.plan.rescan.records.small)
 
 pub make_room-requires-clause-kept_few : goal.make_room-requires-clause-kept_few
 make_room-requires-clause-kept_few g c =
-    omega (arith, few_kept c.self.inside.config (g.S.Lines.rows c.self.inside.store) c.self.inside.kept.items c.self.invariant.0 c.self.invariant.2, c.in_ok-plan.plan.rejudged.kept.small)
+    omega (arith, few_kept c.self.inside.config (g.S.Lines.rows c.self.inside.store) c.self.inside.cut c.self.inside.records.items c.self.inside.kept.items c.self.invariant.0 c.self.invariant.1 c.self.invariant.2, c.in_ok-plan.plan.rejudged.kept.small)
 
 pub make_room-requires-clause-few_rows : goal.make_room-requires-clause-few_rows
-make_room-requires-clause-few_rows g c = omega (arith, few_rows c.self.inside.config (g.S.Lines.rows c.self.inside.store) c.self.inside.kept.items c.self.invariant.0 c.self.invariant.2)
+make_room-requires-clause-few_rows g c = omega (arith, few_rows c.self.inside.config (g.S.Lines.rows c.self.inside.store) c.self.inside.cut c.self.inside.records.items c.self.inside.kept.items c.self.invariant.0 c.self.invariant.1 c.self.invariant.2)
 
 pub invariant_of-self : goal.invariant_of-self
-invariant_of-self g c = (
-  c.self.invariant.0,
-  c.make_room.ensures.records ∙ c.self.invariant.1,
-  c.make_room.ensures.kept ∙ c.self.invariant.2,
-  c.make_room.ensures.problems ∙ c.self.invariant.3,
-  subst (λ (ks : List KeptValue). IsOverviewOf ks c.self.inside.overview) (sym c.make_room.ensures.kept) c.self.invariant.4,
-  subst (λ (ks : List KeptValue). AllByRecursion (IsAt ks) c.make_room.new.places.items) (sym c.make_room.ensures.kept) c.make_room.ensures.places,
-  λ h. c.make_room.ensures.unsilenced ∙ c.self.invariant.6 h,
-)
+invariant_of-self g c =
+    let rows = g.S.Lines.rows c.self.inside.store in
+    let config = c.self.inside.config in (
+      c.self.invariant.0,
+      held_same rows rows c.self.inside.cut c.self.inside.records.items c.make_room.new.records.items refl c.make_room.ensures.records c.self.invariant.1,
+      kept_same config c.self.inside.kept.items c.make_room.new.kept.items c.self.inside.records.items c.make_room.new.records.items c.make_room.ensures.kept c.make_room.ensures.records c.self.invariant.2,
+      c.make_room.ensures.problems ∙ c.self.invariant.3,
+      subst (λ (ks : List KeptValue). IsOverviewOf ks c.self.inside.overview) (sym c.make_room.ensures.kept) c.self.invariant.4,
+      subst (λ (ks : List KeptValue). AllByRecursion (IsAt ks) c.make_room.new.places.items) (sym c.make_room.ensures.kept) c.make_room.ensures.places,
+      λ h. c.make_room.ensures.unsilenced ∙ (c.self.invariant.6 h ∙ unsilenced_same config rows rows c.self.inside.kept.items c.make_room.new.kept.items refl c.make_room.ensures.kept),
+    )
 
 pub invariant_of-self-in_err-splice : goal.invariant_of-self-in_err-splice
 invariant_of-self-in_err-splice g c =
-    let e : g.S.Lines.rows c.self.inside.store ≡ g.S.Lines.rows c.splice.new.self = sym c.in_err-splice.ensures.err in
+    let rows = g.S.Lines.rows c.self.inside.store in
+    let left = g.S.Lines.rows c.splice.new.self in
+    let config = c.self.inside.config in
+    let e : rows ≡ left = sym c.in_err-splice.ensures.err in
     let P : List RowValue → Type 0 = λ ps. AreLines ps in (
       subst P e c.self.invariant.0,
-      c.make_room.ensures.records ∙ (c.self.invariant.1 ∙ ap records_of e),
-      c.make_room.ensures.kept ∙ (c.self.invariant.2 ∙ ap (kept_of_text c.self.inside.config) e),
-      c.make_room.ensures.problems ∙ (c.self.invariant.3 ∙ ap (report c.self.inside.config) e),
+      held_same rows left c.self.inside.cut c.self.inside.records.items c.make_room.new.records.items e c.make_room.ensures.records c.self.invariant.1,
+      kept_same config c.self.inside.kept.items c.make_room.new.kept.items c.self.inside.records.items c.make_room.new.records.items c.make_room.ensures.kept c.make_room.ensures.records c.self.invariant.2,
+      c.make_room.ensures.problems ∙ (c.self.invariant.3 ∙ ap (report config) e),
       subst (λ (ks : List KeptValue). IsOverviewOf ks c.self.inside.overview) (sym c.make_room.ensures.kept) c.self.invariant.4,
       subst (λ (ks : List KeptValue). AllByRecursion (IsAt ks) c.make_room.new.places.items) (sym c.make_room.ensures.kept) c.make_room.ensures.places,
-      λ h. c.make_room.ensures.unsilenced ∙ (c.self.invariant.6 h ∙ ap (unsilenced_report c.self.inside.config) e),
+      λ h. c.make_room.ensures.unsilenced ∙ (c.self.invariant.6 h ∙ unsilenced_same config rows left c.self.inside.kept.items c.make_room.new.kept.items e c.make_room.ensures.kept),
     )
 
 -- what room was made in is what was kept
@@ -119,19 +138,20 @@ put_kept-requires-clause-end_row g c = c.in_ok-plan.ensures.end_row ∙ ap (λ (
 pub put_kept-requires-clause-few : goal.put_kept-requires-clause-few
 put_kept-requires-clause-few g c =
     let same : length c.make_room.new.kept.items ≡ length c.self.inside.kept.items = ap (λ (ks : List KeptValue). length ks) c.make_room.ensures.kept in
-    omega (arith, same, few_kept c.self.inside.config (g.S.Lines.rows c.self.inside.store) c.self.inside.kept.items c.self.invariant.0 c.self.invariant.2, c.in_ok-plan.plan.rejudged.kept.small)
+    omega (arith, same, few_kept c.self.inside.config (g.S.Lines.rows c.self.inside.store) c.self.inside.cut c.self.inside.records.items c.self.inside.kept.items c.self.invariant.0 c.self.invariant.1 c.self.invariant.2, c.in_ok-plan.plan.rejudged.kept.small)
 
 pub put_kept-requires-clause-few_rows : goal.put_kept-requires-clause-few_rows
 put_kept-requires-clause-few_rows g c =
     let rows = g.S.Lines.rows c.self.inside.store in
     let ks = c.self.inside.kept.items in
     let new = c.in_ok-plan.plan.rejudged in
+    let scan = c.in_ok-plan.plan.rescan in
     let same : rows_kept c.make_room.new.kept.items ≡ rows_kept ks = ap rows_kept c.make_room.ensures.kept in
     let Q : List RowValue → Type 0 = λ ps. AreLines (splice ps c.args.a c.args.b c.args.rows.now.items) in
     let R : List RowValue → Type 0 = λ ps. AreLines (splice rows c.args.a c.args.b ps) in
     let lines = subst R (sym c.as_slice.ensures.value) (subst Q (sym (ap (λ (s : SessionValue). s.rows) c.self.view_is)) c.requires.lines) in (
-      omega (arith, same, few_rows c.self.inside.config rows ks c.self.invariant.0 c.self.invariant.2),
-      omega (arith, few_rows_put c.self.inside.config (splice rows c.args.a c.args.b c.as_slice.result.now) ks new.kept.items new.from new.end lines c.in_ok-plan.ensures.kept),
+      omega (arith, same, few_rows c.self.inside.config rows c.self.inside.cut c.self.inside.records.items ks c.self.invariant.0 c.self.invariant.1 c.self.invariant.2),
+      omega (arith, few_rows_put c.self.inside.config (splice rows c.args.a c.args.b c.as_slice.result.now) scan.cut (splice c.self.inside.records.items scan.from scan.old_end scan.records.items) ks new.kept.items new.from new.end lines c.in_ok-plan.ensures.held c.in_ok-plan.ensures.kept),
     )
 
 pub put_kept-requires-clause-at : goal.put_kept-requires-clause-at
@@ -141,25 +161,33 @@ pub invariant_of-self-2 : goal.invariant_of-self-2
 invariant_of-self-2 g c =
     let rows = g.S.Lines.rows c.self.inside.store in
     let new = splice rows c.args.a c.args.b c.args.rows.now.items in
-    let e : new ≡ g.S.Lines.rows c.splice.new.self = sym c.in_ok-splice.ensures.ok in
+    let left = g.S.Lines.rows c.splice.new.self in
+    let config = c.self.inside.config in
+    let e : new ≡ left = sym c.in_ok-splice.ensures.ok in
     let P : List RowValue → Type 0 = λ ps. AreLines ps in
     let Q : List RowValue → Type 0 = λ ps. AreLines (splice ps c.args.a c.args.b c.args.rows.now.items) in
     let here : c.args.self.now.rows ≡ rows = sym (ap (λ (s : SessionValue). s.rows) c.self.view_is) in
     let plan = c.in_ok-plan.plan in
-    let put : splice rows c.args.a c.args.b c.as_slice.result.now ≡ g.S.Lines.rows c.splice.new.self = ap (λ (ps : List RowValue). splice rows c.args.a c.args.b ps) c.as_slice.ensures.value ∙ e in (
+    let scan = plan.rescan in
+    let judged = plan.rejudged in
+    let rs = splice c.self.inside.records.items scan.from scan.old_end scan.records.items in
+    let ks = splice c.self.inside.kept.items judged.from judged.end judged.kept.items in
+    let seen = splice rows c.args.a c.args.b c.as_slice.result.now in
+    let put : seen ≡ left = ap (λ (ps : List RowValue). splice rows c.args.a c.args.b ps) c.as_slice.ensures.value ∙ e in
+    let records = put_in c.fill_room.new.self.items c.make_room.new.records.items c.self.inside.records.items scan.records.items scan.from scan.old_end c.fill_room.ensures.items c.make_room.ensures.records in
+    let kept = put_in c.put_kept.new.kept.items c.make_room.new.kept.items c.self.inside.kept.items judged.kept.items judged.from judged.end c.put_kept.ensures.items c.make_room.ensures.kept in (
       subst P e (subst Q here c.requires.lines),
-      renewed c.make_room.new.records.items c.self.inside.records.items plan.rescan.records.items plan.rescan.from plan.rescan.old_end records_of put c.fill_room.ensures.items c.make_room.ensures.records c.in_ok-plan.ensures.records,
-      renewed c.make_room.new.kept.items c.self.inside.kept.items plan.rejudged.kept.items plan.rejudged.from plan.rejudged.end (kept_of_text c.self.inside.config) put c.put_kept.ensures.items c.make_room.ensures.kept c.in_ok-plan.ensures.kept,
+      held_same seen left scan.cut rs c.fill_room.new.self.items put records c.in_ok-plan.ensures.held,
+      kept_same config ks c.put_kept.new.kept.items rs c.fill_room.new.self.items kept records c.in_ok-plan.ensures.kept,
       made_so c.make_room.new.problems.items (λ v. v.items) put_of plan.renewal.report.patch plan.renewal.report.whole c.renew.ensures
-          (subst (λ (ps : List ProblemValue). Makes ps (report c.self.inside.config (splice rows c.args.a c.args.b c.as_slice.result.now)) plan.renewal.report) (c.deref.ensures.value ∙ sym c.make_room.ensures.problems) c.in_ok-plan.ensures.report)
-          ∙ ap (report c.self.inside.config) put,
-      subst (λ (ks : List KeptValue). IsOverviewOf ks plan.renewal.overview) (sym (c.put_kept.ensures.items ∙ ap (λ (ks : List KeptValue). splice ks plan.rejudged.from plan.rejudged.end plan.rejudged.kept.items) c.make_room.ensures.kept)) c.in_ok-plan.ensures.overview,
+          (subst (λ (ps : List ProblemValue). Makes ps (report config seen) plan.renewal.report) (c.deref.ensures.value ∙ sym c.make_room.ensures.problems) c.in_ok-plan.ensures.report)
+          ∙ ap (report config) put,
+      subst (λ (js : List KeptValue). IsOverviewOf js plan.renewal.overview) (sym kept) c.in_ok-plan.ensures.overview,
       c.put_kept.ensures.places,
       λ h.
           made_so c.make_room.new.unsilenced.items (λ v. v.items) put_of plan.renewal.unsilenced.patch plan.renewal.unsilenced.whole c.renew-2.ensures
-          (subst (λ (ps : List ProblemValue). Makes ps (unsilenced_report c.self.inside.config (splice rows c.args.a c.args.b c.as_slice.result.now)) plan.renewal.unsilenced) (c.deref-2.ensures.value ∙ sym c.make_room.ensures.unsilenced)
-          (c.in_ok-plan.ensures.unsilenced h))
-          ∙ ap (unsilenced_report c.self.inside.config) put,
+          (subst (λ (ps : List ProblemValue). Makes ps (unsilenced_by config seen ks) plan.renewal.unsilenced) (c.deref-2.ensures.value ∙ sym c.make_room.ensures.unsilenced) (c.in_ok-plan.ensures.unsilenced h))
+          ∙ unsilenced_same config seen left ks c.put_kept.new.kept.items put kept,
     )
 
 pub returns-clause-problems : goal.returns-clause-problems

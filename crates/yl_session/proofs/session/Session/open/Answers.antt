@@ -1,8 +1,14 @@
-use Rattle.std.proofs.Common.{◌≡◌, ◌≤◌, ℕ, List, length, refl, subst, sym}
+use Rattle.std.proofs.Common.{◌≡◌, ◌≤◌, ℕ, List, length, map, ap, refl, subst, sym, ◌∙◌}
 use Rattle.yl_text.specs.declared.TheConstants.{MAX_BYTES}
 use Rattle.yl_text.specs.Fault.{IsText}
 use Rattle.yl_text.specs.Lines.{RowValue, IsLines}
 use Rattle.yl_text.specs.Store.{AreLines}
+use Rattle.yl_config.specs.declared.config.Config.{Config}
+use Rattle.yl_record.specs.Records.{RecordValue}
+use Rattle.yl_sections.specs.Judge.{kept_of_section}
+use Rattle.yl_sections.specs.Kept.{KeptValue}
+use Rattle.yl_sections.specs.Sections.{sections}
+use Rattle.yl_lint.specs.TextReport.{kept_of_text, records_of}
 use Rattle.yl_session.proofs.session.Session.open.Goals as goal
 
 -- rows that are the lines of a text
@@ -12,9 +18,13 @@ are_lines t rows stored same lines text =
     let S : List ℕ → Type 0 = λ u. length u ≤ MAX_BYTES in
     subst AreLines (sym same) (record { lines = subst P (sym lines.joined) lines; short = subst S (sym lines.joined) text.short })
 
+-- what is kept of a text's sections is kept by its records
+kept_by : {rs : List RecordValue} {ks : List KeptValue} (config : Config) (ps : List RowValue) → rs ≡ records_of ps → ks ≡ kept_of_text config ps → ks ≡ map (kept_of_section config) (sections rs)
+kept_by config ps records kept = kept ∙ ap (λ (es : List RecordValue). map (kept_of_section config) (sections es)) (sym records)
+
 pub invariant_of-result : goal.invariant_of-result
 invariant_of-result g c =
-    (are_lines c.args.bytes.now c.in_ok-rows.rows.items (g.S.Lines.rows c.in-Ok.store) c.in-Ok.ensures.ok c.in_ok-rows.ensures.lines c.in_ok-rows.ensures.text, c.in-Ok-begin.ensures.records, c.in-Ok-begin.ensures.kept, c.in-Ok-begin.ensures.problems, c.in-Ok-begin.ensures.overview, c.in-Ok-begin.ensures.places, λ h. absurd (cc))
+    (are_lines c.args.bytes.now c.in_ok-rows.rows.items (g.S.Lines.rows c.in-Ok.store) c.in-Ok.ensures.ok c.in_ok-rows.ensures.lines c.in_ok-rows.ensures.text, c.in-Ok-begin.ensures.records, kept_by c.args.config (g.S.Lines.rows c.in-Ok.store) c.in-Ok-begin.ensures.records c.in-Ok-begin.ensures.kept, c.in-Ok-begin.ensures.problems, c.in-Ok-begin.ensures.overview, c.in-Ok-begin.ensures.places, λ h. absurd (cc))
 
 pub returns-clause-shown : goal.returns-clause-shown
 returns-clause-shown g c =

@@ -1,0 +1,422 @@
+-- What scanning an edited text again makes of the records that are kept.
+use Rattle.std.proofs.Common.{◌≡◌, ℕ, zero, suc, ◌∷◌, ◌+◌, ◌-◌, ◌<◌, ◌≤◌, ◌⊎◌, inl, inr, Bool, true, false, ltb, cond, List, [], ◌++◌, length, take, drop, Option, Some, None, refl, ap, sym, ◌∙◌, subst, arith, ltb-true, ltb-false}
+use Rattle.std.specs.Prelude.{IsSome, IfSome, slice_get}
+use Rattle.std.specs.List.{splice}
+use Rattle.std.proofs.lemmas.Bool.{cases_lt}
+use Rattle.std.proofs.Math.ListN.{drop_of_length-le}
+use Rattle.std.proofs.lemmas.List.{length-drop, length-take}
+use Rattle.yl_text.specs.Store.{IsRange}
+use Rattle.yl_row.specs.Entries.{LineStateValue, Stopped, entries}
+use Rattle.yl_scan.specs.Restart.{state_at}
+use Rattle.yl_record.specs.Records.{RecordValue, records, records_from}
+use Rattle.yl_sections.specs.Front.{IsFront}
+use Rattle.yl_sections.specs.Local.{is_start_at}
+use Rattle.yl_sections.proofs.Lost.{lost_rows}
+use Rattle.yl_rejudge.specs.Alike.{GoOnAlike}
+use Rattle.yl_rejudge.specs.Documents.{ReadsNothing, TakesNothing}
+use Rattle.yl_rejudge.proofs.SectionStarts.{not_first, same_before}
+use Rattle.yl_rescan.specs.Agree.{agree, agrees, counterpart, next_cut, read_beyond, state_of_row, BeginsBelow, EndsAt, GoesOn, MayKeep, StopsAt}
+use Rattle.yl_rescan.specs.Held.{AreHeld, IsCutAt}
+use Rattle.yl_rescan.specs.Made.{WasRescanned}
+use Rattle.yl_rescan.specs.Rescan.{HasStoppedAt, HaveSameState, IsAgreement, IsRescan, IsRestart, IsStop}
+use Rattle.yl_rescan.proofs.Search.{LastAbove}
+use Rattle.yl_rescan.specs.declared.scanning.ScanEnd.{ScanEnd}
+use Rattle.yl_rescan.specs.declared.scanning.ScanEnd.TheVariants.{Agreed, Halted, TextEnd}
+use Rattle.yl_rescan.proofs.Edits.{both_agree, front_again, grown, is_restart, is_some_of, is_stop, length-spliced, no_agreement, records_above, restart_found, restart_place, restarted, row_before, rows_above, state_above, stop_at_end, stop_found}
+use Rattle.yl_rescan.proofs.Held.{held_length, made_front, made_whole, true_front, true_state}
+use Rattle.yl_rescan.proofs.Outcomes.{alike_above, alike_by, alike_cut, alike_there, behind, cut_on, cut_there, not_kept, nothing_left, whole_agreed, whole_cut, whole_unread}
+use Rattle.yl_rescan.proofs.Rows.{records_length, records_state, stopped_below}
+
+differ : (t : Bool) → t ≡ true → t ≡ false → ⊥
+differ t x y = cc
+
+nothing : {X : Type 0} (xs ys : List X) (i j : ℕ) → length xs ≤ i → length ys ≤ j → drop i xs ≡ drop j ys
+nothing xs ys i j k l = drop_of_length-le xs {i = i} k ∙ sym (drop_of_length-le ys {i = j} l)
+
+some_of : {X : Type 0} (o : Option X) → IsSome o → (x : X) × (o ≡ Some x)
+some_of None h = absurd (cc)
+some_of (Some x) h = (x, refl)
+
+-- ---- bounds that hold where a list is cut
+
+upto : (cut : Option ℕ) (a j : ℕ) → IfSome cut (λ n. a ≤ n) → j ≤ a → IfSome cut (λ n. j ≤ n)
+upto None a j h o = tt
+upto (Some n) a j h o = omega (arith, h, o)
+
+above : (cut : Option ℕ) (a j : ℕ) → IfSome cut (λ n. a ≤ n) → j < a → IfSome cut (λ n. j < n)
+above None a j h o = tt
+above (Some n) a j h o = omega (arith, h, o)
+
+-- where scanning begins again
+pub begins_true_of : (t : List (List ℕ)) (cut : Option ℕ) (es : List RecordValue) → AreHeld t cut es → (a : ℕ) → IfSome cut (λ n. a ≤ n) → (row : ℕ) (s : Option LineStateValue) → BeginsBelow es a row s → BeginsBelow (records t) a row s
+begins_true_of t cut es held a bound row None b = b
+begins_true_of t cut es held a bound row (Some s) b = (b.0, sym (true_state t cut es row held (above cut a row bound b.0)) ∙ b.1)
+
+-- ---- rows that do not agree
+
+none_agrees : (ps ns : List (List ℕ)) (a b : ℕ) → a ≤ b → b ≤ length ps → (cut : Option ℕ) (es : List RecordValue) → AreHeld ps cut es → (i j : ℕ) → GoesOn es cut i (state_of_row (records (splice ps a b ns)) j)
+    → HaveSameState ps (splice ps a b ns) i j → ⊥
+none_agrees ps ns a b o w None es held i j g s =
+    no_agreement ps ns a b o w i j (ap (λ (x : Option LineStateValue). agree x (state_of_row (records (splice ps a b ns)) j)) (sym (true_state ps None es i held tt)) ∙ g) s
+none_agrees ps ns a b o w (Some n) es held i j g s = elim (cases_lt i n) [
+  | inl l ↦ no_agreement ps ns a b o w i j (ap (λ (x : Option LineStateValue). agree x (state_of_row (records (splice ps a b ns)) j)) (sym (true_state ps (Some n) es i held l)) ∙ g.0 l) s
+  | inr l ↦
+      let is : s.state ≡ Stopped = stopped_below ps n i s.state (sym (records_state ps n) ∙ held.stopped) l s.before in
+      g.1 l (records_state (splice ps a b ns) j ∙ (s.after ∙ ap (λ (z : LineStateValue). Some z) is))
+]
+
+-- ---- what is lost
+
+got_in_front : (xs ys : List RecordValue) (n i : ℕ) → take n xs ≡ take n ys → i < n → slice_get xs i ≡ slice_get ys i
+got_in_front xs ys n i e l = sym (got_taken xs n i l) ∙ (ap (λ (rs : List RecordValue). slice_get rs i) e ∙ got_taken ys n i l) where
+  got_taken : (rs : List RecordValue) (n i : ℕ) → i < n → slice_get (take n rs) i ≡ slice_get rs i
+  got_taken rs zero i l = absurd (omega (arith, l))
+  got_taken [] (suc n) i l = refl
+  got_taken (r ∷ rs) (suc n) zero l = refl
+  got_taken (r ∷ rs) (suc n) (suc i) l = got_taken rs n i (omega (arith, l))
+
+reads_nothing : (t : List (List ℕ)) (cut : Option ℕ) (es : List RecordValue) (row : ℕ) → AreHeld t cut es → IfSome cut (λ n. row < n) → IsFront row (records t) → ReadsNothing es row
+reads_nothing t None es row held l f = record {
+  sound = λ i r o g. f.sound i r o (ap (λ (rs : List RecordValue). slice_get rs i) (sym held) ∙ g);
+  bare = λ i r o s g. f.bare i r o (ap (λ (rs : List RecordValue). slice_get rs i) (sym held) ∙ g);
+}
+reads_nothing t (Some n) es row held l f = record {
+  sound = λ i r o g. f.sound i r o (sym (got_in_front es (records t) n i held.front (omega (arith, o, l))) ∙ g);
+  bare = λ i r o s g. elim (cases_lt i n) [
+    | inl k ↦ f.bare i r o (sym (got_in_front es (records t) n i held.front k) ∙ g)
+    | inr k ↦ absurd (differ _ held.start (s n l k))
+  ];
+}
+
+-- ---- what scanning found: es is what was kept of the old text, and the rows qs of the new one were scanned
+
+pub record WasScanned (es : List RecordValue) (qs : List (List ℕ)) (cut : Option ℕ) (a b stop row : ℕ) (state : Option LineStateValue) (why : ScanEnd) (end n : ℕ) (items : List RecordValue) : Type 0 where
+  pub begins : BeginsBelow es a row state
+  pub none : (j : ℕ) → row < j → j < a → state_of_row es j ≡ None
+  pub agreed : why ≡ Agreed → EndsAt stop (length qs) end × (agrees es (records qs) stop b end ≡ true) × IfSome cut (λ c. end - stop + b ≤ c)
+  pub halted : why ≡ Halted → EndsAt stop (length qs) end × (state_of_row (records qs) end ≡ Some Stopped) × StopsAt es cut (end - stop + b)
+  pub whole : why ≡ TextEnd → end ≡ length qs
+  pub low : row ≤ end
+  pub high : end ≤ length qs
+  pub goes_on : (j : ℕ) → stop ≤ j → j < end → GoesOn es cut (j - stop + b) (state_of_row (records qs) j)
+  pub told : items ≡ take (end - row) (drop row (records qs))
+  pub counted : n ≡ end - row + read_beyond why
+
+module _ (ps ns : List (List ℕ)) (a b : ℕ) (ordered : a ≤ b) (within : b ≤ length ps) (cut : Option ℕ) (es : List RecordValue) (held : AreHeld ps cut es) (bound : IfSome cut (λ n. a ≤ n))
+    (row : ℕ) (state : Option LineStateValue) (why : ScanEnd) (end n : ℕ) (items : List RecordValue)
+    (some : 0 < length (splice ps a b ns)) (h : WasScanned es (splice ps a b ns) cut a b (a + length ns) row state why end n items) where
+  abbrev new : List (List ℕ)
+  new = splice ps a b ns
+
+  abbrev all : List RecordValue
+  all = records new
+
+  abbrev stop : ℕ
+  stop = a + length ns
+
+  many : length new ≡ a + length ns + (length ps - b)
+  many = grown ps ns a b ordered within
+
+  count : length es ≡ length ps
+  count = held_length ps cut es held
+
+  high' : end ≤ length all
+  high' = omega (arith, h.high, records_length new)
+
+  begins : BeginsBelow (records ps) a row state
+  begins = begins_true_of ps cut es held a bound row state h.begins
+
+  pub row_high : row ≤ a
+  row_high = row_before ps ns a b ordered within row state begins
+
+  front : take row es ≡ take row all
+  front = true_front ps cut es row held (upto cut a row bound row_high) ∙ front_again ps ns a b ordered within row state begins
+
+  restart : IsRestart new a row
+  restart = restarted ps ns a b ordered within row state begins (λ j l m. sym (true_state ps cut es j held (above cut a j bound m)) ∙ h.none j l m)
+
+  none_before : (j : ℕ) → stop ≤ j → j < end → IsAgreement ps new stop b j → ⊥
+  none_before j o l = none_agrees ps ns a b ordered within cut es held (j - stop + b) j (h.goes_on j o l)
+
+  fed : end ≡ row + length items
+  fed = let l = ap (λ (rs : List RecordValue). length rs) h.told in omega (arith, l, length-take (end - row) (drop row all), length-drop row all, high', h.low)
+
+  -- ---- what is lost above
+
+  takes_by : (s : Option LineStateValue) → BeginsBelow (records ps) a row s → (made : List RecordValue) → length made ≡ length new → (row < a → is_start_at made row ≡ is_start_at all row) → row < length new → TakesNothing es made row
+  takes_by None z made len same there = record {
+    within = omega (arith, len, there);
+    front = λ lost start. absurd (differ _ start (ap (λ k. is_start_at made k) z ∙ not_first made));
+  }
+  takes_by (Some s) begun made len same there = record {
+    within = omega (arith, len, there);
+    front = λ lost start.
+        let l = begun.0 in
+        let old = same_before es (records ps) a row (true_front ps cut es a held bound) l in
+        reads_nothing ps cut es row held (above cut a row bound l)
+        (lost_rows ps new row (inr (rows_above ps ns a b ordered within (row + 1) (omega (arith, l)))) (in_new (restart_place ps ns a b ordered within row (Some s) begun)) (sym old ∙ lost) (sym (same l) ∙ start));
+  } where
+    in_new : (row ≡ 0) ⊎ ((row < a) × IsSome (state_at (entries new) row)) → (row ≡ 0) ⊎ IsSome (state_at (entries new) row)
+    in_new (inl z) = inl z
+    in_new (inr p) = inr p.1
+
+  -- ---- scanning ended before a row
+
+  module _ (from : stop ≤ end) (before : end < length new) (counted : n ≡ end - row + 1) where
+    abbrev at : ℕ
+    at = end - stop + b
+
+    abbrev made : List RecordValue
+    made = splice es row at items
+
+    range : IsRange row at (length es)
+    range = record { ordered = omega (arith, row_high, ordered); within = omega (arith, from, before, many, count, within) }
+
+    worked : (e : ℕ) → (e ≡ end) ⊎ (state_of_row all end ≡ Some Stopped) → IsRescan ps new a b (length ns) row e n
+    worked e why' =
+        let found = stop_found ps ns a b ordered within end from before in
+        record {
+          r = row;
+          m = found.place;
+          restart = restart;
+          stop = is_stop ps ns a b ordered within end from before none_before found;
+          some = omega (arith, counted, from, row_high);
+          few = let m = found.from in omega (arith, counted, m);
+          above = inl refl;
+          below = elim why' [
+            | inl is ↦ let m = found.from in inl (omega (arith, is, m))
+            | inr s ↦ inr (record { row = end; within = found.from; stopped = sym (records_state new end) ∙ s })
+          ];
+        }
+
+    same_start : row < a → is_start_at made row ≡ is_start_at all row
+    same_start l = same_before made all end row (made_front es all items row at end front h.told h.low high' end (omega arith)) (omega (arith, l, from))
+
+    kept_by : (next : Option ℕ) → AreHeld new next made → GoOnAlike es made at end → IfSome next (λ c. end ≤ c) → WasRescanned es ps new next a b (length ns) row at end n items
+    kept_by next is alike low = record {
+      range = range;
+      held = is;
+      before = sym (made_front es all items row at end front h.told h.low high' row h.low ∙ sym front);
+      behind = sym (behind ps ns a b ordered within es items row end front h.told h.low high' from);
+      within = h.high;
+      some = fed;
+      alike = alike;
+      taken = takes_by state begins made (held_length new next made is) same_start (omega (arith, h.low, before));
+      below = low;
+      work = worked end (inl refl);
+    }
+
+    -- the rows below it are passed
+    passed : (more : List RecordValue) → state_of_row all end ≡ Some Stopped → more ≡ records_from Stopped (drop end new)
+        → WasRescanned es ps new None a b (length ns) row (length es) (length new) n (items ++ more)
+    passed more stopped is =
+        let whole = whole_unread es items more new row end front h.told h.low stopped is in
+        let len : length (splice es row (length es) (items ++ more)) ≡ length new = ap (λ (rs : List RecordValue). length rs) whole ∙ records_length new in
+        record {
+          range = record { ordered = omega (arith, row_high, ordered, within, count); within = omega arith };
+          held = whole;
+          before = front ∙ ap (λ (rs : List RecordValue). take row rs) (sym whole);
+          behind = nothing es (splice es row (length es) (items ++ more)) (length es) (length new) (omega arith) (omega (arith, len));
+          within = omega arith;
+          some = omega (arith, len, length-spliced es (items ++ more) row (length es) (omega (arith, row_high, ordered, within, count)) (omega arith));
+          alike = nothing_left es (splice es row (length es) (items ++ more)) (length es) (length new) (omega (arith, len));
+          taken = takes_by state begins (splice es row (length es) (items ++ more)) len (λ l. ap (λ (rs : List RecordValue). is_start_at rs row) whole) (omega (arith, h.low, before));
+          below = tt;
+          work = worked (length new) (inr stopped);
+        }
+
+  -- ---- what was found
+
+  abbrev at_of : ScanEnd → ℕ
+  at_of w = counterpart w end stop b (length es)
+
+  abbrev Kept : ScanEnd → Option ℕ → Type 0
+  Kept w next = WasRescanned es ps new next a b (length ns) row (at_of w) end n items
+
+  abbrev Keeps : ScanEnd → Option ℕ → Type 0
+  Keeps w next = MayKeep (splice es row (at_of w) items) w next → Kept w next
+
+  one_more : (w : ScanEnd) → w ≡ why → read_beyond w ≡ 1 → n ≡ end - row + 1
+  one_more w e one = omega (arith, h.counted, ap read_beyond e, one)
+
+  held_as : (c : Option ℕ) → c ≡ cut → AreHeld ps c es
+  held_as c f = subst (λ (o : Option ℕ). AreHeld ps o es) (sym f) held
+
+  -- they agree, and a cut lies below
+  agreed_above : (c : ℕ) → Some c ≡ cut → Agreed ≡ why → (t : Bool) → ltb (at_of Agreed) c ≡ t → Keeps Agreed (cond t (Some (c - at_of Agreed + end)) None)
+  agreed_above c f e true l may =
+      let g = h.agreed (sym e) in
+      let s = both_agree (state_of_row es (at_of Agreed)) (state_of_row all end) g.1 in
+      let is = held_as (Some c) f in
+      let lower : at_of Agreed < c = ltb-true (at_of Agreed) c l in
+      kept_by g.0.0 g.0.1 (one_more Agreed e refl) (Some (c - at_of Agreed + end))
+      (cut_on ps ns a b ordered within es items row end front h.told h.low high' g.0.0 c is lower s.0 s.1 s.2 may)
+      (alike_above ps ns a b ordered within es items row end front h.told h.low high' g.0.0 c is lower s.0 s.1 s.2 may) (omega arith)
+  agreed_above c f e false l may =
+      let g = h.agreed (sym e) in
+      let s = both_agree (state_of_row es (at_of Agreed)) (state_of_row all end) g.1 in
+      let upto : IfSome (Some c) (λ m. at_of Agreed ≤ m) = subst (λ (o : Option ℕ). IfSome o (λ m. at_of Agreed ≤ m)) (sym f) g.2 in
+      let same : c ≡ at_of Agreed = omega (arith, upto, ltb-false (at_of Agreed) c l) in
+      let is : IsCutAt ps (at_of Agreed) es = subst (λ m. IsCutAt ps m es) same (held_as (Some c) f) in
+      let whole = whole_cut ps ns a b ordered within es items row end front h.told h.low high' g.0.0 is s.0 s.1 s.2 in
+      kept_by g.0.0 g.0.1 (one_more Agreed e refl) None whole (alike_cut ps ns a b ordered within es items row end front h.told h.low high' g.0.0 is s.0 s.1 s.2 whole) tt
+
+  ended : TextEnd ≡ why → Kept TextEnd None
+  ended e =
+      let last : end ≡ length new = h.whole (sym e) in
+      let none : drop (length es) es ≡ drop end all = nothing es all (length es) end (omega arith) (omega (arith, last, records_length new)) in
+      let whole = made_whole es all items row (length es) end front h.told h.low high' none in
+      let m : length new - 1 + 1 ≡ length new = omega (arith, some) in
+      record {
+        range = record { ordered = omega (arith, row_high, ordered, within, count); within = omega arith };
+        held = whole;
+        before = front ∙ ap (λ (rs : List RecordValue). take row rs) (sym whole);
+        behind = none ∙ ap (λ (rs : List RecordValue). drop end rs) (sym whole);
+        within = h.high;
+        some = fed;
+        alike = nothing_left es (splice es row (length es) items) (length es) end (omega (arith, last, ap (λ (rs : List RecordValue). length rs) whole, records_length new));
+        taken = takes_by state begins (splice es row (length es) items) (ap (λ (rs : List RecordValue). length rs) whole ∙ records_length new) (λ l. ap (λ (rs : List RecordValue). is_start_at rs row) whole)
+            (row_there state begins last);
+        below = tt;
+        work = record {
+          r = row;
+          m = length new - 1;
+          restart = restart;
+          stop = stop_at_end ps ns a b ordered within (length new - 1) m (λ j o l. none_before j o (omega (arith, l, last)));
+          some = omega (arith, h.counted, ap read_beyond e, last, many, row_high);
+          few = omega (arith, h.counted, ap read_beyond e, last, some, h.low);
+          above = inl refl;
+          below = inl (omega (arith, last, some));
+        };
+      } where
+        row_there : (s : Option LineStateValue) → BeginsBelow (records ps) a row s → end ≡ length new → row < length new
+        row_there None z last = omega (arith, z, some)
+        row_there (Some s) p last = let l = p.0 in omega (arith, l, many)
+
+  kept_if : (w : ScanEnd) (c : Option ℕ) → w ≡ why → c ≡ cut → Keeps w (next_cut w c (at_of w) end)
+  kept_if Agreed None e f may =
+      let g = h.agreed (sym e) in
+      let s = both_agree (state_of_row es (at_of Agreed)) (state_of_row all end) g.1 in
+      let is = held_as None f in
+      let whole = whole_agreed ps ns a b ordered within es items row end front h.told h.low high' g.0.0 is s.0 s.1 s.2 in
+      kept_by g.0.0 g.0.1 (one_more Agreed e refl) None whole
+      (alike_by ps ns a b ordered within es items row end front h.told h.low high' g.0.0 s.0 whole (ap (λ (rs : List RecordValue). take (at_of Agreed) rs) is)
+      (ap (λ (rs : List RecordValue). state_of_row rs (at_of Agreed)) (sym is) ∙ s.1) s.2) tt
+  kept_if Agreed (Some c) e f may = agreed_above c f e (ltb (at_of Agreed) c) refl may
+  kept_if Halted None e f may =
+      let g = h.halted (sym e) in
+      let is = held_as None f in
+      let stops : StopsAt es None (at_of Halted) = subst (λ (o : Option ℕ). StopsAt es o (at_of Halted)) (sym f) g.2 in
+      let s = some_of (state_of_row es (at_of Halted)) stops.1 in
+      kept_by g.0.0 g.0.1 (one_more Halted e refl) (Some end)
+      (cut_there ps ns a b ordered within es items row end front h.told h.low high' g.0.0 is s.0 s.1 stops.0 g.1 may)
+      (alike_there ps ns a b ordered within es items row end front h.told h.low high' g.0.0 stops.0 may) (omega arith)
+  kept_if Halted (Some c) e f may = absurd may
+  kept_if TextEnd None e f may = ended e
+  kept_if TextEnd (Some c) e f may = ended e
+
+  pub kept : Keeps why (next_cut why cut (at_of why) end)
+  kept may = kept_if why cut refl refl may
+
+  -- ---- where it may not be kept, reading has stopped
+
+  record IsHalted : Type 0 where
+    from : stop ≤ end
+    before : end < length new
+    counted : n ≡ end - row + 1
+    stopped : state_of_row all end ≡ Some Stopped
+
+  halted_above : (c : ℕ) → Some c ≡ cut → Agreed ≡ why → (t : Bool) → ltb (at_of Agreed) c ≡ t
+      → (MayKeep (splice es row (at_of Agreed) items) Agreed (cond t (Some (c - at_of Agreed + end)) None) → ⊥) → IsHalted
+  halted_above c f e true l refused =
+      let g = h.agreed (sym e) in
+      let s = both_agree (state_of_row es (at_of Agreed)) (state_of_row all end) g.1 in
+      let is = not_kept ps ns a b ordered within es items row end front h.told h.low high' g.0.0 c (held_as (Some c) f) (ltb-true (at_of Agreed) c l) s.0 s.1 s.2 refused in
+      record { from = g.0.0; before = g.0.1; counted = one_more Agreed e refl; stopped = s.2 ∙ ap (λ (z : LineStateValue). Some z) is }
+  halted_above c f e false l refused = absurd (refused tt)
+
+  halted_if : (w : ScanEnd) (c : Option ℕ) → w ≡ why → c ≡ cut → (MayKeep (splice es row (at_of w) items) w (next_cut w c (at_of w) end) → ⊥) → IsHalted
+  halted_if Agreed None e f refused = absurd (refused tt)
+  halted_if Agreed (Some c) e f refused = halted_above c f e (ltb (at_of Agreed) c) refl refused
+  halted_if Halted c e f refused = let g = h.halted (sym e) in record { from = g.0.0; before = g.0.1; counted = one_more Halted e refl; stopped = g.1 }
+  halted_if TextEnd None e f refused = absurd (refused tt)
+  halted_if TextEnd (Some c) e f refused = absurd (refused tt)
+
+  pub not_held : (more : List RecordValue) → (MayKeep (splice es row (at_of why) items) why (next_cut why cut (at_of why) end) → ⊥) → more ≡ records_from Stopped (drop end new)
+      → WasRescanned es ps new None a b (length ns) row (length es) (length new) n (items ++ more)
+  not_held more refused is = let s = halted_if why cut refl refl refused in passed s.from s.before s.counted more s.stopped is
+
+-- ---- an edit below the row at which the old records are cut
+
+module _ (ps ns : List (List ℕ)) (a b : ℕ) (ordered : a ≤ b) (within : b ≤ length ps) (cut : ℕ) (es : List RecordValue) (h : IsCutAt ps cut es) (below : cut < a) (items : List RecordValue)
+    (told : items ≡ records_from Stopped (drop cut (splice ps a b ns))) (some : 0 < length (splice ps a b ns)) where
+  abbrev edited : List (List ℕ)
+  edited = splice ps a b ns
+
+  stays : state_of_row (records edited) cut ≡ Some Stopped
+  stays = sym (state_above ps ns a b ordered within cut below) ∙ h.stopped
+
+  whole : splice es cut (length es) items ≡ records edited
+  whole =
+      whole_unread es [] items edited cut cut (h.front ∙ records_above ps ns a b ordered within cut Stopped below h.stopped)
+      (ap (λ k. take k (drop cut (records edited))) (zero_of cut)) (omega arith) stays told where
+        zero_of : (k : ℕ) → 0 ≡ k - k
+        zero_of k = omega arith
+
+  length_is : length (splice es cut (length es) items) ≡ length edited
+  length_is = ap (λ (rs : List RecordValue). length rs) whole ∙ records_length edited
+
+  many_rows : length edited ≡ a + length ns + (length ps - b)
+  many_rows = grown ps ns a b ordered within
+
+  count_rows : length es ≡ length ps
+  count_rows = held_length ps (Some cut) es h
+
+  abbrev WorkBelow : Type 0
+  WorkBelow = IsRescan ps edited a b (length ns) cut (length edited) (length ns)
+
+  restart_at : LastAbove (λ j. state_at (entries edited) j) cut a
+  restart_at = restart_found ps ns a b ordered within cut below (is_some_of (state_at (entries edited) cut) Stopped (sym (records_state edited cut) ∙ stays))
+
+  halts : HasStoppedAt edited cut
+  halts = sym (records_state edited cut) ∙ stays
+
+  worked_at : (m : ℕ) → a + length ns ≤ m + 1 → cut ≤ m → IsStop ps edited (a + length ns) b m → WorkBelow
+  worked_at m enough low stop =
+      let r = restart_at.is in
+      let under = r.above in
+      record {
+        r = restart_at.place;
+        m = m;
+        restart = is_restart ps ns a b ordered within cut restart_at;
+        stop = stop;
+        some = omega arith;
+        few = omega (arith, enough, under);
+        above = inr (r.from, halts);
+        below = inr (record { row = cut; within = low; stopped = halts });
+      }
+
+  work_below : WorkBelow
+  work_below = elim (cases_lt (a + length ns) (length edited)) [
+    | inl l ↦
+        let found = stop_found ps ns a b ordered within (a + length ns) (omega arith) l in
+        let m = found.from in
+        worked_at found.place (omega (arith, m)) (omega (arith, m, below)) (is_stop ps ns a b ordered within (a + length ns) (omega arith) l (λ j o k. absurd (omega (arith, o, k))) found)
+    | inr l ↦
+        let e : length edited - 1 + 1 ≡ length edited = omega (arith, some) in
+        worked_at (length edited - 1) (omega (arith, e, l, many_rows)) (omega (arith, e, many_rows, below)) (stop_at_end ps ns a b ordered within (length edited - 1) e (λ j o k. absurd (omega (arith, o, k, e, many_rows, l))))
+  ]
+
+  pub passed_below : WasRescanned es ps edited None a b (length ns) cut (length es) (length edited) (length ns) items
+  passed_below = record {
+    range = record { ordered = omega (arith, below, ordered, within, count_rows); within = omega arith };
+    held = whole;
+    before = h.front ∙ (records_above ps ns a b ordered within cut Stopped below h.stopped ∙ ap (λ (rs : List RecordValue). take cut rs) (sym whole));
+    behind = nothing es (splice es cut (length es) items) (length es) (length edited) (omega arith) (omega (arith, length_is));
+    within = omega arith;
+    some = omega (arith, length_is, length-spliced es items cut (length es) (omega (arith, below, ordered, within, count_rows)) (omega arith));
+    alike = nothing_left es (splice es cut (length es) items) (length es) (length edited) (omega (arith, length_is));
+    taken = record { within = omega (arith, length_is, many_rows, below); front = λ lost start. absurd (differ _ h.start lost) };
+    below = tt;
+    work = work_below;
+  }

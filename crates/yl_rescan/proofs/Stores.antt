@@ -1,0 +1,125 @@
+-- The same for the rows of stores.
+use Rattle.std.proofs.Common.{◌≡◌, ℕ, ◌+◌, ◌<◌, ◌≤◌, List, ◌++◌, length, drop, Option, Some, None, refl, ap, sym, ◌∙◌, subst, arith}
+use Rattle.std.specs.Prelude.{IfSome}
+use Rattle.std.specs.List.{splice}
+use Rattle.std.specs.Str.{chars}
+use Rattle.std.proofs.lemmas.List.{drop-map}
+use Rattle.yl_text.specs.Lines.{RowValue}
+use Rattle.yl_text.specs.Store.{AreLines, IsRange}
+use Rattle.yl_row.specs.Entries.{LineStateValue, Stopped}
+use Rattle.yl_record.specs.Records.{RecordValue, characters_in, records, records_from}
+use Rattle.yl_rescan.specs.Agree.{BeginsAt, BeginsBelow, MayKeep, counterpart, next_cut}
+use Rattle.yl_rescan.specs.Held.{AreHeld, IsCutAt}
+use Rattle.yl_rescan.specs.Made.{WasRescanned}
+use Rattle.yl_rescan.specs.declared.scanning.ScanEnd.{ScanEnd}
+use Rattle.yl_rescan.specs.declared.scanning.ScanEnd.TheVariants.{Agreed, Halted, TextEnd}
+use Rattle.yl_rescan.proofs.Edits.{begins_again, characters_length, characters_spliced, row_before, some_lines}
+use Rattle.yl_rescan.proofs.Held.{held_length, state_there}
+use Rattle.yl_rescan.proofs.Made.{WasScanned, begins_true_of, kept, not_held, passed_below}
+
+characters_dropped : (i : ℕ) (rows : List RowValue) → characters_in (drop i rows) ≡ drop i (characters_in rows)
+characters_dropped i rows = sym (drop-map (λ (row : RowValue). chars row.text) i rows)
+
+module _ (ps ns us : List RowValue) (a b : ℕ) (range : IsRange a b (length ps)) (patched : us ≡ splice ps a b ns) where
+  abbrev old : List (List ℕ)
+  old = characters_in ps
+
+  abbrev put : List (List ℕ)
+  put = characters_in ns
+
+  abbrev new : List (List ℕ)
+  new = splice old a b put
+
+  told_patched : characters_in us ≡ new
+  told_patched = ap (λ (rows : List RowValue). characters_in rows) patched ∙ characters_spliced ps ns a b
+
+  within_told : b ≤ length old
+  within_told = omega (arith, range.within, characters_length ps)
+
+  count : length put ≡ length ns
+  count = characters_length ns
+
+  some_rows : AreLines (splice ps a b ns) → 0 < length new
+  some_rows lines = omega (arith, some_lines (splice ps a b ns) lines, characters_length (splice ps a b ns), ap (λ (qs : List (List ℕ)). length qs) (characters_spliced ps ns a b))
+
+  module _ (cut : Option ℕ) (es : List RecordValue) (held : AreHeld old cut es) where
+    pub below_length : a ≤ length es
+    below_length = omega (arith, range.ordered, within_told, held_length old cut es held)
+
+    pub begins_patched : IfSome cut (λ n. a ≤ n) → (row : ℕ) (state : Option LineStateValue) → BeginsBelow es a row state → BeginsAt (records (characters_in us)) row state
+    begins_patched bound row state h =
+        subst (λ (qs : List (List ℕ)). BeginsAt (records qs) row state) (sym told_patched) (begins_again old put a b range.ordered within_told row state (begins_true_of old cut es held a bound row state h))
+
+    pub above_edit : IfSome cut (λ n. a ≤ n) → (row : ℕ) (state : Option LineStateValue) → BeginsBelow es a row state → row ≤ a
+    above_edit bound row state h = row_before old put a b range.ordered within_told row state (begins_true_of old cut es held a bound row state h)
+
+    module _ (bound : IfSome cut (λ n. a ≤ n)) (lines : AreLines (splice ps a b ns)) (row : ℕ) (state : Option LineStateValue) (why : ScanEnd) (end n : ℕ) (items : List RecordValue)
+        (h : WasScanned es (characters_in us) cut a b (a + length ns) row state why end n items) where
+      abbrev at : ℕ → ℕ
+      at k = counterpart why end (a + k) b (length es)
+
+      scanned : WasScanned es new cut a b (a + length put) row state why end n items
+      scanned =
+          subst (λ k. WasScanned es new cut a b (a + k) row state why end n items) (sym count)
+          (subst (λ (qs : List (List ℕ)). WasScanned es qs cut a b (a + length ns) row state why end n items) told_patched h)
+
+      pub kept_rows : MayKeep (splice es row (at (length ns)) items) why (next_cut why cut (at (length ns)) end)
+          → WasRescanned es old (characters_in (splice ps a b ns)) (next_cut why cut (at (length ns)) end) a b (length ns) row (at (length ns)) end n items
+      kept_rows =
+          subst (λ (qs : List (List ℕ)). MayKeep (splice es row (at (length ns)) items) why (next_cut why cut (at (length ns)) end)
+          → WasRescanned es old qs (next_cut why cut (at (length ns)) end) a b (length ns) row (at (length ns)) end n items) (sym (characters_spliced ps ns a b))
+          (subst (λ k. MayKeep (splice es row (at k) items) why (next_cut why cut (at k) end) → WasRescanned es old new (next_cut why cut (at k) end) a b k row (at k) end n items) count
+          (kept old put a b range.ordered within_told cut es held bound row state why end n items (some_rows lines) scanned))
+
+      pub passed_rows : (more : List RecordValue) → (MayKeep (splice es row (at (length ns)) items) why (next_cut why cut (at (length ns)) end) → ⊥) → more ≡ records_from Stopped (characters_in (drop end us))
+          → WasRescanned es old (characters_in (splice ps a b ns)) None a b (length ns) row (length es) (length us) n (items ++ more)
+      passed_rows more refused is =
+          let rest : more ≡ records_from Stopped (drop end new) = is ∙ ap (λ (qs : List (List ℕ)). records_from Stopped qs) (characters_dropped end us ∙ ap (λ (qs : List (List ℕ)). drop end qs) told_patched) in
+          let len : length new ≡ length us = ap (λ (qs : List (List ℕ)). length qs) (sym told_patched) ∙ characters_length us in
+          subst (λ (qs : List (List ℕ)). WasRescanned es old qs None a b (length ns) row (length es) (length us) n (items ++ more)) (sym (characters_spliced ps ns a b))
+          (subst (λ e. WasRescanned es old new None a b (length ns) row (length es) e n (items ++ more)) len
+          (subst (λ k. (MayKeep (splice es row (at k) items) why (next_cut why cut (at k) end) → ⊥) → WasRescanned es old new None a b k row (length es) (length new) n (items ++ more)) count
+          (λ not. not_held old put a b range.ordered within_told cut es held bound row state why end n items (some_rows lines) scanned more not rest) refused))
+
+  pub passed_below_rows : (cut : ℕ) (es : List RecordValue) → IsCutAt old cut es → cut < a → AreLines (splice ps a b ns) → (items : List RecordValue) → items ≡ records_from Stopped (characters_in (drop cut us))
+      → WasRescanned es old (characters_in (splice ps a b ns)) None a b (length ns) cut (length es) (length us) (length ns) items
+  passed_below_rows cut es h below lines items is =
+      let rest : items ≡ records_from Stopped (drop cut new) = is ∙ ap (λ (qs : List (List ℕ)). records_from Stopped qs) (characters_dropped cut us ∙ ap (λ (qs : List (List ℕ)). drop cut qs) told_patched) in
+      let len : length new ≡ length us = ap (λ (qs : List (List ℕ)). length qs) (sym told_patched) ∙ characters_length us in
+      subst (λ (qs : List (List ℕ)). WasRescanned es old qs None a b (length ns) cut (length es) (length us) (length ns) items) (sym (characters_spliced ps ns a b))
+      (subst (λ e. WasRescanned es old new None a b (length ns) cut (length es) e (length ns) items) len
+      (subst (λ k. WasRescanned es old new None a b k cut (length es) (length new) k items) count
+      (passed_below old put a b range.ordered within_told cut es h below items rest (some_rows lines))))
+
+-- what was made, under other names
+pub the_same : (es : List RecordValue) (ps qs : List (List ℕ)) (a b k n : ℕ) (cut cut' : Option ℕ) (from from' old_end old_end' end end' : ℕ) (items items' : List RecordValue)
+    → cut ≡ cut' → from ≡ from' → old_end ≡ old_end' → end ≡ end' → items ≡ items' → WasRescanned es ps qs cut' a b k from' old_end' end' n items' → WasRescanned es ps qs cut a b k from old_end end n items
+the_same es ps qs a b k n cut cut' from from' old_end old_end' end end' items items' c f o e i h =
+    subst (λ (x : Option ℕ). WasRescanned es ps qs x a b k from old_end end n items) (sym c)
+    (subst (λ x. WasRescanned es ps qs cut' a b k x old_end end n items) (sym f)
+    (subst (λ x. WasRescanned es ps qs cut' a b k from' x end n items) (sym o)
+    (subst (λ x. WasRescanned es ps qs cut' a b k from' old_end' x n items) (sym e) (subst (λ (x : List RecordValue). WasRescanned es ps qs cut' a b k from' old_end' end' n x) (sym i) h))))
+
+-- whether it may be kept, under other names
+pub may_the_same : (es : List RecordValue) (row at at' : ℕ) (items items' : List RecordValue) (why : ScanEnd) (next next' : Option ℕ) → at ≡ at' → items ≡ items' → next ≡ next'
+    → (MayKeep (splice es row at items) why next ≡ MayKeep (splice es row at' items') why next')
+may_the_same es row at at' items items' why next next' a i n =
+    ap (λ x. MayKeep (splice es row x items) why next) a ∙ (ap (λ (x : List RecordValue). MayKeep (splice es row at' x) why next) i ∙ ap (λ (x : Option ℕ). MayKeep (splice es row at' items') why x) n)
+
+pub refused_the_same : {A B : Type 0} → A ≡ B → (A → ⊥) → B → ⊥
+refused_the_same e refused b = refused (subst (λ (T : Type 0). T) (sym e) b)
+
+-- the row at which they are cut is there
+pub cut_there : (t : List (List ℕ)) (cut : Option ℕ) (es : List RecordValue) → AreHeld t cut es → IfSome cut (λ n. n < length es)
+cut_there t None es h = tt
+cut_there t (Some n) es h = state_there es n h.state h.sound
+
+pub few_there : (cut : Option ℕ) (count end limit : ℕ) → IfSome cut (λ n. n < count) → count + end < limit → IfSome cut (λ n. n + end < limit)
+few_there None count end limit h l = tt
+few_there (Some n) count end limit h l = omega (arith, h, l)
+
+-- scanning ended before a row, or at the text's end
+pub by_end : {P : Type 0} (why : ScanEnd) → (why ≡ Agreed → P) → (why ≡ Halted → P) → (why ≡ TextEnd → P) → P
+by_end Agreed x y z = x refl
+by_end Halted x y z = y refl
+by_end TextEnd x y z = z refl

@@ -1,0 +1,152 @@
+//! Edits that hide what stands below them, by a quote that is opened, and show it again.
+use crate::edits::{Line, check, check_rows, repeated};
+use std::test::Fail;
+
+static HIDDEN: &[Line] = &[
+    // A quote is opened, typed in, and closed, with an edit of what it hides between.
+    (
+        "---\na:  1\nb: 2\n---\nc: 3\nd: 4 \n---\ne:  5\nf: 6\n---\ng: 7 \n---\nh:  8\n",
+        &[
+            (4, 5, b"c: \"3\n", 11, 1),
+            (4, 5, b"c: \"33\n", 5, 1),
+            (7, 8, b"e: 5 \n", 5, 1),
+            (4, 5, b"c: \"33\"\n", 11, 4),
+            (4, 5, b"c: 3\n", 4, 2),
+        ],
+        "2:4 too many spaces after colon\n6:5 trailing spaces\n8:4 too many spaces after colon\n11:5 trailing spaces\n13:4 too many spaces after colon\n\
+         -- edited\n2:4 too many spaces after colon\n6:5 trailing spaces\n7:1 syntax error: document marker in quoted scalar\n11:5 trailing spaces\n\
+         -- edited\n2:4 too many spaces after colon\n6:5 trailing spaces\n7:1 syntax error: document marker in quoted scalar\n11:5 trailing spaces\n\
+         -- edited\n2:4 too many spaces after colon\n6:5 trailing spaces\n7:1 syntax error: document marker in quoted scalar\n8:5 trailing spaces\n11:5 trailing spaces\n\
+         -- edited\n2:4 too many spaces after colon\n6:5 trailing spaces\n8:5 trailing spaces\n11:5 trailing spaces\n13:4 too many spaces after colon\n\
+         -- edited\n2:4 too many spaces after colon\n6:5 trailing spaces\n8:5 trailing spaces\n11:5 trailing spaces\n13:4 too many spaces after colon\n",
+    ),
+    // Lines are edited that it hides: in the document above whose marker it was found to be open, and in those below.
+    (
+        "---\na:  1\nb: 2\n---\nc: 3\nd: 4 \n---\ne:  5\nf: 6\n---\ng: 7 \n---\nh:  8\n",
+        &[
+            (2, 3, b"b: '2\n", 13, 1),
+            (5, 6, b"d: 4\n", 3, 1),
+            (10, 11, b"g: 7\n", 3, 1),
+            (12, 13, b"h: 8\n", 3, 1),
+            (2, 3, b"b: 2\n", 13, 5),
+        ],
+        "2:4 too many spaces after colon\n6:5 trailing spaces\n8:4 too many spaces after colon\n11:5 trailing spaces\n13:4 too many spaces after colon\n\
+         -- edited\n2:4 too many spaces after colon\n4:1 syntax error: document marker in quoted scalar\n6:5 trailing spaces\n11:5 trailing spaces\n\
+         -- edited\n2:4 too many spaces after colon\n4:1 syntax error: document marker in quoted scalar\n11:5 trailing spaces\n\
+         -- edited\n2:4 too many spaces after colon\n4:1 syntax error: document marker in quoted scalar\n\
+         -- edited\n2:4 too many spaces after colon\n4:1 syntax error: document marker in quoted scalar\n\
+         -- edited\n2:4 too many spaces after colon\n8:4 too many spaces after colon\n",
+    ),
+    // A quote is open already, and another is opened above it: each is closed by itself.
+    (
+        "---\na:  1\nb: 2\n---\nc: 3\nd: 4 \n---\ne:  5\nf: 6\n---\ng: 7 \n---\nh:  8\n",
+        &[
+            (7, 8, b"e: \"5\n", 8, 1),
+            (1, 2, b"a: \"1\n", 11, 1),
+            (1, 2, b"a: 1\n", 11, 3),
+            (7, 8, b"e: 5\n", 8, 3),
+        ],
+        "2:4 too many spaces after colon\n6:5 trailing spaces\n8:4 too many spaces after colon\n11:5 trailing spaces\n13:4 too many spaces after colon\n\
+         -- edited\n2:4 too many spaces after colon\n6:5 trailing spaces\n10:1 syntax error: document marker in quoted scalar\n11:5 trailing spaces\n\
+         -- edited\n4:1 syntax error: document marker in quoted scalar\n6:5 trailing spaces\n11:5 trailing spaces\n\
+         -- edited\n6:5 trailing spaces\n10:1 syntax error: document marker in quoted scalar\n11:5 trailing spaces\n\
+         -- edited\n6:5 trailing spaces\n11:5 trailing spaces\n13:4 too many spaces after colon\n",
+    ),
+    // The marker goes that showed the quote to be open; then the next one does.
+    (
+        "---\na:  1\nb: 2\n---\nc: 3\nd: 4 \n---\ne:  5\nf: 6\n---\ng: 7 \n---\nh:  8\n",
+        &[
+            (1, 2, b"a: \"1\n", 14, 1),
+            (3, 4, b"", 6, 1),
+            (5, 6, b"", 8, 1),
+            (1, 2, b"a: \"1\"\n", 12, 3),
+        ],
+        "2:4 too many spaces after colon\n6:5 trailing spaces\n8:4 too many spaces after colon\n11:5 trailing spaces\n13:4 too many spaces after colon\n\
+         -- edited\n4:1 syntax error: document marker in quoted scalar\n6:5 trailing spaces\n11:5 trailing spaces\n\
+         -- edited\n5:5 trailing spaces\n6:1 syntax error: document marker in quoted scalar\n10:5 trailing spaces\n\
+         -- edited\n5:5 trailing spaces\n8:1 syntax error: document marker in quoted scalar\n9:5 trailing spaces\n\
+         -- edited\n5:5 trailing spaces\n6:4 too many spaces after colon\n9:5 trailing spaces\n11:4 too many spaces after colon\n",
+    ),
+    // Lines go from above that marker to far below it.
+    (
+        "---\na:  1\nb: 2\n---\nc: 3\nd: 4 \n---\ne:  5\nf: 6\n---\ng: 7 \n---\nh:  8\n",
+        &[
+            (1, 2, b"a: \"1\n", 14, 1),
+            (2, 8, b"x: 1\n---\n", 4, 1),
+            (1, 2, b"a: 1\n", 10, 4),
+        ],
+        "2:4 too many spaces after colon\n6:5 trailing spaces\n8:4 too many spaces after colon\n11:5 trailing spaces\n13:4 too many spaces after colon\n\
+         -- edited\n4:1 syntax error: document marker in quoted scalar\n6:5 trailing spaces\n11:5 trailing spaces\n\
+         -- edited\n4:1 syntax error: document marker in quoted scalar\n7:5 trailing spaces\n\
+         -- edited\n7:5 trailing spaces\n9:4 too many spaces after colon\n",
+    ),
+    // What stands below it had a fault before.
+    (
+        "---\na: 1\n---\n%T x\n---\nb:  1\n---\nc: 1 \n",
+        &[
+            (1, 2, b"a: \"1\n", 5, 1),
+            (1, 2, b"%T \"\n", 4, 1),
+            (1, 2, b"a: 1\n", 5, 2),
+        ],
+        "4:1 syntax error: character not allowed here\n8:5 trailing spaces\n\
+         -- edited\n3:1 syntax error: document marker in quoted scalar\n8:5 trailing spaces\n\
+         -- edited\n2:1 syntax error: character not allowed here\n8:5 trailing spaces\n\
+         -- edited\n4:1 syntax error: character not allowed here\n8:5 trailing spaces\n",
+    ),
+    // An open bracket hides documents too, but is no fault of the scanner.
+    (
+        "---\na:  1\nb: 2\n---\nc: 3\nd: 4 \n---\ne:  5\nf: 6\n---\ng: 7 \n---\nh:  8\n",
+        &[
+            (4, 5, b"c: [3\n", 5, 2),
+            (8, 9, b"f: 6 \n", 3, 2),
+            (4, 5, b"c: [3]\n", 5, 2),
+        ],
+        "2:4 too many spaces after colon\n6:5 trailing spaces\n8:4 too many spaces after colon\n11:5 trailing spaces\n13:4 too many spaces after colon\n\
+         -- edited\n2:4 too many spaces after colon\n6:2 syntax error: comma or closing bracket expected\n6:5 trailing spaces\n11:5 trailing spaces\n\
+         -- edited\n2:4 too many spaces after colon\n6:2 syntax error: comma or closing bracket expected\n6:5 trailing spaces\n9:5 trailing spaces\n11:5 trailing spaces\n\
+         -- edited\n2:4 too many spaces after colon\n6:5 trailing spaces\n8:4 too many spaces after colon\n9:5 trailing spaces\n11:5 trailing spaces\n13:4 too many spaces after colon\n",
+    ),
+    // Lines come that it hides, and behind it a marker goes and comes.
+    (
+        "---\na:  1\nb: 2\n---\nc: 3\nd: 4 \n---\ne:  5\nf: 6\n---\ng: 7 \n---\nh:  8\n",
+        &[
+            (1, 2, b"a: \"1\n", 14, 1),
+            (10, 10, b"y:  1\n", 3, 1),
+            (1, 2, b"a: 1\n", 15, 5),
+            (6, 7, b"", 3, 1),
+            (6, 6, b"---\n", 4, 2),
+        ],
+        "2:4 too many spaces after colon\n6:5 trailing spaces\n8:4 too many spaces after colon\n11:5 trailing spaces\n13:4 too many spaces after colon\n\
+         -- edited\n4:1 syntax error: document marker in quoted scalar\n6:5 trailing spaces\n11:5 trailing spaces\n\
+         -- edited\n4:1 syntax error: document marker in quoted scalar\n6:5 trailing spaces\n12:5 trailing spaces\n\
+         -- edited\n6:5 trailing spaces\n8:4 too many spaces after colon\n11:4 too many spaces after colon\n12:5 trailing spaces\n14:4 too many spaces after colon\n\
+         -- edited\n6:5 trailing spaces\n7:4 too many spaces after colon\n10:4 too many spaces after colon\n11:5 trailing spaces\n13:4 too many spaces after colon\n\
+         -- edited\n6:5 trailing spaces\n8:4 too many spaces after colon\n11:4 too many spaces after colon\n12:5 trailing spaces\n14:4 too many spaces after colon\n",
+    ),
+];
+
+#[test]
+fn quotes_hide_what_stands_below(rt: HostRuntime) -> Result<(), Fail> {
+    check_rows(&rt, rt.alloc(), HIDDEN)
+}
+
+// A quote is opened amid 2,000 documents, typed in, and closed: no more is read than to the second marker below it.
+#[test]
+fn a_quote_amid_many_documents_is_little_work(rt: HostRuntime) -> Result<(), Fail> {
+    let text = repeated(rt.alloc(), "", "---\nk: v\n", 2000)?;
+    check(
+        &rt,
+        rt.alloc(),
+        text.as_str(),
+        &[
+            (2001, 2002, b"k: \"v\n", 6, 2),
+            (2001, 2002, b"k: \"vw\n", 6, 2),
+            (2001, 2002, b"k: \"vw\"\n", 6, 3),
+            (2001, 2002, b"k: v\n", 4, 2),
+        ],
+        "-- edited\n2003:1 syntax error: document marker in quoted scalar\n\
+         -- edited\n2003:1 syntax error: document marker in quoted scalar\n\
+         -- edited\n\
+         -- edited\n",
+    )
+}
