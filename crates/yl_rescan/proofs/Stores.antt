@@ -2,8 +2,6 @@
 use Rattle.std.proofs.Common.{◌≡◌, ℕ, ◌+◌, ◌<◌, ◌≤◌, List, ◌++◌, length, drop, Option, Some, None, refl, ap, sym, ◌∙◌, subst, arith}
 use Rattle.std.specs.Prelude.{IfSome}
 use Rattle.std.specs.List.{splice}
-use Rattle.std.specs.Str.{chars}
-use Rattle.std.proofs.lemmas.List.{drop-map}
 use Rattle.yl_text.specs.Lines.{RowValue}
 use Rattle.yl_text.specs.Store.{AreLines, IsRange}
 use Rattle.yl_row.specs.Entries.{LineStateValue, Stopped}
@@ -15,10 +13,8 @@ use Rattle.yl_rescan.specs.declared.scanning.ScanEnd.{ScanEnd}
 use Rattle.yl_rescan.specs.declared.scanning.ScanEnd.TheVariants.{Agreed, Halted, TextEnd}
 use Rattle.yl_rescan.proofs.Edits.{begins_again, characters_length, characters_spliced, row_before, some_lines}
 use Rattle.yl_rescan.proofs.Held.{held_length, state_there}
+use Rattle.yl_rescan.proofs.Scans.{characters_dropped}
 use Rattle.yl_rescan.proofs.Made.{WasScanned, begins_true_of, kept, not_held, passed_below}
-
-characters_dropped : (i : ℕ) (rows : List RowValue) → characters_in (drop i rows) ≡ drop i (characters_in rows)
-characters_dropped i rows = sym (drop-map (λ (row : RowValue). chars row.text) i rows)
 
 module _ (ps ns us : List RowValue) (a b : ℕ) (range : IsRange a b (length ps)) (patched : us ≡ splice ps a b ns) where
   abbrev old : List (List ℕ)

@@ -1,5 +1,5 @@
 -- How many lines and records there are, also after an edit.
-use Rattle.std.proofs.Common.{◌≡◌, ◌^◌, ◌+◌, ◌≤◌, ◌<◌, ◌++◌, ◌∙◌, ℕ, List, Option, length, take, drop, map, arith, length-append}
+use Rattle.std.proofs.Common.{◌≡◌, ◌^◌, ◌≤◌, ◌<◌, ◌++◌, ◌∙◌, ℕ, List, Option, length, take, drop, map, arith, length-append}
 use Rattle.std.proofs.lemmas.List.{length-map}
 use Rattle.std.specs.List.{splice}
 use Rattle.std.specs.Str.{chars}

@@ -1,5 +1,5 @@
 -- What becomes of problems, from what becomes of their parts.
-use Rattle.std.proofs.Common.{◌≡◌, ℕ, Bool, true, false, Bor, List, map, Option, Some, None, ap, ◌∙◌}
+use Rattle.std.proofs.Common.{◌≡◌, ℕ, Bool, true, Bor, List, map, Option, Some, None, ap, ◌∙◌}
 use Rattle.std.specs.Prelude.{IfSome, MatchOption, is_some}
 use Rattle.yl_text.specs.Lines.{RowValue}
 use Rattle.yl_text.specs.declared.finding.RuleId.{RuleId}

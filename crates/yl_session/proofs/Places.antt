@@ -4,7 +4,6 @@ use Rattle.std.specs.List.{AllByRecursion, slice_get, slice_set, splice}
 use Rattle.std.proofs.lemmas.List.{same_lists, places}
 use Rattle.std.proofs.lemmas.Option.{slice_get_within}
 use Rattle.yl_sections.specs.Kept.{KeptValue}
-use Rattle.yl_rejudge.specs.declared.places.Place.{Place}
 use Rattle.yl_rejudge.specs.Places.{IsAt, rows_kept}
 use Rattle.yl_rejudge.proofs.KeptRows.{got, rows_more}
 use Rattle.yl_patch.proofs.Walks.{rows_both, rows_until}

@@ -1,16 +1,16 @@
 -- What an edit took: which rows were scanned, and which documents derived.
-use Rattle.std.proofs.Common.{◌≡◌, ◌≤◌, ◌<◌, ◌+◌, ◌-◌, ◌⊎◌, inl, inr, ℕ, zero, suc, false, true, List, length, [], ◌∷◌, Option, Some, None, ap, sym, ◌∙◌, arith}
+use Rattle.std.proofs.Common.{◌≡◌, ◌≤◌, ◌<◌, ◌+◌, ◌-◌, inl, inr, ℕ, zero, suc, false, true, List, length, [], ◌∷◌, Option, Some, None, ap, sym, ◌∙◌, arith}
 use Rattle.std.specs.Prelude.{IfSome, IsSome}
 use Rattle.yl_text.specs.Lines.{RowValue}
 use Rattle.yl_text.specs.Store.{AreLines}
-use Rattle.yl_row.specs.Entries.{RowEntry, LineStateValue, entries}
+use Rattle.yl_row.specs.Entries.{RowEntry, entries}
 use Rattle.yl_scan.specs.Restart.{state_at}
 use Rattle.yl_record.specs.Records.{RecordValue, records}
 use Rattle.yl_sections.specs.Local.{is_start_at}
 use Rattle.yl_sections.specs.Sections.{sections}
 use Rattle.yl_rejudge.specs.Documents.{documents_holding}
 use Rattle.yl_rejudge.proofs.SectionStarts.{not_first}
-use Rattle.yl_rescan.specs.Held.{AreHeld, IsCutAt}
+use Rattle.yl_rescan.specs.Held.{AreHeld}
 use Rattle.yl_rescan.specs.Rescan.{IsRescan, IsRestart, IsStop}
 use Rattle.yl_rescan.proofs.Rows.{each_row}
 use Rattle.yl_session.specs.Work.{IsWork}

@@ -1,5 +1,5 @@
 -- Bridge: how far the rows of a text were recorded.
-use Rattle.std.specs.Prelude.{◌≡◌, ◌+◌, ℕ, Bool, true, false, List, length, take, drop}
+use Rattle.std.specs.Prelude.{◌≡◌, ◌+◌, ℕ, true, false, List, length, take, drop}
 use Rattle.yl_text.specs.Lines.{RowValue}
 use Rattle.yl_record.specs.Records.{RecordValue, characters_in}
 use Rattle.yl_record.specs.Recorded.{RecorderValue, recorded}

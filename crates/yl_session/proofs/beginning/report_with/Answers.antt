@@ -2,7 +2,7 @@ use Rattle.std.proofs.Common.{◌≡◌, ◌++◌, Bor, List, map, subst, ap, re
 use Rattle.std.specs.Prelude.{IfOk}
 use Rattle.yl_report.specs.Report.{ProblemValue}
 use Rattle.yl_sections.specs.Kept.{KeptValue}
-use Rattle.yl_lint.specs.TextReport.{kept_of_text, report, report_by}
+use Rattle.yl_lint.specs.TextReport.{kept_of_text, report}
 use Rattle.yl_session.proofs.Changed.{report_told}
 use Rattle.yl_session.proofs.beginning.report_with.Goals as goal
 

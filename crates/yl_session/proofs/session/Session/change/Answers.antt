@@ -1,4 +1,4 @@
-use Rattle.std.proofs.Common.{◌≡◌, ℕ, refl, Option, List, Result, Ok, Err, drop, map, take, length, arith, ap, sym, subst, ◌∙◌}
+use Rattle.std.proofs.Common.{◌≡◌, ℕ, refl, Option, List, Result, Ok, Err, map, take, length, arith, ap, sym, subst, ◌∙◌}
 use Rattle.std.specs.List.{AllByRecursion, splice}
 use Rattle.yl_text.specs.Store.{AreLines, IsRange}
 use Rattle.yl_record.specs.Records.{RecordValue, characters_in}
