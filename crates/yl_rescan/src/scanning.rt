@@ -88,6 +88,14 @@ fn is_old_start<A: Allocator + Copy>(records: &Chunks<Record<A>, A>, row: usize)
     is_start_at(&Spliced::new(records, 0, 0, &[]), row)
 }
 
+/// So many rows at a text's end are read again, and not kept behind a fault: then nothing stands below what is read.
+const NEAR: usize = 512;
+
+/// Whether more rows stand below this one than are read again at a text's end.
+fn is_far<A: Allocator + Copy>(records: &Chunks<Record<A>, A>, row: usize) -> bool {
+    records.len().saturating_sub(row) > NEAR
+}
+
 /// Why scanning ends before a row.
 #[derive(Clone, Copy, Debug)]
 pub enum ScanEnd {
@@ -100,7 +108,8 @@ pub enum ScanEnd {
 }
 
 /// Why scanning ends before a row of this state, whose counterpart is the old row `at`, if it does. It ends where they agree, down to where
-/// the old records are cut. Where reading has stopped, it ends where a section begins with the old row, or from where these are cut on.
+/// the old records are cut. Where reading has stopped, it ends where a section begins with the old row, far from the text's end, or from
+/// where these are cut on.
 fn scan_end<A: Allocator + Copy>(
     old: &Chunks<Record<A>, A>,
     cut: Option<usize>,
@@ -116,7 +125,7 @@ fn scan_end<A: Allocator + Copy>(
         if agree(old, at, state) {
             return Some(ScanEnd::Agreed);
         }
-        if is_stopped(state) && is_old_start(old, at) {
+        if is_stopped(state) && is_far(old, at) && is_old_start(old, at) {
             return Some(ScanEnd::Halted);
         }
         return None;

@@ -1,16 +1,19 @@
 //! Edits that hide what stands below them, by a quote that is opened, and show it again.
-use crate::edits::{Line, check, check_rows, repeated};
+use crate::edits::{Change, check, repeated};
 use std::test::Fail;
 
-static HIDDEN: &[Line] = &[
+// A text, edits, and what is shown, with many documents behind it and with none.
+type Hidden = (&'static str, &'static [Change], &'static str);
+
+static HIDDEN: &[Hidden] = &[
     // A quote is opened, typed in, and closed, with an edit of what it hides between.
     (
         "---\na:  1\nb: 2\n---\nc: 3\nd: 4 \n---\ne:  5\nf: 6\n---\ng: 7 \n---\nh:  8\n",
         &[
-            (4, 5, b"c: \"3\n", 11, 1),
+            (4, 5, b"c: \"3\n", 611, 1),
             (4, 5, b"c: \"33\n", 5, 1),
             (7, 8, b"e: 5 \n", 5, 1),
-            (4, 5, b"c: \"33\"\n", 11, 4),
+            (4, 5, b"c: \"33\"\n", 611, 304),
             (4, 5, b"c: 3\n", 4, 2),
         ],
         "2:4 too many spaces after colon\n6:5 trailing spaces\n8:4 too many spaces after colon\n11:5 trailing spaces\n13:4 too many spaces after colon\n\
@@ -20,15 +23,15 @@ static HIDDEN: &[Line] = &[
          -- edited\n2:4 too many spaces after colon\n6:5 trailing spaces\n8:5 trailing spaces\n11:5 trailing spaces\n13:4 too many spaces after colon\n\
          -- edited\n2:4 too many spaces after colon\n6:5 trailing spaces\n8:5 trailing spaces\n11:5 trailing spaces\n13:4 too many spaces after colon\n",
     ),
-    // Lines are edited that it hides: in the document above whose marker it was found to be open, and in those below.
+    // Lines are edited that it hides: in the document whose marker showed that it is open, and in those below.
     (
         "---\na:  1\nb: 2\n---\nc: 3\nd: 4 \n---\ne:  5\nf: 6\n---\ng: 7 \n---\nh:  8\n",
         &[
-            (2, 3, b"b: '2\n", 13, 1),
+            (2, 3, b"b: '2\n", 613, 1),
             (5, 6, b"d: 4\n", 3, 1),
             (10, 11, b"g: 7\n", 3, 1),
             (12, 13, b"h: 8\n", 3, 1),
-            (2, 3, b"b: 2\n", 13, 5),
+            (2, 3, b"b: 2\n", 613, 305),
         ],
         "2:4 too many spaces after colon\n6:5 trailing spaces\n8:4 too many spaces after colon\n11:5 trailing spaces\n13:4 too many spaces after colon\n\
          -- edited\n2:4 too many spaces after colon\n4:1 syntax error: document marker in quoted scalar\n6:5 trailing spaces\n11:5 trailing spaces\n\
@@ -41,10 +44,10 @@ static HIDDEN: &[Line] = &[
     (
         "---\na:  1\nb: 2\n---\nc: 3\nd: 4 \n---\ne:  5\nf: 6\n---\ng: 7 \n---\nh:  8\n",
         &[
-            (7, 8, b"e: \"5\n", 8, 1),
+            (7, 8, b"e: \"5\n", 608, 1),
             (1, 2, b"a: \"1\n", 11, 1),
             (1, 2, b"a: 1\n", 11, 3),
-            (7, 8, b"e: 5\n", 8, 3),
+            (7, 8, b"e: 5\n", 608, 303),
         ],
         "2:4 too many spaces after colon\n6:5 trailing spaces\n8:4 too many spaces after colon\n11:5 trailing spaces\n13:4 too many spaces after colon\n\
          -- edited\n2:4 too many spaces after colon\n6:5 trailing spaces\n10:1 syntax error: document marker in quoted scalar\n11:5 trailing spaces\n\
@@ -56,10 +59,10 @@ static HIDDEN: &[Line] = &[
     (
         "---\na:  1\nb: 2\n---\nc: 3\nd: 4 \n---\ne:  5\nf: 6\n---\ng: 7 \n---\nh:  8\n",
         &[
-            (1, 2, b"a: \"1\n", 14, 1),
+            (1, 2, b"a: \"1\n", 614, 1),
             (3, 4, b"", 6, 1),
             (5, 6, b"", 8, 1),
-            (1, 2, b"a: \"1\"\n", 12, 3),
+            (1, 2, b"a: \"1\"\n", 612, 303),
         ],
         "2:4 too many spaces after colon\n6:5 trailing spaces\n8:4 too many spaces after colon\n11:5 trailing spaces\n13:4 too many spaces after colon\n\
          -- edited\n4:1 syntax error: document marker in quoted scalar\n6:5 trailing spaces\n11:5 trailing spaces\n\
@@ -71,9 +74,9 @@ static HIDDEN: &[Line] = &[
     (
         "---\na:  1\nb: 2\n---\nc: 3\nd: 4 \n---\ne:  5\nf: 6\n---\ng: 7 \n---\nh:  8\n",
         &[
-            (1, 2, b"a: \"1\n", 14, 1),
+            (1, 2, b"a: \"1\n", 614, 1),
             (2, 8, b"x: 1\n---\n", 4, 1),
-            (1, 2, b"a: 1\n", 10, 4),
+            (1, 2, b"a: 1\n", 610, 304),
         ],
         "2:4 too many spaces after colon\n6:5 trailing spaces\n8:4 too many spaces after colon\n11:5 trailing spaces\n13:4 too many spaces after colon\n\
          -- edited\n4:1 syntax error: document marker in quoted scalar\n6:5 trailing spaces\n11:5 trailing spaces\n\
@@ -93,7 +96,7 @@ static HIDDEN: &[Line] = &[
          -- edited\n2:1 syntax error: character not allowed here\n8:5 trailing spaces\n\
          -- edited\n4:1 syntax error: character not allowed here\n8:5 trailing spaces\n",
     ),
-    // An open bracket hides documents too, but is no fault of the scanner.
+    // An open bracket hides documents too, and is no fault of the scanner.
     (
         "---\na:  1\nb: 2\n---\nc: 3\nd: 4 \n---\ne:  5\nf: 6\n---\ng: 7 \n---\nh:  8\n",
         &[
@@ -106,13 +109,13 @@ static HIDDEN: &[Line] = &[
          -- edited\n2:4 too many spaces after colon\n6:2 syntax error: comma or closing bracket expected\n6:5 trailing spaces\n9:5 trailing spaces\n11:5 trailing spaces\n\
          -- edited\n2:4 too many spaces after colon\n6:5 trailing spaces\n8:4 too many spaces after colon\n9:5 trailing spaces\n11:5 trailing spaces\n13:4 too many spaces after colon\n",
     ),
-    // Lines come that it hides, and behind it a marker goes and comes.
+    // Lines come that it hides, and above these a marker goes and comes.
     (
         "---\na:  1\nb: 2\n---\nc: 3\nd: 4 \n---\ne:  5\nf: 6\n---\ng: 7 \n---\nh:  8\n",
         &[
-            (1, 2, b"a: \"1\n", 14, 1),
+            (1, 2, b"a: \"1\n", 614, 1),
             (10, 10, b"y:  1\n", 3, 1),
-            (1, 2, b"a: 1\n", 15, 5),
+            (1, 2, b"a: 1\n", 615, 305),
             (6, 7, b"", 3, 1),
             (6, 6, b"---\n", 4, 2),
         ],
@@ -127,7 +130,13 @@ static HIDDEN: &[Line] = &[
 
 #[test]
 fn quotes_hide_what_stands_below(rt: HostRuntime) -> Result<(), Fail> {
-    check_rows(&rt, rt.alloc(), HIDDEN)
+    let alloc = rt.alloc();
+    for (text, changes, wanted) in HIDDEN {
+        check(&rt, alloc, text, changes, wanted)?;
+        let long = repeated(alloc, text, "---\nz: 1\n", 300)?;
+        check(&rt, alloc, long.as_str(), changes, wanted)?;
+    }
+    Ok(())
 }
 
 // A quote is opened amid 2,000 documents, typed in, and closed: no more is read than to the second marker below it.
