@@ -1,4 +1,4 @@
--- Bridge: states compared as the code does.
+-- Bridge: states compared as the code does; where scanning begins, why it ends, and which row is cut at then.
 use Rattle.std.specs.Prelude.{◌≡◌, ◌<◌, ◌≤◌, ◌+◌, ◌-◌, ℕ, Bool, false, List, Option, true, ltb, if◌then◌else◌, Some, None, IsSome, slice_get}
 use Rattle.yl_row.specs.Entries.{LineStateValue, Stopped}
 use Rattle.yl_scan.specs.State.{state_eq}

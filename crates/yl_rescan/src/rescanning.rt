@@ -176,8 +176,10 @@ fn rescan_below<S: LineStore>(
 
 /// Scans a text again, where these rows are put in place of those from a on, before b. `old` is the records that are kept of the old text,
 /// from row `cut` on, if there is one, as they were before reading stopped there. It begins at the last sound row above the edit, and goes
-/// on to the first row behind it whose state is the old one's, or to the end. Where reading stops, it goes no further than to a row with
-/// which a section begins: what stands below it is kept. Counts the rows that it scans. Nothing is changed; the only error is memory.
+/// on to the first row behind it whose state is the old one's, or to the end. Where reading stops far from the text's end, it goes no
+/// further than to a row with which a section begins: what stands below it is kept. Counts the rows that it scans. Where the edit begins
+/// below row `cut`, or reading stops there again, the rows below are passed to the text's end: nothing is read of them, and they do not
+/// count. Rows are counted from 0. Nothing is changed; the only error is out of memory.
 pub fn rescan<S: LineStore>(
     alloc: S::Alloc,
     store: &S,

@@ -230,7 +230,8 @@ pub fn rescan_from<L: Lines>(
     })
 }
 
-/// The records of the rows from one on, where reading has stopped above it: nothing is read of them. The only error is memory.
+/// The records of the rows from one on, counted from 0, where reading has stopped above it. Nothing is read of them but whether they are
+/// blank and how they are indented, and they do not count as scanned. The only error is out of memory.
 pub fn unread<L: Lines>(
     alloc: L::Alloc,
     lines: &L,
