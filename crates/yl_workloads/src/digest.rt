@@ -1,0 +1,41 @@
+//! A digest of many bytes, after Fowler, Noll and Vo (FNV-1a with 64 bits).
+
+/// What was seen so far.
+#[derive(Clone, Copy)]
+pub struct Digest {
+    value: u64,
+    count: u64,
+}
+
+impl Digest {
+    /// Nothing was seen.
+    pub fn new() -> Digest {
+        Digest {
+            value: 0xcbf2_9ce4_8422_2325,
+            count: 0,
+        }
+    }
+
+    fn see_byte(&mut self, byte: u8) {
+        self.value = (self.value ^ byte as u64).wrapping_mul(0x0000_0100_0000_01b3);
+        self.count = self.count.wrapping_add(1);
+    }
+
+    /// Sees what a call printed, then its status.
+    pub fn see(&mut self, printed: &[u8], status: u8) {
+        for byte in printed {
+            self.see_byte(*byte);
+        }
+        self.see_byte(status);
+    }
+
+    /// The digest.
+    pub fn value(&self) -> u64 {
+        self.value
+    }
+
+    /// How many bytes were seen, a status being one.
+    pub fn count(&self) -> u64 {
+        self.count
+    }
+}

@@ -1,0 +1,240 @@
+//! The jobs: each calls what a user waits for on texts of its own, and sees all that it prints.
+use crate::commands::Commands;
+use crate::digest::Digest;
+use crate::maker::Maker;
+use crate::texts::{
+    ENTRIES, FLOW_END, FLOW_ENTRIES, FLOW_HEAD, HEAD, HURRIED_ENTRY, HURRIED_MANIFEST, MANIFESTS,
+};
+use std::alloc::{AllocError, Global};
+use yl_args::Flags;
+use yl_chunks::ChunkStore;
+use yl_cli::{drive, lint};
+use yl_config::Config;
+use yl_devices::{RunFault, text_of};
+use yl_dump::{DumpFault, write_events};
+use yl_text::Watched;
+
+const FLAGS: Flags = Flags {
+    strict: true,
+    no_warnings: false,
+    work: false,
+};
+
+// The name under which problems are told.
+const NAME: &str = "text.yaml";
+
+/// How many objects a file of Kubernetes manifests has: some 1 MB.
+const OBJECTS: u32 = 1_800;
+/// A small file has fewer entries than this.
+const ENTRIES_OF_FILE: u32 = 60;
+/// How many lines of flow collections a document has: some 2 MB.
+const FLOW_LINES: u32 = 6_000;
+/// How many entries a long line of flow collections has, which one of `FLOW_LONG_EVERY` lines is.
+const FLOW_LONG: u32 = 400;
+
+const FLOW_LONG_EVERY: u32 = 64;
+/// How many documents an edited text has, and how many entries each of these.
+const DOCUMENTS: u32 = 500;
+
+const ENTRIES_OF_DOCUMENT: u32 = 120;
+/// How many entries an edited text of one document has.
+const ENTRIES_OF_ONE: u32 = 2_500;
+/// About as many lines has an entry, twice.
+const LINES_OF_TWO: u32 = 9;
+
+/// What is asked for.
+#[derive(Clone, Copy)]
+pub enum Job {
+    /// Files of Kubernetes manifests are linted.
+    Manifests,
+    /// Small files are linted.
+    Files,
+    /// Documents of flow collections with some very long lines are linted.
+    Flow,
+    /// A text of many documents is edited.
+    Typing,
+    /// A text of one large document is edited.
+    Document,
+    /// The events of files of Kubernetes manifests are printed.
+    Events,
+}
+
+/// The job of this name.
+pub fn job_of(word: &str) -> Option<Job> {
+    match word {
+        "manifests" => Some(Job::Manifests),
+        "files" => Some(Job::Files),
+        "flow" => Some(Job::Flow),
+        "typing" => Some(Job::Typing),
+        "document" => Some(Job::Document),
+        "events" => Some(Job::Events),
+        _ => None,
+    }
+}
+
+fn put_objects(maker: &mut Maker, count: u32) -> Result<(), AllocError> {
+    for _ in 0..count {
+        maker.put_one(&MANIFESTS, HURRIED_MANIFEST, 100)?;
+    }
+    Ok(())
+}
+
+fn put_document(maker: &mut Maker, count: u32) -> Result<(), AllocError> {
+    maker.put(HEAD)?;
+    for _ in 0..count {
+        maker.put_one(&ENTRIES, HURRIED_ENTRY, 1_000)?;
+    }
+    Ok(())
+}
+
+fn put_documents(maker: &mut Maker) -> Result<(), AllocError> {
+    for _ in 0..DOCUMENTS {
+        put_document(maker, ENTRIES_OF_DOCUMENT)?;
+    }
+    Ok(())
+}
+
+// Some entries of a flow sequence, a comma behind each.
+fn put_flow_line(maker: &mut Maker, count: u32) -> Result<(), AllocError> {
+    let mut before = "  ";
+    for _ in 0..count {
+        maker.put(before)?;
+        maker.put_one(&FLOW_ENTRIES, "[]", 100)?;
+        maker.put(",")?;
+        before = " ";
+    }
+    maker.put("\n")
+}
+
+fn put_flow(maker: &mut Maker) -> Result<(), AllocError> {
+    maker.put(FLOW_HEAD)?;
+    for _ in 0..FLOW_LINES {
+        let count = if maker.below(FLOW_LONG_EVERY) == 0 {
+            FLOW_LONG
+        } else {
+            maker.below(4)
+        };
+        put_flow_line(maker, count)?;
+    }
+    maker.put(FLOW_END)
+}
+
+fn see_lint(alloc: Global, text: &[u8], digest: &mut Digest) -> Result<(), RunFault> {
+    let mut input = Watched::new(text);
+    let mut out = Watched::new(Vec::new(alloc));
+    let status = lint(
+        alloc,
+        NAME,
+        &Config::standard(),
+        FLAGS,
+        &mut input,
+        &mut out,
+    )?;
+    digest.see(out.into_inner().as_slice(), status);
+    Ok(())
+}
+
+fn see_events(alloc: Global, text: &[u8], digest: &mut Digest) -> Result<(), RunFault> {
+    let text = match text_of(text) {
+        Ok(text) => text,
+        Err(fault) => return Err(RunFault::Text(fault)),
+    };
+    let mut out = Vec::new(alloc);
+    match write_events(alloc, text, &mut out) {
+        Ok(()) => {
+            digest.see(out.as_slice(), 0);
+            Ok(())
+        }
+        Err(DumpFault::Write) => Err(RunFault::Write),
+        Err(DumpFault::Memory) => Err(RunFault::Memory),
+    }
+}
+
+fn see_edits(
+    alloc: Global,
+    text: &[u8],
+    commands: &Commands,
+    digest: &mut Digest,
+) -> Result<(), RunFault> {
+    let mut input = Watched::new(commands.as_slice());
+    let mut out = Watched::new(Vec::new(alloc));
+    let status = drive::<ChunkStore<_>, _, _>(
+        alloc,
+        NAME,
+        Config::standard(),
+        FLAGS,
+        text,
+        &mut input,
+        &mut out,
+    )?;
+    digest.see(out.into_inner().as_slice(), status);
+    Ok(())
+}
+
+fn see_file(
+    alloc: Global,
+    job: Job,
+    mut maker: Maker,
+    digest: &mut Digest,
+) -> Result<(), RunFault> {
+    match job {
+        Job::Flow => put_flow(&mut maker)?,
+        Job::Files => {
+            let count = maker.below(ENTRIES_OF_FILE);
+            put_document(&mut maker, count)?;
+        }
+        _ => put_objects(&mut maker, OBJECTS)?,
+    }
+    let text = maker.into_text();
+    match job {
+        Job::Events => see_events(alloc, text.as_slice(), digest),
+        _ => see_lint(alloc, text.as_slice(), digest),
+    }
+}
+
+// Edits a text at `count` places.
+fn see_work(
+    alloc: Global,
+    job: Job,
+    seed: u64,
+    count: u32,
+    digest: &mut Digest,
+) -> Result<(), RunFault> {
+    let mut maker = Maker::new(alloc, seed, 0);
+    let entries = match job {
+        Job::Typing => {
+            put_documents(&mut maker)?;
+            DOCUMENTS * ENTRIES_OF_DOCUMENT
+        }
+        _ => {
+            put_document(&mut maker, ENTRIES_OF_ONE)?;
+            ENTRIES_OF_ONE
+        }
+    };
+    let text = maker.into_text();
+    let mut commands = Commands::new(alloc);
+    let mut choices = Maker::new(alloc, seed, 1);
+    commands.work(
+        text.as_slice(),
+        &mut choices,
+        entries * LINES_OF_TWO / 2,
+        count,
+    )?;
+    see_edits(alloc, text.as_slice(), &commands, digest)
+}
+
+/// Does a job on `count` texts, or at `count` places of one text, and answers what was seen. Each
+/// seed gives other texts.
+pub fn done(alloc: Global, job: Job, seed: u64, count: u32) -> Result<Digest, RunFault> {
+    let mut digest = Digest::new();
+    match job {
+        Job::Typing | Job::Document => see_work(alloc, job, seed, count, &mut digest)?,
+        _ => {
+            for stream in 0..count {
+                let maker = Maker::new(alloc, seed, stream as u64);
+                see_file(alloc, job, maker, &mut digest)?;
+            }
+        }
+    }
+    Ok(digest)
+}

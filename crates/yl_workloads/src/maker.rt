@@ -1,0 +1,87 @@
+//! Makes texts of pieces, the same ones for the same seed.
+use crate::texts::WORDS;
+use itoa::Buffer;
+use rand_core::Rng;
+use rand_pcg::Pcg32;
+use std::alloc::{AllocError, Global};
+
+/// A text that grows by pieces.
+#[derive(Drop)]
+pub struct Maker {
+    random: Pcg32,
+    serial: u64,
+    text: Vec<u8>,
+}
+
+impl Maker {
+    /// No text yet. Each seed and each stream of it gives another.
+    pub fn new(alloc: Global, seed: u64, stream: u64) -> Maker {
+        Maker {
+            random: Pcg32::new(seed, stream),
+            serial: 0,
+            text: Vec::new(alloc),
+        }
+    }
+
+    /// The next choice: a number below `n`, or 0 where that is 0.
+    pub fn below(&mut self, n: u32) -> u32 {
+        if n == 0 {
+            0
+        } else {
+            self.random.next_u32() % n
+        }
+    }
+
+    /// The text.
+    pub fn into_text(self) -> Vec<u8> {
+        self.text
+    }
+
+    fn put_number(&mut self, n: u64) -> Result<(), AllocError> {
+        let mut buffer = Buffer::new();
+        self.text.extend_from_slice(buffer.format(n).as_bytes())
+    }
+
+    // What stands at `@`: a word, a number, or one that no other piece has.
+    fn put_field(&mut self, field: u8) -> Result<(), AllocError> {
+        if field == b'w' {
+            let at = self.below(32) as usize;
+            return match WORDS.get(at) {
+                Some(word) => self.text.extend_from_slice(word.as_bytes()),
+                None => Ok(()),
+            };
+        }
+        if field == b's' {
+            self.serial = self.serial.wrapping_add(1);
+            return self.put_number(self.serial);
+        }
+        let n = self.below(9_000) as u64;
+        self.put_number(n + 1_000)
+    }
+
+    /// Adds a piece, each field of it filled in.
+    pub fn put(&mut self, piece: &str) -> Result<(), AllocError> {
+        let mut is_first = true;
+        for part in piece.as_bytes().split(|c| *c == b'@') {
+            match part.split_first() {
+                Some((field, rest)) if !is_first => {
+                    self.put_field(*field)?;
+                    self.text.extend_from_slice(rest)?;
+                }
+                _ => self.text.extend_from_slice(part)?,
+            }
+            is_first = false;
+        }
+        Ok(())
+    }
+
+    /// Adds one of these pieces, or in one of `every` cases the rare one.
+    pub fn put_one(&mut self, pieces: &[&str], rare: &str, every: u32) -> Result<(), AllocError> {
+        let rarely = self.below(every) == 0;
+        let at = self.below(pieces.len().min(1_000) as u32) as usize;
+        match pieces.get(at) {
+            Some(piece) if !rarely => self.put(piece),
+            _ => self.put(rare),
+        }
+    }
+}
