@@ -1,9 +1,10 @@
 -- Pieces of a list, one after another: what the first of them make, and what a change of one changes.
 use Rattle.std.proofs.Common.{◌≡◌, ℕ, ◌+◌, ◌-◌, ◌*◌, ◌/◌, ◌%◌, ◌^◌, ◌<◌, ◌≤◌, List, [], ◌∷◌, ◌++◌, length, take, drop, set, get_or, refl, ap, sym, ◌∙◌, arith, append_assoc, rules, subst, inl, inr, All, slice_get, Some}
-use Rattle.std.proofs.lemmas.List.{same_lists, places, drop-take, take_more, drop_more, append-nil, length-take, length-drop, length-append, take-append-drop, drop-drop, drop-set, take-set, length-set, take_all, take-take, get_or-take, get_or-drop, get_or_append_left, get_or_push, length-take-le, drop-set-lt, take_more_set, take-set-le}
+use Rattle.std.proofs.lemmas.List.{same_lists, places, drop-take, take_more, drop_more, append-nil, length-take, length-drop, length-append, take-append-drop, drop-drop, drop-set, take-set, length-set, take_all, take-take, get_or-take, get_or-drop, get_or_append_left, get_or_push, length-take-le, drop-set-lt, take_more_set, take-set-le, drop-append-le}
 use Rattle.std.proofs.lemmas.Bool.{cases_lt}
 use Rattle.std.proofs.lemmas.List.Elements.{All-get_or, All-same, All-cons}
 use Rattle.std.proofs.Math.Nat.{mul-le-mul_left}
+use Rattle.std.proofs.Math.Seq.{drop-append-add, take-append_seam}
 use Rattle.std.proofs.lemmas.List.Concat.{flat_map-append, get_or-flat_map}
 use Rattle.std.proofs.lemmas.Option.{slice_get-get_or}
 use Rattle.std.specs.List.{flat_map, splice}
@@ -168,6 +169,17 @@ item_of_piece f xs j c i s x l is start le within read inside =
     ap (λ (k : ℕ). get_or (flat_map f xs) k x) (omega (arith, start))
     ∙ get_or-flat_map f xs j (i - s) c x l (omega (arith, ap length same)) ∙ ap (λ u. get_or u (i - s) x) same ∙ sym read in
     slice_get-get_or (flat_map f xs) i x inside ∙ ap Some at
+
+-- what is left of a piece behind an item's place stands in the list from there on
+pub rest_of_piece : {X T : Type 0} (f : X → List T) (xs : List X) (j : ℕ) (c : X) (i s : ℕ) → j < length xs → c ≡ get_or xs j c → s ≡ length (flat_map f (take j xs)) → s ≤ i → i - s ≤ length (f c)
+    → take (length (drop (i - s) (f c))) (drop i (flat_map f xs)) ≡ drop (i - s) (f c)
+rest_of_piece f xs j c i s l is start le within =
+    let F = flat_map f (take j xs) in
+    let H = flat_map f (drop (j + 1) xs) in
+    let whole : flat_map f xs ≡ F ++ (f c ++ H) = in_two f xs j ∙ ap (λ u. F ++ u) (part_from f xs j c l ∙ ap (λ u. f u ++ H) (sym is)) in
+    let at : i ≡ length F + (i - s) = omega (arith, start, le) in
+    let rest : drop i (flat_map f xs) ≡ drop (i - s) (f c) ++ H = ap (drop i) whole ∙ ap (λ (k : ℕ). drop k (F ++ (f c ++ H))) at ∙ drop-append-add F (f c ++ H) (i - s) ∙ drop-append-le (i - s) (f c) H within in
+    ap (take (length (drop (i - s) (f c)))) rest ∙ take-append_seam (drop (i - s) (f c)) H
 
 -- the piece that is found for an item is the one that holds it
 pub in_found_piece : {X T : Type 0} (f : X → List T) (cs : List X) (i j : ℕ) (d : X) → j < length cs → (j + 1 < length cs → i < length (flat_map f (take (j + 1) cs))) → i < length (flat_map f cs)

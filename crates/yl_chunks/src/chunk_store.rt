@@ -49,6 +49,10 @@ impl<A: Allocator + Copy> Lines for ChunkStore<A> {
     fn row(&self, i: usize) -> &Row<A> {
         self.rows.get(i)
     }
+
+    fn rows_from(&self, i: usize) -> &[Row<A>] {
+        self.rows.items_from(i)
+    }
 }
 
 impl<A: Allocator + Copy> LineStore for ChunkStore<A> {

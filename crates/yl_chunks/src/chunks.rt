@@ -1,5 +1,5 @@
 //! A list in chunks.
-ghost use Rattle.std.specs.Prelude.{◌≡◌, ◌+◌, ◌^◌, ◌<◌, ◌≤◌, [], length, slice_get, vec_len, Some, IfOk, OnOk, OnErr};
+ghost use Rattle.std.specs.Prelude.{◌≡◌, ◌+◌, ◌^◌, ◌<◌, ◌≤◌, [], drop, length, slice_get, take, vec_len, Some, IfOk, OnOk, OnErr};
 ghost use Rattle.std.specs.List.{splice};
 ghost use Rattle.yl_text.specs.Store.{IsRange};
 
@@ -83,6 +83,18 @@ impl<T: Drop, A: Allocator + Copy> Chunks<T, A> {
         let j = last_start(&self.chunks, &self.starts, i);
         let start = start_of(&self.chunks, &self.starts, j);
         &self.chunks[j][i - start]
+    }
+
+    /// The item at `i`, counted from 0, and those behind it in its chunk. It takes no memory.
+    pub fn items_from(&self, i: usize) -> &[T]
+        requires { i < length self.now.items }
+        ensures some { 0 < length result.now }
+        ensures items { take (length result.now) (drop i self.now.items) ≡ result.now }
+    {
+        let j = last_start(&self.chunks, &self.starts, i);
+        let start = start_of(&self.chunks, &self.starts, j);
+        let (_, items) = self.chunks[j].split_at(i - start);
+        items
     }
 
     /// Puts the new items, which it takes out of their `Vec`, in place of the items a to b, b not

@@ -1,5 +1,5 @@
 //! What the rules on lines find in a text, and where it ends.
-ghost use Rattle.std.specs.Prelude.{◌≡◌, ◌+◌, ◌-◌, ◌<◌, ◌^◌, ◌∷◌, [], List, IfOk, OnOk, length};
+ghost use Rattle.std.specs.Prelude.{◌≡◌, ◌+◌, ◌++◌, ◌-◌, ◌<◌, ◌^◌, ◌∷◌, [], List, IfOk, OnOk, length};
 ghost use Rattle.std.specs.Str.{chars};
 ghost use Rattle.yl_config.specs.Config.{options_of};
 ghost use Rattle.yl_text.specs.Lines.{RowValue};
@@ -11,7 +11,7 @@ use std::alloc::{AllocError, Allocator};
 use std::marker::Model;
 use yl_config::Config;
 use yl_rules::{RowOptions, RunReader, character_count, push_line_problems};
-use yl_text::{Break, Finding, Lines, Pos, rows_fit};
+use yl_text::{Break, Finding, Lines, Pos, Row, rows_fit};
 
 /// A reader that is fed a text's lines one after another, and tells what the rules on lines find in
 /// them. Of the lines that it passed it keeps the last one.
@@ -91,6 +91,21 @@ impl<'a, A: Allocator + Copy> LineReader<'a, A> {
     }
 }
 
+/// Passes the next lines. The only error is out of memory.
+fn pass_all<'a, A: Allocator + Copy>(
+    reader: &mut LineReader<'a, A>,
+    rows: &'a [Row<A>],
+) -> Result<(), AllocError>
+    requires { reader.old.runs.count + length rows.now < 2 ^ 64 }
+    ensures left { OnOk result ((later : List RowValue) → lines_left reader.new later ≡ lines_left reader.old (rows.now ++ later)) }
+    ensures count { OnOk result (reader.new.runs.count ≡ reader.old.runs.count + length rows.now) }
+{
+    for row in rows {
+        reader.pass(row.as_str(), row.end())?;
+    }
+    Ok(())
+}
+
 /// What the rules on lines find in a text.
 pub fn find_in_lines<L: Lines>(
     alloc: L::Alloc,
@@ -100,9 +115,17 @@ pub fn find_in_lines<L: Lines>(
     ensures { IfOk result (λ found. found.items ≡ findings_in_lines (options_of config.now) (L.rows lines.now)) }
 {
     let mut reader = LineReader::start(alloc, config);
-    for i in 0..lines.len() {
-        let row = lines.row(i);
-        reader.pass(row.as_str(), row.end())?;
+    let mut passed = 0;
+    while passed < lines.len() {
+        let rows = lines.rows_from(passed);
+        if rows.is_empty() {
+            let row = lines.row(passed);
+            reader.pass(row.as_str(), row.end())?;
+            passed += 1;
+        } else {
+            pass_all(&mut reader, rows)?;
+            passed += rows.len();
+        }
     }
     reader.finish()
 }

@@ -6,3 +6,4 @@ pub mod Fitting
 pub mod OneAnswer
 pub mod Printable
 pub mod Seams
+pub mod Together

@@ -68,4 +68,16 @@ impl<'a, S: Lines> Lines for Patched<'a, S> {
             self.lines.row(i - self.a - self.rows.len() + self.b)
         }
     }
+
+    fn rows_from(&self, i: usize) -> &[Row<S::Alloc>] {
+        match i.checked_sub(self.a) {
+            None => {
+                let rows = self.lines.rows_from(i);
+                let before = rows.len().min(self.a - i);
+                &rows[..before]
+            }
+            Some(behind) if behind < self.rows.len() => &self.rows[behind..],
+            Some(behind) => self.lines.rows_from(behind - self.rows.len() + self.b),
+        }
+    }
 }

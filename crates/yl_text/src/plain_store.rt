@@ -89,6 +89,10 @@ impl<A: Allocator + Copy> Lines for PlainStore<A> {
     fn row(&self, i: usize) -> &Row<A> {
         &self.rows[i]
     }
+
+    fn rows_from(&self, i: usize) -> &[Row<A>] {
+        &self.rows[i..]
+    }
 }
 
 impl<A: Allocator + Copy> LineStore for PlainStore<A> {

@@ -1,5 +1,5 @@
 //! Lists of rows, and stores of them.
-ghost use Rattle.std.specs.Prelude.{◌≡◌, ◌+◌, ◌-◌, ◌<◌, ◌≤◌, List, [], length, slice_get, Some, OnOk, OnErr, IfOk, MatchResult};
+ghost use Rattle.std.specs.Prelude.{◌≡◌, ◌+◌, ◌-◌, ◌<◌, ◌≤◌, List, [], drop, length, slice_get, take, Some, OnOk, OnErr, IfOk, MatchResult};
 ghost use Rattle.std.specs.List.{splice};
 ghost use Rattle.yl_text.specs.Lines.{RowValue, text_of};
 ghost use Rattle.yl_text.specs.Store.{AreLines, IsRange};
@@ -23,6 +23,16 @@ pub trait Lines {
     fn row(&self, i: usize) -> &Row<Self::Alloc>
         requires { i < length (rows self.now) }
         ensures { slice_get (rows self.now) i ≡ Some result.now };
+
+    /// Rows from the one at `i` on that lie together, for whoever reads one after another; maybe none.
+    /// It takes no memory.
+    fn rows_from(&self, i: usize) -> &[Row<Self::Alloc>]
+        requires { i < length (rows self.now) }
+        ensures { take (length result.now) (drop i (rows self.now)) ≡ result.now }
+    {
+        let _ = i;
+        &[]
+    }
 }
 
 /// A store of the lines of a text. `check` and `splice` together are an edit of the text: the bytes

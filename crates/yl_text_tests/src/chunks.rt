@@ -42,6 +42,19 @@ fn wanted(i: usize, a: usize, b: usize, count: usize) -> usize {
     }
 }
 
+// Whether the rows that are lent together from row i on are those behind that edit.
+fn are_lent<S: Lines>(lines: &S, i: usize, a: usize, b: usize, count: usize) -> bool {
+    if i >= lines.len() {
+        return false;
+    }
+    for (k, row) in lines.rows_from(i).iter().enumerate() {
+        if row.as_str().parse::<usize>() != Ok(wanted(i.saturating_add(k), a, b, count)) {
+            return false;
+        }
+    }
+    true
+}
+
 // Whether these are the rows behind that edit of a text of `size` rows.
 fn is_edited<S: Lines>(lines: &S, size: usize, a: usize, b: usize, count: usize) -> bool {
     let kept = size.saturating_sub(b.saturating_sub(a));
@@ -56,6 +69,9 @@ fn is_edited<S: Lines>(lines: &S, size: usize, a: usize, b: usize, count: usize)
             Break::Lf
         };
         if row.as_str().parse::<usize>() != Ok(wanted(i, a, b, count)) || row.end() != end {
+            return false;
+        }
+        if i % 97 == 0 && !are_lent(lines, i, a, b, count) {
             return false;
         }
     }

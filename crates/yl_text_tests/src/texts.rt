@@ -69,6 +69,10 @@ fn shows_lines_of_other_alphabets(rt: HostRuntime) -> Result<(), Fail> {
         seen.push('|')?;
     }
     assert_eq!(rt; seen.as_str(), "ключ: значение|é|è||🙂|");
+    assert_eq!(rt; patched.rows_from(0).len(), 1);
+    assert_eq!(rt; patched.rows_from(2).len(), 2);
+    assert_eq!(rt; patched.rows_from(4).len(), 1);
+    assert_eq!(rt; store.rows_from(1).len(), 2);
     Ok(())
 }
 
