@@ -1,5 +1,5 @@
 //! Where the items of a list stand in its chunks.
-ghost use Rattle.std.specs.Prelude.{◌≡◌, ◌+◌, ◌-◌, ◌^◌, ◌<◌, ◌≤◌, ℕ, length, take, vec_capacity};
+ghost use Rattle.std.specs.Prelude.{◌≡◌, ◌+◌, ◌-◌, ◌^◌, ◌<◌, ◌≤◌, ℕ, length, take, true, vec_capacity};
 ghost use Rattle.yl_text.specs.Store.{IsRange};
 ghost use Rattle.yl_chunks.specs.Chunks.{items_of, AreStarts, IsPlace, in_list};
 
@@ -24,6 +24,7 @@ pub(crate) fn count_starts<T, A: Allocator>(chunks: &[Vec<T, A>], starts: &mut S
 }
 
 /// How many items stand before a chunk, or how many there are.
+#[inline]
 pub(crate) fn start_of<T, A: Allocator>(chunks: &[Vec<T, A>], starts: &Starts<A>, j: usize) -> usize
     requires starts { AreStarts chunks.now starts.now }
     requires within { j ≤ length chunks.now }
@@ -61,12 +62,8 @@ fn near<T, A: Allocator>(chunks: &[Vec<T, A>], starts: &Starts<A>, i: usize) -> 
     (first, chunks.len())
 }
 
-/// The last chunk before which no more than `i` items stand.
-pub(crate) fn last_start<T, A: Allocator>(
-    chunks: &[Vec<T, A>],
-    starts: &Starts<A>,
-    i: usize,
-) -> usize
+/// Finds the last chunk before which no more than `i` items stand.
+fn search<T, A: Allocator>(chunks: &[Vec<T, A>], starts: &Starts<A>, i: usize) -> usize
     requires starts { AreStarts chunks.now starts.now }
     requires some { 0 < length chunks.now }
     ensures within { result < length chunks.now }
@@ -83,6 +80,49 @@ pub(crate) fn last_start<T, A: Allocator>(
         }
     }
     low
+}
+
+/// Whether a chunk is the last one before which no more than `i` items stand.
+#[inline]
+fn is_last_start<T, A: Allocator>(
+    chunks: &[Vec<T, A>],
+    starts: &Starts<A>,
+    j: usize,
+    i: usize,
+) -> bool
+    requires starts { AreStarts chunks.now starts.now }
+    ensures within { result ≡ true → j < length chunks.now }
+    ensures least { result ≡ true → length (items_of (take j chunks.now)) ≤ i }
+    ensures most { result ≡ true → j + 1 < length chunks.now → i < length (items_of (take (j + 1) chunks.now)) }
+{
+    if j >= chunks.len() || start_of(chunks, starts, j) > i {
+        return false;
+    }
+    j + 1 == chunks.len() || i < start_of(chunks, starts, j + 1)
+}
+
+/// The last chunk before which no more than `i` items stand. Where the chunks before it are full, and
+/// where one of them was cut in two, it is not searched for.
+#[inline]
+pub(crate) fn last_start<T, A: Allocator>(
+    chunks: &[Vec<T, A>],
+    starts: &Starts<A>,
+    i: usize,
+) -> usize
+    requires starts { AreStarts chunks.now starts.now }
+    requires some { 0 < length chunks.now }
+    ensures within { result < length chunks.now }
+    ensures least { length (items_of (take result chunks.now)) ≤ i }
+    ensures most { result + 1 < length chunks.now → i < length (items_of (take (result + 1) chunks.now)) }
+{
+    let guess = i / MOST;
+    if is_last_start(chunks, starts, guess, i) {
+        return guess;
+    }
+    if is_last_start(chunks, starts, guess + 1, i) {
+        return guess + 1;
+    }
+    search(chunks, starts, i)
 }
 
 /// The chunks that hold the items a to b: the first, and the end.

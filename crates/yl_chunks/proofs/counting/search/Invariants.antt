@@ -1,6 +1,6 @@
 use Rattle.std.proofs.Common.{◌-◌, ◌<◌, ◌≤◌, length, take}
 use Rattle.yl_chunks.specs.Chunks.{items_of}
-use Rattle.yl_chunks.proofs.counting.last_start.Given as goal
+use Rattle.yl_chunks.proofs.counting.search.Given as goal
 
 abbrev pub invariant-loop-high : goal.invariant-loop-high
 invariant-loop-high g l = record {
