@@ -51,6 +51,7 @@ impl<'a, A: Allocator + Copy> LineReader<'a, A> {
     }
 
     /// Passes the next line. The only error is out of memory, and then the reader is of no more use.
+    #[inline(always)]
     pub fn pass(&mut self, text: &'a str, end: Break) -> Result<(), AllocError>
         requires { self.old.runs.count < 2 ^ 64 - 1 }
         ensures left { OnOk result ((rows : List RowValue)

@@ -18,9 +18,28 @@ fn is_suspect(text: &str, options: &RowOptions) -> bool
     text.len() > options.max as usize || end_white(text.as_bytes()) > 0
 }
 
+/// Puts behind `found` what the rules find in a line that needs a closer look. Where there is no memory
+/// nothing is added.
+#[inline(never)]
+fn push_suspect_problems<A: Allocator + Copy>(
+    alloc: A,
+    line: u64,
+    text: &str,
+    options: &RowOptions,
+    found: &mut Vec<Finding<A>, A>,
+) -> Result<(), AllocError>
+    ensures ok { OnOk result (found.new.items ≡ found.old.items ++ line_findings options.now line (chars text.now)) }
+    ensures err { OnErr result (found.new.items ≡ found.old.items) }
+{
+    let trailing = trailing_spaces_problem(line, text);
+    let long = line_length_problem(alloc, line, text, options)?;
+    push_both(found, trailing, long)
+}
+
 /// Puts behind `found` what the rules that look at one line find in a line of this text, whose
 /// number counts from 1. Where there is no memory nothing is added; where nothing is found none is
 /// taken.
+#[inline(always)]
 pub fn push_line_problems<A: Allocator + Copy>(
     alloc: A,
     line: u64,
@@ -34,9 +53,7 @@ pub fn push_line_problems<A: Allocator + Copy>(
     if !is_suspect(text, options) {
         return Ok(());
     }
-    let trailing = trailing_spaces_problem(line, text);
-    let long = line_length_problem(alloc, line, text, options)?;
-    push_both(found, trailing, long)
+    push_suspect_problems(alloc, line, text, options, found)
 }
 
 /// Puts behind `found` what the rules that look at one line find in this row, whose number counts
