@@ -155,6 +155,7 @@ fn may_have_marks(m: Marking) -> bool
 
 /// A lexeme with its marks. Most lexemes have none.
 #[tactic(auto, using(crate::proofs::Unmarked::unmarked_open, crate::proofs::Unmarked::unmarked_marks))]
+#[inline(always)]
 pub fn mark_one<A: Allocator>(
     m: Marking,
     i: u32,
