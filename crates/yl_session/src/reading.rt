@@ -78,32 +78,6 @@ fn moved_on<'a, L: Lines>(
     Ok(next)
 }
 
-/// Records row `i`, and moves on where many records wait. The only error is out of memory.
-fn read_row<'a, L: Lines>(
-    alloc: &'a L::Alloc,
-    lines: &L,
-    i: usize,
-    recorder: Recorder<'a, L::Alloc>,
-    records: &mut Chunks<Record<L::Alloc>, L::Alloc>,
-    meter: &mut Meter,
-) -> Result<Recorder<'a, L::Alloc>, AllocError>
-    requires lines { AreLines (L.rows lines.now) }
-    requires row { i < length (L.rows lines.now) }
-    requires read { IsReadTo (L.rows lines.now) i records.old.items recorder }
-    requires meter { meter.old.lines < 2 ^ 31 }
-    ensures read { IfOk result (λ r. IsReadTo (L.rows lines.now) (i + 1) records.new.items r) }
-    ensures meter { OnOk result (meter.new.lines ≤ meter.old.lines + 2) }
-{
-    rows_fit(lines);
-    let mut recorder = recorder;
-    recorder.feed_text(lines.row(i).as_str(), meter)?;
-    let moved = records.len();
-    if i - moved < piece(moved) {
-        return Ok(recorder);
-    }
-    moved_on(alloc, lines, i, recorder, records, meter)
-}
-
 /// The records of the lines of a text, with the states of the sound ones. The only error is out of memory.
 fn records_of_lines<L: Lines>(
     alloc: L::Alloc,
@@ -117,7 +91,11 @@ fn records_of_lines<L: Lines>(
     let mut records = Chunks::new(alloc);
     let mut recorder = Recorder::start(&alloc);
     for i in 0..lines.len() {
-        recorder = read_row(&alloc, lines, i, recorder, &mut records, &mut meter)?;
+        let waiting = i - records.len();
+        recorder.feed_text(lines.row(i).as_str(), &mut meter)?;
+        if waiting >= piece(records.len()) {
+            recorder = moved_on(&alloc, lines, i, recorder, &mut records, &mut meter)?;
+        }
     }
     let mut last = recorder.finish()?;
     put_behind(&mut records, &mut last)?;
