@@ -23,6 +23,15 @@ fn push_lexemes<'a, A: Allocator>(
     Ok(())
 }
 
+/// How many lexemes these rows have.
+fn lexeme_count<A: Allocator + Copy>(records: &[&Record<A>]) -> usize {
+    let mut count = 0usize;
+    for record in records {
+        count = count.saturating_add(record.lexemes().len());
+    }
+    count
+}
+
 /// The lexemes of these rows, with lines from the first.
 pub fn lexemes_of<'a, A: Allocator + Copy>(
     alloc: A,
@@ -31,7 +40,7 @@ pub fn lexemes_of<'a, A: Allocator + Copy>(
     requires { length records.now < 2 ^ 32 }
     ensures { IfOk result (λ v. map (λ x. lexeme_at_line x.line x.lexeme.now) v.items ≡ lexemes_of (map (λ r. r.now) records.now)) }
 {
-    let mut lexemes = Vec::new(alloc);
+    let mut lexemes = Vec::with_capacity(alloc, lexeme_count(records))?;
     for (line, record) in records.iter().enumerate() {
         push_lexemes(&mut lexemes, line as u32, record.lexemes())?;
     }
