@@ -19,8 +19,7 @@ fn moved<A: Allocator>(alloc: A, line: u32, found: &Finding<A>) -> Result<Findin
     let Some(at) = u64::from(line).checked_add(found.line()) else {
         return Err(AllocError);
     };
-    let message = String::from_str(alloc, found.message())?;
-    Ok(Finding::new(at, found.column(), found.rule(), message))
+    found.copy_at(alloc, at)
 }
 
 /// Puts copies of these behind what was found, each `line` lines further down.

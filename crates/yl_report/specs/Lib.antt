@@ -5,6 +5,7 @@ pub mod Heard
 pub mod Report
 pub mod Silence
 pub mod Switched
+pub mod Told
 pub use Rattle.yl_rules.specs.LevelOf
 pub use Rattle.yl_rules.specs.Levels
 pub use Rattle.yl_text.specs.Character

@@ -7,20 +7,11 @@ use crate::arranging::is_syntax;
 use crate::problem::Problem;
 use crate::silence::Silences;
 use std::alloc::{AllocError, Allocator};
-use yl_text::Finding;
 
 /// A law: a report is what is left of the one that no comment silences.
 pub fn heard_reports()
     ensures { IsHeard }
 {}
-
-fn copy<A: Allocator>(alloc: A, problem: &Problem<A>) -> Result<Problem<A>, AllocError>
-    ensures { IfOk result (λ p. p ≡ problem.now) }
-{
-    let message = String::from_str(alloc, problem.message())?;
-    let found = Finding::new(problem.line(), problem.column(), problem.rule(), message);
-    Ok(Problem::new(found, problem.level()))
-}
 
 /// Copies of these problems, with room for so many more behind them. The only error is out of memory.
 pub fn copies<A: Allocator + Copy>(
@@ -37,7 +28,7 @@ pub fn copies<A: Allocator + Copy>(
     };
     all.try_reserve_exact(count)?;
     for one in problems {
-        all.push(copy(alloc, one)?)?;
+        all.push(one.copy(alloc)?)?;
     }
     Ok(all)
 }

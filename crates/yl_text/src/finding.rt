@@ -1,6 +1,6 @@
 //! What a rule finds.
 
-use std::alloc::Allocator;
+use std::alloc::{AllocError, Allocator};
 use std::marker::Model;
 
 /// A rule, by its name in yamllint's documentation; `Syntax` is that of the text's fault.
@@ -67,7 +67,7 @@ enum Message<A: Allocator> {
 }
 
 impl<A: Allocator> Message<A> {
-    ghost use Rattle.std.specs.Prelude.{◌≡◌};
+    ghost use Rattle.std.specs.Prelude.{◌≡◌, IfOk};
     ghost use Rattle.yl_text.specs.Message.{message_text};
 
     fn as_str(&self) -> &str
@@ -76,6 +76,15 @@ impl<A: Allocator> Message<A> {
         match self {
             Message::Fixed(text) => text,
             Message::Owned(text) => text.as_str(),
+        }
+    }
+
+    fn copy(&self, alloc: A) -> Result<Message<A>, AllocError>
+        ensures { IfOk result (λ m. message_text m ≡ message_text self.now) }
+    {
+        match self {
+            Message::Fixed(text) => Ok(Message::Fixed(text)),
+            Message::Owned(text) => Ok(Message::Owned(String::from_str(alloc, text.as_str())?)),
         }
     }
 }
@@ -99,7 +108,7 @@ impl<A: Allocator> Model for Finding<A> {
 }
 
 impl<A: Allocator> Finding<A> {
-    ghost use Rattle.std.specs.Prelude.{◌≡◌, string_bytes};
+    ghost use Rattle.std.specs.Prelude.{◌≡◌, string_bytes, IfOk};
 
     /// What the rule found at a line and a column, both counted from 1.
     pub fn new(line: u64, column: u64, rule: RuleId, message: String<A>) -> Finding<A>
@@ -151,5 +160,17 @@ impl<A: Allocator> Finding<A> {
         ensures { result.now ≡ self.now.message }
     {
         self.message.as_str()
+    }
+
+    /// A copy that stands in this line, counted from 1. Where what is said never varies, it takes no memory.
+    pub fn copy_at(&self, alloc: A, line: u64) -> Result<Finding<A>, AllocError>
+        ensures { IfOk result (λ f. f ≡ record { line = line; column = self.now.column; rule = self.now.rule; message = self.now.message }) }
+    {
+        Ok(Finding {
+            line,
+            column: self.column,
+            rule: self.rule,
+            message: self.message.copy(alloc)?,
+        })
     }
 }
