@@ -1,5 +1,5 @@
 -- Meaning: the report of a text as if no comment of it silenced anything.
-use Rattle.std.specs.Prelude.{◌≡◌, false, List}
+use Rattle.std.specs.Prelude.{◌≡◌, false, List, []}
 use Rattle.yl_text.specs.Finding.{FindingValue}
 use Rattle.yl_text.specs.Lines.{RowValue}
 use Rattle.yl_text.specs.declared.position.Pos.{Pos}
@@ -18,6 +18,10 @@ unsilenced_of_kept config in_lines end ks = report_of (levels_of config) false n
 -- of these lines, if this is kept of their sections
 abbrev pub unsilenced_by : Config → List RowValue → List KeptValue → List ProblemValue
 unsilenced_by config rows ks = unsilenced_of_kept config (findings_in_lines (options_of config) rows) (end_of_lines rows) ks
+
+-- of what the rules on lines find alone
+abbrev pub reported_in_lines : Config → List RowValue → List ProblemValue
+reported_in_lines config rows = unsilenced_by config rows []
 
 -- the report is what the comments leave of that
 abbrev pub IsHeardOfText : Type 0

@@ -4,7 +4,8 @@
 //! on lines find: `report_of_lines`. Sections after the first with a fault are hidden.
 //!
 //! For a session, which keeps the records and what is kept of the sections, there are two of the steps by themselves: `kept_of_records` and
-//! `report_with_kept`. It can ask too what would be reported if no comment silenced anything: `unsilenced_with_kept`.
+//! `report_with_kept`. It can ask too what would be reported if no comment silenced anything: `unsilenced_with_kept`. Where it knows what is
+//! reported of the lines alone (`report_in_lines`), the rest is put to that: `report_with_lines`.
 #![tactic(auto)]
 
 mod assembling;
@@ -21,5 +22,8 @@ pub use comments::push_comments;
 pub use kept::kept_of_records;
 pub use laws::{heard_of_text, one_report};
 pub use lines::find_in_lines;
-pub use lint::{report_of_lines, report_of_text, report_with_kept, unsilenced_with_kept};
+pub use lint::{
+    report_in_lines, report_of_lines, report_of_text, report_with_kept, report_with_lines,
+    unsilenced_with_kept,
+};
 pub use moving::{line_below, push_moved};

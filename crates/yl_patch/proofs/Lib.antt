@@ -2,6 +2,7 @@ pub mod Arranged
 pub mod BeforeFault
 pub mod Edited
 pub mod Ends
+pub mod InLines
 pub mod Lines
 pub mod Parts
 pub mod Renewed
@@ -13,6 +14,7 @@ pub mod Silenced
 pub mod Said
 pub mod SilencingSections
 pub mod Spoken
+pub mod StayedAfter
 pub mod Walks
 pub mod Given
 pub mod WithoutSilences

@@ -1,7 +1,9 @@
 pub mod Cut
+pub mod InLines
 pub mod Patched
 pub mod Plain
 pub mod Seen
 pub mod Settled
 pub mod Speaking
+pub mod Stayed
 pub mod There

@@ -7,6 +7,7 @@
 #![tactic(auto)]
 
 mod comments;
+mod in_lines;
 mod loud;
 mod overview;
 mod patching;
@@ -17,13 +18,16 @@ mod shifting;
 mod silencing;
 mod sound;
 mod speaking;
+mod stayed;
 mod there;
 mod touched;
 mod whole;
 mod window;
 
+pub use in_lines::patched_lines;
 pub use overview::{Overview, SectionEdit, overview_after, overview_of, overview_renewed};
 pub use patching::{patched_report, patched_unsilenced};
 pub use shifting::{ReportPatch, put_patch};
 pub use silencing::Silencing;
+pub use stayed::Stayed;
 pub use whole::{is_unsilenced, silences_of_text};

@@ -54,7 +54,7 @@ fn patch_with<A: Allocator>(
 }
 
 /// The patch that puts what was found in the touched lines in place of their problems, where so much is silenced.
-fn patch_of<A: Allocator + Copy>(
+pub fn patch_of<A: Allocator + Copy>(
     alloc: A,
     config: &Config,
     problems: &[Problem<A>],

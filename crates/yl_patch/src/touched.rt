@@ -34,7 +34,7 @@ pub fn count_rows<A: Allocator>(kept: &[Kept<A>]) -> Option<u32>
 }
 
 /// The number in fewer bits, if it fits.
-fn narrow(n: usize) -> Option<u32>
+pub fn narrow(n: usize) -> Option<u32>
     ensures { IfSome result (λ m. m ≡ n) }
 {
     if n < 1 << 32 { Some(n as u32) } else { None }

@@ -4,6 +4,7 @@ pub mod Filtered
 pub mod HasLine
 pub mod Heard
 pub mod Inserted
+pub mod Joined
 pub mod LastSwitch
 pub mod Noted
 pub mod Order

@@ -6,6 +6,7 @@ mod arranging;
 mod comment;
 mod directive;
 mod hearing;
+mod joining;
 mod marks;
 mod noting;
 mod printing;
@@ -14,6 +15,7 @@ mod silence;
 
 pub use arranging::{arrange, compare, one_arrangement};
 pub use hearing::{copies, heard_reports, retain_heard};
+pub use joining::arrange_with;
 pub use printing::write_report;
 pub use problem::{Problem, status};
 pub use silence::Silences;

@@ -1,6 +1,7 @@
 -- What becomes of problems, from what becomes of their parts.
 use Rattle.std.proofs.Common.{◌≡◌, ℕ, Bool, true, Bor, List, map, Option, Some, None, ap, ◌∙◌}
 use Rattle.std.specs.Prelude.{IfSome, MatchOption, is_some}
+use Rattle.std.specs.List.{splice}
 use Rattle.yl_text.specs.Lines.{RowValue}
 use Rattle.yl_text.specs.declared.finding.RuleId.{RuleId}
 use Rattle.yl_config.specs.declared.config.Config.{Config}
@@ -14,6 +15,14 @@ use Rattle.yl_lint.specs.Unsilenced.{IsHeardOfText, unsilenced_by}
 pub both : {X : Type 0} (P Q : X → Type 0) (o : Option X) → IfSome o P → IfSome o Q → IfSome o (λ x. P x × Q x)
 both P Q None p q = tt
 both P Q (Some x) p q = (p, q)
+
+pub some_then : {X : Type 0} {P Q : X → Type 0} (o : Option X) → ((x : X) → P x → Q x) → IfSome o P → IfSome o Q
+some_then None f p = tt
+some_then (Some x) f p = f x p
+
+-- what is lent of the new sections is what is kept of them
+pub sections_are : (olds : List KeptValue) (from end : ℕ) (lent new all : List KeptValue) → all ≡ splice olds from end lent → lent ≡ new → all ≡ splice olds from end new
+sections_are olds from end lent new all is same = is ∙ ap (λ (ks : List KeptValue). splice olds from end ks) same
 
 -- where there is one
 pub there_so : {X : Type 0} (P : X → Type 0) (N : Type 0) (o : Option X) → is_some o ≡ true → IfSome o P → MatchOption o N P

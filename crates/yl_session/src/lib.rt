@@ -6,6 +6,7 @@
 
 mod beginning;
 mod guide;
+mod in_lines;
 mod known;
 mod planning;
 mod reading;

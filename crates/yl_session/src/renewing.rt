@@ -6,17 +6,19 @@ ghost use Rattle.yl_report.specs.Heard.{heard};
 ghost use Rattle.yl_report.specs.Report.{ProblemValue};
 ghost use Rattle.yl_report.specs.Silence.{is_file_silenced_by, is_silenced_at};
 ghost use Rattle.yl_lint.specs.TextReport.{report_by};
-ghost use Rattle.yl_lint.specs.Unsilenced.{unsilenced_by};
+ghost use Rattle.yl_lint.specs.Unsilenced.{reported_in_lines, unsilenced_by};
 ghost use Rattle.yl_rejudge.specs.Places.{rows_kept};
 ghost use Rattle.yl_patch.specs.Patched.{patched};
 ghost use Rattle.yl_patch.specs.Plain.{IsOverviewOf};
 ghost use Rattle.yl_session.specs.Change.{IsFit, Makes, Patches};
+ghost use Rattle.yl_session.specs.InLines.{WereReported};
 
+use crate::in_lines::lines_after;
 use crate::known::Known;
 use std::alloc::{AllocError, Allocator};
 use yl_chunks::Spliced;
 use yl_config::Config;
-use yl_lint::{heard_of_text, report_with_kept, unsilenced_with_kept};
+use yl_lint::{heard_of_text, report_with_lines, unsilenced_with_kept};
 use yl_patch::{
     Overview, ReportPatch, SectionEdit, is_unsilenced, overview_after, overview_renewed,
     patched_report, patched_unsilenced, put_patch, silences_of_text,
@@ -42,6 +44,13 @@ pub struct Renewal<A: Allocator> {
     pub unsilenced: Change<A>,
     pub is_known: bool,
     pub overview: Overview,
+}
+
+/// What becomes of a report; where it is put together anew, this is reported of the lines alone.
+#[derive(Drop)]
+pub struct Renewals<A: Allocator> {
+    pub renewal: Renewal<A>,
+    pub in_lines: Option<Vec<Problem<A>, A>>,
 }
 
 /// What is kept of these sections, lent.
@@ -243,6 +252,7 @@ fn heard_renewal<S: LineStore>(
         problems: known.problems,
         unsilenced: known.problems,
         is_known: is_seen,
+        in_lines: known.in_lines,
     };
     let patch = patch_unsilenced(alloc, config, store, a, b, rows, &shown, edit)?;
     heard_after(
@@ -259,7 +269,8 @@ fn heard_renewal<S: LineStore>(
     )
 }
 
-/// What becomes of the report where it is put together anew. What would be reported if no comment silenced anything is not known then.
+/// What becomes of the report where it is put together anew, of these problems of the lines alone and of what is kept of the sections. What
+/// would be reported if no comment silenced anything is not known then.
 fn whole_renewal<S: LineStore>(
     alloc: S::Alloc,
     config: &Config,
@@ -267,11 +278,13 @@ fn whole_renewal<S: LineStore>(
     a: usize,
     b: usize,
     rows: &[Row<S::Alloc>],
+    in_lines: &[Problem<S::Alloc>],
     sections: &Spliced<'_, Kept<S::Alloc>, S::Alloc>,
 ) -> Result<Renewal<S::Alloc>, AllocError>
     requires range { IsRange a b (length (S.rows store.now)) }
     requires old { AreLines (S.rows store.now) }
     requires lines { AreLines (splice (S.rows store.now) a b rows.now) }
+    requires in_lines { in_lines.now ≡ reported_in_lines config.now (splice (S.rows store.now) a b rows.now) }
     ensures fit { IfOk result (λ r. (old : List ProblemValue) → IsFit old r.report.patch × IsFit old r.unsilenced.patch) }
     ensures report { IfOk result (λ r. (old : List ProblemValue) → Makes old (report_by config.now (splice (S.rows store.now) a b rows.now) sections.now) r.report) }
     ensures known { IfOk result (λ r. r.is_known ≡ false) }
@@ -279,7 +292,7 @@ fn whole_renewal<S: LineStore>(
 {
     let all = lent_kept(alloc, sections)?;
     let edited = Patched::new(store, a, b, rows);
-    let whole = report_with_kept(alloc, config, &edited, &all)?;
+    let whole = report_with_lines(alloc, config, &edited, in_lines, &all)?;
     Ok(Renewal {
         report: Change {
             patch: None,
@@ -300,8 +313,8 @@ fn may_silence(overview: Overview) -> bool {
 }
 
 /// What becomes of the report by the edit that puts these rows in place of the lines a to b, where what is kept of the sections becomes
-/// this: where it is seen, it stays or is patched, or comments leave another part of what is found.
-pub fn renewal_of<S: LineStore>(
+/// this, where it is seen: it stays or is patched, or comments leave another part of what is found.
+fn seen_renewal<S: LineStore>(
     alloc: S::Alloc,
     config: &Config,
     store: &S,
@@ -310,7 +323,7 @@ pub fn renewal_of<S: LineStore>(
     rows: &[Row<S::Alloc>],
     known: &Known<'_, S::Alloc>,
     new: &Rejudged<S::Alloc>,
-) -> Result<Renewal<S::Alloc>, AllocError>
+) -> Result<Option<Renewal<S::Alloc>>, AllocError>
     requires range { IsRange a b (length (S.rows store.now)) }
     requires old { AreLines (S.rows store.now) }
     requires lines { AreLines (splice (S.rows store.now) a b rows.now) }
@@ -321,12 +334,12 @@ pub fn renewal_of<S: LineStore>(
     requires from_row { new.now.from_row ≡ rows_kept (take new.now.from known.now.kept.now.items) }
     requires end_row { new.now.end_row ≡ rows_kept (take new.now.end known.now.kept.now.items) }
     requires few { length known.now.kept.now.items + vec_len new.now.kept < 2 ^ 64 }
-    ensures fit { IfOk result (λ r. IsFit known.now.problems.now r.report.patch) }
-    ensures report { IfOk result (λ r. Makes known.now.problems.now (report_by config.now (splice (S.rows store.now) a b rows.now) (splice known.now.kept.now.items new.now.from new.now.end new.now.kept.items)) r.report) }
-    ensures unsilenced_fit { IfOk result (λ r. IsFit known.now.unsilenced.now r.unsilenced.patch) }
-    ensures unsilenced { IfOk result (λ r. r.is_known ≡ true
-        → Makes known.now.unsilenced.now (unsilenced_by config.now (splice (S.rows store.now) a b rows.now) (splice known.now.kept.now.items new.now.from new.now.end new.now.kept.items)) r.unsilenced) }
-    ensures overview { IfOk result (λ r. IsOverviewOf (splice known.now.kept.now.items new.now.from new.now.end new.now.kept.items) r.overview) }
+    ensures fit { IfOk result (λ o. IfSome o (λ r. IsFit known.now.problems.now r.report.patch)) }
+    ensures report { IfOk result (λ o. IfSome o (λ r. Makes known.now.problems.now (report_by config.now (splice (S.rows store.now) a b rows.now) (splice known.now.kept.now.items new.now.from new.now.end new.now.kept.items)) r.report)) }
+    ensures unsilenced_fit { IfOk result (λ o. IfSome o (λ r. IsFit known.now.unsilenced.now r.unsilenced.patch)) }
+    ensures unsilenced { IfOk result (λ o. IfSome o (λ r. r.is_known ≡ true
+        → Makes known.now.unsilenced.now (unsilenced_by config.now (splice (S.rows store.now) a b rows.now) (splice known.now.kept.now.items new.now.from new.now.end new.now.kept.items)) r.unsilenced)) }
+    ensures overview { IfOk result (λ o. IfSome o (λ r. IsOverviewOf (splice known.now.kept.now.items new.now.from new.now.end new.now.kept.items) r.overview)) }
 {
     let (from, end) = (new.from, new.end);
     let (kept, overview) = (known.kept, known.overview);
@@ -340,7 +353,7 @@ pub fn renewal_of<S: LineStore>(
     };
     let after = overview_after(overview, kept, &edit);
     if leaves_report(alloc, config, store, a, b, rows, kept, from, end, judged)? {
-        return Ok(Renewal {
+        return Ok(Some(Renewal {
             report: Change {
                 patch: None,
                 whole: None,
@@ -351,7 +364,7 @@ pub fn renewal_of<S: LineStore>(
             },
             is_known: known.is_known,
             overview: after,
-        });
+        }));
     }
     let other = patch_unsilenced(alloc, config, store, a, b, rows, known, &edit)?;
     let patch = patched_report(
@@ -368,7 +381,7 @@ pub fn renewal_of<S: LineStore>(
     )?;
     if patch.is_some() {
         let is_known = other.is_some();
-        return Ok(Renewal {
+        return Ok(Some(Renewal {
             report: Change { patch, whole: None },
             unsilenced: Change {
                 patch: other,
@@ -376,19 +389,63 @@ pub fn renewal_of<S: LineStore>(
             },
             is_known,
             overview: after,
-        });
+        }));
     }
     let sections = Spliced::new(kept, from, end, judged);
     if may_silence(overview) || may_silence(after) {
         let heard = heard_renewal(
             alloc, config, store, a, b, rows, known, other, &edit, &sections, after,
         )?;
-        if let Some(renewal) = heard {
-            return Ok(renewal);
-        }
+        return Ok(heard);
     }
-    let renewal = whole_renewal(alloc, config, store, a, b, rows, &sections)?;
-    Ok(renewal)
+    Ok(None)
+}
+
+/// What becomes of the report by the edit that puts these rows in place of the lines a to b, where what is kept of the sections becomes
+/// this: where it is not seen, it is put together anew.
+pub fn renewals_of<S: LineStore>(
+    alloc: S::Alloc,
+    config: &Config,
+    store: &S,
+    a: usize,
+    b: usize,
+    rows: &[Row<S::Alloc>],
+    known: &Known<'_, S::Alloc>,
+    new: &Rejudged<S::Alloc>,
+) -> Result<Renewals<S::Alloc>, AllocError>
+    requires range { IsRange a b (length (S.rows store.now)) }
+    requires old { AreLines (S.rows store.now) }
+    requires lines { AreLines (splice (S.rows store.now) a b rows.now) }
+    requires overview { IsOverviewOf known.now.kept.now.items known.now.overview }
+    requires problems { known.now.problems.now ≡ report_by config.now (S.rows store.now) known.now.kept.now.items }
+    requires known { known.now.is_known ≡ true → known.now.unsilenced.now ≡ unsilenced_by config.now (S.rows store.now) known.now.kept.now.items }
+    requires in_lines { IfSome known.now.in_lines.now (λ l. WereReported config.now (S.rows store.now) l.problems.items l.stayed) }
+    requires kept_range { IsRange new.now.from new.now.end (length known.now.kept.now.items) }
+    requires from_row { new.now.from_row ≡ rows_kept (take new.now.from known.now.kept.now.items) }
+    requires end_row { new.now.end_row ≡ rows_kept (take new.now.end known.now.kept.now.items) }
+    requires few { length known.now.kept.now.items + vec_len new.now.kept < 2 ^ 64 }
+    ensures fit { IfOk result (λ r. IsFit known.now.problems.now r.renewal.report.patch) }
+    ensures report { IfOk result (λ r. Makes known.now.problems.now (report_by config.now (splice (S.rows store.now) a b rows.now) (splice known.now.kept.now.items new.now.from new.now.end new.now.kept.items)) r.renewal.report) }
+    ensures unsilenced_fit { IfOk result (λ r. IsFit known.now.unsilenced.now r.renewal.unsilenced.patch) }
+    ensures unsilenced { IfOk result (λ r. r.renewal.is_known ≡ true
+        → Makes known.now.unsilenced.now (unsilenced_by config.now (splice (S.rows store.now) a b rows.now) (splice known.now.kept.now.items new.now.from new.now.end new.now.kept.items)) r.renewal.unsilenced) }
+    ensures overview { IfOk result (λ r. IsOverviewOf (splice known.now.kept.now.items new.now.from new.now.end new.now.kept.items) r.renewal.overview) }
+    ensures in_lines { IfOk result (λ r. IfSome r.in_lines (λ v. v.items ≡ reported_in_lines config.now (splice (S.rows store.now) a b rows.now))) }
+{
+    let seen = seen_renewal(alloc, config, store, a, b, rows, known, new)?;
+    if let Some(renewal) = seen {
+        return Ok(Renewals {
+            renewal,
+            in_lines: None,
+        });
+    }
+    let in_lines = lines_after(alloc, config, store, a, b, rows, known.in_lines)?;
+    let sections = Spliced::new(known.kept, new.from, new.end, new.kept.as_slice());
+    let renewal = whole_renewal(alloc, config, store, a, b, rows, &in_lines, &sections)?;
+    Ok(Renewals {
+        renewal,
+        in_lines: Some(in_lines),
+    })
 }
 
 /// Makes room for what a patch puts in.

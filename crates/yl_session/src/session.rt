@@ -12,6 +12,7 @@ ghost use Rattle.yl_session.specs.Work.{IsWork};
 
 use crate::beginning::{OpenedText, begin};
 use crate::guide::put_kept;
+use crate::in_lines::{LinesReport, lines_kept};
 use crate::known::Known;
 use crate::planning::{make_room, planned};
 use crate::renewing::{Renewal, renew};
@@ -29,7 +30,7 @@ use yl_text::{LineStore, Row, TextFault, split};
 
 /// The lines of a text, with a record of each, what is kept of its sections and known of all of them, places
 /// among them, its report under a configuration, and, once it is known, what would be reported if no comment
-/// silenced anything. The records from row `cut` on, where there is one, stand below a scan fault, behind
+/// silenced anything, and what was reported of the lines alone. The records from row `cut` on, where there is one, stand below a scan fault, behind
 /// which nothing is read: they are as they were before it came, so that they need not be made again once it
 /// goes. What is kept of the sections is kept by these records; of those below a fault the report shows nothing.
 #[derive(Drop)]
@@ -45,10 +46,12 @@ pub struct Session<S: LineStore> {
     problems: Vec<Problem<S::Alloc>, S::Alloc>,
     unsilenced: Vec<Problem<S::Alloc>, S::Alloc>,
     is_known: bool,
+    in_lines: Option<LinesReport<S::Alloc>>,
 }
 
 impl<S: LineStore> Model for Session<S> {
-    ghost use Rattle.std.specs.Prelude.{◌≡◌, true, map};
+    ghost use Rattle.std.specs.Prelude.{◌≡◌, true, map, IfSome};
+    ghost use Rattle.yl_session.specs.InLines.{WereReported};
     ghost use Rattle.yl_session.specs.State.{SessionValue};
     ghost use Rattle.yl_record.specs.Records.{characters_in};
     ghost use Rattle.yl_sections.specs.Judge.{kept_of_section};
@@ -71,7 +74,8 @@ impl<S: LineStore> Model for Session<S> {
         × (s.problems.items ≡ report s.config (S.rows s.store))
         × IsOverviewOf s.kept.items s.overview
         × AllByRecursion (IsAt s.kept.items) s.places.items
-        × (s.is_known ≡ true → s.unsilenced.items ≡ unsilenced_by s.config (S.rows s.store) s.kept.items) };
+        × (s.is_known ≡ true → s.unsilenced.items ≡ unsilenced_by s.config (S.rows s.store) s.kept.items)
+        × IfSome s.in_lines (λ l. WereReported s.config (S.rows s.store) l.problems.items l.stayed) };
 }
 
 impl<S: LineStore> Session<S> {
@@ -112,6 +116,7 @@ impl<S: LineStore> Session<S> {
             problems,
             unsilenced: Vec::new(alloc),
             is_known: false,
+            in_lines: None,
         })
     }
 
@@ -168,6 +173,7 @@ impl<S: LineStore> Session<S> {
                 problems: &self.problems,
                 unsilenced: &self.unsilenced,
                 is_known: self.is_known,
+                in_lines: &self.in_lines,
             };
             planned(
                 self.alloc,
@@ -191,6 +197,7 @@ impl<S: LineStore> Session<S> {
             &mut self.unsilenced,
             &plan,
         )?;
+        let lines = self.store.len();
         self.store.splice(a, b, rows)?;
         self.records.fill_room(
             plan.rescan.from,
@@ -209,6 +216,8 @@ impl<S: LineStore> Session<S> {
         self.is_known = is_known;
         renew(&mut self.problems, report);
         renew(&mut self.unsilenced, unsilenced);
+        let (before, now) = (self.in_lines.take(), self.store.len());
+        self.in_lines = lines_kept(before, plan.in_lines, a, b, lines, now);
         Ok(plan.work)
     }
 

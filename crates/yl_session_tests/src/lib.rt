@@ -13,6 +13,8 @@ mod growth;
 #[cfg(test)]
 mod hidden;
 #[cfg(test)]
+mod in_lines;
+#[cfg(test)]
 mod refused;
 #[cfg(test)]
 mod rows;

@@ -101,16 +101,16 @@ rejudge-requires-clause-meter g c =
       ap (λ (m : Meter). m.documents) c.new-meter.ensures,
     )
 
-pub renewal_of-requires-clause-few : goal.renewal_of-requires-clause-few
-renewal_of-requires-clause-few g c =
+pub renewals_of-requires-clause-few : goal.renewals_of-requires-clause-few
+renewals_of-requires-clause-few g c =
     omega (arith, few_kept c.args.config.now (g.S.Lines.rows c.args.store.now) c.args.cut c.args.records.now.items c.args.known.now.kept.now.items c.requires.old c.requires.held c.requires.kept, c.in_ok-rejudged.rejudged.kept.small)
 
 -- the report is that of the text, whatever is kept of what stands below a fault
 reported : (config : Config) (ps : List RowValue) (cut : Option ℕ) (rs : List RecordValue) (ks : List KeptValue) → AreHeld (characters_in ps) cut rs → ks ≡ map (kept_of_section config) (sections rs) → report_by config ps ks ≡ report config ps
 reported config ps cut rs ks held is = ap (λ (ls : List KeptValue). report_by config ps ls) is ∙ held_report config ps cut rs held
 
-pub renewal_of-requires-clause-problems : goal.renewal_of-requires-clause-problems
-renewal_of-requires-clause-problems g c =
+pub renewals_of-requires-clause-problems : goal.renewals_of-requires-clause-problems
+renewals_of-requires-clause-problems g c =
     c.requires.problems ∙ sym (reported c.args.config.now (g.S.Lines.rows c.args.store.now) c.args.cut c.args.records.now.items c.args.known.now.kept.now.items c.requires.held c.requires.kept)
 
 -- what is kept then
@@ -135,8 +135,8 @@ returns-clause-report g c =
     let us = splice olds r.from r.old_end r.records.items in
     let ks = splice c.args.known.now.kept.now.items j.from j.end j.kept.items in
     let is = spliced_is olds r.records.items c.deref.result.now c.new-spliced.result r.from r.old_end c.deref.ensures.value c.new-spliced.ensures in
-    subst (λ (ps : List ProblemValue). Makes c.args.known.now.problems.now ps c.in_ok-renewal.renewal.report)
-    (reported c.args.config.now new r.cut us ks c.in_ok-rescan.ensures.held (kept_is c.args.config.now ks c.new-spliced.result us c.in_ok-rejudged.ensures.kept is)) c.in_ok-renewal.ensures.report
+    subst (λ (ps : List ProblemValue). Makes c.args.known.now.problems.now ps c.in_ok-renewals.renewals.renewal.report)
+    (reported c.args.config.now new r.cut us ks c.in_ok-rescan.ensures.held (kept_is c.args.config.now ks c.new-spliced.result us c.in_ok-rejudged.ensures.kept is)) c.in_ok-renewals.ensures.report
 
 pub returns-clause-work : goal.returns-clause-work
 returns-clause-work g c =
@@ -152,4 +152,4 @@ returns-clause-work g c =
     (λ m l. less (c.in_ok-rejudged.ensures.documents taken m l) (omega (arith, c.in_ok-rescan.ensures.documents, ap (λ (m : Meter). m.documents) c.new-meter.ensures)))
 
 pub returns-clause-overview : goal.returns-clause-overview
-returns-clause-overview g c = c.in_ok-renewal.ensures.overview
+returns-clause-overview g c = c.in_ok-renewals.ensures.overview

@@ -1,5 +1,7 @@
-use Rattle.std.proofs.Common.{arith, ◌∙◌}
+use Rattle.std.proofs.Common.{List, arith, ap, sym, ◌∙◌}
 use Rattle.std.specs.List.{splice}
+use Rattle.yl_text.specs.Lines.{RowValue}
+use Rattle.yl_lint.specs.Unsilenced.{reported_in_lines}
 use Rattle.yl_session.proofs.Bounds.{few_lines, few_new}
 use Rattle.yl_session.proofs.Changed.{report_told}
 use Rattle.yl_session.proofs.renewing.whole_renewal.Goals as goal
@@ -7,6 +9,9 @@ use Rattle.yl_session.proofs.renewing.whole_renewal.Goals as goal
 pub new-edited-requires-clause-few : goal.new-edited-requires-clause-few
 new-edited-requires-clause-few g c =
     omega (arith, few_lines (g.S.Lines.rows c.args.store.now) c.requires.old, few_new (g.S.Lines.rows c.args.store.now) c.args.rows.now c.args.a c.args.b c.requires.lines)
+
+pub report_with_lines-requires-clause-in_lines : goal.report_with_lines-requires-clause-in_lines
+report_with_lines-requires-clause-in_lines g c = c.requires.in_lines ∙ ap (λ (ps : List RowValue). reported_in_lines c.args.config.now ps) (sym c.new-edited.ensures)
 
 pub returns-clause-report : goal.returns-clause-report
 returns-clause-report g c = λ old.

@@ -9,7 +9,7 @@ use Rattle.yl_rescan.specs.Held.{AreHeld}
 use Rattle.yl_lint.specs.TextReport.{report}
 use Rattle.yl_lint.specs.Unsilenced.{unsilenced_by}
 use Rattle.yl_session.proofs.Bounds.{few_kept, few_lines, count_records, few_rows, few_rows_put}
-use Rattle.std.specs.Prelude.{OnErr, OnOk}
+use Rattle.std.specs.Prelude.{IfSome, IsErr, OnErr, OnOk}
 use Rattle.yl_text.specs.Lines.{RowValue}
 use Rattle.yl_config.specs.declared.config.Config.{Config}
 use Rattle.yl_report.specs.Report.{ProblemValue}
@@ -20,6 +20,7 @@ use Rattle.yl_rejudge.specs.declared.places.Place.{Place}
 use Rattle.yl_rejudge.specs.Places.{IsAt, rows_kept}
 use Rattle.yl_session.specs.Change.{IsFit, Makes}
 use Rattle.yl_session.proofs.Changed.{made_so}
+use Rattle.yl_session.specs.InLines.{WereReported}
 use Rattle.yl_session.specs.State.{SessionValue}
 use Rattle.yl_session.proofs.session.Session.change.Goals as goal
 
@@ -33,12 +34,23 @@ held_so : {X E P : Type 0} (r : Result X E) → P → OnOk r P
 held_so (Ok x) p = p
 held_so (Err e) p = tt
 
+-- what is asked of what is done is not asked where it is refused
+refused : {X E : Type 0} (P : Type 0) (r : Result X E) → IsErr r → OnOk r P
+refused P (Ok x) h = absurd (cc)
+refused P (Err e) h = tt
+
 abbrev state : Config → List RowValue → List ProblemValue → SessionValue
 state c ps problems = record { config = c; rows = ps; problems = problems }
 
 pub returns-in_err-make_room-clause-err : goal.returns-in_err-make_room-clause-err
 returns-in_err-make_room-clause-err g c =
     held c.from_residual-in_err-make_room.result (ap (λ (ps : List ProblemValue). state c.self.inside.config (g.S.Lines.rows c.self.inside.store) ps) c.make_room.ensures.problems ∙ c.self.view_is)
+
+pub returns-in_err-make_room-clause-rows : goal.returns-in_err-make_room-clause-rows
+returns-in_err-make_room-clause-rows g c = refused _ c.from_residual-in_err-make_room.result c.from_residual-in_err-make_room.ensures.0
+
+pub returns-in_err-make_room-clause-problems : goal.returns-in_err-make_room-clause-problems
+returns-in_err-make_room-clause-problems g c = refused _ c.from_residual-in_err-make_room.result c.from_residual-in_err-make_room.ensures.0
 
 pub returns-in_err-splice-clause-err : goal.returns-in_err-splice-clause-err
 returns-in_err-splice-clause-err g c =
@@ -105,6 +117,7 @@ invariant_of-self g c =
       subst (λ (ks : List KeptValue). IsOverviewOf ks c.self.inside.overview) (sym c.make_room.ensures.kept) c.self.invariant.4,
       subst (λ (ks : List KeptValue). AllByRecursion (IsAt ks) c.make_room.new.places.items) (sym c.make_room.ensures.kept) c.make_room.ensures.places,
       λ h. c.make_room.ensures.unsilenced ∙ (c.self.invariant.6 h ∙ unsilenced_same config rows rows c.self.inside.kept.items c.make_room.new.kept.items refl c.make_room.ensures.kept),
+      c.self.invariant.7,
     )
 
 pub invariant_of-self-in_err-splice : goal.invariant_of-self-in_err-splice
@@ -121,6 +134,7 @@ invariant_of-self-in_err-splice g c =
       subst (λ (ks : List KeptValue). IsOverviewOf ks c.self.inside.overview) (sym c.make_room.ensures.kept) c.self.invariant.4,
       subst (λ (ks : List KeptValue). AllByRecursion (IsAt ks) c.make_room.new.places.items) (sym c.make_room.ensures.kept) c.make_room.ensures.places,
       λ h. c.make_room.ensures.unsilenced ∙ (c.self.invariant.6 h ∙ unsilenced_same config rows left c.self.inside.kept.items c.make_room.new.kept.items e c.make_room.ensures.kept),
+      subst (λ (ps : List RowValue). IfSome c.self.inside.in_lines (λ l. WereReported config ps l.problems.items l.stayed)) e c.self.invariant.7,
     )
 
 -- what room was made in is what was kept
@@ -188,6 +202,9 @@ invariant_of-self-2 g c =
           made_so c.make_room.new.unsilenced.items (λ v. v.items) put_of plan.renewal.unsilenced.patch plan.renewal.unsilenced.whole c.renew-2.ensures
           (subst (λ (ps : List ProblemValue). Makes ps (unsilenced_by config seen ks) plan.renewal.unsilenced) (c.deref-2.ensures.value ∙ sym c.make_room.ensures.unsilenced) (c.in_ok-plan.ensures.unsilenced h))
           ∙ unsilenced_same config seen left ks c.put_kept.new.kept.items put kept,
+      subst (λ (ps : List RowValue). IfSome c.lines_kept.result (λ l. WereReported config ps l.problems.items l.stayed)) put
+          (c.lines_kept.ensures config rows c.as_slice.result.now (sym c.len-lines.ensures) (ap (λ (ps : List RowValue). length ps) put ∙ sym c.len-now.ensures) c.requires.range.ordered
+          (subst (λ o. IfSome o (λ l. WereReported config rows l.problems.items l.stayed)) (sym c.take-before.ensures.value) c.self.invariant.7) c.in_ok-plan.ensures.in_lines),
     )
 
 pub returns-clause-problems : goal.returns-clause-problems
