@@ -31,8 +31,8 @@ pub fn report_with_kept<L: Lines>(
     report_of_kept(alloc, config, found, first_text(lines), end_of(lines), kept)
 }
 
-/// The same where these are the problems of the lines alone, as if no comment silenced anything: no line is read again but the first and the
-/// last.
+/// The same where `in_lines` is what is reported of the lines alone, as if no comment silenced anything: no line is read again but the first
+/// and the last.
 pub fn report_with_lines<L: Lines>(
     alloc: L::Alloc,
     config: &Config,
@@ -48,7 +48,7 @@ pub fn report_with_lines<L: Lines>(
     report_of_parts(alloc, config, in_lines, first, end, kept)
 }
 
-/// The report of what the rules on lines find in these lines, as if no comment silenced anything.
+/// The report of what the rules on lines find in these lines, as if no comment silenced anything. The only error is out of memory.
 pub fn report_in_lines<L: Lines>(
     alloc: L::Alloc,
     config: &Config,

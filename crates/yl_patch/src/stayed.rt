@@ -4,7 +4,7 @@ ghost use Rattle.std.specs.List.{splice};
 ghost use Rattle.yl_text.specs.Lines.{RowValue};
 ghost use Rattle.yl_patch.specs.Stayed.{HasStayed};
 
-/// Since a text was another, which had so many lines, so many of its first lines stayed, and so many of its last.
+/// Since a text was another, which had `lines` lines, its first lines stayed, `above` of them, and its last, `behind` of them.
 #[derive(Clone, Copy, Debug)]
 pub struct Stayed {
     pub above: usize,
@@ -24,7 +24,7 @@ impl Stayed {
         }
     }
 
-    /// What stays once other rows are put in place of the lines a to b of a text that has so many.
+    /// What stays once other rows are put in place of the lines a to b, counted from 0, b not included, of a text that has so many.
     pub fn after(self, a: usize, b: usize, lines: usize) -> Stayed
         requires { b ≤ lines }
         ensures { (old now new : List RowValue) → HasStayed old now self → length now ≡ lines → a ≤ b → HasStayed old (splice now a b new) result }

@@ -79,14 +79,15 @@ impl<A: Allocator> Problem<A> {
         self.found.message()
     }
 
-    /// What it tells, without its level. Where what is said never varies, it takes no memory.
+    /// What it tells, without its level. Where what is said never varies, it takes no memory. The only error is out of
+    /// memory.
     pub fn told(&self, alloc: A) -> Result<Finding<A>, AllocError>
         ensures { IfOk result (λ f. f ≡ finding_told self.now) }
     {
         self.found.copy_at(alloc, self.line)
     }
 
-    /// A copy. Where what is said never varies, it takes no memory.
+    /// A copy. Where what is said never varies, it takes no memory. The only error is out of memory.
     pub fn copy(&self, alloc: A) -> Result<Problem<A>, AllocError>
         ensures { IfOk result (λ p. p ≡ self.now) }
     {

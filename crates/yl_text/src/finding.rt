@@ -162,7 +162,8 @@ impl<A: Allocator> Finding<A> {
         self.message.as_str()
     }
 
-    /// A copy that stands in this line, counted from 1. Where what is said never varies, it takes no memory.
+    /// A copy that stands in this line, counted from 1. Where what is said never varies, it takes no memory. The only
+    /// error is out of memory.
     pub fn copy_at(&self, alloc: A, line: u64) -> Result<Finding<A>, AllocError>
         ensures { IfOk result (λ f. f ≡ record { line = line; column = self.now.column; rule = self.now.rule; message = self.now.message }) }
     {
