@@ -18,6 +18,7 @@ use yl_chunks::{Chunks, Spliced};
 use yl_config::Config;
 use yl_lexeme::Meter;
 use yl_record::Record;
+use yl_retyped::keep_sections;
 use yl_sections::{Kept, judge_all, kept_of_front};
 
 /// What is kept of the sections from one on to before `end`, both counted from 0, becomes this. They begin with `from_row`, and the next one
@@ -129,11 +130,8 @@ fn judge_behind<A: Allocator + Copy>(
     Ok(all)
 }
 
-/// What is kept of the sections of the new records, from what is kept of those of the old ones: the new records are the old ones before
-/// row `from`, and from row `end` on the old ones from `old_end` on, rows counted from 0. Judges no section but those that hold a row
-/// from `from` on to before `end`, if the section above loses nothing but empty rows, and counts their documents in the meter. The first
-/// one is looked for from a section at or before it. The only error is out of memory.
-pub fn rejudge<A: Allocator + Copy>(
+/// The same as `rejudge`, where the sections that hold a row from `from` on to before `end` are judged in any case.
+fn judge_edited<A: Allocator + Copy>(
     alloc: A,
     config: &Config,
     kept: &Chunks<Kept<A>, A>,
@@ -189,4 +187,65 @@ pub fn rejudge<A: Allocator + Copy>(
         walked,
         kept,
     })
+}
+
+/// Whether the section of a place has rows down to the one before `end`.
+fn is_in_section<A: Allocator + Copy>(kept: &Chunks<Kept<A>, A>, place: Place, end: usize) -> bool
+    requires { place.row ≤ end }
+{
+    place.section < kept.len() && end - place.row <= kept.get(place.section).rows() as usize
+}
+
+/// What is kept of the sections of the new records, from what is kept of those of the old ones: the new records are the old ones before
+/// row `from`, and from row `end` on the old ones from `old_end` on, rows counted from 0. Judges no section but those that hold a row
+/// from `from` on to before `end`, if the section above loses nothing but empty rows, and counts their documents in the meter. Where it is
+/// seen that the same is kept of one section that holds all of these rows, its document is looked through no more, and counted the same. The
+/// first one is looked for from a section at or before it. The only error is out of memory.
+pub fn rejudge<A: Allocator + Copy>(
+    alloc: A,
+    config: &Config,
+    kept: &Chunks<Kept<A>, A>,
+    near: Place,
+    old: &Chunks<Record<A>, A>,
+    records: &Spliced<'_, Record<A>, A>,
+    from: usize,
+    old_end: usize,
+    end: usize,
+    meter: &mut Meter,
+) -> Result<Rejudged<A>, AllocError>
+    requires kept { kept.now.items ≡ map (kept_of_section config.now) (sections old.now.items) }
+    requires near { IsAt kept.now.items near }
+    requires above { near.row ≤ from }
+    requires before { take from old.now.items ≡ take from records.now }
+    requires behind { drop old_end old.now.items ≡ drop end records.now }
+    requires old_range { IsRange from old_end (length old.now.items) }
+    requires range { IsRange from end (length records.now) }
+    requires alike { GoOnAlike old.now.items records.now old_end end }
+    requires few { (length old.now.items < 2 ^ 30) × (length records.now < 2 ^ 30) }
+    requires meter { meter.old.documents + length records.now < 2 ^ 32 - 1 }
+    ensures range { IfOk result (λ r. IsRange r.from r.end (length kept.now.items)) }
+    ensures kept { IfOk result (λ r. splice kept.now.items r.from r.end r.kept.items ≡ map (kept_of_section config.now) (sections records.now)) }
+    ensures from_row { IfOk result (λ r. r.from_row ≡ rows_kept (take r.from kept.now.items)) }
+    ensures end_row { IfOk result (λ r. r.end_row ≡ rows_kept (take r.end kept.now.items)) }
+    ensures documents { OnOk result (TakesNothing old.now.items records.now from → (m : ℕ) → end ≤ m + 1
+        → meter.new.documents ≤ meter.old.documents + documents_holding 0 from m (sections records.now)) }
+    ensures lines { OnOk result (meter.new.lines ≡ meter.old.lines) }
+{
+    if old_end == end && keep_sections(alloc, config, old, records, from, end)? {
+        let place = section_of(kept, near, from);
+        if is_in_section(kept, place, end) {
+            meter.documents += 1;
+            return Ok(Rejudged {
+                from: place.section,
+                end: place.section,
+                from_row: place.row,
+                end_row: place.row,
+                walked: place.section.saturating_sub(near.section),
+                kept: Vec::new(alloc),
+            });
+        }
+    }
+    judge_edited(
+        alloc, config, kept, near, old, records, from, old_end, end, meter,
+    )
 }

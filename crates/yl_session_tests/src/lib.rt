@@ -26,3 +26,5 @@ mod sessions;
 mod shown;
 #[cfg(test)]
 mod silences;
+#[cfg(test)]
+mod typed;

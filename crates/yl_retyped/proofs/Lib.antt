@@ -1,0 +1,10 @@
+pub mod Around
+pub mod SameSaid
+pub mod Retold
+pub mod Roles
+pub mod Marks
+pub mod Facts
+pub mod Findings
+pub mod OneRow
+pub mod Cut
+pub mod AllRows

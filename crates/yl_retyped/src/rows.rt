@@ -1,0 +1,41 @@
+//! Rows that say the same to the rules, but for a value that is typed anew.
+ghost use Rattle.std.specs.Prelude.{◌≡◌, true, option_map, IfOk};
+ghost use Rattle.yl_retyped.specs.Rows.{IsRowAlike};
+
+use crate::lexemes::{are_same, is_last_retyped};
+use std::alloc::{AllocError, Allocator};
+use yl_layout::LexemeOptions;
+use yl_lexeme::Comment;
+use yl_record::Record;
+
+/// Whether two rows have the same comment, or none.
+fn is_same_comment<A: Allocator>(one: Option<&Comment<A>>, other: Option<&Comment<A>>) -> bool
+    ensures { result ≡ true → option_map (λ c. c.now) one.entry ≡ option_map (λ c. c.now) other.entry }
+{
+    match (one, other) {
+        (None, None) => true,
+        (Some(c), Some(d)) => c.col() == d.col() && c.text() == d.text(),
+        _ => false,
+    }
+}
+
+/// Whether two rows say the same to the rules, but for a value that is typed anew. The only error is out of memory.
+pub fn is_row_alike<A: Allocator + Copy>(
+    alloc: A,
+    options: &LexemeOptions,
+    old: &Record<A>,
+    new: &Record<A>,
+) -> Result<bool, AllocError>
+    ensures { IfOk result (λ b. b ≡ true → IsRowAlike options.now old.now new.now) }
+{
+    if old.indentation() != new.indentation() || old.fault().is_some() || new.fault().is_some() {
+        return Ok(false);
+    }
+    if are_same(old.lexemes(), new.lexemes()) {
+        return Ok(is_same_comment(old.comment(), new.comment()));
+    }
+    if old.comment().is_some() || new.comment().is_some() {
+        return Ok(false);
+    }
+    is_last_retyped(alloc, options, old.lexemes(), new.lexemes())
+}

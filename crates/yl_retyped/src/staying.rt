@@ -1,0 +1,116 @@
+//! Sections of which the same is kept, since their rows say the same to the rules.
+ghost use Rattle.std.specs.Prelude.{◌≡◌, ◌≤◌, true, None, length, map, take, drop, IfOk};
+ghost use Rattle.yl_text.specs.declared.finding.RuleId.TheVariants.{QuotedStrings, Truthy};
+ghost use Rattle.yl_config.specs.Config.{options_of};
+ghost use Rattle.yl_sections.specs.Kept.{is_on, options_if};
+ghost use Rattle.yl_sections.specs.Judge.{kept_of_section};
+ghost use Rattle.yl_sections.specs.Sections.{sections};
+ghost use Rattle.yl_retyped.specs.Holds.{HoldsLexeme};
+ghost use Rattle.yl_retyped.specs.Rows.{AreRowsAlike};
+
+use crate::rows::is_row_alike;
+use std::alloc::{AllocError, Allocator};
+use yl_chunks::{Chunks, Spliced};
+use yl_config::Config;
+use yl_layout::LexemeOptions;
+use yl_record::Record;
+use yl_text::RuleId;
+
+/// Whether a rule is on.
+fn is_on(config: &Config, rule: RuleId) -> bool
+    ensures { result ≡ is_on config.now rule }
+{
+    config.levels().level_of(rule).is_some()
+}
+
+/// The options of a rule that is on.
+fn options_if<O: Copy>(is_on: bool, options: &O) -> Option<O>
+    ensures { result ≡ options_if is_on options.now }
+{
+    if is_on { Some(*options) } else { None }
+}
+
+/// The options of the rules on values alone.
+fn value_options(config: &Config) -> LexemeOptions
+    ensures truthy { result.truthy ≡ options_if (is_on config.now Truthy) (options_of config.now).truthy }
+    ensures quoted { result.quoted_strings ≡ options_if (is_on config.now QuotedStrings) (options_of config.now).quoted_strings }
+{
+    LexemeOptions {
+        braces: None,
+        brackets: None,
+        colons: None,
+        commas: None,
+        hyphens: None,
+        document_start: None,
+        truthy: options_if(is_on(config, RuleId::Truthy), config.truthy_options()),
+        quoted_strings: options_if(
+            is_on(config, RuleId::QuotedStrings),
+            config.quoted_strings_options(),
+        ),
+    }
+}
+
+/// Whether the rows from one on to before `end` say the same to the rules as the old ones, but for values that are typed anew. The only
+/// error is out of memory.
+fn are_rows_alike<A: Allocator + Copy>(
+    alloc: A,
+    options: &LexemeOptions,
+    old: &Chunks<Record<A>, A>,
+    new: &Spliced<'_, Record<A>, A>,
+    from: usize,
+    end: usize,
+) -> Result<bool, AllocError>
+    requires old { end ≤ length old.now.items }
+    requires new { end ≤ length new.now }
+    ensures { IfOk result (λ b. b ≡ true → AreRowsAlike options.now old.now.items new.now from end) }
+{
+    for i in from..end {
+        if !is_row_alike(alloc, options, old.get(i), new.get(i))? {
+            return Ok(false);
+        }
+    }
+    Ok(true)
+}
+
+/// Whether a lexeme begins in one of the rows from one on to before `end`.
+fn hold_lexeme<A: Allocator + Copy>(
+    records: &Spliced<'_, Record<A>, A>,
+    from: usize,
+    end: usize,
+) -> bool
+    requires { end ≤ length records.now }
+    ensures { result ≡ true → HoldsLexeme records.now from end }
+{
+    for i in from..end {
+        if !records.get(i).lexemes().is_empty() {
+            return true;
+        }
+    }
+    false
+}
+
+/// Whether it is seen that the same is kept of each section of the new records as of the old ones, and that a lexeme begins in a row from
+/// `from` on to before `end`, rows counted from 0. The records are the same above row `from`, and from row `end` on. It takes time with the
+/// rows between alone. The only error is out of memory.
+pub fn keep_sections<A: Allocator + Copy>(
+    alloc: A,
+    config: &Config,
+    old: &Chunks<Record<A>, A>,
+    new: &Spliced<'_, Record<A>, A>,
+    from: usize,
+    end: usize,
+) -> Result<bool, AllocError>
+    requires range { from ≤ end }
+    requires old { end ≤ length old.now.items }
+    requires new { end ≤ length new.now }
+    requires before { take from old.now.items ≡ take from new.now }
+    requires behind { drop end old.now.items ≡ drop end new.now }
+    ensures kept { IfOk result (λ b. b ≡ true
+        → map (kept_of_section config.now) (sections old.now.items) ≡ map (kept_of_section config.now) (sections new.now)) }
+    ensures some { IfOk result (λ b. b ≡ true → HoldsLexeme new.now from end) }
+{
+    if !hold_lexeme(new, from, end) {
+        return Ok(false);
+    }
+    are_rows_alike(alloc, &value_options(config), old, new, from, end)
+}
