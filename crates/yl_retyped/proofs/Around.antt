@@ -16,9 +16,10 @@ use Rattle.yl_layout.specs.Truthy.{truthy}
 use Rattle.yl_events.specs.Event.{start_of}
 use Rattle.yl_record.specs.Records.{RecordValue}
 use Rattle.yl_sections.specs.Sections.{lexemes_from, lexemes_of}
-use Rattle.yl_retyped.specs.Retyped.{AreBelow, IsQuiet, IsRetyped, no_key}
+use Rattle.yl_retyped.specs.Retyped.{IsQuiet, no_key}
+use Rattle.yl_retyped.proofs.Typed.{AreBelow, IsRetyped}
 use Rattle.yl_retyped.specs.Rows.{IsValueRetyped}
-use Rattle.yl_retyped.specs.Symbols.{DifferAt}
+use Rattle.yl_retyped.proofs.Symbols.{DifferAt}
 
 -- ---- the lexemes before a row's last two, and behind them
 

@@ -12,8 +12,9 @@ use Rattle.yl_marks.specs.Keys.{token_of, tokens_of_line, key_at, keyed_token, k
 use Rattle.yl_marks.specs.Marks.{marking}
 use Rattle.yl_marks.specs.Facts.{end_in_key, end_in_tag, facts_at, facts_from, is_value_next, key_facts}
 use Rattle.yl_marks.proofs.ByLines.{nothing_here}
-use Rattle.yl_retyped.specs.Retyped.{IsRetyped, AreBelow, asks_for_value, no_key}
-use Rattle.yl_retyped.specs.Laws.{SayNothing}
+use Rattle.yl_retyped.specs.Retyped.{asks_for_value, no_key}
+use Rattle.yl_retyped.proofs.Typed.{IsRetyped, AreBelow}
+use Rattle.yl_retyped.proofs.Statements.{SayNothing}
 
 -- ---- no key ends at it: the next lexeme is in a later line
 

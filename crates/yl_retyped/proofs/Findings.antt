@@ -27,8 +27,9 @@ use Rattle.yl_layout.specs.Kinds.{indicator_findings}
 use Rattle.yl_layout.specs.Lexemes.{block_findings, findings_at, findings_behind, first_span, flow_findings, lexeme_findings, value_findings}
 use Rattle.yl_layout.specs.Spans.{span_of}
 use Rattle.yl_layout.proofs.KindLemmas.{found_at}
-use Rattle.yl_retyped.specs.Retyped.{AreBelow, IsQuiet, IsRetyped, is_scalar, no_key}
-use Rattle.yl_retyped.specs.Laws.{SayNothing}
+use Rattle.yl_retyped.specs.Retyped.{IsQuiet, is_scalar, no_key}
+use Rattle.yl_retyped.proofs.Typed.{AreBelow, IsRetyped}
+use Rattle.yl_retyped.proofs.Statements.{SayNothing}
 
 -- a lexeme without a value
 abbrev lexeme : Kind → Pos → ℕ → ℕ → LexemeValue

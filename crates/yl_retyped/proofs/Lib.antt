@@ -1,3 +1,6 @@
+pub mod Typed
+pub mod Symbols
+pub mod Statements
 pub mod Around
 pub mod SameSaid
 pub mod Retold

@@ -20,8 +20,9 @@ use Rattle.yl_marks.specs.Unmarked.{may_have_marks}
 use Rattle.yl_marks.proofs.Within.{Starts, of_key}
 use Rattle.yl_marks.proofs.ByLines.{nothing_here}
 use Rattle.yl_marks.proofs.Unmarked.{unmarked_marks}
-use Rattle.yl_retyped.specs.Retyped.{IsRetyped, AreBelow, is_scalar}
-use Rattle.yl_retyped.specs.Symbols.{NoneAt, StandsBehind}
+use Rattle.yl_retyped.specs.Retyped.{is_scalar}
+use Rattle.yl_retyped.proofs.Typed.{IsRetyped, AreBelow}
+use Rattle.yl_retyped.proofs.Symbols.{NoneAt, StandsBehind}
 
 -- ---- the places at which the keys of a Value's line may begin
 

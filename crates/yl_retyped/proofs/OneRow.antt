@@ -24,10 +24,10 @@ use Rattle.yl_sections.specs.declared.comments.LexemeEnd.{LexemeEnd}
 use Rattle.yl_sections.specs.Judge.{built_by, document_of, kept_of_section}
 use Rattle.yl_sections.specs.Kept.{BuiltValue, SectionFaultValue, column_in, comment_at, comments_from, event_findings, last_lexeme_end, lexeme_options_of, scan_fault_from, scan_fault_or, tree_options_of}
 use Rattle.yl_sections.specs.Sections.{lexemes_from, lexemes_of}
-use Rattle.yl_retyped.specs.Laws.{EventsLaw, FactsLaw, FindingsLaw, MarksLaw}
+use Rattle.yl_retyped.proofs.Statements.{EventsLaw, FactsLaw, FindingsLaw, MarksLaw}
 use Rattle.yl_retyped.specs.Retyped.{IsQuiet, asks_for_value, is_scalar}
 use Rattle.yl_retyped.specs.Rows.{IsRowAlike, IsRetypedRow, IsSameRow, IsValueRetyped}
-use Rattle.yl_retyped.specs.Symbols.{DifferAt, StandsBehind}
+use Rattle.yl_retyped.proofs.Symbols.{DifferAt, StandsBehind}
 use Rattle.yl_retyped.proofs.Around.{before_them, behind_them, differ_at, from_front, line_of, quiet_at, retyped_at, retyped_token, split, tokens_same}
 use Rattle.yl_retyped.proofs.SameSaid.{SaySame, kept_same}
 

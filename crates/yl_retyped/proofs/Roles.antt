@@ -25,8 +25,8 @@ use Rattle.yl_events.specs.Machine.{Turn, ParserState, node_turn, takes, leaves,
 use Rattle.yl_events.proofs.Answered.{complete}
 use Rattle.yl_tree.specs.OpenNodes.{OpenCollection, OpenNodes, first_or_new, without_first, with_event, collections_behind}
 use Rattle.yl_retyped.specs.Retyped.{asks_for_value}
-use Rattle.yl_retyped.specs.Symbols.{NoneAt, DifferAt}
-use Rattle.yl_retyped.specs.Laws.{EventsLaw}
+use Rattle.yl_retyped.proofs.Symbols.{NoneAt, DifferAt}
+use Rattle.yl_retyped.proofs.Statements.{EventsLaw}
 use Rattle.yl_retyped.proofs.Retold.{AlikeEvent, AllAlike, alike_same, alike_scalar, and_false, same_findings}
 
 -- ---- what is open behind the events told, without the keys

@@ -1,4 +1,4 @@
--- Bridge: what a value that is typed anew leaves as it was.
+-- What a value that is typed anew leaves as it was.
 use Rattle.std.specs.Prelude.{ℕ, suc, ◌≡◌, true, List, ◌∷◌, ◌++◌, length, map}
 use Rattle.yl_lexeme.specs.declared.lexeme.Kind.{Kind}
 use Rattle.yl_lexeme.specs.declared.lexeme.Style.{Style}
@@ -15,8 +15,9 @@ use Rattle.yl_events.specs.Event.{event_of_outline}
 use Rattle.yl_events.specs.Derives.{Derives}
 use Rattle.yl_tree.specs.declared.options.TreeOptions.{TreeOptions}
 use Rattle.yl_tree.specs.Tree.{tree_findings}
-use Rattle.yl_retyped.specs.Retyped.{IsRetyped, IsQuiet, asks_for_value, no_key}
-use Rattle.yl_retyped.specs.Symbols.{DifferAt, StandsBehind}
+use Rattle.yl_retyped.specs.Retyped.{IsQuiet, asks_for_value, no_key}
+use Rattle.yl_retyped.proofs.Typed.{IsRetyped}
+use Rattle.yl_retyped.proofs.Symbols.{DifferAt, StandsBehind}
 
 -- no mark stands between it and the lexeme before it
 abbrev pub MarksLaw : Type 0

@@ -1,4 +1,4 @@
--- Bridge: a scalar among the marked lexemes of a document, directly behind a lexeme that asks for a value.
+-- A scalar among the marked lexemes of a document, directly behind a lexeme that asks for a value.
 use Rattle.std.specs.Prelude.{ℕ, ◌≡◌, List, [], ◌∷◌, ◌++◌, slice_get}
 use Rattle.yl_lexeme.specs.declared.lexeme.Kind.{Kind}
 use Rattle.yl_lexeme.specs.Lexeme.{LexemeValue}
