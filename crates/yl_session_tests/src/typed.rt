@@ -1,7 +1,11 @@
 //! Values that are typed on, letter by letter: where they are keys and where they are not, where a rule finds something at them, and
 //! where a fault stands beside them.
 use crate::edits::{Line, check_rows};
+use crate::sessions::{edit, opened};
+use std::alloc::Global;
 use std::test::Fail;
+use yl_session::Session;
+use yl_text::PlainStore;
 
 static TYPED: &[Line] = &[
     // A value that is a truthy word for a letter, beside keys that stand twice.
@@ -231,4 +235,18 @@ static TYPED: &[Line] = &[
 #[test]
 fn values_that_are_typed_on(rt: HostRuntime) -> Result<(), Fail> {
     check_rows(&rt, rt.alloc(), TYPED)
+}
+
+// A document that stays as it was is counted all the same: one edit judges it, as the edit of a key does.
+#[test]
+fn a_value_that_is_typed_on_counts_its_document(rt: HostRuntime) -> Result<(), Fail> {
+    let mut session: Session<PlainStore<Global>> = opened(
+        rt.alloc(),
+        b"---\na: 1\n---\nb: 2\n---\nc: 3\n",
+    )?;
+    let of_value = edit(&mut session, 3, 4, b"b: 23\n")?;
+    let of_key = edit(&mut session, 3, 4, b"bc: 23\n")?;
+    assert_eq!(rt; of_value.documents, 1);
+    assert_eq!(rt; of_value, of_key);
+    Ok(())
 }
