@@ -73,7 +73,7 @@ facts_same (k ∷ ks) = ap (λ (fs : List Fact). k.facts ++ fs) (later k.fault (
     later None h = h
     later (Some f) h = sym (facts_hidden ks)
 
-fault_moved : (line : ℕ) (p : Pos) (text : List ℕ) → syntax_finding (record { line = line + p.line; col = p.col }) text ≡ moved line (syntax_finding p text)
+pub fault_moved : (line : ℕ) (p : Pos) (text : List ℕ) → syntax_finding (record { line = line + p.line; col = p.col }) text ≡ moved line (syntax_finding p text)
 fault_moved line p text =
     let e : line + p.line + 1 ≡ line + (p.line + 1) = omega arith in
     ap (λ (n : ℕ). record { line = n; column = p.col + 1; rule = Syntax; message = (syntax_finding p text).message }) e

@@ -1,11 +1,13 @@
 -- What follows of optional values, and of one report and its parts.
-use Rattle.std.proofs.Common.{◌≡◌, ℕ, Bool, true, false, List, [], Option, Some, None, refl, ap, sym, subst, ◌∙◌, arith}
+use Rattle.std.proofs.Common.{◌≡◌, ◌≤◌, ℕ, Bool, length, true, false, List, Option, Some, None, refl, ap, sym, subst, ◌∙◌, arith}
 use Rattle.std.proofs.lemmas.List.{map-append}
+use Rattle.std.specs.List.{splice}
 use Rattle.std.specs.Option.{SomeIff}
 use Rattle.std.specs.Prelude.{not, IfSome, IfOk, Result, Ok, Err, ◌++◌, map}
 use Rattle.yl_text.specs.declared.finding.RuleId.{RuleId}
 use Rattle.yl_text.specs.Finding.{FindingValue}
 use Rattle.yl_text.specs.Lines.{RowValue}
+use Rattle.yl_text.specs.Store.{IsRange}
 use Rattle.yl_indentation.specs.declared.measure.Measure.{Measure}
 use Rattle.yl_indentation.specs.declared.options.IndentationOptions.{IndentationOptions}
 use Rattle.yl_rules.specs.Levels.{LevelTable}
@@ -13,8 +15,11 @@ use Rattle.yl_settings.specs.declared.options.RuleOptions.{RuleOptions}
 use Rattle.yl_report.specs.Report.{report_of}
 use Rattle.yl_sections.specs.Kept.{KeptValue}
 use Rattle.yl_lint.specs.TextReport.{findings_in_sections, moved}
+use Rattle.yl_patch.specs.Cut.{IsInside}
 use Rattle.yl_patch.specs.There.{found_there, lines_there}
 use Rattle.yl_patch.specs.declared.touched.Ends.{Ends}
+use Rattle.yl_patch.specs.declared.touched.Touched.{Touched}
+use Rattle.yl_patch.proofs.Renewed.{spliced_length}
 use Rattle.yl_patch.proofs.Sections.{sections_moved}
 
 pub is_so : (b : Bool) → not b ≡ false → b ≡ true
@@ -54,12 +59,11 @@ all_moved o e whole before down rows ks =
     ∙ sym (map-append (moved down) (lines_there o e rows) (findings_in_sections o.indentation whole 0 before ks))
 
 -- the same, put together
-pub put_together : (o : RuleOptions) (e : Ends) (whole before : Measure) (down : ℕ) (rows : List RowValue) (ks : List KeptValue) (p : IndentationOptions) (start lines first last : List FindingValue)
-    → start ≡ [] → lines ≡ lines_there o e rows → first ≡ start ++ map (moved down) lines → p ≡ o.indentation → last ≡ first ++ findings_in_sections p whole down before ks
-    → last ≡ map (moved down) (found_there o e whole before rows ks)
-put_together o e whole before down rows ks p start lines first last none in_lines moved_lines options all =
+pub put_together : (o : RuleOptions) (e : Ends) (whole before : Measure) (down : ℕ) (rows : List RowValue) (ks : List KeptValue) (p : IndentationOptions) (first last : List FindingValue)
+    → first ≡ map (moved down) (lines_there o e rows) → p ≡ o.indentation → last ≡ first ++ findings_in_sections p whole down before ks → last ≡ map (moved down) (found_there o e whole before rows ks)
+put_together o e whole before down rows ks p first last in_lines options all =
     all
-    ∙ (ap (λ (fs : List FindingValue). fs ++ findings_in_sections p whole down before ks) (moved_lines ∙ (ap (λ (fs : List FindingValue). fs ++ map (moved down) lines) none ∙ ap (map (moved down)) in_lines))
+    ∙ (ap (λ (fs : List FindingValue). fs ++ findings_in_sections p whole down before ks) in_lines
     ∙ (ap (λ (q : IndentationOptions). map (moved down) (lines_there o e rows) ++ findings_in_sections q whole down before ks) options ∙ all_moved o e whole before down rows ks))
 
 pub same_there : (o : RuleOptions) (e : Ends) (w v b d : Measure) (xs ys : List RowValue) (ks : List KeptValue) → w ≡ v → b ≡ d → xs ≡ ys → found_there o e w b xs ks ≡ found_there o e v d ys ks
@@ -68,3 +72,12 @@ same_there o e w v b d xs ys ks f g h = rw (f, g, h) refl
 pub then_each : {X : Type 0} {P Q R S T : X → Type 0} (o : Option X) → IfSome o P → IfSome o Q → IfSome o R → IfSome o S → ((x : X) → P x → Q x → R x → S x → T x) → IfSome o T
 then_each None p q r s f = tt
 then_each (Some x) p q r s f = f x p q r s
+
+-- the touched lines lie in the new text
+pub window_fits : (rows ins edited : List RowValue) (a b : ℕ) (t : Touched) → a ≤ b → b ≤ length rows → IsInside t a b (length ins) (length rows) → edited ≡ splice rows a b ins → IsRange t.first t.new_end (length edited)
+window_fits rows ins edited a b t l m inside is =
+    let n = spliced_length rows ins a b l m in
+    let here = ap (λ (xs : List RowValue). length xs) is in record {
+      ordered = omega (arith, inside.new_some);
+      within = omega (arith, inside.fits, inside.back, n, here);
+    }

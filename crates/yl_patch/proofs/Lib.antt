@@ -18,3 +18,5 @@ pub mod StayedAfter
 pub mod Walks
 pub mod Given
 pub mod WithoutSilences
+pub mod WithoutFaults
+pub mod UnderFault

@@ -170,15 +170,15 @@ module _ (levels : LevelTable) (s : RuleId → ℕ → Bool) (o : RuleOptions) (
 
 -- ---- a list of problems, patched
 
-prefix_by : (p : ProblemValue → Bool) (xs ys : List ProblemValue) → AllByRecursion (λ x. p x ≡ true) xs → AllByRecursion (λ x. p x ≡ false) ys → prefix_len p (xs ++ ys) ≡ length xs
+pub prefix_by : (p : ProblemValue → Bool) (xs ys : List ProblemValue) → AllByRecursion (λ x. p x ≡ true) xs → AllByRecursion (λ x. p x ≡ false) ys → prefix_len p (xs ++ ys) ≡ length xs
 prefix_by p [] [] h k = refl
 prefix_by p [] (y ∷ ys) h k = ap (λ b. cond b (1 + prefix_len p ys) 0) k.0
 prefix_by p (x ∷ xs) ys h k = ap (λ b. cond b (1 + prefix_len p (xs ++ ys)) 0) h.0 ∙ omega (arith, prefix_by p xs ys h.1 k)
 
-take_front : {X : Type 0} (xs ys : List X) → take (length xs) (xs ++ ys) ≡ xs
+pub take_front : {X : Type 0} (xs ys : List X) → take (length xs) (xs ++ ys) ≡ xs
 take_front xs ys = same_lists _ _ (search (rules, places)) (λ k d h. grind (arith, places))
 
-drop_front : {X : Type 0} (xs ys : List X) → drop (length xs) (xs ++ ys) ≡ ys
+pub drop_front : {X : Type 0} (xs ys : List X) → drop (length xs) (xs ++ ys) ≡ ys
 drop_front xs ys = same_lists _ _ (search (rules, places)) (λ k d h. grind (arith, places))
 
 abbrev InLines : ℕ → ℕ → List ProblemValue → Type 0
@@ -187,11 +187,11 @@ InLines low high ps = AllByRecursion (λ p. (low < p.line) × (p.line ≤ high))
 abbrev Above : ℕ → List ProblemValue → Type 0
 Above n ps = AllByRecursion (λ p. n < p.line) ps
 
-upto_true : (n low high : ℕ) (ps : List ProblemValue) → high ≤ n → InLines low high ps → AllByRecursion (λ p. is_upto n p ≡ true) ps
+pub upto_true : (n low high : ℕ) (ps : List ProblemValue) → high ≤ n → InLines low high ps → AllByRecursion (λ p. is_upto n p ≡ true) ps
 upto_true n low high [] l h = tt
 upto_true n low high (p ∷ ps) l h = (le-leb p.line n (omega (arith, l, h.0.1)), upto_true n low high ps l h.1)
 
-upto_false : (n m : ℕ) (ps : List ProblemValue) → n ≤ m → Above m ps → AllByRecursion (λ p. is_upto n p ≡ false) ps
+pub upto_false : (n m : ℕ) (ps : List ProblemValue) → n ≤ m → Above m ps → AllByRecursion (λ p. is_upto n p ≡ false) ps
 upto_false n m [] l h = tt
 upto_false n m (p ∷ ps) l h = (lt-leb p.line n (omega (arith, l, h.0)), upto_false n m ps l h.1)
 

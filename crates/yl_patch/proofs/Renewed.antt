@@ -71,7 +71,7 @@ module _ (config : Config) (first : List ℕ) (end : Pos) (rows : List RowValue)
 abbrev pub report_with : Config → List ℕ → List RowValue → List KeptValue → List ProblemValue
 report_with config first rows ks = report_of_kept config (findings_in_lines (options_of config) rows) first (end_of_lines rows) ks
 
-report_is : (config : Config) (first : List ℕ) (rows : List RowValue) (ks : List KeptValue) → AllByRecursion IsPlain ks → disables_file first ≡ false
+pub report_is : (config : Config) (first : List ℕ) (rows : List RowValue) (ks : List KeptValue) → AllByRecursion IsPlain ks → disables_file first ≡ false
     → report_with config first rows ks ≡ arranged (levels_of config) (is_silenced (comments_in_sections 0 ks)) (part (options_of config) (measured ks) true true empty_measure rows ks)
 report_is config first rows ks plain loud = plain_report config first (end_of_lines rows) rows ks plain loud
 

@@ -12,8 +12,7 @@ use Rattle.yl_report.specs.Heard.{heard, is_heard}
 use Rattle.yl_report.specs.Report.{ProblemValue, is_syntax}
 use Rattle.yl_lint.specs.TextReport.{comments_in_sections, first_text, report_by, shown, unless_fault}
 use Rattle.yl_lint.specs.Unsilenced.{IsHeardOfText, unsilenced_by}
-use Rattle.yl_patch.specs.Plain.{IsOverviewOf, IsSilencingOf, IsSilent, IsSound, IsSoundUpto}
-use Rattle.yl_patch.specs.declared.overview.Overview.{Overview}
+use Rattle.yl_patch.specs.Plain.{IsSilencingOf, IsSilent, IsSound, IsSoundUpto}
 use Rattle.yl_patch.specs.declared.silencing.Silencing.{Silencing}
 use Rattle.yl_patch.proofs.Edited.{comments_same}
 use Rattle.yl_patch.proofs.Sections.{no_comments}
@@ -47,11 +46,11 @@ all_heard [] = refl
 all_heard (p ∷ ps) = ap (λ (qs : List ProblemValue). cond (is_syntax p.rule || true) (p ∷ qs) qs) (all_heard ps) ∙ passes (is_syntax p.rule) p ps
 
 -- what no section and no first line silences is the report
-pub unsilenced_so : (config : Config) (rows : List RowValue) (ks : List KeptValue) (o : Overview) → IsHeardOfText → IsOverviewOf ks o → o.is_plain ≡ true → o.silencing.end ≤ o.silencing.from
-    → disables_file (first_text rows) ≡ false → report_by config rows ks ≡ unsilenced_by config rows ks
-unsilenced_so config rows ks o law known plain none loud =
+pub quiet_so : (config : Config) (rows : List RowValue) (ks : List KeptValue) (s : Silencing) → IsHeardOfText → IsSilencingOf ks s → s.end ≤ s.from → disables_file (first_text rows) ≡ false
+    → report_by config rows ks ≡ unsilenced_by config rows ks
+quiet_so config rows ks s law known none loud =
     let u = unsilenced_by config rows ks in
-    let silent = subst (λ (xs : List KeptValue). AllByRecursion IsSilent xs) (take_all (length ks) ks (omega arith)) (none_before ks o.silencing (length ks) (known plain).silencing (omega arith) none) in
+    let silent = subst (λ (xs : List KeptValue). AllByRecursion IsSilent xs) (take_all (length ks) ks (omega arith)) (none_before ks s (length ks) known (omega arith) none) in
     sym (law config rows ks)
     ∙ (ap (λ (b : Bool). heard b (is_silenced (comments_in_sections 0 (shown ks))) u) loud
     ∙ (ap (λ (cs : List PlacedCommentValue). heard false (is_silenced cs) u) (no_comments 0 (shown ks) (silent_shown ks silent)) ∙ all_heard u))

@@ -35,7 +35,7 @@ use Rattle.yl_patch.proofs.Shown.{none_alike}
 
 -- ---- sections without their comments
 
-abbrev bare : KeptValue → KeptValue
+abbrev pub bare : KeptValue → KeptValue
 bare k = record k { comments = [] }
 
 abbrev pub all_bare : List KeptValue → List KeptValue
@@ -49,7 +49,7 @@ shown_bare (k ∷ ks) = ap (λ (ls : List KeptValue). bare k ∷ ls) (later k.fa
     later None h = h
     later (Some f) h = refl
 
-no_comments : (line : ℕ) (ks : List KeptValue) → comments_in_sections line (all_bare ks) ≡ []
+pub no_comments : (line : ℕ) (ks : List KeptValue) → comments_in_sections line (all_bare ks) ≡ []
 no_comments line [] = refl
 no_comments line (k ∷ ks) = no_comments (line + k.rows) ks
 
@@ -57,7 +57,7 @@ facts_bare : (ks : List KeptValue) → facts_in_sections (all_bare ks) ≡ facts
 facts_bare [] = refl
 facts_bare (k ∷ ks) = ap (λ (fs : List Fact). k.facts ++ fs) (facts_bare ks)
 
-measured_bare : (ks : List KeptValue) → measured (all_bare ks) ≡ measured ks
+pub measured_bare : (ks : List KeptValue) → measured (all_bare ks) ≡ measured ks
 measured_bare ks = ap measure_of (facts_bare ks)
 
 fault_bare : (line : ℕ) (end : Pos) (ks : List KeptValue) → fault_in_sections line end (all_bare ks) ≡ fault_in_sections line end ks
@@ -89,7 +89,7 @@ settled_bare h (k ∷ ks) = ap (λ (l : KeptValue). l ∷ settled_below (h || is
     one true = refl
     one false = refl
 
-rows_bare : (ks : List KeptValue) → rows_kept (all_bare ks) ≡ rows_kept ks
+pub rows_bare : (ks : List KeptValue) → rows_kept (all_bare ks) ≡ rows_kept ks
 rows_bare [] = refl
 rows_bare (k ∷ ks) = ap (λ (n : ℕ). k.rows + n) (rows_bare ks)
 
@@ -97,7 +97,7 @@ hides_bare : (h : Bool) (ks : List KeptValue) → hides_below h (all_bare ks) �
 hides_bare h [] = refl
 hides_bare h (k ∷ ks) = hides_bare (h || is_some k.fault) ks
 
-plain_bare : (ks : List KeptValue) → AllByRecursion IsPlain ks → AllByRecursion IsPlain (all_bare ks)
+pub plain_bare : (ks : List KeptValue) → AllByRecursion IsPlain ks → AllByRecursion IsPlain (all_bare ks)
 plain_bare [] p = tt
 plain_bare (k ∷ ks) p = (record { sound = p.0.sound; found = p.0.found; facts = p.0.facts; comments = tt }, plain_bare ks p.1)
 
@@ -130,7 +130,7 @@ bare_report config in_lines end ks =
     ap (report_of l false (is_silenced [])) (found_bare config in_lines end ks)
     ∙ ap (λ (cs : List PlacedCommentValue). report_of l false (is_silenced cs) (found_of_kept config in_lines end (all_bare ks))) (sym (ap (comments_in_sections 0) (shown_bare ks) ∙ no_comments 0 (shown ks)))
 
-unsilenced_with : (config : Config) (rows : List RowValue) (ks : List KeptValue) → unsilenced_by config rows ks ≡ report_with config [] rows (all_bare ks)
+pub unsilenced_with : (config : Config) (rows : List RowValue) (ks : List KeptValue) → unsilenced_by config rows ks ≡ report_with config [] rows (all_bare ks)
 unsilenced_with config rows ks = bare_report config (findings_in_lines (options_of config) rows) (end_of_lines rows) ks
 
 there_bare : (o : RuleOptions) (e : Ends) (w before : Measure) (rows : List RowValue) (ks : List KeptValue) → found_there o e w before rows ks ≡ found_there o e w before rows (all_bare ks)

@@ -1,4 +1,5 @@
 pub mod Cut
+pub mod Faultless
 pub mod InLines
 pub mod Patched
 pub mod Plain

@@ -24,6 +24,18 @@ sections_between from end ks = take (end - from) (drop from ks)
 abbrev pub new_lines_of : Touched → ℕ → ℕ → List RowValue → List RowValue → List RowValue
 new_lines_of t a b rows ins = take (t.new_end - t.first) (drop t.first (splice rows a b ins))
 
+-- the edit lies in the touched lines, which stand apart from those above and behind: these are so many rows, and the new ones so many
+pub record IsCut (rows ins : List RowValue) (a b from_row end_row count : ℕ) (t : Touched) (e : Ends) : Type 0 where
+  pub inside : IsInside t a b (length ins) (length rows)
+  pub first : t.first ≡ from_row
+  pub old_end : t.old_end ≡ end_row
+  pub new_end : t.new_end ≡ t.first + count
+  pub begins_text : e.begins ≡ (t.first == 0)
+  pub ends_text : e.ends ≡ (t.old_end == length rows)
+  pub old_seam : e.begins ≡ false → is_filled (slice_get rows t.first) ≡ true
+  pub new_seam : e.begins ≡ false → is_filled (slice_get (splice rows a b ins) t.first) ≡ true
+  pub behind_seam : e.ends ≡ false → is_filled (slice_get rows t.old_end) ≡ true
+
 -- in their lines, which may begin the text and end it, this is found, where those above are hidden or not; the edit changes neither
 -- what they hide nor the measure up to their end, and the lines that it touches are theirs
 pub record IsSeen (config : Config) (rows ins : List RowValue) (kept new : List KeptValue) (a b from end sound : ℕ) (t : Touched) (hidden : Bool) (found : List FindingValue) : Type 0 where

@@ -7,6 +7,8 @@
 #![tactic(auto)]
 
 mod comments;
+mod faultless;
+mod hidden;
 mod in_lines;
 mod loud;
 mod overview;
@@ -24,10 +26,12 @@ mod touched;
 mod whole;
 mod window;
 
+pub use faultless::{Faultless, faultless_after, faultless_of, overview_of_faultless};
+pub use hidden::hidden_report;
 pub use in_lines::patched_lines;
 pub use overview::{Overview, SectionEdit, overview_after, overview_of, overview_renewed};
-pub use patching::{patched_report, patched_unsilenced};
+pub use patching::{patched_faultless, patched_report, patched_unsilenced};
 pub use shifting::{ReportPatch, put_patch};
 pub use silencing::Silencing;
 pub use stayed::Stayed;
-pub use whole::{is_unsilenced, silences_of_text};
+pub use whole::{is_quiet, is_unsilenced, silences_of_text};

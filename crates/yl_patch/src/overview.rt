@@ -5,10 +5,11 @@ ghost use Rattle.yl_text.specs.Store.{IsRange};
 ghost use Rattle.yl_indentation.specs.Measures.{measure_of};
 ghost use Rattle.yl_rejudge.specs.Places.{rows_kept};
 ghost use Rattle.yl_lint.specs.TextReport.{facts_in_sections};
+ghost use Rattle.yl_patch.specs.Faultless.{faultless};
 ghost use Rattle.yl_patch.specs.Plain.{IsOverviewOf, IsPlain, IsSoundUpto};
 ghost use Rattle.yl_patch.specs.Settled.{LeavesBelow, hides_below, measure_upto, settled, settled_below};
 
-use crate::plain::{are_all_plain, are_plain};
+use crate::plain::{are_all_plain, are_plain, are_plain_but_faults};
 use crate::silencing::{Silencing, silencing_after, silencing_of, silencing_of_all};
 use crate::sound::{
     count_all_sound, count_sound, has_fault, hides, hides_before, hides_between, sound_after,
@@ -235,6 +236,71 @@ pub fn is_alike<A: Allocator + Copy>(
         return true;
     }
     are_shown_alike(kept, from, end, above, new)
+}
+
+/// The measure of all facts of these sections, whatever a fault hides.
+fn measure_of_facts<A: Allocator>(kept: &[Kept<A>]) -> Measure
+    ensures { result ≡ measure_of (facts_in_sections kept.now) }
+{
+    let mut measure = Measure::empty();
+    for one in kept {
+        measure = measure.and_later(one.measure());
+    }
+    measure
+}
+
+/// The same of the sections from one on, before `end`.
+fn measure_of_facts_between<A: Allocator + Copy>(
+    kept: &Chunks<Kept<A>, A>,
+    from: usize,
+    end: usize,
+) -> Measure
+    requires { IsRange from end (length kept.now.items) }
+    ensures { result ≡ measure_of (facts_in_sections (take (end - from) (drop from kept.now.items))) }
+{
+    let mut measure = Measure::empty();
+    for i in 0..end - from {
+        measure = measure.and_later(kept.get(from + i).measure());
+    }
+    measure
+}
+
+/// The same of the sections before one, where that of all is this. It looks no further once it is found.
+pub fn measure_of_facts_before<A: Allocator + Copy>(
+    kept: &Chunks<Kept<A>, A>,
+    from: usize,
+    whole: Measure,
+) -> Measure
+    requires within { from ≤ length kept.now.items }
+    requires whole { whole ≡ measure_of (facts_in_sections kept.now.items) }
+    ensures { result ≡ measure_of (facts_in_sections (take from kept.now.items)) }
+{
+    let mut measure = Measure::empty();
+    for i in 0..from {
+        if is_same_measure(measure, whole) {
+            return measure;
+        }
+        measure = measure.and_later(kept.get(i).measure());
+    }
+    measure
+}
+
+/// Whether the new sections are plain but for their faults, and behind facts of the measure `above` leave the measure of all facts as those
+/// from one on, before `end`, do.
+pub fn are_alike_but_faults<A: Allocator + Copy>(
+    kept: &Chunks<Kept<A>, A>,
+    from: usize,
+    end: usize,
+    above: Measure,
+    new: &[Kept<A>],
+) -> bool
+    requires { IsRange from end (length kept.now.items) }
+    ensures plain { result ≡ true → AllByRecursion IsPlain (faultless new.now) }
+    ensures measure { result ≡ true → measure_upto above (take (end - from) (drop from kept.now.items)) ≡ measure_upto above new.now }
+{
+    let old = measure_of_facts_between(kept, from, end);
+    are_plain_but_faults(new)
+        && is_same_measure(above.and_later(old), above.and_later(measure_of_facts(new)))
 }
 
 /// The overview once the sections are edited. It looks at those of the edit alone, and says that sections are plain only where they were.

@@ -8,13 +8,15 @@ ghost use Rattle.yl_report.specs.Silence.{is_file_silenced_by, is_silenced_at};
 ghost use Rattle.yl_rejudge.specs.Places.{rows_kept};
 ghost use Rattle.yl_lint.specs.TextReport.{report_by};
 ghost use Rattle.yl_lint.specs.Unsilenced.{unsilenced_by};
+ghost use Rattle.yl_patch.specs.Faultless.{IsFaultless, faultless_by};
 ghost use Rattle.yl_patch.specs.Patched.{IsLow, is_upto, patched};
 ghost use Rattle.yl_patch.specs.Plain.{IsOverviewOf};
 
+use crate::faultless::Faultless;
 use crate::loud::is_loud;
 use crate::overview::{Overview, SectionEdit};
 use crate::places::count_upto;
-use crate::seen::{SeenEdit, see_edit};
+use crate::seen::{SeenEdit, see_edit, see_faultless};
 use crate::shifting::{ReportPatch, are_low};
 use crate::silencing::silences_upto;
 use crate::sound::{shown_before, shown_of};
@@ -147,5 +149,39 @@ pub fn patched_unsilenced<S: LineStore>(
         return Ok(None);
     };
     let patch = patch_of(alloc, config, problems, seen, &Silences::none(alloc))?;
+    Ok(patch)
+}
+
+/// The same of what would be reported if no comment silenced anything and no section had a fault.
+pub fn patched_faultless<S: LineStore>(
+    alloc: S::Alloc,
+    config: &Config,
+    store: &S,
+    a: usize,
+    b: usize,
+    rows: &[Row<S::Alloc>],
+    kept: &Chunks<Kept<S::Alloc>, S::Alloc>,
+    known: Faultless,
+    edit: &SectionEdit<'_, S::Alloc>,
+    problems: &[Problem<S::Alloc>],
+) -> Result<Option<ReportPatch<S::Alloc>>, AllocError>
+    requires range { IsRange a b (length (S.rows store.now)) }
+    requires few { length (S.rows store.now) + length rows.now < 2 ^ 64 }
+    requires known { IsFaultless kept.now.items known }
+    requires kept_range { IsRange edit.now.from edit.now.end (length kept.now.items) }
+    requires from_row { edit.now.from_row ≡ rows_kept (take edit.now.from kept.now.items) }
+    requires end_row { edit.now.end_row ≡ rows_kept (take edit.now.end kept.now.items) }
+    requires problems { problems.now ≡ faultless_by config.now (S.rows store.now) kept.now.items }
+    ensures range { IfOk result (λ o. IfSome o (λ p. IsRange p.from p.end (length problems.now))) }
+    ensures low { IfOk result (λ o. IfSome o (λ p. AllByRecursion IsLow (drop p.end problems.now))) }
+    ensures report { IfOk result (λ o. IfSome o (λ p. patched p.from p.end p.problems.items p.up p.down problems.now ≡ faultless_by config.now (splice (S.rows store.now) a b rows.now) (splice kept.now.items edit.now.from edit.now.end edit.now.kept.now))) }
+{
+    let whole = known.whole;
+    let seen = see_faultless(alloc, config, store, a, b, rows, kept, whole, edit)?;
+    let Some(seen) = seen else {
+        return Ok(None);
+    };
+    let nothing = Silences::none(alloc);
+    let patch = patch_of(alloc, config, problems, seen, &nothing)?;
     Ok(patch)
 }

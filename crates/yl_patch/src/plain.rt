@@ -3,6 +3,7 @@ ghost use Rattle.std.specs.Prelude.{◌≡◌, ◌<◌, ◌≤◌, true, false};
 ghost use Rattle.std.specs.List.{AllByRecursion};
 ghost use Rattle.std.specs.Option.{option_map};
 ghost use Rattle.yl_sections.specs.Owned.{section_fault_value};
+ghost use Rattle.yl_patch.specs.Faultless.{faultless, faultless_one};
 ghost use Rattle.yl_patch.specs.Plain.{IsPlain, IsWithin};
 ghost use Rattle.yl_patch.specs.Settled.{IsFaultWithin, settled, settled_one};
 
@@ -100,6 +101,29 @@ pub fn are_all_plain<A: Allocator + Copy>(sections: &Spliced<'_, Kept<A>, A>) ->
         }
         if has_fault(one) {
             return true;
+        }
+    }
+    true
+}
+
+/// Whether all stands in the section's own lines that was found in it but its fault, and each comment that silences.
+fn is_plain_but_fault<A: Allocator>(kept: &Kept<A>) -> bool
+    ensures { result ≡ true → IsPlain (faultless_one kept.now) }
+{
+    let rows = kept.rows();
+    if !are_within(kept.found(), rows) || !are_facts_within(kept.facts(), rows) {
+        return false;
+    }
+    are_comments_within(kept.comments(), rows)
+}
+
+/// Whether all of these are.
+pub fn are_plain_but_faults<A: Allocator>(kept: &[Kept<A>]) -> bool
+    ensures { result ≡ true → AllByRecursion IsPlain (faultless kept.now) }
+{
+    for one in kept {
+        if !is_plain_but_fault(one) {
+            return false;
         }
     }
     true

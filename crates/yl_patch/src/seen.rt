@@ -3,18 +3,25 @@ ghost use Rattle.std.specs.Prelude.{◌≡◌, ◌<◌, ◌+◌, ◌^◌, true, 
 ghost use Rattle.std.specs.List.{splice};
 ghost use Rattle.yl_text.specs.Store.{AreLines, IsRange};
 ghost use Rattle.yl_rejudge.specs.Places.{rows_kept};
+ghost use Rattle.yl_indentation.specs.Measures.{measure_of};
+ghost use Rattle.yl_lint.specs.TextReport.{facts_in_sections};
+ghost use Rattle.std.specs.List.{AllByRecursion};
 ghost use Rattle.yl_patch.specs.Cut.{is_filled};
-ghost use Rattle.yl_patch.specs.Plain.{IsOverviewOf};
-ghost use Rattle.yl_patch.specs.Seen.{IsSeen};
+ghost use Rattle.yl_patch.specs.Faultless.{faultless};
+ghost use Rattle.yl_patch.specs.Plain.{IsOverviewOf, IsPlain};
+ghost use Rattle.yl_patch.specs.Seen.{IsCut, IsSeen};
 
-use crate::overview::{Overview, SectionEdit, is_alike, measure_above};
+use crate::overview::{
+    Overview, SectionEdit, are_alike_but_faults, is_alike, measure_above, measure_of_facts_before,
+};
 use crate::sound::{hides_before, shown_of};
-use crate::there::find_there;
+use crate::there::{find_there, find_without_faults};
 use crate::touched::{Ends, Touched, ends_of, find_touched, is_filled, is_inside};
 use crate::window::Window;
 use std::alloc::{AllocError, Allocator};
 use yl_chunks::Chunks;
 use yl_config::Config;
+use yl_indentation::Measure;
 use yl_sections::Kept;
 use yl_text::{Finding, LineStore, Lines, Patched, Row};
 
@@ -43,6 +50,35 @@ fn is_cut<L: Lines, M: Lines>(old: &L, new: &M, touched: Touched, ends: Ends) ->
     is_seam(ends.begins, old, touched.first as usize)
         && is_seam(ends.begins, new, touched.first as usize)
         && is_seam(ends.ends, old, touched.old_end as usize)
+}
+
+/// Where an edit lies: the touched lines, and whether they begin and end the text.
+#[derive(Clone, Copy, Debug)]
+struct CutEdit {
+    touched: Touched,
+    ends: Ends,
+}
+
+/// Where the edit lies that puts these rows in place of the lines a to b; none where the touched lines are not apart from the others.
+fn cut_edit<S: LineStore>(
+    store: &S,
+    a: usize,
+    b: usize,
+    rows: &[Row<S::Alloc>],
+    edit: &SectionEdit<'_, S::Alloc>,
+) -> Option<CutEdit>
+    requires range { IsRange a b (length (S.rows store.now)) }
+    requires few { length (S.rows store.now) + length rows.now < 2 ^ 64 }
+    ensures { IfSome result (λ c. IsCut (S.rows store.now) rows.now a b edit.now.from_row edit.now.end_row (rows_kept edit.now.kept.now) c.touched c.ends) }
+{
+    let touched = find_touched(edit.from_row, edit.end_row, edit.kept)?;
+    let patched = Patched::new(store, a, b, rows);
+    let lines = store.len();
+    let ends = ends_of(touched, lines);
+    if !is_inside(touched, a, b, rows.len(), lines) || !is_cut(store, &patched, touched, ends) {
+        return None;
+    }
+    Some(CutEdit { touched, ends })
 }
 
 /// What is seen of the edit that puts these rows in place of the lines a to b, whatever comments say; none where it does not show that what
@@ -78,15 +114,11 @@ pub fn see_edit<S: LineStore>(
     if !is_alike(hidden, kept, edit.from, edit.end, before, edit.kept) {
         return Ok(None);
     }
-    let Some(touched) = find_touched(edit.from_row, edit.end_row, edit.kept) else {
+    let Some(cut) = cut_edit(store, a, b, rows, edit) else {
         return Ok(None);
     };
+    let (touched, ends) = (cut.touched, cut.ends);
     let patched = Patched::new(store, a, b, rows);
-    let lines = store.len();
-    let ends = ends_of(touched, lines);
-    if !is_inside(touched, a, b, rows.len(), lines) || !is_cut(store, &patched, touched, ends) {
-        return Ok(None);
-    }
     let window = Window::new(patched, touched.first as usize, touched.new_end as usize);
     let shown = shown_of(hidden, edit.kept);
     let found = find_there(
@@ -102,6 +134,46 @@ pub fn see_edit<S: LineStore>(
     Ok(Some(SeenEdit {
         touched,
         hidden,
+        found,
+    }))
+}
+
+/// What is seen of the same edit if no section has a fault or shows it, where the facts of all sections have this measure.
+pub fn see_faultless<S: LineStore>(
+    alloc: S::Alloc,
+    config: &Config,
+    store: &S,
+    a: usize,
+    b: usize,
+    rows: &[Row<S::Alloc>],
+    kept: &Chunks<Kept<S::Alloc>, S::Alloc>,
+    whole: Measure,
+    edit: &SectionEdit<'_, S::Alloc>,
+) -> Result<Option<SeenEdit<S::Alloc>>, AllocError>
+    requires range { IsRange a b (length (S.rows store.now)) }
+    requires few { length (S.rows store.now) + length rows.now < 2 ^ 64 }
+    requires plain { AllByRecursion IsPlain (faultless kept.now.items) }
+    requires whole { whole ≡ measure_of (facts_in_sections kept.now.items) }
+    requires kept_range { IsRange edit.now.from edit.now.end (length kept.now.items) }
+    requires from_row { edit.now.from_row ≡ rows_kept (take edit.now.from kept.now.items) }
+    requires end_row { edit.now.end_row ≡ rows_kept (take edit.now.end kept.now.items) }
+    ensures { IfOk result (λ o. IfSome o (λ s. IsSeen config.now (S.rows store.now) rows.now (faultless kept.now.items) (faultless edit.now.kept.now) a b edit.now.from edit.now.end 0 s.touched false s.found.items)) }
+{
+    let before = measure_of_facts_before(kept, edit.from, whole);
+    if !are_alike_but_faults(kept, edit.from, edit.end, before, edit.kept) {
+        return Ok(None);
+    }
+    let Some(cut) = cut_edit(store, a, b, rows, edit) else {
+        return Ok(None);
+    };
+    let (touched, ends) = (cut.touched, cut.ends);
+    let patched = Patched::new(store, a, b, rows);
+    let window = Window::new(patched, touched.first as usize, touched.new_end as usize);
+    let (down, new) = (touched.first, edit.kept);
+    let found = find_without_faults(alloc, config, ends, &window, down, whole, before, new)?;
+    Ok(Some(SeenEdit {
+        touched,
+        hidden: false,
         found,
     }))
 }

@@ -18,7 +18,7 @@ use yl_sections::{Kept, SectionFault};
 use yl_text::{Finding, Lines, Pos, RuleId};
 
 /// The problem of a fault at this place of a section that begins at `line`.
-fn fault_finding<A: Allocator + Copy>(
+pub fn fault_finding<A: Allocator + Copy>(
     alloc: A,
     line: u32,
     place: Pos,
@@ -89,6 +89,28 @@ fn push_sections<A: Allocator + Copy>(
     Ok(())
 }
 
+/// The same of all of these sections, and not their faults.
+fn push_sections_without_faults<A: Allocator + Copy>(
+    alloc: A,
+    options: &IndentationOptions,
+    whole: Measure,
+    down: u32,
+    before: Measure,
+    kept: &[Kept<A>],
+    found: &mut Vec<Finding<A>, A>,
+) -> Result<(), AllocError>
+    ensures { OnOk result (found.new.items ≡ found.old.items ++ findings_in_sections options.now whole down before kept.now) }
+{
+    let mut line = down;
+    let mut here = before;
+    for one in kept {
+        push_section(alloc, options, whole, line, here, one, found)?;
+        line = line_below(line, one.rows())?;
+        here = here.and_later(one.measure());
+    }
+    Ok(())
+}
+
 /// Whether a rule judges lines that begin a text or not, and end it or not.
 fn judges(ends: Ends, rule: RuleId) -> bool
     ensures { result ≡ spec.judges ends rule }
@@ -114,6 +136,22 @@ fn find_in_some_lines<L: Lines>(
     Ok(found)
 }
 
+/// The same, where the first of them stands `down` lines below the first of the text.
+fn find_in_lines_there<L: Lines>(
+    alloc: L::Alloc,
+    config: &Config,
+    ends: Ends,
+    lines: &L,
+    down: u32,
+) -> Result<Vec<Finding<L::Alloc>, L::Alloc>, AllocError>
+    ensures { IfOk result (λ v. v.items ≡ map (moved down) (lines_there (options_of config.now) ends (L.rows lines.now))) }
+{
+    let in_lines = find_in_some_lines(alloc, config, ends, lines)?;
+    let mut found = Vec::new(alloc);
+    push_moved(alloc, down, &in_lines, &mut found)?;
+    Ok(found)
+}
+
 /// What is found in these lines, of which the first stands `down` lines below the first of the text, and in the sections that have them.
 pub fn find_there<L: Lines>(
     alloc: L::Alloc,
@@ -127,10 +165,27 @@ pub fn find_there<L: Lines>(
 ) -> Result<Vec<Finding<L::Alloc>, L::Alloc>, AllocError>
     ensures { IfOk result (λ v. v.items ≡ map (moved down) (found_there (options_of config.now) ends whole before (L.rows lines.now) (settled kept.now))) }
 {
-    let in_lines = find_in_some_lines(alloc, config, ends, lines)?;
-    let mut found = Vec::new(alloc);
-    push_moved(alloc, down, &in_lines, &mut found)?;
+    let mut found = find_in_lines_there(alloc, config, ends, lines, down)?;
     let options = config.indentation_options();
     push_sections(alloc, options, whole, down, before, kept, &mut found)?;
+    Ok(found)
+}
+
+/// The same of all of these sections, and not their faults.
+pub fn find_without_faults<L: Lines>(
+    alloc: L::Alloc,
+    config: &Config,
+    ends: Ends,
+    lines: &L,
+    down: u32,
+    whole: Measure,
+    before: Measure,
+    kept: &[Kept<L::Alloc>],
+) -> Result<Vec<Finding<L::Alloc>, L::Alloc>, AllocError>
+    ensures { IfOk result (λ v. v.items ≡ map (moved down) (found_there (options_of config.now) ends whole before (L.rows lines.now) kept.now)) }
+{
+    let mut found = find_in_lines_there(alloc, config, ends, lines, down)?;
+    let options = config.indentation_options();
+    push_sections_without_faults(alloc, options, whole, down, before, kept, &mut found)?;
     Ok(found)
 }

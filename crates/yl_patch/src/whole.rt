@@ -7,10 +7,11 @@ ghost use Rattle.yl_report.specs.Silence.{is_file_silenced_by, is_silenced_at};
 ghost use Rattle.yl_sections.specs.Kept.{KeptValue};
 ghost use Rattle.yl_lint.specs.TextReport.{comments_in_sections, first_text, report_by, shown};
 ghost use Rattle.yl_lint.specs.Unsilenced.{unsilenced_by};
-ghost use Rattle.yl_patch.specs.Plain.{IsOverviewOf};
+ghost use Rattle.yl_patch.specs.Plain.{IsOverviewOf, IsSilencingOf};
 
 use crate::loud::is_loud;
 use crate::overview::Overview;
+use crate::silencing::Silencing;
 use std::alloc::{AllocError, Allocator};
 use yl_chunks::Spliced;
 use yl_lexeme::PlacedComment;
@@ -63,6 +64,24 @@ pub fn silences_of_text<L: Lines>(
     Ok(Some(silences))
 }
 
+/// Whether it is seen that no comment silences anything of the report of these lines, whatever is kept of their sections, if these of them
+/// may silence rules; false says nothing. The only error is out of memory.
+pub fn is_quiet<L: Lines>(
+    alloc: L::Alloc,
+    lines: &L,
+    silencing: Silencing,
+) -> Result<bool, AllocError>
+    ensures { IfOk result (λ seen. seen ≡ true → (config : Config) (ks : List KeptValue) → IsSilencingOf ks silencing
+        → report_by config (L.rows lines.now) ks ≡ unsilenced_by config (L.rows lines.now) ks) }
+{
+    if silencing.from < silencing.end {
+        return Ok(false);
+    }
+    heard_of_text();
+    let loud = is_loud(alloc, lines)?;
+    Ok(loud)
+}
+
 /// Whether it is seen that no comment silences anything of the report of these lines, whatever is kept of their sections, if the overview
 /// of that is this; false says nothing. The only error is out of memory.
 pub fn is_unsilenced<L: Lines>(
@@ -73,11 +92,9 @@ pub fn is_unsilenced<L: Lines>(
     ensures { IfOk result (λ seen. seen ≡ true → (config : Config) (ks : List KeptValue) → IsOverviewOf ks overview
         → report_by config (L.rows lines.now) ks ≡ unsilenced_by config (L.rows lines.now) ks) }
 {
-    let silencing = overview.silencing;
-    if !overview.is_plain || silencing.from < silencing.end {
+    if !overview.is_plain {
         return Ok(false);
     }
-    heard_of_text();
-    let loud = is_loud(alloc, lines)?;
-    Ok(loud)
+    let quiet = is_quiet(alloc, lines, overview.silencing)?;
+    Ok(quiet)
 }

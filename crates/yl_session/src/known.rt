@@ -1,5 +1,6 @@
 //! What is kept and known of a text beside its lines and their records.
 
+use crate::faultless::FaultlessReport;
 use crate::in_lines::LinesReport;
 use std::alloc::Allocator;
 use yl_chunks::Chunks;
@@ -8,7 +9,7 @@ use yl_report::Problem;
 use yl_sections::Kept;
 
 /// What is kept of a text's sections and known of all of them, its report, and, once it is known, what would be reported if no comment
-/// silenced anything, and what was reported of the lines alone.
+/// silenced anything, what was reported of the lines alone, and what would be reported if moreover no section had a fault.
 #[derive(Drop)]
 pub struct Known<'a, A: Allocator> {
     pub kept: &'a Chunks<Kept<A>, A>,
@@ -17,4 +18,5 @@ pub struct Known<'a, A: Allocator> {
     pub unsilenced: &'a [Problem<A>],
     pub is_known: bool,
     pub in_lines: &'a Option<LinesReport<A>>,
+    pub faultless: &'a Option<FaultlessReport<A>>,
 }

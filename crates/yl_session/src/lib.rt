@@ -5,6 +5,7 @@
 #![tactic(auto)]
 
 mod beginning;
+mod faultless;
 mod guide;
 mod in_lines;
 mod known;
@@ -13,6 +14,7 @@ mod reading;
 mod renewing;
 mod replaying;
 mod session;
+mod turning;
 mod work;
 
 pub use replaying::{Edit, replay};

@@ -11,12 +11,15 @@ ghost use Rattle.yl_rescan.specs.Held.{AreHeld};
 ghost use Rattle.yl_rejudge.specs.Places.{IsAt, rows_kept};
 ghost use Rattle.yl_patch.specs.Plain.{IsOverviewOf};
 ghost use Rattle.yl_session.specs.Change.{IsFit, Makes};
+ghost use Rattle.yl_session.specs.Faultless.{WouldBeReported};
 ghost use Rattle.yl_session.specs.InLines.{WereReported};
 ghost use Rattle.yl_session.specs.Work.{IsWork};
 
+use crate::faultless::FaultlessReport;
 use crate::guide::{nearest, refresh};
 use crate::known::Known;
-use crate::renewing::{Renewal, Renewals, make_patch_room, renewals_of};
+use crate::renewing::{Renewal, make_patch_room};
+use crate::turning::{Renewals, renewals_of};
 use crate::work::Work;
 use std::alloc::{AllocError, Allocator};
 use yl_chunks::{Chunks, Spliced};
@@ -30,13 +33,14 @@ use yl_sections::Kept;
 use yl_text::{LineStore, Row};
 
 /// What an edit is to change: the records of some rows, what is kept of some sections, and the report, unless it stays; and what is reported
-/// of the lines alone, where that was found.
+/// of the lines alone, where that was found, and would be if no section had a fault.
 #[derive(Drop)]
 pub struct Plan<A: Allocator> {
     pub rescan: Rescanned<A>,
     pub rejudged: Rejudged<A>,
     pub renewal: Renewal<A>,
     pub in_lines: Option<Vec<Problem<A>, A>>,
+    pub faultless: Option<FaultlessReport<A>>,
     pub work: Work,
 }
 
@@ -106,6 +110,7 @@ pub fn planned<S: LineStore>(
     requires problems { known.now.problems.now ≡ report config.now (S.rows store.now) }
     requires known { known.now.is_known ≡ true → known.now.unsilenced.now ≡ unsilenced_by config.now (S.rows store.now) known.now.kept.now.items }
     requires in_lines { IfSome known.now.in_lines.now (λ l. WereReported config.now (S.rows store.now) l.problems.items l.stayed) }
+    requires faultless { IfSome known.now.faultless.now (λ r. WouldBeReported config.now (S.rows store.now) known.now.kept.now.items r.problems.items r.known) }
     ensures range { IfOk result (λ p. IsRange p.rescan.from p.rescan.old_end (length records.now.items)) }
     ensures held { IfOk result (λ p. AreHeld (characters_in (splice (S.rows store.now) a b rows.now)) p.rescan.cut (splice records.now.items p.rescan.from p.rescan.old_end p.rescan.records.items)) }
     ensures kept_range { IfOk result (λ p. IsRange p.rejudged.from p.rejudged.end (length known.now.kept.now.items)) }
@@ -120,6 +125,7 @@ pub fn planned<S: LineStore>(
         → Makes known.now.unsilenced.now (unsilenced_by config.now (splice (S.rows store.now) a b rows.now) (splice known.now.kept.now.items p.rejudged.from p.rejudged.end p.rejudged.kept.items)) p.renewal.unsilenced) }
     ensures overview { IfOk result (λ p. IsOverviewOf (splice known.now.kept.now.items p.rejudged.from p.rejudged.end p.rejudged.kept.items) p.renewal.overview) }
     ensures in_lines { IfOk result (λ p. IfSome p.in_lines (λ v. v.items ≡ reported_in_lines config.now (splice (S.rows store.now) a b rows.now))) }
+    ensures faultless { IfOk result (λ p. IfSome p.faultless (λ f. WouldBeReported config.now (splice (S.rows store.now) a b rows.now) (splice known.now.kept.now.items p.rejudged.from p.rejudged.end p.rejudged.kept.items) f.problems.items f.known)) }
     ensures work { IfOk result (λ p. IsWork (characters_in (S.rows store.now)) (characters_in (splice (S.rows store.now) a b rows.now)) a b (length rows.now) p.work) }
 {
     let mut meter = Meter::new();
@@ -141,12 +147,17 @@ pub fn planned<S: LineStore>(
         )?
     };
     let renewals = renewals_of(alloc, config, store, a, b, rows, known, &rejudged)?;
-    let Renewals { renewal, in_lines } = renewals;
+    let Renewals {
+        renewal,
+        in_lines,
+        faultless,
+    } = renewals;
     Ok(Plan {
         rescan,
         rejudged,
         renewal,
         in_lines,
+        faultless,
         work: Work {
             scanned: meter.lines,
             documents: meter.documents,

@@ -11,9 +11,7 @@ ghost use Rattle.yl_rejudge.specs.Places.{rows_kept};
 ghost use Rattle.yl_patch.specs.Patched.{patched};
 ghost use Rattle.yl_patch.specs.Plain.{IsOverviewOf};
 ghost use Rattle.yl_session.specs.Change.{IsFit, Makes, Patches};
-ghost use Rattle.yl_session.specs.InLines.{WereReported};
 
-use crate::in_lines::lines_after;
 use crate::known::Known;
 use std::alloc::{AllocError, Allocator};
 use yl_chunks::Spliced;
@@ -44,13 +42,6 @@ pub struct Renewal<A: Allocator> {
     pub unsilenced: Change<A>,
     pub is_known: bool,
     pub overview: Overview,
-}
-
-/// What becomes of a report; where it is put together anew, this is reported of the lines alone.
-#[derive(Drop)]
-pub struct Renewals<A: Allocator> {
-    pub renewal: Renewal<A>,
-    pub in_lines: Option<Vec<Problem<A>, A>>,
 }
 
 /// What is kept of these sections, lent.
@@ -253,6 +244,7 @@ fn heard_renewal<S: LineStore>(
         unsilenced: known.problems,
         is_known: is_seen,
         in_lines: known.in_lines,
+        faultless: known.faultless,
     };
     let patch = patch_unsilenced(alloc, config, store, a, b, rows, &shown, edit)?;
     heard_after(
@@ -271,7 +263,7 @@ fn heard_renewal<S: LineStore>(
 
 /// What becomes of the report where it is put together anew, of these problems of the lines alone and of what is kept of the sections. What
 /// would be reported if no comment silenced anything is not known then.
-fn whole_renewal<S: LineStore>(
+pub fn whole_renewal<S: LineStore>(
     alloc: S::Alloc,
     config: &Config,
     store: &S,
@@ -314,7 +306,7 @@ fn may_silence(overview: Overview) -> bool {
 
 /// What becomes of the report by the edit that puts these rows in place of the lines a to b, where what is kept of the sections becomes
 /// this, where it is seen: it stays or is patched, or comments leave another part of what is found.
-fn seen_renewal<S: LineStore>(
+pub fn seen_renewal<S: LineStore>(
     alloc: S::Alloc,
     config: &Config,
     store: &S,
@@ -399,53 +391,6 @@ fn seen_renewal<S: LineStore>(
         return Ok(heard);
     }
     Ok(None)
-}
-
-/// What becomes of the report by the edit that puts these rows in place of the lines a to b, where what is kept of the sections becomes
-/// this: where it is not seen, it is put together anew.
-pub fn renewals_of<S: LineStore>(
-    alloc: S::Alloc,
-    config: &Config,
-    store: &S,
-    a: usize,
-    b: usize,
-    rows: &[Row<S::Alloc>],
-    known: &Known<'_, S::Alloc>,
-    new: &Rejudged<S::Alloc>,
-) -> Result<Renewals<S::Alloc>, AllocError>
-    requires range { IsRange a b (length (S.rows store.now)) }
-    requires old { AreLines (S.rows store.now) }
-    requires lines { AreLines (splice (S.rows store.now) a b rows.now) }
-    requires overview { IsOverviewOf known.now.kept.now.items known.now.overview }
-    requires problems { known.now.problems.now ≡ report_by config.now (S.rows store.now) known.now.kept.now.items }
-    requires known { known.now.is_known ≡ true → known.now.unsilenced.now ≡ unsilenced_by config.now (S.rows store.now) known.now.kept.now.items }
-    requires in_lines { IfSome known.now.in_lines.now (λ l. WereReported config.now (S.rows store.now) l.problems.items l.stayed) }
-    requires kept_range { IsRange new.now.from new.now.end (length known.now.kept.now.items) }
-    requires from_row { new.now.from_row ≡ rows_kept (take new.now.from known.now.kept.now.items) }
-    requires end_row { new.now.end_row ≡ rows_kept (take new.now.end known.now.kept.now.items) }
-    requires few { length known.now.kept.now.items + vec_len new.now.kept < 2 ^ 64 }
-    ensures fit { IfOk result (λ r. IsFit known.now.problems.now r.renewal.report.patch) }
-    ensures report { IfOk result (λ r. Makes known.now.problems.now (report_by config.now (splice (S.rows store.now) a b rows.now) (splice known.now.kept.now.items new.now.from new.now.end new.now.kept.items)) r.renewal.report) }
-    ensures unsilenced_fit { IfOk result (λ r. IsFit known.now.unsilenced.now r.renewal.unsilenced.patch) }
-    ensures unsilenced { IfOk result (λ r. r.renewal.is_known ≡ true
-        → Makes known.now.unsilenced.now (unsilenced_by config.now (splice (S.rows store.now) a b rows.now) (splice known.now.kept.now.items new.now.from new.now.end new.now.kept.items)) r.renewal.unsilenced) }
-    ensures overview { IfOk result (λ r. IsOverviewOf (splice known.now.kept.now.items new.now.from new.now.end new.now.kept.items) r.renewal.overview) }
-    ensures in_lines { IfOk result (λ r. IfSome r.in_lines (λ v. v.items ≡ reported_in_lines config.now (splice (S.rows store.now) a b rows.now))) }
-{
-    let seen = seen_renewal(alloc, config, store, a, b, rows, known, new)?;
-    if let Some(renewal) = seen {
-        return Ok(Renewals {
-            renewal,
-            in_lines: None,
-        });
-    }
-    let in_lines = lines_after(alloc, config, store, a, b, rows, known.in_lines)?;
-    let sections = Spliced::new(known.kept, new.from, new.end, new.kept.as_slice());
-    let renewal = whole_renewal(alloc, config, store, a, b, rows, &in_lines, &sections)?;
-    Ok(Renewals {
-        renewal,
-        in_lines: Some(in_lines),
-    })
 }
 
 /// Makes room for what a patch puts in.

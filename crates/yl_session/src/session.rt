@@ -11,6 +11,7 @@ ghost use Rattle.yl_session.specs.Runs.{IsNothing};
 ghost use Rattle.yl_session.specs.Work.{IsWork};
 
 use crate::beginning::{OpenedText, begin};
+use crate::faultless::FaultlessReport;
 use crate::guide::put_kept;
 use crate::in_lines::{LinesReport, lines_kept};
 use crate::known::Known;
@@ -30,7 +31,7 @@ use yl_text::{LineStore, Row, TextFault, split};
 
 /// The lines of a text, with a record of each, what is kept of its sections and known of all of them, places
 /// among them, its report under a configuration, and, once it is known, what would be reported if no comment
-/// silenced anything, and what was reported of the lines alone. The records from row `cut` on, where there is one, stand below a scan fault, behind
+/// silenced anything, what was reported of the lines alone, and while a section has a fault, what would be reported if none had. The records from row `cut` on, where there is one, stand below a scan fault, behind
 /// which nothing is read: they are as they were before it came, so that they need not be made again once it
 /// goes. What is kept of the sections is kept by these records; of those below a fault the report shows nothing.
 #[derive(Drop)]
@@ -47,10 +48,12 @@ pub struct Session<S: LineStore> {
     unsilenced: Vec<Problem<S::Alloc>, S::Alloc>,
     is_known: bool,
     in_lines: Option<LinesReport<S::Alloc>>,
+    faultless: Option<FaultlessReport<S::Alloc>>,
 }
 
 impl<S: LineStore> Model for Session<S> {
     ghost use Rattle.std.specs.Prelude.{◌≡◌, true, map, IfSome};
+    ghost use Rattle.yl_session.specs.Faultless.{WouldBeReported};
     ghost use Rattle.yl_session.specs.InLines.{WereReported};
     ghost use Rattle.yl_session.specs.State.{SessionValue};
     ghost use Rattle.yl_record.specs.Records.{characters_in};
@@ -75,7 +78,8 @@ impl<S: LineStore> Model for Session<S> {
         × IsOverviewOf s.kept.items s.overview
         × AllByRecursion (IsAt s.kept.items) s.places.items
         × (s.is_known ≡ true → s.unsilenced.items ≡ unsilenced_by s.config (S.rows s.store) s.kept.items)
-        × IfSome s.in_lines (λ l. WereReported s.config (S.rows s.store) l.problems.items l.stayed) };
+        × IfSome s.in_lines (λ l. WereReported s.config (S.rows s.store) l.problems.items l.stayed)
+        × IfSome s.faultless (λ f. WouldBeReported s.config (S.rows s.store) s.kept.items f.problems.items f.known) };
 }
 
 impl<S: LineStore> Session<S> {
@@ -117,6 +121,7 @@ impl<S: LineStore> Session<S> {
             unsilenced: Vec::new(alloc),
             is_known: false,
             in_lines: None,
+            faultless: None,
         })
     }
 
@@ -174,6 +179,7 @@ impl<S: LineStore> Session<S> {
                 unsilenced: &self.unsilenced,
                 is_known: self.is_known,
                 in_lines: &self.in_lines,
+                faultless: &self.faultless,
             };
             planned(
                 self.alloc,
@@ -217,6 +223,7 @@ impl<S: LineStore> Session<S> {
         renew(&mut self.problems, report);
         renew(&mut self.unsilenced, unsilenced);
         let (before, now) = (self.in_lines.take(), self.store.len());
+        self.faultless = plan.faultless;
         self.in_lines = lines_kept(before, plan.in_lines, a, b, lines, now);
         Ok(plan.work)
     }

@@ -126,6 +126,101 @@ static HIDDEN: &[Hidden] = &[
          -- edited\n6:5 trailing spaces\n7:4 too many spaces after colon\n10:4 too many spaces after colon\n11:5 trailing spaces\n13:4 too many spaces after colon\n\
          -- edited\n6:5 trailing spaces\n8:4 too many spaces after colon\n11:4 too many spaces after colon\n12:5 trailing spaces\n14:4 too many spaces after colon\n",
     ),
+    // A quote is opened and typed in by several edits, among sequences whose indentation differs, with edits above it and below.
+    (
+        "---\na:  1\nb: 2\n---\nc:\n  - 3\nd:\n- 4 \n---\ne:  5\nf: 6\n---\ng:\n    h: 7 \n",
+        &[
+            (5, 6, b"  - \"3\n", 611, 1),
+            (5, 6, b"  - \"33 \n", 6, 1),
+            (5, 6, b"  - \"333\n  \n", 7, 1),
+            (1, 2, b"a: 1\n", 3, 1),
+            (6, 7, b"", 5, 1),
+            (5, 6, b"  - \"333\"\n", 611, 303),
+            (5, 6, b"  - 3\n", 4, 1),
+        ],
+        "2:4 too many spaces after colon\n8:1 wrong indentation: expected 2 but found 0\n8:4 trailing spaces\n10:4 too many spaces after colon\n14:5 wrong indentation: expected 2 but found 4\n14:9 trailing spaces\n\
+         -- edited\n2:4 too many spaces after colon\n8:4 trailing spaces\n9:1 syntax error: document marker in quoted scalar\n14:9 trailing spaces\n\
+         -- edited\n2:4 too many spaces after colon\n6:8 trailing spaces\n8:4 trailing spaces\n9:1 syntax error: document marker in quoted scalar\n14:9 trailing spaces\n\
+         -- edited\n2:4 too many spaces after colon\n7:1 trailing spaces\n9:4 trailing spaces\n10:1 syntax error: document marker in quoted scalar\n15:9 trailing spaces\n\
+         -- edited\n7:1 trailing spaces\n9:4 trailing spaces\n10:1 syntax error: document marker in quoted scalar\n15:9 trailing spaces\n\
+         -- edited\n8:4 trailing spaces\n9:1 syntax error: document marker in quoted scalar\n14:9 trailing spaces\n\
+         -- edited\n8:1 wrong indentation: expected 2 but found 0\n8:4 trailing spaces\n10:4 too many spaces after colon\n14:5 wrong indentation: expected 2 but found 4\n14:9 trailing spaces\n\
+         -- edited\n8:1 wrong indentation: expected 2 but found 0\n8:4 trailing spaces\n10:4 too many spaces after colon\n14:5 wrong indentation: expected 2 but found 4\n14:9 trailing spaces\n",
+    ),
+    // The same in the first document, whose fault hides the first sequence and the first indentation of all.
+    (
+        "---\na: 1\nb:\n  - 2\n---\nc:\n- 3\nd:\n    e:  4\n",
+        &[
+            (1, 2, b"a: \"1\n", 610, 1),
+            (1, 2, b"a: \"1  \n", 6, 1),
+            (1, 2, b"a: \"1\"\n", 610, 302),
+            (1, 2, b"a: [1\n", 610, 1),
+            (1, 2, b"a: [1 \n", 4, 1),
+            (1, 2, b"a: 1\n", 610, 302),
+        ],
+        "7:1 wrong indentation: expected 2 but found 0\n9:5 wrong indentation: expected 2 but found 4\n9:8 too many spaces after colon\n\
+         -- edited\n5:1 syntax error: document marker in quoted scalar\n\
+         -- edited\n2:6 trailing spaces\n5:1 syntax error: document marker in quoted scalar\n\
+         -- edited\n7:1 wrong indentation: expected 2 but found 0\n9:5 wrong indentation: expected 2 but found 4\n9:8 too many spaces after colon\n\
+         -- edited\n3:2 syntax error: comma or closing bracket expected\n\
+         -- edited\n2:6 trailing spaces\n3:2 syntax error: comma or closing bracket expected\n\
+         -- edited\n7:1 wrong indentation: expected 2 but found 0\n9:5 wrong indentation: expected 2 but found 4\n9:8 too many spaces after colon\n",
+    ),
+    // Comments silence while a bracket is open, and no more once they go.
+    (
+        "---\na: 1\n---\nb:  2\nc: 3\n---\nd:  4\n",
+        &[
+            (3, 4, b"b:  [2\n", 5, 2),
+            (1, 1, b"# yamllint disable rule:colons\n", 3, 1),
+            (4, 5, b"b:  [2]\n", 5, 2),
+            (4, 5, b"b:  [2\n", 5, 2),
+            (1, 2, b"", 2, 1),
+            (3, 4, b"b:  2\n", 5, 2),
+        ],
+        "4:4 too many spaces after colon\n7:4 too many spaces after colon\n\
+         -- edited\n4:4 too many spaces after colon\n5:2 syntax error: comma or closing bracket expected\n\
+         -- edited\n6:2 syntax error: comma or closing bracket expected\n\
+         -- edited\n\
+         -- edited\n6:2 syntax error: comma or closing bracket expected\n\
+         -- edited\n4:4 too many spaces after colon\n5:2 syntax error: comma or closing bracket expected\n\
+         -- edited\n4:4 too many spaces after colon\n7:4 too many spaces after colon\n",
+    ),
+    // A second fault comes in another document, and each goes.
+    (
+        "---\na:  1\n---\nb: 2\nc: 3\n---\nd:  4\ne: 5\n---\nf:  6\n",
+        &[
+            (3, 4, b"b: [2\n", 5, 2),
+            (7, 8, b"e: [5\n", 4, 2),
+            (3, 4, b"b: 2\n", 5, 2),
+            (3, 4, b"b: [2\n", 5, 2),
+            (7, 8, b"e: 5\n", 4, 2),
+            (3, 4, b"b: 2\n", 5, 2),
+        ],
+        "2:4 too many spaces after colon\n7:4 too many spaces after colon\n10:4 too many spaces after colon\n\
+         -- edited\n2:4 too many spaces after colon\n5:2 syntax error: comma or closing bracket expected\n\
+         -- edited\n2:4 too many spaces after colon\n5:2 syntax error: comma or closing bracket expected\n\
+         -- edited\n2:4 too many spaces after colon\n7:4 too many spaces after colon\n9:1 syntax error: comma or closing bracket expected\n\
+         -- edited\n2:4 too many spaces after colon\n5:2 syntax error: comma or closing bracket expected\n\
+         -- edited\n2:4 too many spaces after colon\n5:2 syntax error: comma or closing bracket expected\n\
+         -- edited\n2:4 too many spaces after colon\n7:4 too many spaces after colon\n10:4 too many spaces after colon\n",
+    ),
+    // A fault stands where the next document begins, whose marker goes.
+    (
+        "---\na:  1\n---\nb: 2\n---\nc: 3 \n",
+        &[
+            (3, 4, b"b: {2\n", 4, 2),
+            (4, 5, b"", 4, 2),
+            (3, 4, b"b: {2}\n", 5, 2),
+            (3, 4, b"? {2\n", 5, 2),
+            (3, 4, b"b: *2\n", 5, 2),
+        ],
+        "2:4 too many spaces after colon\n6:5 trailing spaces\n\
+         -- edited\n2:4 too many spaces after colon\n5:1 syntax error: comma or closing bracket expected\n6:5 trailing spaces\n\
+         -- edited\n2:4 too many spaces after colon\n5:2 syntax error: comma or closing bracket expected\n5:5 trailing spaces\n\
+         -- edited\n2:4 too many spaces after colon\n5:5 trailing spaces\n\
+         -- edited\n2:4 too many spaces after colon\n5:2 syntax error: comma or closing bracket expected\n5:5 trailing spaces\n\
+         -- edited\n2:4 too many spaces after colon\n4:4 found undeclared alias \"2\"\n5:5 trailing spaces\n",
+    ),
 ];
 
 #[test]

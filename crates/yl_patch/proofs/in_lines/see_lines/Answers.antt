@@ -1,4 +1,4 @@
-use Rattle.std.proofs.Common.{◌≡◌, ◌-◌, List, [], length, map, take, drop, arith, ap, sym, subst, ◌∙◌}
+use Rattle.std.proofs.Common.{◌-◌, List, [], length, map, take, drop, arith, ap, sym, subst, ◌∙◌}
 use Rattle.std.specs.List.{slice_get, splice}
 use Rattle.yl_text.specs.Lines.{RowValue}
 use Rattle.yl_indentation.specs.Measures.{empty_measure}

@@ -1,29 +1,20 @@
-use Rattle.std.proofs.Common.{◌≡◌, ◌==◌, ◌-◌, ◌++◌, false, List, length, map, take, drop, arith, ap, sym, subst, ◌∙◌}
-use Rattle.std.specs.List.{slice_get, splice}
+use Rattle.std.proofs.Common.{◌≡◌, ◌-◌, ◌++◌, List, map, take, drop, arith, ap, subst, ◌∙◌}
+use Rattle.std.specs.List.{splice}
 use Rattle.yl_text.specs.Finding.{FindingValue}
 use Rattle.yl_text.specs.Lines.{RowValue}
 use Rattle.yl_indentation.specs.declared.measure.Measure.{Measure}
 use Rattle.yl_config.specs.Config.{options_of}
 use Rattle.yl_lint.specs.TextReport.{moved}
-use Rattle.yl_patch.specs.Cut.{IsInside, is_filled}
 use Rattle.yl_patch.specs.Settled.{measure_upto, settled, settled_below}
-use Rattle.yl_patch.specs.There.{found_there, lines_there}
-use Rattle.yl_patch.proofs.Given.{is_so, same_there}
-use Rattle.yl_patch.proofs.Renewed.{spliced_length}
+use Rattle.yl_patch.specs.There.{lines_there}
+use Rattle.yl_patch.proofs.Given.{is_so, same_there, window_fits}
 use Rattle.yl_patch.proofs.Sections.{measured}
 use Rattle.yl_patch.proofs.Walks.{rows_until}
 use Rattle.yl_patch.proofs.seen.see_edit.Goals as goal
 
 pub new-window-requires : goal.new-window-requires
 new-window-requires g c =
-    let rows = g.S.Lines.rows c.args.store.now in
-    let t = c.in-Some-find_touched.touched in
-    let inside = subst (λ n. IsInside t c.args.a c.args.b (length c.args.rows.now) n) c.len-lines.ensures (c.is_inside.ensures c.if-not-is_inside.false) in
-    let n = spliced_length rows c.args.rows.now c.args.a c.args.b c.requires.range.ordered c.requires.range.within in
-    let here = ap (λ (xs : List RowValue). length xs) c.new-patched.ensures in record {
-      ordered = omega (arith, inside.new_some);
-      within = omega (arith, inside.fits, inside.back, n, here);
-    }
+    window_fits (g.S.Lines.rows c.args.store.now) c.args.rows.now c.new-patched.result c.args.a c.args.b c.in-Some-cut_edit.cut.touched c.requires.range.ordered c.requires.range.within c.in-Some-cut_edit.ensures.inside c.new-patched.ensures
 
 pub hides_before-requires-clause-sound : goal.hides_before-requires-clause-sound
 hides_before-requires-clause-sound g c = (c.requires.overview (is_so c.args.overview.is_plain c.if-not-overview.false)).sound
@@ -36,18 +27,16 @@ returns-clause-known g c = is_so c.args.overview.is_plain c.if-not-overview.fals
 
 pub returns-clause-seen : goal.returns-clause-seen
 returns-clause-seen g c =
-    let rows = g.S.Lines.rows c.args.store.now in
-    let ins = c.args.rows.now in
-    let t = c.in-Some-find_touched.touched in
+    let cut = c.in-Some-cut_edit.ensures in
+    let t = c.in-Some-cut_edit.cut.touched in
+    let e = c.in-Some-cut_edit.cut.ends in
     let config = c.args.config.now in
     let kept = c.args.kept.now.items in
     let known = c.requires.overview (is_so c.args.overview.is_plain c.if-not-overview.false) in
     let alike = c.if-not-is_alike.false in
-    let cut = c.if-not-is_cut.false in
-    let e = c.ends_of-ends.result in
     let hidden = c.in-Some.hidden in
     let before = take c.args.edit.now.from kept in
-    let qs = take (t.new_end - t.first) (drop t.first (splice rows c.args.a c.args.b ins)) in
+    let qs = take (t.new_end - t.first) (drop t.first (splice (g.S.Lines.rows c.args.store.now) c.args.a c.args.b c.args.rows.now)) in
     let window = c.new-window.ensures ∙ ap (λ (xs : List RowValue). take (t.new_end - t.first) (drop t.first xs)) c.new-patched.ensures in
     let there =
     same_there (options_of config) e c.args.overview.whole (measured (settled kept)) c.measure_above-before.result (measured (settled before)) c.new-window.result qs (settled c.shown_of-shown.result.now) known.whole c.measure_above-before.ensures window
@@ -59,16 +48,15 @@ returns-clause-seen g c =
       measure =
           subst (λ (m : Measure). measure_upto m (settled_below hidden (take (c.args.edit.now.end - c.args.edit.now.from) (drop c.args.edit.now.from kept))) ≡ measure_upto m (settled_below hidden c.args.edit.now.kept.now)) c.measure_above-before.ensures
           (c.is_alike.ensures.measure alike);
-      inside = subst (λ n. IsInside t c.args.a c.args.b (length ins) n) c.len-lines.ensures (c.is_inside.ensures c.if-not-is_inside.false);
-      first = c.in-Some-find_touched.ensures.first ∙ c.requires.from_row;
-      old_end =
-          omega (arith, c.in-Some-find_touched.ensures.first, c.in-Some-find_touched.ensures.old_end, c.requires.from_row, c.requires.end_row, rows_until kept c.args.edit.now.from c.args.edit.now.end c.requires.kept_range.ordered c.requires.kept_range.within);
-      new_end = c.in-Some-find_touched.ensures.new_end;
+      inside = cut.inside;
+      first = cut.first ∙ c.requires.from_row;
+      old_end = omega (arith, cut.first, cut.old_end, c.requires.from_row, c.requires.end_row, rows_until kept c.args.edit.now.from c.args.edit.now.end c.requires.kept_range.ordered c.requires.kept_range.within);
+      new_end = cut.new_end;
       ends = e;
-      begins_text = c.ends_of-ends.ensures.begins;
-      ends_text = c.ends_of-ends.ensures.ends ∙ ap (λ n. t.old_end == n) c.len-lines.ensures;
-      old_seam = c.is_cut.ensures.old cut;
-      new_seam = λ h. ap (λ (xs : List RowValue). is_filled (slice_get xs t.first)) (sym c.new-patched.ensures) ∙ c.is_cut.ensures.new cut h;
-      behind_seam = c.is_cut.ensures.behind cut;
+      begins_text = cut.begins_text;
+      ends_text = cut.ends_text;
+      old_seam = cut.old_seam;
+      new_seam = cut.new_seam;
+      behind_seam = cut.behind_seam;
       there = c.in_ok-found.ensures ∙ ap (map (moved t.first)) there;
     }

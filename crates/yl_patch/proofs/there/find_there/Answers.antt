@@ -1,4 +1,3 @@
-use Rattle.std.proofs.Common.{◌∙◌}
 use Rattle.yl_config.specs.Config.{options_of}
 use Rattle.yl_patch.specs.Settled.{settled}
 use Rattle.yl_patch.proofs.Given.{put_together}
@@ -6,5 +5,5 @@ use Rattle.yl_patch.proofs.there.find_there.Goals as goal
 
 pub returns : goal.returns
 returns g c =
-    put_together (options_of c.args.config.now) c.args.ends c.args.whole c.args.before c.args.down (g.L.Lines.rows c.args.lines.now) (settled c.args.kept.now) c.indentation_options-options.result.now c.new-found.result.items
-    c.deref.result.now c.push_moved.new.found.items c.push_sections.new.found.items c.new-found.ensures.items (c.deref.ensures.value ∙ c.in_ok-in_lines.ensures) c.in_ok-push_moved.ensures c.indentation_options-options.ensures c.in_ok-push_sections.ensures
+    put_together (options_of c.args.config.now) c.args.ends c.args.whole c.args.before c.args.down (g.L.Lines.rows c.args.lines.now) (settled c.args.kept.now) c.indentation_options-options.result.now c.in_ok-found.found.items
+    c.push_sections.new.found.items c.in_ok-found.ensures c.indentation_options-options.ensures c.in_ok-push_sections.ensures

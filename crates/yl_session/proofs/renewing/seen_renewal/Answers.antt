@@ -1,11 +1,10 @@
-use Rattle.std.proofs.Common.{◌≡◌, ℕ, List, length, arith, ap, sym, subst, ◌∙◌}
+use Rattle.std.proofs.Common.{List, length, arith, ap, sym, subst, ◌∙◌}
 use Rattle.std.specs.List.{splice}
 use Rattle.yl_sections.specs.Kept.{KeptValue}
 use Rattle.yl_lint.specs.TextReport.{report_by}
 use Rattle.yl_lint.specs.Unsilenced.{unsilenced_by}
 use Rattle.yl_patch.specs.Plain.{IsOverviewOf}
 use Rattle.yl_patch.specs.declared.overview.Overview.{Overview}
-use Rattle.yl_patch.proofs.Given.{in_some}
 use Rattle.yl_session.specs.Change.{Makes, Patches}
 use Rattle.yl_session.proofs.Bounds.{few_lines, few_new}
 use Rattle.yl_session.proofs.Changed.{both, sections_are, some_then, there_so}

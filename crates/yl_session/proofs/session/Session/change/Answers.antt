@@ -20,6 +20,8 @@ use Rattle.yl_rejudge.specs.declared.places.Place.{Place}
 use Rattle.yl_rejudge.specs.Places.{IsAt, rows_kept}
 use Rattle.yl_session.specs.Change.{IsFit, Makes}
 use Rattle.yl_session.proofs.Changed.{made_so}
+use Rattle.yl_session.specs.Faultless.{WouldBeReported}
+use Rattle.yl_session.specs.declared.faultless.FaultlessReport.{FaultlessReport}
 use Rattle.yl_session.specs.InLines.{WereReported}
 use Rattle.yl_session.specs.State.{SessionValue}
 use Rattle.yl_session.proofs.session.Session.change.Goals as goal
@@ -73,6 +75,13 @@ kept_same config ks ls rs us same records is = same ∙ (is ∙ ap (λ (es : Lis
 unsilenced_same : (config : Config) (ps qs : List RowValue) (ks ls : List KeptValue) → ps ≡ qs → ls ≡ ks → unsilenced_by config ps ks ≡ unsilenced_by config qs ls
 unsilenced_same config ps qs ks ls lines same = ap (λ (xs : List RowValue). unsilenced_by config xs ks) lines ∙ ap (λ (js : List KeptValue). unsilenced_by config qs js) (sym same)
 
+-- what would be reported of them
+faultless_same : {A : Type 0} (config : Config) (ps qs : List RowValue) (ks ls : List KeptValue) (o : Option (FaultlessReport A)) → ps ≡ qs → ls ≡ ks → IfSome o (λ f. WouldBeReported config ps ks f.problems.items f.known)
+    → IfSome o (λ f. WouldBeReported config qs ls f.problems.items f.known)
+faultless_same config ps qs ks ls o lines same h =
+    subst (λ (xs : List RowValue). IfSome o (λ f. WouldBeReported config xs ls f.problems.items f.known)) lines
+    (subst (λ (js : List KeptValue). IfSome o (λ f. WouldBeReported config ps js f.problems.items f.known)) (sym same) h)
+
 -- a list in which some items were put in place of others
 put_in : {X : Type 0} (all held old items : List X) (i j : ℕ) → all ≡ splice held i j items → held ≡ old → all ≡ splice old i j items
 put_in all held old items i j is same = is ∙ ap (λ xs. splice xs i j items) same
@@ -118,6 +127,7 @@ invariant_of-self g c =
       subst (λ (ks : List KeptValue). AllByRecursion (IsAt ks) c.make_room.new.places.items) (sym c.make_room.ensures.kept) c.make_room.ensures.places,
       λ h. c.make_room.ensures.unsilenced ∙ (c.self.invariant.6 h ∙ unsilenced_same config rows rows c.self.inside.kept.items c.make_room.new.kept.items refl c.make_room.ensures.kept),
       c.self.invariant.7,
+      faultless_same config rows rows c.self.inside.kept.items c.make_room.new.kept.items c.self.inside.faultless refl c.make_room.ensures.kept c.self.invariant.8,
     )
 
 pub invariant_of-self-in_err-splice : goal.invariant_of-self-in_err-splice
@@ -135,6 +145,7 @@ invariant_of-self-in_err-splice g c =
       subst (λ (ks : List KeptValue). AllByRecursion (IsAt ks) c.make_room.new.places.items) (sym c.make_room.ensures.kept) c.make_room.ensures.places,
       λ h. c.make_room.ensures.unsilenced ∙ (c.self.invariant.6 h ∙ unsilenced_same config rows left c.self.inside.kept.items c.make_room.new.kept.items e c.make_room.ensures.kept),
       subst (λ (ps : List RowValue). IfSome c.self.inside.in_lines (λ l. WereReported config ps l.problems.items l.stayed)) e c.self.invariant.7,
+      faultless_same config rows left c.self.inside.kept.items c.make_room.new.kept.items c.self.inside.faultless e c.make_room.ensures.kept c.self.invariant.8,
     )
 
 -- what room was made in is what was kept
@@ -205,6 +216,7 @@ invariant_of-self-2 g c =
       subst (λ (ps : List RowValue). IfSome c.lines_kept.result (λ l. WereReported config ps l.problems.items l.stayed)) put
           (c.lines_kept.ensures config rows c.as_slice.result.now (sym c.len-lines.ensures) (ap (λ (ps : List RowValue). length ps) put ∙ sym c.len-now.ensures) c.requires.range.ordered
           (subst (λ o. IfSome o (λ l. WereReported config rows l.problems.items l.stayed)) (sym c.take-before.ensures.value) c.self.invariant.7) c.in_ok-plan.ensures.in_lines),
+      faultless_same config seen left ks c.put_kept.new.kept.items plan.faultless put kept c.in_ok-plan.ensures.faultless,
     )
 
 pub returns-clause-problems : goal.returns-clause-problems

@@ -1,0 +1,109 @@
+//! The report of a text in which one section has a fault, by what would be reported if none had one.
+ghost use Rattle.std.specs.Prelude.{◌≡◌, ◌<◌, ◌≤◌, ◌++◌, true, length, slice_get, take, drop, IfOk, IfSome};
+ghost use Rattle.std.specs.List.{prefix_len};
+ghost use Rattle.yl_indentation.specs.Measures.{measure_of};
+ghost use Rattle.yl_lint.specs.TextReport.{facts_in_sections};
+ghost use Rattle.yl_lint.specs.Unsilenced.{reported_in_lines, unsilenced_by};
+ghost use Rattle.yl_patch.specs.Cut.{is_filled};
+ghost use Rattle.yl_patch.specs.Faultless.{IsFaultless, faultless_by};
+ghost use Rattle.yl_patch.specs.Patched.{is_upto};
+
+use crate::faultless::Faultless;
+use crate::overview::is_same_measure;
+use crate::places::count_upto;
+use crate::there::fault_finding;
+use crate::touched::is_filled;
+use std::alloc::{AllocError, Allocator};
+use yl_chunks::Spliced;
+use yl_config::Config;
+use yl_indentation::Measure;
+use yl_report::{Problem, Silences, arrange_with, copies};
+use yl_sections::{Kept, SectionFault};
+use yl_text::Lines;
+
+/// Whether the facts of the first so many sections have the measure of those of all. It looks no further once it is found.
+fn have_measure<A: Allocator + Copy>(
+    sections: &Spliced<'_, Kept<A>, A>,
+    count: usize,
+    whole: Measure,
+) -> bool
+    requires within { count ≤ length sections.now }
+    requires whole { whole ≡ measure_of (facts_in_sections sections.now) }
+    ensures { result ≡ true → whole ≡ measure_of (facts_in_sections (take count sections.now)) }
+{
+    let mut measure = Measure::empty();
+    for i in 0..count {
+        if is_same_measure(measure, whole) {
+            return true;
+        }
+        measure = measure.and_later(sections.get(i).measure());
+    }
+    is_same_measure(measure, whole)
+}
+
+/// The former problems up to a line, and the latter ones below it.
+fn joined<A: Allocator + Copy>(
+    alloc: A,
+    above: &[Problem<A>],
+    below: &[Problem<A>],
+    line: u64,
+) -> Result<Vec<Problem<A>, A>, AllocError>
+    ensures { IfOk result (λ v. v.items ≡ take (prefix_len (is_upto line) above.now) above.now ++ drop (prefix_len (is_upto line) below.now) below.now) }
+{
+    let (upto, _) = above.split_at(count_upto(above, line));
+    let (_, behind) = below.split_at(count_upto(below, line));
+    let mut problems = copies(alloc, upto, behind.len())?;
+    let mut rest = copies(alloc, behind, 0)?;
+    problems.append(&mut rest)?;
+    Ok(problems)
+}
+
+/// Whether a text begins a new line behind so many, and that is not empty, or it ends there.
+fn is_apart<L: Lines>(lines: &L, end: usize) -> bool
+    ensures within { result ≡ true → end ≤ length (L.rows lines.now) }
+    ensures filled { result ≡ true → end < length (L.rows lines.now) → is_filled (slice_get (L.rows lines.now) end) ≡ true }
+{
+    end == lines.len() || is_filled(lines, end)
+}
+
+/// What is reported of these lines if no comment silences anything, where one section has a fault, by what would be reported if it had none
+/// and what is of the lines alone; none where it is not seen. The only error is out of memory.
+pub fn hidden_report<L: Lines>(
+    alloc: L::Alloc,
+    config: &Config,
+    lines: &L,
+    sections: &Spliced<'_, Kept<L::Alloc>, L::Alloc>,
+    known: Faultless,
+    all: &[Problem<L::Alloc>],
+    in_lines: &[Problem<L::Alloc>],
+) -> Result<Option<Vec<Problem<L::Alloc>, L::Alloc>>, AllocError>
+    requires known { IsFaultless sections.now known }
+    requires all { all.now ≡ faultless_by config.now (L.rows lines.now) sections.now }
+    requires in_lines { in_lines.now ≡ reported_in_lines config.now (L.rows lines.now) }
+    ensures { IfOk result (λ o. IfSome o (λ v. v.items ≡ unsilenced_by config.now (L.rows lines.now) sections.now)) }
+{
+    if known.at >= sections.len() {
+        return Ok(None);
+    }
+    let one = sections.get(known.at);
+    let Some(SectionFault::Here(place, text)) = one.fault() else {
+        return Ok(None);
+    };
+    let Some(end) = known.row.checked_add(one.rows()) else {
+        return Ok(None);
+    };
+    if !is_apart(lines, end as usize) || !have_measure(sections, known.at + 1, known.whole) {
+        return Ok(None);
+    }
+    let shown = joined(alloc, all, in_lines, u64::from(end))?;
+    let mut fault = Vec::new(alloc);
+    fault.push(fault_finding(alloc, known.row, place, text)?)?;
+    let report = arrange_with(
+        alloc,
+        &shown,
+        fault,
+        config.levels(),
+        &Silences::none(alloc),
+    )?;
+    Ok(Some(report))
+}
