@@ -1,6 +1,7 @@
 //! How much work was done.
 
-/// Counts the rows that were scanned and the documents whose events were derived.
+/// Counts the rows that were scanned and the documents that were looked at: whose events were derived, or which were seen to
+/// tell the same as before. Each counts once.
 #[derive(Clone, Copy, Debug, PartialEq, Eq)]
 pub struct Meter {
     pub lines: u32,
