@@ -14,7 +14,8 @@ use std::marker::Model;
 /// A list of items, kept in chunks of 1 to `MOST` of them. In contracts it is the list, and the room that is
 /// made for an edit of it, if any.
 ///
-/// An item is found by a binary search over the places at which the chunks begin, of 8 bytes each. An edit
+/// An item is looked for first in the chunk in which it stands where all before it are full, and in the next one. Elsewhere it is found by
+/// a binary search over the places at which the chunks begin, of 8 bytes each. An edit
 /// within a chunk that has room moves the items of that chunk, and the places of the chunks between it and
 /// the last edit's: edits near one another move nearly none. Any other makes the chunks that it touches
 /// anew. A chunk that an edit leaves with few items is joined with one beside it.

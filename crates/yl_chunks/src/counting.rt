@@ -42,7 +42,7 @@ pub(crate) fn start_of<T, A: Allocator>(chunks: &[Vec<T, A>], starts: &Starts<A>
 /// How many chunks are looked through from the first one that can hold an item.
 const NEAR: usize = 8;
 
-/// Chunks among which `last_start` finds its own: the first, and the end. A full list is in chunks of about `MOST` items, so that a few
+/// Chunks among which `search` finds its own: the first, and the end. A full list is in chunks of about `MOST` items, so that a few
 /// do but where many chunks have fewer.
 fn near<T, A: Allocator>(chunks: &[Vec<T, A>], starts: &Starts<A>, i: usize) -> (usize, usize)
     requires starts { AreStarts chunks.now starts.now }
