@@ -19,9 +19,6 @@ use yl_lexeme::{LexemeAtLine, Meter};
 use yl_marks::{Symbol, document_marks};
 use yl_text::Pos;
 
-/// Of how many outlines that are done the room is given up at once.
-const DONE: usize = 16384;
-
 /// The value of the lexeme of this index.
 fn value_at<'a, A: Allocator>(lexemes: &[LexemeAtLine<'a, A>], i: usize) -> &'a str
     ensures { result.now ≡ value_at (map (λ x. lexeme_at_line x.line x.lexeme.now) lexemes.now) i }
@@ -94,23 +91,18 @@ pub fn event_of<'a, A: Allocator>(lexemes: &[LexemeAtLine<'a, A>], outline: &Out
     )
 }
 
-/// The events of outlines. They are made from the last on, and now and then the outlines give up the room of those that are done, so
-/// that not all events and all outlines are held at once.
+/// The events of outlines.
 fn fill_all<'a, A: Allocator + Copy>(
     alloc: A,
     lexemes: &[LexemeAtLine<'a, A>],
-    mut outlines: Vec<Outline, A>,
+    outlines: &[Outline],
 ) -> Result<Vec<Event<'a>, A>, AllocError>
-    ensures { IfOk result (λ v. map event_value v.items ≡ map (event_of_outline (map (λ x. lexeme_at_line x.line x.lexeme.now) lexemes.now)) outlines.items) }
+    ensures { IfOk result (λ v. map event_value v.items ≡ map (event_of_outline (map (λ x. lexeme_at_line x.line x.lexeme.now) lexemes.now)) outlines.now) }
 {
     let mut events = Vec::with_capacity(alloc, outlines.len())?;
-    while let Some(outline) = outlines.pop() {
-        events.push(event_of(lexemes, &outline))?;
-        if outlines.len().is_multiple_of(DONE) {
-            outlines.shrink_to_fit();
-        }
+    for outline in outlines {
+        events.push(event_of(lexemes, outline))?;
     }
-    events.reverse();
     Ok(events)
 }
 
@@ -141,7 +133,7 @@ fn build<'a, A: Allocator + Copy>(
     let (outlines, fault) = parse(alloc, symbols)?;
     match fault {
         None => {
-            let events = fill_all(alloc, lexemes, outlines)?;
+            let events = fill_all(alloc, lexemes, &outlines)?;
             Ok(Built {
                 events,
                 fault: None,
