@@ -17,6 +17,24 @@ const OPENED: [&[u8]; 4] = [
     b"title: [draft]",
 ];
 
+/// What is typed behind a value until its line is too long.
+const SENTENCE: &[u8] =
+    b" of the team that answers for it, and of each one that calls it while it is moved";
+
+/// How many letters of it are typed first, with blanks between them.
+const FIRST_LETTERS: usize = 12;
+
+/// A line that gets longer than this one is too long.
+const WIDTH: usize = 80;
+
+/// How many letters are typed in front of that column, and how many past it.
+const LETTERS_BEFORE: usize = 2;
+
+const LETTERS_PAST: usize = 6;
+
+/// What is typed behind the line under an open quote.
+const UNDER_QUOTE: &[u8] = b"two";
+
 /// Commands as `yl_cli::drive` reads them, one after another. Lines count from 0.
 #[derive(Drop)]
 pub struct Commands {
@@ -90,6 +108,59 @@ impl Commands {
         self.lines_under(at, blanks, &OPENED)
     }
 
+    // Types words behind a line's value: the first ones, and those that make it too long.
+    fn words_at(&mut self, at: u64, line: &[u8]) -> Result<(), AllocError> {
+        for end in 1..=SENTENCE.len() {
+            let column = line.len().wrapping_add(end);
+            let is_late = column > WIDTH - LETTERS_BEFORE && column <= WIDTH + LETTERS_PAST;
+            if end <= FIRST_LETTERS || is_late {
+                self.line(at, 1, line, &SENTENCE[..end])?;
+            }
+        }
+        Ok(())
+    }
+
+    // Opens a quote in a line of its own, types behind the line under it, closes it, and takes it out.
+    fn quote_above(&mut self, at: u64, under: &[u8]) -> Result<(), AllocError> {
+        let blanks = blanks_of(under);
+        self.line(at, 0, blanks, OPENED[0])?;
+        for end in 1..=UNDER_QUOTE.len() {
+            self.line(at.wrapping_add(1), 1, under, &UNDER_QUOTE[..end])?;
+        }
+        self.line(at, 1, blanks, OPENED[1])?;
+        self.without(at)
+    }
+
+    /// Adds the commands of work on words at `count` places, in order, all over a text of about
+    /// `lines` lines: where two lines have values, words are typed behind the first one, then a
+    /// quote is opened and closed between them.
+    pub fn words(
+        &mut self,
+        text: &[u8],
+        maker: &mut Maker,
+        lines: u32,
+        count: u32,
+    ) -> Result<(), AllocError> {
+        let step = lines / count.max(1);
+        let mut left = count;
+        let mut from = 0u32;
+        let mut next = maker.below(step) as u64;
+        let mut at = 0u64;
+        let mut line: &[u8] = &[];
+        for under in text.split(|c| *c == b'\n') {
+            if left > 0 && at > next && is_words(line) && is_words(under) {
+                self.words_at(at.wrapping_sub(1), line)?;
+                self.quote_above(at, under)?;
+                left -= 1;
+                from = from.wrapping_add(step);
+                next = from.wrapping_add(maker.below(step)) as u64;
+            }
+            line = under;
+            at = at.wrapping_add(1);
+        }
+        Ok(())
+    }
+
     /// Adds the commands of work at `count` places, in order, all over a text of about `lines`
     /// lines.
     pub fn work(
@@ -132,4 +203,9 @@ fn is_value(line: &[u8]) -> bool {
         None => false,
     };
     ends_so && line.contains(&b':') && !line.contains(&b'|') && !line.contains(&b'#')
+}
+
+// Whether a line ends in a value to which words can be added.
+fn is_words(line: &[u8]) -> bool {
+    is_value(line) && !line.contains(&b'*') && !line.contains(&b'"')
 }

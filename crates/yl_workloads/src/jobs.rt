@@ -3,7 +3,8 @@ use crate::commands::Commands;
 use crate::digest::Digest;
 use crate::maker::Maker;
 use crate::texts::{
-    ENTRIES, FLOW_END, FLOW_ENTRIES, FLOW_HEAD, HEAD, HURRIED_ENTRY, HURRIED_MANIFEST, MANIFESTS,
+    ENTRIES, ENTRIES_WITH_PROBLEMS, FLOW_END, FLOW_ENTRIES, FLOW_HEAD, HEAD, HURRIED_ENTRY,
+    HURRIED_MANIFEST, MANIFESTS, WARNINGS,
 };
 use std::alloc::{AllocError, Global};
 use yl_args::Flags;
@@ -17,6 +18,13 @@ use yl_text::Watched;
 const FLAGS: Flags = Flags {
     strict: true,
     no_warnings: false,
+    work: false,
+};
+
+// Problems that are warnings are found, and not printed.
+const NO_WARNINGS: Flags = Flags {
+    strict: true,
+    no_warnings: true,
     work: false,
 };
 
@@ -41,6 +49,13 @@ const ENTRIES_OF_DOCUMENT: u32 = 120;
 const ENTRIES_OF_ONE: u32 = 2_500;
 /// About as many lines has an entry, twice.
 const LINES_OF_TWO: u32 = 9;
+/// How many documents a text with many problems has, how many problems each of these, and about how
+/// many lines.
+const DOCUMENTS_WITH_PROBLEMS: u32 = 4_000;
+
+const PROBLEMS_OF_DOCUMENT: u32 = 5;
+
+const LINES_OF_DOCUMENT: u32 = 44;
 
 /// What is asked for.
 #[derive(Clone, Copy)]
@@ -57,6 +72,8 @@ pub enum Job {
     Document,
     /// The events of files of Kubernetes manifests are printed.
     Events,
+    /// A text of many documents with problems is edited.
+    Problems,
 }
 
 /// The job of this name.
@@ -68,6 +85,7 @@ pub fn job_of(word: &str) -> Option<Job> {
         "typing" => Some(Job::Typing),
         "document" => Some(Job::Document),
         "events" => Some(Job::Events),
+        "problems" => Some(Job::Problems),
         _ => None,
     }
 }
@@ -90,6 +108,18 @@ fn put_document(maker: &mut Maker, count: u32) -> Result<(), AllocError> {
 fn put_documents(maker: &mut Maker) -> Result<(), AllocError> {
     for _ in 0..DOCUMENTS {
         put_document(maker, ENTRIES_OF_DOCUMENT)?;
+    }
+    Ok(())
+}
+
+// Documents with an entry with a problem behind each of some others.
+fn put_documents_with_problems(maker: &mut Maker) -> Result<(), AllocError> {
+    for _ in 0..DOCUMENTS_WITH_PROBLEMS {
+        maker.put(HEAD)?;
+        for _ in 0..PROBLEMS_OF_DOCUMENT {
+            maker.put_one(&ENTRIES, HURRIED_ENTRY, 1_000)?;
+            maker.put_one(&ENTRIES_WITH_PROBLEMS, HURRIED_ENTRY, 1_000)?;
+        }
     }
     Ok(())
 }
@@ -152,6 +182,8 @@ fn see_events(alloc: Global, text: &[u8], digest: &mut Digest) -> Result<(), Run
 
 fn see_edits(
     alloc: Global,
+    config: Config,
+    flags: Flags,
     text: &[u8],
     commands: &Commands,
     digest: &mut Digest,
@@ -159,13 +191,7 @@ fn see_edits(
     let mut input = Watched::new(commands.as_slice());
     let mut out = Watched::new(Vec::new(alloc));
     let status = drive::<ChunkStore<_>, _, _>(
-        alloc,
-        NAME,
-        Config::standard(),
-        FLAGS,
-        text,
-        &mut input,
-        &mut out,
+        alloc, NAME, config, flags, text, &mut input, &mut out,
     )?;
     digest.see(out.into_inner().as_slice(), status);
     Ok(())
@@ -220,7 +246,30 @@ fn see_work(
         entries * LINES_OF_TWO / 2,
         count,
     )?;
-    see_edits(alloc, text.as_slice(), &commands, digest)
+    let config = Config::standard();
+    see_edits(alloc, config, FLAGS, text.as_slice(), &commands, digest)
+}
+
+// Edits a text with many problems, which are warnings, at `count` places.
+fn see_problems(alloc: Global, seed: u64, count: u32, digest: &mut Digest) -> Result<(), RunFault> {
+    let Ok(config) = Config::read(alloc, WARNINGS.as_bytes()) else {
+        return Err(RunFault::Memory);
+    };
+    let mut maker = Maker::new(alloc, seed, 0);
+    put_documents_with_problems(&mut maker)?;
+    let text = maker.into_text();
+    let mut commands = Commands::new(alloc);
+    let mut choices = Maker::new(alloc, seed, 1);
+    let lines = DOCUMENTS_WITH_PROBLEMS * LINES_OF_DOCUMENT;
+    commands.words(text.as_slice(), &mut choices, lines, count)?;
+    see_edits(
+        alloc,
+        config,
+        NO_WARNINGS,
+        text.as_slice(),
+        &commands,
+        digest,
+    )
 }
 
 /// Does a job on `count` texts, or at `count` places of one text, and answers what was seen. Each
@@ -229,6 +278,7 @@ pub fn done(alloc: Global, job: Job, seed: u64, count: u32) -> Result<Digest, Ru
     let mut digest = Digest::new();
     match job {
         Job::Typing | Job::Document => see_work(alloc, job, seed, count, &mut digest)?,
+        Job::Problems => see_problems(alloc, seed, count, &mut digest)?,
         _ => {
             for stream in 0..count {
                 let maker = Maker::new(alloc, seed, stream as u64);

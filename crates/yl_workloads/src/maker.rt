@@ -42,7 +42,7 @@ impl Maker {
         self.text.extend_from_slice(buffer.format(n).as_bytes())
     }
 
-    // What stands at `@`: a word, a number, or one that no other piece has.
+    // What stands at `@`: a word, a number, or one that no other piece has, once more too.
     fn put_field(&mut self, field: u8) -> Result<(), AllocError> {
         if field == b'w' {
             let at = self.below(32) as usize;
@@ -53,6 +53,9 @@ impl Maker {
         }
         if field == b's' {
             self.serial = self.serial.wrapping_add(1);
+            return self.put_number(self.serial);
+        }
+        if field == b'l' {
             return self.put_number(self.serial);
         }
         let n = self.below(9_000) as u64;

@@ -1,5 +1,5 @@
-//! Pieces of YAML files as people keep them. In a piece `@w` stands for a word, `@n` for a number
-//! and `@s` for a number that no other piece of its text has.
+//! Pieces of YAML files as people keep them. In a piece `@w` stands for a word, `@n` for a number,
+//! `@s` for a number that no other piece of its text has, and `@l` for the last of those once more.
 
 /// The words of the texts.
 pub const WORDS: [&str; 32] = [
@@ -253,6 +253,45 @@ pub const HURRIED_ENTRY: &str = "  @w-@s :
     image:  registry.example.com/@w  
     ports: [ \"@n:@n\",\"@n:@n\" ]
     enabled: yes
+";
+
+/// Entries with one problem each, whose message says what was found.
+pub const ENTRIES_WITH_PROBLEMS: [&str; 5] = [
+    "  @w-@s:
+    image: registry.example.com/@w/@w:@n.@n
+    enabled: yes
+    restart: always
+",
+    "  @w-@s:
+    limit-@s: @n
+    restart: always
+    limit-@l: @n
+",
+    "  @w-@s:
+    note: the @w and the @w of the @w are kept beside each other, as the @w asks for
+    build: ./@w/@w
+    restart: always
+",
+    "  @w-@s:
+    environment: *@w-@n
+    build: ./@w/@w
+    restart: always
+",
+    "  @w-@s:
+      build: ./@w/@w
+      restart: always
+",
+];
+
+/// A configuration by which what these entries have are warnings.
+pub const WARNINGS: &str = "---
+extends: default
+rules:
+  anchors: {level: warning}
+  indentation: {level: warning}
+  key-duplicates: {level: warning}
+  line-length: {level: warning}
+  truthy: {level: warning}
 ";
 
 /// How a document of flow collections begins and ends, as JSON is written.
