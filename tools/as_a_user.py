@@ -1,0 +1,252 @@
+#!/usr/bin/env python3
+"""as_a_user.py [YAMLLINT YLEDIT]: runs the built programs as a user does, and tells what is not as it should be.
+
+Without words it takes the programs that `rt run` left in crates/yamllint/out and crates/yledit/out. Each case below has its
+words and what is to come of it: standard output, standard error and the status. Then each request for memory of some longer
+runs is refused in turn (tools/refusing.c, built by cc and loaded before the C library), up to the first run that meets no
+refusal. It ends with 1 where something is not as it should be."""
+import os
+import subprocess
+import sys
+import tempfile
+from collections import namedtuple
+
+HERE = os.path.dirname(os.path.abspath(__file__))
+PROGRAMS = ("yamllint", "yledit")
+SECONDS = 60
+
+NO_START = 'f.yaml:1:1: [warning] missing document start "---" (document-start)\n'
+COLON_AND_BLANK = (
+    "spaced.yaml:2:4: [error] too many spaces after colon (colons)\n"
+    "spaced.yaml:2:6: [error] trailing spaces (trailing-spaces)\n"
+)
+MISSPELT = "extends: default\nrules:\n  line-lenght: disable\n"
+FILES = {
+    "f.yaml": b"a: 1\n",
+    "empty.yaml": b"",
+    "spaced.yaml": b"---\na:  1 \n",
+    "bytes.yaml": b"a: \xc3",
+    "misspelt": MISSPELT.encode(),
+}
+
+# A run: its program and its words, what is to come on standard output, on standard error and as status, what it is given on
+# standard input, and the shell's words for where input and output go.
+Case = namedtuple("Case", "program words out err status given shell", defaults=("", "", 0, b"", ""))
+
+CASES = [
+    Case("yamllint", ["empty.yaml"], "", "", 0),
+    Case("yamllint", ["f.yaml"], NO_START, "", 0),
+    Case("yamllint", ["-s", "f.yaml"], NO_START, "", 2),
+    Case("yamllint", ["--no-warnings", "-s", "f.yaml"], "", "", 2),
+    Case("yamllint", ["spaced.yaml"], COLON_AND_BLANK, "", 1),
+    Case("yamllint", ["-s", "f.yaml", "spaced.yaml"], NO_START + COLON_AND_BLANK, "", 1),
+    Case("yamllint", ["-"], NO_START.replace("f.yaml", "stdin"), "", 0, b"a: 1\n"),
+    # Words, configurations and files that are refused.
+    Case("yamllint", [], "", "yamllint: fault of use\n", 255),
+    Case("yamllint", ["-f", "other", "f.yaml"], "", "yamllint: fault of use\n", 255),
+    Case("yamllint", ["-c", "misspelt", "-d", "default", "f.yaml"], "", "yamllint: fault of use\n", 255),
+    Case("yamllint", ["-d", MISSPELT, "f.yaml"], "", "yamllint: configuration: UnknownRule at 3:3\n", 255),
+    Case("yamllint", ["-c", "misspelt", "f.yaml"], "", "yamllint: configuration: UnknownRule at 3:3\n", 255),
+    Case("yamllint", ["-d", "relaxed", "f.yaml"], "", "yamllint: configuration: UnknownExtends at 1:10\n", 255),
+    Case("yamllint", ["-c", "folder", "f.yaml"], "", "yamllint: folder: cannot be read\n", 255),
+    Case("yamllint", ["folder"], "", "yamllint: folder: cannot be read\n", 255),
+    Case("yamllint", ["none.yaml"], "", "yamllint: none.yaml: cannot be read\n", 255),
+    Case("yamllint", ["f.yaml", "folder", "spaced.yaml"], NO_START, "yamllint: folder: cannot be read\n", 255),
+    Case("yamllint", ["bytes.yaml"], "", "yamllint: bytes.yaml: not UTF-8 at byte 3\n", 255),
+    Case("yamllint", ["-"], "", "yamllint: stdin: cannot be read\n", 255, b"", "<&-"),
+    Case("yamllint", ["-"], "", "yamllint: stdin: cannot be read\n", 255, b"", "<folder"),
+    # Output that fails.
+    Case("yamllint", ["f.yaml"], "", "yamllint: output cannot be written\n", 255, b"", ">/dev/full"),
+    Case("yamllint", ["f.yaml"], "", "yamllint: output cannot be written\n", 255, b"", ">&-"),
+    Case("yamllint", ["empty.yaml"], "", "", 0, b"", ">&-"),
+    Case("yamllint", ["--help"], "", "yamllint: output cannot be written\n", 255, b"", ">/dev/full"),
+    # Commands.
+    Case("yledit", ["f.yaml"], NO_START + "-- ok 0\n-- ok 0\n-- refused Range\n", "", 0, b"replace 0 0 4\n---\nreplace 9 0 0\n"),
+    Case("yledit", ["-s", "f.yaml"], NO_START + "-- ok 2\n", "", 2),
+    Case("yledit", ["--no-warnings", "-s", "f.yaml"], "-- ok 2\n", "", 2),
+    Case("yledit", ["f.yaml"], NO_START + "-- ok 0\n", "yledit: bad command\n", 255, b"replace 0 1 9\nab"),
+    Case("yledit", ["f.yaml"], NO_START + "-- ok 0\n", "yledit: bad command\n", 255, b"\n"),
+    Case("yledit", ["f.yaml"], NO_START + "-- ok 0\n", "yledit: bad command\n", 255, b"replace 0 1 67108865\n"),
+    Case("yledit", ["f.yaml"], NO_START + "-- ok 0\n", "yledit: bad command\n", 255, b"replace 0 1 0"),
+    Case("yledit", ["f.yaml"], NO_START + "-- ok 0\n-- ok 0\n", "yledit: bad command\n", 255, b"replace 0 0 4\n---\nput\n"),
+    Case("yledit", ["f.yaml"], NO_START + "-- ok 0\n", "yledit: stdin: cannot be read\n", 255, b"", "<&-"),
+    Case("yledit", ["f.yaml"], NO_START + "-- ok 0\n", "yledit: stdin: cannot be read\n", 255, b"", "<folder"),
+    Case("yledit", ["-"], "", "yledit: fault of use\n", 255),
+    Case("yledit", ["--strict", "f.yaml"], "", "yledit: fault of use\n", 255),
+    Case("yledit", ["-d", MISSPELT, "f.yaml"], "", "yledit: configuration: UnknownRule at 3:3\n", 255),
+    Case("yledit", ["folder"], "", "yledit: folder: cannot be read\n", 255),
+    Case("yledit", ["bytes.yaml"], "", "yledit: bytes.yaml: not UTF-8 at byte 3\n", 255),
+    Case("yledit", ["f.yaml"], "", "yledit: output cannot be written\n", 255, b"", ">/dev/full"),
+    Case("yledit", ["f.yaml"], "", "yledit: output cannot be written\n", 255, b"", ">&-"),
+]
+
+# What the longer runs lint and edit: lines of each kind, with problems of each kind.
+LONG_TEXT = b"""---
+# yamllint disable-line rule:colons
+a:  1
+# yamllint disable rule:commas
+b: [1,2 , {c: yes, "d": 'e'}]
+# yamllint enable rule:commas
+f: &g |
+  some text
+h: *g
+a: *i
+j:
+    - "k\\u00e9l"
+    - >-
+      more text
+    -  !!str a plain scalar
+      over lines
+l:
+  m: words \n
+
+
+n: a line that is too long, with words that go on and on, past its last column and on
+---
+o: 1
+"""
+LONG_CONFIG = """extends: default
+rules:
+  truthy: {allowed-values: ["yes", "no"]}
+  quoted-strings: {quote-type: double, required: true}
+  indentation: {spaces: 4}
+  key-ordering: enable
+"""
+
+
+def command(first, count, line):
+    put = b"" if line is None else line + b"\n"
+    return b"replace %d %d %d\n" % (first, count, len(put)) + put
+
+
+COMMANDS = [
+    command(2, 1, b"a: 1"),
+    command(23, 1, b"o: 12"),
+    command(23, 1, b"o: 12 "),
+    command(23, 1, b"o: 12 b"),
+    command(23, 0, b"p: on"),
+    command(23, 0, b"# yamllint disable"),
+    command(23, 1, None),
+    command(8, 1, b"h: 'x"),
+    command(23, 1, b"p: off"),
+    command(8, 1, b"h: 'x'"),
+    command(4, 1, b"b: [1,2 , {c: yes"),
+    command(4, 1, b"b: [1,2 , {c: yes}]"),
+    command(16, 0, b"---"),
+    command(16, 1, None),
+    command(90, 1, None),
+    command(0, 24, b"q: 1"),
+]
+
+
+class Runs:
+    """The programs, run in a folder of files."""
+
+    def __init__(self, paths, folder):
+        self.paths = dict(zip(PROGRAMS, paths))
+        self.folder = folder
+        self.library = os.path.join(folder, "refusing.so")
+        self.told = os.path.join(folder, "told")
+        self.wrong = 0
+        subprocess.run(["cc", "-shared", "-fPIC", "-O1", "-o", self.library, os.path.join(HERE, "refusing.c")], check=True)
+
+    def ran(self, case, shell="", **more):
+        """What comes of a run: its output, its fault and its status."""
+        words = ["sh", "-c", f'exec "$0" "$@" {shell}', self.paths[case.program], *case.words]
+        if not shell:
+            words = words[3:]
+        run = subprocess.run(words, input=case.given, capture_output=True, cwd=self.folder, timeout=SECONDS,
+                             env={**os.environ, **more}, check=False)
+        return run.stdout.decode(), run.stderr.decode(), run.returncode
+
+    def refused(self, case, number):
+        """What comes of a run whose request of this number is refused, or None where there is none of this number."""
+        come = self.ran(case, LD_PRELOAD=self.library, REFUSED_REQUEST=str(number), REFUSAL_TOLD=self.told)
+        if not os.path.exists(self.told):
+            return None
+        os.remove(self.told)
+        return come
+
+    def tell(self, what, case, come):
+        self.wrong += 1
+        words = " ".join(repr(word) if " " in word or "\n" in word else word for word in case.words)
+        print(f"{case.program} {words} {case.shell}: {what}: {come}", flush=True)
+
+
+def check_cases(runs):
+    for case in CASES:
+        come = runs.ran(case, case.shell)
+        if come != (case.out, case.err, case.status):
+            runs.tell(f"{(case.out, case.err, case.status)} is to come, and there came", case, come)
+    print(f"{len(CASES)} runs")
+
+
+def ends_without_memory(case, whole, come):
+    """Whether a run ended early for want of memory: with a beginning of the answers."""
+    out, err, status = come
+    said = (f"{case.program}: out of memory\n", f"{case.program}: configuration: Memory\n")
+    return status == 255 and err in said and whole[0].startswith(out)
+
+
+def answers(out):
+    """The answers of yledit, each with its report."""
+    found, answer = [], ""
+    for line in out.splitlines(keepends=True):
+        answer += line
+        if line.startswith("-- "):
+            found.append(answer)
+            answer = ""
+    return found
+
+
+def without_each(runs, case, commands):
+    """What may come where one of the commands is refused: that of a run without it, and the refusal in its place."""
+    may_come = set()
+    for i in range(len(commands)):
+        given = b"".join(commands[:i] + commands[i + 1:])
+        out, err, status = runs.ran(case._replace(given=given))
+        told = answers(out)
+        may_come.add(("".join(told[:i + 1] + ["-- refused Memory\n"] + told[i + 1:]), err, status))
+    return may_come
+
+
+def refuse_each(runs, case, may_come):
+    """Refuses each request of a run in turn: it ends early, or this may come."""
+    whole = runs.ran(case)
+    number, ended = 1, 0
+    while (come := runs.refused(case, number)) is not None:
+        # A run that ends early has given all answers to the commands before.
+        if ends_without_memory(case, whole, come) and (case.program == "yamllint" or "".join(answers(come[0])) == come[0]):
+            ended += 1
+        elif come not in may_come:
+            runs.tell(f"with request {number} refused there came", case, come)
+        number += 1
+    print(f"{case.program}: {number - 1} requests refused, {ended} of them ended the run")
+
+
+def check_refusals(runs):
+    for words in (["long.yaml"], ["-s", "-c", "settings", "f.yaml", "long.yaml", "-"]):
+        refuse_each(runs, Case("yamllint", words, given=LONG_TEXT), set())
+    for words in (["long.yaml"], ["--work", "-d", LONG_CONFIG, "long.yaml"]):
+        case = Case("yledit", words, given=b"".join(COMMANDS))
+        refuse_each(runs, case, without_each(runs, case, COMMANDS))
+
+
+def main():
+    built = [os.path.join(os.path.dirname(HERE), "crates", name, "out", name) for name in PROGRAMS]
+    paths = [os.path.abspath(path) for path in sys.argv[1:]] or built
+    if len(paths) != 2:
+        sys.exit(__doc__)
+    with tempfile.TemporaryDirectory() as folder:
+        os.mkdir(os.path.join(folder, "folder"))
+        for name, text in {**FILES, "long.yaml": LONG_TEXT, "settings": LONG_CONFIG.encode()}.items():
+            with open(os.path.join(folder, name), "wb") as file:
+                file.write(text)
+        runs = Runs(paths, folder)
+        check_cases(runs)
+        check_refusals(runs)
+    sys.exit(1 if runs.wrong else None)
+
+
+if __name__ == "__main__":
+    main()
