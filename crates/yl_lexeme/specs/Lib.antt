@@ -10,3 +10,4 @@ pub mod Parts
 pub mod Past
 pub mod PlacedComments
 pub mod Surroundings
+pub mod Version

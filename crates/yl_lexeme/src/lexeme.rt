@@ -1,5 +1,6 @@
 //! Lexemes and comments: what the scanner reads of a text.
 
+use crate::version::is_version_1_2;
 use std::alloc::Allocator;
 use std::marker::Model;
 use yl_inline::{InlineString, ShortText, Storage};
@@ -134,6 +135,7 @@ impl<A: Allocator> Model for Lexeme<A> {
 impl<A: Allocator> Lexeme<A> {
     ghost use Rattle.std.specs.Prelude.{◌≡◌};
     ghost use Rattle.std.specs.Str.{encode_utf8_all};
+    ghost use Rattle.yl_lexeme.specs.Version.{is_yaml_1_2};
 
     /// A lexeme that begins at this column, of these parts.
     pub fn new(kind: Kind, column: u32, end: Pos, value: InlineString<A>) -> Lexeme<A>
@@ -200,6 +202,13 @@ impl<A: Allocator> Lexeme<A> {
             Parts::Short { value, .. } => value.as_str(),
             Parts::Long { value, .. } => value.as_str(),
         }
+    }
+
+    /// Whether it is the directive that says that its document is one of YAML 1.2: the words `%YAML` and `1.2` with white space between.
+    pub fn is_yaml_1_2(&self) -> bool
+        ensures { result ≡ is_yaml_1_2 self.now }
+    {
+        matches!(self.kind(), Kind::Directive) && is_version_1_2(self.value().as_bytes())
     }
 }
 

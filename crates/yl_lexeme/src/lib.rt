@@ -16,6 +16,7 @@ mod short_stack;
 mod stack;
 mod surroundings;
 mod unit;
+mod version;
 
 pub use blocks::Items;
 pub use columns::columns_are_open;

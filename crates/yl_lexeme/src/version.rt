@@ -1,0 +1,36 @@
+//! The directive that says that a document is one of YAML 1.2: YAML 1.2.2, 6.8.1.
+ghost use Rattle.std.specs.Prelude.{◌≡◌, codes};
+ghost use Rattle.yl_text.specs.Character.{is_white};
+ghost use Rattle.yl_lexeme.specs.Version.{is_behind_white, is_version_1_2};
+
+fn is_white(c: u8) -> bool
+    ensures { result ≡ is_white c }
+{
+    c == b' ' || c == b'\t'
+}
+
+/// Whether a text is white space, of one character or more, and then the word `1.2`.
+fn is_behind_white(text: &[u8]) -> bool
+    ensures { result ≡ is_behind_white (codes "1.2") text.now }
+{
+    for (i, c) in text.iter().enumerate() {
+        if !is_white(*c) {
+            return false;
+        }
+        let (_, rest) = text.split_at(i + 1);
+        if rest == b"1.2".as_slice() {
+            return true;
+        }
+    }
+    false
+}
+
+/// Whether a text consists of the words `%YAML` and `1.2` with white space between.
+pub(crate) fn is_version_1_2(text: &[u8]) -> bool
+    ensures { result ≡ is_version_1_2 text.now }
+{
+    match text.strip_prefix(b"%YAML") {
+        None => false,
+        Some(rest) => is_behind_white(rest),
+    }
+}
