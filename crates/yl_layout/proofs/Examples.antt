@@ -1,10 +1,11 @@
 -- Short texts, as lexemes, and what the rules find in them, computed.
-use Rattle.std.specs.Prelude.{ℕ, Bool, ◌≡◌, refl, List, [], ◌∷◌, ◌++◌, ◌&&◌, codes, length, true, Some}
+use Rattle.std.specs.Prelude.{ℕ, Bool, ◌≡◌, refl, List, [], ◌∷◌, ◌++◌, ◌&&◌, codes, length, true, Some, is_some}
+use Rattle.std.specs.List.{list_all}
 use Rattle.std.specs.Ordering.{is_lt, nat_cmp}
 use Rattle.std.specs.Cmp.Lexicographic.{slice_cmp}
 use Rattle.yl_lexeme.specs.declared.lexeme.Style.TheVariants.{Plain, Double}
 use Rattle.yl_lexeme.specs.declared.lexeme.Kind.{Kind}
-use Rattle.yl_lexeme.specs.declared.lexeme.Kind.TheVariants.{DocStart, Entry, Key, Value, Comma, SeqOpen, SeqClose, MapOpen, MapClose, Alias, Tag, Scalar}
+use Rattle.yl_lexeme.specs.declared.lexeme.Kind.TheVariants.{Directive, DocStart, Entry, Key, Value, Comma, SeqOpen, SeqClose, MapOpen, MapClose, Alias, Tag, Scalar}
 use Rattle.yl_lexeme.specs.Lexeme.{LexemeValue}
 use Rattle.yl_text.specs.Finding.{FindingValue, one_finding}
 use Rattle.yl_text.specs.declared.finding.RuleId.TheVariants.{Braces, Brackets, Colons, Commas, DocumentStart, Hyphens, QuotedStrings, Truthy}
@@ -13,7 +14,7 @@ use Rattle.yl_layout.specs.declared.options.LexemeOptions.{LexemeOptions}
 use Rattle.yl_layout.specs.declared.quoted_strings.QuoteType.TheVariants as quotes
 use Rattle.yl_layout.specs.Lexemes.{lexeme_findings}
 use Rattle.yl_layout.specs.Standard.{standard_brackets, standard_options}
-use Rattle.yl_layout.specs.Truthy.{truthy_words}
+use Rattle.yl_layout.specs.Truthy.{core_words, truthy_index, truthy_words}
 
 -- a lexeme in one line, from a column to before another
 abbrev lexeme : Kind → ℕ → ℕ → ℕ → List ℕ → LexemeValue
@@ -90,6 +91,14 @@ truthy_words_found = refl
 pub tag_of_a_mapping : all_of standard_options (lexeme DocStart 0 0 3 (codes "") ∷ lexeme (Scalar Plain) 1 0 1 (codes "k") ∷ lexeme Value 1 1 2 (codes "") ∷ lexeme Tag 1 3 8 (codes "") ∷ lexeme (Scalar Plain) 2 2 5 (codes "yes") ∷ lexeme Value 2 5 6 (codes "") ∷ lexeme (Scalar Plain) 2 7 8 (codes "1") ∷ []) ≡ wrong 3 3
 tag_of_a_mapping = refl
 
+-- '%YAML 1.2\n---\na: yes\nb: True\n'
+pub fewer_truthy_words : all_of standard_options (lexeme Directive 0 0 9 (codes "%YAML 1.2") ∷ lexeme DocStart 1 0 3 (codes "") ∷ lexeme (Scalar Plain) 2 0 1 (codes "a") ∷ lexeme Value 2 1 2 (codes "") ∷ lexeme (Scalar Plain) 2 3 6 (codes "yes") ∷ lexeme (Scalar Plain) 3 0 1 (codes "b") ∷ lexeme Value 3 1 2 (codes "") ∷ lexeme (Scalar Plain) 3 3 7 (codes "True") ∷ []) ≡ wrong 4 4
+fewer_truthy_words = refl
+
+-- '%YAML 1.1\n---\na: yes\n'
+pub truthy_words_of_1_1 : all_of standard_options (lexeme Directive 0 0 9 (codes "%YAML 1.1") ∷ lexeme DocStart 1 0 3 (codes "") ∷ lexeme (Scalar Plain) 2 0 1 (codes "a") ∷ lexeme Value 2 1 2 (codes "") ∷ lexeme (Scalar Plain) 2 3 6 (codes "yes") ∷ []) ≡ wrong 3 4
+truthy_words_of_1_1 = refl
+
 -- '---\na: "x"\nb: 1\nc: x\n'
 pub other_quotes : all_of quoting (lexeme DocStart 0 0 3 (codes "") ∷ lexeme (Scalar Plain) 1 0 1 (codes "a") ∷ lexeme Value 1 1 2 (codes "") ∷ lexeme (Scalar Double) 1 3 6 (codes "x") ∷ lexeme (Scalar Plain) 2 0 1 (codes "b") ∷ lexeme Value 2 1 2 (codes "") ∷ lexeme (Scalar Plain) 2 3 4 (codes "1") ∷ lexeme (Scalar Plain) 3 0 1 (codes "c") ∷ lexeme Value 3 1 2 (codes "") ∷ lexeme (Scalar Plain) 3 3 4 (codes "x") ∷ []) ≡ unquoted 2 4 ++ unquoted 4 4
 other_quotes = refl
@@ -103,3 +112,6 @@ rise_from w (v ∷ vs) = is_lt (slice_cmp nat_cmp w v) && rise_from v vs
 
 pub words_in_order : rise_from [] truthy_words ≡ true
 words_in_order = refl
+
+pub core_words_among_them : list_all (λ w. is_some (truthy_index w)) core_words ≡ true
+core_words_among_them = refl

@@ -1,5 +1,5 @@
 -- At a lexeme of each kind most of the rules find nothing.
-use Rattle.std.proofs.Common.{◌≡◌, ℕ, false, List, [], ◌++◌, Option, Some, None, refl, ◌∙◌, ap, append_assoc, append-nil}
+use Rattle.std.proofs.Common.{◌≡◌, ℕ, Bool, false, List, [], ◌++◌, Option, Some, None, refl, ◌∙◌, ap, append_assoc, append-nil}
 use Rattle.yl_lexeme.specs.declared.lexeme.Kind.{Kind}
 use Rattle.yl_lexeme.specs.declared.lexeme.Kind.TheVariants.{Directive, DocStart, DocEnd, Entry, Key, Value, Comma, SeqOpen, SeqClose, MapOpen, MapClose, Alias, Anchor, Tag, Scalar}
 use Rattle.yl_lexeme.specs.Lexeme.{is_comma, is_entry, is_key, is_value}
@@ -184,14 +184,14 @@ parts_joined found flow colon hyphen start value i a b c p q r e =
     ∙ simp append_assoc
 
 -- what is found at indicators, of documents, and at values is all that is found
-pub found_at : (o : LexemeOptions) (before : Option Span) (x : Span) (value : List ℕ)
+pub found_at : (is_1_2 : Bool) (o : LexemeOptions) (before : Option Span) (x : Span) (value : List ℕ)
     (key : KeyFacts) (after : Option Span) (found a b c : List FindingValue)
     → a ≡ found ++ indicator_findings x.kind o before x after
     → b ≡ a ++ document_start o.document_start before x
-    → c ≡ b ++ value_findings o x value key
-    → c ≡ found ++ findings_of o before x value key after
-found_at o before x value key after found a b c p q r =
+    → c ≡ b ++ value_findings is_1_2 o x value key
+    → c ≡ found ++ findings_of is_1_2 o before x value key after
+found_at is_1_2 o before x value key after found a b c p q r =
     parts_joined found (flow_findings o before x after) (colons o.colons before x after)
     (hyphens o.hyphens x after) (document_start o.document_start before x)
-    (value_findings o x value key) _ a b c p q r
+    (value_findings is_1_2 o x value key) _ a b c p q r
     (indicators o before x.kind x.start x.end_line x.end_col after)

@@ -1,5 +1,5 @@
 -- Bridge: what the rules on lexemes find at a lexeme, by its kind.
-use Rattle.std.specs.Prelude.{ℕ, List, [], ◌++◌, Option}
+use Rattle.std.specs.Prelude.{ℕ, Bool, List, [], ◌++◌, Option}
 use Rattle.yl_lexeme.specs.declared.lexeme.Kind.{Kind}
 use Rattle.yl_lexeme.specs.declared.lexeme.Kind.TheVariants.{Directive, DocStart, DocEnd, Entry, Key, Value, Comma, SeqOpen, SeqClose, MapOpen, MapClose, Alias, Anchor, Tag, Scalar}
 use Rattle.yl_marks.specs.declared.facts.KeyFacts.{KeyFacts}
@@ -35,7 +35,7 @@ indicator_findings (Scalar style) o before x after = []
 
 -- at a lexeme between its neighbours, by its span and its value
 abbrev pub findings_of :
-    LexemeOptions → Option Span → Span → List ℕ → KeyFacts → Option Span → List FindingValue
-findings_of o before x value key after =
+    Bool → LexemeOptions → Option Span → Span → List ℕ → KeyFacts → Option Span → List FindingValue
+findings_of is_1_2 o before x value key after =
     flow_findings o before x after
-    ++ (block_findings o before x after ++ value_findings o x value key)
+    ++ (block_findings o before x after ++ value_findings is_1_2 o x value key)

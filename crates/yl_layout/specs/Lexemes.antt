@@ -1,5 +1,5 @@
 -- Meaning: what the rules on lexemes find in the lexemes of a document.
-use Rattle.std.specs.Prelude.{ℕ, List, [], ◌∷◌, ◌++◌, take, Option, Some, None}
+use Rattle.std.specs.Prelude.{ℕ, Bool, List, [], ◌∷◌, ◌++◌, take, Option, Some, None}
 use Rattle.yl_lexeme.specs.Lexeme.{LexemeValue}
 use Rattle.yl_marks.specs.declared.facts.KeyFacts.{KeyFacts}
 use Rattle.yl_marks.specs.Facts.{key_facts}
@@ -15,6 +15,7 @@ use Rattle.yl_layout.specs.DocumentStart.{document_start}
 use Rattle.yl_layout.specs.Hyphens.{hyphens}
 use Rattle.yl_layout.specs.QuotedStrings.{quoted_strings}
 use Rattle.yl_layout.specs.Truthy.{truthy}
+use Rattle.yl_layout.specs.Version.{is_1_2_document}
 
 -- the rules on flow collections, at a lexeme between its neighbours
 abbrev pub flow_findings : LexemeOptions → Option Span → Span → Option Span → List FindingValue
@@ -28,16 +29,16 @@ block_findings o before x after =
     colons o.colons before x after ++ (hyphens o.hyphens x after
     ++ document_start o.document_start before x)
 
--- those on values
-abbrev pub value_findings : LexemeOptions → Span → List ℕ → KeyFacts → List FindingValue
-value_findings o x value key =
-    truthy o.truthy x value key ++ quoted_strings o.quoted_strings x value key
+-- those on values, by whether the document says that it is one of YAML 1.2
+abbrev pub value_findings : Bool → LexemeOptions → Span → List ℕ → KeyFacts → List FindingValue
+value_findings is_1_2 o x value key =
+    truthy is_1_2 o.truthy x value key ++ quoted_strings o.quoted_strings x value key
 
-abbrev pub findings_at : LexemeOptions → Option Span → LexemeValue → KeyFacts → Option Span
+abbrev pub findings_at : Bool → LexemeOptions → Option Span → LexemeValue → KeyFacts → Option Span
     → List FindingValue
-findings_at o before x key after =
+findings_at is_1_2 o before x key after =
     flow_findings o before (span_of x) after ++ (block_findings o before (span_of x) after
-    ++ value_findings o (span_of x) x.value key)
+    ++ value_findings is_1_2 o (span_of x) x.value key)
 
 abbrev pub first_span : List LexemeValue → Option Span
 first_span [] = None
@@ -45,13 +46,15 @@ first_span (x ∷ xs) = Some (span_of x)
 
 -- at each of these lexemes, which follow one more; beside each stands what the document's keys say
 -- of it
-abbrev pub findings_behind : LexemeOptions → Option Span → List LexemeValue → List KeyFacts
-    → List FindingValue
-findings_behind o before [] keys = []
-findings_behind o before (x ∷ xs) [] = []
-findings_behind o before (x ∷ xs) (key ∷ keys) =
-    findings_at o before x key (first_span xs) ++ findings_behind o (Some (span_of x)) xs keys
+abbrev pub findings_behind : Bool → LexemeOptions → Option Span → List LexemeValue
+    → List KeyFacts → List FindingValue
+findings_behind is_1_2 o before [] keys = []
+findings_behind is_1_2 o before (x ∷ xs) [] = []
+findings_behind is_1_2 o before (x ∷ xs) (key ∷ keys) =
+    findings_at is_1_2 o before x key (first_span xs)
+    ++ findings_behind is_1_2 o (Some (span_of x)) xs keys
 
 -- in a document of which so many lexemes count; whether one is a key may show behind them
 abbrev pub lexeme_findings : LexemeOptions → ℕ → List LexemeValue → List FindingValue
-lexeme_findings o counted xs = findings_behind o None (take counted xs) (key_facts xs)
+lexeme_findings o counted xs =
+    findings_behind (is_1_2_document xs) o None (take counted xs) (key_facts xs)

@@ -4,6 +4,7 @@ pub mod Colons
 pub mod Commas
 pub mod Hyphens
 pub mod DocumentStart
+pub mod Version
 pub mod Truthy
 pub mod TruthyLetters
 pub mod QuotedStrings

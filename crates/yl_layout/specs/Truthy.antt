@@ -1,5 +1,6 @@
 -- Meaning: yamllint's rule truthy.
 use Rattle.std.specs.Prelude.{ℕ, Bool, true, false, not, ◌&&◌, ◌||◌, if◌then◌else◌, List, [], ◌∷◌, ◌++◌, ◌+◌, codes, Option, Some, None, bytes_eq, slice_index_or}
+use Rattle.std.specs.List.{list_any}
 use Rattle.yl_lexeme.specs.declared.lexeme.Style.TheVariants.{Plain}
 use Rattle.yl_lexeme.specs.declared.lexeme.Kind.{Kind}
 use Rattle.yl_lexeme.specs.declared.lexeme.Kind.TheVariants.{Scalar}
@@ -17,6 +18,18 @@ truthy_words =
     ∷ codes "On" ∷ codes "TRUE"
     ∷ codes "True" ∷ codes "YES" ∷ codes "Yes" ∷ codes "false" ∷ codes "no" ∷ codes "off"
     ∷ codes "on" ∷ codes "true" ∷ codes "yes" ∷ []
+
+-- those among them that the core schema of YAML 1.2 has (YAML 1.2.2, 10.3.2)
+abbrev pub core_words : List (List ℕ)
+core_words =
+    codes "FALSE" ∷ codes "False" ∷ codes "TRUE" ∷ codes "True" ∷ codes "false" ∷ codes "true" ∷ []
+
+abbrev pub is_core_word : List ℕ → Bool
+is_core_word word = list_any (λ w. bytes_eq w word) core_words
+
+-- a document that says that it is one of YAML 1.2 has those of the core schema alone
+abbrev pub is_word_there : Bool → List ℕ → Bool
+is_word_there is_1_2 word = not is_1_2 || is_core_word word
 
 -- the index of a word among these, of which the first has such an index
 abbrev pub index_from : ℕ → List (List ℕ) → List ℕ → Option ℕ
@@ -56,19 +69,19 @@ is_plain _ = false
 abbrev pub is_asked : TruthyOptions → KeyFacts → Bool
 is_asked o key = o.check_keys || not key.is_key
 
--- a plain scalar without tag whose value is a truthy word that is not allowed
-abbrev pub is_truthy : TruthyOptions → Kind → List ℕ → KeyFacts → Bool
-is_truthy o kind value key = is_plain kind && not key.has_tag && is_asked o key
-    && is_wrong o.allowed_values (truthy_index value)
+-- a plain scalar without tag whose value is a truthy word of its document that is not allowed
+abbrev pub is_truthy : Bool → TruthyOptions → Kind → List ℕ → KeyFacts → Bool
+is_truthy is_1_2 o kind value key = is_plain kind && not key.has_tag && is_asked o key
+    && is_wrong o.allowed_values (truthy_index value) && is_word_there is_1_2 value
 
 abbrev pub truthy_found : TruthyOptions → Span → List FindingValue
 truthy_found o x =
     one_finding Truthy (x.start.line + 1) (x.start.col + 1) (truthy_text o.allowed_values)
 
-abbrev pub truthy_by : TruthyOptions → Span → List ℕ → KeyFacts → List FindingValue
-truthy_by o x value key = if is_truthy o x.kind value key then truthy_found o x else []
+abbrev pub truthy_by : Bool → TruthyOptions → Span → List ℕ → KeyFacts → List FindingValue
+truthy_by is_1_2 o x value key = if is_truthy is_1_2 o x.kind value key then truthy_found o x else []
 
 -- at a lexeme and its value, if the rule is on
-abbrev pub truthy : Option TruthyOptions → Span → List ℕ → KeyFacts → List FindingValue
-truthy None x value key = []
-truthy (Some o) x value key = truthy_by o x value key
+abbrev pub truthy : Bool → Option TruthyOptions → Span → List ℕ → KeyFacts → List FindingValue
+truthy is_1_2 None x value key = []
+truthy is_1_2 (Some o) x value key = truthy_by is_1_2 o x value key

@@ -3,7 +3,8 @@ ghost use Rattle.std.specs.Prelude.{◌≡◌, ◌++◌, ◌+◌, ◌<◌, ◌�
 ghost use Rattle.yl_marks.specs.Keys.{lexeme_at_line};
 ghost use Rattle.yl_marks.specs.Facts.{key_facts};
 ghost use Rattle.yl_layout.specs.Lexemes.{findings_behind, first_span, lexeme_findings, value_findings};
-ghost use Rattle.yl_layout.specs.Kinds.{findings_of, indicator_findings};
+ghost use Rattle.yl_layout.specs.Kinds.{indicator_findings};
+ghost use Rattle.yl_layout.specs.Version.{is_1_2_document};
 
 use crate::brackets::{Flow, push_brackets};
 use crate::colons::push_colons;
@@ -14,6 +15,7 @@ use crate::options::LexemeOptions;
 use crate::quoted_strings::push_quoted_strings;
 use crate::span::{Place, Span, span_of};
 use crate::truthy::push_truthy;
+use crate::version::is_1_2_document;
 use std::alloc::{AllocError, Allocator};
 use yl_lexeme::{Kind, LexemeAtLine};
 use yl_marks::KeyFacts;
@@ -81,39 +83,20 @@ fn push_at_indicator<A: Allocator>(
     }
 }
 
-/// The rules on values.
+/// The rules on values, by whether the document says that it is one of YAML 1.2.
 fn push_values<A: Allocator + Copy>(
     problems: &mut Vec<Finding<A>, A>,
+    is_1_2: bool,
     options: &LexemeOptions,
     x: &Span,
     value: &str,
     key: KeyFacts,
 ) -> Result<(), AllocError>
     ensures { OnOk result (problems.new.items
-        ≡ problems.old.items ++ value_findings options.now x.now value.now key) }
+        ≡ problems.old.items ++ value_findings is_1_2 options.now x.now value.now key) }
 {
-    push_truthy(problems, &options.truthy, x, value, key)?;
+    push_truthy(problems, is_1_2, &options.truthy, x, value, key)?;
     push_quoted_strings(problems, &options.quoted_strings, x, value, key)?;
-    Ok(())
-}
-
-/// Puts behind the problems what the rules find at a lexeme between its neighbours.
-fn push_at<A: Allocator + Copy>(
-    problems: &mut Vec<Finding<A>, A>,
-    options: &LexemeOptions,
-    before: &Option<Span>,
-    here: &Span,
-    behind: &[LexemeAtLine<'_, A>],
-    value: &str,
-    key: KeyFacts,
-) -> Result<(), AllocError>
-    ensures { OnOk result (problems.new.items ≡ problems.old.items
-        ++ findings_of options.now before.now here.now value.now key
-        (first_span (map (λ x. lexeme_at_line x.line x.lexeme.now) behind.now))) }
-{
-    push_at_indicator(problems, options, before, here, behind)?;
-    push_document_start(problems, &options.document_start, before, here)?;
-    push_values(problems, options, here, value, key)?;
     Ok(())
 }
 
@@ -127,16 +110,18 @@ fn first_span<A: Allocator>(lexemes: &[LexemeAtLine<'_, A>]) -> Option<Span>
     }
 }
 
-/// What the rules find in lexemes, beside each of which stands what the document's keys say of it.
+/// What the rules find in lexemes, beside each of which stands what the document's keys say of it, by whether the document says that
+/// it is one of YAML 1.2.
 fn problems_of<A: Allocator + Copy>(
     alloc: A,
     lexemes: &[LexemeAtLine<'_, A>],
     keys: &[KeyFacts],
+    is_1_2: bool,
     options: &LexemeOptions,
 ) -> Result<Vec<Finding<A>, A>, AllocError>
     requires { length lexemes.now ≤ length keys.now }
     ensures { IfOk result (λ v. v.items
-        ≡ findings_behind options.now None
+        ≡ findings_behind is_1_2 options.now None
         (map (λ x. lexeme_at_line x.line x.lexeme.now) lexemes.now) keys.now) }
 {
     let mut problems = Vec::new(alloc);
@@ -144,15 +129,10 @@ fn problems_of<A: Allocator + Copy>(
     for (i, at) in lexemes.iter().enumerate() {
         let (_, behind) = lexemes.split_at(i + 1);
         let here = span_of(at);
-        push_at(
-            &mut problems,
-            options,
-            &before,
-            &here,
-            behind,
-            at.lexeme.value(),
-            keys[i],
-        )?;
+        push_at_indicator(&mut problems, options, &before, &here, behind)?;
+        push_document_start(&mut problems, &options.document_start, &before, &here)?;
+        let value = at.lexeme.value();
+        push_values(&mut problems, is_1_2, options, &here, value, keys[i])?;
         before = Some(here);
     }
     Ok(problems)
@@ -177,6 +157,7 @@ pub fn lexeme_problems<A: Allocator + Copy>(
         ≡ lexeme_findings options.now counted
         (map (λ x. lexeme_at_line x.line x.lexeme.now) lexemes.now)) }
 {
+    let is_1_2 = is_1_2_document(lexemes);
     let (lexemes, _) = lexemes.split_at(counted);
-    problems_of(alloc, lexemes, keys, options)
+    problems_of(alloc, lexemes, keys, is_1_2, options)
 }

@@ -13,6 +13,7 @@ mod quoted_strings;
 mod report;
 mod span;
 mod truthy;
+mod version;
 mod words;
 
 pub use brackets::{BracketsOptions, Forbid};

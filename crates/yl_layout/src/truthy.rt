@@ -1,9 +1,9 @@
 //! The rule truthy.
 ghost use Rattle.std.specs.Prelude.{◌≡◌, ◌++◌, ◌+◌, ◌<◌, ◌^◌, OnOk};
-ghost use Rattle.yl_layout.specs.Truthy.{is_asked, is_plain, is_truthy, is_wrong, truthy, truthy_by, truthy_found};
+ghost use Rattle.yl_layout.specs.Truthy.{is_asked, is_core_word, is_plain, is_truthy, is_word_there, is_wrong, truthy, truthy_by, truthy_found};
 
 use crate::span::Span;
-use crate::words::{truthy_text, word_index};
+use crate::words::{is_word, truthy_text, word_index};
 use std::alloc::{AllocError, Allocator};
 use yl_lexeme::{Kind, Style};
 use yl_marks::KeyFacts;
@@ -100,9 +100,28 @@ fn is_wrong(words: &TruthyWords, index: Option<usize>) -> bool
     }
 }
 
-/// Whether a lexeme is a plain scalar without tag whose value is a truthy word that is not allowed.
-fn is_truthy(options: &TruthyOptions, kind: Kind, value: &str, key: KeyFacts) -> bool
-    ensures { result ≡ is_truthy options.now kind value.now key }
+/// Whether a word is a truthy one of the core schema of YAML 1.2.
+fn is_core_word(word: &[u8]) -> bool
+    ensures { result ≡ is_core_word word.now }
+{
+    is_word("FALSE", word)
+        || is_word("False", word)
+        || is_word("TRUE", word)
+        || is_word("True", word)
+        || is_word("false", word)
+        || is_word("true", word)
+}
+
+/// Whether a truthy word is one in its document: one of YAML 1.2 has those of the core schema alone.
+fn is_word_there(is_1_2: bool, word: &[u8]) -> bool
+    ensures { result ≡ is_word_there is_1_2 word.now }
+{
+    !is_1_2 || is_core_word(word)
+}
+
+/// Whether a lexeme is a plain scalar without tag whose value is a truthy word of its document that is not allowed.
+fn is_truthy(is_1_2: bool, options: &TruthyOptions, kind: Kind, value: &str, key: KeyFacts) -> bool
+    ensures { result ≡ is_truthy is_1_2 options.now kind value.now key }
 {
     if !is_plain(kind) {
         return false;
@@ -113,6 +132,7 @@ fn is_truthy(options: &TruthyOptions, kind: Kind, value: &str, key: KeyFacts) ->
             &options.allowed_values,
             TruthyWords::index_of(value.as_bytes()),
         )
+        && is_word_there(is_1_2, value.as_bytes())
 }
 
 fn report_truthy<A: Allocator + Copy>(
@@ -133,34 +153,37 @@ fn report_truthy<A: Allocator + Copy>(
 
 fn push_truthy_by<A: Allocator + Copy>(
     problems: &mut Vec<Finding<A>, A>,
+    is_1_2: bool,
     options: &TruthyOptions,
     x: &Span,
     value: &str,
     key: KeyFacts,
 ) -> Result<(), AllocError>
     ensures { OnOk result (problems.new.items ≡ problems.old.items
-        ++ truthy_by options.now x.now value.now key) }
+        ++ truthy_by is_1_2 options.now x.now value.now key) }
 {
-    if is_truthy(options, x.kind, value, key) {
+    if is_truthy(is_1_2, options, x.kind, value, key) {
         report_truthy(problems, options, x)
     } else {
         Ok(())
     }
 }
 
-/// Puts behind the problems what the rule finds at a lexeme and its value, if it is on.
+/// Puts behind the problems what the rule finds at a lexeme and its value, if it is on, by whether the document says that it is one
+/// of YAML 1.2.
 pub(crate) fn push_truthy<A: Allocator + Copy>(
     problems: &mut Vec<Finding<A>, A>,
+    is_1_2: bool,
     options: &Option<TruthyOptions>,
     x: &Span,
     value: &str,
     key: KeyFacts,
 ) -> Result<(), AllocError>
     ensures { OnOk result (problems.new.items ≡ problems.old.items
-        ++ truthy options.now x.now value.now key) }
+        ++ truthy is_1_2 options.now x.now value.now key) }
 {
     match options {
         None => Ok(()),
-        Some(options) => push_truthy_by(problems, options, x, value, key),
+        Some(options) => push_truthy_by(problems, is_1_2, options, x, value, key),
     }
 }

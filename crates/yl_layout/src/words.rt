@@ -57,7 +57,8 @@ fn may_be_truthy(word: &[u8]) -> bool
     }
 }
 
-fn is_word(word: &str, text: &[u8]) -> bool
+/// Whether a text is this word.
+pub(crate) fn is_word(word: &str, text: &[u8]) -> bool
     ensures { result ≡ bytes_eq word.now text.now }
 {
     word.as_bytes() == text

@@ -28,6 +28,69 @@ fn truthy_words_with_the_usual_options(rt: HostRuntime) -> Result<(), Fail> {
             "---\na: False\n",
             "2:4 truthy value should be one of [false, true] (truthy)\n",
         ),
+        // A document of YAML 1.2 has fewer.
+        (
+            "%YAML 1.2\n---\n- [YES, Yes, yes, NO, No, no, ON, On, on, OFF, Off, off]\n- [TRUE, True, true, FALSE, False, false]\n",
+            "4:4 truthy value should be one of [false, true] (truthy)\n\
+             4:10 truthy value should be one of [false, true] (truthy)\n\
+             4:22 truthy value should be one of [false, true] (truthy)\n\
+             4:29 truthy value should be one of [false, true] (truthy)\n",
+        ),
+        (
+            "%YAML 1.2\n---\nyes: True\nTRUE: no\n",
+            "3:6 truthy value should be one of [false, true] (truthy)\n\
+             4:1 truthy value should be one of [false, true] (truthy)\n",
+        ),
+        (
+            "%YAML\t 1.2 # c\n---\na: yes\nb: True\n",
+            "4:4 truthy value should be one of [false, true] (truthy)\n",
+        ),
+        // One of its directives is enough.
+        (
+            "%TAG ! tag:x,2000:\n%YAML 1.2\n%YAML 1.1\n---\na: yes\nb: True\n",
+            "6:4 truthy value should be one of [false, true] (truthy)\n",
+        ),
+        // Without a start marker the directives are those of the document all the same.
+        (
+            "%YAML 1.2\na: yes\nb: True\n",
+            "3:4 truthy value should be one of [false, true] (truthy)\n",
+        ),
+        // These say something else, or nothing.
+        (
+            "%YAML 1.1\n---\na: yes\nb: True\n",
+            "3:4 truthy value should be one of [false, true] (truthy)\n\
+             4:4 truthy value should be one of [false, true] (truthy)\n",
+        ),
+        (
+            "%YAML 1.2 x\n---\na: yes\nb: True\n",
+            "3:4 truthy value should be one of [false, true] (truthy)\n\
+             4:4 truthy value should be one of [false, true] (truthy)\n",
+        ),
+        (
+            "%YAML 1.20\n---\na: yes\nb: True\n",
+            "3:4 truthy value should be one of [false, true] (truthy)\n\
+             4:4 truthy value should be one of [false, true] (truthy)\n",
+        ),
+        (
+            "%yaml 1.2\n---\na: yes\nb: True\n",
+            "3:4 truthy value should be one of [false, true] (truthy)\n\
+             4:4 truthy value should be one of [false, true] (truthy)\n",
+        ),
+        (
+            "%YAML1.2\n---\na: yes\nb: True\n",
+            "3:4 truthy value should be one of [false, true] (truthy)\n\
+             4:4 truthy value should be one of [false, true] (truthy)\n",
+        ),
+        (
+            "---\n# %YAML 1.2\na: yes\nb: True\n",
+            "3:4 truthy value should be one of [false, true] (truthy)\n\
+             4:4 truthy value should be one of [false, true] (truthy)\n",
+        ),
+        // A directive behind the document's start is not one of its own.
+        (
+            "---\na: yes\n...\n%YAML 1.2\n---\n",
+            "2:4 truthy value should be one of [false, true] (truthy)\n",
+        ),
     ] {
         let found = problems(rt.alloc(), text, &LexemeOptions::standard())?;
         assert_eq!(rt; found.as_str(), wanted, "at {text}");
