@@ -1,5 +1,5 @@
 -- A report of two lists is that of one of them and of what the report of the other tells.
-use Rattle.std.proofs.Common.{◌≡◌, ℕ, ◌-◌, Bool, true, false, List, [], ◌∷◌, ◌++◌, map, Option, Some, None, refl, ap, sym, ◌∙◌, ◌⊎◌, inl, inr, cond}
+use Rattle.std.proofs.Common.{◌≡◌, ℕ, ◌-◌, Bool, true, false, List, [], ◌∷◌, ◌++◌, map, Option, Some, None, refl, ap, ◌∙◌, ◌⊎◌, inl, inr, cond}
 use Rattle.std.specs.Prelude.{◌&&◌, ◌||◌, not, is_some}
 use Rattle.std.specs.List.{filter, filter_map, cons_option}
 use Rattle.std.specs.Option.{option_map}
@@ -69,36 +69,35 @@ still levels s f h = on_still (is_some (levels f.rule)) (is_syntax f.rule) (not 
 -- ---- both lists
 
 pub joined : (levels : LevelTable) (is_file_silenced : Bool) (s : RuleId → ℕ → Bool) (others found : List FindingValue)
-    → report_of levels is_file_silenced s (found ++ map finding_told (report_of levels false nothing_silenced others)) ≡ report_of levels is_file_silenced s (others ++ found)
+    → report_of levels is_file_silenced s (map finding_told (report_of levels false nothing_silenced others) ++ found) ≡ report_of levels is_file_silenced s (others ++ found)
 joined levels true s others found = refl
 joined levels false s others found =
     let p = is_reported levels s in
     let q = is_reported levels nothing_silenced in
     let shown = sorted_once (filter q others) in
     let tells : map finding_told (filter_map (with_level levels) shown) ≡ filter q shown = told levels shown in
-    let a = sorted_once_arranged (filter q others) in
-    let to : (f : FindingValue) → In f (filter p (found ++ filter q shown)) → In f (filter p (others ++ found)) = λ f h.
-    let r = in_filter p f (found ++ filter q shown) h in
-    filter_in p f (others ++ found) (there f (in_append f found (filter q shown) r.0)) r.1 in
-    let back : (f : FindingValue) → In f (filter p (others ++ found)) → In f (filter p (found ++ filter q shown)) = λ f h.
+    let to : (f : FindingValue) → In f (filter p (filter q shown ++ found)) → In f (filter p (others ++ found)) = λ f h.
+    let r = in_filter p f (filter q shown ++ found) h in
+    filter_in p f (others ++ found) (there f (in_append f (filter q shown) found r.0)) r.1 in
+    let back : (f : FindingValue) → In f (filter p (others ++ found)) → In f (filter p (filter q shown ++ found)) = λ f h.
     let r = in_filter p f (others ++ found) h in
-    filter_in p f (found ++ filter q shown) (here f (still levels s f r.1) (in_append f others found r.0)) r.1 in
-    ap (λ (fs : List FindingValue). filter_map (with_level levels) (sorted_once (filter p (found ++ fs)))) tells
-    ∙ ap (filter_map (with_level levels)) (alike (filter p (found ++ filter q shown)) (filter p (others ++ found)) to back)
+    filter_in p f (filter q shown ++ found) (here f (still levels s f r.1) (in_append f others found r.0)) r.1 in
+    ap (λ (fs : List FindingValue). filter_map (with_level levels) (sorted_once (filter p (fs ++ found)))) tells
+    ∙ ap (filter_map (with_level levels)) (alike (filter p (filter q shown ++ found)) (filter p (others ++ found)) to back)
   where
-    there : (f : FindingValue) → In f found ⊎ In f (filter (is_reported levels nothing_silenced) (sorted_once (filter (is_reported levels nothing_silenced) others))) → In f (others ++ found)
-    there f (inl h) = append_right f others found h
-    there f (inr h) =
+    there : (f : FindingValue) → In f (filter (is_reported levels nothing_silenced) (sorted_once (filter (is_reported levels nothing_silenced) others))) ⊎ In f found → In f (others ++ found)
+    there f (inr h) = append_right f others found h
+    there f (inl h) =
         let q = is_reported levels nothing_silenced in
         let xs = filter q others in
         let sorted = in_filter q f (sorted_once xs) h in
         let among = in_from f xs ((sorted_once_arranged xs).only f (from_in f (sorted_once xs) sorted.0)) in
         append_left f others found (in_filter q f others among).0
 
-    here : (f : FindingValue) → is_reported levels nothing_silenced f ≡ true → In f others ⊎ In f found → In f (found ++ filter (is_reported levels nothing_silenced) (sorted_once (filter (is_reported levels nothing_silenced) others)))
-    here f t (inr h) = append_left f found (filter (is_reported levels nothing_silenced) (sorted_once (filter (is_reported levels nothing_silenced) others))) h
+    here : (f : FindingValue) → is_reported levels nothing_silenced f ≡ true → In f others ⊎ In f found → In f (filter (is_reported levels nothing_silenced) (sorted_once (filter (is_reported levels nothing_silenced) others)) ++ found)
+    here f t (inr h) = append_right f (filter (is_reported levels nothing_silenced) (sorted_once (filter (is_reported levels nothing_silenced) others))) found h
     here f t (inl h) =
         let q = is_reported levels nothing_silenced in
         let xs = filter q others in
         let sorted = in_from f (sorted_once xs) ((sorted_once_arranged xs).all f (from_in f xs (filter_in q f others h t))) in
-        append_right f found (filter q (sorted_once xs)) (filter_in q f (sorted_once xs) sorted t)
+        append_left f (filter q (sorted_once xs)) found (filter_in q f (sorted_once xs) sorted t)

@@ -18,19 +18,38 @@ use yl_text::Finding;
 fn push_told<A: Allocator + Copy>(
     alloc: A,
     problems: &[Problem<A>],
-    found: &mut Vec<Finding<A>, A>,
+    told: &mut Vec<Finding<A>, A>,
 ) -> Result<(), AllocError>
-    ensures { OnOk result (found.new.items ≡ found.old.items ++ map finding_told problems.now) }
+    ensures { OnOk result (told.new.items ≡ told.old.items ++ map finding_told problems.now) }
 {
-    found.try_reserve_exact(problems.len())?;
     for problem in problems {
-        found.push(problem.told(alloc)?)?;
+        told.push(problem.told(alloc)?)?;
     }
     Ok(())
 }
 
-/// The report of what was found and of other findings, where these problems are the report of the others as if nothing silenced them. The
-/// only error is out of memory.
+/// What these problems tell, and behind it what was found. It takes memory for the list once.
+fn told_before<A: Allocator + Copy>(
+    alloc: A,
+    reported: &[Problem<A>],
+    mut found: Vec<Finding<A>, A>,
+) -> Result<Vec<Finding<A>, A>, AllocError>
+    ensures { IfOk result (λ v. v.items ≡ map finding_told reported.now ++ found.items) }
+{
+    if reported.is_empty() {
+        return Ok(found);
+    }
+    let Some(count) = reported.len().checked_add(found.len()) else {
+        return Err(AllocError);
+    };
+    let mut told = Vec::with_capacity(alloc, count)?;
+    push_told(alloc, reported, &mut told)?;
+    told.append(&mut found)?;
+    Ok(told)
+}
+
+/// The report of what was found and of other findings, where these problems are the report of the others as if nothing silenced them. It
+/// takes linear time where what they tell stands in order before what was found. The only error is out of memory.
 pub fn arrange_with<A: Allocator + Copy>(
     alloc: A,
     reported: &[Problem<A>],
@@ -41,7 +60,6 @@ pub fn arrange_with<A: Allocator + Copy>(
     ensures { (others : List FindingValue) → reported.now ≡ report_of (level_of levels.now) false nothing_silenced others
         → IfOk result (λ v. v.items ≡ report_of (level_of levels.now) (is_file_silenced_by silences.now) (is_silenced_at silences.now) (others ++ found.items)) }
 {
-    let mut found = found;
-    push_told(alloc, reported, &mut found)?;
-    arrange(alloc, found, levels, silences)
+    let all = told_before(alloc, reported, found)?;
+    arrange(alloc, all, levels, silences)
 }

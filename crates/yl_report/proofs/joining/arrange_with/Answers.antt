@@ -11,6 +11,6 @@ returns g c = λ others is.
     let levels = level_of c.args.levels.now in
     let file = is_file_silenced_by c.args.silences.now in
     let silenced = is_silenced_at c.args.silences.now in
-    let told = c.in_ok-push_told.ensures ∙ ap (λ (ps : List ProblemValue). c.args.found.items ++ map finding_told ps) is in
+    let told = c.in_ok-all.ensures ∙ ap (λ (ps : List ProblemValue). map finding_told ps ++ c.args.found.items) is in
     let same = ap (report_of levels file silenced) told ∙ joined levels file silenced others c.args.found.items in
     rw same at c.arrange.ensures
