@@ -79,11 +79,13 @@ fn addressed<'a, A: Allocator + Copy>(
 ) -> Result<Vec<PlacedComment<'a>, A>, AllocError>
     ensures { IfOk result (λ v. v.items ≡ filter is_addressed_comment comments.now) }
 {
-    comments
-        .iter()
-        .filter(|comment| is_addressed(comment))
-        .copied()
-        .collect(alloc)
+    let mut kept = Vec::new(alloc);
+    for comment in comments {
+        if is_addressed(comment) {
+            kept.push(*comment)?;
+        }
+    }
+    Ok(kept)
 }
 
 const RULES: [RuleId; 19] = [

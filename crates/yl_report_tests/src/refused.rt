@@ -3,7 +3,7 @@ use refusing::Refusing;
 use std::alloc::{AllocError, Global};
 use std::test::Fail;
 use yl_lexeme::PlacedComment;
-use yl_report::{Silences, arrange};
+use yl_report::{Silences, arrange, arrange_with};
 use yl_rules::RuleLevels;
 use yl_text::{Finding, RuleId};
 
@@ -31,15 +31,22 @@ fn are_right(silences: &Silences<Heap<'_>>) -> bool {
         && !silences.is_silenced(RuleId::Colons, 0)
 }
 
-// What became of a run in which a growth is refused.
+// What became of a run with a growth to be refused.
 #[derive(Clone, Copy, Debug, PartialEq, Eq)]
 enum Outcome {
+    // The growth was refused, and the answer was want of memory.
     Memory,
-    // The answer was right, though a growth was refused.
-    Right,
-    // The answer was right, and no growth was refused.
+    // There were fewer growths, and the answer was right.
     Whole,
     Wrong,
+}
+
+fn judged(is_met: bool, is_right: Option<bool>) -> Outcome {
+    match is_right {
+        None if is_met => Outcome::Memory,
+        Some(true) if !is_met => Outcome::Whole,
+        _ => Outcome::Wrong,
+    }
 }
 
 // What became of reading the comments with the nth growth refused.
@@ -48,36 +55,26 @@ fn read_refused(heap: Heap<'_>, n: u64) -> Outcome {
     let answer = Silences::read(heap, "---", &COMMENTS);
     let is_met = !heap.is_armed();
     heap.refuse(0);
-    match answer {
-        Ok(silences) if !are_right(&silences) => Outcome::Wrong,
-        Ok(_) if is_met => Outcome::Right,
-        Ok(_) => Outcome::Whole,
-        Err(_) if is_met => Outcome::Memory,
-        Err(_) => Outcome::Wrong,
-    }
+    judged(is_met, answer.ok().map(|silences| are_right(&silences)))
 }
 
-// How often Memory was answered, and how many runs there are up to the first that meets no refusal.
-fn count_reads(heap: Heap<'_>) -> Result<(u64, u64), Fail> {
-    let mut refused = 0u64;
+// How many growths there are, each of which was answered by want of memory when it was refused.
+fn count_reads(heap: Heap<'_>) -> Result<u64, Fail> {
     for n in 1..1000 {
         match read_refused(heap, n) {
-            Outcome::Memory => refused = refused.saturating_add(1),
-            Outcome::Right => {}
-            Outcome::Whole => return Ok((refused, n)),
+            Outcome::Memory => {}
+            Outcome::Whole => return Ok(n - 1),
             Outcome::Wrong => return Err(Fail::from("another answer")),
         }
     }
     Err(Fail::from("more growths than there are"))
 }
 
-// A growth that is refused is asked for again, smaller, by some calls of std: the answer is then right.
 #[test]
 fn each_growth_of_reading_is_refused(rt: HostRuntime) -> Result<(), Fail> {
     let heap = Refusing::new(rt.alloc());
-    let (refused, n) = count_reads(&heap)?;
-    assert!(rt; n > 20, "{n} growths");
-    assert!(rt; refused > 0);
+    let growths = count_reads(&heap)?;
+    assert!(rt; growths > 20, "{growths} growths");
     Ok(())
 }
 
@@ -97,18 +94,34 @@ fn arrange_refused(heap: Heap<'_>, n: u64) -> Result<Outcome, AllocError> {
     let answer = arrange(heap, found, &RuleLevels::standard(), &silences);
     let is_met = !heap.is_armed();
     heap.refuse(0);
-    Ok(match answer {
-        Ok(problems) if !is_met && problems.len() == 3 => Outcome::Whole,
-        Err(_) if is_met => Outcome::Memory,
-        _ => Outcome::Wrong,
-    })
+    let is_right = answer.ok().map(|problems| problems.len() == 3);
+    Ok(judged(is_met, is_right))
 }
 
-// One growth.
+// What became of a report, of which all is reported already and found once more, with the nth growth refused.
+fn join_refused(heap: Heap<'_>, n: u64) -> Result<Outcome, AllocError> {
+    let levels = RuleLevels::standard();
+    let silences = Silences::none(heap);
+    let reported = arrange(heap, found_in_three_lines(heap)?, &levels, &silences)?;
+    let found = found_in_three_lines(heap)?;
+    heap.refuse(n);
+    let answer = arrange_with(heap, reported.as_slice(), found, &levels, &silences);
+    let is_met = !heap.is_armed();
+    heap.refuse(0);
+    let is_right = answer.ok().map(|problems| problems.len() == 3);
+    Ok(judged(is_met, is_right))
+}
+
+// One growth for a report. Where three problems are reported already, one for all that is told of them, one for each
+// message, and one for the report.
 #[test]
 fn each_growth_of_arranging_is_refused(rt: HostRuntime) -> Result<(), Fail> {
     let heap = Refusing::new(rt.alloc());
     assert_eq!(rt; arrange_refused(&heap, 1)?, Outcome::Memory);
     assert_eq!(rt; arrange_refused(&heap, 2)?, Outcome::Whole);
+    for n in 1..6 {
+        assert_eq!(rt; join_refused(&heap, n)?, Outcome::Memory, "growth {n}");
+    }
+    assert_eq!(rt; join_refused(&heap, 6)?, Outcome::Whole);
     Ok(())
 }
