@@ -1,7 +1,8 @@
 -- Loops over the rows of a section, by index.
 use Rattle.std.proofs.Common.{◌≡◌, ℕ, zero, suc, ◌+◌, ◌<◌, ◌≤◌, Bool, true, false, cond, List, [], ◌∷◌, ◌++◌, length, map, drop, get_or, Option, Some, None, refl, ap, sym, ◌∙◌, append_assoc, append-nil, add-one, arith, Bor}
 use Rattle.std.proofs.Math.ListN.{drop_of_length-le}
-use Rattle.std.specs.Prelude.{is_some}
+use Rattle.std.proofs.lemmas.List.{length-append, length-map}
+use Rattle.std.specs.Prelude.{is_some, min}
 use Rattle.std.specs.List.{filter}
 use Rattle.std.specs.Option.{option_map}
 use Rattle.yl_lexeme.specs.declared.lexeme.Kind.{Kind}
@@ -133,3 +134,21 @@ filter_more p x xs = by_test (p x)
 pub some_mapped : (o : Option SectionFault) (b t : Bool) → t ≡ is_some o → t ≡ b → is_some (option_map section_fault_value o) ≡ b
 some_mapped None b t a h = sym a ∙ h
 some_mapped (Some f) b t a h = sym a ∙ h
+
+-- ---- how many lexemes there are
+
+saturates : (n l rest m top : ℕ) → m ≡ min (n + l) top → min (m + rest) top ≡ min (n + (l + rest)) top
+saturates n l rest m top e = omega (arith, e)
+
+-- so many are counted, those of this row too
+pub counted_more : (rs : List (Bor RecordValue)) (i : ℕ) (x : Bor RecordValue) → i < length rs → x ≡ get_or rs i x
+    → (xs : List LexemeValue) → xs ≡ x.now.entry.lexemes → (n m total top : ℕ) → m ≡ min (n + length xs) top
+    → min (n + length (lexemes_from i (drop i (seen rs)))) top ≡ total
+    → min (m + length (lexemes_from (i + 1) (drop (i + 1) (seen rs)))) top ≡ total
+counted_more rs i x l e xs is n m total top more whole =
+    let rest : List LexemeValue = lexemes_from (i + 1) (drop (i + 1) (seen rs)) in
+    let here : length (lexemes_from i (drop i (seen rs))) ≡ length xs + length rest =
+    ap (λ (es : List RecordValue). length (lexemes_from i es)) (next rs i x l e)
+    ∙ (ap (λ (ys : List LexemeValue). length (map (lexeme_at_line i) ys ++ rest)) (sym is)
+    ∙ (length-append (map (lexeme_at_line i) xs) rest ∙ ap (λ k. k + length rest) (length-map xs (lexeme_at_line i)))) in
+    saturates n (length xs) (length rest) m top more ∙ (ap (λ k. min (n + k) top) (sym here) ∙ whole)

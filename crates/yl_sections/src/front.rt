@@ -10,17 +10,6 @@ use std::alloc::{AllocError, Allocator};
 use yl_indentation::Fact;
 use yl_text::Finding;
 
-/// The same finding.
-fn copied_finding<A: Allocator + Copy>(
-    alloc: A,
-    finding: &Finding<A>,
-) -> Result<Finding<A>, AllocError>
-    ensures { IfOk result (λ f. f ≡ finding.now) }
-{
-    let message = String::from_str(alloc, finding.message())?;
-    Ok(Finding::new(finding.line(), finding.column(), finding.rule(), message))
-}
-
 /// Puts the same findings after the others.
 fn push_findings<A: Allocator + Copy>(
     alloc: A,
@@ -30,7 +19,7 @@ fn push_findings<A: Allocator + Copy>(
     ensures { OnOk result (all.new.items ≡ all.old.items ++ findings.now) }
 {
     for finding in findings {
-        all.push(copied_finding(alloc, finding)?)?;
+        all.push(finding.copy_at(alloc, finding.line())?)?;
     }
     Ok(())
 }

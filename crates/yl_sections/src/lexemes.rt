@@ -1,5 +1,5 @@
 //! The lexemes of a section.
-ghost use Rattle.std.specs.Prelude.{◌≡◌, ◌<◌, ◌^◌, ◌++◌, map, length, IfOk, OnOk};
+ghost use Rattle.std.specs.Prelude.{◌≡◌, ◌<◌, ◌^◌, ◌-◌, ◌++◌, map, min, length, IfOk, OnOk};
 ghost use Rattle.std.specs.Option.{option_map};
 ghost use Rattle.yl_marks.specs.Keys.{lexeme_at_line};
 ghost use Rattle.yl_sections.specs.Sections.{lexemes_of};
@@ -23,8 +23,10 @@ fn push_lexemes<'a, A: Allocator>(
     Ok(())
 }
 
-/// How many lexemes these rows have.
-fn lexeme_count<A: Allocator + Copy>(records: &[&Record<A>]) -> usize {
+/// How many lexemes these rows have, or the greatest number that a length can be.
+fn lexeme_count<A: Allocator + Copy>(records: &[&Record<A>]) -> usize
+    ensures { result ≡ min (length (lexemes_of (map (λ r. r.now) records.now))) (2 ^ 64 - 1) }
+{
     let mut count = 0usize;
     for record in records {
         count = count.saturating_add(record.lexemes().len());
