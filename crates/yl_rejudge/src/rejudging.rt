@@ -1,5 +1,5 @@
 //! Judging the sections that an edit changed.
-ghost use Rattle.std.specs.Prelude.{◌≡◌, ◌+◌, ◌-◌, ◌<◌, ◌≤◌, ◌^◌, ◌∷◌, ℕ, List, length, map, take, drop, IfOk, OnOk};
+ghost use Rattle.std.specs.Prelude.{◌≡◌, ◌↔◌, ◌+◌, ◌-◌, ◌<◌, ◌≤◌, ◌^◌, ◌∷◌, ℕ, IsTrue, List, length, map, take, drop, IfOk, OnOk};
 ghost use Rattle.std.specs.List.{splice};
 ghost use Rattle.yl_text.specs.Store.{IsRange};
 ghost use Rattle.yl_sections.specs.Sections.{sections};
@@ -189,18 +189,24 @@ fn judge_edited<A: Allocator + Copy>(
     })
 }
 
-/// Whether the section of a place has rows down to the one before `end`.
+/// Whether there is a section at a place, and it has the rows down to the one before `end`.
 fn is_in_section<A: Allocator + Copy>(kept: &Chunks<Kept<A>, A>, place: Place, end: usize) -> bool
-    requires { place.row ≤ end }
+    requires at { IsAt kept.now.items place }
+    requires above { place.row ≤ end }
+    ensures { IsTrue result ↔ (place.section < length kept.now.items) × (end ≤ rows_kept (take (place.section + 1) kept.now.items)) }
 {
-    place.section < kept.len() && end - place.row <= kept.get(place.section).rows() as usize
+    if place.section >= kept.len() {
+        return false;
+    }
+    end - place.row <= kept.get(place.section).rows() as usize
 }
 
 /// What is kept of the sections of the new records, from what is kept of those of the old ones: the new records are the old ones before
 /// row `from`, and from row `end` on the old ones from `old_end` on, rows counted from 0. Judges no section but those that hold a row
 /// from `from` on to before `end`, if the section above loses nothing but empty rows, and counts their documents in the meter. Where it is
-/// seen that the same is kept of one section that holds all of these rows, its document is looked through no more, and counted the same. The
-/// first one is looked for from a section at or before it. The only error is out of memory.
+/// seen that the same is kept of one section that holds all of these rows, its document is looked through no more, and counted the same; the
+/// rows are compared for that if they are no more than the meter says were scanned. The first one is looked for from a section at or before
+/// it. The only error is out of memory.
 pub fn rejudge<A: Allocator + Copy>(
     alloc: A,
     config: &Config,
@@ -231,21 +237,25 @@ pub fn rejudge<A: Allocator + Copy>(
         → meter.new.documents ≤ meter.old.documents + documents_holding 0 from m (sections records.now)) }
     ensures lines { OnOk result (meter.new.lines ≡ meter.old.lines) }
 {
-    if old_end == end && keep_sections(alloc, config, old, records, from, end)? {
-        let place = section_of(kept, near, from);
-        if is_in_section(kept, place, end) {
-            meter.documents += 1;
-            return Ok(Rejudged {
-                from: place.section,
-                end: place.section,
-                from_row: place.row,
-                end_row: place.row,
-                walked: place.section.saturating_sub(near.section),
-                kept: Vec::new(alloc),
-            });
-        }
+    let begin = section_of(kept, near, from);
+    let walked = begin.section.saturating_sub(near.section);
+    if old_end == end
+        && end - from <= meter.lines as usize
+        && is_in_section(kept, begin, end)
+        && keep_sections(alloc, config, old, records, from, end)?
+    {
+        meter.documents += 1;
+        return Ok(Rejudged {
+            from: begin.section,
+            end: begin.section,
+            from_row: begin.row,
+            end_row: begin.row,
+            walked,
+            kept: Vec::new(alloc),
+        });
     }
-    judge_edited(
-        alloc, config, kept, near, old, records, from, old_end, end, meter,
-    )
+    let judged = judge_edited(
+        alloc, config, kept, begin, old, records, from, old_end, end, meter,
+    )?;
+    Ok(Rejudged { walked, ..judged })
 }
