@@ -17,6 +17,8 @@ mod in_lines;
 #[cfg(test)]
 mod refused;
 #[cfg(test)]
+mod requests;
+#[cfg(test)]
 mod rows;
 #[cfg(test)]
 mod seams;
