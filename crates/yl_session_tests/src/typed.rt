@@ -1,11 +1,13 @@
 //! Values that are typed on, letter by letter: where they are keys and where they are not, where a rule finds something at them, and
 //! where a fault stands beside them.
-use crate::edits::{Line, check_rows};
+use crate::edits::{Line, check_rows, keys};
 use crate::sessions::{edit, opened};
 use std::alloc::Global;
+use std::process::Abort;
 use std::test::Fail;
+use yl_chunks::ChunkStore;
 use yl_session::Session;
-use yl_text::PlainStore;
+use yl_text::{LineStore, PlainStore, TextFault};
 
 static TYPED: &[Line] = &[
     // A value that is a truthy word for a letter, beside keys that stand twice.
@@ -237,16 +239,71 @@ fn values_that_are_typed_on(rt: HostRuntime) -> Result<(), Fail> {
     check_rows(&rt, rt.alloc(), TYPED)
 }
 
-// A document that stays as it was is counted all the same: one edit judges it, as the edit of a key does.
+// A text, an edit, and how many documents it tells.
+type Counted = (&'static str, u64, u64, &'static [u8], u32);
+
+// Where a document stays as it was it is counted all the same: an edit of a value judges it, as that of a key does.
+static COUNTED: &[Counted] = &[
+    // A value that is typed on in the second document, in a line of a document's end, and a key.
+    ("---\na: 1\n---\nb: 2\n---\nc: 3\n", 3, 4, b"b: 23\n", 1),
+    ("---\na: 1\n---\nb: 2\n---\nc: 3\n", 3, 4, b"bc: 2\n", 1),
+    ("---\na: 1\n---\nb: 2\n", 1, 2, b"a: 12\n", 1),
+    ("---\na: 1\n---\nb: 2\nc: 3\nd: 4\n", 4, 5, b"c: 34\n", 1),
+    // The lines reach into the next document, and through it into a third.
+    ("---\na: 1\n---\nb: 2\n", 1, 4, b"a: 12\n---\nb: 23\n", 2),
+    (
+        "---\na: 1\n---\nb: 2\n---\nc: 3\n",
+        1,
+        6,
+        b"a: 12\n---\nb: 23\n---\nc: 34\n",
+        3,
+    ),
+    (
+        "---\na: 1\nb: 2\n---\nc: 3\nd: 4\n---\ne: 5\n",
+        2,
+        6,
+        b"b: 23\n---\nc: 34\nd: 45\n",
+        2,
+    ),
+];
+
+// How many documents an edit tells.
+fn documents<S: LineStore<Alloc = Global>>(
+    alloc: Global,
+    text: &str,
+    a: u64,
+    b: u64,
+    bytes: &[u8],
+) -> Result<u32, TextFault> {
+    let mut session: Session<S> = opened(alloc, text.as_bytes())?;
+    Ok(edit(&mut session, a, b, bytes)?.documents)
+}
+
+// The same over both stores.
+fn check_documents(
+    rt: &impl Abort,
+    alloc: Global,
+    text: &str,
+    a: u64,
+    b: u64,
+    bytes: &[u8],
+    wanted: u32,
+) -> Result<(), Fail> {
+    let plain = documents::<PlainStore<Global>>(alloc, text, a, b, bytes)?;
+    let chunks = documents::<ChunkStore<Global>>(alloc, text, a, b, bytes)?;
+    assert_eq!(rt; (plain, chunks), (wanted, wanted), "lines {a} to {b}");
+    Ok(())
+}
+
+// And for a key among 20 and among 10,000.
 #[test]
 fn a_value_that_is_typed_on_counts_its_document(rt: HostRuntime) -> Result<(), Fail> {
-    let mut session: Session<PlainStore<Global>> = opened(
-        rt.alloc(),
-        b"---\na: 1\n---\nb: 2\n---\nc: 3\n",
-    )?;
-    let of_value = edit(&mut session, 3, 4, b"b: 23\n")?;
-    let of_key = edit(&mut session, 3, 4, b"bc: 23\n")?;
-    assert_eq!(rt; of_value.documents, 1);
-    assert_eq!(rt; of_value, of_key);
-    Ok(())
+    let alloc = rt.alloc();
+    for (text, a, b, bytes, wanted) in COUNTED {
+        check_documents(&rt, alloc, text, *a, *b, bytes, *wanted)?;
+    }
+    let few = keys(alloc, 20)?;
+    check_documents(&rt, alloc, few.as_str(), 10, 11, b"z: v\n", 1)?;
+    let many = keys(alloc, 10_000)?;
+    check_documents(&rt, alloc, many.as_str(), 5000, 5001, b"z: v\n", 1)
 }
