@@ -43,18 +43,27 @@ impl Read for Repeated {
     }
 }
 
-/// A writer over memory, which takes at most `most` bytes a call and `room` in all, and then fails or takes none.
+/// A writer over memory, which takes at most `most` bytes a call and `room` in all, and then, and at the call `fails_at`,
+/// counted from 1, fails or takes none.
 #[derive(Drop)]
 pub struct MemoryWriter {
     pub bytes: Vec<u8>,
     most: usize,
     room: usize,
+    calls: u64,
+    fails_at: u64,
     fails: bool,
 }
 
 impl Write for MemoryWriter {
     fn write(&mut self, piece: &[u8]) -> io::Result<usize> {
-        let n = piece.len().min(self.most).min(self.room);
+        self.calls = self.calls.saturating_add(1);
+        let most = if self.calls == self.fails_at {
+            0
+        } else {
+            self.most
+        };
+        let n = piece.len().min(most).min(self.room);
         if n == 0 && self.fails {
             return Err(io::Error::from(ErrorKind::Other));
         }
@@ -82,6 +91,20 @@ pub fn make_writer(alloc: Global, most: usize, room: usize, fails: bool) -> Memo
         bytes: Vec::new(alloc),
         most,
         room,
+        calls: 0,
+        fails_at: 0,
+        fails,
+    }
+}
+
+/// A writer that takes all but what it is given at one call.
+pub fn make_failing_writer(alloc: Global, most: usize, fails_at: u64, fails: bool) -> MemoryWriter {
+    MemoryWriter {
+        bytes: Vec::new(alloc),
+        most,
+        room: usize::MAX,
+        calls: 0,
+        fails_at,
         fails,
     }
 }

@@ -1,5 +1,6 @@
-use crate::devices::{make_reader, make_writer};
+use crate::devices::{MemoryWriter, make_failing_writer, make_reader, make_writer};
 use std::alloc::Global;
+use std::process::Abort;
 use std::test::Fail;
 use yl_args::Flags;
 use yl_cli::drive;
@@ -27,8 +28,21 @@ struct Ran {
 
 // A run over `text` whose reader gives `most` bytes a call and fails at the call `fails_at`.
 fn run(alloc: Global, text: &[u8], commands: &[u8], most: usize, fails_at: u64) -> Ran {
+    let writer = make_writer(alloc, 4096, 1_000_000, true);
+    run_into(alloc, text, commands, most, fails_at, writer)
+}
+
+// The same into a writer.
+fn run_into(
+    alloc: Global,
+    text: &[u8],
+    commands: &[u8],
+    most: usize,
+    fails_at: u64,
+    writer: MemoryWriter,
+) -> Ran {
     let mut input = Watched::new(make_reader(commands, most, fails_at));
-    let mut out = Watched::new(make_writer(alloc, 4096, 1_000_000, true));
+    let mut out = Watched::new(writer);
     let answer = drive::<PlainStore<Global>, _, _>(
         alloc,
         "f.yaml",
@@ -160,43 +174,92 @@ fn bad_texts_write_nothing(rt: HostRuntime) -> Result<(), Fail> {
     Ok(())
 }
 
+const COMMANDS: &[u8] = b"replace 0 1 2\na\nreplace 1 1 3\nb \n";
+
+// How many bytes of the commands have been read by so many calls, and up to where these hold whole commands.
+fn whole_commands(calls: u64) -> &'static [u8] {
+    if calls.saturating_mul(4) < 16 {
+        b""
+    } else if calls.saturating_mul(4) < 33 {
+        COMMANDS.get(..16).unwrap_or(b"")
+    } else {
+        COMMANDS
+    }
+}
+
+// Up to the first run that meets no failure. What is out is all that is written of the commands that were given whole.
 #[test]
 fn failing_reads_leave_whole_answers(rt: HostRuntime) -> Result<(), Fail> {
     let alloc = rt.alloc();
-    let commands = b"replace 0 1 2\na\nreplace 1 1 3\nb \n";
-    let whole = run(alloc, TEXT, commands, 4, 0);
-    assert_eq!(rt; whole.answer, Ok(1));
-    for n in 1..9u64 {
-        let ran = run(alloc, TEXT, commands, 4, n);
-        assert_eq!(rt; ran.answer, Err(RunFault::Read));
-        assert!(rt; whole.out.as_slice().starts_with(ran.out.as_slice()));
-        assert!(rt; ran.out.as_slice().ends_with(b"\n"));
+    for n in 1..u64::MAX {
+        let ran = run(alloc, TEXT, COMMANDS, 4, n);
+        let whole = run(alloc, TEXT, whole_commands(n.saturating_sub(1)), 4, 0);
+        assert_eq!(rt; ran.out.as_slice(), whole.out.as_slice(), "at call {n}");
+        if ran.answer == Ok(1) {
+            assert!(rt; n > 10, "{n} calls");
+            break;
+        }
+        assert_eq!(rt; ran.answer, Err(RunFault::Read), "at call {n}");
     }
     Ok(())
+}
+
+// A writer that takes so many bytes, and then fails or takes none.
+fn check_room(rt: &impl Abort, alloc: Global, whole: &[u8], room: usize, fails: bool) {
+    let writer = make_writer(alloc, 4, room, fails);
+    let ran = run_into(alloc, TEXT, COMMANDS, 100, 0, writer);
+    assert_eq!(rt; ran.answer, Err(RunFault::Write), "after {room} bytes");
+    assert_eq!(rt; ran.out.len(), room);
+    assert!(rt; whole.starts_with(ran.out.as_slice()));
+}
+
+// A writer that fails at one call, or takes none, of a text whose reports leave in more than one piece. Whether it came to that call.
+fn check_call(
+    rt: &impl Abort,
+    alloc: Global,
+    text: &[u8],
+    whole: &[u8],
+    nth: u64,
+    fails: bool,
+) -> bool {
+    let writer = make_failing_writer(alloc, 1000, nth, fails);
+    let ran = run_into(alloc, text, COMMANDS, 100, 0, writer);
+    assert!(rt; whole.starts_with(ran.out.as_slice()));
+    if ran.answer == Ok(1) {
+        assert_eq!(rt; ran.out.len(), whole.len());
+        return false;
+    }
+    assert_eq!(rt; ran.answer, Err(RunFault::Write), "at call {nth}");
+    assert!(rt; ran.out.len() < whole.len());
+    true
 }
 
 #[test]
 fn failing_writes_leave_a_beginning(rt: HostRuntime) -> Result<(), Fail> {
     let alloc = rt.alloc();
-    let commands = b"replace 0 1 2\na\nreplace 1 1 3\nb \n";
-    let whole = run(alloc, TEXT, commands, 4, 0);
+    let whole = run(alloc, TEXT, COMMANDS, 4, 0);
     for room in 0..whole.out.len() {
-        for fails in [true, false] {
-            let mut input = Watched::new(make_reader(commands, 100, 0));
-            let mut out = Watched::new(make_writer(alloc, 4, room, fails));
-            let answer = drive::<PlainStore<Global>, _, _>(
+        check_room(&rt, alloc, whole.out.as_slice(), room, true);
+        check_room(&rt, alloc, whole.out.as_slice(), room, false);
+    }
+    let mut text = Vec::new(alloc);
+    for _ in 0..100 {
+        text.extend_from_slice(b"- a \n")?;
+    }
+    let whole = run(alloc, text.as_slice(), COMMANDS, 4, 0);
+    for fails in [true, false] {
+        for nth in 1..u64::MAX {
+            if !check_call(
+                &rt,
                 alloc,
-                "f.yaml",
-                Config::standard(),
-                PLAIN,
-                TEXT,
-                &mut input,
-                &mut out,
-            );
-            assert_eq!(rt; answer, Err(RunFault::Write));
-            let written = out.into_inner().bytes;
-            assert!(rt; written.len() == room);
-            assert!(rt; whole.out.as_slice().starts_with(written.as_slice()));
+                text.as_slice(),
+                whole.out.as_slice(),
+                nth,
+                fails,
+            ) {
+                assert!(rt; nth > 20, "{nth} calls");
+                break;
+            }
         }
     }
     Ok(())

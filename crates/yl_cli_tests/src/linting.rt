@@ -1,4 +1,4 @@
-use crate::devices::{Repeated, make_reader, make_writer};
+use crate::devices::{MemoryWriter, Repeated, make_failing_writer, make_reader, make_writer};
 use refusing::Refusing;
 use std::alloc::{AllocError, Allocator, Global};
 use std::io::Read;
@@ -29,6 +29,24 @@ struct Ran {
     write_failures: u64,
 }
 
+// A run into a writer.
+fn run_into<A: Allocator + Copy, R: Read + Drop>(
+    config: &Config,
+    alloc: A,
+    reader: R,
+    writer: MemoryWriter,
+) -> Ran {
+    let mut input = Watched::new(reader);
+    let mut out = Watched::new(writer);
+    let answer = lint(alloc, "f.yaml", config, PLAIN, &mut input, &mut out);
+    Ran {
+        answer,
+        read_failures: input.failures(),
+        write_failures: out.failures(),
+        out: out.into_inner().bytes,
+    }
+}
+
 // A run whose writer takes at most `most` bytes a call and `room` in all, and then fails or takes none.
 fn run<A: Allocator + Copy, R: Read + Drop>(
     config: &Config,
@@ -39,19 +57,12 @@ fn run<A: Allocator + Copy, R: Read + Drop>(
     room: usize,
     fails: bool,
 ) -> Ran {
-    let mut input = Watched::new(reader);
-    let mut out = Watched::new(make_writer(global, most, room, fails));
-    let answer = lint(alloc, "f.yaml", config, PLAIN, &mut input, &mut out);
-    Ran {
-        answer,
-        read_failures: input.failures(),
-        write_failures: out.failures(),
-        out: out.into_inner().bytes,
-    }
+    let writer = make_writer(global, most, room, fails);
+    run_into(config, alloc, reader, writer)
 }
 
 // A text, its status, and its report.
-const TEXTS: [(&[u8], u8, &[u8]); 17] = [
+const TEXTS: [(&[u8], u8, &[u8]); 19] = [
     (b"", 0, b""),
     (TEXT, 1, REPORT),
     (
@@ -117,6 +128,16 @@ const TEXTS: [(&[u8], u8, &[u8]); 17] = [
     ),
     (b"---\n{\"a\":1}\n", 0, b""),
     (
+        b"---\n# \x01\n",
+        1,
+        b"f.yaml:2:3: [error] syntax error: character not allowed here (syntax)\n",
+    ),
+    (
+        b"---\n'\x01\x7f'\n",
+        1,
+        b"f.yaml:2:2: [error] syntax error: character not allowed here (syntax)\n",
+    ),
+    (
         b"---\nyes: \"no\"\nb: !!str yes\nc: [on, off]\n",
         0,
         b"f.yaml:2:1: [warning] truthy value should be one of [false, true] (truthy)\nf.yaml:4:5: [warning] truthy value should be one of [false, true] (truthy)\nf.yaml:4:9: [warning] truthy value should be one of [false, true] (truthy)\n",
@@ -144,42 +165,62 @@ fn lints_texts(rt: HostRuntime) -> Result<(), Fail> {
     Ok(())
 }
 
-// A line of so many pieces, and its end.
-fn long_line(alloc: Global, count: usize, piece: &[u8], end: &[u8]) -> Result<Vec<u8>, AllocError> {
+// Pieces, each as often as this.
+type Pieces<'a> = &'a [(&'a [u8], usize)];
+
+// Behind the document's start, these pieces.
+fn made(alloc: Global, pieces: Pieces<'_>) -> Result<Vec<u8>, AllocError> {
     let mut text = Vec::from_slice(alloc, b"---\n")?;
-    for _ in 0..count {
-        text.extend_from_slice(piece)?;
+    for (piece, count) in pieces {
+        for _ in 0..*count {
+            text.extend_from_slice(piece)?;
+        }
     }
-    text.extend_from_slice(end)?;
     Ok(text)
 }
 
-// One word may be long.
+// The same for keys so deep that each line begins a blank further on.
+fn stairs(alloc: Global, count: usize) -> Result<Vec<u8>, AllocError> {
+    let mut text = Vec::from_slice(alloc, b"---\n")?;
+    for depth in 0..count {
+        for _ in 0..depth {
+            text.push(b' ')?;
+        }
+        text.extend_from_slice(b"k:\n")?;
+    }
+    Ok(text)
+}
+
+// The report of a text.
+fn report_of(alloc: Global, config: &Config, text: &[u8]) -> Vec<u8> {
+    let reader = make_reader(text, 65_536, 0);
+    run(config, alloc, alloc, reader, 1000, 1000, true).out
+}
+
+// One word may be long; what stands in brackets may be deep.
 #[test]
 fn lints_long_lines(rt: HostRuntime) -> Result<(), Fail> {
     let alloc = rt.alloc();
-    let rows: [(&[u8], usize, &[u8], &[u8]); 2] = [
+    let rows: [(Pieces<'_>, &[u8]); 4] = [
         (
-            b"\xC3\xA9 ",
-            41,
-            b"x\n",
+            &[(b"\xC3\xA9 ", 41), (b"x\n", 1)],
             b"f.yaml:2:81: [error] line too long (83 > 80 characters) (line-length)\n",
         ),
-        (b"x", 81, b"\n", b""),
+        (&[(b"x", 81), (b"\n", 1)], b""),
+        (
+            &[(b"[", 100_000), (b"\n", 1)],
+            b"f.yaml:3:1: [error] syntax error: comma or closing bracket expected (syntax)\n",
+        ),
+        (&[(b"[", 100_000), (b"]", 100_000), (b"\n", 1)], b""),
     ];
-    for (piece, count, end, report) in rows {
-        let text = long_line(alloc, count, piece, end)?;
-        let ran = run(
-            &Config::standard(),
-            alloc,
-            alloc,
-            make_reader(&text, 100, 0),
-            1000,
-            1000,
-            true,
-        );
-        assert_eq!(rt; ran.out.as_slice(), report);
+    for (pieces, report) in rows {
+        let text = made(alloc, pieces)?;
+        let out = report_of(alloc, &Config::standard(), text.as_slice());
+        assert_eq!(rt; out.as_slice(), report);
     }
+    let text = stairs(alloc, 2000)?;
+    let out = report_of(alloc, &Config::standard(), text.as_slice());
+    assert_eq!(rt; out.len(), 0);
     Ok(())
 }
 
@@ -198,17 +239,9 @@ fn lints_long_keys(rt: HostRuntime) -> Result<(), Fail> {
     assert!(rt; config.is_ok());
     let config = config.unwrap_or(Config::standard());
     for (count, report) in rows {
-        let text = long_line(alloc, count, b"k", b": 1\n")?;
-        let ran = run(
-            &config,
-            alloc,
-            alloc,
-            make_reader(&text, 100, 0),
-            1000,
-            1000,
-            true,
-        );
-        assert_eq!(rt; ran.out.as_slice(), report);
+        let text = made(alloc, &[(b"k", count), (b": 1\n", 1)])?;
+        let out = report_of(alloc, &config, text.as_slice());
+        assert_eq!(rt; out.as_slice(), report);
     }
     Ok(())
 }
@@ -235,19 +268,45 @@ fn stops_at_each_write(rt: HostRuntime) -> Result<(), Fail> {
     Ok(())
 }
 
+// A report that leaves in more than one piece: each call of the writer fails in turn, or takes none, up to the first run that meets none.
+#[test]
+fn stops_at_each_call_of_a_long_write(rt: HostRuntime) -> Result<(), Fail> {
+    let alloc = rt.alloc();
+    let text = made(alloc, &[(b"- a \n", 100)])?;
+    let config = Config::standard();
+    for fails in [true, false] {
+        let reader = make_reader(&text, 100, 0);
+        let whole = run(&config, alloc, alloc, reader, 1000, 10_000, true);
+        assert!(rt; whole.answer == Ok(1) && whole.out.len() > 5000);
+        for nth in 1..u64::MAX {
+            let reader = make_reader(&text, 100, 0);
+            let writer = make_failing_writer(alloc, 1000, nth, fails);
+            let ran = run_into(&config, alloc, reader, writer);
+            assert!(rt; whole.out.as_slice().starts_with(ran.out.as_slice()));
+            if ran.write_failures == 0 {
+                assert!(rt; nth > 6 && ran.answer == Ok(1) && ran.out.len() == whole.out.len());
+                break;
+            }
+            assert_eq!(rt; ran.answer, Err(RunFault::Write), "at call {nth}");
+            assert_eq!(rt; ran.write_failures, 1);
+            assert!(rt; ran.out.len() < whole.out.len());
+        }
+    }
+    Ok(())
+}
+
+// Up to the first run that meets no failure: one that reads to the end.
 #[test]
 fn stops_at_each_read(rt: HostRuntime) -> Result<(), Fail> {
     let alloc = rt.alloc();
-    for fails_at in 1..15 {
-        let ran = run(
-            &Config::standard(),
-            alloc,
-            alloc,
-            make_reader(TEXT, 1, fails_at),
-            4,
-            1000,
-            true,
-        );
+    let config = Config::standard();
+    for fails_at in 1..u64::MAX {
+        let reader = make_reader(TEXT, 1, fails_at);
+        let ran = run(&config, alloc, alloc, reader, 4, 1000, true);
+        if ran.read_failures == 0 {
+            assert!(rt; fails_at > 14 && ran.answer == Ok(1));
+            break;
+        }
         assert_eq!(rt; ran.answer, Err(RunFault::Read), "at call {fails_at}");
         assert_eq!(rt; ran.read_failures, 1);
         assert_eq!(rt; ran.out.len(), 0);
@@ -276,6 +335,7 @@ fn refuses_bytes(rt: HostRuntime) -> Result<(), Fail> {
         );
         let fault = BadText::NotUtf8 { valid_up_to };
         assert_eq!(rt; ran.answer, Err(RunFault::Text(fault)));
+        assert_eq!(rt; ran.out.len(), 0);
     }
     Ok(())
 }
