@@ -1,19 +1,60 @@
-//! Edits whose growths are refused, each in turn, up to the first run that meets none.
+//! Opening, edits and lists of edits whose growths are refused, each in turn, up to the first run that meets none. Each session takes
+//! memory from a heap that refuses.
 use crate::edits::{keys, repeated};
-use crate::sessions::{edit, opened};
+use crate::rows::edit_of;
+use crate::sessions::{Replayed, edit, opened, replayed};
 use crate::shown::{answer_shown, report_shown, state_shown};
 use refusing::Refusing;
-use std::alloc::{AllocError, Global};
+use std::alloc::{AllocError, Allocator, Global};
 use std::process::Abort;
 use std::test::Fail;
 use yl_chunks::ChunkStore;
-use yl_session::{Session, Work};
+use yl_session::{Edit, Session, Work};
 use yl_text::{LineStore, PlainStore, TextFault};
 
 type Heap<'a> = &'a Refusing<Global>;
 
 // An edit: these bytes in place of the lines from the first to the second number on.
 type Change = (u64, u64, &'static [u8]);
+
+// All that a text shows where the nth growth of opening it is refused, at 0 none, or why it is not opened; and whether a growth was refused.
+fn opening<S: LineStore>(
+    alloc: Global,
+    heap: &Refusing<Global>,
+    taken: S::Alloc,
+    n: u64,
+    text: &str,
+) -> Result<(String, bool), AllocError> {
+    heap.refuse(n);
+    let answer: Result<Session<S>, TextFault> = opened(taken, text.as_bytes());
+    let is_met = n > 0 && !heap.is_armed();
+    heap.refuse(0);
+    let shown = match answer {
+        Ok(session) => state_shown(alloc, &session)?,
+        Err(fault) => answer_shown(alloc, Err(fault))?,
+    };
+    Ok((shown, is_met))
+}
+
+// How many runs of opening there are up to the first that meets no refusal. Each before it answers want of memory.
+fn refused_opening<S: LineStore>(
+    rt: &impl Abort,
+    alloc: Global,
+    heap: &Refusing<Global>,
+    taken: S::Alloc,
+    text: &str,
+) -> Result<u64, Fail> {
+    let (whole, _) = opening::<S>(alloc, heap, taken, 0, text)?;
+    for n in 1..u64::MAX {
+        let (shown, is_met) = opening::<S>(alloc, heap, taken, n, text)?;
+        let wanted = if is_met { "Memory" } else { whole.as_str() };
+        assert_eq!(rt; shown.as_str(), wanted, "the {n}th growth of {text:?}");
+        if !is_met {
+            return Ok(n);
+        }
+    }
+    Ok(0)
+}
 
 // A session over a text, after edits of it.
 fn edited<S: LineStore>(
@@ -125,23 +166,165 @@ fn refused_in_turn<S: LineStore>(
     Ok(0)
 }
 
-// Each of these edits of a text in turn, over both stores.
-fn check(
+// An edit of lines that no text has.
+const NOWHERE: Change = (u64::MAX, u64::MAX, b"");
+
+// These edits, and behind them one that is refused.
+fn edits_of<A: Allocator + Copy>(
+    alloc: A,
+    changes: &[Change],
+) -> Result<Vec<Edit<A>, A>, AllocError> {
+    let mut edits = Vec::new(alloc);
+    for (a, b, bytes) in changes {
+        edits.push(edit_of(alloc, *a, *b, bytes)?)?;
+    }
+    let (a, b, bytes) = NOWHERE;
+    edits.push(edit_of(alloc, a, b, bytes)?)?;
+    Ok(edits)
+}
+
+// What a list of edits was answered, a line each, and all that is shown then; or why there is no session.
+fn replay_shown<S: LineStore>(
+    alloc: Global,
+    answer: Result<Replayed<S>, TextFault>,
+) -> Result<String, AllocError> {
+    let (session, answers) = match answer {
+        Ok(replayed) => replayed,
+        Err(fault) => return answer_shown(alloc, Err(fault)),
+    };
+    let mut shown = String::new(alloc);
+    for answer in answers.as_slice() {
+        shown.push_str(answer_shown(alloc, *answer)?.as_str())?;
+        shown.push_str("\n")?;
+    }
+    shown.push_str(state_shown(alloc, &session)?.as_str())?;
+    Ok(shown)
+}
+
+// The same for these edits, where the nth growth is refused; and whether one was.
+fn replay_refused<S: LineStore>(
+    alloc: Global,
+    heap: &Refusing<Global>,
+    taken: S::Alloc,
+    n: u64,
+    text: &str,
+    changes: &[Change],
+) -> Result<(String, bool), AllocError> {
+    let edits = edits_of(taken, changes)?;
+    heap.refuse(n);
+    let answer = replayed::<S>(taken, text.as_bytes(), edits.as_slice());
+    let is_met = n > 0 && !heap.is_armed();
+    heap.refuse(0);
+    let shown = replay_shown(alloc, answer)?;
+    Ok((shown, is_met))
+}
+
+// What is to be shown where the edit of this number wants memory, and changes nothing: what each edit is answered by itself, and all that is
+// shown then.
+fn wanting<S: LineStore>(
+    alloc: Global,
+    taken: S::Alloc,
+    text: &str,
+    changes: &[Change],
+    refused: usize,
+) -> Result<String, Fail> {
+    let mut session: Session<S> = opened(taken, text.as_bytes())?;
+    let mut shown = String::new(alloc);
+    for (i, (a, b, bytes)) in changes.iter().enumerate() {
+        let answer = if i == refused {
+            Err(TextFault::Memory)
+        } else {
+            edit(&mut session, *a, *b, bytes)
+        };
+        shown.push_str(answer_shown(alloc, answer)?.as_str())?;
+        shown.push_str("\n")?;
+    }
+    shown.push_str("Range\n")?;
+    shown.push_str(state_shown(alloc, &session)?.as_str())?;
+    Ok(shown)
+}
+
+// What a replay may show, in the order of the growths that are refused: there is no session; each edit in turn wants memory; none does.
+fn outcomes<S: LineStore>(
+    alloc: Global,
+    taken: S::Alloc,
+    text: &str,
+    changes: &[Change],
+) -> Result<Vec<String>, Fail> {
+    let mut outcomes = Vec::new(alloc);
+    outcomes.push(String::from_str(alloc, "Memory")?)?;
+    for refused in 0..changes.len() {
+        outcomes.push(wanting::<S>(alloc, taken, text, changes, refused)?)?;
+    }
+    outcomes.push(wanting::<S>(alloc, taken, text, changes, usize::MAX)?)?;
+    Ok(outcomes)
+}
+
+// How many runs of a replay there are up to the first that meets no refusal. A refused growth of opening, and of the list of answers, is
+// answered as a whole, and each later one by the edit that asked for it, which changes nothing.
+fn refused_replay<S: LineStore>(
     rt: &impl Abort,
     alloc: Global,
-    heap: Heap<'_>,
+    heap: &Refusing<Global>,
+    taken: S::Alloc,
+    text: &str,
+    changes: &[Change],
+) -> Result<u64, Fail> {
+    let outcomes = outcomes::<S>(alloc, taken, text, changes)?;
+    let mut wanted = outcomes.as_slice();
+    for n in 1..u64::MAX {
+        let (shown, is_met) = replay_refused::<S>(alloc, heap, taken, n, text, changes)?;
+        if let [first, rest @ ..] = wanted
+            && first.as_str() != shown.as_str()
+        {
+            wanted = rest;
+        }
+        let [first, rest @ ..] = wanted else {
+            return Err(Fail::from("an answer too many"));
+        };
+        assert_eq!(rt;
+            shown.as_str(),
+            first.as_str(),
+            "the {n}th growth of {text:?}"
+        );
+        assert_eq!(rt; is_met, !rest.is_empty(), "the {n}th growth of {text:?}");
+        if !is_met {
+            return Ok(n);
+        }
+    }
+    Ok(0)
+}
+
+// A text that is opened, and each of these edits in turn.
+fn check_edits<S: LineStore>(
+    rt: &impl Abort,
+    alloc: Global,
+    heap: &Refusing<Global>,
+    taken: S::Alloc,
     text: &str,
     changes: &[Change],
 ) -> Result<(), Fail> {
+    let opening = refused_opening::<S>(rt, alloc, heap, taken, text)?;
+    assert!(rt; opening > 20, "{opening} runs of {text:?}");
     for (i, change) in changes.iter().enumerate() {
         let row = (text, changes.get(..i).unwrap_or(&[]), *change);
-        let plain = refused_in_turn::<PlainStore<Heap<'_>>>(rt, alloc, heap, heap, row)?;
-        let chunks = refused_in_turn::<ChunkStore<Heap<'_>>>(rt, alloc, heap, heap, row)?;
-        assert!(rt;
-            plain > 20 && chunks > 20,
-            "{plain} and {chunks} runs of edit {i} of {text:?}"
-        );
+        let runs = refused_in_turn::<S>(rt, alloc, heap, taken, row)?;
+        assert!(rt; runs > 5, "{runs} runs of edit {i} of {text:?}");
     }
+    Ok(())
+}
+
+// All of these edits in a list.
+fn check_replay<S: LineStore>(
+    rt: &impl Abort,
+    alloc: Global,
+    heap: &Refusing<Global>,
+    taken: S::Alloc,
+    text: &str,
+    changes: &[Change],
+) -> Result<(), Fail> {
+    let runs = refused_replay::<S>(rt, alloc, heap, taken, text, changes)?;
+    assert!(rt; runs > 30, "{runs} runs of a list of {text:?}");
     Ok(())
 }
 
@@ -164,27 +347,106 @@ static EDITS: &[(&str, &[Change])] = &[
         "---\na: 1\n---\nb: 'x\n---\nc:  1\n",
         &[(4, 5, b"y\n"), (3, 5, b"b: 1\n---\n"), (0, 2, b"")],
     ),
+    // A comment that silences stays, goes and comes; in its document and below, for a rule, for a line and for all.
+    (
+        "---\n# yamllint disable rule:colons\na:  1\n---\nb:  1 \n",
+        &[
+            (2, 3, b"a:  1 \n"),
+            (5, 5, b"c:  1\n"),
+            (1, 2, b""),
+            (1, 1, b"# yamllint disable rule:colons\n"),
+        ],
+    ),
+    (
+        "---\n# yamllint disable-line rule:colons\na:  1\n---\nb: 2\n",
+        &[
+            (4, 5, b"b: 'x\n"),
+            (4, 5, b"b:  1 \n"),
+            (0, 0, b"# yamllint disable-file\n"),
+            (0, 1, b""),
+        ],
+    ),
+    // A value is typed anew, is a word that rules tell of, and is none; a blank comes behind it, and a letter behind that.
+    (
+        "---\na: 1\nb: ye\n---\nc: 2\n",
+        &[
+            (1, 2, b"a: 12\n"),
+            (2, 3, b"b: yes\n"),
+            (4, 5, b"c: on\n"),
+            (2, 3, b"b: yest\n"),
+        ],
+    ),
+    (
+        "---\na: 1\n---\nb: 2\n",
+        &[(1, 2, b"a: 1 \n"), (1, 2, b"a: 1 3\n")],
+    ),
+    // Problems that vary in what they say, beside a quote that opens, is typed on, and closes, and in a line that grows long.
+    (
+        "---\na: 1\na: 2\n\n\n\n\nb: 3\n---\nc: no\nc: 2\n",
+        &[
+            (7, 8, b"b: \"3\n"),
+            (7, 8, b"b: \"33\n"),
+            (1, 2, b"a: 12\n"),
+            (10, 11, b"c: 22\n"),
+            (7, 8, b"b: 33\n"),
+        ],
+    ),
+    (
+        "---\na: 1\na: 2\n\n\n\n\nb: 3\n---\nc: no\nc: 2\n",
+        &[
+            (7, 8, b"d: [33\n"),
+            (7, 8, b"d: 3\n"),
+            (
+                2,
+                3,
+                b"a: bbbbbbbbb bbbbbbbbb bbbbbbbbb bbbbbbbbb bbbbbbbbb bbbbbbbbb bbbbbbbbb bbbbbbbbb bbb\n",
+            ),
+        ],
+    ),
+    (
+        "---\na: 1\na: 2\n",
+        &[
+            (1, 2, b"a: '1\n"),
+            (1, 2, b"a: '1'\n"),
+            (0, 0, b"# yamllint disable\n"),
+            (1, 1, b"b: off\n"),
+        ],
+    ),
     (
         "---\na:  1\n---\nb: 2\nc: 3\n---\nd:  4\n",
         &[(3, 4, b"b: [2\n"), (3, 4, b"b: [22\n"), (3, 4, b"b: 2\n")],
     ),
 ];
 
+// An edit among 20 keys.
+const AMONG_KEYS: &[Change] = &[(10, 11, b"z: v\n")];
+
 #[test]
 fn each_growth_of_edits(rt: HostRuntime) -> Result<(), Fail> {
-    let heap = Refusing::new(rt.alloc());
+    let alloc = rt.alloc();
+    let heap = Refusing::new(alloc);
     for (text, changes) in EDITS {
-        check(&rt, rt.alloc(), &heap, text, changes)?;
+        check_edits::<PlainStore<Heap<'_>>>(&rt, alloc, &heap, &heap, text, changes)?;
+        check_edits::<ChunkStore<Heap<'_>>>(&rt, alloc, &heap, &heap, text, changes)?;
     }
-    Ok(())
+    let text = keys(alloc, 20)?;
+    let text = text.as_str();
+    check_edits::<PlainStore<Heap<'_>>>(&rt, alloc, &heap, &heap, text, AMONG_KEYS)?;
+    check_edits::<ChunkStore<Heap<'_>>>(&rt, alloc, &heap, &heap, text, AMONG_KEYS)
 }
 
 #[test]
-fn each_growth_of_an_edit_among_keys(rt: HostRuntime) -> Result<(), Fail> {
-    let heap = Refusing::new(rt.alloc());
-    let text = keys(rt.alloc(), 20)?;
-    let changes: &[Change] = &[(10, 11, b"z: v\n")];
-    check(&rt, rt.alloc(), &heap, text.as_str(), changes)
+fn each_growth_of_a_replay(rt: HostRuntime) -> Result<(), Fail> {
+    let alloc = rt.alloc();
+    let heap = Refusing::new(alloc);
+    for (text, changes) in EDITS {
+        check_replay::<PlainStore<Heap<'_>>>(&rt, alloc, &heap, &heap, text, changes)?;
+        check_replay::<ChunkStore<Heap<'_>>>(&rt, alloc, &heap, &heap, text, changes)?;
+    }
+    let text = keys(alloc, 20)?;
+    let text = text.as_str();
+    check_replay::<PlainStore<Heap<'_>>>(&rt, alloc, &heap, &heap, text, AMONG_KEYS)?;
+    check_replay::<ChunkStore<Heap<'_>>>(&rt, alloc, &heap, &heap, text, AMONG_KEYS)
 }
 
 // What work an edit is whose nth growth is refused, and the report behind it.
@@ -218,21 +480,24 @@ fn edit_reported<S: LineStore>(
 }
 
 // An edit among 2,000 documents asks for memory less than a thousand times.
-#[test]
-fn an_edit_among_documents_takes_little_memory(rt: HostRuntime) -> Result<(), Fail> {
-    let heap = Refusing::new(rt.alloc());
-    let text = repeated(rt.alloc(), "", "---\nk: v\n", 2000)?;
+fn check_among_documents<S: LineStore>(
+    rt: &impl Abort,
+    alloc: Global,
+    heap: &Refusing<Global>,
+    taken: S::Alloc,
+) -> Result<(), Fail> {
+    let text = repeated(alloc, "", "---\nk: v\n", 2000)?;
     let change: Change = (2001, 2002, b"k: w\n");
-    let (work, report) = edit_reported::<PlainStore<Heap<'_>>>(
-        rt.alloc(),
-        &heap,
-        &heap,
-        1000,
-        text.as_str(),
-        change,
-    )?;
+    let (work, report) = edit_reported::<S>(alloc, heap, taken, 1000, text.as_str(), change)?;
     assert!(rt; work.scanned <= 3, "{} rows", work.scanned);
     assert!(rt; work.documents <= 2, "{} documents", work.documents);
     assert_eq!(rt; report.as_str(), "");
     Ok(())
+}
+
+#[test]
+fn an_edit_among_documents_takes_little_memory(rt: HostRuntime) -> Result<(), Fail> {
+    let heap = Refusing::new(rt.alloc());
+    check_among_documents::<PlainStore<Heap<'_>>>(&rt, rt.alloc(), &heap, &heap)?;
+    check_among_documents::<ChunkStore<Heap<'_>>>(&rt, rt.alloc(), &heap, &heap)
 }
