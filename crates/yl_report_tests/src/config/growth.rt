@@ -1,12 +1,13 @@
 //! Each growth refused in turn, up to the first run that meets none.
 use super::read;
+use crate::pieces::repeated;
 use refusing::Refusing;
 use std::alloc::Global;
 use std::test::Fail;
 use yl_config::{ConfigFault, FaultPlace};
 
-/// A text that is accepted, and one with a fault behind a second document.
-const ROWS: [(&str, Option<ConfigFault>); 2] = [
+/// A text that is accepted, one with a fault behind a second document, and one with a rule that nothing is known of.
+const ROWS: [(&str, Option<ConfigFault>); 3] = [
     (
         "extends: default\nrules:\n  truthy: {allowed-values: ['yes', off]}\n  line-length:\n    max: 5\n",
         None,
@@ -14,6 +15,10 @@ const ROWS: [(&str, Option<ConfigFault>); 2] = [
     (
         "rules: {}\n---\n- [a, b]\n- &c *d\n",
         Some(ConfigFault::Syntax(FaultPlace { line: 4, column: 6 })),
+    ),
+    (
+        "extends: default\nrules:\n  line-lenght: disable\n",
+        Some(ConfigFault::UnknownRule(FaultPlace { line: 3, column: 3 })),
     ),
 ];
 
@@ -52,5 +57,8 @@ fn each_growth_is_refused(rt: HostRuntime) -> Result<(), Fail> {
         let count = growths(&heap, text, fault)?;
         assert!(rt; count > 20, "{count} growths");
     }
+    let long = repeated(rt.alloc(), "rules: {}\nignore: [", 20_000, "a, ", "a]\n")?;
+    let count = growths(&heap, long.as_str(), None)?;
+    assert!(rt; count > 20, "{count} growths of a long text");
     Ok(())
 }
