@@ -141,11 +141,11 @@ saturates : (n l rest m top : ℕ) → m ≡ min (n + l) top → min (m + rest) 
 saturates n l rest m top e = omega (arith, e)
 
 -- so many are counted, those of this row too
-pub counted_more : (rs : List (Bor RecordValue)) (i : ℕ) (x : Bor RecordValue) → i < length rs → x ≡ get_or rs i x
+pub lexemes_counted : (rs : List (Bor RecordValue)) (i : ℕ) (x : Bor RecordValue) → i < length rs → x ≡ get_or rs i x
     → (xs : List LexemeValue) → xs ≡ x.now.entry.lexemes → (n m total top : ℕ) → m ≡ min (n + length xs) top
     → min (n + length (lexemes_from i (drop i (seen rs)))) top ≡ total
     → min (m + length (lexemes_from (i + 1) (drop (i + 1) (seen rs)))) top ≡ total
-counted_more rs i x l e xs is n m total top more whole =
+lexemes_counted rs i x l e xs is n m total top more whole =
     let rest : List LexemeValue = lexemes_from (i + 1) (drop (i + 1) (seen rs)) in
     let here : length (lexemes_from i (drop i (seen rs))) ≡ length xs + length rest =
     ap (λ (es : List RecordValue). length (lexemes_from i es)) (next rs i x l e)
