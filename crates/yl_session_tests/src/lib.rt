@@ -32,3 +32,5 @@ mod shown;
 mod silences;
 #[cfg(test)]
 mod typed;
+#[cfg(test)]
+mod versions;
