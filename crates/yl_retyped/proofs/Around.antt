@@ -104,7 +104,7 @@ back_none (x ∷ xs) ys h = absurd (cc)
 no_findings : (xs ys : List FindingValue) → xs ≡ [] → ys ≡ [] → xs ++ ys ≡ []
 no_findings xs ys h k = rw (h, k) refl
 
-truthy_none : (o : Option TruthyOptions) (line : ℕ) (x : LexemeValue) → truthy o (span_of (lexeme_at_line 0 x)) x.value no_key ≡ [] → truthy o (span_of (lexeme_at_line line x)) x.value no_key ≡ []
+truthy_none : (o : Option TruthyOptions) (line : ℕ) (x : LexemeValue) → truthy false o (span_of (lexeme_at_line 0 x)) x.value no_key ≡ [] → truthy false o (span_of (lexeme_at_line line x)) x.value no_key ≡ []
 truthy_none None line x h = refl
 truthy_none (Some o) line x h = none_if _ _ _ h
 
@@ -115,8 +115,8 @@ quoted_none (Some o) line x h = none_if _ _ _ h
 pub quiet_at : (o : LexemeOptions) (line : ℕ) (x : LexemeValue) → IsQuiet o (lexeme_at_line 0 x) → IsQuiet o (lexeme_at_line line x)
 quiet_at o line x h =
     let at = span_of (lexeme_at_line 0 x) in
-    no_findings _ _ (truthy_none o.truthy line x (front_none (truthy o.truthy at x.value no_key) (quoted_strings o.quoted_strings at x.value no_key) h))
-    (quoted_none o.quoted_strings line x (back_none (truthy o.truthy at x.value no_key) (quoted_strings o.quoted_strings at x.value no_key) h))
+    no_findings _ _ (truthy_none o.truthy line x (front_none (truthy false o.truthy at x.value no_key) (quoted_strings o.quoted_strings at x.value no_key) h))
+    (quoted_none o.quoted_strings line x (back_none (truthy false o.truthy at x.value no_key) (quoted_strings o.quoted_strings at x.value no_key) h))
 
 -- ---- lists that differ in one lexeme
 

@@ -22,6 +22,6 @@ is_scalar _ = false
 abbrev pub no_key : KeyFacts
 no_key = record { is_key = false; has_tag = false }
 
--- the rules on values find nothing at a lexeme that is no key
+-- the rules on values find nothing at a lexeme that is no key, where all truthy words count; nor then where fewer do
 abbrev pub IsQuiet : LexemeOptions → LexemeValue → Type 0
-IsQuiet o x = value_findings o (span_of x) x.value no_key ≡ []
+IsQuiet o x = value_findings false o (span_of x) x.value no_key ≡ []
