@@ -115,9 +115,10 @@ pub fn find_in_lines<L: Lines>(
 ) -> Result<Vec<Finding<L::Alloc>, L::Alloc>, AllocError>
     ensures { IfOk result (λ found. found.items ≡ findings_in_lines (options_of config.now) (L.rows lines.now)) }
 {
+    let count = lines.len();
     let mut reader = LineReader::start(alloc, config);
     let mut passed = 0;
-    while passed < lines.len() {
+    while passed < count {
         let rows = lines.rows_from(passed);
         if rows.is_empty() {
             let row = lines.row(passed);
