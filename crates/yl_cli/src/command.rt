@@ -1,11 +1,16 @@
 //! The line of a command.
-ghost use Rattle.std.specs.Prelude.{◌≡◌, ◌+◌, ◌<◌, ◌^◌, map, IfOk, IfSome};
+ghost use Rattle.std.specs.Prelude.{◌≡◌, ◌==◌, ◌+◌, ◌<◌, ◌^◌, length, map, IfSome, MatchOption};
+ghost use Rattle.std.specs.List.{slice_split};
+ghost use Rattle.yl_text.specs.Char.{space};
 ghost use Rattle.yl_cli.specs.Command.{command_line, line_of_numbers, line_of_words, number_of_word};
 
-use std::alloc::{AllocError, Allocator};
+use arrayvec::ArrayVec;
 
 /// The most bytes that a command puts into a text.
 const MOST_BYTES: u64 = 67_108_864;
+
+// The words of a command: its name, and three numbers.
+type Words<'a> = ArrayVec<&'a [u8], 4>;
 
 /// What a command asks for: `count` lines from `first` on, counted from 0, give way to `size`
 /// bytes.
@@ -62,14 +67,26 @@ fn line_of_words(words: &[&[u8]]) -> Option<CommandLine>
     line_of_numbers(number(first), number(count), number(size))
 }
 
-/// What a command's line asks for, or `None` where it is none.
-pub(crate) fn command_line<A: Allocator + Copy>(
-    alloc: A,
-    line: &[u8],
-) -> Result<Option<CommandLine>, AllocError>
-    ensures value { IfOk result (λ found. found ≡ command_line line.now) }
-    ensures bound { IfOk result (λ found. IfSome found (λ c. c.first + c.count < 2 ^ 64)) }
+// The words of a line, which stand between single spaces, or `None` where they are more than a command has. It takes
+// no memory.
+fn words_of(line: &[u8]) -> Option<Words<'_>>
+    ensures { MatchOption result (4 < length (slice_split (λ c. c == space) line.now))
+        (λ words. map (λ word. word.now) words.items ≡ slice_split (λ c. c == space) line.now) }
 {
-    let words: Vec<&[u8], A> = line.split(|c| *c == b' ').collect(alloc)?;
-    Ok(line_of_words(words.as_slice()))
+    let mut words = Words::new();
+    for word in line.split(|c| *c == b' ') {
+        if words.try_push(word).is_err() {
+            return None;
+        }
+    }
+    Some(words)
+}
+
+/// What a command's line asks for, or `None` where it is none. It takes no memory.
+pub(crate) fn command_line(line: &[u8]) -> Option<CommandLine>
+    ensures value { result ≡ command_line line.now }
+    ensures bound { IfSome result (λ c. c.first + c.count < 2 ^ 64) }
+{
+    let words = words_of(line)?;
+    line_of_words(words.as_slice())
 }

@@ -133,7 +133,7 @@ pub(crate) fn next_edit<A: Allocator + Copy, R: Read>(
     if !read_line(ahead, input, &mut line)? {
         return Ok(None);
     }
-    let Some(asked) = command_line(alloc, line.as_slice())? else {
+    let Some(asked) = command_line(line.as_slice()) else {
         return Err(RunFault::Command);
     };
     let bytes = read_payload(alloc, ahead, input, asked.size as usize)?;

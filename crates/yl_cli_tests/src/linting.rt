@@ -354,34 +354,44 @@ fn refuses_too_many_bytes(rt: HostRuntime) -> Result<(), Fail> {
     Ok(())
 }
 
-// The first run that meets no refusal answers as one with ample memory. Each before it wants memory, or was
-// refused a room that it can do without.
+// Texts with their statuses and reports: of lines, and under a comment that silences.
+const REFUSED: [(&[u8], u8, &[u8]); 2] = [
+    (TEXT, 1, REPORT),
+    (
+        b"---\n# yamllint disable rule:colons\na:  1 \n",
+        1,
+        b"f.yaml:3:6: [error] trailing spaces (trailing-spaces)\n",
+    ),
+];
+
+// Each run in which a growth is refused wants memory and prints nothing. The first that meets no refusal answers as one
+// with ample memory.
 #[test]
 fn refuses_each_growth(rt: HostRuntime) -> Result<(), Fail> {
     let heap = Refusing::new(rt.alloc());
-    let mut refused = 0;
-    for nth in 1..u64::MAX {
-        heap.refuse(nth);
-        let ran = run(
-            &Config::standard(),
-            rt.alloc(),
-            &heap,
-            make_reader(TEXT, 5, 0),
-            1000,
-            1000,
-            true,
-        );
-        if ran.answer == Err(RunFault::Memory) {
-            refused = nth;
+    for (text, status, report) in REFUSED {
+        for nth in 1..1000 {
+            heap.refuse(nth);
+            let ran = run(
+                &Config::standard(),
+                rt.alloc(),
+                &heap,
+                make_reader(text, 5, 0),
+                1000,
+                1000,
+                true,
+            );
+            if heap.is_armed() {
+                assert_eq!(rt; ran.answer, Ok(status));
+                assert_eq!(rt; ran.out.as_slice(), report);
+                assert!(rt; nth > 20, "the {nth}th growth");
+                break;
+            }
+            assert_eq!(rt; ran.answer, Err(RunFault::Memory), "the {nth}th growth");
             assert_eq!(rt; ran.out.len(), 0);
-            continue;
         }
-        assert_eq!(rt; ran.answer, Ok(1), "the {nth}th growth");
-        assert_eq!(rt; ran.out.as_slice(), REPORT);
-        if heap.is_armed() {
-            assert!(rt; refused > 20, "{refused} growths");
-            return Ok(());
-        }
+        assert!(rt; heap.is_armed());
+        heap.refuse(0);
     }
     Ok(())
 }
