@@ -1,9 +1,11 @@
 //! What the programs share: their words, how they read a file, and how they end.
 #![tactic(auto)]
 
-ghost use Rattle.std.specs.Prelude.{◌≡◌};
+ghost use Rattle.std.specs.Prelude.{◌≡◌, ◌≢◌};
+ghost use Rattle.std.specs.IoError.{error_kind};
 
-use std::{env, fs};
+use std::io::ErrorKind;
+use std::{env, fs, io};
 use yl_args::Stop;
 use yl_devices::{Program, ProgramFault, RunFault, read_text, say};
 use yl_text::Watched;
@@ -20,15 +22,30 @@ pub fn stopped(rt: &HostRuntime, program: Program, fault: &ProgramFault<'_>) -> 
     FAULT
 }
 
-/// The words after the program's name.
-pub fn words(rt: &HostRuntime) -> Result<Vec<String>, ProgramFault<'static>> {
-    match env::args(rt) {
-        Ok(words) => match words.skip(1).collect(rt.alloc()) {
-            Ok(words) => Ok(words),
-            Err(_) => Err(ProgramFault::Memory),
-        },
-        Err(_) => Err(ProgramFault::Use),
+// What it is told as that the system did not hand out the words: want of memory, or a word that is no UTF-8.
+fn fault_of(error: &io::Error) -> ProgramFault<'static>
+    ensures memory { error_kind error.now ≡ ErrorKind.OutOfMemory → result ≡ ProgramFault.Memory }
+    ensures words { error_kind error.now ≢ ErrorKind.OutOfMemory → result ≡ ProgramFault.Use }
+{
+    match error.kind() {
+        ErrorKind::OutOfMemory => ProgramFault::Memory,
+        _ => ProgramFault::Use,
     }
+}
+
+/// The words after the program's name. Want of memory is `Memory`, and a word that is no UTF-8 is `Use`.
+pub fn words(rt: &HostRuntime) -> Result<Vec<String>, ProgramFault<'static>> {
+    let all = match env::args(rt) {
+        Ok(all) => all,
+        Err(error) => return Err(fault_of(&error)),
+    };
+    let mut words = Vec::new(rt.alloc());
+    for word in all.skip(1) {
+        if words.push(word).is_err() {
+            return Err(ProgramFault::Memory);
+        }
+    }
+    Ok(words)
 }
 
 /// Ends a program whose words ask for no run: prints the help that is asked for, or says the fault.
