@@ -219,7 +219,10 @@ def refuse_each(runs, case, may_come):
         if ends_without_memory(case, whole, come) and (case.program == "yamllint" or "".join(answers(come[0])) == come[0]):
             ended += 1
         elif come not in may_come:
-            runs.tell(f"with request {number} refused there came", case, come)
+            out, err, status = come
+            told = [line for line in out.splitlines() if line.startswith("-- refused")]
+            what = "all as if none had been" if come == whole else (told, out[-100:], err, status)
+            runs.tell(f"with request {number} refused there came", case, what)
         number += 1
     print(f"{case.program}: {number - 1} requests refused, {ended} of them ended the run")
 
