@@ -1,10 +1,10 @@
 //! Scans where one growth is refused: each in turn, up to the first run that meets none.
-use crate::scans::{Heap, pass, scan_rows, shown};
+use crate::scans::{Heap, fed, pass, pass_text, scan_rows, shown};
 use refusing::Refusing;
 use std::alloc::{AllocError, Global};
 use std::test::Fail;
 use yl_lexeme::Meter;
-use yl_scan::Scanner;
+use yl_scan::{LineState, Scanner};
 use yl_text::{Row, split};
 
 const TEXT: &str = "- {\"a\": &b c,\n d: [e]} # f\n- 'g\n  h'\n- |\n  i\n";
@@ -63,14 +63,37 @@ fn each_growth_of_a_scan(rt: HostRuntime) -> Result<(), Fail> {
     Ok(())
 }
 
+/// How rows are fed: from the text's start, or by a scanner that is resumed at the row of this number; and whether by their texts.
+type Way = (usize, bool);
+
+/// Feeds a scanner a row, or its text.
+fn is_fed<'a>(
+    global: Global,
+    scanner: &mut Scanner<'_, Heap<'a>>,
+    row: &Row<Heap<'a>>,
+    meter: &mut Meter,
+    by_text: bool,
+) -> bool {
+    if by_text {
+        pass_text(global, scanner, row, meter).is_ok()
+    } else {
+        pass(global, scanner, row, meter).is_ok()
+    }
+}
+
 /// Feeds a scanner the rows, and tells whether a call was refused, the last one too. Each call
 /// behind one that was refused has to be.
-fn is_refused<'a>(global: Global, heap: Heap<'a>, rows: &[Row<Heap<'a>>]) -> Option<bool> {
-    let mut scanner = Scanner::start(&heap);
+fn is_refused<'a>(
+    global: Global,
+    scanner: Scanner<'_, Heap<'a>>,
+    rows: &[Row<Heap<'a>>],
+    by_text: bool,
+) -> Option<bool> {
+    let mut scanner = scanner;
     let mut meter = Meter::new();
     let mut is_refused = false;
     for row in rows {
-        let is_ok = pass(global, &mut scanner, row, &mut meter).is_ok();
+        let is_ok = is_fed(global, &mut scanner, row, &mut meter, by_text);
         if is_ok && is_refused {
             return None;
         }
@@ -80,14 +103,55 @@ fn is_refused<'a>(global: Global, heap: Heap<'a>, rows: &[Row<Heap<'a>>]) -> Opt
     (!is_ok || !is_refused).then_some(!is_ok)
 }
 
+/// The state at the last of these rows, if it is sound.
+fn state_of<'a>(
+    global: Global,
+    heap: Heap<'a>,
+    rows: &[Row<Heap<'a>>],
+) -> Result<Option<LineState<Heap<'a>>>, AllocError> {
+    let mut scanner = Scanner::start(&heap);
+    let mut meter = Meter::new();
+    let mut state = None;
+    for row in rows {
+        state = fed(global, &mut scanner, row, &mut meter)?.state;
+    }
+    Ok(state)
+}
+
+/// The same for a scanner that begins where this state is, or at the text's start. One that is not resumed for want of memory is refused.
+fn is_refused_from<'a>(
+    global: Global,
+    heap: Heap<'a>,
+    state: Option<&LineState<Heap<'a>>>,
+    rows: &[Row<Heap<'a>>],
+    by_text: bool,
+) -> Option<bool> {
+    let Some(state) = state else {
+        return is_refused(global, Scanner::start(&heap), rows, by_text);
+    };
+    match Scanner::resume(&heap, state) {
+        Ok(scanner) => is_refused(global, scanner, rows, by_text),
+        Err(_) => Some(true),
+    }
+}
+
 /// How many growths there are where none is refused. Where one is, a call is refused, and the calls
 /// behind it are.
-fn refusals(global: Global, text: &str) -> Result<u64, Fail> {
+fn refusals(global: Global, text: &str, way: Way) -> Result<u64, Fail> {
+    let (first, by_text) = way;
     let heap = Refusing::new(global);
     let rows = split(&heap, text.as_bytes())?;
+    let rows = rows.as_slice();
+    let first = first.min(rows.len());
+    let state = if first > 0 && first < rows.len() {
+        state_of(global, &heap, &rows[..first + 1])?
+    } else {
+        None
+    };
+    let below = &rows[first..];
     for n in 0..u64::MAX {
         heap.refuse(n + 1);
-        let refused = is_refused(global, &heap, &rows);
+        let refused = is_refused_from(global, &heap, state.as_ref(), below, by_text);
         if heap.is_armed() && refused == Some(false) {
             return Ok(n);
         }
@@ -100,7 +164,17 @@ fn refusals(global: Global, text: &str) -> Result<u64, Fail> {
 
 #[test]
 fn a_refusal_stays(rt: HostRuntime) -> Result<(), Fail> {
-    let growths = refusals(rt.alloc(), TEXT)?;
-    assert!(rt; growths > 9, "{growths} growths");
+    let ways: [(Way, u64); 6] = [
+        ((0, false), 9),
+        ((0, true), 9),
+        ((1, false), 6),
+        ((1, true), 6),
+        ((4, false), 2),
+        ((4, true), 2),
+    ];
+    for (way, least) in ways {
+        let growths = refusals(rt.alloc(), TEXT, way)?;
+        assert!(rt; growths > least, "{growths} growths from row {}", way.0);
+    }
     Ok(())
 }

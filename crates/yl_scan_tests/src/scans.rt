@@ -50,6 +50,22 @@ pub(crate) fn pass<A: Allocator + Copy>(
     }
 }
 
+/// Feeds the text of a row, and lets go what it tells.
+pub(crate) fn pass_text<A: Allocator + Copy>(
+    global: Global,
+    scanner: &mut Scanner<'_, A>,
+    row: &Row<A>,
+    meter: &mut Meter,
+) -> Result<(), AllocError> {
+    if scanner.line() as usize > MANY || meter.lines as usize > MANY || !is_short(global, row)? {
+        return Err(AllocError);
+    }
+    match scanner.feed_text(row.as_str(), meter) {
+        Ok(_) => Ok(()),
+        Err(error) => Err(error),
+    }
+}
+
 /// A lexeme that begins at this line: its kind, its start, its end, and its value if it has one.
 fn show_lexeme<A: Allocator>(
     shown: &mut String,
