@@ -1,16 +1,18 @@
 -- Meaning: what would be reported if no comment silenced anything and no section had a fault.
-use Rattle.std.specs.Prelude.{◌≡◌, ◌+◌, ℕ, List, None, map, take, drop}
+use Rattle.std.specs.Prelude.{◌≡◌, ◌+◌, ◌<◌, ◌≤◌, ℕ, true, List, None, Some, length, map, slice_get, take, drop}
 use Rattle.std.specs.List.{AllByRecursion}
 use Rattle.yl_text.specs.Lines.{RowValue}
 use Rattle.yl_config.specs.declared.config.Config.{Config}
 use Rattle.yl_indentation.specs.Measures.{measure_of}
 use Rattle.yl_report.specs.Report.{ProblemValue}
-use Rattle.yl_sections.specs.Kept.{KeptValue}
+use Rattle.yl_sections.specs.Kept.{KeptValue, Here}
 use Rattle.yl_rejudge.specs.Places.{rows_kept}
 use Rattle.yl_lint.specs.TextReport.{facts_in_sections}
 use Rattle.yl_lint.specs.Unsilenced.{unsilenced_by}
+use Rattle.yl_patch.specs.Cut.{is_filled}
 use Rattle.yl_patch.specs.Plain.{IsPlain, IsSilencingOf, IsSound}
 use Rattle.yl_patch.specs.declared.faultless.Faultless.{Faultless}
+use Rattle.yl_patch.specs.declared.hidden.FaultInRows.{FaultInRows}
 
 -- a section as if it had no fault
 abbrev pub faultless_one : KeptValue → KeptValue
@@ -36,3 +38,14 @@ pub record IsFaultless (ks : List KeptValue) (f : Faultless) : Type 0 where
   pub row : f.row ≡ rows_kept (take f.at ks)
   pub whole : f.whole ≡ measure_of (facts_in_sections ks)
   pub silencing : IsSilencingOf ks f.silencing
+
+-- the only fault stands in its section's rows; the lines behind them begin with one that is not empty, if there are any, and the facts
+-- up to there have the measure of all
+pub record IsFaultInRows (rows : List RowValue) (ks : List KeptValue) (f : Faultless) (t : FaultInRows) : Type 0 where
+  pub one : KeptValue
+  pub at : slice_get ks f.at ≡ Some one
+  pub fault : one.fault ≡ Some (Here t.place t.text.now)
+  pub end : t.end ≡ f.row + one.rows
+  pub within : t.end ≤ length rows
+  pub filled : t.end < length rows → is_filled (slice_get rows t.end) ≡ true
+  pub measure : f.whole ≡ measure_of (facts_in_sections (take (f.at + 1) ks))

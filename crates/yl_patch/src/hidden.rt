@@ -5,7 +5,7 @@ ghost use Rattle.yl_indentation.specs.Measures.{measure_of};
 ghost use Rattle.yl_lint.specs.TextReport.{facts_in_sections};
 ghost use Rattle.yl_lint.specs.Unsilenced.{reported_in_lines, unsilenced_by};
 ghost use Rattle.yl_patch.specs.Cut.{is_filled};
-ghost use Rattle.yl_patch.specs.Faultless.{IsFaultless, faultless_by};
+ghost use Rattle.yl_patch.specs.Faultless.{IsFaultInRows, IsFaultless, faultless_by};
 ghost use Rattle.yl_patch.specs.Patched.{is_upto};
 
 use crate::faultless::Faultless;
@@ -19,7 +19,7 @@ use yl_config::Config;
 use yl_indentation::Measure;
 use yl_report::{Problem, Silences, arrange_with, copies};
 use yl_sections::{Kept, SectionFault};
-use yl_text::Lines;
+use yl_text::{Lines, Pos};
 
 /// Whether the facts of the first so many sections have the measure of those of all. It looks no further once it is found.
 fn have_measure<A: Allocator + Copy>(
@@ -66,44 +66,68 @@ fn is_apart<L: Lines>(lines: &L, end: usize) -> bool
     end == lines.len() || is_filled(lines, end)
 }
 
-/// What is reported of these lines if no comment silences anything, where one section has a fault, by what would be reported if it had none
-/// and what is of the lines alone; none where it is not seen. The only error is out of memory.
+/// The fault of the section that alone has one, where it stands in that section's rows, counted from its first one, and where the lines
+/// end, counted in the text, that this section ends.
+#[derive(Clone, Copy, Debug)]
+pub struct FaultInRows {
+    pub place: Pos,
+    pub text: &'static str,
+    pub end: u32,
+}
+
+/// The fault of the only section that has one, where the report follows from what would be reported if it had none and what is of the
+/// lines alone; none where that is not seen.
+pub fn fault_in_rows<L: Lines>(
+    lines: &L,
+    sections: &Spliced<'_, Kept<L::Alloc>, L::Alloc>,
+    known: Faultless,
+) -> Option<FaultInRows>
+    requires { IsFaultless sections.now known }
+    ensures { IfSome result (λ t. IsFaultInRows (L.rows lines.now) sections.now known t) }
+{
+    if known.at >= sections.len() {
+        return None;
+    }
+    let one = sections.get(known.at);
+    let Some(SectionFault::Here(place, text)) = one.fault() else {
+        return None;
+    };
+    let end = known.row.checked_add(one.rows())?;
+    if !is_apart(lines, end as usize) || !have_measure(sections, known.at + 1, known.whole) {
+        return None;
+    }
+    Some(FaultInRows { place, text, end })
+}
+
+/// What is reported of these lines if no comment silences anything, where one section has this fault, by what would be reported if it had
+/// none and what is of the lines alone. The only error is out of memory.
 pub fn hidden_report<L: Lines>(
     alloc: L::Alloc,
     config: &Config,
     lines: &L,
     sections: &Spliced<'_, Kept<L::Alloc>, L::Alloc>,
     known: Faultless,
+    fault: FaultInRows,
     all: &[Problem<L::Alloc>],
     in_lines: &[Problem<L::Alloc>],
-) -> Result<Option<Vec<Problem<L::Alloc>, L::Alloc>>, AllocError>
+) -> Result<Vec<Problem<L::Alloc>, L::Alloc>, AllocError>
     requires known { IsFaultless sections.now known }
+    requires fault { IsFaultInRows (L.rows lines.now) sections.now known fault }
     requires all { all.now ≡ faultless_by config.now (L.rows lines.now) sections.now }
     requires in_lines { in_lines.now ≡ reported_in_lines config.now (L.rows lines.now) }
-    ensures { IfOk result (λ o. IfSome o (λ v. v.items ≡ unsilenced_by config.now (L.rows lines.now) sections.now)) }
+    ensures { IfOk result (λ v. v.items ≡ unsilenced_by config.now (L.rows lines.now) sections.now) }
 {
-    if known.at >= sections.len() {
-        return Ok(None);
-    }
-    let one = sections.get(known.at);
-    let Some(SectionFault::Here(place, text)) = one.fault() else {
-        return Ok(None);
-    };
-    let Some(end) = known.row.checked_add(one.rows()) else {
-        return Ok(None);
-    };
-    if !is_apart(lines, end as usize) || !have_measure(sections, known.at + 1, known.whole) {
-        return Ok(None);
-    }
-    let shown = joined(alloc, all, in_lines, u64::from(end))?;
-    let mut fault = Vec::new(alloc);
-    fault.push(fault_finding(alloc, known.row, place, text)?)?;
+    let _ = lines;
+    let _ = sections;
+    let shown = joined(alloc, all, in_lines, u64::from(fault.end))?;
+    let mut found = Vec::new(alloc);
+    found.push(fault_finding(alloc, known.row, fault.place, fault.text)?)?;
     let report = arrange_with(
         alloc,
         &shown,
-        fault,
+        found,
         config.levels(),
         &Silences::none(alloc),
     )?;
-    Ok(Some(report))
+    Ok(report)
 }

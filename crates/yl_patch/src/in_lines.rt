@@ -2,7 +2,7 @@
 //!
 //! What the rules on lines find in a line rests on it and on the empty lines beside it. So they find the same in the lines that stayed, but
 //! for those up to the nearest that is not empty. No other line is read again.
-ghost use Rattle.std.specs.Prelude.{◌≡◌, ◌<◌, ◌≤◌, ◌+◌, ◌-◌, ◌^◌, ◌==◌, true, false, length, drop, slice_get, List, IfOk, IfSome};
+ghost use Rattle.std.specs.Prelude.{◌≡◌, ◌<◌, ◌≤◌, ◌+◌, ◌-◌, ◌^◌, ◌==◌, ℕ, true, false, length, drop, slice_get, List, IfOk, IfSome};
 ghost use Rattle.std.specs.List.{AllByRecursion, splice};
 ghost use Rattle.yl_text.specs.Lines.{RowValue};
 ghost use Rattle.yl_text.specs.Store.{IsRange};
@@ -54,19 +54,28 @@ fn gone_of(stayed: Stayed, lines: usize) -> Option<Gone>
     })
 }
 
-/// The last line before one that is not empty, or the first line; none where it stands further up.
-fn filled_above<L: Lines>(lines: &L, end: usize) -> Option<usize> {
-    let from = end.saturating_sub(NEAR);
-    for i in (from..end).rev() {
+/// The last line before one that is not empty, or the first line, where all before it are empty; none where it stands further up.
+fn filled_above<L: Lines>(lines: &L, end: usize) -> Option<usize>
+    ensures within { IfSome result (λ i. i ≤ end) }
+    ensures filled { IfSome result (λ i. 0 < i → is_filled (slice_get (L.rows lines.now) i) ≡ true) }
+    ensures nearest { IfSome result (λ i. (k : ℕ) → i < k → k < end → is_filled (slice_get (L.rows lines.now) k) ≡ false) }
+{
+    let count = end.min(NEAR);
+    for n in 0..count {
+        let i = end - 1 - n;
         if is_filled(lines, i) {
             return Some(i);
         }
     }
-    if from == 0 { Some(0) } else { None }
+    if count == end { Some(0) } else { None }
 }
 
 /// The first line from one on that is not empty, or the end; none where it stands further down.
-fn filled_from<L: Lines>(lines: &L, from: usize) -> Option<usize> {
+fn filled_from<L: Lines>(lines: &L, from: usize) -> Option<usize>
+    ensures within { IfSome result (λ i. i ≤ length (L.rows lines.now)) }
+    ensures filled { IfSome result (λ i. i < length (L.rows lines.now) → is_filled (slice_get (L.rows lines.now) i) ≡ true) }
+    ensures nearest { IfSome result (λ i. (k : ℕ) → from ≤ k → k < i → is_filled (slice_get (L.rows lines.now) k) ≡ false) }
+{
     let end = lines.len().min(from.saturating_add(NEAR));
     for i in from..end {
         if is_filled(lines, i) {
@@ -77,7 +86,14 @@ fn filled_from<L: Lines>(lines: &L, from: usize) -> Option<usize> {
 }
 
 /// The lines in which the rules on lines may find something else: those that did not stay, up to the nearest on each side that is not empty.
-fn touched_by<L: Lines>(lines: &L, gone: Gone) -> Option<Touched> {
+/// Where none is left of them in one of the texts, another line behind them is among these.
+fn touched_by<L: Lines>(lines: &L, gone: Gone) -> Option<Touched>
+    ensures above { IfSome result (λ t. t.first ≤ gone.from) }
+    ensures first { IfSome result (λ t. 0 < t.first → is_filled (slice_get (L.rows lines.now) t.first) ≡ true) }
+    ensures within { IfSome result (λ t. (gone.new_end ≤ t.new_end) × (t.new_end ≤ length (L.rows lines.now))) }
+    ensures behind { IfSome result (λ t. t.new_end < length (L.rows lines.now) → is_filled (slice_get (L.rows lines.now) t.new_end) ≡ true) }
+    ensures same { IfSome result (λ t. t.old_end + gone.new_end ≡ gone.old_end + t.new_end) }
+{
     let first = filled_above(lines, gone.from)?;
     let more = usize::from(gone.old_end == 0 || gone.new_end == 0);
     let new_end = filled_from(lines, gone.new_end.checked_add(more)?)?;

@@ -27,11 +27,12 @@ mod whole;
 mod window;
 
 pub use faultless::{Faultless, faultless_after, faultless_of, overview_of_faultless};
-pub use hidden::hidden_report;
+pub use hidden::{FaultInRows, fault_in_rows, hidden_report};
 pub use in_lines::patched_lines;
 pub use overview::{Overview, SectionEdit, overview_after, overview_of, overview_renewed};
 pub use patching::{patched_faultless, patched_report, patched_unsilenced};
-pub use shifting::{ReportPatch, put_patch};
+pub use shifting::{ReportPatch, patched_copy, put_patch};
 pub use silencing::Silencing;
+pub use sound::hides;
 pub use stayed::Stayed;
 pub use whole::{is_quiet, is_unsilenced, silences_of_text};

@@ -1,11 +1,11 @@
 //! A report in which other problems take the place of some, and those behind them are shifted.
-ghost use Rattle.std.specs.Prelude.{◌≡◌, ◌+◌, ◌-◌, ◌<◌, ◌≤◌, ◌^◌, ◌++◌, true, take, drop, map, vec_len, vec_capacity};
+ghost use Rattle.std.specs.Prelude.{◌≡◌, ◌+◌, ◌-◌, ◌<◌, ◌≤◌, ◌^◌, ◌++◌, true, length, take, drop, map, vec_len, vec_capacity, IfOk};
 ghost use Rattle.std.specs.List.{AllByRecursion};
 ghost use Rattle.yl_text.specs.Store.{IsRange};
 ghost use Rattle.yl_patch.specs.Patched.{IsLow, patched, shifted};
 
-use std::alloc::Allocator;
-use yl_report::Problem;
+use std::alloc::{AllocError, Allocator};
+use yl_report::{Problem, copies};
 use yl_text::put_between;
 
 /// What becomes of a report: these problems take the place of those from one on, before `end`, both counted from 0; those behind them
@@ -66,4 +66,34 @@ pub fn put_patch<A: Allocator>(problems: &mut Vec<Problem<A>, A>, patch: &mut Re
 {
     shift_behind(problems, patch.end, patch.up, patch.down);
     put_between(problems, patch.from, patch.end, &mut patch.problems);
+}
+
+/// The same report beside the old one, in room that fits: of the old one nothing is copied but what stays. The only error is out of memory.
+pub fn patched_copy<A: Allocator + Copy>(
+    alloc: A,
+    problems: &[Problem<A>],
+    patch: ReportPatch<A>,
+) -> Result<Vec<Problem<A>, A>, AllocError>
+    requires range { IsRange patch.from patch.end (length problems.now) }
+    requires low { AllByRecursion IsLow (drop patch.end problems.now) }
+    ensures { IfOk result (λ v. v.items ≡ patched patch.from patch.end patch.problems.items patch.up patch.down problems.now) }
+{
+    let ReportPatch {
+        from,
+        end,
+        problems: mut new,
+        up,
+        down,
+    } = patch;
+    let (above, _) = problems.split_at(from);
+    let (_, below) = problems.split_at(end);
+    let Some(more) = new.len().checked_add(below.len()) else {
+        return Err(AllocError);
+    };
+    let mut rest = copies(alloc, below, 0)?;
+    shift_behind(&mut rest, 0, up, down);
+    let mut all = copies(alloc, above, more)?;
+    all.append(&mut new)?;
+    all.append(&mut rest)?;
+    Ok(all)
 }

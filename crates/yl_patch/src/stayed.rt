@@ -1,5 +1,5 @@
 //! What of a text stayed since it was another.
-ghost use Rattle.std.specs.Prelude.{◌≡◌, ◌≤◌, length, List};
+ghost use Rattle.std.specs.Prelude.{◌≡◌, ◌≤◌, ◌<◌, ◌+◌, true, length, List};
 ghost use Rattle.std.specs.List.{splice};
 ghost use Rattle.yl_text.specs.Lines.{RowValue};
 ghost use Rattle.yl_patch.specs.Stayed.{HasStayed};
@@ -34,5 +34,12 @@ impl Stayed {
             behind: self.behind.min(lines - b),
             lines: self.lines,
         }
+    }
+
+    /// Whether less than half of the lines stayed.
+    pub fn is_little(self) -> bool
+        ensures { result ≡ true → self.above + self.behind < self.lines }
+    {
+        self.above.saturating_add(self.behind) < self.lines / 2
     }
 }

@@ -1,6 +1,5 @@
-use Rattle.std.proofs.Common.{[], ◌∷◌, ◌++◌, ◌+◌, ℕ, List, Some, false, take, drop, ap, sym, arith, ◌∙◌}
+use Rattle.std.proofs.Common.{[], ◌∷◌, ◌++◌, ◌+◌, ℕ, List, false, take, drop, ap, sym, ◌∙◌}
 use Rattle.std.specs.List.{prefix_len}
-use Rattle.std.specs.Option.{option_map}
 use Rattle.yl_text.specs.Finding.{FindingValue}
 use Rattle.yl_rules.specs.LevelOf.{level_of}
 use Rattle.yl_rules.specs.Levels.{LevelTable}
@@ -10,7 +9,6 @@ use Rattle.yl_config.specs.Config.{levels_of}
 use Rattle.yl_report.specs.Heard.{nothing_silenced}
 use Rattle.yl_report.specs.Report.{report_of}
 use Rattle.yl_report.specs.Silence.{is_file_silenced_by, is_silenced_at}
-use Rattle.yl_sections.specs.Owned.{section_fault_value}
 use Rattle.yl_patch.proofs.UnderFault.{fault_so, others, shown_so, told_so}
 use Rattle.yl_patch.proofs.hidden.hidden_report.Goals as goal
 
@@ -20,23 +18,18 @@ returns g c =
     let rows = g.L.Lines.rows c.args.lines.now in
     let ks = c.args.sections.now in
     let f = c.args.known in
-    let k = c.get-one.result.now in
-    let p = c.in-Some-Here.place in
-    let text = c.in-Some-Here.text.now in
-    let end = c.in-Some.end in
+    let t = c.args.fault in
+    let h = c.requires.fault in
     let none = c.none.result in
-    let apart = c.is_apart.ensures in
-    let is_true = c.if-not-is_apart.false in
-    let os = others config rows (take f.at ks) (drop (f.at + 1) ks) k c.requires.known.only.above in
-    let here = shown_so config rows ks f k c.requires.known c.get-one.ensures end c.args.all.now c.args.in_lines.now (omega (arith, c.in-Some.ensures, c.rows.ensures)) (apart.within is_true) (apart.filled is_true)
-    (c.have_measure.ensures c.if-not-have_measure.false) c.requires.all c.requires.in_lines in
-    let there = fault_so config rows ks f k c.requires.known c.get-one.ensures p text (sym c.fault.ensures ∙ (ap (option_map section_fault_value) c.in-Some-Here.is ∙ ap (λ v. Some (section_fault_value v)) c.in-Some-Here.field-0-is)) in
+    let os = others config rows (take f.at ks) (drop (f.at + 1) ks) h.one c.requires.known.only.above in
+    let here = shown_so config rows ks f h.one c.requires.known h.at t.end c.args.all.now c.args.in_lines.now h.end h.within h.filled h.measure c.requires.all c.requires.in_lines in
+    let there = fault_so config rows ks f h.one c.requires.known h.at t.place t.text.now h.fault in
     let shown =
     c.deref.ensures.value
     ∙ (c.in_ok-shown.ensures
     ∙ (ap (λ (n : ℕ). take (prefix_len (is_upto n) c.args.all.now) c.args.all.now ++ drop (prefix_len (is_upto n) c.args.in_lines.now) c.args.in_lines.now) c.from.ensures
     ∙ (here ∙ ap (λ (l : LevelTable). report_of l false nothing_silenced os) (sym c.levels.ensures)))) in
-    let fault = c.in_ok-push.ensures.items ∙ (ap (λ (fs : List FindingValue). fs ++ c.in_ok-fault_finding.field-0 ∷ []) c.new-fault.ensures.items ∙ ap (λ (g : FindingValue). g ∷ []) c.in_ok-fault_finding.ensures) in
+    let fault = c.in_ok-push.ensures.items ∙ (ap (λ (fs : List FindingValue). fs ++ c.in_ok-fault_finding.field-0 ∷ []) c.new-found.ensures.items ∙ ap (λ (g : FindingValue). g ∷ []) c.in_ok-fault_finding.ensures) in
     c.in_ok-report.ensures os shown
-    ∙ (told_so (level_of c.levels.result.now) (levels_of config) (is_file_silenced_by none) (is_silenced_at none) os c.push.new.self.items (moved f.row (syntax_finding p text) ∷ []) c.levels.ensures c.none.ensures.file c.none.ensures.lines fault
+    ∙ (told_so (level_of c.levels.result.now) (levels_of config) (is_file_silenced_by none) (is_silenced_at none) os c.push.new.self.items (moved f.row (syntax_finding t.place t.text.now) ∷ []) c.levels.ensures c.none.ensures.file c.none.ensures.lines fault
     ∙ there)
