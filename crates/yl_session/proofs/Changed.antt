@@ -1,5 +1,6 @@
 -- What becomes of problems, from what becomes of their parts.
-use Rattle.std.proofs.Common.{◌≡◌, ℕ, Bool, true, Bor, List, map, Option, Some, None, ap, ◌∙◌}
+use Rattle.std.proofs.Common.{◌≡◌, ◌+◌, ◌-◌, ◌<◌, ◌≤◌, ℕ, Bool, true, Bor, List, [], ◌∷◌, length, map, take, drop, Option, Some, None, ap, arith, refl, rules, subst, sym, ◌∙◌}
+use Rattle.std.proofs.lemmas.List.{places, same_lists}
 use Rattle.std.specs.Prelude.{IfSome, MatchOption, is_some}
 use Rattle.std.specs.List.{splice}
 use Rattle.yl_text.specs.Lines.{RowValue}
@@ -11,6 +12,10 @@ use Rattle.yl_report.specs.Report.{ProblemValue}
 use Rattle.yl_sections.specs.Kept.{KeptValue}
 use Rattle.yl_lint.specs.TextReport.{comments_in_sections, first_text, report_by, shown}
 use Rattle.yl_lint.specs.Unsilenced.{IsHeardOfText, unsilenced_by}
+use Rattle.yl_patch.specs.Faultless.{IsFaultless, faultless, faultless_by}
+use Rattle.yl_patch.specs.declared.faultless.Faultless.{Faultless}
+use Rattle.yl_session.specs.Faultless.{WouldBeReported}
+use Rattle.yl_unchanged.proofs.Same.{splice_same}
 
 pub both : {X : Type 0} (P Q : X → Type 0) (o : Option X) → IfSome o P → IfSome o Q → IfSome o (λ x. P x × Q x)
 both P Q None p q = tt
@@ -52,3 +57,39 @@ heard_so config rows lines file s ks left lent all law is_file is_lines is_said 
     ∙ (ap (λ (ps : List ProblemValue). heard file s ps) (is_lent ∙ is_all)
     ∙ (ap (λ (b : Bool). heard b s u) (is_file ∙ ap (λ (ls : List RowValue). disables_file (first_text ls)) is_lines)
     ∙ (ap (λ (t : RuleId → ℕ → Bool). heard (disables_file (first_text rows)) t u) is_said ∙ law config rows ks)))
+
+-- what is known of sections stays, where the same is kept
+pub stays_known : (config : Config) (ps : List RowValue) (ks ls : List KeptValue) (told : List ProblemValue) (o : Option Faultless) → ls ≡ ks → IfSome o (λ f. WouldBeReported config ps ks told f) → IfSome o (λ f. IsFaultless ls f)
+stays_known config ps ks ls told None same h = tt
+stays_known config ps ks ls told (Some f) same h = subst (λ (js : List KeptValue). IsFaultless js f) (sym same) h.known
+
+-- what would be reported if none of them had a fault stays too, where the lines tell the same of any sections
+pub stays_told : (config : Config) (ps qs : List RowValue) (ks ls : List KeptValue) (told : List ProblemValue) (o : Option Faultless) → ls ≡ ks → ((js : List KeptValue) → unsilenced_by config qs js ≡ unsilenced_by config ps js)
+    → IfSome o (λ f. WouldBeReported config ps ks told f) → IfSome o (λ f. told ≡ faultless_by config qs ls)
+stays_told config ps qs ks ls told None same any h = tt
+stays_told config ps qs ks ls told (Some f) same any h = h.told ∙ (sym (any (faultless ks)) ∙ ap (λ (js : List KeptValue). faultless_by config qs js) (sym same))
+
+-- ---- a section in its own place
+
+take_first : {X : Type 0} (xs : List X) (n : ℕ) → 0 < n → take 1 (take n xs) ≡ take 1 xs
+take_first xs n h = same_lists _ _ (search (rules, places)) (λ k d l. grind (arith, places))
+
+put_itself : (ks one : List KeptValue) (from : ℕ) → from < length ks → one ≡ take 1 (drop from ks) → splice ks from (from + 1) one ≡ ks
+put_itself ks one from l is =
+    let count : from + 1 - from ≡ 1 = omega arith in
+    splice_same ks one from (from + 1) (omega arith) (omega (arith, l)) (ap (λ n. take n (drop from ks)) count ∙ sym is)
+
+put_none : (ks : List KeptValue) (from : ℕ) → from < length ks → splice ks from from [] ≡ ks
+put_none ks from l =
+    let count : from - from ≡ 0 = omega arith in
+    splice_same ks [] from from (omega arith) (omega (arith, l)) (ap (λ n. take n (drop from ks)) count)
+
+no_items : (ks : List KeptValue) → length ks ≡ 0 → ks ≡ []
+no_items [] h = refl
+no_items (k ∷ ks) h = absurd (omega (arith, h))
+
+pub itself : (ks lent one new : List KeptValue) (from end : ℕ) → from < length ks → from ≡ end → 0 < length lent → take (length lent) (drop from ks) ≡ lent → one ≡ take 1 lent → length new ≡ 0
+    → splice ks from (from + 1) one ≡ splice ks from end new
+itself ks lent one new from end l e some lent_is one_is none =
+    put_itself ks one from l (one_is ∙ (ap (take 1) (sym lent_is) ∙ take_first (drop from ks) (length lent) some))
+    ∙ (sym (put_none ks from l) ∙ (ap (λ n. splice ks from n []) e ∙ ap (λ (js : List KeptValue). splice ks from end js) (sym (no_items new none))))

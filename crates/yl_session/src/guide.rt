@@ -2,7 +2,7 @@
 //!
 //! There is about one place for each `GAP` sections. So a section is found over the places and the few sections behind one of them, and an
 //! edit moves places and no sections.
-ghost use Rattle.std.specs.Prelude.{◌≡◌, ◌⊎◌, ◌+◌, ◌<◌, ◌≤◌, ◌^◌, ◌++◌, ◌∷◌, [], Some, length, take, vec_len, IfOk, OnOk};
+ghost use Rattle.std.specs.Prelude.{◌≡◌, ◌⊎◌, ◌+◌, ◌<◌, ◌≤◌, ◌^◌, ◌++◌, ◌∷◌, [], Some, length, take, vec_len, IfOk, IfSome, OnOk};
 ghost use Rattle.std.specs.List.{AllByRecursion, splice};
 ghost use Rattle.yl_text.specs.Store.{IsRange};
 ghost use Rattle.yl_rejudge.specs.Places.{IsAt, rows_kept};
@@ -62,21 +62,36 @@ pub fn nearest<A: Allocator>(kept: &Chunks<Kept<A>, A>, places: &[Place], row: u
     best
 }
 
-/// Takes the places anew where a section was found far behind one of them.
-pub fn refresh<A: Allocator + Copy>(
+/// The places, taken anew, where a section was found so far behind one of them; none where they serve. Nothing is changed.
+pub fn places_anew<A: Allocator + Copy>(
     alloc: A,
-    places: &mut Vec<Place, A>,
     kept: &Chunks<Kept<A>, A>,
     walked: usize,
-) -> Result<(), AllocError>
-    requires few { rows_kept kept.now.items < 2 ^ 62 }
+) -> Result<Option<Vec<Place, A>>, AllocError>
+    requires { rows_kept kept.now.items < 2 ^ 62 }
+    ensures { IfOk result (λ o. IfSome o (λ places. AllByRecursion (IsAt kept.now.items) places.items)) }
+{
+    if walked <= FAR {
+        return Ok(None);
+    }
+    let places = places_of(alloc, kept)?;
+    Ok(Some(places))
+}
+
+/// These places take the place of the others, if there are any.
+pub fn renew_places<A: Allocator>(
+    kept: &Chunks<Kept<A>, A>,
+    places: &mut Vec<Place, A>,
+    anew: Option<Vec<Place, A>>,
+)
     requires at { AllByRecursion (IsAt kept.now.items) places.old.items }
+    requires anew { IfSome anew (λ v. AllByRecursion (IsAt kept.now.items) v.items) }
     ensures { AllByRecursion (IsAt kept.now.items) places.new.items }
 {
-    if walked > FAR {
-        *places = places_of(alloc, kept)?;
+    let _ = kept;
+    if let Some(anew) = anew {
+        *places = anew;
     }
-    Ok(())
 }
 
 /// How many rows these sections have.

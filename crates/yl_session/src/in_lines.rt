@@ -12,8 +12,8 @@ ghost use Rattle.yl_session.specs.InLines.{WereReported};
 use std::alloc::{AllocError, Allocator};
 use yl_config::Config;
 use yl_lint::report_in_lines;
-use yl_patch::{ReportPatch, Stayed, patched_lines, put_patch};
-use yl_report::{Problem, copies};
+use yl_patch::{ReportPatch, Stayed, patched_copy, patched_lines};
+use yl_report::Problem;
 use yl_text::{LineStore, Patched, Row};
 
 /// What was reported of the lines alone, as if no comment silenced anything, when the text was another, and what of that stayed.
@@ -24,7 +24,7 @@ pub struct LinesReport<A: Allocator> {
 }
 
 /// What makes what was reported of the lines alone that of the lines after the edit that puts these rows in place of the lines a to b, where
-/// it is known and seen that a patch does it.
+/// it is known, most of these lines stayed, and it is seen that a patch does it.
 fn lines_patch<S: LineStore>(
     alloc: S::Alloc,
     config: &Config,
@@ -42,12 +42,16 @@ fn lines_patch<S: LineStore>(
     ensures patch { IfOk result (λ o. Patches report.now.problems.items (reported_in_lines config.now (splice (S.rows store.now) a b rows.now)) o) }
 {
     let stayed = report.stayed.after(a, b, store.len());
+    if stayed.is_little() {
+        return Ok(None);
+    }
     let patch = patched_lines(alloc, config, store, a, b, rows, stayed, &report.problems)?;
     Ok(patch)
 }
 
-/// What is reported of the lines alone after the edit that puts these rows in place of the lines a to b: patched, where it is known what was,
-/// and it is seen that a patch does it; else all lines are read.
+/// What is reported of the lines alone after the edit that puts these rows in place of the lines a to b. Where it is not known what was, all
+/// lines are read. Where it is, it is patched; none where it is not seen that a patch does it, or less than half of the lines stayed: what
+/// reads all lines then need not keep this.
 pub fn lines_after<S: LineStore>(
     alloc: S::Alloc,
     config: &Config,
@@ -56,23 +60,24 @@ pub fn lines_after<S: LineStore>(
     b: usize,
     rows: &[Row<S::Alloc>],
     before: &Option<LinesReport<S::Alloc>>,
-) -> Result<Vec<Problem<S::Alloc>, S::Alloc>, AllocError>
+) -> Result<Option<Vec<Problem<S::Alloc>, S::Alloc>>, AllocError>
     requires range { IsRange a b (length (S.rows store.now)) }
     requires old { AreLines (S.rows store.now) }
     requires lines { AreLines (splice (S.rows store.now) a b rows.now) }
     requires before { IfSome before.now (λ l. WereReported config.now (S.rows store.now) l.problems.items l.stayed) }
-    ensures { IfOk result (λ problems. problems.items ≡ reported_in_lines config.now (splice (S.rows store.now) a b rows.now)) }
+    ensures { IfOk result (λ o. IfSome o (λ problems. problems.items ≡ reported_in_lines config.now (splice (S.rows store.now) a b rows.now))) }
 {
-    if let Some(report) = before {
-        let patch = lines_patch(alloc, config, store, a, b, rows, report)?;
-        if let Some(mut patch) = patch {
-            let mut problems = copies(alloc, &report.problems, patch.problems.len())?;
-            put_patch(&mut problems, &mut patch);
-            return Ok(problems);
-        }
-    }
-    let edited = Patched::new(store, a, b, rows);
-    report_in_lines(alloc, config, &edited)
+    let Some(report) = before else {
+        let edited = Patched::new(store, a, b, rows);
+        let told = report_in_lines(alloc, config, &edited)?;
+        return Ok(Some(told));
+    };
+    let patch = lines_patch(alloc, config, store, a, b, rows, report)?;
+    let Some(patch) = patch else {
+        return Ok(None);
+    };
+    let told = patched_copy(alloc, &report.problems, patch)?;
+    Ok(Some(told))
 }
 
 /// What is kept of it after the edit that puts other rows in place of the lines a to b of a text that had so many and now has `now`: this, if
@@ -98,7 +103,7 @@ pub fn lines_kept<A: Allocator>(
     }
     let report = before?;
     let stayed = report.stayed.after(a, b, lines);
-    if stayed.above.saturating_add(stayed.behind) < stayed.lines / 2 {
+    if stayed.is_little() {
         return None;
     }
     Some(LinesReport {

@@ -1,10 +1,9 @@
 //! What is kept and known of a text beside its lines and their records.
 
-use crate::faultless::FaultlessReport;
 use crate::in_lines::LinesReport;
 use std::alloc::Allocator;
 use yl_chunks::Chunks;
-use yl_patch::Overview;
+use yl_patch::{Faultless, Overview};
 use yl_report::Problem;
 use yl_sections::Kept;
 
@@ -18,5 +17,6 @@ pub struct Known<'a, A: Allocator> {
     pub unsilenced: &'a [Problem<A>],
     pub is_known: bool,
     pub in_lines: &'a Option<LinesReport<A>>,
-    pub faultless: &'a Option<FaultlessReport<A>>,
+    pub faultless: &'a Vec<Problem<A>, A>,
+    pub known_faultless: Option<Faultless>,
 }

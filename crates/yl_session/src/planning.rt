@@ -11,12 +11,12 @@ ghost use Rattle.yl_rescan.specs.Held.{AreHeld};
 ghost use Rattle.yl_rejudge.specs.Places.{IsAt, rows_kept};
 ghost use Rattle.yl_patch.specs.Plain.{IsOverviewOf};
 ghost use Rattle.yl_session.specs.Change.{IsFit, Makes};
-ghost use Rattle.yl_session.specs.Faultless.{WouldBeReported};
+ghost use Rattle.yl_session.specs.Faultless.{IsRenewed, WouldBeReported};
 ghost use Rattle.yl_session.specs.InLines.{WereReported};
 ghost use Rattle.yl_session.specs.Work.{IsWork};
 
-use crate::faultless::FaultlessReport;
-use crate::guide::{nearest, refresh};
+use crate::faultless::FaultlessRenewal;
+use crate::guide::{nearest, places_anew};
 use crate::known::Known;
 use crate::renewing::{Renewal, make_patch_room};
 use crate::turning::{Renewals, renewals_of};
@@ -32,45 +32,43 @@ use yl_rescan::{Rescanned, rescan};
 use yl_sections::Kept;
 use yl_text::{LineStore, Row};
 
-/// What an edit is to change: the records of some rows, what is kept of some sections, and the report, unless it stays; and what is reported
-/// of the lines alone, where that was found, and would be if no section had a fault.
+/// What an edit is to change: the records of some rows, what is kept of some sections, the places among them where they are taken anew, and
+/// the report, unless it stays; and what is reported of the lines alone, where that was found, and would be if no section had a fault.
 #[derive(Drop)]
 pub struct Plan<A: Allocator> {
     pub rescan: Rescanned<A>,
     pub rejudged: Rejudged<A>,
+    pub places: Option<Vec<Place, A>>,
     pub renewal: Renewal<A>,
     pub in_lines: Option<Vec<Problem<A>, A>>,
-    pub faultless: Option<FaultlessReport<A>>,
+    pub faultless: FaultlessRenewal<A>,
     pub work: Work,
 }
 
 /// Makes room for what the plan puts in. Where there is no memory, all is as it was.
 pub fn make_room<A: Allocator + Copy>(
-    alloc: A,
     records: &mut Chunks<Record<A>, A>,
     kept: &mut Chunks<Kept<A>, A>,
-    places: &mut Vec<Place, A>,
     problems: &mut Vec<Problem<A>, A>,
     unsilenced: &mut Vec<Problem<A>, A>,
+    faultless: &mut Vec<Problem<A>, A>,
     plan: &Plan<A>,
 ) -> Result<(), AllocError>
     requires range { IsRange plan.now.rescan.from plan.now.rescan.old_end (length records.old.items) }
     requires few { length records.old.items + vec_len plan.now.rescan.records < 2 ^ 64 }
     requires kept_range { IsRange plan.now.rejudged.from plan.now.rejudged.end (length kept.old.items) }
     requires kept_few { length kept.old.items + vec_len plan.now.rejudged.kept < 2 ^ 64 }
-    requires few_rows { rows_kept kept.old.items < 2 ^ 62 }
-    requires at { AllByRecursion (IsAt kept.old.items) places.old.items }
     ensures records { records.new.items ≡ records.old.items }
     ensures kept { kept.new.items ≡ kept.old.items }
-    ensures places { AllByRecursion (IsAt kept.old.items) places.new.items }
     ensures problems { problems.new.items ≡ problems.old.items }
     ensures unsilenced { unsilenced.new.items ≡ unsilenced.old.items }
+    ensures faultless { faultless.new.items ≡ faultless.old.items }
     ensures room { OnOk result (records.new.room ≡ Some (record { a = plan.now.rescan.from; b = plan.now.rescan.old_end; count = vec_len plan.now.rescan.records })) }
     ensures kept_room { OnOk result (kept.new.room ≡ Some (record { a = plan.now.rejudged.from; b = plan.now.rejudged.end; count = vec_len plan.now.rejudged.kept })) }
     ensures problems_room { OnOk result (IfSome plan.now.renewal.report.patch (λ p. vec_len problems.new + vec_len p.problems ≤ vec_capacity problems.new)) }
     ensures unsilenced_room { OnOk result (IfSome plan.now.renewal.unsilenced.patch (λ p. vec_len unsilenced.new + vec_len p.problems ≤ vec_capacity unsilenced.new)) }
+    ensures faultless_room { OnOk result (IfSome plan.now.faultless.problems.patch (λ p. vec_len faultless.new + vec_len p.problems ≤ vec_capacity faultless.new)) }
 {
-    refresh(alloc, places, kept, plan.rejudged.walked)?;
     records.make_room(
         plan.rescan.from,
         plan.rescan.old_end,
@@ -81,6 +79,7 @@ pub fn make_room<A: Allocator + Copy>(
         plan.rejudged.end,
         plan.rejudged.kept.len(),
     )?;
+    make_patch_room(faultless, &plan.faultless.problems.patch)?;
     make_patch_room(unsilenced, &plan.renewal.unsilenced.patch)?;
     make_patch_room(problems, &plan.renewal.report.patch)?;
     Ok(())
@@ -110,7 +109,7 @@ pub fn planned<S: LineStore>(
     requires problems { known.now.problems.now ≡ report config.now (S.rows store.now) }
     requires known { known.now.is_known ≡ true → known.now.unsilenced.now ≡ unsilenced_by config.now (S.rows store.now) known.now.kept.now.items }
     requires in_lines { IfSome known.now.in_lines.now (λ l. WereReported config.now (S.rows store.now) l.problems.items l.stayed) }
-    requires faultless { IfSome known.now.faultless.now (λ r. WouldBeReported config.now (S.rows store.now) known.now.kept.now.items r.problems.items r.known) }
+    requires faultless { IfSome known.now.known_faultless (λ f. WouldBeReported config.now (S.rows store.now) known.now.kept.now.items known.now.faultless.now.items f) }
     ensures range { IfOk result (λ p. IsRange p.rescan.from p.rescan.old_end (length records.now.items)) }
     ensures held { IfOk result (λ p. AreHeld (characters_in (splice (S.rows store.now) a b rows.now)) p.rescan.cut (splice records.now.items p.rescan.from p.rescan.old_end p.rescan.records.items)) }
     ensures kept_range { IfOk result (λ p. IsRange p.rejudged.from p.rejudged.end (length known.now.kept.now.items)) }
@@ -125,7 +124,8 @@ pub fn planned<S: LineStore>(
         → Makes known.now.unsilenced.now (unsilenced_by config.now (splice (S.rows store.now) a b rows.now) (splice known.now.kept.now.items p.rejudged.from p.rejudged.end p.rejudged.kept.items)) p.renewal.unsilenced) }
     ensures overview { IfOk result (λ p. IsOverviewOf (splice known.now.kept.now.items p.rejudged.from p.rejudged.end p.rejudged.kept.items) p.renewal.overview) }
     ensures in_lines { IfOk result (λ p. IfSome p.in_lines (λ v. v.items ≡ reported_in_lines config.now (splice (S.rows store.now) a b rows.now))) }
-    ensures faultless { IfOk result (λ p. IfSome p.faultless (λ f. WouldBeReported config.now (splice (S.rows store.now) a b rows.now) (splice known.now.kept.now.items p.rejudged.from p.rejudged.end p.rejudged.kept.items) f.problems.items f.known)) }
+    ensures places { IfOk result (λ p. IfSome p.places (λ v. AllByRecursion (IsAt known.now.kept.now.items) v.items)) }
+    ensures faultless { IfOk result (λ p. IsRenewed config.now (splice (S.rows store.now) a b rows.now) (splice known.now.kept.now.items p.rejudged.from p.rejudged.end p.rejudged.kept.items) known.now.faultless.now.items p.faultless) }
     ensures work { IfOk result (λ p. IsWork (characters_in (S.rows store.now)) (characters_in (splice (S.rows store.now) a b rows.now)) a b (length rows.now) p.work) }
 {
     let mut meter = Meter::new();
@@ -146,6 +146,7 @@ pub fn planned<S: LineStore>(
             &mut meter,
         )?
     };
+    let places = places_anew(alloc, known.kept, rejudged.walked)?;
     let renewals = renewals_of(alloc, config, store, a, b, rows, known, &rejudged)?;
     let Renewals {
         renewal,
@@ -155,6 +156,7 @@ pub fn planned<S: LineStore>(
     Ok(Plan {
         rescan,
         rejudged,
+        places,
         renewal,
         in_lines,
         faultless,

@@ -16,16 +16,14 @@ use crate::known::Known;
 use std::alloc::{AllocError, Allocator};
 use yl_chunks::Spliced;
 use yl_config::Config;
-use yl_lint::{heard_of_text, report_with_lines, unsilenced_with_kept};
+use yl_lint::{heard_of_text, report_with_kept, report_with_lines, unsilenced_with_kept};
 use yl_patch::{
     Overview, ReportPatch, SectionEdit, is_unsilenced, overview_after, overview_renewed,
-    patched_report, patched_unsilenced, put_patch, silences_of_text,
+    patched_copy, patched_report, patched_unsilenced, put_patch, silences_of_text,
 };
-use yl_rejudge::Rejudged;
 use yl_report::{Problem, Silences, copies, retain_heard};
 use yl_sections::Kept;
-use yl_text::{LineStore, Patched, Row};
-use yl_unchanged::leaves_report;
+use yl_text::{LineStore, Lines, Patched, Row};
 
 /// What becomes of a list of problems: it is patched, or there is a whole new one; where there is neither, it stays.
 #[derive(Drop)]
@@ -78,14 +76,12 @@ fn unsilenced_after<S: LineStore>(
     requires patch { Patches unsilenced.now (unsilenced_by config.now (splice (S.rows store.now) a b rows.now) sections.now) patch }
     ensures { IfOk result (λ problems. problems.items ≡ unsilenced_by config.now (splice (S.rows store.now) a b rows.now) sections.now) }
 {
-    let Some(mut patch) = patch else {
+    let Some(patch) = patch else {
         let all = lent_kept(alloc, sections)?;
         let edited = Patched::new(store, a, b, rows);
         return unsilenced_with_kept(alloc, config, &edited, &all);
     };
-    let mut problems = copies(alloc, unsilenced, patch.problems.len())?;
-    put_patch(&mut problems, &mut patch);
-    Ok(problems)
+    patched_copy(alloc, unsilenced, patch)
 }
 
 /// What is left of these problems where so much is silenced.
@@ -245,6 +241,7 @@ fn heard_renewal<S: LineStore>(
         is_known: is_seen,
         in_lines: known.in_lines,
         faultless: known.faultless,
+        known_faultless: known.known_faultless,
     };
     let patch = patch_unsilenced(alloc, config, store, a, b, rows, &shown, edit)?;
     heard_after(
@@ -261,8 +258,27 @@ fn heard_renewal<S: LineStore>(
     )
 }
 
-/// What becomes of the report where it is put together anew, of these problems of the lines alone and of what is kept of the sections. What
-/// would be reported if no comment silenced anything is not known then.
+/// The report of these lines, put together anew by what is kept of their sections. Where it is known what is reported of the lines alone, no
+/// line is read but the first and the last.
+fn whole_report<L: Lines>(
+    alloc: L::Alloc,
+    config: &Config,
+    lines: &L,
+    in_lines: &Option<Vec<Problem<L::Alloc>, L::Alloc>>,
+    kept: &[&Kept<L::Alloc>],
+) -> Result<Vec<Problem<L::Alloc>, L::Alloc>, AllocError>
+    requires lines { AreLines (L.rows lines.now) }
+    requires in_lines { IfSome in_lines.now (λ l. l.items ≡ reported_in_lines config.now (L.rows lines.now)) }
+    ensures { IfOk result (λ problems. problems.items ≡ report_by config.now (L.rows lines.now) (map (λ k. k.now) kept.now)) }
+{
+    if let Some(told) = in_lines {
+        return report_with_lines(alloc, config, lines, told, kept);
+    }
+    report_with_kept(alloc, config, lines, kept)
+}
+
+/// What becomes of the report where it is put together anew, by what is kept of the sections, and by these problems of the lines alone, if
+/// they are known. What would be reported if no comment silenced anything is not known then.
 pub fn whole_renewal<S: LineStore>(
     alloc: S::Alloc,
     config: &Config,
@@ -270,13 +286,13 @@ pub fn whole_renewal<S: LineStore>(
     a: usize,
     b: usize,
     rows: &[Row<S::Alloc>],
-    in_lines: &[Problem<S::Alloc>],
+    in_lines: &Option<Vec<Problem<S::Alloc>, S::Alloc>>,
     sections: &Spliced<'_, Kept<S::Alloc>, S::Alloc>,
 ) -> Result<Renewal<S::Alloc>, AllocError>
     requires range { IsRange a b (length (S.rows store.now)) }
     requires old { AreLines (S.rows store.now) }
     requires lines { AreLines (splice (S.rows store.now) a b rows.now) }
-    requires in_lines { in_lines.now ≡ reported_in_lines config.now (splice (S.rows store.now) a b rows.now) }
+    requires in_lines { IfSome in_lines.now (λ l. l.items ≡ reported_in_lines config.now (splice (S.rows store.now) a b rows.now)) }
     ensures fit { IfOk result (λ r. (old : List ProblemValue) → IsFit old r.report.patch × IsFit old r.unsilenced.patch) }
     ensures report { IfOk result (λ r. (old : List ProblemValue) → Makes old (report_by config.now (splice (S.rows store.now) a b rows.now) sections.now) r.report) }
     ensures known { IfOk result (λ r. r.is_known ≡ false) }
@@ -284,7 +300,7 @@ pub fn whole_renewal<S: LineStore>(
 {
     let all = lent_kept(alloc, sections)?;
     let edited = Patched::new(store, a, b, rows);
-    let whole = report_with_lines(alloc, config, &edited, in_lines, &all)?;
+    let whole = whole_report(alloc, config, &edited, in_lines, &all)?;
     Ok(Renewal {
         report: Change {
             patch: None,
@@ -304,8 +320,8 @@ fn may_silence(overview: Overview) -> bool {
     overview.silencing.from < overview.silencing.end
 }
 
-/// What becomes of the report by the edit that puts these rows in place of the lines a to b, where what is kept of the sections becomes
-/// this, where it is seen: it stays or is patched, or comments leave another part of what is found.
+/// What becomes of the report by the edit that puts these rows in place of the lines a to b, and by this edit of the sections, where it is
+/// seen: it is patched, or comments leave another part of what is found.
 pub fn seen_renewal<S: LineStore>(
     alloc: S::Alloc,
     config: &Config,
@@ -314,7 +330,7 @@ pub fn seen_renewal<S: LineStore>(
     b: usize,
     rows: &[Row<S::Alloc>],
     known: &Known<'_, S::Alloc>,
-    new: &Rejudged<S::Alloc>,
+    edit: &SectionEdit<'_, S::Alloc>,
 ) -> Result<Option<Renewal<S::Alloc>>, AllocError>
     requires range { IsRange a b (length (S.rows store.now)) }
     requires old { AreLines (S.rows store.now) }
@@ -322,43 +338,20 @@ pub fn seen_renewal<S: LineStore>(
     requires overview { IsOverviewOf known.now.kept.now.items known.now.overview }
     requires problems { known.now.problems.now ≡ report_by config.now (S.rows store.now) known.now.kept.now.items }
     requires known { known.now.is_known ≡ true → known.now.unsilenced.now ≡ unsilenced_by config.now (S.rows store.now) known.now.kept.now.items }
-    requires kept_range { IsRange new.now.from new.now.end (length known.now.kept.now.items) }
-    requires from_row { new.now.from_row ≡ rows_kept (take new.now.from known.now.kept.now.items) }
-    requires end_row { new.now.end_row ≡ rows_kept (take new.now.end known.now.kept.now.items) }
-    requires few { length known.now.kept.now.items + vec_len new.now.kept < 2 ^ 64 }
+    requires kept_range { IsRange edit.now.from edit.now.end (length known.now.kept.now.items) }
+    requires from_row { edit.now.from_row ≡ rows_kept (take edit.now.from known.now.kept.now.items) }
+    requires end_row { edit.now.end_row ≡ rows_kept (take edit.now.end known.now.kept.now.items) }
+    requires few { length known.now.kept.now.items + length edit.now.kept.now < 2 ^ 64 }
     ensures fit { IfOk result (λ o. IfSome o (λ r. IsFit known.now.problems.now r.report.patch)) }
-    ensures report { IfOk result (λ o. IfSome o (λ r. Makes known.now.problems.now (report_by config.now (splice (S.rows store.now) a b rows.now) (splice known.now.kept.now.items new.now.from new.now.end new.now.kept.items)) r.report)) }
+    ensures report { IfOk result (λ o. IfSome o (λ r. Makes known.now.problems.now (report_by config.now (splice (S.rows store.now) a b rows.now) (splice known.now.kept.now.items edit.now.from edit.now.end edit.now.kept.now)) r.report)) }
     ensures unsilenced_fit { IfOk result (λ o. IfSome o (λ r. IsFit known.now.unsilenced.now r.unsilenced.patch)) }
     ensures unsilenced { IfOk result (λ o. IfSome o (λ r. r.is_known ≡ true
-        → Makes known.now.unsilenced.now (unsilenced_by config.now (splice (S.rows store.now) a b rows.now) (splice known.now.kept.now.items new.now.from new.now.end new.now.kept.items)) r.unsilenced)) }
-    ensures overview { IfOk result (λ o. IfSome o (λ r. IsOverviewOf (splice known.now.kept.now.items new.now.from new.now.end new.now.kept.items) r.overview)) }
+        → Makes known.now.unsilenced.now (unsilenced_by config.now (splice (S.rows store.now) a b rows.now) (splice known.now.kept.now.items edit.now.from edit.now.end edit.now.kept.now)) r.unsilenced)) }
+    ensures overview { IfOk result (λ o. IfSome o (λ r. IsOverviewOf (splice known.now.kept.now.items edit.now.from edit.now.end edit.now.kept.now) r.overview)) }
 {
-    let (from, end) = (new.from, new.end);
     let (kept, overview) = (known.kept, known.overview);
-    let judged = new.kept.as_slice();
-    let edit = SectionEdit {
-        from,
-        end,
-        from_row: new.from_row,
-        end_row: new.end_row,
-        kept: judged,
-    };
-    let after = overview_after(overview, kept, &edit);
-    if leaves_report(alloc, config, store, a, b, rows, kept, from, end, judged)? {
-        return Ok(Some(Renewal {
-            report: Change {
-                patch: None,
-                whole: None,
-            },
-            unsilenced: Change {
-                patch: None,
-                whole: None,
-            },
-            is_known: known.is_known,
-            overview: after,
-        }));
-    }
-    let other = patch_unsilenced(alloc, config, store, a, b, rows, known, &edit)?;
+    let after = overview_after(overview, kept, edit);
+    let other = patch_unsilenced(alloc, config, store, a, b, rows, known, edit)?;
     let patch = patched_report(
         alloc,
         config,
@@ -368,7 +361,7 @@ pub fn seen_renewal<S: LineStore>(
         rows,
         kept,
         overview,
-        &edit,
+        edit,
         known.problems,
     )?;
     if patch.is_some() {
@@ -383,10 +376,10 @@ pub fn seen_renewal<S: LineStore>(
             overview: after,
         }));
     }
-    let sections = Spliced::new(kept, from, end, judged);
+    let sections = Spliced::new(kept, edit.from, edit.end, edit.kept);
     if may_silence(overview) || may_silence(after) {
         let heard = heard_renewal(
-            alloc, config, store, a, b, rows, known, other, &edit, &sections, after,
+            alloc, config, store, a, b, rows, known, other, edit, &sections, after,
         )?;
         return Ok(heard);
     }

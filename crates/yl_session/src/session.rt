@@ -11,8 +11,8 @@ ghost use Rattle.yl_session.specs.Runs.{IsNothing};
 ghost use Rattle.yl_session.specs.Work.{IsWork};
 
 use crate::beginning::{OpenedText, begin};
-use crate::faultless::FaultlessReport;
-use crate::guide::put_kept;
+use crate::faultless::FaultlessRenewal;
+use crate::guide::{put_kept, renew_places};
 use crate::in_lines::{LinesReport, lines_kept};
 use crate::known::Known;
 use crate::planning::{make_room, planned};
@@ -22,7 +22,7 @@ use std::alloc::{AllocError, Allocator};
 use std::marker::Model;
 use yl_chunks::Chunks;
 use yl_config::Config;
-use yl_patch::Overview;
+use yl_patch::{Faultless, Overview};
 use yl_record::Record;
 use yl_rejudge::Place;
 use yl_report::{Problem, status};
@@ -31,7 +31,8 @@ use yl_text::{LineStore, Row, TextFault, split};
 
 /// The lines of a text, with a record of each, what is kept of its sections and known of all of them, places
 /// among them, its report under a configuration, and, once it is known, what would be reported if no comment
-/// silenced anything, what was reported of the lines alone, and while a section has a fault, what would be reported if none had. The records from row `cut` on, where there is one, stand below a scan fault, behind
+/// silenced anything, what was reported of the lines alone, and while a section has a fault, what would be
+/// reported if none had one. The records from row `cut` on, where there is one, stand below a scan fault, behind
 /// which nothing is read: they are as they were before it came, so that they need not be made again once it
 /// goes. What is kept of the sections is kept by these records; of those below a fault the report shows nothing.
 #[derive(Drop)]
@@ -48,7 +49,8 @@ pub struct Session<S: LineStore> {
     unsilenced: Vec<Problem<S::Alloc>, S::Alloc>,
     is_known: bool,
     in_lines: Option<LinesReport<S::Alloc>>,
-    faultless: Option<FaultlessReport<S::Alloc>>,
+    faultless: Vec<Problem<S::Alloc>, S::Alloc>,
+    known_faultless: Option<Faultless>,
 }
 
 impl<S: LineStore> Model for Session<S> {
@@ -79,7 +81,7 @@ impl<S: LineStore> Model for Session<S> {
         × AllByRecursion (IsAt s.kept.items) s.places.items
         × (s.is_known ≡ true → s.unsilenced.items ≡ unsilenced_by s.config (S.rows s.store) s.kept.items)
         × IfSome s.in_lines (λ l. WereReported s.config (S.rows s.store) l.problems.items l.stayed)
-        × IfSome s.faultless (λ f. WouldBeReported s.config (S.rows s.store) s.kept.items f.problems.items f.known) };
+        × IfSome s.known_faultless (λ f. WouldBeReported s.config (S.rows s.store) s.kept.items s.faultless.items f) };
 }
 
 impl<S: LineStore> Session<S> {
@@ -121,7 +123,8 @@ impl<S: LineStore> Session<S> {
             unsilenced: Vec::new(alloc),
             is_known: false,
             in_lines: None,
-            faultless: None,
+            faultless: Vec::new(alloc),
+            known_faultless: None,
         })
     }
 
@@ -180,6 +183,7 @@ impl<S: LineStore> Session<S> {
                 is_known: self.is_known,
                 in_lines: &self.in_lines,
                 faultless: &self.faultless,
+                known_faultless: self.known_faultless,
             };
             planned(
                 self.alloc,
@@ -195,12 +199,11 @@ impl<S: LineStore> Session<S> {
             )?
         };
         make_room(
-            self.alloc,
             &mut self.records,
             &mut self.kept,
-            &mut self.places,
             &mut self.problems,
             &mut self.unsilenced,
+            &mut self.faultless,
             &plan,
         )?;
         let lines = self.store.len();
@@ -211,6 +214,7 @@ impl<S: LineStore> Session<S> {
             &mut plan.rescan.records,
         );
         self.cut = plan.rescan.cut;
+        renew_places(&self.kept, &mut self.places, plan.places);
         put_kept(&mut self.kept, &mut self.places, &mut plan.rejudged);
         let Renewal {
             report,
@@ -222,8 +226,10 @@ impl<S: LineStore> Session<S> {
         self.is_known = is_known;
         renew(&mut self.problems, report);
         renew(&mut self.unsilenced, unsilenced);
+        let FaultlessRenewal { problems, known } = plan.faultless;
+        renew(&mut self.faultless, problems);
+        self.known_faultless = known;
         let (before, now) = (self.in_lines.take(), self.store.len());
-        self.faultless = plan.faultless;
         self.in_lines = lines_kept(before, plan.in_lines, a, b, lines, now);
         Ok(plan.work)
     }

@@ -1,5 +1,5 @@
 //! What becomes of a report where a fault comes or goes.
-ghost use Rattle.std.specs.Prelude.{◌≡◌, ◌<◌, ◌^◌, ◌+◌, true, false, List, length, take, vec_len, IfOk, IfSome};
+ghost use Rattle.std.specs.Prelude.{◌≡◌, ◌<◌, ◌≤◌, ◌^◌, ◌+◌, true, false, List, length, take, vec_len, IfOk, IfSome};
 ghost use Rattle.std.specs.List.{splice};
 ghost use Rattle.yl_text.specs.Store.{AreLines, IsRange};
 ghost use Rattle.yl_config.specs.declared.config.Config.{Config};
@@ -12,27 +12,33 @@ ghost use Rattle.yl_patch.specs.Plain.{IsOverviewOf};
 ghost use Rattle.yl_session.specs.Change.{IsFit, Makes};
 ghost use Rattle.yl_session.specs.Faultless.{WouldBeReported};
 ghost use Rattle.yl_session.specs.InLines.{WereReported};
+ghost use Rattle.yl_session.specs.Renewals.{AreRenewals};
 
-use crate::faultless::{FaultlessReport, faultless_report};
+use crate::faultless::{
+    FaultlessRenewal, FaultlessReport, faultless_patched, faultless_report, kept_anew,
+};
 use crate::in_lines::{LinesReport, lines_after};
 use crate::known::Known;
 use crate::renewing::{Change, Renewal, seen_renewal, whole_renewal};
 use std::alloc::{AllocError, Allocator};
-use yl_chunks::Spliced;
+use yl_chunks::{Chunks, Spliced};
 use yl_config::Config;
-use yl_patch::{Faultless, Overview, SectionEdit, hidden_report, is_quiet, overview_of_faultless};
+use yl_patch::{
+    Faultless, Overview, SectionEdit, fault_in_rows, hidden_report, is_quiet, overview_of_faultless,
+};
 use yl_rejudge::Rejudged;
 use yl_report::Problem;
 use yl_sections::Kept;
 use yl_text::{LineStore, Patched, Row};
+use yl_unchanged::leaves_report;
 
-/// What becomes of a report; where it is put together anew, what is reported of the lines alone, if that was found; and while a section has a
-/// fault, what would be reported if none had one, if that is known.
+/// What becomes of a report; where it is put together anew, what is reported of the lines alone, if that was found; and what becomes of what
+/// would be reported if no section had a fault.
 #[derive(Drop)]
 pub struct Renewals<A: Allocator> {
     pub renewal: Renewal<A>,
     pub in_lines: Option<Vec<Problem<A>, A>>,
-    pub faultless: Option<FaultlessReport<A>>,
+    pub faultless: FaultlessRenewal<A>,
 }
 
 /// A report in place of another, where it is not known what would be reported if no comment silenced anything.
@@ -108,14 +114,16 @@ fn hidden_renewal<S: LineStore>(
 {
     let known = report.known;
     let edited = Patched::new(store, a, b, rows);
+    let Some(fault) = fault_in_rows(&edited, sections, known) else {
+        return Ok(None);
+    };
     if !is_quiet(alloc, &edited, known.silencing)? {
         return Ok(None);
     }
     let all = &report.problems;
-    let whole = hidden_report(alloc, config, &edited, sections, known, all, in_lines)?;
-    let Some(whole) = whole else {
-        return Ok(None);
-    };
+    let whole = hidden_report(
+        alloc, config, &edited, sections, known, fault, all, in_lines,
+    )?;
     let unknown = Overview {
         is_plain: false,
         sound: 0,
@@ -126,7 +134,7 @@ fn hidden_renewal<S: LineStore>(
 }
 
 /// What becomes of a report, where it is not seen that no section has a fault: it follows from what would be reported if none had one and
-/// what is of the lines alone, or it is put together anew.
+/// what is of the lines alone, if that is known, or it is put together anew.
 fn hidden_renewals<S: LineStore>(
     alloc: S::Alloc,
     config: &Config,
@@ -136,35 +144,30 @@ fn hidden_renewals<S: LineStore>(
     rows: &[Row<S::Alloc>],
     sections: &Spliced<'_, Kept<S::Alloc>, S::Alloc>,
     report: FaultlessReport<S::Alloc>,
-    in_lines: Vec<Problem<S::Alloc>, S::Alloc>,
+    in_lines: Option<Vec<Problem<S::Alloc>, S::Alloc>>,
 ) -> Result<Renewals<S::Alloc>, AllocError>
     requires range { IsRange a b (length (S.rows store.now)) }
     requires old { AreLines (S.rows store.now) }
     requires lines { AreLines (splice (S.rows store.now) a b rows.now) }
     requires report { WouldBeReported config.now (splice (S.rows store.now) a b rows.now) sections.now report.problems.items report.known }
-    requires in_lines { in_lines.items ≡ reported_in_lines config.now (splice (S.rows store.now) a b rows.now) }
-    ensures fit { IfOk result (λ r. (old : List ProblemValue) → IsFit old r.renewal.report.patch × IsFit old r.renewal.unsilenced.patch) }
-    ensures report { IfOk result (λ r. (old : List ProblemValue) → Makes old (report_by config.now (splice (S.rows store.now) a b rows.now) sections.now) r.renewal.report) }
-    ensures known { IfOk result (λ r. r.renewal.is_known ≡ false) }
-    ensures overview { IfOk result (λ r. IsOverviewOf sections.now r.renewal.overview) }
-    ensures in_lines { IfOk result (λ r. IfSome r.in_lines (λ v. v.items ≡ reported_in_lines config.now (splice (S.rows store.now) a b rows.now))) }
-    ensures faultless { IfOk result (λ r. IfSome r.faultless (λ f. WouldBeReported config.now (splice (S.rows store.now) a b rows.now) sections.now f.problems.items f.known)) }
+    requires in_lines { IfSome in_lines (λ l. l.items ≡ reported_in_lines config.now (splice (S.rows store.now) a b rows.now)) }
+    ensures { IfOk result (λ r. (problems unsilenced faultless : List ProblemValue) → AreRenewals config.now (splice (S.rows store.now) a b rows.now) sections.now problems unsilenced faultless r) }
 {
-    let seen = hidden_renewal(
-        alloc, config, store, a, b, rows, sections, &report, &in_lines,
-    )?;
-    if let Some(renewal) = seen {
-        return Ok(Renewals {
-            renewal,
-            in_lines: Some(in_lines),
-            faultless: Some(report),
-        });
+    if let Some(told) = &in_lines {
+        let seen = hidden_renewal(alloc, config, store, a, b, rows, sections, &report, told)?;
+        if let Some(renewal) = seen {
+            return Ok(Renewals {
+                renewal,
+                in_lines,
+                faultless: kept_anew(alloc, Some(report)),
+            });
+        }
     }
     let renewal = whole_renewal(alloc, config, store, a, b, rows, &in_lines, sections)?;
     Ok(Renewals {
         renewal,
-        in_lines: Some(in_lines),
-        faultless: Some(report),
+        in_lines,
+        faultless: kept_anew(alloc, Some(report)),
     })
 }
 
@@ -186,20 +189,15 @@ fn unseen_renewals<S: LineStore>(
     requires lines { AreLines (splice (S.rows store.now) a b rows.now) }
     requires before { IfSome before.now (λ l. WereReported config.now (S.rows store.now) l.problems.items l.stayed) }
     requires faultless { IfSome faultless (λ f. WouldBeReported config.now (splice (S.rows store.now) a b rows.now) sections.now f.problems.items f.known) }
-    ensures fit { IfOk result (λ r. (old : List ProblemValue) → IsFit old r.renewal.report.patch × IsFit old r.renewal.unsilenced.patch) }
-    ensures report { IfOk result (λ r. (old : List ProblemValue) → Makes old (report_by config.now (splice (S.rows store.now) a b rows.now) sections.now) r.renewal.report) }
-    ensures known { IfOk result (λ r. r.renewal.is_known ≡ false) }
-    ensures overview { IfOk result (λ r. IsOverviewOf sections.now r.renewal.overview) }
-    ensures in_lines { IfOk result (λ r. IfSome r.in_lines (λ v. v.items ≡ reported_in_lines config.now (splice (S.rows store.now) a b rows.now))) }
-    ensures faultless { IfOk result (λ r. IfSome r.faultless (λ f. WouldBeReported config.now (splice (S.rows store.now) a b rows.now) sections.now f.problems.items f.known)) }
+    ensures { IfOk result (λ r. (problems unsilenced faultless : List ProblemValue) → AreRenewals config.now (splice (S.rows store.now) a b rows.now) sections.now problems unsilenced faultless r) }
 {
     let Some(report) = faultless else {
         let in_lines = lines_after(alloc, config, store, a, b, rows, before)?;
         let renewal = whole_renewal(alloc, config, store, a, b, rows, &in_lines, sections)?;
         return Ok(Renewals {
             renewal,
-            in_lines: Some(in_lines),
-            faultless: None,
+            in_lines,
+            faultless: kept_anew(alloc, None),
         });
     };
     let overview = cleared(alloc, store, a, b, rows, sections, report.known)?;
@@ -207,12 +205,94 @@ fn unseen_renewals<S: LineStore>(
         return Ok(Renewals {
             renewal: renewal_with(report.problems, overview),
             in_lines: None,
-            faultless: None,
+            faultless: kept_anew(alloc, None),
         });
     }
     let in_lines = lines_after(alloc, config, store, a, b, rows, before)?;
     let renewals = hidden_renewals(alloc, config, store, a, b, rows, sections, report, in_lines)?;
     Ok(renewals)
+}
+
+/// What becomes of the report by the edit that puts these rows in place of the lines a to b, and by this edit of the sections: where no patch
+/// is seen, it is put together anew.
+fn renewals_by<S: LineStore>(
+    alloc: S::Alloc,
+    config: &Config,
+    store: &S,
+    a: usize,
+    b: usize,
+    rows: &[Row<S::Alloc>],
+    known: &Known<'_, S::Alloc>,
+    edit: &SectionEdit<'_, S::Alloc>,
+) -> Result<Renewals<S::Alloc>, AllocError>
+    requires range { IsRange a b (length (S.rows store.now)) }
+    requires old { AreLines (S.rows store.now) }
+    requires lines { AreLines (splice (S.rows store.now) a b rows.now) }
+    requires overview { IsOverviewOf known.now.kept.now.items known.now.overview }
+    requires problems { known.now.problems.now ≡ report_by config.now (S.rows store.now) known.now.kept.now.items }
+    requires known { known.now.is_known ≡ true → known.now.unsilenced.now ≡ unsilenced_by config.now (S.rows store.now) known.now.kept.now.items }
+    requires in_lines { IfSome known.now.in_lines.now (λ l. WereReported config.now (S.rows store.now) l.problems.items l.stayed) }
+    requires faultless { IfSome known.now.known_faultless (λ f. WouldBeReported config.now (S.rows store.now) known.now.kept.now.items known.now.faultless.now.items f) }
+    requires kept_range { IsRange edit.now.from edit.now.end (length known.now.kept.now.items) }
+    requires from_row { edit.now.from_row ≡ rows_kept (take edit.now.from known.now.kept.now.items) }
+    requires end_row { edit.now.end_row ≡ rows_kept (take edit.now.end known.now.kept.now.items) }
+    requires few { length known.now.kept.now.items + length edit.now.kept.now < 2 ^ 64 }
+    ensures { IfOk result (λ r. AreRenewals config.now (splice (S.rows store.now) a b rows.now) (splice known.now.kept.now.items edit.now.from edit.now.end edit.now.kept.now)
+        known.now.problems.now known.now.unsilenced.now known.now.faultless.now.items r) }
+{
+    let seen = seen_renewal(alloc, config, store, a, b, rows, known, edit)?;
+    if let Some(renewal) = seen {
+        let faultless = faultless_patched(alloc, config, store, a, b, rows, known, edit)?;
+        return Ok(Renewals {
+            renewal,
+            in_lines: None,
+            faultless,
+        });
+    }
+    let report = faultless_report(alloc, config, store, a, b, rows, known, edit)?;
+    let sections = Spliced::new(known.kept, edit.from, edit.end, edit.kept);
+    let before = known.in_lines;
+    let renewals = unseen_renewals(alloc, config, store, a, b, rows, before, &sections, report)?;
+    Ok(renewals)
+}
+
+/// The edit of the sections that this makes. Where all of them stay, the one that was looked at takes its own place, so that what becomes of
+/// the report is looked for in its lines.
+fn section_edit<'a, A: Allocator + Copy>(
+    kept: &'a Chunks<Kept<A>, A>,
+    new: &'a Rejudged<A>,
+) -> SectionEdit<'a, A>
+    requires range { IsRange new.now.from new.now.end (length kept.now.items) }
+    requires from_row { new.now.from_row ≡ rows_kept (take new.now.from kept.now.items) }
+    requires end_row { new.now.end_row ≡ rows_kept (take new.now.end kept.now.items) }
+    requires few { length kept.now.items + vec_len new.now.kept + 1 < 2 ^ 64 }
+    ensures range { IsRange result.from result.end (length kept.now.items) }
+    ensures from_row { result.from_row ≡ rows_kept (take result.from kept.now.items) }
+    ensures end_row { result.end_row ≡ rows_kept (take result.end kept.now.items) }
+    ensures few { length kept.now.items + length result.kept.now < 2 ^ 64 }
+    ensures same { splice kept.now.items result.from result.end result.kept.now ≡ splice kept.now.items new.now.from new.now.end new.now.kept.items }
+{
+    let from = new.from;
+    if from == new.end && new.kept.is_empty() && from < kept.len() {
+        let rows = kept.get(from).rows() as usize;
+        if let Some(end_row) = new.from_row.checked_add(rows) {
+            let (one, _) = kept.items_from(from).split_at(1);
+            return SectionEdit {
+                from,
+                end: from + 1,
+                from_row: new.from_row,
+                end_row,
+                kept: one,
+            };
+        }
+    }
+    SectionEdit {
+        from,
+        end: new.end,
+        from_row: new.from_row,
+        end_row: new.end_row,
+        kept: new.kept.as_slice(),
+    }
 }
 
 /// What becomes of the report by the edit that puts these rows in place of the lines a to b, where what is kept of the sections becomes
@@ -234,59 +314,42 @@ pub fn renewals_of<S: LineStore>(
     requires problems { known.now.problems.now ≡ report_by config.now (S.rows store.now) known.now.kept.now.items }
     requires known { known.now.is_known ≡ true → known.now.unsilenced.now ≡ unsilenced_by config.now (S.rows store.now) known.now.kept.now.items }
     requires in_lines { IfSome known.now.in_lines.now (λ l. WereReported config.now (S.rows store.now) l.problems.items l.stayed) }
-    requires faultless { IfSome known.now.faultless.now (λ r. WouldBeReported config.now (S.rows store.now) known.now.kept.now.items r.problems.items r.known) }
+    requires faultless { IfSome known.now.known_faultless (λ f. WouldBeReported config.now (S.rows store.now) known.now.kept.now.items known.now.faultless.now.items f) }
     requires kept_range { IsRange new.now.from new.now.end (length known.now.kept.now.items) }
     requires from_row { new.now.from_row ≡ rows_kept (take new.now.from known.now.kept.now.items) }
     requires end_row { new.now.end_row ≡ rows_kept (take new.now.end known.now.kept.now.items) }
-    requires few { length known.now.kept.now.items + vec_len new.now.kept < 2 ^ 64 }
-    ensures fit { IfOk result (λ r. IsFit known.now.problems.now r.renewal.report.patch) }
-    ensures report { IfOk result (λ r. Makes known.now.problems.now (report_by config.now (splice (S.rows store.now) a b rows.now) (splice known.now.kept.now.items new.now.from new.now.end new.now.kept.items)) r.renewal.report) }
-    ensures unsilenced_fit { IfOk result (λ r. IsFit known.now.unsilenced.now r.renewal.unsilenced.patch) }
-    ensures unsilenced { IfOk result (λ r. r.renewal.is_known ≡ true
-        → Makes known.now.unsilenced.now (unsilenced_by config.now (splice (S.rows store.now) a b rows.now) (splice known.now.kept.now.items new.now.from new.now.end new.now.kept.items)) r.renewal.unsilenced) }
-    ensures overview { IfOk result (λ r. IsOverviewOf (splice known.now.kept.now.items new.now.from new.now.end new.now.kept.items) r.renewal.overview) }
-    ensures in_lines { IfOk result (λ r. IfSome r.in_lines (λ v. v.items ≡ reported_in_lines config.now (splice (S.rows store.now) a b rows.now))) }
-    ensures faultless { IfOk result (λ r. IfSome r.faultless (λ f. WouldBeReported config.now (splice (S.rows store.now) a b rows.now) (splice known.now.kept.now.items new.now.from new.now.end new.now.kept.items) f.problems.items f.known)) }
+    requires few { length known.now.kept.now.items + vec_len new.now.kept + 1 < 2 ^ 64 }
+    ensures { IfOk result (λ r. AreRenewals config.now (splice (S.rows store.now) a b rows.now) (splice known.now.kept.now.items new.now.from new.now.end new.now.kept.items)
+        known.now.problems.now known.now.unsilenced.now known.now.faultless.now.items r) }
 {
-    let edit = SectionEdit {
-        from: new.from,
-        end: new.end,
-        from_row: new.from_row,
-        end_row: new.end_row,
-        kept: new.kept.as_slice(),
-    };
-    let faultless = faultless_report(
-        alloc,
-        config,
-        store,
-        a,
-        b,
-        rows,
-        known.kept,
-        known.overview,
-        &edit,
-        known.problems,
-        known.faultless,
-    )?;
-    let seen = seen_renewal(alloc, config, store, a, b, rows, known, new)?;
-    if let Some(renewal) = seen {
+    let (kept, judged) = (known.kept, new.kept.as_slice());
+    if leaves_report(
+        alloc, config, store, a, b, rows, kept, new.from, new.end, judged,
+    )? {
         return Ok(Renewals {
-            renewal,
+            renewal: Renewal {
+                report: Change {
+                    patch: None,
+                    whole: None,
+                },
+                unsilenced: Change {
+                    patch: None,
+                    whole: None,
+                },
+                is_known: known.is_known,
+                overview: known.overview,
+            },
             in_lines: None,
-            faultless,
+            faultless: FaultlessRenewal {
+                problems: Change {
+                    patch: None,
+                    whole: None,
+                },
+                known: known.known_faultless,
+            },
         });
     }
-    let sections = Spliced::new(known.kept, edit.from, edit.end, edit.kept);
-    let renewals = unseen_renewals(
-        alloc,
-        config,
-        store,
-        a,
-        b,
-        rows,
-        known.in_lines,
-        &sections,
-        faultless,
-    )?;
+    let edit = section_edit(kept, new);
+    let renewals = renewals_by(alloc, config, store, a, b, rows, known, &edit)?;
     Ok(renewals)
 }

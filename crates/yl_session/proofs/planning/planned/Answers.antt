@@ -15,7 +15,7 @@ use Rattle.yl_rescan.specs.Held.{AreHeld}
 use Rattle.yl_config.specs.declared.config.Config.{Config}
 use Rattle.yl_lint.specs.TextReport.{report, report_by}
 use Rattle.yl_session.specs.Change.{Makes}
-use Rattle.yl_session.proofs.Bounds.{count_records, few_kept, few_lines}
+use Rattle.yl_session.proofs.Bounds.{count_records, few_kept, few_lines, few_rows}
 use Rattle.yl_session.proofs.HeldReport.{held_report}
 use Rattle.yl_session.proofs.Renewed.{has_row, is_work}
 use Rattle.yl_session.proofs.planning.planned.Goals as goal
@@ -100,6 +100,10 @@ rejudge-requires-clause-meter g c =
       c.in_ok-rescan.ensures.documents,
       ap (λ (m : Meter). m.documents) c.new-meter.ensures,
     )
+
+pub places_anew-requires : goal.places_anew-requires
+places_anew-requires g c =
+    omega (arith, few_rows c.args.config.now (g.S.Lines.rows c.args.store.now) c.args.cut c.args.records.now.items c.args.known.now.kept.now.items c.requires.old c.requires.held c.requires.kept)
 
 pub renewals_of-requires-clause-few : goal.renewals_of-requires-clause-few
 renewals_of-requires-clause-few g c =

@@ -1,4 +1,5 @@
-use Rattle.std.proofs.Common.{List, arith, ap, sym, ◌∙◌}
+use Rattle.std.proofs.Common.{◌≡◌, List, arith, sym, subst, ◌∙◌}
+use Rattle.std.specs.Prelude.{IfSome}
 use Rattle.std.specs.List.{splice}
 use Rattle.yl_text.specs.Lines.{RowValue}
 use Rattle.yl_lint.specs.Unsilenced.{reported_in_lines}
@@ -10,8 +11,9 @@ pub new-edited-requires-clause-few : goal.new-edited-requires-clause-few
 new-edited-requires-clause-few g c =
     omega (arith, few_lines (g.S.Lines.rows c.args.store.now) c.requires.old, few_new (g.S.Lines.rows c.args.store.now) c.args.rows.now c.args.a c.args.b c.requires.lines)
 
-pub report_with_lines-requires-clause-in_lines : goal.report_with_lines-requires-clause-in_lines
-report_with_lines-requires-clause-in_lines g c = c.requires.in_lines ∙ ap (λ (ps : List RowValue). reported_in_lines c.args.config.now ps) (sym c.new-edited.ensures)
+pub whole_report-requires-clause-in_lines : goal.whole_report-requires-clause-in_lines
+whole_report-requires-clause-in_lines g c =
+    subst (λ (ps : List RowValue). IfSome c.args.in_lines.now (λ l. l.items ≡ reported_in_lines c.args.config.now ps)) (sym c.new-edited.ensures) c.requires.in_lines
 
 pub returns-clause-report : goal.returns-clause-report
 returns-clause-report g c = λ old.

@@ -1,4 +1,4 @@
-use Rattle.std.proofs.Common.{◌≡◌, ℕ, refl, Option, List, Result, Ok, Err, map, take, length, arith, ap, sym, subst, ◌∙◌}
+use Rattle.std.proofs.Common.{◌≡◌, ℕ, refl, Option, Some, None, List, Result, Ok, Err, map, take, length, arith, ap, sym, subst, ◌∙◌}
 use Rattle.std.specs.List.{AllByRecursion, splice}
 use Rattle.yl_text.specs.Store.{AreLines, IsRange}
 use Rattle.yl_record.specs.Records.{RecordValue, characters_in}
@@ -9,7 +9,7 @@ use Rattle.yl_rescan.specs.Held.{AreHeld}
 use Rattle.yl_lint.specs.TextReport.{report}
 use Rattle.yl_lint.specs.Unsilenced.{unsilenced_by}
 use Rattle.yl_session.proofs.Bounds.{few_kept, few_lines, count_records, few_rows, few_rows_put}
-use Rattle.std.specs.Prelude.{IfSome, IsErr, OnErr, OnOk}
+use Rattle.std.specs.Prelude.{IfSome, IsErr, MatchOption, OnErr, OnOk}
 use Rattle.yl_text.specs.Lines.{RowValue}
 use Rattle.yl_config.specs.declared.config.Config.{Config}
 use Rattle.yl_report.specs.Report.{ProblemValue}
@@ -21,7 +21,9 @@ use Rattle.yl_rejudge.specs.Places.{IsAt, rows_kept}
 use Rattle.yl_session.specs.Change.{IsFit, Makes}
 use Rattle.yl_session.proofs.Changed.{made_so}
 use Rattle.yl_session.specs.Faultless.{WouldBeReported}
-use Rattle.yl_session.specs.declared.faultless.FaultlessReport.{FaultlessReport}
+use Rattle.yl_session.specs.declared.renewing.Change.{Change}
+use Rattle.yl_patch.specs.declared.faultless.Faultless.{Faultless}
+use Rattle.yl_patch.specs.Faultless.{IsFaultless, faultless_by}
 use Rattle.yl_session.specs.InLines.{WereReported}
 use Rattle.yl_session.specs.State.{SessionValue}
 use Rattle.yl_session.proofs.session.Session.change.Goals as goal
@@ -76,18 +78,27 @@ unsilenced_same : (config : Config) (ps qs : List RowValue) (ks ls : List KeptVa
 unsilenced_same config ps qs ks ls lines same = ap (λ (xs : List RowValue). unsilenced_by config xs ks) lines ∙ ap (λ (js : List KeptValue). unsilenced_by config qs js) (sym same)
 
 -- what would be reported of them
-faultless_same : {A : Type 0} (config : Config) (ps qs : List RowValue) (ks ls : List KeptValue) (o : Option (FaultlessReport A)) → ps ≡ qs → ls ≡ ks → IfSome o (λ f. WouldBeReported config ps ks f.problems.items f.known)
-    → IfSome o (λ f. WouldBeReported config qs ls f.problems.items f.known)
-faultless_same config ps qs ks ls o lines same h =
-    subst (λ (xs : List RowValue). IfSome o (λ f. WouldBeReported config xs ls f.problems.items f.known)) lines
-    (subst (λ (js : List KeptValue). IfSome o (λ f. WouldBeReported config ps js f.problems.items f.known)) (sym same) h)
+faultless_same : (config : Config) (ps qs : List RowValue) (ks ls : List KeptValue) (xs ys : List ProblemValue) (o : Option Faultless) → ps ≡ qs → ls ≡ ks → ys ≡ xs → IfSome o (λ f. WouldBeReported config ps ks xs f)
+    → IfSome o (λ f. WouldBeReported config qs ls ys f)
+faultless_same config ps qs ks ls xs ys o lines same told h =
+    subst (λ (rs : List RowValue). IfSome o (λ f. WouldBeReported config rs ls ys f)) lines
+    (subst (λ (js : List KeptValue). IfSome o (λ f. WouldBeReported config ps js ys f)) (sym same)
+    (subst (λ (zs : List ProblemValue). IfSome o (λ f. WouldBeReported config ps ks zs f)) (sym told) h))
+
+abbrev put_of : {A : Type 0} → ReportPatch A → List ProblemValue → List ProblemValue
+put_of p old = patched p.from p.end p.problems.items p.up p.down old
+
+-- and what it becomes
+faultless_made : {A : Type 0} (config : Config) (ps : List RowValue) (ks : List KeptValue) (old now : List ProblemValue) (change : Change A) (o : Option Faultless) → IfSome o (λ f. IsFaultless ks f)
+    → IfSome o (λ f. Makes old (faultless_by config ps ks) change)
+    → MatchOption change.whole (MatchOption change.patch (now ≡ old) (λ p. now ≡ put_of p old)) (λ v. now ≡ v.items)
+    → IfSome o (λ f. WouldBeReported config ps ks now f)
+faultless_made config ps ks old now change None known made h = tt
+faultless_made config ps ks old now change (Some f) known made h = record { known = known; told = made_so old (λ v. v.items) put_of change.patch change.whole h made }
 
 -- a list in which some items were put in place of others
 put_in : {X : Type 0} (all held old items : List X) (i j : ℕ) → all ≡ splice held i j items → held ≡ old → all ≡ splice old i j items
 put_in all held old items i j is same = is ∙ ap (λ xs. splice xs i j items) same
-
-abbrev put_of : {A : Type 0} → ReportPatch A → List ProblemValue → List ProblemValue
-put_of p old = patched p.from p.end p.problems.items p.up p.down old
 
 -- what is lent is what is kept
 pub planned-requires-clause-at : goal.planned-requires-clause-at
@@ -112,9 +123,6 @@ pub make_room-requires-clause-kept_few : goal.make_room-requires-clause-kept_few
 make_room-requires-clause-kept_few g c =
     omega (arith, few_kept c.self.inside.config (g.S.Lines.rows c.self.inside.store) c.self.inside.cut c.self.inside.records.items c.self.inside.kept.items c.self.invariant.0 c.self.invariant.1 c.self.invariant.2, c.in_ok-plan.plan.rejudged.kept.small)
 
-pub make_room-requires-clause-few_rows : goal.make_room-requires-clause-few_rows
-make_room-requires-clause-few_rows g c = omega (arith, few_rows c.self.inside.config (g.S.Lines.rows c.self.inside.store) c.self.inside.cut c.self.inside.records.items c.self.inside.kept.items c.self.invariant.0 c.self.invariant.1 c.self.invariant.2)
-
 pub invariant_of-self : goal.invariant_of-self
 invariant_of-self g c =
     let rows = g.S.Lines.rows c.self.inside.store in
@@ -124,10 +132,10 @@ invariant_of-self g c =
       kept_same config c.self.inside.kept.items c.make_room.new.kept.items c.self.inside.records.items c.make_room.new.records.items c.make_room.ensures.kept c.make_room.ensures.records c.self.invariant.2,
       c.make_room.ensures.problems ∙ c.self.invariant.3,
       subst (λ (ks : List KeptValue). IsOverviewOf ks c.self.inside.overview) (sym c.make_room.ensures.kept) c.self.invariant.4,
-      subst (λ (ks : List KeptValue). AllByRecursion (IsAt ks) c.make_room.new.places.items) (sym c.make_room.ensures.kept) c.make_room.ensures.places,
+      subst (λ (ks : List KeptValue). AllByRecursion (IsAt ks) c.self.inside.places.items) (sym c.make_room.ensures.kept) c.self.invariant.5,
       λ h. c.make_room.ensures.unsilenced ∙ (c.self.invariant.6 h ∙ unsilenced_same config rows rows c.self.inside.kept.items c.make_room.new.kept.items refl c.make_room.ensures.kept),
       c.self.invariant.7,
-      faultless_same config rows rows c.self.inside.kept.items c.make_room.new.kept.items c.self.inside.faultless refl c.make_room.ensures.kept c.self.invariant.8,
+      faultless_same config rows rows c.self.inside.kept.items c.make_room.new.kept.items c.self.inside.faultless.items c.make_room.new.faultless.items c.self.inside.known_faultless refl c.make_room.ensures.kept c.make_room.ensures.faultless c.self.invariant.8,
     )
 
 pub invariant_of-self-in_err-splice : goal.invariant_of-self-in_err-splice
@@ -142,10 +150,10 @@ invariant_of-self-in_err-splice g c =
       kept_same config c.self.inside.kept.items c.make_room.new.kept.items c.self.inside.records.items c.make_room.new.records.items c.make_room.ensures.kept c.make_room.ensures.records c.self.invariant.2,
       c.make_room.ensures.problems ∙ (c.self.invariant.3 ∙ ap (report config) e),
       subst (λ (ks : List KeptValue). IsOverviewOf ks c.self.inside.overview) (sym c.make_room.ensures.kept) c.self.invariant.4,
-      subst (λ (ks : List KeptValue). AllByRecursion (IsAt ks) c.make_room.new.places.items) (sym c.make_room.ensures.kept) c.make_room.ensures.places,
+      subst (λ (ks : List KeptValue). AllByRecursion (IsAt ks) c.self.inside.places.items) (sym c.make_room.ensures.kept) c.self.invariant.5,
       λ h. c.make_room.ensures.unsilenced ∙ (c.self.invariant.6 h ∙ unsilenced_same config rows left c.self.inside.kept.items c.make_room.new.kept.items e c.make_room.ensures.kept),
       subst (λ (ps : List RowValue). IfSome c.self.inside.in_lines (λ l. WereReported config ps l.problems.items l.stayed)) e c.self.invariant.7,
-      faultless_same config rows left c.self.inside.kept.items c.make_room.new.kept.items c.self.inside.faultless e c.make_room.ensures.kept c.self.invariant.8,
+      faultless_same config rows left c.self.inside.kept.items c.make_room.new.kept.items c.self.inside.faultless.items c.make_room.new.faultless.items c.self.inside.known_faultless e c.make_room.ensures.kept c.make_room.ensures.faultless c.self.invariant.8,
     )
 
 -- what room was made in is what was kept
@@ -179,8 +187,17 @@ put_kept-requires-clause-few_rows g c =
       omega (arith, few_rows_put c.self.inside.config (splice rows c.args.a c.args.b c.as_slice.result.now) scan.cut (splice c.self.inside.records.items scan.from scan.old_end scan.records.items) ks new.kept.items new.from new.end lines c.in_ok-plan.ensures.held c.in_ok-plan.ensures.kept),
     )
 
+pub renew_places-requires-clause-at : goal.renew_places-requires-clause-at
+renew_places-requires-clause-at g c = subst (λ (ks : List KeptValue). AllByRecursion (IsAt ks) c.self.inside.places.items) (sym c.make_room.ensures.kept) c.self.invariant.5
+
+pub renew_places-requires-clause-anew : goal.renew_places-requires-clause-anew
+renew_places-requires-clause-anew g c = subst (λ (ks : List KeptValue). IfSome c.in_ok-plan.plan.places (λ v. AllByRecursion (IsAt ks) v.items)) (sym c.make_room.ensures.kept) c.in_ok-plan.ensures.places
+
 pub put_kept-requires-clause-at : goal.put_kept-requires-clause-at
-put_kept-requires-clause-at g c = subst (λ (ks : List KeptValue). AllByRecursion (IsAt ks) c.make_room.new.places.items) (sym c.make_room.ensures.kept) c.make_room.ensures.places
+put_kept-requires-clause-at g c = c.renew_places.ensures
+
+pub renew-requires-3-clause-fit : goal.renew-requires-3-clause-fit
+renew-requires-3-clause-fit g c = subst (λ (ps : List ProblemValue). IsFit ps c.in_ok-plan.plan.faultless.problems.patch) (sym c.make_room.ensures.faultless) c.in_ok-plan.ensures.faultless.fit
 
 pub invariant_of-self-2 : goal.invariant_of-self-2
 invariant_of-self-2 g c =
@@ -216,7 +233,9 @@ invariant_of-self-2 g c =
       subst (λ (ps : List RowValue). IfSome c.lines_kept.result (λ l. WereReported config ps l.problems.items l.stayed)) put
           (c.lines_kept.ensures config rows c.as_slice.result.now (sym c.len-lines.ensures) (ap (λ (ps : List RowValue). length ps) put ∙ sym c.len-now.ensures) c.requires.range.ordered
           (subst (λ o. IfSome o (λ l. WereReported config rows l.problems.items l.stayed)) (sym c.take-before.ensures.value) c.self.invariant.7) c.in_ok-plan.ensures.in_lines),
-      faultless_same config seen left ks c.put_kept.new.kept.items plan.faultless put kept c.in_ok-plan.ensures.faultless,
+      faultless_same config seen left ks c.put_kept.new.kept.items c.renew-3.new.problems.items c.renew-3.new.problems.items plan.faultless.known put kept refl
+          (faultless_made config seen ks c.make_room.new.faultless.items c.renew-3.new.problems.items plan.faultless.problems plan.faultless.known c.in_ok-plan.ensures.faultless.known
+          (subst (λ (ps : List ProblemValue). IfSome plan.faultless.known (λ f. Makes ps (faultless_by config seen ks) plan.faultless.problems)) (sym c.make_room.ensures.faultless) c.in_ok-plan.ensures.faultless.told) c.renew-3.ensures),
     )
 
 pub returns-clause-problems : goal.returns-clause-problems
