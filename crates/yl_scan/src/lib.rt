@@ -22,6 +22,7 @@ pub use scanner::Scanner;
 pub use state::{LineState, Standing};
 pub use step::{FaultAbove, LexemeAbove, Soundness, Step};
 pub use whole::{LineComment, LineFault, LineLexeme, ScannedText, scan};
+pub use yl_lexeme::{Comment, Kind, Lexeme, LexemeAtLine, Meter, Style};
 pub use yl_row::{PlacedScanFault, ScanFault};
 
 /// A law: a scalar that is carried from row to row gives what it gives when it is read whole.
