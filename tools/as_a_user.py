@@ -113,6 +113,9 @@ rules:
   key-ordering: enable
 """
 
+# A configuration of many events.
+MANY = "rules: {}\nignore: [" + ", ".join(["a"] * 20_000) + "]\n"
+
 
 def command(first, count, line):
     put = b"" if line is None else line + b"\n"
@@ -224,12 +227,15 @@ def refuse_each(runs, case, may_come):
             what = "all as if none had been" if come == whole else (told, out[-100:], err, status)
             runs.tell(f"with request {number} refused there came", case, what)
         number += 1
-    print(f"{case.program}: {number - 1} requests refused, {ended} of them ended the run")
+    print(f"{case.program} {' '.join(case.words[:3])}: {number - 1} requests refused, {ended} of them ended the run".replace("\n", " "))
 
 
 def check_refusals(runs):
-    for words in (["long.yaml"], ["-s", "-c", "settings", "f.yaml", "long.yaml", "-"]):
+    for words in (["--help"], ["long.yaml"], ["-s", "-c", "settings", "f.yaml", "long.yaml", "-"], ["-c", "many", "f.yaml"]):
         refuse_each(runs, Case("yamllint", words, given=LONG_TEXT), set())
+    # Words that are wrong may be told as that: some of the memory is for words of help, which are not printed.
+    wrong = Case("yamllint", ["-f", "other", "f.yaml"])
+    refuse_each(runs, wrong, {runs.ran(wrong)})
     for words in (["long.yaml"], ["--work", "-d", LONG_CONFIG, "long.yaml"]):
         case = Case("yledit", words, given=b"".join(COMMANDS))
         refuse_each(runs, case, without_each(runs, case, COMMANDS))
@@ -242,7 +248,8 @@ def main():
         sys.exit(__doc__)
     with tempfile.TemporaryDirectory() as folder:
         os.mkdir(os.path.join(folder, "folder"))
-        for name, text in {**FILES, "long.yaml": LONG_TEXT, "settings": LONG_CONFIG.encode()}.items():
+        more = {"long.yaml": LONG_TEXT, "settings": LONG_CONFIG.encode(), "many": MANY.encode()}
+        for name, text in {**FILES, **more}.items():
             with open(os.path.join(folder, name), "wb") as file:
                 file.write(text)
         runs = Runs(paths, folder)
