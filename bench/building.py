@@ -31,11 +31,12 @@ def below(libraries):
 
 
 def make_repository(folder, source, name, libraries):
-    """Copies the program in bench/SOURCE as a crate of this name, and the crates below it with what `rt` has built of them."""
+    """Copies the program in bench/SOURCE as a crate of this name, and the crates below it. `rt` takes over what it has proved of
+    the same sources in another folder."""
     crates = listed()
     for crate in below(libraries):
         shutil.copytree(os.path.join(ROOT, "crates", crate), os.path.join(folder, "crates", crate),
-                        ignore=shutil.ignore_patterns("incremental", "must-fail"))
+                        ignore=shutil.ignore_patterns("out", "must-fail"))
     program = os.path.join(folder, "crates", name)
     shutil.copytree(os.path.join(HERE, source), program)
     # Its files lie here as texts, since the gate reads each file of code or proofs as one of a crate.
@@ -55,7 +56,7 @@ def built(folder, source, name, libraries):
     program = os.path.join(folder, "crates", name)
     if not os.path.exists(program):
         make_repository(folder, source, name, libraries)
-    # Called with no words the program only tells of its use.
+    # Called with no words most of the programs only tell of their use.
     ran = subprocess.run(["rt", "run"], cwd=program, stdout=subprocess.PIPE, stderr=subprocess.STDOUT, text=True)
     path = os.path.join(program, "out", name)
     if not os.path.exists(path):

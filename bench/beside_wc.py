@@ -1,7 +1,7 @@
 #!/usr/bin/env python3
 """Time and memory of `yamllint` beside `wc -lmL` on the same files.
 
-    python3 bench/run.py PATH-TO-yamllint [MIB..]
+    python3 bench/beside_wc.py PATH-TO-yamllint [MIB..]
 
 The inputs are made here: of each size (1, 10 and 64 MiB if none is given) one with short lines and one with long
 lines, in ASCII and not. Each program runs three times on each file, in turn, and the best time counts. A line of the
