@@ -1,5 +1,5 @@
 #!/usr/bin/env python3
-"""calling.py [--check]: writes docs/CALLING.md from the crate `callers`, or says whether it is as it would be written.
+"""calling.py: writes docs/CALLING.md from the crate `callers`.
 
 Each module of the crate calls one library, of which its first line says what it is."""
 
@@ -54,9 +54,6 @@ def page():
 
 def main():
     text = page()
-    if "--check" in sys.argv:
-        with open(DOCUMENT) as file:
-            sys.exit(None if file.read() == text else "docs/CALLING.md is not what the callers are")
     with open(DOCUMENT, "w") as file:
         file.write(text)
 
