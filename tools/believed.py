@@ -1,9 +1,11 @@
 #!/usr/bin/env python3
 """What must be believed: the definitions that the contracts of the library's public calls reach.
 
-    tools/believed.py            each definition that is meaning, by crate and file, with its lines, and the sum
-    tools/believed.py --short    the sums alone
-    tools/believed.py --bridges  also the bridges, and which public contract names them
+    tools/believed.py                    each definition that is meaning, by crate and file, with its lines, and the sum
+    tools/believed.py --short            the sums alone
+    tools/believed.py --bridges          also the bridges, and which public contract names them
+    tools/believed.py --from CRATE..     what the public calls of these crates reach, and no others: the headline is
+                                         --from yl_session yl_cli
 
 A definition is meaning or bridge as the first line of its file in specs/ says. A bridge ties code to
 meaning and is not counted, but what is reached through it is: nothing hides behind a bridge.
@@ -190,6 +192,16 @@ def calls(crate):
                     yield m.group(1), imported, value.group(1)
 
 
+def asked_crates(crates):
+    """The crates whose calls count: those behind --from, or all that a user calls."""
+    if '--from' not in sys.argv:
+        return [c for c in crates if c not in INNER]
+    named = [word for word in sys.argv[sys.argv.index('--from') + 1:] if not word.startswith('--')]
+    if not named or set(named) - set(crates):
+        sys.exit(f"--from wants libraries of crates.txt: {' '.join(sorted(set(named) - set(crates)))}")
+    return named
+
+
 def main():
     specs = {}
     crates = library()
@@ -216,9 +228,7 @@ def main():
             todo.append(key)
 
     count = set()
-    for c in crates:
-        if c in INNER:
-            continue
+    for c in asked_crates(crates):
         for call, (names, modules), clause in calls(c):
             if call.split('::')[0] in INNER_CALLS.get(c, ()):
                 continue
