@@ -1,14 +1,75 @@
--- Meaning: an edit of the lines of a text: the lines a to b, b not included, counted from 0, are
--- replaced by bytes. Its faults are this project's own; what a break is, YAML 1.2.2, 5.4 says.
-use Rattle.std.specs.Prelude.{◌≡◌, ◌≢◌, ℕ, ◌-◌, ◌≤◌, ◌<◌, ◌⊎◌, Bool, nat_lt, if◌then◌else◌, List, [], ◌++◌, length, take, drop, slice_index}
-use Rattle.std.specs.List.{splice}
-use Rattle.std.specs.Str.{IsUtf8, IsValidUpTo}
+-- Meaning: an edit of a text. The bytes between two places are replaced by others. A place is a line and a column, both counted
+-- from 0; a column counts the characters of the line, its break with them. The faults of an edit are this project's own; what a
+-- break is, YAML 1.2.2, 5.4 says.
+use Rattle.std.specs.Prelude.{◌≡◌, ℕ, ◌+◌, ◌-◌, ◌≤◌, ◌<◌, ◌⊎◌, Bool, not, ◌&&◌, ◌||◌, ◌==◌, nat_lt, if◌then◌else◌, List, [], ◌∷◌, ◌++◌, length, take, drop, slice_index}
+use Rattle.std.specs.Str.{IsUtf8, IsValidUpTo, chars, encode_utf8_all}
 use Rattle.yl_text.specs.Char as char
-use Rattle.yl_text.specs.Lines.{RowValue, text_of, lines_of, IsLines}
-use Rattle.yl_text.specs.Store.{AreLines}
+use Rattle.yl_text.specs.Lines.{RowValue, row_bytes, text_of}
 use Rattle.yl_text.specs.declared.TheConstants.{MAX_BYTES}
+use Rattle.yl_text.specs.declared.position.Pos.{Pos}
 use Rattle.yl_text.specs.declared.fault.TextFault.{TextFault}
-use Rattle.yl_text.specs.declared.fault.TextFault.TheVariants.{NotUtf8, Range, OpenEnd, JoinedBreak, TooLarge, Memory}
+use Rattle.yl_text.specs.declared.fault.TextFault.TheVariants.{NotUtf8, Range, TooLarge, Memory}
+
+-- a line with its break: its bytes, and its characters
+abbrev pub line_bytes : List RowValue → ℕ → List ℕ
+line_bytes ps i = text_of (take 1 (drop i ps))
+
+abbrev pub line_chars : List RowValue → ℕ → List ℕ
+line_chars ps i = chars (line_bytes ps i)
+
+-- a place is in the text: its line is, and its column is that of one of the line's characters, or the one past them
+pub record IsInText (ps : List RowValue) (p : Pos) : Type 0 where
+  pub line : p.line < length ps
+  pub column : p.col ≤ length (line_chars ps p.line)
+
+-- how many bytes stand before line i
+abbrev pub line_start : List RowValue → ℕ → ℕ
+line_start ps i = length (text_of (take i ps))
+
+-- how many bytes stand before a place: those of the lines before its line, and of the characters before its column. So the column
+-- past a line's break and column 0 of the next line are one place
+abbrev pub offset : List RowValue → Pos → ℕ
+offset ps p = line_start ps p.line + length (encode_utf8_all (take p.col (line_chars ps p.line)))
+
+-- the text before a place, and from it on
+abbrev pub front_at : List RowValue → Pos → List ℕ
+front_at ps p = take (offset ps p) (text_of ps)
+
+abbrev pub back_at : List RowValue → Pos → List ℕ
+back_at ps p = drop (offset ps p) (text_of ps)
+
+-- what stands between two places can be replaced: both are in the text, and the second is not before the first
+pub record IsEditRange (ps : List RowValue) (from to : Pos) : Type 0 where
+  pub first : IsInText ps from
+  pub last : IsInText ps to
+  pub ordered : offset ps from ≤ offset ps to
+
+-- the text after the edit: what stands before the first place, the bytes, and what stands from the second place on
+abbrev pub edited_text : List RowValue → Pos → Pos → List ℕ → List ℕ
+edited_text ps from to t = front_at ps from ++ (t ++ back_at ps to)
+
+-- the edit has none of the faults
+pub record CanEdit (ps : List RowValue) (from to : Pos) (t : List ℕ) : Type 0 where
+  pub utf8 : IsUtf8 t
+  pub range : IsEditRange ps from to
+  pub short : length (edited_text ps from to t) ≤ MAX_BYTES
+
+-- the first fault that stands, in the order in which they are looked for; `Memory` is none of an edit
+abbrev pub IsEditFault : List RowValue → Pos → Pos → List ℕ → TextFault → Type 0
+IsEditFault ps from to t (NotUtf8 n) = IsValidUpTo t n
+IsEditFault ps from to t Range = IsUtf8 t × ¬ (IsEditRange ps from to)
+IsEditFault ps from to t TooLarge = IsUtf8 t × IsEditRange ps from to × (MAX_BYTES < length (edited_text ps from to t))
+IsEditFault ps from to t Memory = ⊥
+
+-- an edit has one answer: a fault and no other, or none; and it has one of the two
+abbrev pub EditHasOneFault : Type 0
+EditHasOneFault = (ps : List RowValue) (from to : Pos) (t : List ℕ) (f g : TextFault) → IsEditFault ps from to t f → IsEditFault ps from to t g → f ≡ g
+
+abbrev pub EditHasNoFaultBeside : Type 0
+EditHasNoFaultBeside = (ps : List RowValue) (from to : Pos) (t : List ℕ) (f : TextFault) → CanEdit ps from to t → ¬ (IsEditFault ps from to t f)
+
+abbrev pub EditHasFaultOrNone : Type 0
+EditHasFaultOrNone = (ps : List RowValue) (from to : Pos) (t : List ℕ) → CanEdit ps from to t ⊎ ((f : TextFault) × IsEditFault ps from to t f)
 
 -- the first and the last byte, or 0
 abbrev pub first_byte : List ℕ → ℕ
@@ -17,74 +78,32 @@ first_byte t = slice_index t 0
 abbrev pub last_byte : List ℕ → ℕ
 last_byte t = slice_index t (length t - 1)
 
--- lines a to b can be replaced: a is a line, and b is none before it and at most one past the last
-pub record IsEditRange (ps : List RowValue) (a b : ℕ) : Type 0 where
-  pub starts : a < length ps
-  pub ordered : a ≤ b
-  pub within : b ≤ length ps
+-- a line begins between x and y: x is empty, or ends in a break. A CR before an LF is no break yet
+abbrev pub begins_line : List ℕ → List ℕ → Bool
+begins_line x y = length x == 0 || last_byte x == char.line_feed || (last_byte x == char.carriage_return && not (first_byte y == char.line_feed))
 
--- the bytes end in a break: in LF or CR
-abbrev pub EndsInBreak : List ℕ → Type 0
-EndsInBreak t = (last_byte t ≡ char.line_feed) ⊎ (last_byte t ≡ char.carriage_return)
+-- the last line that begins at or before the place behind n bytes
+abbrev pub line_at : List RowValue → ℕ → ℕ
+line_at [] n = 0
+line_at (p ∷ []) n = 0
+line_at (p ∷ q ∷ ps) n = if nat_lt n (length (row_bytes p)) then 0 else 1 + line_at (q ∷ ps) (n - length (row_bytes p))
 
--- bytes that end in no break would stand before a kept line
-abbrev pub LeavesOpenEnd : List RowValue → ℕ → List ℕ → Type 0
-LeavesOpenEnd ps b t = (b < length ps) × (t ≢ []) × ¬ (EndsInBreak t)
+-- the line of a place: the last one that begins at or before it
+abbrev pub line_of : List RowValue → Pos → ℕ
+line_of ps p = line_at ps (offset ps p)
 
--- a CR at the end of x would stand before an LF at the start of y, and be one break with it
-abbrev pub Joins : List ℕ → List ℕ → Type 0
-Joins x y = (last_byte x ≡ char.carriage_return) × (first_byte y ≡ char.line_feed)
+-- the place begins a line, and the line before that one ends in CR
+abbrev pub is_behind_cr : List RowValue → Pos → Bool
+is_behind_cr ps p = begins_line (front_at ps p) (back_at ps p) && last_byte (front_at ps p) == char.carriage_return
 
--- the text before line a, and from line b on
-abbrev pub front_of : List RowValue → ℕ → List ℕ
-front_of ps a = text_of (take a ps)
+-- the lines that an edit touches: from this one on, since an LF that comes in makes one break with a CR before it
+abbrev pub first_line : List RowValue → Pos → ℕ
+first_line ps from = if is_behind_cr ps from then line_of ps from - 1 else line_of ps from
 
-abbrev pub back_of : List RowValue → ℕ → List ℕ
-back_of ps b = text_of (drop b ps)
+-- the second place begins a line, in the old text and in the new one
+abbrev pub is_line_kept : List RowValue → Pos → Pos → List ℕ → Bool
+is_line_kept ps from to t = begins_line (front_at ps to) (back_at ps to) && begins_line (front_at ps from ++ t) (back_at ps to)
 
--- a break would be joined at a seam: at either end of the bytes, or where the kept parts meet
-abbrev pub JoinsBreaks : List RowValue → ℕ → ℕ → List ℕ → Type 0
-JoinsBreaks ps a b t = (Joins (front_of ps a) t ⊎ Joins t (back_of ps b)) ⊎ ((t ≡ []) × Joins (front_of ps a) (back_of ps b))
-
--- the text after the edit: the kept text before line a, the bytes, and the kept text from line b on
-abbrev pub edited_text : List RowValue → ℕ → ℕ → List ℕ → List ℕ
-edited_text ps a b t = front_of ps a ++ (t ++ back_of ps b)
-
--- the lines of bytes that are put before a line, or at the end: before a line the last one, which is empty, is left out
-abbrev pub incoming_lines : Bool → List ℕ → List RowValue
-incoming_lines before t = if before then take (length (lines_of t) - 1) (lines_of t) else lines_of t
-
--- the lines that come in
-abbrev pub inserted_rows : List RowValue → ℕ → List ℕ → List RowValue
-inserted_rows ps b t = incoming_lines (nat_lt b (length ps)) t
-
--- the edit has none of the faults
-pub record CanEdit (ps : List RowValue) (a b : ℕ) (t : List ℕ) : Type 0 where
-  pub utf8 : IsUtf8 t
-  pub range : IsEditRange ps a b
-  pub closed : ¬ (LeavesOpenEnd ps b t)
-  pub apart : ¬ (JoinsBreaks ps a b t)
-  pub short : length (edited_text ps a b t) ≤ MAX_BYTES
-
--- the first fault that stands, in the order in which they are looked for; `Memory` is none of an edit
-abbrev pub IsEditFault : List RowValue → ℕ → ℕ → List ℕ → TextFault → Type 0
-IsEditFault ps a b t (NotUtf8 n) = IsValidUpTo t n
-IsEditFault ps a b t Range = IsUtf8 t × ¬ (IsEditRange ps a b)
-IsEditFault ps a b t OpenEnd = IsUtf8 t × IsEditRange ps a b × LeavesOpenEnd ps b t
-IsEditFault ps a b t JoinedBreak = IsUtf8 t × IsEditRange ps a b × ¬ (LeavesOpenEnd ps b t) × JoinsBreaks ps a b t
-IsEditFault ps a b t TooLarge = IsUtf8 t × IsEditRange ps a b × ¬ (LeavesOpenEnd ps b t) × ¬ (JoinsBreaks ps a b t) × (MAX_BYTES < length (edited_text ps a b t))
-IsEditFault ps a b t Memory = ⊥
-
--- an edit without fault, made row by row, is the edit of the text: the rows that result are the lines of the text after it
-abbrev pub EditIsSplice : Type 0
-EditIsSplice = (ps : List RowValue) (a b : ℕ) (t : List ℕ) → AreLines ps → CanEdit ps a b t → IsLines (edited_text ps a b t) (splice ps a b (inserted_rows ps b t)) × AreLines (splice ps a b (inserted_rows ps b t))
-
--- an edit has one answer: a fault and no other, or none; and it has one of the two
-abbrev pub EditHasOneFault : Type 0
-EditHasOneFault = (ps : List RowValue) (a b : ℕ) (t : List ℕ) (f g : TextFault) → IsEditFault ps a b t f → IsEditFault ps a b t g → f ≡ g
-
-abbrev pub EditHasNoFaultBeside : Type 0
-EditHasNoFaultBeside = (ps : List RowValue) (a b : ℕ) (t : List ℕ) (f : TextFault) → CanEdit ps a b t → ¬ (IsEditFault ps a b t f)
-
-abbrev pub EditHasFaultOrNone : Type 0
-EditHasFaultOrNone = (ps : List RowValue) (a b : ℕ) (t : List ℕ) → CanEdit ps a b t ⊎ ((f : TextFault) × IsEditFault ps a b t f)
+-- and up to this one, which they don't include
+abbrev pub end_line : List RowValue → Pos → Pos → List ℕ → ℕ
+end_line ps from to t = if is_line_kept ps from to t then line_of ps to else line_of ps to + 1

@@ -4,9 +4,11 @@ pub mod Character
 pub mod Edit
 pub mod Fault
 pub mod Finding
-pub mod Message
 pub mod Kept
 pub mod Lines
+pub mod Message
+pub mod Places
+pub mod PutLines
 pub mod Special
 pub mod Split
 pub mod Store

@@ -37,7 +37,7 @@ pub fn characters_of<B: Allocator>(text: &str, buffer: &mut Vec<char, B>) -> Res
 }
 
 /// Whether all bytes are ASCII. They are all looked at, with no way out on the way, so that several are at once.
-fn are_ascii(bytes: &[u8]) -> bool
+pub(crate) fn are_ascii(bytes: &[u8]) -> bool
     ensures { IsTrue result → IsAscii bytes.now }
 {
     let mut all = true;

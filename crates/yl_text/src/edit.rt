@@ -1,32 +1,12 @@
-//! What an edit is refused for.
+//! What stands about a line.
 ghost use Rattle.std.specs.Prelude.{◌≡◌, ◌+◌, ◌^◌, ◌<◌, ◌≤◌, ◌↔◌, IsTrue, length, take, slice_get};
 ghost use Rattle.yl_text.specs.Lines.{text_of};
 ghost use Rattle.yl_text.specs.Store.{AreLines, IsRange};
-ghost use Rattle.yl_text.specs.Edit.{first_byte, last_byte, EndsInBreak, IsEditRange, JoinsBreaks, LeavesOpenEnd, front_of, back_of};
+ghost use Rattle.yl_text.specs.Edit.{first_byte, last_byte};
+ghost use Rattle.yl_text.specs.PutLines.{front_of, back_of};
 
 use crate::Break;
 use crate::store::Lines;
-
-/// Whether the bytes begin with LF.
-pub fn starts_with_lf(bytes: &[u8]) -> bool
-    ensures { IsTrue result ↔ (first_byte bytes.now ≡ 10) }
-{
-    bytes.first() == Some(&b'\n')
-}
-
-/// Whether the bytes end in CR.
-pub fn ends_in_cr(bytes: &[u8]) -> bool
-    ensures { IsTrue result ↔ (last_byte bytes.now ≡ 13) }
-{
-    bytes.last() == Some(&b'\r')
-}
-
-/// Whether the bytes end in a break: in LF or CR.
-pub fn ends_in_break(bytes: &[u8]) -> bool
-    ensures { IsTrue result ↔ EndsInBreak bytes.now }
-{
-    matches!(bytes.last(), Some(b'\n' | b'\r'))
-}
 
 /// Whether the text before line a ends in CR.
 pub fn front_ends_in_cr<S: Lines>(lines: &S, a: usize) -> bool
@@ -62,26 +42,4 @@ pub fn bytes_between<S: Lines>(lines: &S, a: usize, b: usize) -> u64
         sum += lines.row(i).bytes() as u64;
     }
     sum
-}
-
-/// Whether a CR would stand before an LF at a seam.
-pub fn joins_breaks<S: Lines>(lines: &S, a: usize, b: usize, bytes: &[u8]) -> bool
-    requires range { IsEditRange (S.rows lines.now) a b }
-    requires lines { AreLines (S.rows lines.now) }
-    ensures { IsTrue result ↔ JoinsBreaks (S.rows lines.now) a b bytes.now }
-{
-    let front = front_ends_in_cr(lines, a);
-    let back = back_starts_with_lf(lines, b);
-    if bytes.is_empty() {
-        front && back
-    } else {
-        front && starts_with_lf(bytes) || ends_in_cr(bytes) && back
-    }
-}
-
-/// Whether bytes that end in no break would stand before a kept line.
-pub fn leaves_open_end<S: Lines>(lines: &S, b: usize, bytes: &[u8]) -> bool
-    ensures { IsTrue result ↔ LeavesOpenEnd (S.rows lines.now) b bytes.now }
-{
-    b < lines.len() && !bytes.is_empty() && !ends_in_break(bytes)
 }

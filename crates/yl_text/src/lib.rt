@@ -1,7 +1,8 @@
 //! Text as lines: rows, stores of rows, edits of them, and devices that count their failures.
 #![tactic(auto)]
 
-ghost use Rattle.yl_text.specs.Edit.{EditIsSplice, EditHasOneFault, EditHasNoFaultBeside, EditHasFaultOrNone};
+ghost use Rattle.yl_text.specs.Edit.{EditHasOneFault, EditHasNoFaultBeside, EditHasFaultOrNone};
+ghost use Rattle.yl_text.specs.PutLines.{EditIsSplice};
 ghost use Rattle.yl_text.specs.Lines.{OneList, IsLinesOf};
 
 mod bounds;
@@ -11,6 +12,7 @@ mod edit;
 mod fault;
 mod finding;
 mod patched;
+mod places;
 mod plain_store;
 mod position;
 mod row;
@@ -25,6 +27,7 @@ pub use edit::bytes_between;
 pub use fault::TextFault;
 pub use finding::{Finding, RuleId};
 pub use patched::Patched;
+pub use places::{LineEdit, are_one_place, line_edit};
 pub use plain_store::{PlainStore, bytes_of, put_between};
 pub use position::Pos;
 pub use row::{Break, Row};
@@ -41,7 +44,7 @@ pub fn one_list_of_lines()
     ensures exists { IsLinesOf }
 {}
 
-/// Laws of edits: made row by row, an edit is that of the text; and it has one fault, or none, and never both.
+/// Laws of edits: made by lines, an edit is that of the text; and it has one fault, or none, and never both.
 pub fn one_answer_to_an_edit()
     ensures splice { EditIsSplice }
     ensures one_fault { EditHasOneFault }

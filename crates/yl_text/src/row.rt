@@ -31,6 +31,18 @@ impl Break {
             Break::CrLf => 2,
         }
     }
+
+    /// The bytes of the break.
+    pub fn bytes(self) -> &'static [u8]
+        ensures { result.now ≡ break_bytes self }
+    {
+        match self {
+            Break::No => b"",
+            Break::Lf => b"\n",
+            Break::CrLf => b"\r\n",
+            Break::Cr => b"\r",
+        }
+    }
 }
 
 /// How many bytes a text has at the most that lies in the line itself.

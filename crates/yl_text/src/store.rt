@@ -5,8 +5,8 @@ ghost use Rattle.yl_text.specs.Lines.{RowValue, text_of};
 ghost use Rattle.yl_text.specs.Store.{AreLines, IsRange};
 ghost use Rattle.yl_text.specs.Edit.{CanEdit, IsEditFault};
 
-use crate::edit::{bytes_between, joins_breaks, leaves_open_end};
-use crate::{MAX_BYTES, Row, TextFault};
+use crate::places::{byte_place, bytes_from_to, is_behind};
+use crate::{MAX_BYTES, Pos, Row, TextFault};
 use std::alloc::{AllocError, Allocator};
 
 /// A list of rows, counted from 0.
@@ -35,35 +35,35 @@ pub trait Lines {
     }
 }
 
-/// A store of the lines of a text. `check` and `splice` together are an edit of the text: the bytes
-/// that come in are split into rows first (the last one, empty where they end in a break, is left out
-/// before a kept line), and the rows that result are the lines of the edited text.
+/// A store of the lines of a text. `check` says whether an edit between two places can be made, and
+/// `line_edit` by which lines it is made; then the bytes of those are split into rows (the last one, empty
+/// where they end in a break, is left out before a kept line) and `splice` puts them in, so that the rows
+/// that result are the lines of the edited text.
 pub trait LineStore: Lines + Drop {
-    /// Why the bytes may not be put in place of the lines a to b, b not included, counted from 0: the
-    /// first cause that stands, in the order `NotUtf8`, `Range`, `OpenEnd`, `JoinedBreak`, `TooLarge`. It
-    /// answers nothing else, and takes no memory.
-    final fn check(&self, a: usize, b: usize, bytes: &[u8]) -> Result<(), TextFault>
+    /// Why the bytes may not be put in place of what stands between two places: the first cause that
+    /// stands, in the order `NotUtf8`, `Range`, `TooLarge`. It answers nothing else, and takes no memory.
+    final fn check(&self, from: Pos, to: Pos, bytes: &[u8]) -> Result<(), TextFault>
     where
         Self: Sized,
         requires { AreLines (Self.rows self.now) }
-        ensures { MatchResult result (λ _. CanEdit (Self.rows self.now) a b bytes.now)
-            (λ fault. IsEditFault (Self.rows self.now) a b bytes.now fault) }
+        ensures { MatchResult result (λ _. CanEdit (Self.rows self.now) from to bytes.now)
+            (λ fault. IsEditFault (Self.rows self.now) from to bytes.now fault) }
     {
         if let Err(error) = simdutf8::compat::from_utf8(bytes) {
             return Err(TextFault::NotUtf8 {
                 valid_up_to: error.valid_up_to(),
             });
         }
-        if a >= self.len() || b < a || self.len() < b {
+        let Some(first) = byte_place(self, from) else {
+            return Err(TextFault::Range);
+        };
+        let Some(last) = byte_place(self, to) else {
+            return Err(TextFault::Range);
+        };
+        if is_behind(first, last) {
             return Err(TextFault::Range);
         }
-        if leaves_open_end(self, b, bytes) {
-            return Err(TextFault::OpenEnd);
-        }
-        if joins_breaks(self, a, b, bytes) {
-            return Err(TextFault::JoinedBreak);
-        }
-        let kept = self.bytes() - bytes_between(self, a, b);
+        let kept = self.bytes() - bytes_from_to(self, first, last);
         if kept + bytes.len() as u64 > MAX_BYTES as u64 {
             return Err(TextFault::TooLarge);
         }

@@ -1,6 +1,6 @@
 //! Each growth refused in turn, up to the first run that meets no refusal.
 
-use crate::stores::{Heap, edit, opened};
+use crate::stores::{Heap, edit_lines, opened};
 use refusing::Refusing;
 use std::alloc::{AllocError, Global};
 use std::process::Abort;
@@ -97,12 +97,12 @@ fn shown<S: Lines>(alloc: Global, lines: &S) -> Result<String, AllocError> {
 // when it is asked again. Whether it was made at once.
 fn is_made_at_once(rt: &impl Abort, alloc: Global, heap: Heap<'_>, n: u64) -> Result<bool, Fail> {
     let mut store: PlainStore<Heap<'_>> = opened(heap, b"a \nb\nc \n")?;
-    let answer = edit(rt, heap, n, &mut store, 1, 2, b"x\r\ny\r\nz\n");
+    let answer = edit_lines(rt, heap, n, &mut store, 1, 2, b"x\r\ny\r\nz\n");
     if answer.is_err() {
         assert!(rt; answer == Err(TextFault::Memory), "the {n}th growth");
         assert_eq!(rt; shown(alloc, &store)?.as_str(), "a |b|c ||");
         assert_eq!(rt; store.bytes(), 8);
-        edit(rt, heap, 0, &mut store, 1, 2, b"x\r\ny\r\nz\n")?;
+        edit_lines(rt, heap, 0, &mut store, 1, 2, b"x\r\ny\r\nz\n")?;
     }
     assert_eq!(rt; shown(alloc, &store)?.as_str(), "a |x|y|z|c ||");
     Ok(answer.is_ok())

@@ -1,92 +1,55 @@
 //! Edits of small texts with breaks at every seam.
 
-use crate::stores::{Heap, edit, opened};
+use crate::stores::{Heap, edit, opened, place};
 use refusing::Refusing;
-use std::alloc::{Allocator, Global};
+use std::alloc::{AllocError, Global};
 use std::process::Abort;
 use std::test::Fail;
-use yl_text::{Break, LineStore, Lines, PlainStore, Row, TextFault, split};
+use yl_text::{LineStore, Lines, PlainStore, Pos, Row, TextFault, split};
 
 // All texts of at most two bytes out of a letter, CR and LF.
 const TEXTS: [&str; 13] = [
     "", "a", "\r", "\n", "aa", "a\r", "a\n", "\ra", "\r\r", "\r\n", "\na", "\n\r", "\n\n",
 ];
 
-// For each of these texts the answers of all its edits, as the reference model in Python gives them:
-// by the first line, by the line behind the last one, by the bytes that come in (those of `TEXTS`
-// again). A dot is an edit that is made, R is `Range`, O `OpenEnd` and J `JoinedBreak`.
-const ANSWERS: [&str; 13] = [
-    ".O..O..O..O...............RRRRRRRRRRRRRRRRRRRRRRRRRRRRRRRRRRRRRRRRRRRRRRRRRRRR",
-    ".O..O..O..O...............RRRRRRRRRRRRRRRRRRRRRRRRRRRRRRRRRRRRRRRRRRRRRRRRRRRR",
-    ".O..O..O..O...O..O..O..O...............RRRRRRRRRRRRRRRRRRRRRRRRRR.O.JO..O..OJJ...J......JJJRRRRRRRRRRRRRRRRRRRRRRRRRRRRRRRRRRRRRRRRRRRRRRRRRRRRRRRRRRRRRRRRR",
-    ".OJ.OJ.OJ.OJ..O..O..O..O...............RRRRRRRRRRRRRRRRRRRRRRRRRR.O..O..O..O...............RRRRRRRRRRRRRRRRRRRRRRRRRRRRRRRRRRRRRRRRRRRRRRRRRRRRRRRRRRRRRRRRR",
-    ".O..O..O..O...............RRRRRRRRRRRRRRRRRRRRRRRRRRRRRRRRRRRRRRRRRRRRRRRRRRRR",
-    ".O..O..O..O...O..O..O..O...............RRRRRRRRRRRRRRRRRRRRRRRRRR.O.JO..O..OJJ...J......JJJRRRRRRRRRRRRRRRRRRRRRRRRRRRRRRRRRRRRRRRRRRRRRRRRRRRRRRRRRRRRRRRRR",
-    ".O..O..O..O...O..O..O..O...............RRRRRRRRRRRRRRRRRRRRRRRRRR.O..O..O..O...............RRRRRRRRRRRRRRRRRRRRRRRRRRRRRRRRRRRRRRRRRRRRRRRRRRRRRRRRRRRRRRRRR",
-    ".O..O..O..O...O..O..O..O...............RRRRRRRRRRRRRRRRRRRRRRRRRR.O.JO..O..OJJ...J......JJJRRRRRRRRRRRRRRRRRRRRRRRRRRRRRRRRRRRRRRRRRRRRRRRRRRRRRRRRRRRRRRRRR",
-    ".O..O..O..O...O..O..O..O...O..O..O..O...............RRRRRRRRRRRRRRRRRRRRRRRRRR.O.JO..O..OJJ.O.JO..O..OJJ...J......JJJRRRRRRRRRRRRRRRRRRRRRRRRRRRRRRRRRRRRRRR.O.JO..O..OJJ...J......JJJRRRRRRRRRRRRRRRRRRRRRRRRRRRRRRRRRRRRRRRRRRRRRRRRRRRRRRRRRRRRRRRRRRRRRRRRRRRRRR",
-    ".O..O..O..O...O..O..O..O...............RRRRRRRRRRRRRRRRRRRRRRRRRR.O..O..O..O...............RRRRRRRRRRRRRRRRRRRRRRRRRRRRRRRRRRRRRRRRRRRRRRRRRRRRRRRRRRRRRRRRR",
-    ".OJ.OJ.OJ.OJ..O..O..O..O...............RRRRRRRRRRRRRRRRRRRRRRRRRR.O..O..O..O...............RRRRRRRRRRRRRRRRRRRRRRRRRRRRRRRRRRRRRRRRRRRRRRRRRRRRRRRRRRRRRRRRR",
-    ".OJ.OJ.OJ.OJ..O..O..O..O...O..O..O..O...............RRRRRRRRRRRRRRRRRRRRRRRRRR.O..O..O..O...O..O..O..O...............RRRRRRRRRRRRRRRRRRRRRRRRRRRRRRRRRRRRRRR.O.JO..O..OJJ...J......JJJRRRRRRRRRRRRRRRRRRRRRRRRRRRRRRRRRRRRRRRRRRRRRRRRRRRRRRRRRRRRRRRRRRRRRRRRRRRRRR",
-    ".OJ.OJ.OJ.OJ..OJ.OJ.OJ.OJ..O..O..O..O...............RRRRRRRRRRRRRRRRRRRRRRRRRR.OJ.OJ.OJ.OJ..O..O..O..O...............RRRRRRRRRRRRRRRRRRRRRRRRRRRRRRRRRRRRRRR.O..O..O..O...............RRRRRRRRRRRRRRRRRRRRRRRRRRRRRRRRRRRRRRRRRRRRRRRRRRRRRRRRRRRRRRRRRRRRRRRRRRRRRR",
+// For each of these texts how many bytes stand before each place, as the reference model in Python says it: by the lines 0 to 3 and
+// the columns 0 to 3. A dot is a place that is not in the text.
+const OFFSETS: [&str; 13] = [
+    "0...............",
+    "01..............",
+    "01..1...........",
+    "01..1...........",
+    "012.............",
+    "012.2...........",
+    "012.2...........",
+    "01..12..........",
+    "01..12..2.......",
+    "012.2...........",
+    "01..12..........",
+    "01..12..2.......",
+    "01..12..2.......",
 ];
 
-// What the check answers, as a letter of `ANSWERS`.
-fn letter(answer: Result<(), TextFault>) -> u8 {
-    match answer {
-        Ok(()) => b'.',
-        Err(TextFault::Range) => b'R',
-        Err(TextFault::OpenEnd) => b'O',
-        Err(TextFault::JoinedBreak) => b'J',
-        Err(_) => b'?',
-    }
-}
+// How many columns of a line stand in `OFFSETS`.
+const COLUMNS: usize = 4;
 
-// The bytes of a break.
-fn break_of(end: Break) -> &'static [u8] {
-    match end {
-        Break::No => b"",
-        Break::Lf => b"\n",
-        Break::CrLf => b"\r\n",
-        Break::Cr => b"\r",
-    }
-}
-
-// The text of these rows.
-fn text_of<A: Allocator>(alloc: Global, rows: &[Row<A>]) -> Result<Vec<u8>, TextFault> {
-    let mut text = Vec::new(alloc);
-    for row in rows {
-        let added = text
-            .extend_from_slice(row.as_str().as_bytes())
-            .and_then(|()| text.extend_from_slice(break_of(row.end())));
-        added.map_err(|_| TextFault::Memory)?;
-    }
-    Ok(text)
-}
-
-// The text before line a, the bytes, and the text from line b on.
-fn edited(
+// The text with these bytes in place of those from p to q.
+pub(crate) fn replaced(
     alloc: Global,
-    text: &str,
-    a: usize,
-    b: usize,
-    bytes: &str,
-) -> Result<Vec<u8>, TextFault> {
-    let rows = split(alloc, text.as_bytes())?;
-    let front = text_of(alloc, &rows.as_slice()[..a.min(rows.len())])?;
-    let back = text_of(alloc, &rows.as_slice()[b.min(rows.len())..])?;
-    let mut whole = front;
-    whole
-        .extend_from_slice(bytes.as_bytes())
-        .map_err(|_| TextFault::Memory)?;
-    whole
-        .extend_from_slice(back.as_slice())
-        .map_err(|_| TextFault::Memory)?;
+    text: &[u8],
+    p: usize,
+    q: usize,
+    bytes: &[u8],
+) -> Result<Vec<u8>, AllocError> {
+    let mut whole = Vec::new(alloc);
+    whole.extend_from_slice(text.get(..p).unwrap_or_default())?;
+    whole.extend_from_slice(bytes)?;
+    whole.extend_from_slice(text.get(q..).unwrap_or_default())?;
     Ok(whole)
 }
 
 // Whether these are the rows of the lines.
-fn shows<S: Lines>(lines: &S, rows: &[Row<Global>]) -> bool {
+pub(crate) fn shows<S: Lines>(lines: &S, rows: &[Row<Global>]) -> bool {
     if lines.len() != rows.len() {
         return false;
     }
@@ -98,85 +61,114 @@ fn shows<S: Lines>(lines: &S, rows: &[Row<Global>]) -> bool {
     true
 }
 
-// Makes an edit, and compares what is shown then.
+// Makes an edit that can be made, of what stands from byte p to q, and compares what is shown then.
 fn compare(
     rt: &impl Abort,
     alloc: Global,
     heap: Heap<'_>,
     text: &str,
-    a: usize,
-    b: usize,
+    range: (usize, usize),
+    places: (Pos, Pos),
     bytes: &str,
-) -> Result<u8, TextFault> {
+) -> Result<(), Fail> {
     let mut store: PlainStore<Heap<'_>> = opened(heap, text.as_bytes())?;
-    let answer = letter(store.check(a, b, bytes.as_bytes()));
-    let made = edit(rt, heap, 0, &mut store, a, b, bytes.as_bytes());
-    let whole = if made.is_ok() {
-        edited(alloc, text, a, b, bytes)?
-    } else {
-        edited(alloc, text, 0, 0, "")?
-    };
-    assert_eq!(rt; letter(made), answer, "{text:?} {a} {b} {bytes:?}");
+    let (from, to) = places;
+    edit(rt, heap, 0, &mut store, from, to, bytes.as_bytes())?;
+    let whole = replaced(alloc, text.as_bytes(), range.0, range.1, bytes.as_bytes())?;
     let rows = split(alloc, whole.as_slice())?;
     assert!(rt;
         shows(&store, rows.as_slice()),
-        "{text:?} {a} {b} {bytes:?}"
+        "{text:?} {from:?} {to:?} {bytes:?}"
     );
     assert_eq!(rt; store.bytes(), whole.len() as u64);
-    Ok(answer)
+    Ok(())
 }
 
-// The answers of all edits of a text, in the order of `ANSWERS`.
-fn answers(
+// The place of `OFFSETS` by its number.
+fn nth_place(n: usize) -> Pos {
+    place(n / COLUMNS, n % COLUMNS)
+}
+
+// Makes all edits of a text between two of its places, and compares; and sees that those between others are refused.
+fn all_edits(
     rt: &impl Abort,
     alloc: Global,
     heap: Heap<'_>,
     text: &str,
-) -> Result<String, TextFault> {
-    let len = split(alloc, text.as_bytes())?.len();
-    let mut letters = String::new(alloc);
-    for a in 0..len.saturating_add(1) {
-        for b in 0..len.saturating_add(2) {
+    offsets: &str,
+) -> Result<(), Fail> {
+    let store: PlainStore<Heap<'_>> = opened(heap, text.as_bytes())?;
+    for (i, p) in offsets.bytes().enumerate() {
+        for (j, q) in offsets.bytes().enumerate() {
+            let (from, to) = (nth_place(i), nth_place(j));
+            if p == b'.' || q == b'.' || q < p {
+                assert!(rt;
+                    store.check(from, to, b"") == Err(TextFault::Range),
+                    "{text:?} {from:?} {to:?}"
+                );
+                continue;
+            }
+            let range = (
+                p.saturating_sub(b'0') as usize,
+                q.saturating_sub(b'0') as usize,
+            );
             for bytes in TEXTS {
-                let answer = compare(rt, alloc, heap, text, a, b, bytes)?;
-                letters.push(answer as char).map_err(|_| TextFault::Memory)?;
+                compare(rt, alloc, heap, text, range, (from, to), bytes)?;
             }
         }
     }
-    Ok(letters)
+    Ok(())
 }
 
 #[test]
 fn edits_at_every_seam(rt: HostRuntime) -> Result<(), Fail> {
     let heap = Refusing::new(rt.alloc());
-    for (text, want) in TEXTS.iter().zip(ANSWERS.iter()) {
-        let letters = answers(&rt, rt.alloc(), &heap, text)?;
-        assert_eq!(rt; letters.as_str(), *want, "{text:?}");
+    for (text, offsets) in TEXTS.iter().zip(OFFSETS.iter()) {
+        all_edits(&rt, rt.alloc(), &heap, text, offsets)?;
     }
     Ok(())
 }
 
-// A text, an edit of it (the first line, the line behind the last one, the bytes), and its answer.
-type Refused = (&'static str, usize, usize, &'static [u8], TextFault);
+// A text, an edit of it (the lines and columns of its places, the bytes), and its answer.
+type Refused = (
+    &'static str,
+    (usize, usize),
+    (usize, usize),
+    &'static [u8],
+    TextFault,
+);
 
-const REFUSED: [Refused; 8] = [
-    ("---\na: 1\rb: 2\n", 2, 3, b"\n", TextFault::JoinedBreak),
-    ("\ra\n\n", 1, 2, b"", TextFault::JoinedBreak),
-    ("---\na: 1\n", 0, 1, b"x", TextFault::OpenEnd),
-    ("---\na: 1\n", 3, 3, b"", TextFault::Range),
-    ("---\na: 1\n", 1, 0, b"", TextFault::Range),
-    ("---\na: 1\n", 0, 4, b"", TextFault::Range),
+const REFUSED: [Refused; 9] = [
+    ("---\na: 1\n", (1, 6), (1, 6), b"", TextFault::Range),
+    ("---\na: 1\n", (3, 0), (3, 0), b"", TextFault::Range),
+    ("---\na: 1\n", (2, 1), (2, 1), b"", TextFault::Range),
+    ("---\na: 1\n", (1, 2), (1, 1), b"", TextFault::Range),
+    ("---\na: 1\n", (1, 1), (0, 4), b"", TextFault::Range),
+    (
+        "---\n\u{FC}: \u{1F600}\r\n",
+        (1, 4),
+        (1, 7),
+        b"x",
+        TextFault::Range,
+    ),
     (
         "---\na: 1\n",
-        0,
-        1,
+        (0, 9),
+        (4_294_967_295, 0),
+        b"",
+        TextFault::Range,
+    ),
+    (
+        "---\na: 1\n",
+        (0, 0),
+        (0, 1),
         b"\xFF",
         TextFault::NotUtf8 { valid_up_to: 0 },
     ),
     (
         "---\na: 1\n",
-        9,
-        9,
+        (9, 0),
+        (9, 0),
         b"\xC3\xA4\xC3x",
         TextFault::NotUtf8 { valid_up_to: 2 },
     ),
@@ -185,13 +177,15 @@ const REFUSED: [Refused; 8] = [
 #[test]
 fn refused_edits(rt: HostRuntime) -> Result<(), Fail> {
     let heap = Refusing::new(rt.alloc());
-    for (text, a, b, bytes, fault) in REFUSED {
+    for (text, from, to, bytes, fault) in REFUSED {
+        let from = place(from.0, from.1);
+        let to = place(to.0, to.1);
         let mut store: PlainStore<Heap<'_>> = opened(&heap, text.as_bytes())?;
         assert!(rt;
-            store.check(a, b, bytes) == Err(fault),
+            store.check(from, to, bytes) == Err(fault),
             "{text:?} {bytes:?}"
         );
-        assert!(rt; edit(&rt, &heap, 0, &mut store, a, b, bytes) == Err(fault));
+        assert!(rt; edit(&rt, &heap, 0, &mut store, from, to, bytes) == Err(fault));
         let rows = split(rt.alloc(), text.as_bytes())?;
         assert!(rt; shows(&store, rows.as_slice()), "{text:?}");
     }

@@ -1,13 +1,13 @@
 //! Stores of the lines of texts, and edits of them.
 
 ghost use Rattle.std.specs.Prelude.{◌≡◌, IfOk};
-ghost use Rattle.yl_text.specs.Edit.{incoming_lines};
+ghost use Rattle.yl_text.specs.PutLines.{incoming_lines};
 ghost use Rattle.yl_text.specs.Store.{AreLines};
 
 use refusing::Refusing;
 use std::alloc::{Allocator, Global};
 use std::process::Abort;
-use yl_text::{LineStore, Row, TextFault, one_answer_to_an_edit, split};
+use yl_text::{LineStore, Lines, Pos, Row, TextFault, line_edit, one_answer_to_an_edit, split};
 
 pub(crate) type Heap<'a> = &'a Refusing<Global>;
 
@@ -47,9 +47,65 @@ fn are_equal<A: Allocator>(some: &[Row<A>], others: &[Row<A>]) -> bool {
             && one.end() == other.end())
 }
 
-// Makes an edit. The nth growth of the store is refused; at 0 none is. The store takes the rows that
-// come in, or hands them back.
+// The place before a line, or behind the last one.
+pub(crate) fn before_line<S: Lines>(lines: &S, line: usize) -> Pos {
+    if line < lines.len() {
+        return place(line, 0);
+    }
+    let last = lines.len().saturating_sub(1);
+    if last < lines.len() {
+        return place(last, lines.row(last).as_str().chars().count());
+    }
+    place(0, 0)
+}
+
+// A place, its numbers cut to those that one has.
+pub(crate) fn place(line: usize, col: usize) -> Pos {
+    Pos {
+        line: line.min(u32::MAX as usize) as u32,
+        col: col.min(u32::MAX as usize) as u32,
+    }
+}
+
+// Makes an edit between two places. The nth growth of the piece and the store is refused; at 0 none is. The store takes
+// the rows that come in, or hands them back.
 pub(crate) fn edit<'a, S: LineStore<Alloc = Heap<'a>>>(
+    rt: &impl Abort,
+    heap: Heap<'a>,
+    nth: u64,
+    store: &mut S,
+    from: Pos,
+    to: Pos,
+    bytes: &[u8],
+) -> Result<(), TextFault>
+    requires { AreLines (S.rows store.old) }
+    ensures { AreLines (S.rows store.new) }
+{
+    store.check(from, to, bytes)?;
+    heap.refuse(nth);
+    let made = line_edit(heap, store, from, to, bytes);
+    let left = heap.left();
+    heap.refuse(0);
+    let Ok(made) = made else {
+        return Err(TextFault::Memory);
+    };
+    let before = made.end < store.len();
+    let mut rows = incoming(heap, before, made.bytes.as_slice())?;
+    one_answer_to_an_edit();
+    heap.refuse(left);
+    let answer = store.splice(made.first, made.end, &mut rows);
+    heap.refuse(0);
+    if answer.is_ok() {
+        assert!(rt; rows.is_empty());
+        return Ok(());
+    }
+    let again = incoming(heap, before, made.bytes.as_slice())?;
+    assert!(rt; are_equal(rows.as_slice(), again.as_slice()));
+    Err(TextFault::Memory)
+}
+
+// Makes an edit of the lines a to b, b not included.
+pub(crate) fn edit_lines<'a, S: LineStore<Alloc = Heap<'a>>>(
     rt: &impl Abort,
     heap: Heap<'a>,
     nth: u64,
@@ -61,18 +117,7 @@ pub(crate) fn edit<'a, S: LineStore<Alloc = Heap<'a>>>(
     requires { AreLines (S.rows store.old) }
     ensures { AreLines (S.rows store.new) }
 {
-    store.check(a, b, bytes)?;
-    let before = b < store.len();
-    let mut rows = incoming(heap, before, bytes)?;
-    one_answer_to_an_edit();
-    heap.refuse(nth);
-    let answer = store.splice(a, b, &mut rows);
-    heap.refuse(0);
-    if answer.is_ok() {
-        assert!(rt; rows.is_empty());
-        return Ok(());
-    }
-    let again = incoming(heap, before, bytes)?;
-    assert!(rt; are_equal(rows.as_slice(), again.as_slice()));
-    Err(TextFault::Memory)
+    let from = before_line(store, a);
+    let to = before_line(store, b);
+    edit(rt, heap, nth, store, from, to, bytes)
 }

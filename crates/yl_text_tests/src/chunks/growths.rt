@@ -1,7 +1,7 @@
 //! Each growth refused in turn, up to the first run that meets no refusal.
 
 use crate::chunks::{NEW, is_edited, numbered};
-use crate::stores::{Heap, edit, opened};
+use crate::stores::{Heap, edit_lines, opened};
 use refusing::Refusing;
 use std::alloc::Global;
 use std::process::Abort;
@@ -34,10 +34,10 @@ fn is_made_at_once(
     let (a, b) = range;
     let (size, count) = sizes;
     let mut store: ChunkStore<Heap<'_>> = opened(heap, text.as_bytes())?;
-    let answer = edit(rt, heap, n, &mut store, a, b, bytes.as_bytes());
+    let answer = edit_lines(rt, heap, n, &mut store, a, b, bytes.as_bytes());
     if answer.is_err() {
         assert!(rt; answer == Err(TextFault::Memory) && is_edited(&store, size, 0, 0, 0));
-        edit(rt, heap, 0, &mut store, a, b, bytes.as_bytes())?;
+        edit_lines(rt, heap, 0, &mut store, a, b, bytes.as_bytes())?;
     }
     assert!(rt; is_edited(&store, size, a, b, count));
     Ok(answer.is_ok())

@@ -1,7 +1,7 @@
 //! The same random edits of both stores.
 
 use crate::chunks::numbered;
-use crate::stores::{Heap, edit, opened};
+use crate::stores::{Heap, edit_lines, opened};
 use refusing::Refusing;
 use std::alloc::{AllocError, Global};
 use std::test::Fail;
@@ -80,8 +80,8 @@ fn same_edits_of_both_stores(rt: HostRuntime) -> Result<(), Fail> {
         let a = random.below(chunks.len());
         let b = a.saturating_add(width(&mut random));
         let bytes = piece(rt.alloc(), &mut random)?;
-        let answer = edit(&rt, &heap, 0, &mut chunks, a, b, bytes.as_bytes());
-        let other = edit(&rt, &heap, 0, &mut plain, a, b, bytes.as_bytes());
+        let answer = edit_lines(&rt, &heap, 0, &mut chunks, a, b, bytes.as_bytes());
+        let other = edit_lines(&rt, &heap, 0, &mut plain, a, b, bytes.as_bytes());
         assert!(rt; answer == other, "edit {n}");
         assert!(rt; have_equal_rows(&chunks, &plain), "edit {n}");
     }

@@ -1,7 +1,7 @@
 //! Edits of texts of about one, two and three chunks, from and to each place near a chunk's border.
 
 use crate::chunks::{NEW, is_edited, numbered};
-use crate::stores::{Heap, edit, opened};
+use crate::stores::{Heap, edit_lines, opened};
 use refusing::Refusing;
 use std::alloc::Global;
 use std::process::Abort;
@@ -30,7 +30,7 @@ fn is_edit_shown(
     let (a, b) = range;
     let (size, count) = sizes;
     let mut store: ChunkStore<Heap<'_>> = opened(heap, text.as_bytes())?;
-    edit(rt, heap, 0, &mut store, a, b, bytes.as_bytes())?;
+    edit_lines(rt, heap, 0, &mut store, a, b, bytes.as_bytes())?;
     Ok(is_edited(&store, size, a, b, count))
 }
 

@@ -1,0 +1,235 @@
+//! Places of a text by bytes, and the edit of lines that an edit between two places is.
+ghost use Rattle.std.specs.Prelude.{◌≡◌, ◌+◌, ◌-◌, ◌<◌, ◌≤◌, ◌×◌, ◌↔◌, ◌++◌, true, IsTrue, IfOk, MatchOption, length, take, drop, slice_index, vec_capacity, vec_len};
+ghost use Rattle.std.specs.Str.{chars, encode_utf8_all, IsAscii, IsUtf8};
+ghost use Rattle.yl_text.specs.Lines.{row_bytes, break_bytes};
+ghost use Rattle.yl_text.specs.Store.{AreLines};
+ghost use Rattle.yl_text.specs.Edit.{IsInText, CanEdit, offset, line_bytes, is_line_kept, end_line};
+ghost use Rattle.yl_text.specs.PutLines.{IsLineEdit};
+ghost use Rattle.yl_text.specs.Places.{IsBytePlace, IsFrontCut, rest_from};
+
+use crate::decode::are_ascii;
+use crate::edit::{back_starts_with_lf, bytes_between, front_ends_in_cr};
+use crate::store::Lines;
+use crate::{Pos, Row};
+use std::alloc::{AllocError, Allocator};
+
+/// An edit of lines: these bytes in place of the lines `first` to `end`, `end` not included, counted from 0.
+#[derive(Drop)]
+pub struct LineEdit<A: Allocator> {
+    pub first: usize,
+    pub end: usize,
+    pub bytes: Vec<u8, A>,
+}
+
+/// A place by bytes: a line, and how many of its bytes, its break counted, stand before the place.
+#[derive(Clone, Copy)]
+pub(crate) struct BytePlace {
+    pub line: usize,
+    pub byte: usize,
+}
+
+/// How many bytes the first characters of a text have, and how many characters there are too few.
+#[derive(Clone, Copy)]
+struct Walked {
+    byte: usize,
+    left: usize,
+}
+
+/// Walks over so many characters of a text.
+fn walk_over(text: &str, characters: usize) -> Walked
+    ensures byte { result.byte ≡ length (encode_utf8_all (take characters (chars text.now))) }
+    ensures left { result.left ≡ characters - length (chars text.now) }
+{
+    let front = characters.min(text.len());
+    if are_ascii(&text.as_bytes()[..front]) {
+        return Walked {
+            byte: front,
+            left: characters - front,
+        };
+    }
+    walk_one_by_one(text, characters)
+}
+
+/// The same, one character after another.
+fn walk_one_by_one(text: &str, characters: usize) -> Walked
+    ensures byte { result.byte ≡ length (encode_utf8_all (take characters (chars text.now))) }
+    ensures left { result.left ≡ characters - length (chars text.now) }
+{
+    let mut byte = 0;
+    let mut left = characters;
+    for c in text.chars() {
+        if left == 0 {
+            return Walked { byte, left };
+        }
+        byte += c.len_utf8();
+        left -= 1;
+    }
+    Walked { byte, left }
+}
+
+/// How many bytes the first characters of a line have, its break counted, if it has so many characters.
+fn byte_of<A: Allocator>(row: &Row<A>, characters: usize) -> Option<usize>
+    ensures { MatchOption result (length (chars (row_bytes row.now)) < characters)
+        (λ byte. (characters ≤ length (chars (row_bytes row.now))) × (byte ≡ length (encode_utf8_all (take characters (chars (row_bytes row.now)))))) }
+{
+    let Walked { byte, left } = walk_over(row.as_str(), characters);
+    if left > row.end().len() {
+        return None;
+    }
+    Some(byte + left)
+}
+
+/// The place behind so many bytes of a line: the column past its break is column 0 of the next line.
+fn renamed<S: Lines>(lines: &S, line: usize, byte: usize) -> BytePlace
+    requires line { line < length (S.rows lines.now) }
+    ensures { (result.line ≡ line) × (result.byte ≡ byte) }
+{
+    if line + 1 < lines.len() && byte == lines.row(line).bytes() {
+        return BytePlace {
+            line: line + 1,
+            byte: 0,
+        };
+    }
+    BytePlace { line, byte }
+}
+
+/// The place by bytes, if it is in the text.
+pub(crate) fn byte_place<S: Lines>(lines: &S, place: Pos) -> Option<BytePlace>
+    requires { AreLines (S.rows lines.now) }
+    ensures { MatchOption result (¬ (IsInText (S.rows lines.now) place))
+        (λ at. IsInText (S.rows lines.now) place × IsBytePlace (S.rows lines.now) (offset (S.rows lines.now) place) at.line at.byte) }
+{
+    let line = place.line as usize;
+    if line >= lines.len() {
+        return None;
+    }
+    let byte = byte_of(lines.row(line), place.col as usize)?;
+    Some(renamed(lines, line, byte))
+}
+
+/// Whether the first place stands behind the second one.
+pub(crate) fn is_behind(one: BytePlace, other: BytePlace) -> bool {
+    other.line < one.line || other.line == one.line && other.byte < one.byte
+}
+
+/// How many bytes stand between two places.
+pub(crate) fn bytes_from_to<S: Lines>(lines: &S, from: BytePlace, to: BytePlace) -> u64 {
+    bytes_between(lines, from.line, to.line) + to.byte as u64 - from.byte as u64
+}
+
+/// Whether two places of a text are one, however they are written: the column past a line's break is
+/// column 0 of the next line. It takes no memory.
+pub fn are_one_place<S: Lines>(lines: &S, from: Pos, to: Pos) -> bool
+    requires lines { AreLines (S.rows lines.now) }
+    requires from { IsInText (S.rows lines.now) from }
+    requires to { IsInText (S.rows lines.now) to }
+    ensures { IsTrue result ↔ (offset (S.rows lines.now) from ≡ offset (S.rows lines.now) to) }
+{
+    let one = byte_place(lines, from).unwrap();
+    let other = byte_place(lines, to).unwrap();
+    one.line == other.line && one.byte == other.byte
+}
+
+/// The first place of an edit, by bytes of the first line that it touches: where the place begins a line
+/// and the line before that one ends in CR, that line, whole.
+fn front_cut<S: Lines>(lines: &S, from: BytePlace) -> BytePlace {
+    if from.byte > 0 || !front_ends_in_cr(lines, from.line) {
+        return from;
+    }
+    let line = from.line - 1;
+    BytePlace {
+        line,
+        byte: lines.row(line).bytes(),
+    }
+}
+
+/// The byte before that place in a line, breaks counted.
+fn byte_before<A: Allocator>(row: &Row<A>, place: usize) -> u8
+    requires some { 0 < place }
+    requires within { place ≤ length (row_bytes row.now) }
+    ensures { result ≡ slice_index (row_bytes row.now) (place - 1) }
+{
+    let text = row.as_str().as_bytes();
+    if place <= text.len() {
+        text[place - 1]
+    } else {
+        row.end().bytes()[place - 1 - text.len()]
+    }
+}
+
+/// Whether a line begins behind the bytes that come in, where what is kept behind them begins a line.
+fn begins_behind<S: Lines>(lines: &S, cut: BytePlace, bytes: &[u8], line: usize) -> bool {
+    let last = match bytes.last() {
+        Some(byte) => *byte,
+        None if cut.byte == 0 => return true,
+        None => byte_before(lines.row(cut.line), cut.byte),
+    };
+    last == b'\n' || last == b'\r' && !back_starts_with_lf(lines, line)
+}
+
+/// Whether the second place of an edit begins a line, in the old text and in the new one: then that line is kept.
+fn is_kept<S: Lines>(lines: &S, cut: BytePlace, bytes: &[u8], to: BytePlace) -> bool {
+    to.byte == 0 && begins_behind(lines, cut, bytes, to.line)
+}
+
+/// Appends the front of a line, so many bytes.
+fn put_front<A: Allocator, B: Allocator>(row: &Row<A>, count: usize, piece: &mut Vec<u8, B>)
+    requires within { count ≤ length (row_bytes row.now) }
+    requires room { vec_len piece.old + count ≤ vec_capacity piece.old }
+    ensures items { piece.new.items ≡ piece.old.items ++ take count (row_bytes row.now) }
+    ensures capacity { vec_capacity piece.old ≤ vec_capacity piece.new }
+{
+    let text = row.as_str().as_bytes();
+    piece
+        .extend_from_slice(&text[..count.min(text.len())])
+        .unwrap();
+    piece
+        .extend_from_slice(&row.end().bytes()[..count.saturating_sub(text.len())])
+        .unwrap();
+}
+
+/// Appends the rest of a line, behind so many bytes.
+fn put_rest<A: Allocator, B: Allocator>(row: &Row<A>, count: usize, piece: &mut Vec<u8, B>)
+    requires within { count ≤ length (row_bytes row.now) }
+    requires room { vec_len piece.old + (length (row_bytes row.now) - count) ≤ vec_capacity piece.old }
+    ensures items { piece.new.items ≡ piece.old.items ++ drop count (row_bytes row.now) }
+{
+    let text = row.as_str().as_bytes();
+    piece
+        .extend_from_slice(&text[count.min(text.len())..])
+        .unwrap();
+    piece
+        .extend_from_slice(&row.end().bytes()[count.saturating_sub(text.len())..])
+        .unwrap();
+}
+
+/// The edit of lines that the edit between two places is, where that one can be made. Its bytes are the
+/// front of the first line, the bytes that come in, and the rest of the line of the second place; they
+/// take one growth.
+pub fn line_edit<S: Lines, A: Allocator>(
+    alloc: A,
+    lines: &S,
+    from: Pos,
+    to: Pos,
+    bytes: &[u8],
+) -> Result<LineEdit<A>, AllocError>
+    requires lines { AreLines (S.rows lines.now) }
+    requires edit { CanEdit (S.rows lines.now) from to bytes.now }
+    ensures { IfOk result (λ edit. IsLineEdit (S.rows lines.now) from to bytes.now edit.first edit.end edit.bytes.items) }
+{
+    let cut = front_cut(lines, byte_place(lines, from).unwrap());
+    let to = byte_place(lines, to).unwrap();
+    let last = lines.row(to.line);
+    let is_kept = is_kept(lines, cut, bytes, to);
+    let rest = if is_kept { last.bytes() } else { to.byte };
+    let size = cut.byte + bytes.len() + (last.bytes() - rest);
+    let mut piece = Vec::with_capacity(alloc, size)?;
+    put_front(lines.row(cut.line), cut.byte, &mut piece);
+    piece.extend_from_slice(bytes).unwrap();
+    put_rest(last, rest, &mut piece);
+    Ok(LineEdit {
+        first: cut.line,
+        end: if is_kept { to.line } else { to.line + 1 },
+        bytes: piece,
+    })
+}
