@@ -9,7 +9,7 @@ use Rattle.yl_text.specs.declared.position.Pos.{Pos}
 use Rattle.yl_text.specs.Lines.{RowValue, text_of}
 use Rattle.yl_text.specs.Store.{AreLines}
 use Rattle.yl_text.specs.Edit.{first_byte, last_byte, line_bytes, line_start, offset, front_at, back_at, begins_line, line_of, is_behind_cr, is_line_kept, first_line, end_line, edited_text, CanEdit}
-use Rattle.yl_text.specs.PutLines.{Joins, JoinsBreaks, EndsInBreak, LeavesOpenEnd, IsLineRange, IsLineEdit, front_of, back_of, put_text}
+use Rattle.yl_text.specs.PutLines.{Joins, LeavesOpenEnd, IsLineEdit, front_of, back_of, put_text}
 use Rattle.yl_text.specs.Places.{IsCut, IsBytePlace, IsBehind, IsFrontCut, BeginsBehind}
 use Rattle.yl_text.proofs.Edited.{first_of, has_last, last_of}
 use Rattle.yl_text.proofs.Seams.{ends_at, length-front}
@@ -92,15 +92,16 @@ joined x [] y broken =
 joined x (c ∷ cs) y broken =
     let w = c ∷ cs in
     let last : last_byte (x ++ w) ≡ last_byte w = last_of x w (omega arith) in
-    let long : 0 < length (x ++ w) = omega (arith, length-append x w) in
-    (λ b. elim b [
-      | inl none ↦ absurd (omega (arith, ap length none, long))
-      | inr b ↦ inr (omega arith, elim b.1 [ inl f ↦ inl (sym last ∙ f) | inr f ↦ inr (sym last ∙ f.0, f.1) ])
-    ],
-     λ b. elim b [
-      | inl none ↦ absurd (omega (arith, ap length none))
-      | inr b ↦ inr (long, elim b.1 [ inl f ↦ inl (last ∙ f) | inr f ↦ inr (last ∙ f.0, f.1) ])
-    ])
+    let long : 0 < length (x ++ w) = omega (arith, length-append x w) in (
+      λ b. elim b [
+        | inl none ↦ absurd (omega (arith, ap length none, long))
+        | inr b ↦ inr (omega arith, elim b.1 [ inl f ↦ inl (sym last ∙ f) | inr f ↦ inr (sym last ∙ f.0, f.1) ])
+      ],
+      λ b. elim b [
+        | inl none ↦ absurd (omega (arith, ap length none))
+        | inr b ↦ inr (long, elim b.1 [ inl f ↦ inl (last ∙ f) | inr f ↦ inr (last ∙ f.0, f.1) ])
+      ],
+    )
 
 -- the bytes that stand behind the lines that are kept before an edit: those of the first line, and those that come in
 abbrev new_bytes : List RowValue → ℕ → ℕ → List ℕ → List ℕ
@@ -117,13 +118,14 @@ kept_is ps from to t a c j m h f at =
     let old = begins_at ps (offset ps to) j m h at in
     let new = begins (front_at ps from ++ t) (back_at ps to) in
     let same = joined (front_of ps a) w (back_of ps j) broken in
-    let B : List ℕ → List ℕ → Type 0 = λ x y. BeginsBehind x y in
-    (λ yes.
-     let parts = and_parts (begins_line (front_at ps to) (back_at ps to)) (begins_line (front_at ps from ++ t) (back_at ps to)) yes in
-     let z = old.0 parts.0 in
-     (z, same.0 (subst (λ (x : List ℕ). B x (back_of ps j)) front (subst (λ (y : List ℕ). B (front_at ps from ++ t) y) (back z) (new.0 parts.1)))),
-     λ b. and_from (begins_line (front_at ps to) (back_at ps to)) (begins_line (front_at ps from ++ t) (back_at ps to)) (old.1 b.0)
-         (new.1 (subst (λ (y : List ℕ). B (front_at ps from ++ t) y) (sym (back b.0)) (subst (λ (x : List ℕ). B x (back_of ps j)) (sym front) (same.1 b.1)))))
+    let B : List ℕ → List ℕ → Type 0 = λ x y. BeginsBehind x y in (
+      λ yes.
+          let parts = and_parts (begins_line (front_at ps to) (back_at ps to)) (begins_line (front_at ps from ++ t) (back_at ps to)) yes in
+          let z = old.0 parts.0 in
+          (z, same.0 (subst (λ (x : List ℕ). B x (back_of ps j)) front (subst (λ (y : List ℕ). B (front_at ps from ++ t) y) (back z) (new.0 parts.1)))),
+      λ b. and_from (begins_line (front_at ps to) (back_at ps to)) (begins_line (front_at ps from ++ t) (back_at ps to)) (old.1 b.0)
+          (new.1 (subst (λ (y : List ℕ). B (front_at ps from ++ t) y) (sym (back b.0)) (subst (λ (x : List ℕ). B x (back_of ps j)) (sym front) (same.1 b.1)))),
+    )
 
 -- ---- the last line of an edit
 -- behind the bytes w, those of the last line that are left, v, and then the lines from b on
@@ -192,8 +194,8 @@ by_tail ps from to t a b c j m r can f first end o u8 v8 tail =
     let v = drop r (line_bytes ps j) in
     let parts : (u ++ t) ++ v ≡ u ++ (t ++ v) = append_assoc u t v in
     let same : put_text ps a b ((u ++ t) ++ v) ≡ edited_text ps from to t =
-        ap (λ (z : List ℕ). front_of ps a ++ z) (append_assoc (u ++ t) v (back_of ps b) ∙ ap (λ (z : List ℕ). (u ++ t) ++ z) (sym tail.back) ∙ append_assoc u t (back_at ps to))
-        ∙ sym (append_assoc (front_of ps a) u (t ++ back_at ps to)) ∙ ap (λ (z : List ℕ). z ++ (t ++ back_at ps to)) (sym f.front) in
+    ap (λ (z : List ℕ). front_of ps a ++ z) (append_assoc (u ++ t) v (back_of ps b) ∙ ap (λ (z : List ℕ). (u ++ t) ++ z) (sym tail.back) ∙ append_assoc u t (back_at ps to))
+    ∙ sym (append_assoc (front_of ps a) u (t ++ back_at ps to)) ∙ ap (λ (z : List ℕ). z ++ (t ++ back_at ps to)) (sym f.front) in
     record {
       first = first;
       end = end;

@@ -1,4 +1,4 @@
-use Rattle.std.proofs.Common.{◌≡◌, ◌≢◌, ◌-◌, ◌<◌, ◌≤◌, ◌∙◌, inl, inr, length, ap, sym, arith, rules, length-append}
+use Rattle.std.proofs.Common.{◌≡◌, ◌≢◌, ◌-◌, ◌∙◌, inl, inr, length, ap, sym, arith, rules, length-append}
 use Rattle.yl_text.specs.Lines.{break_bytes}
 use Rattle.yl_text.specs.Edit.{offset, last_byte, line_bytes}
 use Rattle.yl_text.specs.PutLines.{front_of}

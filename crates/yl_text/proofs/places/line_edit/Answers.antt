@@ -1,4 +1,4 @@
-use Rattle.std.proofs.Common.{◌≡◌, ◌+◌, ◌-◌, ◌<◌, ◌≤◌, ◌∙◌, ◌++◌, ℕ, Bool, List, [], cond, inl, inr, length, take, drop, ap, sym, refl, subst, arith, rules, length-append}
+use Rattle.std.proofs.Common.{◌≡◌, ◌≤◌, ◌∙◌, ◌++◌, ℕ, Bool, List, cond, inl, inr, length, take, drop, ap, sym, refl, subst, arith, rules, length-append}
 use Rattle.std.proofs.lemmas.Bool.{cases_Bool, cond-true, cond-false}
 use Rattle.std.proofs.lemmas.Slice.{pushed}
 use Rattle.std.specs.Str.{IsUtf8}
@@ -79,8 +79,8 @@ returns g c =
     let at : IsBytePlace ps (offset ps c.args.to) j m = search rules in
     let rest : r ≡ cond c.is_kept.result (length (line_bytes ps j)) m = c.end_of-end.ensures.byte ∙ ap (λ (n : ℕ). cond c.is_kept.result n m) size in
     let made = line_edit_is ps c.args.from c.args.to t a c.end_of-end.result.line k j m r c.is_kept.result c.requires.lines c.requires.edit c.front_cut-cut.ensures at c.is_kept.ensures c.end_of-end.ensures.line rest
-        (subst IsUtf8 (sym first) c.put_front.ensures.utf8) (subst IsUtf8 (sym last) c.put_rest.ensures.utf8) in
+    (subst IsUtf8 (sym first) c.put_front.ensures.utf8) (subst IsUtf8 (sym last) c.put_rest.ensures.utf8) in
     let more : c.extend_from_slice.new.self.items ≡ c.put_front.new.piece.items ++ t = pushed t refl c.unwrap.ensures c.extend_from_slice.ensures.items in
     let items = put_together (take k (line_bytes ps a)) t (drop r (line_bytes ps j)) (take k (row_bytes c.row.result.now)) (drop r (row_bytes c.row-last.result.now)) c.in_ok-piece.piece.items c.put_front.new.piece.items c.extend_from_slice.new.self.items c.put_rest.new.piece.items
-        c.in_ok-piece.ensures.items c.put_front.ensures.items more c.put_rest.ensures.items (ap (λ (bs : List ℕ). take k bs) (sym first)) (ap (λ (bs : List ℕ). drop r bs) (sym last)) in
+    c.in_ok-piece.ensures.items c.put_front.ensures.items more c.put_rest.ensures.items (ap (λ (bs : List ℕ). take k bs) (sym first)) (ap (λ (bs : List ℕ). drop r bs) (sym last)) in
     subst (λ (piece : List ℕ). IsLineEdit ps c.args.from c.args.to t a c.end_of-end.result.line piece) (sym items) made

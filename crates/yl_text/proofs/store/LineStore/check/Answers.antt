@@ -1,6 +1,6 @@
-use Rattle.std.proofs.Common.{◌≡◌, ◌+◌, ◌-◌, ◌<◌, ◌≤◌, ◌∙◌, ◌++◌, ℕ, List, length, take, drop, ap, arith, rules}
+use Rattle.std.proofs.Common.{arith, rules}
 use Rattle.std.specs.Str.{IsUtf8}
-use Rattle.yl_text.specs.Edit.{IsInText, IsEditRange, offset, line_start}
+use Rattle.yl_text.specs.Edit.{IsInText, IsEditRange, offset}
 use Rattle.yl_text.specs.Places.{IsBytePlace, IsBehind}
 use Rattle.yl_text.proofs.LineEdits.{behind_later, not_behind, place_within, length_edited}
 use Rattle.yl_text.proofs.store.LineStore.check.Goals as goal
