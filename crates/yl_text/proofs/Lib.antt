@@ -1,8 +1,11 @@
 pub mod Answering
+pub mod ByBytes
+pub mod Columns
 pub mod Computed
 pub mod Cut
 pub mod Edited
 pub mod Fitting
+pub mod LineEdits
 pub mod OneAnswer
 pub mod Printable
 pub mod Seams
