@@ -61,14 +61,17 @@ CASES = [
     Case("yamllint", ["empty.yaml"], "", "", 0, b"", ">&-"),
     Case("yamllint", ["--help"], "", "yamllint: output cannot be written\n", 255, b"", ">/dev/full"),
     # Commands.
-    Case("yledit", ["f.yaml"], NO_START + "-- ok 0\n-- ok 0\n-- refused Range\n", "", 0, b"replace 0 0 4\n---\nreplace 9 0 0\n"),
+    Case("yledit", ["f.yaml"], NO_START + "-- ok 0\n-- ok 0\n-- refused Range\n", "", 0, b"replace 0 0 0 0 4\n---\nreplace 9 0 9 0 0\n"),
+    Case("yledit", ["f.yaml"], NO_START + "-- ok 0\n" + NO_START + "-- ok 0\n-- ok 0\n", "", 0, b"replace 0 3 0 4 1\n2replace 0 0 0 1 5\n---\nb"),
+    Case("yledit", ["f.yaml"], NO_START + "-- ok 0\n" + 2 * "-- refused Range\n", "", 0, b"replace 4294967296 0 0 0 0\nreplace 0 1 0 0 0\n"),
     Case("yledit", ["-s", "f.yaml"], NO_START + "-- ok 2\n", "", 2),
     Case("yledit", ["--no-warnings", "-s", "f.yaml"], "-- ok 2\n", "", 2),
-    Case("yledit", ["f.yaml"], NO_START + "-- ok 0\n", "yledit: bad command\n", 255, b"replace 0 1 9\nab"),
+    Case("yledit", ["f.yaml"], NO_START + "-- ok 0\n", "yledit: bad command\n", 255, b"replace 0 0 1 0 9\nab"),
     Case("yledit", ["f.yaml"], NO_START + "-- ok 0\n", "yledit: bad command\n", 255, b"\n"),
-    Case("yledit", ["f.yaml"], NO_START + "-- ok 0\n", "yledit: bad command\n", 255, b"replace 0 1 67108865\n"),
-    Case("yledit", ["f.yaml"], NO_START + "-- ok 0\n", "yledit: bad command\n", 255, b"replace 0 1 0"),
-    Case("yledit", ["f.yaml"], NO_START + "-- ok 0\n-- ok 0\n", "yledit: bad command\n", 255, b"replace 0 0 4\n---\nput\n"),
+    Case("yledit", ["f.yaml"], NO_START + "-- ok 0\n", "yledit: bad command\n", 255, b"replace 0 0 1 0 67108865\n"),
+    Case("yledit", ["f.yaml"], NO_START + "-- ok 0\n", "yledit: bad command\n", 255, b"replace 0 0 1 0 0"),
+    Case("yledit", ["f.yaml"], NO_START + "-- ok 0\n", "yledit: bad command\n", 255, b"replace 0 1 0\n"),
+    Case("yledit", ["f.yaml"], NO_START + "-- ok 0\n-- ok 0\n", "yledit: bad command\n", 255, b"replace 0 0 0 0 4\n---\nput\n"),
     Case("yledit", ["f.yaml"], NO_START + "-- ok 0\n", "yledit: stdin: cannot be read\n", 255, b"", "<&-"),
     Case("yledit", ["f.yaml"], NO_START + "-- ok 0\n", "yledit: stdin: cannot be read\n", 255, b"", "<folder"),
     Case("yledit", ["-"], "", "yledit: fault of use\n", 255),
@@ -118,8 +121,14 @@ MANY = "rules: {}\nignore: [" + ", ".join(["a"] * 20_000) + "]\n"
 
 
 def command(first, count, line):
+    """The command that puts a line, or none, in place of so many lines."""
     put = b"" if line is None else line + b"\n"
-    return b"replace %d %d %d\n" % (first, count, len(put)) + put
+    return b"replace %d 0 %d 0 %d\n" % (first, first + count, len(put)) + put
+
+
+def inside(line, from_column, to_column, put):
+    """The command that puts bytes in place of some characters of a line."""
+    return b"replace %d %d %d %d %d\n" % (line, from_column, line, to_column, len(put)) + put
 
 
 COMMANDS = [
@@ -127,6 +136,11 @@ COMMANDS = [
     command(23, 1, b"o: 12"),
     command(23, 1, b"o: 12 "),
     command(23, 1, b"o: 12 b"),
+    inside(23, 6, 7, b""),
+    # A line that ends in a carriage return, and a line feed behind that, which is one break with it.
+    inside(3, 0, 0, b"s: 1\r"),
+    inside(4, 0, 0, b"\n"),
+    command(3, 1, None),
     command(23, 0, b"p: on"),
     command(23, 0, b"# yamllint disable"),
     command(23, 1, None),

@@ -88,7 +88,7 @@ fn edit_command<'a>(alloc: Global) -> Result<Command<'a>, AllocError> {
         .help("give status 2 for warnings");
     Command::new(alloc, "yledit")
         .no_binary_name(true)
-        .after_help("Example: printf 'replace 0 0 4\\n---\\n' | yledit a.yaml")
+        .after_help("Example: printf 'replace 0 0 0 0 4\\n---\\n' | yledit a.yaml")
         .arg(config_file(alloc))?
         .arg(config_data(alloc))?
         .group(configurations(alloc)?)?

@@ -135,13 +135,13 @@ pub begun_longer : (a b : Option (List ℕ)) (xs ys : List ℕ) → AppendsFront
 begun_longer a b xs ys p =
     record { front = p.front; rest = p.rest ++ ys; whole = ap (λ l. l ++ ys) p.whole ∙ append_assoc p.front p.rest ys; appends = p.appends }
 
-answered_before : (c : Config) (text : List ℕ) (e : EditValue) (r : Result Work TextFault) (s : SessionValue) → Shows c text s → IsAnswer s.rows e.a e.b e.bytes r → IsAnswer (lines_of text) e.a e.b e.bytes r
-answered_before c text e r s h is = let P : List RowValue → Type 0 = λ ps. IsAnswer ps e.a e.b e.bytes r in subst P (sym (lines_of-is text s.rows h.lines)) is
+answered_before : (c : Config) (text : List ℕ) (e : EditValue) (r : Result Work TextFault) (s : SessionValue) → Shows c text s → IsAnswer s.rows e.from e.to e.bytes r → IsAnswer (lines_of text) e.from e.to e.bytes r
+answered_before c text e r s h is = let P : List RowValue → Type 0 = λ ps. IsAnswer ps e.from e.to e.bytes r in subst P (sym (lines_of-is text s.rows h.lines)) is
 
-shown_after : (c : Config) (text : List ℕ) (e : EditValue) (s u : SessionValue) → Shows c text s → Shows s.config (edited_text s.rows e.a e.b e.bytes) u → Shows c (edited_text (lines_of text) e.a e.b e.bytes) u
+shown_after : (c : Config) (text : List ℕ) (e : EditValue) (s u : SessionValue) → Shows c text s → Shows s.config (edited_text s.rows e.from e.to e.bytes) u → Shows c (edited_text (lines_of text) e.from e.to e.bytes) u
 shown_after c text e s u h done =
-    let P : List RowValue → Type 0 = λ ps. Shows s.config (edited_text ps e.a e.b e.bytes) u in
-    let Q : Config → Type 0 = λ o. Shows o (edited_text (lines_of text) e.a e.b e.bytes) u in
+    let P : List RowValue → Type 0 = λ ps. Shows s.config (edited_text ps e.from e.to e.bytes) u in
+    let Q : Config → Type 0 = λ o. Shows o (edited_text (lines_of text) e.from e.to e.bytes) u in
     subst Q h.config (subst P (sym (lines_of-is text s.rows h.lines)) done)
 
 -- what is written of a session is what its text asks for
@@ -150,7 +150,7 @@ text_shown c name flags text s scanned h =
     ap (λ (o : Config). shown_lines o name flags s.rows scanned) h.config ∙ ap (λ (ps : List RowValue). shown_lines c name flags ps scanned) (sym (lines_of-is text s.rows h.lines))
 
 pub replied : (c : Config) (name : List ℕ) (flags : Flags) (text : List ℕ) (e : EditValue) (s u : SessionValue) (work : Work) (scanned : Option ℕ) (before now : Option (List ℕ)) → Shows c text s
-    → IsAnswer s.rows e.a e.b e.bytes (Ok work) → Shows s.config (edited_text s.rows e.a e.b e.bytes) u → scanned ≡ scanned_shown flags work → Appends before now (shown_lines u.config name flags u.rows scanned)
+    → IsAnswer s.rows e.from e.to e.bytes (Ok work) → Shows s.config (edited_text s.rows e.from e.to e.bytes) u → scanned ≡ scanned_shown flags work → Appends before now (shown_lines u.config name flags u.rows scanned)
     → IsReply c name flags text e u before now
 replied c name flags text e s u work scanned before now h is done asked w =
     let shows = shown_after c text e s u h done in
@@ -158,27 +158,27 @@ replied c name flags text e s u work scanned before now h is done asked w =
       answer = Ok work;
       is = answered_before c text e (Ok work) s h is;
       shows = shows;
-      written = subst (Appends before now) (text_shown c name flags (edited_text (lines_of text) e.a e.b e.bytes) u scanned shows ∙ ap (shown_text c name flags (edited_text (lines_of text) e.a e.b e.bytes)) asked) w;
+      written = subst (Appends before now) (text_shown c name flags (edited_text (lines_of text) e.from e.to e.bytes) u scanned shows ∙ ap (shown_text c name flags (edited_text (lines_of text) e.from e.to e.bytes)) asked) w;
     }
 
 pub reply_begun : (c : Config) (name : List ℕ) (flags : Flags) (text : List ℕ) (e : EditValue) (s u : SessionValue) (work : Work) (scanned : Option ℕ) (before now : Option (List ℕ)) → Shows c text s
-    → IsAnswer s.rows e.a e.b e.bytes (Ok work) → Shows s.config (edited_text s.rows e.a e.b e.bytes) u → scanned ≡ scanned_shown flags work → AppendsFront before now (shown_lines u.config name flags u.rows scanned)
+    → IsAnswer s.rows e.from e.to e.bytes (Ok work) → Shows s.config (edited_text s.rows e.from e.to e.bytes) u → scanned ≡ scanned_shown flags work → AppendsFront before now (shown_lines u.config name flags u.rows scanned)
     → IsReplyBegun c name flags text e before now
 reply_begun c name flags text e s u work scanned before now h is done asked w =
     let shows = shown_after c text e s u h done in
     record {
       answer = Ok work;
       is = answered_before c text e (Ok work) s h is;
-      written = subst (AppendsFront before now) (text_shown c name flags (edited_text (lines_of text) e.a e.b e.bytes) u scanned shows ∙ ap (shown_text c name flags (edited_text (lines_of text) e.a e.b e.bytes)) asked) w;
+      written = subst (AppendsFront before now) (text_shown c name flags (edited_text (lines_of text) e.from e.to e.bytes) u scanned shows ∙ ap (shown_text c name flags (edited_text (lines_of text) e.from e.to e.bytes)) asked) w;
     }
 
 pub refused : (c : Config) (name : List ℕ) (flags : Flags) (text : List ℕ) (e : EditValue) (s u : SessionValue) (fault : TextFault) (before now : Option (List ℕ)) → Shows c text s
-    → IsAnswer s.rows e.a e.b e.bytes (Err fault) → u ≡ s → Appends before now (refused_line fault) → IsReply c name flags text e u before now
+    → IsAnswer s.rows e.from e.to e.bytes (Err fault) → u ≡ s → Appends before now (refused_line fault) → IsReply c name flags text e u before now
 refused c name flags text e s u fault before now h is same w =
     record { answer = Err fault; is = answered_before c text e (Err fault) s h is; shows = subst (Shows c text) (sym same) h; written = w }
 
 pub refusal_begun : (c : Config) (name : List ℕ) (flags : Flags) (text : List ℕ) (e : EditValue) (s : SessionValue) (fault : TextFault) (before now : Option (List ℕ)) → Shows c text s
-    → IsAnswer s.rows e.a e.b e.bytes (Err fault) → AppendsFront before now (refused_line fault) → IsReplyBegun c name flags text e before now
+    → IsAnswer s.rows e.from e.to e.bytes (Err fault) → AppendsFront before now (refused_line fault) → IsReplyBegun c name flags text e before now
 refusal_begun c name flags text e s fault before now h is w =
     record { answer = Err fault; is = answered_before c text e (Err fault) s h is; written = w }
 

@@ -30,20 +30,20 @@ at_end (suc k) = refl
 
 pub line_opened : (all : Option (List ℕ)) → LineBegan all all []
 line_opened None = tt
-line_opened (Some all) = (omega arith, refl, sym (onto-nil (first_line 40 all)))
+line_opened (Some all) = (omega arith, refl, sym (onto-nil (first_line 62 all)))
 
-pub line_goes_on : (all rest more : Option (List ℕ)) (line : List ℕ) (b : ℕ) → LineBegan all rest line → Consumes rest more (b ∷ []) → b ≢ 10 → length line < 40 → LineBegan all more (line ++ b ∷ [])
+pub line_goes_on : (all rest more : Option (List ℕ)) (line : List ℕ) (b : ℕ) → LineBegan all rest line → Consumes rest more (b ∷ []) → b ≢ 10 → length line < 62 → LineBegan all more (line ++ b ∷ [])
 line_goes_on None rest more line b h c n l = tt
 line_goes_on (Some xs) None more line b h c n l = absurd h
 line_goes_on (Some xs) (Some ys) None line b h c n l = absurd c
 line_goes_on (Some xs) (Some ys) (Some zs) line b h c n l =
     let tail : ys ≡ b ∷ zs = c in
     let size : length (line ++ b ∷ []) ≡ length line + 1 = length-append line (b ∷ []) in
-    let next : first_line (40 - length line) (b ∷ zs) ≡ option_map (λ p. (b ∷ p.0, p.1)) (first_line (40 - length (line ++ b ∷ [])) zs) =
-    step (40 - length line) (40 - length (line ++ b ∷ [])) b zs (omega (arith, size)) n in (
+    let next : first_line (62 - length line) (b ∷ zs) ≡ option_map (λ p. (b ∷ p.0, p.1)) (first_line (62 - length (line ++ b ∷ [])) zs) =
+    step (62 - length line) (62 - length (line ++ b ∷ [])) b zs (omega (arith, size)) n in (
       omega (arith, size),
       h.1 ∙ ap (λ l. line ++ l) tail ∙ sym (append_assoc line (b ∷ []) zs),
-      h.2 ∙ ap (λ l. onto line (first_line (40 - length line) l)) tail ∙ ap (onto line) next ∙ onto-push line b (first_line (40 - length (line ++ b ∷ [])) zs),
+      h.2 ∙ ap (λ l. onto line (first_line (62 - length line) l)) tail ∙ ap (onto line) next ∙ onto-push line b (first_line (62 - length (line ++ b ∷ [])) zs),
     )
 
 pub line_ended : (all rest more : Option (List ℕ)) (line : List ℕ) → LineBegan all rest line → Consumes rest more (10 ∷ []) → TakesLine all more line
@@ -52,7 +52,7 @@ line_ended (Some xs) None more line h c = absurd h
 line_ended (Some xs) (Some ys) None line h c = absurd c
 line_ended (Some xs) (Some ys) (Some zs) line h c =
     let tail : ys ≡ 10 ∷ zs = c in
-    h.2 ∙ ap (λ l. onto line (first_line (40 - length line) l)) tail ∙ ap (onto line) (stop (40 - length line) zs) ∙ ap (λ l. Some (l, zs)) (append-nil line)
+    h.2 ∙ ap (λ l. onto line (first_line (62 - length line) l)) tail ∙ ap (onto line) (stop (62 - length line) zs) ∙ ap (λ l. Some (l, zs)) (append-nil line)
 
 some_front : (xs line ys : List ℕ) → xs ≡ line ++ ys → 0 < length (line ++ ys) → xs ≢ []
 some_front xs line ys e p = λ none. let size : length (line ++ ys) ≡ 0 = ap length (sym e ∙ none) in omega (arith, size)
@@ -63,15 +63,15 @@ no_line_at_end (Some xs) None line h e p = absurd h
 no_line_at_end (Some xs) (Some ys) line h e p =
     let none : ys ≡ [] = e in (
       some_front xs line ys h.1 (omega (arith, length-append line ys)),
-      h.2 ∙ ap (λ l. onto line (first_line (40 - length line) l)) none ∙ ap (onto line) (at_end (40 - length line)),
+      h.2 ∙ ap (λ l. onto line (first_line (62 - length line) l)) none ∙ ap (onto line) (at_end (62 - length line)),
     )
 
-pub no_line_past : (all rest more : Option (List ℕ)) (line : List ℕ) (b : ℕ) → LineBegan all rest line → Consumes rest more (b ∷ []) → b ≢ 10 → 40 ≤ length line → IfSome all HasNoLine
+pub no_line_past : (all rest more : Option (List ℕ)) (line : List ℕ) (b : ℕ) → LineBegan all rest line → Consumes rest more (b ∷ []) → b ≢ 10 → 62 ≤ length line → IfSome all HasNoLine
 no_line_past None rest more line b h c n l = tt
 no_line_past (Some xs) None more line b h c n l = absurd h
 no_line_past (Some xs) (Some ys) None line b h c n l = absurd c
 no_line_past (Some xs) (Some ys) (Some zs) line b h c n l =
     let tail : ys ≡ b ∷ zs = c in (
       some_front xs line ys h.1 (omega (arith, length-append line ys)),
-      h.2 ∙ ap (λ l. onto line (first_line (40 - length line) l)) tail ∙ ap (onto line) (full (40 - length line) b zs (omega arith) n),
+      h.2 ∙ ap (λ l. onto line (first_line (62 - length line) l)) tail ∙ ap (onto line) (full (62 - length line) b zs (omega arith) n),
     )

@@ -1,9 +1,11 @@
--- Meaning: the commands of an editing run: `replace FIRST COUNT BYTES`, a line feed, and then that many bytes. Lines count from 0.
+-- Meaning: the commands of an editing run: `replace LINE COLUMN LINE COLUMN BYTES`, a line feed, and then that many bytes, in place of what stands
+-- between the two places. Lines and columns count from 0.
 use Rattle.std.specs.Prelude.{ℕ, zero, suc, Bool, ◌&&◌, ◌==◌, nat_le, if◌then◌else◌, List, [], ◌∷◌, ◌+◌, ◌*◌, ◌-◌, length, take, drop, codes, bytes_eq, Option, Some, None}
 use Rattle.std.specs.List.{slice_split}
 use Rattle.std.specs.Option.{option_map}
 use Rattle.std.specs.Char.{is_ascii_digit}
 use Rattle.yl_text.specs.Char as char
+use Rattle.yl_text.specs.declared.position.Pos.{Pos}
 use Rattle.yl_cli.specs.declared.command.CommandLine.{CommandLine}
 use Rattle.yl_session.specs.Runs.{EditValue}
 
@@ -16,21 +18,33 @@ number_after n (c ∷ cs) = if is_ascii_digit c then number_after (n * 10 + (c -
 abbrev pub number_of_word : List ℕ → Option ℕ
 number_of_word word = if nat_le 1 (length word) && nat_le (length word) 10 then number_after 0 word else None
 
-abbrev pub line_of_numbers : Option ℕ → Option ℕ → Option ℕ → Option CommandLine
-line_of_numbers None count size = None
-line_of_numbers (Some first) None size = None
-line_of_numbers (Some first) (Some count) None = None
-line_of_numbers (Some first) (Some count) (Some size) =
-    if nat_le size 67108864 then Some (record { first = first; count = count; size = size }) else None
+-- the place at a line and a column. A number that is past all lines and columns of a text says a place that is in no text
+abbrev pub place_at : ℕ → ℕ → Pos
+place_at line col =
+    if nat_le line 4294967295 && nat_le col 4294967295 then record { line = line; col = col } else record { line = 4294967295; col = 4294967295 }
 
+abbrev pub place_of_numbers : Option ℕ → Option ℕ → Option Pos
+place_of_numbers None col = None
+place_of_numbers (Some line) None = None
+place_of_numbers (Some line) (Some col) = Some (place_at line col)
+
+abbrev pub place_of_words : List ℕ → List ℕ → Option Pos
+place_of_words line col = place_of_numbers (number_of_word line) (number_of_word col)
+
+abbrev pub line_of_places : Option Pos → Option Pos → Option ℕ → Option CommandLine
+line_of_places None to size = None
+line_of_places (Some from) None size = None
+line_of_places (Some from) (Some to) None = None
+line_of_places (Some from) (Some to) (Some size) =
+    if nat_le size 67108864 then Some (record { from = from; to = to; size = size }) else None
+
+-- a name, a line and a column twice, and how many bytes follow
 abbrev pub line_of_words : List (List ℕ) → Option CommandLine
-line_of_words [] = None
-line_of_words (name ∷ []) = None
-line_of_words (name ∷ first ∷ []) = None
-line_of_words (name ∷ first ∷ count ∷ []) = None
-line_of_words (name ∷ first ∷ count ∷ size ∷ []) =
-    if bytes_eq name (codes "replace") then line_of_numbers (number_of_word first) (number_of_word count) (number_of_word size) else None
-line_of_words (name ∷ first ∷ count ∷ size ∷ more ∷ words) = None
+line_of_words (name ∷ line ∷ col ∷ end_line ∷ end_col ∷ size ∷ []) =
+    if bytes_eq name (codes "replace")
+    then line_of_places (place_of_words line col) (place_of_words end_line end_col) (number_of_word size)
+    else None
+line_of_words _ = None
 
 -- the words of a line stand between single spaces
 abbrev pub command_line : List ℕ → Option CommandLine
@@ -52,14 +66,14 @@ abbrev pub next_of_line : Option CommandLine → List ℕ → Next
 next_of_line None rest = Bad
 next_of_line (Some c) rest =
     if nat_le c.size (length rest)
-    then Command (record { a = c.first; b = c.first + c.count; bytes = take c.size rest }) (drop c.size rest)
+    then Command (record { from = c.from; to = c.to; bytes = take c.size rest }) (drop c.size rest)
     else Bad
 
--- the longest line of a command has 40 bytes: its name, three numbers of 10 digits, and three spaces
+-- the longest line of a command has 62 bytes: its name, five numbers of 10 digits, and five spaces
 abbrev pub next_after : Option (List ℕ × List ℕ) → Next
 next_after None = Bad
 next_after (Some (line, rest)) = next_of_line (command_line line) rest
 
 abbrev pub next_command : List ℕ → Next
 next_command [] = End
-next_command (x ∷ xs) = next_after (first_line 40 (x ∷ xs))
+next_command (x ∷ xs) = next_after (first_line 62 (x ∷ xs))

@@ -2,7 +2,7 @@
 use Rattle.std.specs.Prelude.{◌≡◌, ℕ, ◌<◌, ◌-◌, ◌^◌, if◌then◌else◌, List, [], ◌∷◌, ◌++◌, length, codes, decimal, Option, Some, None, Result, Ok, Err, IfSome, ◌⊎◌}
 use Rattle.std.specs.Io.KnownBytes.{Appends, IsAtEnd, Keeps}
 use Rattle.yl_text.specs.declared.fault.TextFault.{TextFault}
-use Rattle.yl_text.specs.declared.fault.TextFault.TheVariants.{NotUtf8, Range, OpenEnd, JoinedBreak, TooLarge, Memory}
+use Rattle.yl_text.specs.declared.fault.TextFault.TheVariants.{NotUtf8, Range, TooLarge, Memory}
 use Rattle.yl_text.specs.Lines.{RowValue, lines_of}
 use Rattle.yl_config.specs.declared.config.Config.{Config}
 use Rattle.yl_report.specs.Report.{report_text, status_of}
@@ -36,8 +36,6 @@ WereRead (Some bytes) (Some rest) edits = AreCommands bytes edits rest
 abbrev pub refusal_name : TextFault → List ℕ
 refusal_name (NotUtf8 n) = codes "NotUtf8"
 refusal_name Range = codes "Range"
-refusal_name OpenEnd = codes "OpenEnd"
-refusal_name JoinedBreak = codes "JoinedBreak"
 refusal_name TooLarge = codes "TooLarge"
 refusal_name Memory = codes "Memory"
 

@@ -19,7 +19,7 @@ onto front found = option_map (λ p. (front ++ p.0, p.1)) found
 
 -- a line is read as far as this
 abbrev pub HasBegun : List ℕ → List ℕ → List ℕ → Type 0
-HasBegun all rest line = (length line ≤ 40) × (all ≡ line ++ rest) × (first_line 40 all ≡ onto line (first_line (40 - length line) rest))
+HasBegun all rest line = (length line ≤ 62) × (all ≡ line ++ rest) × (first_line 62 all ≡ onto line (first_line (62 - length line) rest))
 
 abbrev pub LineBegan : Option (List ℕ) → Option (List ℕ) → List ℕ → Type 0
 LineBegan None rest line = Unit {0}
@@ -30,11 +30,11 @@ LineBegan (Some all) (Some rest) line = HasBegun all rest line
 abbrev pub TakesLine : Option (List ℕ) → Option (List ℕ) → List ℕ → Type 0
 TakesLine None rest line = Unit {0}
 TakesLine (Some all) None line = ⊥
-TakesLine (Some all) (Some rest) line = first_line 40 all ≡ Some (line, rest)
+TakesLine (Some all) (Some rest) line = first_line 62 all ≡ Some (line, rest)
 
 -- no line begins here
 abbrev pub HasNoLine : List ℕ → Type 0
-HasNoLine all = (all ≢ []) × (first_line 40 all ≡ None)
+HasNoLine all = (all ≢ []) × (first_line 62 all ≡ None)
 
 -- a command is read
 abbrev pub TakesCommand : Option (List ℕ) → Option (List ℕ) → EditValue → Type 0
@@ -47,14 +47,14 @@ TakesCommand (Some all) (Some rest) e = next_command all ≡ Command e rest
 -- the edit was answered, and that is written
 pub record IsReply (c : Config) (name : List ℕ) (flags : Flags) (text : List ℕ) (e : EditValue) (new : SessionValue) (before now : Option (List ℕ)) : Type 0 where
   pub answer : Result Work TextFault
-  pub is : IsAnswer (lines_of text) e.a e.b e.bytes answer
+  pub is : IsAnswer (lines_of text) e.from e.to e.bytes answer
   pub shows : Shows c (text_after text e answer) new
   pub written : Appends before now (reply c name flags (text_after text e answer) answer)
 
 -- the edit was answered, and a beginning of that is written
 pub record IsReplyBegun (c : Config) (name : List ℕ) (flags : Flags) (text : List ℕ) (e : EditValue) (before now : Option (List ℕ)) : Type 0 where
   pub answer : Result Work TextFault
-  pub is : IsAnswer (lines_of text) e.a e.b e.bytes answer
+  pub is : IsAnswer (lines_of text) e.from e.to e.bytes answer
   pub written : AppendsFront before now (reply c name flags (text_after text e answer) answer)
 
 -- all commands so far were answered

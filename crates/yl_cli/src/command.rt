@@ -1,30 +1,38 @@
 //! The line of a command.
-ghost use Rattle.std.specs.Prelude.{◌≡◌, ◌==◌, ◌+◌, ◌<◌, ◌^◌, length, map, IfSome, MatchOption};
+ghost use Rattle.std.specs.Prelude.{◌≡◌, ◌==◌, ◌<◌, length, map, MatchOption};
 ghost use Rattle.std.specs.List.{slice_split};
 ghost use Rattle.yl_text.specs.Char.{space};
-ghost use Rattle.yl_cli.specs.Command.{command_line, line_of_numbers, line_of_words, number_of_word};
+ghost use Rattle.yl_cli.specs.Command.{command_line, line_of_places, line_of_words, number_of_word, place_at, place_of_words};
 
 use arrayvec::ArrayVec;
+use yl_text::Pos;
 
 /// The most bytes that a command puts into a text.
 const MOST_BYTES: u64 = 67_108_864;
 
-// The words of a command: its name, and three numbers.
-type Words<'a> = ArrayVec<&'a [u8], 4>;
+/// The greatest number that a place has.
+const MOST_OF_PLACE: u64 = 4_294_967_295;
 
-/// What a command asks for: `count` lines from `first` on, counted from 0, give way to `size`
-/// bytes.
+/// A place that is in no text, since a text has fewer lines.
+const NOWHERE: Pos = Pos {
+    line: u32::MAX,
+    col: u32::MAX,
+};
+
+// The words of a command: its name, and five numbers.
+type Words<'a> = ArrayVec<&'a [u8], 6>;
+
+/// What a command asks for: what stands between two places gives way to `size` bytes.
 #[derive(Clone, Copy)]
 pub struct CommandLine {
-    pub first: u64,
-    pub count: u64,
+    pub from: Pos,
+    pub to: Pos,
     pub size: u64,
 }
 
 /// The number that a word of 1 to 10 decimal digits is.
 fn number(word: &[u8]) -> Option<u64>
-    ensures value { result ≡ number_of_word word.now }
-    ensures bound { IfSome result (λ n. n < 10 ^ 10) }
+    ensures { result ≡ number_of_word word.now }
 {
     if word.is_empty() || word.len() > 10 {
         return None;
@@ -39,38 +47,57 @@ fn number(word: &[u8]) -> Option<u64>
     Some(value)
 }
 
-fn line_of_numbers(first: Option<u64>, count: Option<u64>, size: Option<u64>) -> Option<CommandLine>
-    requires first { IfSome first (λ n. n < 10 ^ 10) }
-    requires count { IfSome count (λ n. n < 10 ^ 10) }
-    ensures value { result ≡ line_of_numbers first count size }
-    ensures bound { IfSome result (λ c. c.first + c.count < 2 ^ 64) }
+/// The place at a line and a column. A number that no place has says one that is in no text.
+fn place_at(line: u64, col: u64) -> Pos
+    ensures { result ≡ place_at line col }
 {
-    let first = first?;
-    let count = count?;
+    if line > MOST_OF_PLACE || col > MOST_OF_PLACE {
+        return NOWHERE;
+    }
+    Pos {
+        line: line as u32,
+        col: col as u32,
+    }
+}
+
+fn place_of_words(line: &[u8], col: &[u8]) -> Option<Pos>
+    ensures { result ≡ place_of_words line.now col.now }
+{
+    let line = number(line)?;
+    let col = number(col)?;
+    Some(place_at(line, col))
+}
+
+fn line_of_places(from: Option<Pos>, to: Option<Pos>, size: Option<u64>) -> Option<CommandLine>
+    ensures { result ≡ line_of_places from to size }
+{
+    let from = from?;
+    let to = to?;
     let size = size?;
     if size > MOST_BYTES {
         return None;
     }
-    Some(CommandLine { first, count, size })
+    Some(CommandLine { from, to, size })
 }
 
 fn line_of_words(words: &[&[u8]]) -> Option<CommandLine>
-    ensures value { result ≡ line_of_words (map (λ word. word.now) words.now) }
-    ensures bound { IfSome result (λ c. c.first + c.count < 2 ^ 64) }
+    ensures { result ≡ line_of_words (map (λ word. word.now) words.now) }
 {
-    let [name, first, count, size] = words else {
+    let [name, line, col, end_line, end_col, size] = words else {
         return None;
     };
     if *name != b"replace".as_slice() {
         return None;
     }
-    line_of_numbers(number(first), number(count), number(size))
+    let from = place_of_words(line, col);
+    let to = place_of_words(end_line, end_col);
+    line_of_places(from, to, number(size))
 }
 
 // The words of a line, which stand between single spaces, or `None` where they are more than a command has. It takes
 // no memory.
 fn words_of(line: &[u8]) -> Option<Words<'_>>
-    ensures { MatchOption result (4 < length (slice_split (λ c. c == space) line.now))
+    ensures { MatchOption result (6 < length (slice_split (λ c. c == space) line.now))
         (λ words. map (λ word. word.now) words.items ≡ slice_split (λ c. c == space) line.now) }
 {
     let mut words = Words::new();
@@ -84,8 +111,7 @@ fn words_of(line: &[u8]) -> Option<Words<'_>>
 
 /// What a command's line asks for, or `None` where it is none. It takes no memory.
 pub(crate) fn command_line(line: &[u8]) -> Option<CommandLine>
-    ensures value { result ≡ command_line line.now }
-    ensures bound { IfSome result (λ c. c.first + c.count < 2 ^ 64) }
+    ensures { result ≡ command_line line.now }
 {
     let words = words_of(line)?;
     line_of_words(words.as_slice())

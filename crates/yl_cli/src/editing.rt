@@ -29,8 +29,6 @@ fn refusal_name(fault: TextFault) -> &'static str
     match fault {
         TextFault::NotUtf8 { valid_up_to: _ } => "NotUtf8",
         TextFault::Range => "Range",
-        TextFault::OpenEnd => "OpenEnd",
-        TextFault::JoinedBreak => "JoinedBreak",
         TextFault::TooLarge => "TooLarge",
         TextFault::Memory => "Memory",
     }
@@ -147,16 +145,16 @@ fn answer<S: LineStore, W: Write>(
         → IsReplyBegun c name.now flags text edit.now (W.contents (device_of out.old)) (W.contents (device_of out.new))) }
     ensures failed { OnErr result (failures_of out.old < failures_of out.new) }
 {
-    match session.edit(edit.a, edit.b, edit.bytes.as_slice()) {
+    match session.edit(edit.from, edit.to, edit.bytes.as_slice()) {
         Ok(work) => show(name, flags, session, scanned_shown(flags, work), out),
         Err(fault) => write_refused(fault, out),
     }
 }
 
-/// Shows a text's report, then reads commands and answers each before the next: `replace FIRST
-/// COUNT BYTES`, a line feed and that many bytes put these in place of COUNT lines from FIRST on,
-/// counted from 0. Answers the status of the text that the accepted edits leave. One leading
-/// byte-order mark of `text` is dropped.
+/// Shows a text's report, then reads commands and answers each before the next: `replace LINE COLUMN
+/// LINE COLUMN BYTES`, a line feed and that many bytes put these in place of what stands from the
+/// first place to the second, counted from 0. Answers the status of the text that the accepted edits
+/// leave. One leading byte-order mark of `text` is dropped.
 pub fn drive<S: LineStore, R: Read, W: Write>(
     alloc: S::Alloc,
     name: &str,

@@ -15,8 +15,8 @@ use yl_devices::RunFault;
 use yl_session::Edit;
 use yl_text::Watched;
 
-// The line of a command, which has at most 40 bytes.
-type Line = ArrayVec<u8, 40>;
+// The line of a command, which has at most 62 bytes.
+type Line = ArrayVec<u8, 62>;
 
 // Reads more where nothing was read ahead. `false` at the end of the input.
 fn more<R: Read>(ahead: &mut Ahead, input: &mut Watched<R>) -> Result<bool, RunFault>
@@ -69,7 +69,7 @@ fn read_line<R: Read>(
     ensures quiet { OnOk result (failures_of input.new ≡ failures_of input.old) }
     ensures fault { IfErr result (IsCommandFault (failures_of input.old) (failures_of input.new)) }
 {
-    for i in 0..41u32 {
+    for i in 0..63u32 {
         match next_byte(ahead, input)? {
             None if i == 0 => return Ok(false),
             None => return Err(RunFault::Command),
@@ -137,7 +137,9 @@ pub(crate) fn next_edit<A: Allocator + Copy, R: Read>(
         return Err(RunFault::Command);
     };
     let bytes = read_payload(alloc, ahead, input, asked.size as usize)?;
-    let a = asked.first;
-    let b = asked.first + asked.count;
-    Ok(Some(Edit { a, b, bytes }))
+    Ok(Some(Edit {
+        from: asked.from,
+        to: asked.to,
+        bytes,
+    }))
 }

@@ -61,43 +61,70 @@ fn run_into(
 #[test]
 fn answers_commands(rt: HostRuntime) -> Result<(), Fail> {
     let alloc = rt.alloc();
-    let rows: [(&[u8], &[u8], u8, &[u8]); 7] = [
+    let rows: [(&[u8], &[u8], u8, &[u8]); 11] = [
         (b"---\na: 1\n", b"", 0, b"-- ok 0\n"),
         (
             b"a: 1\n",
-            b"replace 0 0 4\n---\nreplace 9 0 0\n",
+            b"replace 0 0 0 0 4\n---\nreplace 9 0 9 0 0\n",
             0,
             b"f.yaml:1:1: [warning] missing document start \"---\" (document-start)\n-- ok 0\n-- ok 0\n-- refused Range\n",
         ),
         (
             b"\xEF\xBB\xBF--- 1\n",
-            b"replace 0 1 7\n--- 1 \n",
+            b"replace 0 0 1 0 7\n--- 1 \n",
             1,
             b"-- ok 0\nf.yaml:1:6: [error] trailing spaces (trailing-spaces)\n-- ok 1\n",
         ),
+        // A line feed comes behind a carriage return, and they are one break; a text comes between the two of one.
         (
-            b"---\na: 1\r",
-            b"replace 2 1 1\n\nreplace 0 1 1\nxreplace 0 1 1\n\xFF",
+            b"---\na: 1\rb: 2\n",
+            b"replace 2 0 3 0 1\n\nreplace 1 6 2 0 0\n",
             0,
-            b"-- ok 0\n-- refused JoinedBreak\n-- refused OpenEnd\n-- refused NotUtf8\n",
+            b"-- ok 0\n-- ok 0\n-- ok 0\n",
+        ),
+        (
+            b"---\na: 1\r\nb: 2\n",
+            b"replace 1 5 1 5 4\nc: 3",
+            0,
+            b"-- ok 0\n-- ok 0\n",
+        ),
+        (
+            b"---\na: 1\n",
+            b"replace 3 0 3 0 0\nreplace 0 0 1 0 1\n\xFFreplace 0 0 1 0 1\nx",
+            0,
+            b"-- ok 0\n-- refused Range\n-- refused NotUtf8\nf.yaml:1:1: [warning] missing document start \"---\" (document-start)\n-- ok 0\n",
+        ),
+        (
+            b"---\na: 1\nb: 2\n",
+            b"replace 1 4 2 0 1\n ",
+            1,
+            b"-- ok 0\nf.yaml:2:7: [error] syntax error: mapping value not allowed here (syntax)\n-- ok 1\n",
+        ),
+        // Past a line's break, and a place behind another.
+        (
+            b"---\nkey: 1\n",
+            b"replace 1 8 1 8 0\nreplace 1 2 1 1 0\nreplace 1 7 2 0 0\n",
+            0,
+            b"-- ok 0\n-- refused Range\n-- refused Range\n-- ok 0\n",
         ),
         (
             b"--- a\n",
-            b"replace 9999999999 9999999999 0\n",
-            0,
-            b"-- ok 0\n-- refused Range\n",
-        ),
-        (
-            b"--- a\n",
-            b"replace 0000000000 01 6\n--- b\nreplace 1 0 3\n c\n",
+            b"replace 0000000000 00 0000000001 0 6\n--- b\nreplace 1 0 1 0 3\n c\n",
             0,
             b"-- ok 0\n-- ok 0\n-- ok 0\n",
         ),
         (
             b"--- \n",
-            b"replace 0 0 0\n",
+            b"replace 0 0 0 0 0\n",
             1,
             b"f.yaml:1:4: [error] trailing spaces (trailing-spaces)\n-- ok 1\nf.yaml:1:4: [error] trailing spaces (trailing-spaces)\n-- ok 1\n",
+        ),
+        // The longest line of a command.
+        (
+            b"--- a\n",
+            b"replace 0000000000 0000000000 0000000000 0000000000 0000000000\n",
+            0,
+            b"-- ok 0\n-- ok 0\n",
         ),
     ];
     for (text, commands, status, want) in rows {
@@ -110,26 +137,58 @@ fn answers_commands(rt: HostRuntime) -> Result<(), Fail> {
     Ok(())
 }
 
+// Numbers that no place has: each stands for a place that is in no text, and for none that has the number's last 32 bits.
+#[test]
+fn numbers_past_all_places_are_in_no_text(rt: HostRuntime) -> Result<(), Fail> {
+    let alloc = rt.alloc();
+    let rows: [&[u8]; 10] = [
+        b"replace 4294967296 0 4294967296 0 0\n",
+        b"replace 4294967296 0 0 0 0\n",
+        b"replace 0 4294967296 0 0 0\n",
+        b"replace 0 0 4294967296 0 0\n",
+        b"replace 0 0 0 4294967296 0\n",
+        b"replace 9999999999 0 9999999999 0 0\n",
+        b"replace 0 9999999999 0 9999999999 0\n",
+        b"replace 0 0 9999999999 9999999999 0\n",
+        b"replace 4294967295 4294967295 4294967295 4294967295 0\n",
+        b"replace 9999999999 9999999999 9999999999 9999999999 0\n",
+    ];
+    for commands in rows {
+        let ran = run(alloc, b"--- a\n", commands, 100, 0);
+        assert_eq!(rt; ran.answer, Ok(0));
+        assert_eq!(rt; ran.out.as_slice(), b"-- ok 0\n-- refused Range\n".as_slice());
+    }
+    Ok(())
+}
+
 #[test]
 fn refuses_bad_commands(rt: HostRuntime) -> Result<(), Fail> {
     let alloc = rt.alloc();
-    let rows: [&[u8]; 16] = [
+    let rows: [&[u8]; 22] = [
         b"\n",
-        b"replace 0 1 9\nab",
-        b"replace 0 1 67108865\n",
-        b"replace 0 0 67108864\nab",
-        b"replace 12345678901 0 0\n",
-        b"replace 0 12345678901 0\n",
-        b"replace  0 0 0\n",
-        b"replace 0 0 0 \n",
-        b" replace 0 0 0\n",
-        b"replace 0 0\n",
-        b"replace 0 0 0",
-        b"replace 0 0 +1\na",
-        b"replace 0 0 0\r\n",
-        b"Replace 0 0 0\n",
-        b"replace -1 0 0\n",
-        b"replace 0 0 0x1\n",
+        b"replace 0 0 1 0 9\nab",
+        b"replace 0 0 1 0 67108865\n",
+        b"replace 0 0 0 0 67108864\nab",
+        b"replace 12345678901 0 0 0 0\n",
+        b"replace 0 12345678901 0 0 0\n",
+        b"replace 0 0 12345678901 0 0\n",
+        b"replace 0 0 0 12345678901 0\n",
+        b"replace  0 0 0 0 0\n",
+        b"replace 0 0 0 0 0 \n",
+        b" replace 0 0 0 0 0\n",
+        // Lines alone, which earlier commands named; and a word too few, or too many.
+        b"replace 0 1 4\n---\n",
+        b"replace 0 0 0 0\n",
+        b"replace 0 0 0 0 0 0\n",
+        b"replace 0 0 0 0 0",
+        b"replace 0 0 0 0 +1\na",
+        b"replace 0 0 0 0 0\r\n",
+        b"Replace 0 0 0 0 0\n",
+        b"replace -1 0 0 0 0\n",
+        b"replace 0 0 0 0 0x1\n",
+        b"replace 0 0 1.0 0 0\n",
+        // 63 bytes, one more than the longest line of a command.
+        b"replace 0000000000 0000000000 0000000000 0000000000 00000000000\n",
     ];
     for commands in rows {
         let ran = run(alloc, TEXT, commands, 5, 0);
@@ -174,14 +233,14 @@ fn bad_texts_write_nothing(rt: HostRuntime) -> Result<(), Fail> {
     Ok(())
 }
 
-const COMMANDS: &[u8] = b"replace 0 1 2\na\nreplace 1 1 3\nb \n";
+const COMMANDS: &[u8] = b"replace 0 0 1 0 2\na\nreplace 1 0 2 0 3\nb \n";
 
 // How many bytes of the commands have been read by so many calls, and up to where these hold whole commands.
 fn whole_commands(calls: u64) -> &'static [u8] {
-    if calls.saturating_mul(4) < 16 {
+    if calls.saturating_mul(4) < 20 {
         b""
-    } else if calls.saturating_mul(4) < 33 {
-        COMMANDS.get(..16).unwrap_or(b"")
+    } else if calls.saturating_mul(4) < 41 {
+        COMMANDS.get(..20).unwrap_or(b"")
     } else {
         COMMANDS
     }
@@ -196,7 +255,7 @@ fn failing_reads_leave_whole_answers(rt: HostRuntime) -> Result<(), Fail> {
         let whole = run(alloc, TEXT, whole_commands(n.saturating_sub(1)), 4, 0);
         assert_eq!(rt; ran.out.as_slice(), whole.out.as_slice(), "at call {n}");
         if ran.answer == Ok(1) {
-            assert!(rt; n > 10, "{n} calls");
+            assert!(rt; n > 12, "{n} calls");
             break;
         }
         assert_eq!(rt; ran.answer, Err(RunFault::Read), "at call {n}");
@@ -265,34 +324,54 @@ fn failing_writes_leave_a_beginning(rt: HostRuntime) -> Result<(), Fail> {
     Ok(())
 }
 
-#[test]
-fn tells_the_work(rt: HostRuntime) -> Result<(), Fail> {
-    let alloc = rt.alloc();
+// What is written where each edit tells its work.
+fn shown_with_work(alloc: Global, text: &[u8], commands: &[u8]) -> Ran {
     let flags = Flags {
         strict: false,
         no_warnings: false,
         work: true,
     };
-    let mut input = Watched::new(make_reader(b"replace 0 0 0\nreplace 9 0 0\n", 100, 0));
+    let mut input = Watched::new(make_reader(commands, 100, 0));
     let mut out = Watched::new(make_writer(alloc, 4096, 1_000_000, true));
     let answer = drive::<PlainStore<Global>, _, _>(
         alloc,
         "f.yaml",
         Config::standard(),
         flags,
-        b"--- a\n",
+        text,
         &mut input,
         &mut out,
     );
-    assert_eq!(rt; answer, Ok(0));
+    Ran {
+        answer,
+        out: out.into_inner().bytes,
+    }
+}
+
+// At most three lines are scanned where an edit has one line before it and one behind it to look at.
+fn tells_a_few_lines(out: &[u8]) -> bool {
+    out == b"-- ok 0\n-- ok 0 1\n".as_slice()
+        || out == b"-- ok 0\n-- ok 0 2\n".as_slice()
+        || out == b"-- ok 0\n-- ok 0 3\n".as_slice()
+}
+
+#[test]
+fn tells_the_work(rt: HostRuntime) -> Result<(), Fail> {
+    let alloc = rt.alloc();
+    let commands: &[u8] = b"replace 0 0 0 0 0\nreplace 9 0 9 0 0\n";
+    let ran = shown_with_work(alloc, b"--- a\n", commands);
+    assert_eq!(rt; ran.answer, Ok(0));
     assert_eq!(rt;
-        out.into_inner().bytes.as_slice(),
+        ran.out.as_slice(),
         b"-- ok 0\n-- ok 0 0\n-- refused Range\n".as_slice()
     );
+    // A line feed that is joined to a carriage return.
+    let ran = shown_with_work(alloc, b"---\na: 1\rb: 2\n", b"replace 2 0 3 0 1\n\n");
+    assert!(rt; tells_a_few_lines(ran.out.as_slice()));
     Ok(())
 }
 
-// 10,000 lines, one of which is edited.
+// 10,000 lines, one of which is edited: the line is put anew, or a letter is put into it.
 #[test]
 fn edits_a_long_text(rt: HostRuntime) -> Result<(), Fail> {
     let alloc = rt.alloc();
@@ -301,8 +380,11 @@ fn edits_a_long_text(rt: HostRuntime) -> Result<(), Fail> {
         let line = format!(in alloc; "k{n}: v\n")?;
         text.extend_from_slice(line.as_bytes())?;
     }
-    let ran = run(alloc, text.as_slice(), b"replace 5000 1 5\nz: v\n", 100, 0);
-    assert_eq!(rt; ran.answer, Ok(0));
-    assert_eq!(rt; ran.out.as_slice(), b"-- ok 0\n-- ok 0\n".as_slice());
+    let rows: [&[u8]; 2] = [b"replace 5000 0 5001 0 5\nz: v\n", b"replace 5000 8 5000 8 1\nw"];
+    for commands in rows {
+        let ran = shown_with_work(alloc, text.as_slice(), commands);
+        assert_eq!(rt; ran.answer, Ok(0));
+        assert!(rt; tells_a_few_lines(ran.out.as_slice()));
+    }
     Ok(())
 }

@@ -245,7 +245,7 @@ fn helps_with_yldump(rt: HostRuntime) -> Result<(), Fail> {
 }
 
 const EDIT_HELP: &str =
-    "Usage: yledit [OPTIONS] <FILE>\n\nArguments:\n  <FILE>  file to edit by the commands on standard input\n\nOptions:\n  -c <FILE>          read the configuration from a file\n  -d <DATA>          read the configuration from this text, such as default\n  -s                 give status 2 for warnings\n      --no-warnings  print errors alone\n      --work         print how many lines an edit scanned\n  -h, --help         Print help\n\nExample: printf 'replace 0 0 4\\n---\\n' | yledit a.yaml\n";
+    "Usage: yledit [OPTIONS] <FILE>\n\nArguments:\n  <FILE>  file to edit by the commands on standard input\n\nOptions:\n  -c <FILE>          read the configuration from a file\n  -d <DATA>          read the configuration from this text, such as default\n  -s                 give status 2 for warnings\n      --no-warnings  print errors alone\n      --work         print how many lines an edit scanned\n  -h, --help         Print help\n\nExample: printf 'replace 0 0 0 0 4\\n---\\n' | yledit a.yaml\n";
 
 #[test]
 fn helps_with_yledit(rt: HostRuntime) -> Result<(), Fail> {

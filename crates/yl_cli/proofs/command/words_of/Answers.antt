@@ -14,7 +14,7 @@ returns-then-is_err c =
     let turn = YieldsList-turn (YieldsList-at c.into_iter-word-iterator.ensures.into_iter_gives
     (YieldsList-from_slice_split _ is_space c.args.line.now c.split-word-items.ensures.rest c.split-word-items.ensures.done c.split-word-items.ensures.closure (λ x r q k. search (rules, tests))))
     c.loop-word.yielded c.loop-word.word-iterator c.loop-word.yielded_by c.next.result c.next.new.self c.in-Some.word c.in-Some.is c.next.ensures.steps in
-    let full : 4 ≤ length c.loop-word.words.items = search rules in
+    let full : 6 ≤ length c.loop-word.words.items = search rules in
     let same = ap length c.loop-word.invariant in
     omega (arith, turn.0, full, same)
 

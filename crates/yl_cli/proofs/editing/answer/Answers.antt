@@ -7,7 +7,7 @@ use Rattle.yl_cli.proofs.editing.answer.Goals as goal
 
 pub returns-in-Ok-clause-ok : goal.returns-in-Ok-clause-ok
 returns-in-Ok-clause-ok g c =
-    let seen : List ℕ → EditValue = λ bs. record { a = c.edit.inside.a; b = c.edit.inside.b; bytes = bs } in
+    let seen : List ℕ → EditValue = λ bs. record { from = c.edit.inside.from; to = c.edit.inside.to; bytes = bs } in
     let inside : seen c.as_slice.result.now ≡ c.args.edit.now = ap seen c.as_slice.ensures.value ∙ c.edit.view_is in
     on_ok_map c.show.result (λ w o text h.
     subst (λ (d : EditValue). IsReply o c.args.name.now c.args.flags text d c.edit-2.new.self (g.W.Write.contents (device_of c.args.out.now)) (g.W.Write.contents (device_of c.show.new.out))) inside
@@ -15,7 +15,7 @@ returns-in-Ok-clause-ok g c =
 
 pub returns-in-Ok-clause-err : goal.returns-in-Ok-clause-err
 returns-in-Ok-clause-err g c =
-    let seen : List ℕ → EditValue = λ bs. record { a = c.edit.inside.a; b = c.edit.inside.b; bytes = bs } in
+    let seen : List ℕ → EditValue = λ bs. record { from = c.edit.inside.from; to = c.edit.inside.to; bytes = bs } in
     let inside : seen c.as_slice.result.now ≡ c.args.edit.now = ap seen c.as_slice.ensures.value ∙ c.edit.view_is in
     on_err_map c.show.result (λ w o text h.
     subst (λ (d : EditValue). IsReplyBegun o c.args.name.now c.args.flags text d (g.W.Write.contents (device_of c.args.out.now)) (g.W.Write.contents (device_of c.show.new.out))) inside
@@ -23,7 +23,7 @@ returns-in-Ok-clause-err g c =
 
 pub returns-in-Err-clause-ok : goal.returns-in-Err-clause-ok
 returns-in-Err-clause-ok g c =
-    let seen : List ℕ → EditValue = λ bs. record { a = c.edit.inside.a; b = c.edit.inside.b; bytes = bs } in
+    let seen : List ℕ → EditValue = λ bs. record { from = c.edit.inside.from; to = c.edit.inside.to; bytes = bs } in
     let inside : seen c.as_slice.result.now ≡ c.args.edit.now = ap seen c.as_slice.ensures.value ∙ c.edit.view_is in
     on_ok_map c.write_refused.result (λ w o text h.
     subst (λ (d : EditValue). IsReply o c.args.name.now c.args.flags text d c.edit-2.new.self (g.W.Write.contents (device_of c.args.out.now)) (g.W.Write.contents (device_of c.write_refused.new.out))) inside
@@ -31,7 +31,7 @@ returns-in-Err-clause-ok g c =
 
 pub returns-in-Err-clause-err : goal.returns-in-Err-clause-err
 returns-in-Err-clause-err g c =
-    let seen : List ℕ → EditValue = λ bs. record { a = c.edit.inside.a; b = c.edit.inside.b; bytes = bs } in
+    let seen : List ℕ → EditValue = λ bs. record { from = c.edit.inside.from; to = c.edit.inside.to; bytes = bs } in
     let inside : seen c.as_slice.result.now ≡ c.args.edit.now = ap seen c.as_slice.ensures.value ∙ c.edit.view_is in
     on_err_map c.write_refused.result (λ w o text h.
     subst (λ (d : EditValue). IsReplyBegun o c.args.name.now c.args.flags text d (g.W.Write.contents (device_of c.args.out.now)) (g.W.Write.contents (device_of c.write_refused.new.out))) inside
