@@ -35,7 +35,8 @@ const LETTERS_PAST: usize = 6;
 /// What is typed behind the line under an open quote.
 const UNDER_QUOTE: &[u8] = b"two";
 
-/// Commands as `yl_cli::drive` reads them, one after another. Lines count from 0.
+/// Commands as `yl_cli::drive` reads them, one after another. Lines count from 0. Each is of whole
+/// lines: its places are columns 0.
 #[derive(Drop)]
 pub struct Commands {
     bytes: Vec<u8>,
@@ -61,6 +62,15 @@ impl Commands {
         Ok(())
     }
 
+    // The front of a command in place of `count` lines from `first` on.
+    fn lines(&mut self, first: u64, count: u64) -> Result<(), AllocError> {
+        self.bytes.extend_from_slice(b"replace ")?;
+        self.number(first, b' ')?;
+        self.bytes.extend_from_slice(b"0 ")?;
+        self.number(first.wrapping_add(count), b' ')?;
+        self.bytes.extend_from_slice(b"0 ")
+    }
+
     // Puts a line of two parts in place of `count` lines from `first` on.
     fn line(
         &mut self,
@@ -69,9 +79,7 @@ impl Commands {
         front: &[u8],
         back: &[u8],
     ) -> Result<(), AllocError> {
-        self.bytes.extend_from_slice(b"replace ")?;
-        self.number(first, b' ')?;
-        self.number(count, b' ')?;
+        self.lines(first, count)?;
         let size = front.len().wrapping_add(back.len()).wrapping_add(1);
         self.number(size as u64, b'\n')?;
         self.bytes.extend_from_slice(front)?;
@@ -82,9 +90,8 @@ impl Commands {
 
     // Takes the line `first` out.
     fn without(&mut self, first: u64) -> Result<(), AllocError> {
-        self.bytes.extend_from_slice(b"replace ")?;
-        self.number(first, b' ')?;
-        self.bytes.extend_from_slice(b"1 0\n")
+        self.lines(first, 1)?;
+        self.bytes.extend_from_slice(b"0\n")
     }
 
     // Puts a line in under a place, and the other ones in its place; then takes it out.
