@@ -156,7 +156,10 @@ fn numbers_past_all_places_are_in_no_text(rt: HostRuntime) -> Result<(), Fail> {
     for commands in rows {
         let ran = run(alloc, b"--- a\n", commands, 100, 0);
         assert_eq!(rt; ran.answer, Ok(0));
-        assert_eq!(rt; ran.out.as_slice(), b"-- ok 0\n-- refused Range\n".as_slice());
+        assert_eq!(rt;
+            ran.out.as_slice(),
+            b"-- ok 0\n-- refused Range\n".as_slice()
+        );
     }
     Ok(())
 }
@@ -380,7 +383,10 @@ fn edits_a_long_text(rt: HostRuntime) -> Result<(), Fail> {
         let line = format!(in alloc; "k{n}: v\n")?;
         text.extend_from_slice(line.as_bytes())?;
     }
-    let rows: [&[u8]; 2] = [b"replace 5000 0 5001 0 5\nz: v\n", b"replace 5000 8 5000 8 1\nw"];
+    let rows: [&[u8]; 2] = [
+        b"replace 5000 0 5001 0 5\nz: v\n",
+        b"replace 5000 8 5000 8 1\nw",
+    ];
     for commands in rows {
         let ran = shown_with_work(alloc, text.as_slice(), commands);
         assert_eq!(rt; ran.answer, Ok(0));
