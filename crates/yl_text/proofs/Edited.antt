@@ -1,4 +1,4 @@
--- The lines of an edited text are the kept lines and those of the bytes.
+-- The lines of a text with bytes in place of some of its lines are the kept lines and those of the bytes.
 use Rattle.std.proofs.Common.{◌≡◌, ◌≢◌, ℕ, zero, suc, ◌+◌, ◌-◌, ◌<◌, ◌≤◌, ◌⊎◌, inl, inr, List, [], ◌∷◌, ◌++◌, length, take, drop, get_or, refl, sym, ◌∙◌, ap, subst, arith, append_assoc, length-append}
 use Rattle.std.proofs.lemmas.Bool.{cases_lt, cases_eq}
 use Rattle.std.proofs.lemmas.List.{append-nil, get_or_append_left, get_or-append-add, take-append-drop}
@@ -14,7 +14,8 @@ use Rattle.std.proofs.lemmas.List.Elements.{All-cons, All-nil, All-drop, All-get
 use Rattle.std.proofs.lemmas.Bool.{cond-true, cond-false, lt-ltb, le-ltb}
 use Rattle.yl_text.specs.declared.TheConstants.{MAX_BYTES}
 use Rattle.yl_text.specs.Store.{AreLines}
-use Rattle.yl_text.specs.Edit.{CanEdit, IsEditRange, LeavesOpenEnd, JoinsBreaks, front_of, back_of, edited_text, inserted_rows, first_byte, last_byte, Joins, EndsInBreak}
+use Rattle.yl_text.specs.Edit.{first_byte, last_byte}
+use Rattle.yl_text.specs.PutLines.{CanPutLines, IsLineRange, LeavesOpenEnd, JoinsBreaks, front_of, back_of, put_text, inserted_rows, Joins, EndsInBreak, EditIsSplice}
 
 -- lines that all end in a break
 pub record AreClosed (cs : List RowValue) : Type 0 where
@@ -28,11 +29,11 @@ last_of x y h =
     let n : length (x ++ y) - 1 ≡ length x + (length y - 1) = omega (arith, length-append x y) in
     ap (λ (k : ℕ). get_or (x ++ y) k 0) n ∙ get_or-append-add x y (length y - 1) 0
 
-has_last : (t : List ℕ) (b : ℕ) → (b ≡ 0 → ⊥) → last_byte t ≡ b → 0 < length t
+pub has_last : (t : List ℕ) (b : ℕ) → (b ≡ 0 → ⊥) → last_byte t ≡ b → 0 < length t
 has_last [] b n e = absurd (n (sym e))
 has_last (x ∷ t) b n e = omega arith
 
-first_of : (x y : List ℕ) → 0 < length x → first_byte (x ++ y) ≡ first_byte x
+pub first_of : (x y : List ℕ) → 0 < length x → first_byte (x ++ y) ≡ first_byte x
 first_of x y h = get_or_append_left x y 0 0 h
 
 -- a line that ends in a break has a byte
@@ -188,7 +189,7 @@ tail_lines ps b t w h c j =
           ap (λ (u : List ℕ). lines_of (u ++ back_of ps b)) (sym is.1) ∙ lines_of-closed (without_last t) (back_of ps b) is.0 (λ k. j (ap (λ (u : List ℕ). last_byte u) (sym is.1) ∙ k.0, k.1)) ∙ ap (λ (l : List RowValue). without_last t ++ l) back
 
 -- the lines of the text after the edit
-pub lines_of-edited : (ps : List RowValue) (a b : ℕ) (t : List ℕ) → IsLines (text_of ps) ps → IsEditRange ps a b → ¬ (LeavesOpenEnd ps b t) → ¬ (JoinsBreaks ps a b t) → lines_of (edited_text ps a b t) ≡ splice ps a b (inserted_rows ps b t)
+pub lines_of-edited : (ps : List RowValue) (a b : ℕ) (t : List ℕ) → IsLines (text_of ps) ps → IsLineRange ps a b → ¬ (LeavesOpenEnd ps b t) → ¬ (JoinsBreaks ps a b t) → lines_of (put_text ps a b t) ≡ splice ps a b (inserted_rows ps b t)
 lines_of-edited ps a b t h r c j =
     lines_of-closed (take a ps) (t ++ back_of ps b) (take_closed ps a r.starts h.ended h.unbroken h.whole) (seam (front_of ps a) (back_of ps b) t j)
     ∙ ap (λ (l : List RowValue). take a ps ++ l) (tail_lines ps b t r.within h c (λ k. j (inl (inr k)))) where
@@ -203,11 +204,18 @@ length-lines (p ∷ []) e = omega arith
 length-lines (p ∷ q ∷ ps) e = omega (arith, length-lines (q ∷ ps) e.1, some_byte p e.0, length-append (row_bytes p) (text_of (q ∷ ps)))
 
 -- the new lines are lines
-pub AreLines-edited : (ps : List RowValue) (a b : ℕ) (t : List ℕ) → AreLines ps → CanEdit ps a b t → AreLines (splice ps a b (inserted_rows ps b t)) × IsLines (edited_text ps a b t) (splice ps a b (inserted_rows ps b t))
+pub AreLines-edited : (ps : List RowValue) (a b : ℕ) (t : List ℕ) → AreLines ps → CanPutLines ps a b t → AreLines (splice ps a b (inserted_rows ps b t)) × IsLines (put_text ps a b t) (splice ps a b (inserted_rows ps b t))
 AreLines-edited ps a b t h c =
     let same = lines_of-edited ps a b t h.lines c.range c.closed c.apart in
-    let P : List RowValue → Type 0 = λ l. IsLines (edited_text ps a b t) l in
-    let lines = subst P same (lines_of-IsLines (edited_text ps a b t)) in
+    let P : List RowValue → Type 0 = λ l. IsLines (put_text ps a b t) l in
+    let lines = subst P same (lines_of-IsLines (put_text ps a b t)) in
     let Q : List ℕ → Type 0 = λ u. IsLines u (splice ps a b (inserted_rows ps b t)) in
     let R : List ℕ → Type 0 = λ u. length u ≤ MAX_BYTES in
     (record { lines = subst Q (sym lines.joined) lines; short = subst R (sym lines.joined) c.short }, lines)
+
+-- and those of the edit between two places that is made so
+pub edit_is_splice : EditIsSplice
+edit_is_splice ps from to t a b piece h e =
+    let made = AreLines-edited ps a b piece h e.can in
+    let P : List ℕ → Type 0 = λ u. IsLines u (splice ps a b (inserted_rows ps b piece)) in
+    (subst P e.same made.1, made.0)

@@ -1,4 +1,6 @@
 pub mod Answering
+pub mod ByBytes
+pub mod Columns
 pub mod Computed
 pub mod Cut
 pub mod Edited

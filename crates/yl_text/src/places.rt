@@ -1,11 +1,11 @@
 //! Places of a text by bytes, and the edit of lines that an edit between two places is.
-ghost use Rattle.std.specs.Prelude.{◌≡◌, ◌+◌, ◌-◌, ◌<◌, ◌≤◌, ◌×◌, ◌↔◌, ◌++◌, true, IsTrue, IfOk, MatchOption, length, take, drop, slice_index, vec_capacity, vec_len};
+ghost use Rattle.std.specs.Prelude.{◌≡◌, ◌+◌, ◌-◌, ◌<◌, ◌≤◌, ◌↔◌, ◌++◌, true, IsTrue, IfOk, MatchOption, length, take, drop, slice_index, vec_capacity, vec_len, [], ◌^◌, if◌then◌else◌};
 ghost use Rattle.std.specs.Str.{chars, encode_utf8_all, IsAscii, IsUtf8};
 ghost use Rattle.yl_text.specs.Lines.{row_bytes, break_bytes};
 ghost use Rattle.yl_text.specs.Store.{AreLines};
-ghost use Rattle.yl_text.specs.Edit.{IsInText, CanEdit, offset, line_bytes, is_line_kept, end_line};
-ghost use Rattle.yl_text.specs.PutLines.{IsLineEdit};
-ghost use Rattle.yl_text.specs.Places.{IsBytePlace, IsFrontCut, rest_from};
+ghost use Rattle.yl_text.specs.Edit.{IsInText, CanEdit, offset, line_bytes, line_start, last_byte};
+ghost use Rattle.yl_text.specs.PutLines.{IsLineEdit, back_of};
+ghost use Rattle.yl_text.specs.Places.{IsByteOf, IsCut, IsBytePlace, IsBehind, IsFrontCut, BeginsBehind};
 
 use crate::decode::are_ascii;
 use crate::edit::{back_starts_with_lf, bytes_between, front_ends_in_cr};
@@ -69,8 +69,8 @@ fn walk_one_by_one(text: &str, characters: usize) -> Walked
 
 /// How many bytes the first characters of a line have, its break counted, if it has so many characters.
 fn byte_of<A: Allocator>(row: &Row<A>, characters: usize) -> Option<usize>
-    ensures { MatchOption result (length (chars (row_bytes row.now)) < characters)
-        (λ byte. (characters ≤ length (chars (row_bytes row.now))) × (byte ≡ length (encode_utf8_all (take characters (chars (row_bytes row.now)))))) }
+    requires { length (row_bytes row.now) < 2 ^ 32 }
+    ensures { MatchOption result (length (chars (row_bytes row.now)) < characters) (λ byte. IsByteOf (row_bytes row.now) characters byte) }
 {
     let Walked { byte, left } = walk_over(row.as_str(), characters);
     if left > row.end().len() {
@@ -79,10 +79,12 @@ fn byte_of<A: Allocator>(row: &Row<A>, characters: usize) -> Option<usize>
     Some(byte + left)
 }
 
-/// The place behind so many bytes of a line: the column past its break is column 0 of the next line.
+/// The place behind so many bytes of a line: behind all of them it is in the next line, if there is one.
 fn renamed<S: Lines>(lines: &S, line: usize, byte: usize) -> BytePlace
+    requires lines { AreLines (S.rows lines.now) }
     requires line { line < length (S.rows lines.now) }
-    ensures { (result.line ≡ line) × (result.byte ≡ byte) }
+    requires cut { IsCut (line_bytes (S.rows lines.now) line) byte }
+    ensures { IsBytePlace (S.rows lines.now) (line_start (S.rows lines.now) line + byte) result.line result.byte }
 {
     if line + 1 < lines.len() && byte == lines.row(line).bytes() {
         return BytePlace {
@@ -103,17 +105,28 @@ pub(crate) fn byte_place<S: Lines>(lines: &S, place: Pos) -> Option<BytePlace>
     if line >= lines.len() {
         return None;
     }
-    let byte = byte_of(lines.row(line), place.col as usize)?;
-    Some(renamed(lines, line, byte))
+    match byte_of(lines.row(line), place.col as usize) {
+        Some(byte) => Some(renamed(lines, line, byte)),
+        None => None,
+    }
 }
 
 /// Whether the first place stands behind the second one.
-pub(crate) fn is_behind(one: BytePlace, other: BytePlace) -> bool {
+pub(crate) fn is_behind(one: BytePlace, other: BytePlace) -> bool
+    ensures { IsTrue result ↔ IsBehind one.line one.byte other.line other.byte }
+{
     other.line < one.line || other.line == one.line && other.byte < one.byte
 }
 
 /// How many bytes stand between two places.
-pub(crate) fn bytes_from_to<S: Lines>(lines: &S, from: BytePlace, to: BytePlace) -> u64 {
+pub(crate) fn bytes_from_to<S: Lines>(lines: &S, from: BytePlace, to: BytePlace) -> u64
+    requires lines { AreLines (S.rows lines.now) }
+    requires first { from.line ≤ to.line }
+    requires last { to.line < length (S.rows lines.now) }
+    requires within { to.byte ≤ length (line_bytes (S.rows lines.now) to.line) }
+    requires ordered { line_start (S.rows lines.now) from.line + from.byte ≤ line_start (S.rows lines.now) to.line + to.byte }
+    ensures { line_start (S.rows lines.now) from.line + from.byte + result ≡ line_start (S.rows lines.now) to.line + to.byte }
+{
     bytes_between(lines, from.line, to.line) + to.byte as u64 - from.byte as u64
 }
 
@@ -131,12 +144,17 @@ pub fn are_one_place<S: Lines>(lines: &S, from: Pos, to: Pos) -> bool
 }
 
 /// The first place of an edit, by bytes of the first line that it touches: where the place begins a line
-/// and the line before that one ends in CR, that line, whole.
-fn front_cut<S: Lines>(lines: &S, from: BytePlace) -> BytePlace {
-    if from.byte > 0 || !front_ends_in_cr(lines, from.line) {
-        return from;
+/// and the line before that one ends in CR, behind that line.
+fn front_cut<S: Lines>(lines: &S, from: Pos) -> BytePlace
+    requires lines { AreLines (S.rows lines.now) }
+    requires from { IsInText (S.rows lines.now) from }
+    ensures { IsFrontCut (S.rows lines.now) from result.line result.byte }
+{
+    let at = byte_place(lines, from).unwrap();
+    if at.byte > 0 || !front_ends_in_cr(lines, at.line) {
+        return at;
     }
-    let line = from.line - 1;
+    let line = at.line - 1;
     BytePlace {
         line,
         byte: lines.row(line).bytes(),
@@ -157,25 +175,70 @@ fn byte_before<A: Allocator>(row: &Row<A>, place: usize) -> u8
     }
 }
 
-/// Whether a line begins behind the bytes that come in, where what is kept behind them begins a line.
-fn begins_behind<S: Lines>(lines: &S, cut: BytePlace, bytes: &[u8], line: usize) -> bool {
-    let last = match bytes.last() {
-        Some(byte) => *byte,
-        None if cut.byte == 0 => return true,
-        None => byte_before(lines.row(cut.line), cut.byte),
-    };
-    last == b'\n' || last == b'\r' && !back_starts_with_lf(lines, line)
+/// The last byte before what an edit keeps, if one stands there that the lines before don't end in.
+fn last_before<S: Lines>(lines: &S, cut: BytePlace, bytes: &[u8]) -> Option<u8>
+    requires line { cut.line < length (S.rows lines.now) }
+    requires within { cut.byte ≤ length (line_bytes (S.rows lines.now) cut.line) }
+    ensures { let t = take cut.byte (line_bytes (S.rows lines.now) cut.line) ++ bytes.now in
+        MatchOption result (t ≡ []) (λ last. (last ≡ last_byte t) × (0 < length t)) }
+{
+    match bytes.last() {
+        Some(byte) => Some(*byte),
+        None if cut.byte == 0 => None,
+        None => Some(byte_before(lines.row(cut.line), cut.byte)),
+    }
 }
 
 /// Whether the second place of an edit begins a line, in the old text and in the new one: then that line is kept.
-fn is_kept<S: Lines>(lines: &S, cut: BytePlace, bytes: &[u8], to: BytePlace) -> bool {
-    to.byte == 0 && begins_behind(lines, cut, bytes, to.line)
+fn is_kept<S: Lines>(lines: &S, cut: BytePlace, bytes: &[u8], to: BytePlace) -> bool
+    requires lines { AreLines (S.rows lines.now) }
+    requires line { cut.line < length (S.rows lines.now) }
+    requires within { cut.byte ≤ length (line_bytes (S.rows lines.now) cut.line) }
+    requires last { to.line < length (S.rows lines.now) }
+    ensures { IsTrue result ↔ ((to.byte ≡ 0) × BeginsBehind (take cut.byte (line_bytes (S.rows lines.now) cut.line) ++ bytes.now) (back_of (S.rows lines.now) to.line)) }
+{
+    if to.byte > 0 {
+        return false;
+    }
+    match last_before(lines, cut, bytes) {
+        None | Some(b'\n') => true,
+        Some(b'\r') => !back_starts_with_lf(lines, to.line),
+        Some(_) => false,
+    }
+}
+
+/// Behind which lines an edit ends, and from which byte on the rest of the last line is put in again: no
+/// rest of it where it is kept.
+#[derive(Clone, Copy)]
+struct Ending {
+    line: usize,
+    byte: usize,
+}
+
+/// The ending of an edit up to this place in a line of so many bytes.
+fn end_of(at: BytePlace, bytes: usize, is_kept: bool) -> Ending
+    requires { at.line < 2 ^ 32 }
+    ensures line { result.line ≡ (if is_kept then at.line else at.line + 1) }
+    ensures byte { result.byte ≡ (if is_kept then bytes else at.byte) }
+{
+    if is_kept {
+        Ending {
+            line: at.line,
+            byte: bytes,
+        }
+    } else {
+        Ending {
+            line: at.line + 1,
+            byte: at.byte,
+        }
+    }
 }
 
 /// Appends the front of a line, so many bytes.
 fn put_front<A: Allocator, B: Allocator>(row: &Row<A>, count: usize, piece: &mut Vec<u8, B>)
     requires within { count ≤ length (row_bytes row.now) }
     requires room { vec_len piece.old + count ≤ vec_capacity piece.old }
+    ensures utf8 { IsUtf8 (row_bytes row.now) }
     ensures items { piece.new.items ≡ piece.old.items ++ take count (row_bytes row.now) }
     ensures capacity { vec_capacity piece.old ≤ vec_capacity piece.new }
 {
@@ -192,6 +255,7 @@ fn put_front<A: Allocator, B: Allocator>(row: &Row<A>, count: usize, piece: &mut
 fn put_rest<A: Allocator, B: Allocator>(row: &Row<A>, count: usize, piece: &mut Vec<u8, B>)
     requires within { count ≤ length (row_bytes row.now) }
     requires room { vec_len piece.old + (length (row_bytes row.now) - count) ≤ vec_capacity piece.old }
+    ensures utf8 { IsUtf8 (row_bytes row.now) }
     ensures items { piece.new.items ≡ piece.old.items ++ drop count (row_bytes row.now) }
 {
     let text = row.as_str().as_bytes();
@@ -217,19 +281,18 @@ pub fn line_edit<S: Lines, A: Allocator>(
     requires edit { CanEdit (S.rows lines.now) from to bytes.now }
     ensures { IfOk result (λ edit. IsLineEdit (S.rows lines.now) from to bytes.now edit.first edit.end edit.bytes.items) }
 {
-    let cut = front_cut(lines, byte_place(lines, from).unwrap());
-    let to = byte_place(lines, to).unwrap();
-    let last = lines.row(to.line);
-    let is_kept = is_kept(lines, cut, bytes, to);
-    let rest = if is_kept { last.bytes() } else { to.byte };
-    let size = cut.byte + bytes.len() + (last.bytes() - rest);
+    let cut = front_cut(lines, from);
+    let at = byte_place(lines, to).unwrap();
+    let last = lines.row(at.line);
+    let end = end_of(at, last.bytes(), is_kept(lines, cut, bytes, at));
+    let size = cut.byte + bytes.len() + (last.bytes() - end.byte);
     let mut piece = Vec::with_capacity(alloc, size)?;
     put_front(lines.row(cut.line), cut.byte, &mut piece);
     piece.extend_from_slice(bytes).unwrap();
-    put_rest(last, rest, &mut piece);
+    put_rest(last, end.byte, &mut piece);
     Ok(LineEdit {
         first: cut.line,
-        end: if is_kept { to.line } else { to.line + 1 },
+        end: end.line,
         bytes: piece,
     })
 }

@@ -1,10 +1,10 @@
 use Rattle.yl_text.proofs.Answering.{fault_or_none}
-use Rattle.yl_text.proofs.Edited.{AreLines-edited}
+use Rattle.yl_text.proofs.Edited.{edit_is_splice}
 use Rattle.yl_text.proofs.OneAnswer.{one_fault, no_fault_beside}
 use Rattle.yl_text.proofs.one_answer_to_an_edit.Goals as goal
 
 pub returns-clause-splice : goal.returns-clause-splice
-returns-clause-splice c = λ ps a b t lines can. let h = AreLines-edited ps a b t lines can in (h.1, h.0)
+returns-clause-splice c = edit_is_splice
 
 pub returns-clause-one_fault : goal.returns-clause-one_fault
 returns-clause-one_fault c = one_fault

@@ -1,7 +1,8 @@
 use Rattle.std.proofs.Common.{◌≡◌, ◌+◌, ◌-◌, ℕ, rules, arith, subst}
 use Rattle.std.specs.Prelude.{◌↔◌}
 use Rattle.yl_text.specs.declared.row.Break.TheVariants.{Cr}
-use Rattle.yl_text.specs.Edit.{last_byte, front_of}
+use Rattle.yl_text.specs.Edit.{last_byte}
+use Rattle.yl_text.specs.PutLines.{front_of}
 use Rattle.yl_text.proofs.Seams.{front_ends}
 use Rattle.yl_text.proofs.edit.front_ends_in_cr.Goals as goal
 
