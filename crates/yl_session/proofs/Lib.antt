@@ -10,5 +10,6 @@ mod HeldDocuments
 mod Read
 mod Renewed
 mod Places
+pub mod Between
 pub mod Goes
 pub mod Nothing

@@ -1,18 +1,20 @@
--- Meaning: what an edit of a text is answered, and what a list of edits leaves. Lines are those of
--- YAML 1.2.2, 5.4; edits of whole lines are this project's own (docs/DECISIONS.md, "Texts and
--- edits").
-use Rattle.std.specs.Prelude.{◌≡◌, ℕ, List, [], ◌∷◌, Result, Ok, Err}
+-- Meaning: what an edit of a text is answered, what it may take, and what a list of edits leaves.
+-- Lines are those of YAML 1.2.2, 5.4; an edit puts bytes in place of what stands between two places.
+use Rattle.std.specs.Prelude.{◌≡◌, ℕ, ◌+◌, ◌-◌, List, [], ◌∷◌, length, Result, Ok, Err}
 use Rattle.yl_text.specs.declared.fault.TextFault.{TextFault}
 use Rattle.yl_text.specs.declared.fault.TextFault.TheVariants.{Memory}
+use Rattle.yl_text.specs.declared.position.Pos.{Pos}
 use Rattle.yl_text.specs.Lines.{RowValue, lines_of}
-use Rattle.yl_text.specs.Edit.{CanEdit, IsEditFault, edited_text}
+use Rattle.yl_text.specs.Edit.{CanEdit, IsEditFault, edited_text, offset, first_line, end_line}
 use Rattle.yl_config.specs.declared.config.Config.{Config}
+use Rattle.yl_record.specs.Records.{characters_in}
 use Rattle.yl_session.specs.declared.work.Work.{Work}
 use Rattle.yl_session.specs.State.{SessionValue, Shows}
+use Rattle.yl_session.specs.Work.{IsWork}
 
--- no bytes in place of no line
-abbrev pub IsNothing : ℕ → ℕ → List ℕ → Type 0
-IsNothing a b bytes = (a ≡ b) × (bytes ≡ [])
+-- no bytes, from a place to itself, however each of the two is written
+abbrev pub IsNothing : List RowValue → Pos → Pos → List ℕ → Type 0
+IsNothing ps from to bytes = (offset ps from ≡ offset ps to) × (bytes ≡ [])
 
 -- what nothing takes
 abbrev pub no_work : Work
@@ -20,24 +22,32 @@ no_work = record { scanned = 0; documents = 0 }
 
 -- what an edit of these lines is refused for: the first cause that stands, or want of memory where none does and there is
 -- something to be done
-abbrev pub IsRefusal : List RowValue → ℕ → ℕ → List ℕ → TextFault → Type 0
-IsRefusal ps a b bytes Memory = CanEdit ps a b bytes × ¬ (IsNothing a b bytes)
-IsRefusal ps a b bytes fault = IsEditFault ps a b bytes fault
+abbrev pub IsRefusal : List RowValue → Pos → Pos → List ℕ → TextFault → Type 0
+IsRefusal ps from to bytes Memory = CanEdit ps from to bytes × ¬ (IsNothing ps from to bytes)
+IsRefusal ps from to bytes fault = IsEditFault ps from to bytes fault
 
 -- the answer to an edit of these lines
-abbrev pub IsAnswer : List RowValue → ℕ → ℕ → List ℕ → Result Work TextFault → Type 0
-IsAnswer ps a b bytes (Ok work) = CanEdit ps a b bytes × (IsNothing a b bytes → work ≡ no_work)
-IsAnswer ps a b bytes (Err fault) = IsRefusal ps a b bytes fault
+abbrev pub IsAnswer : List RowValue → Pos → Pos → List ℕ → Result Work TextFault → Type 0
+IsAnswer ps from to bytes (Ok work) = CanEdit ps from to bytes × (IsNothing ps from to bytes → work ≡ no_work)
+IsAnswer ps from to bytes (Err fault) = IsRefusal ps from to bytes fault
 
--- an edit as a value: these bytes in place of the lines a to b
+-- how many of the new lines stand in place of the old ones that the edit touches: all but those before these and behind them
+abbrev pub lines_put : List RowValue → List RowValue → Pos → Pos → List ℕ → ℕ
+lines_put old new from to bytes = length new - (first_line old from + (length old - end_line old from to bytes))
+
+-- an edit that leaves these new lines may take so much: its old lines are the first one that it touches to its end line
+abbrev pub IsEditWork : List RowValue → List RowValue → Pos → Pos → List ℕ → Work → Type 0
+IsEditWork old new from to bytes work = IsWork (characters_in old) (characters_in new) (first_line old from) (end_line old from to bytes) (lines_put old new from to bytes) work
+
+-- an edit as a value: these bytes in place of what stands between two places
 pub record EditValue : Type 0 where
-  pub a : ℕ
-  pub b : ℕ
+  pub from : Pos
+  pub to : Pos
   pub bytes : List ℕ
 
 -- the text after an edit that was answered so
 abbrev pub text_after : List ℕ → EditValue → Result Work TextFault → List ℕ
-text_after text e (Ok work) = edited_text (lines_of text) e.a e.b e.bytes
+text_after text e (Ok work) = edited_text (lines_of text) e.from e.to e.bytes
 text_after text e (Err fault) = text
 
 -- the text that is left by the edits that were accepted
@@ -50,7 +60,7 @@ text_after_all text (e ∷ edits) [] = text
 -- each edit has the answer that it gets at the text of that moment
 abbrev pub AreAnswers : List ℕ → List EditValue → List (Result Work TextFault) → Type 0
 AreAnswers text [] [] = Unit {0}
-AreAnswers text (e ∷ edits) (r ∷ answers) = IsAnswer (lines_of text) e.a e.b e.bytes r × AreAnswers (text_after text e r) edits answers
+AreAnswers text (e ∷ edits) (r ∷ answers) = IsAnswer (lines_of text) e.from e.to e.bytes r × AreAnswers (text_after text e r) edits answers
 AreAnswers text [] (r ∷ answers) = ⊥
 AreAnswers text (e ∷ edits) [] = ⊥
 

@@ -7,13 +7,13 @@ use crate::work::Work;
 use std::alloc::Allocator;
 use std::marker::Model;
 use yl_config::Config;
-use yl_text::{LineStore, TextFault};
+use yl_text::{LineStore, Pos, TextFault};
 
-/// An edit: these bytes in place of the lines a to b, counted from 0, b not included.
+/// An edit: these bytes in place of what stands between two places.
 #[derive(Drop)]
 pub struct Edit<A: Allocator> {
-    pub a: u64,
-    pub b: u64,
+    pub from: Pos,
+    pub to: Pos,
     pub bytes: Vec<u8, A>,
 }
 
@@ -22,7 +22,7 @@ impl<A: Allocator> Model for Edit<A> {
 
     ghost Value = { EditValue };
 
-    ghost view = { λ e. record { a = e.a; b = e.b; bytes = e.bytes.items } };
+    ghost view = { λ e. record { from = e.from; to = e.to; bytes = e.bytes.items } };
 }
 
 ghost use Rattle.yl_session.specs.Runs.{Replayed};
@@ -43,7 +43,7 @@ pub fn replay<S: LineStore>(
         return Err(TextFault::Memory);
     };
     for edit in edits {
-        let answer = session.edit(edit.a, edit.b, edit.bytes.as_slice());
+        let answer = session.edit(edit.from, edit.to, edit.bytes.as_slice());
         answers.push_reserved(answer);
     }
     Ok((session, answers))

@@ -4,7 +4,8 @@ ghost use Rattle.std.specs.List.{splice};
 ghost use Rattle.yl_text.specs.Lines.{RowValue};
 ghost use Rattle.yl_text.specs.Fault.{IsText, IsFaultOf};
 ghost use Rattle.yl_text.specs.Store.{AreLines, IsRange};
-ghost use Rattle.yl_text.specs.Edit.{CanEdit, edited_text, incoming_lines, inserted_rows};
+ghost use Rattle.yl_text.specs.Edit.{CanEdit, IsInText, IsEditRange, edited_text};
+ghost use Rattle.yl_text.specs.PutLines.{CanPutLines, put_text, incoming_lines, inserted_rows};
 ghost use Rattle.yl_session.specs.State.{OneState};
 ghost use Rattle.yl_record.specs.Records.{characters_in};
 ghost use Rattle.yl_session.specs.Runs.{IsNothing};
@@ -27,7 +28,7 @@ use yl_record::Record;
 use yl_rejudge::Place;
 use yl_report::{Problem, status};
 use yl_sections::Kept;
-use yl_text::{LineStore, Row, TextFault, split};
+use yl_text::{LineStore, Lines, Pos, Row, TextFault, are_one_place, line_edit, split};
 
 /// The lines of a text, with a record of each, what is kept of its sections and known of all of them, places
 /// among them, its report under a configuration, and, once it is known, what would be reported if no comment
@@ -88,7 +89,7 @@ impl<S: LineStore> Session<S> {
     ghost use Rattle.yl_session.specs.State.{Shows};
     ghost use Rattle.yl_lint.specs.TextReport.{report};
     ghost use Rattle.yl_report.specs.Report.{status_of};
-    ghost use Rattle.yl_session.specs.Runs.{IsAnswer, no_work};
+    ghost use Rattle.yl_session.specs.Runs.{IsAnswer, IsEditWork, no_work};
 
     /// A session over these bytes.
     pub fn open(alloc: S::Alloc, config: Config, bytes: &[u8]) -> Result<Session<S>, TextFault>
@@ -234,10 +235,10 @@ impl<S: LineStore> Session<S> {
         Ok(plan.work)
     }
 
-    /// Puts the bytes in place of the lines a to b, where that is no fault.
+    /// Puts the bytes in place of the lines a to b, where the rows that result are the lines of the text.
     fn put(&mut self, a: usize, b: usize, bytes: &[u8]) -> Result<Work, AllocError>
-        requires { CanEdit self.old.rows a b bytes.now }
-        ensures ok { OnOk result (Shows self.old.config (edited_text self.old.rows a b bytes.now) self.new) }
+        requires { CanPutLines self.old.rows a b bytes.now }
+        ensures ok { OnOk result (Shows self.old.config (put_text self.old.rows a b bytes.now) self.new) }
         ensures work { IfOk result (λ work. IsWork (characters_in self.old.rows) (characters_in self.new.rows) a b (length (inserted_rows self.old.rows b bytes.now)) work) }
         ensures err { OnErr result (self.new ≡ self.old) }
     {
@@ -248,27 +249,38 @@ impl<S: LineStore> Session<S> {
         self.change(a, b, &mut rows)
     }
 
-    /// Puts the bytes in place of the lines a to b, counted from 0, b not included. Where this is refused
-    /// nothing changes. An edit of no line by no bytes takes no memory.
-    pub fn edit(&mut self, a: u64, b: u64, bytes: &[u8]) -> Result<Work, TextFault>
-        ensures answer { IsAnswer self.old.rows a b bytes.now result }
-        ensures done { OnOk result (Shows self.old.config (edited_text self.old.rows a b bytes.now) self.new) }
-        // No more than the rows and documents that the edit can have changed.
-        ensures work { IfOk result (λ work. ¬ (IsNothing a b bytes.now) → IsWork (characters_in self.old.rows) (characters_in self.new.rows) a b (length (inserted_rows self.old.rows b bytes.now)) work) }
-        ensures refused { OnErr result (self.new ≡ self.old) }
-        ensures nothing { a < length self.old.rows → IsNothing a b bytes.now → (result ≡ Ok no_work) × (self.new ≡ self.old) }
+    /// Puts the bytes in place of what stands between two places, where that is no fault: by whole lines, whose rest
+    /// is put in again.
+    fn put_between(&mut self, from: Pos, to: Pos, bytes: &[u8]) -> Result<Work, AllocError>
+        requires { CanEdit self.old.rows from to bytes.now }
+        ensures ok { OnOk result (Shows self.old.config (edited_text self.old.rows from to bytes.now) self.new) }
+        ensures work { IfOk result (λ work. IsEditWork self.old.rows self.new.rows from to bytes.now work) }
+        ensures err { OnErr result (self.new ≡ self.old) }
     {
-        let (a, b) = (a as usize, b as usize);
-        if let Err(fault) = self.store.check(a, b, bytes) {
+        let lines = line_edit(self.alloc, &self.store, from, to, bytes)?;
+        self.put(lines.first, lines.end, lines.bytes.as_slice())
+    }
+
+    /// Puts the bytes in place of what stands between two places. Where this is refused nothing changes. An
+    /// edit of nothing, no bytes from a place to itself, takes no memory.
+    pub fn edit(&mut self, from: Pos, to: Pos, bytes: &[u8]) -> Result<Work, TextFault>
+        ensures answer { IsAnswer self.old.rows from to bytes.now result }
+        ensures done { OnOk result (Shows self.old.config (edited_text self.old.rows from to bytes.now) self.new) }
+        // No more than the rows and documents that the edit can have changed.
+        ensures work { IfOk result (λ work. ¬ (IsNothing self.old.rows from to bytes.now) → IsEditWork self.old.rows self.new.rows from to bytes.now work) }
+        ensures refused { OnErr result (self.new ≡ self.old) }
+        ensures nothing { IsEditRange self.old.rows from to → IsNothing self.old.rows from to bytes.now → (result ≡ Ok no_work) × (self.new ≡ self.old) }
+    {
+        if let Err(fault) = self.store.check(from, to, bytes) {
             return Err(fault);
         }
-        if is_nothing(a, b, bytes) {
+        if is_nothing(&self.store, from, to, bytes) {
             return Ok(Work {
                 scanned: 0,
                 documents: 0,
             });
         }
-        match self.put(a, b, bytes) {
+        match self.put_between(from, to, bytes) {
             Ok(work) => Ok(work),
             Err(AllocError) => Err(TextFault::Memory),
         }
@@ -282,11 +294,14 @@ pub fn one_state()
     ensures { OneState }
 {}
 
-/// Whether no line is replaced by no bytes.
-fn is_nothing(a: usize, b: usize, bytes: &[u8]) -> bool
-    ensures { IsTrue result ↔ IsNothing a b bytes.now }
+/// Whether the two places are one, and there are no bytes.
+fn is_nothing<S: Lines>(lines: &S, from: Pos, to: Pos, bytes: &[u8]) -> bool
+    requires lines { AreLines (S.rows lines.now) }
+    requires first { IsInText (S.rows lines.now) from }
+    requires last { IsInText (S.rows lines.now) to }
+    ensures { IsTrue result ↔ IsNothing (S.rows lines.now) from to bytes.now }
 {
-    a == b && bytes.is_empty()
+    bytes.is_empty() && are_one_place(lines, from, to)
 }
 
 /// The lines of bytes that are put before a line, or at the end.

@@ -1,5 +1,5 @@
 //! What edits are answered, over both stores: the report before them and after each, and that each took no more work than it may.
-use crate::sessions::{edit, opened};
+use crate::sessions::{edit_lines, opened};
 use crate::shown::{name_of, report_shown};
 use std::alloc::{AllocError, Global};
 use std::process::Abort;
@@ -10,10 +10,10 @@ use yl_text::{LineStore, PlainStore, TextFault};
 
 // An edit: these bytes in place of the lines from the first to the second number on; and the most rows that it may scan, and the most
 // documents of which it may derive events.
-pub(crate) type Change = (u64, u64, &'static [u8], u32, u32);
+pub(crate) type Change = (u32, u32, &'static [u8], u32, u32);
 
 // How an edit was answered, and what work it was if that was more than it may be.
-fn answer_shown(
+pub(crate) fn answer_shown(
     alloc: Global,
     answer: Result<Work, TextFault>,
     scanned: u32,
@@ -35,7 +35,7 @@ fn edit_shown<S: LineStore>(
     change: &Change,
 ) -> Result<String, AllocError> {
     let (a, b, bytes, scanned, documents) = *change;
-    let answer = edit(session, a, b, bytes);
+    let answer = edit_lines(session, a, b, bytes);
     let answered = answer_shown(alloc, answer, scanned, documents)?;
     let report = report_shown(alloc, session)?;
     format!(in alloc; "-- {answered}\n{report}")
@@ -130,8 +130,8 @@ static EDITED: &[Line] = &[
     // Refused edits leave the report.
     (
         "---\na: 1\rb:  2\n",
-        &[(2, 3, b"\n", 0, 0), (0, 1, b"x", 0, 0)],
-        "3:4 too many spaces after colon\n-- JoinedBreak\n3:4 too many spaces after colon\n-- OpenEnd\n3:4 too many spaces after colon\n",
+        &[(2, 1, b"\n", 0, 0), (0, 1, b"\xff", 0, 0)],
+        "3:4 too many spaces after colon\n-- Range\n3:4 too many spaces after colon\n-- NotUtf8\n3:4 too many spaces after colon\n",
     ),
     // An anchor counts in its document alone.
     (
@@ -497,7 +497,7 @@ fn doubled<S: LineStore>(
     session: &mut Session<S>,
     many: &[u8],
 ) -> Result<String, Fail> {
-    edit(session, 2, 2, many)?;
+    edit_lines(session, 2, 2, many)?;
     Ok(edits_shown(alloc, session, BEHIND)?)
 }
 

@@ -15,6 +15,8 @@ mod hidden;
 #[cfg(test)]
 mod in_lines;
 #[cfg(test)]
+mod places;
+#[cfg(test)]
 mod reached;
 #[cfg(test)]
 mod refused;

@@ -1,6 +1,6 @@
 //! Texts that a session opens, and reaches by an edit of the whole of another text: deep ones, ones with characters that are not allowed, and
 //! each front of some.
-use crate::sessions::{edit, opened};
+use crate::sessions::{edit_lines, opened};
 use crate::shown::{report_shown, state_shown};
 use std::alloc::{AllocError, Global};
 use std::process::Abort;
@@ -11,8 +11,8 @@ use yl_text::{LineStore, PlainStore, TextFault};
 
 // Puts a text in place of all that a session has.
 fn reach<S: LineStore>(session: &mut Session<S>, text: &str) -> Result<(), TextFault> {
-    let end = session.len() as u64;
-    let _ = edit(session, 0, end, text.as_bytes())?;
+    let end = u32::try_from(session.len()).unwrap_or(u32::MAX);
+    let _ = edit_lines(session, 0, end, text.as_bytes())?;
     Ok(())
 }
 

@@ -2,7 +2,7 @@
 //! memory from a heap that refuses.
 use crate::edits::{keys, repeated};
 use crate::rows::edit_of;
-use crate::sessions::{Replayed, edit, opened, replayed};
+use crate::sessions::{Replayed, at, edit, opened, replayed};
 use crate::shown::{answer_shown, report_shown, state_shown};
 use refusing::Refusing;
 use std::alloc::{AllocError, Allocator, Global};
@@ -14,8 +14,8 @@ use yl_text::{LineStore, PlainStore, TextFault};
 
 type Heap<'a> = &'a Refusing<Global>;
 
-// An edit: these bytes in place of the lines from the first to the second number on.
-type Change = (u64, u64, &'static [u8]);
+// An edit: these bytes in place of what stands between two places, each a line and a column.
+type Change = (u32, u32, u32, u32, &'static [u8]);
 
 // All that a text shows where the nth growth of opening it is refused, at 0 none, or why it is not opened; and whether a growth was refused.
 fn opening<S: LineStore>(
@@ -56,6 +56,11 @@ fn refused_opening<S: LineStore>(
     Ok(0)
 }
 
+fn make<S: LineStore>(session: &mut Session<S>, change: Change) -> Result<Work, TextFault> {
+    let (line, col, end_line, end_col, bytes) = change;
+    edit(session, at(line, col), at(end_line, end_col), bytes)
+}
+
 // A session over a text, after edits of it.
 fn edited<S: LineStore>(
     alloc: S::Alloc,
@@ -63,8 +68,8 @@ fn edited<S: LineStore>(
     changes: &[Change],
 ) -> Result<Session<S>, TextFault> {
     let mut session = opened(alloc, text.as_bytes())?;
-    for (a, b, bytes) in changes {
-        edit(&mut session, *a, *b, bytes)?;
+    for change in changes {
+        make(&mut session, *change)?;
     }
     Ok(session)
 }
@@ -99,9 +104,8 @@ fn try_edit<S: LineStore>(
     session: &mut Session<S>,
     change: Change,
 ) -> Result<(String, bool), AllocError> {
-    let (a, b, bytes) = change;
     heap.refuse(n);
-    let answer = edit(session, a, b, bytes);
+    let answer = make(session, change);
     let is_met = n > 0 && !heap.is_armed();
     heap.refuse(0);
     let shown = answered(alloc, session, answer)?;
@@ -166,8 +170,8 @@ fn refused_in_turn<S: LineStore>(
     Ok(0)
 }
 
-// An edit of lines that no text has.
-const NOWHERE: Change = (u64::MAX, u64::MAX, b"");
+// An edit at a place that no text has.
+const NOWHERE: Change = (u32::MAX, u32::MAX, u32::MAX, u32::MAX, b"");
 
 // These edits, and behind them one that is refused.
 fn edits_of<A: Allocator + Copy>(
@@ -175,11 +179,10 @@ fn edits_of<A: Allocator + Copy>(
     changes: &[Change],
 ) -> Result<Vec<Edit<A>, A>, AllocError> {
     let mut edits = Vec::new(alloc);
-    for (a, b, bytes) in changes {
-        edits.push(edit_of(alloc, *a, *b, bytes)?)?;
+    for change in changes.iter().chain(&[NOWHERE]) {
+        let (line, col, end_line, end_col, bytes) = *change;
+        edits.push(edit_of(alloc, at(line, col), at(end_line, end_col), bytes)?)?;
     }
-    let (a, b, bytes) = NOWHERE;
-    edits.push(edit_of(alloc, a, b, bytes)?)?;
     Ok(edits)
 }
 
@@ -230,11 +233,11 @@ fn wanting<S: LineStore>(
 ) -> Result<String, Fail> {
     let mut session: Session<S> = opened(taken, text.as_bytes())?;
     let mut shown = String::new(alloc);
-    for (i, (a, b, bytes)) in changes.iter().enumerate() {
+    for (i, change) in changes.iter().enumerate() {
         let answer = if i == refused {
             Err(TextFault::Memory)
         } else {
-            edit(&mut session, *a, *b, bytes)
+            make(&mut session, *change)
         };
         shown.push_str(answer_shown(alloc, answer)?.as_str())?;
         shown.push_str("\n")?;
@@ -330,75 +333,87 @@ fn check_replay<S: LineStore>(
 
 // A text, and edits of it.
 static EDITS: &[(&str, &[Change])] = &[
-    ("a \r\nb\nc \n", &[(1, 2, b"x \ny\r")]),
-    ("---\n- a\n- b\n", &[(2, 3, b"  b\n")]),
+    ("a \r\nb\nc \n", &[(1, 0, 2, 0, b"x \ny\r")]),
+    ("---\n- a\n- b\n", &[(2, 0, 3, 0, b"  b\n")]),
     (
         "---\na: 1\nb: 2\n",
-        &[(1, 2, b"a: 'x\n"), (1, 2, b"a: 1\n")],
+        &[(1, 0, 2, 0, b"a: 'x\n"), (1, 0, 2, 0, b"a: 1\n")],
     ),
-    ("---\na: [\n  1,\n  2\n]\nb: 3\n", &[(3, 4, b"  2]\n")]),
-    ("---\na:\n    b: 1\nc:\n  d: 1\n", &[(2, 3, b"  b: 1\n")]),
+    (
+        "---\na: [\n  1,\n  2\n]\nb: 3\n",
+        &[(3, 0, 4, 0, b"  2]\n")],
+    ),
+    (
+        "---\na:\n    b: 1\nc:\n  d: 1\n",
+        &[(2, 0, 3, 0, b"  b: 1\n")],
+    ),
     (
         "---\n# yamllint disable rule:colons\na:  1\n",
-        &[(1, 2, b"")],
+        &[(1, 0, 2, 0, b"")],
     ),
-    ("---\na: &x 1\n---\nb: *x\n", &[(2, 3, b"")]),
+    ("---\na: &x 1\n---\nb: *x\n", &[(2, 0, 3, 0, b"")]),
     (
         "---\na: 1\n---\nb: 'x\n---\nc:  1\n",
-        &[(4, 5, b"y\n"), (3, 5, b"b: 1\n---\n"), (0, 2, b"")],
+        &[
+            (4, 0, 5, 0, b"y\n"),
+            (3, 0, 5, 0, b"b: 1\n---\n"),
+            (0, 0, 2, 0, b""),
+        ],
     ),
     // A comment that silences stays, goes and comes; in its document and below, for a rule, for a line and for all.
     (
         "---\n# yamllint disable rule:colons\na:  1\n---\nb:  1 \n",
         &[
-            (2, 3, b"a:  1 \n"),
-            (5, 5, b"c:  1\n"),
-            (1, 2, b""),
-            (1, 1, b"# yamllint disable rule:colons\n"),
+            (2, 0, 3, 0, b"a:  1 \n"),
+            (5, 0, 5, 0, b"c:  1\n"),
+            (1, 0, 2, 0, b""),
+            (1, 0, 1, 0, b"# yamllint disable rule:colons\n"),
         ],
     ),
     (
         "---\n# yamllint disable-line rule:colons\na:  1\n---\nb: 2\n",
         &[
-            (4, 5, b"b: 'x\n"),
-            (4, 5, b"b:  1 \n"),
-            (0, 0, b"# yamllint disable-file\n"),
-            (0, 1, b""),
+            (4, 0, 5, 0, b"b: 'x\n"),
+            (4, 0, 5, 0, b"b:  1 \n"),
+            (0, 0, 0, 0, b"# yamllint disable-file\n"),
+            (0, 0, 1, 0, b""),
         ],
     ),
     // A value is typed anew, is a word that rules tell of, and is none; a blank comes behind it, and a letter behind that.
     (
         "---\na: 1\nb: ye\n---\nc: 2\n",
         &[
-            (1, 2, b"a: 12\n"),
-            (2, 3, b"b: yes\n"),
-            (4, 5, b"c: on\n"),
-            (2, 3, b"b: yest\n"),
+            (1, 0, 2, 0, b"a: 12\n"),
+            (2, 0, 3, 0, b"b: yes\n"),
+            (4, 0, 5, 0, b"c: on\n"),
+            (2, 0, 3, 0, b"b: yest\n"),
         ],
     ),
     (
         "---\na: 1\n---\nb: 2\n",
-        &[(1, 2, b"a: 1 \n"), (1, 2, b"a: 1 3\n")],
+        &[(1, 0, 2, 0, b"a: 1 \n"), (1, 0, 2, 0, b"a: 1 3\n")],
     ),
     // Problems that vary in what they say, beside a quote that opens, is typed on, and closes, and in a line that grows long.
     (
         "---\na: 1\na: 2\n\n\n\n\nb: 3\n---\nc: no\nc: 2\n",
         &[
-            (7, 8, b"b: \"3\n"),
-            (7, 8, b"b: \"33\n"),
-            (1, 2, b"a: 12\n"),
-            (10, 11, b"c: 22\n"),
-            (7, 8, b"b: 33\n"),
+            (7, 0, 8, 0, b"b: \"3\n"),
+            (7, 0, 8, 0, b"b: \"33\n"),
+            (1, 0, 2, 0, b"a: 12\n"),
+            (10, 0, 11, 0, b"c: 22\n"),
+            (7, 0, 8, 0, b"b: 33\n"),
         ],
     ),
     (
         "---\na: 1\na: 2\n\n\n\n\nb: 3\n---\nc: no\nc: 2\n",
         &[
-            (7, 8, b"d: [33\n"),
-            (7, 8, b"d: 3\n"),
+            (7, 0, 8, 0, b"d: [33\n"),
+            (7, 0, 8, 0, b"d: 3\n"),
             (
                 2,
+                0,
                 3,
+                0,
                 b"a: bbbbbbbbb bbbbbbbbb bbbbbbbbb bbbbbbbbb bbbbbbbbb bbbbbbbbb bbbbbbbbb bbbbbbbbb bbb\n",
             ),
         ],
@@ -406,20 +421,63 @@ static EDITS: &[(&str, &[Change])] = &[
     (
         "---\na: 1\na: 2\n",
         &[
-            (1, 2, b"a: '1\n"),
-            (1, 2, b"a: '1'\n"),
-            (0, 0, b"# yamllint disable\n"),
-            (1, 1, b"b: off\n"),
+            (1, 0, 2, 0, b"a: '1\n"),
+            (1, 0, 2, 0, b"a: '1'\n"),
+            (0, 0, 0, 0, b"# yamllint disable\n"),
+            (1, 0, 1, 0, b"b: off\n"),
         ],
     ),
     (
         "---\na:  1\n---\nb: 2\nc: 3\n---\nd:  4\n",
-        &[(3, 4, b"b: [2\n"), (3, 4, b"b: [22\n"), (3, 4, b"b: 2\n")],
+        &[
+            (3, 0, 4, 0, b"b: [2\n"),
+            (3, 0, 4, 0, b"b: [22\n"),
+            (3, 0, 4, 0, b"b: 2\n"),
+        ],
+    ),
+    // Inside lines: a letter, one for another outside of ASCII, a line is parted, two are joined, a last line gets its break.
+    (
+        "---\na: 1\nb: \u{e9}\u{1f600}\nc: 3",
+        &[
+            (1, 4, 1, 4, b"2"),
+            (2, 3, 2, 5, b"\xf0\x9f\x98\x81\xc3\xa8"),
+            (1, 4, 1, 4, b"\nx: "),
+            (2, 4, 3, 0, b" "),
+            (3, 4, 3, 4, b"4\n"),
+        ],
+    ),
+    // A CR and an LF are joined, parted by what comes between, and joined again where it goes.
+    (
+        "---\na: 1\rb: 2\n",
+        &[
+            (2, 0, 3, 0, b"\n"),
+            (1, 5, 1, 5, b"c: 3"),
+            (2, 0, 2, 4, b""),
+        ],
     ),
 ];
 
-// An edit among 20 keys.
-const AMONG_KEYS: &[Change] = &[(10, 11, b"z: v\n")];
+// An edit among 20 keys, and one inside of a line.
+const AMONG_KEYS: &[Change] = &[(10, 0, 11, 0, b"z: v\n"), (10, 4, 10, 4, b"w")];
+
+// Among 600 keys: from inside a line to inside one far below it, over lines that a store keeps in several pieces, and in the line that is left.
+const ACROSS: &[Change] = &[(200, 4, 530, 7, b"1: x"), (200, 8, 200, 8, b"\n  ")];
+
+// Each of these edits in turn.
+fn check_across<S: LineStore>(
+    rt: &impl Abort,
+    alloc: Global,
+    heap: &Refusing<Global>,
+    taken: S::Alloc,
+) -> Result<(), Fail> {
+    let text = keys(alloc, 600)?;
+    for (i, change) in ACROSS.iter().enumerate() {
+        let row = (text.as_str(), ACROSS.get(..i).unwrap_or(&[]), *change);
+        let runs = refused_in_turn::<S>(rt, alloc, heap, taken, row)?;
+        assert!(rt; runs > 5, "{runs} runs of edit {i}");
+    }
+    Ok(())
+}
 
 #[test]
 fn each_growth_of_edits(rt: HostRuntime) -> Result<(), Fail> {
@@ -432,7 +490,9 @@ fn each_growth_of_edits(rt: HostRuntime) -> Result<(), Fail> {
     let text = keys(alloc, 20)?;
     let text = text.as_str();
     check_edits::<PlainStore<Heap<'_>>>(&rt, alloc, &heap, &heap, text, AMONG_KEYS)?;
-    check_edits::<ChunkStore<Heap<'_>>>(&rt, alloc, &heap, &heap, text, AMONG_KEYS)
+    check_edits::<ChunkStore<Heap<'_>>>(&rt, alloc, &heap, &heap, text, AMONG_KEYS)?;
+    check_across::<PlainStore<Heap<'_>>>(&rt, alloc, &heap, &heap)?;
+    check_across::<ChunkStore<Heap<'_>>>(&rt, alloc, &heap, &heap)
 }
 
 #[test]
@@ -457,9 +517,8 @@ fn edit_refused<S: LineStore>(
     session: &mut Session<S>,
     change: Change,
 ) -> Result<(Work, String), Fail> {
-    let (a, b, bytes) = change;
     heap.refuse(n);
-    let answer = edit(session, a, b, bytes);
+    let answer = make(session, change);
     heap.refuse(0);
     let work = answer?;
     let report = report_shown(alloc, session)?;
@@ -487,7 +546,7 @@ fn check_among_documents<S: LineStore>(
     taken: S::Alloc,
 ) -> Result<(), Fail> {
     let text = repeated(alloc, "", "---\nk: v\n", 2000)?;
-    let change: Change = (2001, 2002, b"k: w\n");
+    let change: Change = (2001, 0, 2002, 0, b"k: w\n");
     let (work, report) = edit_reported::<S>(alloc, heap, taken, 1000, text.as_str(), change)?;
     assert!(rt; work.scanned <= 3, "{} rows", work.scanned);
     assert!(rt; work.documents <= 2, "{} documents", work.documents);

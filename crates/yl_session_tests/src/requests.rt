@@ -1,5 +1,5 @@
 //! How often an edit asks for memory, in a text of few documents and in one of many, and how many bytes a session holds.
-use crate::sessions::{edit, opened};
+use crate::sessions::{edit_lines, opened};
 use linked_list_allocator::LocalHeap;
 use refusing::Refusing;
 use std::alloc::{AllocError, Global};
@@ -13,7 +13,7 @@ type Heap<'a> = &'a Refusing<Global>;
 
 // An edit: these bytes in place of the lines from the first to the second number on; how often it may ask for memory, and how much more often
 // for each time that what stands above is repeated.
-type Change = (u64, u64, &'static [u8], u64, u64);
+type Change = (u32, u32, &'static [u8], u64, u64);
 
 // What stands above, repeated; what is edited, from whose first line on the edits count lines; what stands below, repeated; and the edits.
 type Row = (&'static str, &'static str, &'static str, &'static [Change]);
@@ -170,11 +170,11 @@ static ROWS: &[Row] = &[
 ];
 
 // Puts a piece so often behind a text. How many lines it has then.
-fn repeat(text: &mut String, piece: &str, count: usize) -> Result<u64, AllocError> {
+fn repeat(text: &mut String, piece: &str, count: usize) -> Result<u32, AllocError> {
     for _ in 0..count {
         text.push_str(piece)?;
     }
-    let mut lines = 0u64;
+    let mut lines = 0u32;
     for byte in text.as_str().as_bytes() {
         if *byte == b'\n' {
             lines = lines.saturating_add(1);
@@ -190,7 +190,7 @@ fn text_of(
     here: &str,
     below: &str,
     count: usize,
-) -> Result<(String, u64), AllocError> {
+) -> Result<(String, u32), AllocError> {
     let mut text = String::new(alloc);
     let first = repeat(&mut text, above, count)?;
     text.push_str(here)?;
@@ -202,12 +202,12 @@ fn text_of(
 fn requests<S: LineStore>(
     heap: &Refusing<Global>,
     session: &mut Session<S>,
-    a: u64,
-    b: u64,
+    a: u32,
+    b: u32,
     bytes: &[u8],
 ) -> Result<u64, TextFault> {
     heap.refuse(u64::MAX);
-    let answer = edit(session, a, b, bytes);
+    let answer = edit_lines(session, a, b, bytes);
     let left = heap.left();
     heap.refuse(0);
     let _ = answer?;
@@ -260,13 +260,13 @@ fn held<S: LineStore>(
 ) -> Result<[usize; 3], Fail> {
     let (text, last) = text_of(alloc, "- a \n", "- b\n", "", count)?;
     let mut session: Session<S> = opened(taken, text.as_str().as_bytes())?;
-    let _ = edit(&mut session, 1, 2, b"- 'a\n")?;
-    let _ = edit(&mut session, 1, 2, b"- a \n")?;
-    let _ = edit(&mut session, 4, last, b"- [a\n")?;
+    let _ = edit_lines(&mut session, 1, 2, b"- 'a\n")?;
+    let _ = edit_lines(&mut session, 1, 2, b"- a \n")?;
+    let _ = edit_lines(&mut session, 4, last, b"- [a\n")?;
     let came = heap.used();
-    let _ = edit(&mut session, 4, 5, b"- [ab\n")?;
+    let _ = edit_lines(&mut session, 4, 5, b"- [ab\n")?;
     let typed = heap.used();
-    let _ = edit(&mut session, 4, 5, b"- ab\n")?;
+    let _ = edit_lines(&mut session, 4, 5, b"- ab\n")?;
     Ok([came, typed, heap.used()])
 }
 

@@ -1,11 +1,12 @@
-//! What is refused, what is no work, and lists of edits.
-use crate::sessions::{edit, opened, replayed};
+//! What is refused, and lists of edits.
+use crate::sessions::{at, edit, opened, replayed};
 use crate::shown::{lines_shown, report_shown};
+use refusing::Refusing;
 use std::alloc::{AllocError, Allocator, Global};
 use std::process::Abort;
 use std::test::Fail;
 use yl_session::{Edit, Session, Work};
-use yl_text::{LineStore, PlainStore, TextFault};
+use yl_text::{LineStore, PlainStore, Pos, TextFault};
 
 pub(crate) type Plain = PlainStore<Global>;
 
@@ -16,26 +17,95 @@ fn seen<S: LineStore>(alloc: Global, session: &Session<S>) -> Result<String, All
     format!(in alloc; "{lines}\n{report}")
 }
 
-// Edits of a text of four lines, the second of which CR ends: an LF there would make CR LF of it.
-static REFUSED: &[(u64, u64, &[u8], TextFault)] = &[
-    (2, 3, b"\n", TextFault::JoinedBreak),
-    (0, 1, b"x", TextFault::OpenEnd),
-    (4, 4, b"", TextFault::Range),
-    (2, 1, b"", TextFault::Range),
-    (0, 5, b"", TextFault::Range),
-    (9_999_999_999, 9_999_999_999, b"", TextFault::Range),
-    (u64::MAX, 0, b"", TextFault::Range),
-    (0, 1, b"\xff", TextFault::NotUtf8 { valid_up_to: 0 }),
-    (9, 1, b"ab\xc3", TextFault::NotUtf8 { valid_up_to: 2 }),
-    (2, 3, b"\nx", TextFault::OpenEnd),
+// An edit between two places, each a line and a column, and why it is refused.
+type Refused = (u32, u32, u32, u32, &'static [u8], TextFault);
+
+const RANGE: TextFault = TextFault::Range;
+
+// A text, edits of it that are refused, and its lines and its report behind them.
+static REFUSED: &[(&str, &[Refused], &str)] = &[
+    // Places past a line, past the text and behind one another; bytes that are no UTF-8, which is looked for first.
+    (
+        "---\na: 1\rb: 2 \n",
+        &[
+            (0, 5, 1, 0, b"", RANGE),
+            (1, 6, 2, 0, b"", RANGE),
+            (0, 0, 1, 6, b"x", RANGE),
+            (3, 1, 3, 1, b"x", RANGE),
+            (4, 0, 4, 0, b"", RANGE),
+            (0, 0, 4, 0, b"", RANGE),
+            (2, 0, 1, 0, b"", RANGE),
+            (1, 2, 1, 1, b"", RANGE),
+            (0, 5, 0, 4, b"", RANGE),
+            (u32::MAX, u32::MAX, u32::MAX, u32::MAX, b"", RANGE),
+            (u32::MAX, 0, 0, 0, b"", RANGE),
+            (0, 0, 0, u32::MAX, b"", RANGE),
+            (0, 0, 1, 0, b"\xff", TextFault::NotUtf8 { valid_up_to: 0 }),
+            (9, 0, 1, 0, b"ab\xc3", TextFault::NotUtf8 { valid_up_to: 2 }),
+            (
+                1,
+                2,
+                1,
+                1,
+                b"a\xed\xa0\x80",
+                TextFault::NotUtf8 { valid_up_to: 1 },
+            ),
+            (
+                1,
+                1,
+                1,
+                1,
+                b"\xf0\x9f\x98",
+                TextFault::NotUtf8 { valid_up_to: 0 },
+            ),
+        ],
+        "---|a: 1|b: 2 ||\n3:5 trailing spaces\n",
+    ),
+    (
+        "---\nkey: 1\n",
+        &[
+            (1, 8, 1, 8, b"", RANGE),
+            (1, 8, 2, 0, b"x", RANGE),
+            (1, 2, 1, 1, b"", RANGE),
+        ],
+        "---|key: 1||\n",
+    ),
+    // A column counts characters, and those of the break: neither bytes nor halves of a character.
+    (
+        "---\na: \u{e9}\r\nb: \u{1f600}\n",
+        &[
+            (1, 7, 1, 7, b"", RANGE),
+            (2, 6, 2, 6, b"", RANGE),
+            (2, 8, 2, 8, b"", RANGE),
+            (2, 0, 1, 5, b"", RANGE),
+        ],
+        "---|a: \u{e9}|b: \u{1f600}||\n",
+    ),
+    // A last line without its break, an empty text, and one of a break alone.
+    (
+        "---\na: 1",
+        &[(1, 5, 1, 5, b"\n", RANGE), (2, 0, 2, 0, b"", RANGE)],
+        "---|a: 1|\n2:5 no new line character at the end of file\n",
+    ),
+    (
+        "",
+        &[(0, 1, 0, 1, b"", RANGE), (1, 0, 1, 0, b"", RANGE)],
+        "|\n",
+    ),
+    (
+        "\r",
+        &[(0, 2, 0, 2, b"", RANGE), (1, 1, 1, 1, b"", RANGE)],
+        "||\n1:1 wrong new line character: expected \\n\n",
+    ),
 ];
 
-fn check_refused<S: LineStore>(rt: &impl Abort, session: &mut Session<S>) {
-    for (a, b, bytes, fault) in REFUSED {
+fn check_refused<S: LineStore>(rt: &impl Abort, session: &mut Session<S>, edits: &[Refused]) {
+    for (line, col, end_line, end_col, bytes, fault) in edits {
+        let (from, to) = (at(*line, *col), at(*end_line, *end_col));
         assert_eq!(rt;
-            edit(session, *a, *b, bytes),
+            edit(session, from, to, bytes),
             Err(*fault),
-            "lines {a} to {b}"
+            "{from:?} to {to:?}"
         );
     }
 }
@@ -44,45 +114,20 @@ fn check_refused<S: LineStore>(rt: &impl Abort, session: &mut Session<S>) {
 fn behind_refused<S: LineStore<Alloc = Global>>(
     rt: &impl Abort,
     alloc: Global,
-    text: &[u8],
+    text: &str,
+    edits: &[Refused],
 ) -> Result<String, Fail> {
-    let mut session: Session<S> = opened(alloc, text)?;
-    check_refused(rt, &mut session);
+    let mut session: Session<S> = opened(alloc, text.as_bytes())?;
+    check_refused(rt, &mut session, edits);
     Ok(seen(alloc, &session)?)
 }
 
 #[test]
 fn a_refused_edit_changes_nothing(rt: HostRuntime) -> Result<(), Fail> {
-    let shown = behind_refused::<Plain>(&rt, rt.alloc(), b"---\na: 1\rb: 2 \n")?;
-    assert_eq!(rt; shown.as_str(), "---|a: 1|b: 2 ||\n3:5 trailing spaces\n");
-    Ok(())
-}
-
-fn check_nothing<S: LineStore>(rt: &impl Abort, session: &mut Session<S>) {
-    let nothing = Work {
-        scanned: 0,
-        documents: 0,
-    };
-    for line in 0..3 {
-        assert_eq!(rt; edit(session, line, line, b""), Ok(nothing), "line {line}");
+    for (text, edits, wanted) in REFUSED {
+        let shown = behind_refused::<Plain>(&rt, rt.alloc(), text, edits)?;
+        assert_eq!(rt; shown.as_str(), *wanted);
     }
-}
-
-// The lines of a text behind edits of nothing.
-fn behind_nothing<S: LineStore<Alloc = Global>>(
-    rt: &impl Abort,
-    alloc: Global,
-    text: &[u8],
-) -> Result<String, Fail> {
-    let mut session: Session<S> = opened(alloc, text)?;
-    check_nothing(rt, &mut session);
-    Ok(lines_shown(alloc, &session)?)
-}
-
-#[test]
-fn an_edit_of_nothing_is_no_work(rt: HostRuntime) -> Result<(), Fail> {
-    let lines = behind_nothing::<Plain>(&rt, rt.alloc(), b"a\r\n \rb")?;
-    assert_eq!(rt; lines.as_str(), "a| |b|");
     Ok(())
 }
 
@@ -98,39 +143,50 @@ fn what_is_no_text_is_not_opened(rt: HostRuntime) {
     assert_eq!(rt; fault, Some(TextFault::NotUtf8 { valid_up_to: 3 }));
 }
 
-// Why these bytes are not put in place of the lines before line b.
-fn edit_fault<S: LineStore<Alloc = Global>>(
-    alloc: Global,
-    b: u64,
+// Why these bytes are not put in a line of two characters, in place of those from a column to another, where the first growth is refused.
+fn edit_fault<S: LineStore>(
+    heap: &Refusing<Global>,
+    taken: S::Alloc,
+    from: u32,
+    to: u32,
     bytes: &[u8],
 ) -> Result<Option<TextFault>, TextFault> {
-    let mut session: Session<S> = opened(alloc, b"a\n")?;
-    Ok(edit(&mut session, 0, b, bytes).err())
+    let mut session: Session<S> = opened(taken, b"a\n")?;
+    heap.refuse(1);
+    let answer = edit(&mut session, at(0, from), at(0, to), bytes);
+    heap.refuse(0);
+    Ok(answer.err())
 }
 
-// One byte more than a text may have.
+// As many bytes as a text may have want memory, and one more is too large.
 #[test]
 fn what_is_too_large_is_refused(rt: HostRuntime) -> Result<(), Fail> {
+    let heap = Refusing::new(rt.alloc());
     let long = vec![in rt.alloc(); b'x'; 67_108_865]?;
     let long = long.as_slice();
     let whole = fault_of::<Plain>(rt.alloc(), long);
-    let at_the_end = edit_fault::<Plain>(rt.alloc(), 2, long)?;
-    let above_a_line = edit_fault::<Plain>(rt.alloc(), 1, long)?;
     assert_eq!(rt; whole, Some(TextFault::TooLarge));
-    assert_eq!(rt; at_the_end, Some(TextFault::TooLarge));
-    assert_eq!(rt; above_a_line, Some(TextFault::OpenEnd));
+    for (from, to, most) in [(0, 2, 67_108_864), (1, 2, 67_108_863), (1, 1, 67_108_862)] {
+        let most: usize = most;
+        let fitting = long.get(..most).unwrap_or(&[]);
+        let fault = edit_fault::<PlainStore<&Refusing<Global>>>(&heap, &heap, from, to, fitting)?;
+        assert_eq!(rt; fault, Some(TextFault::Memory));
+        let longer = long.get(..=most).unwrap_or(&[]);
+        let fault = edit_fault::<PlainStore<&Refusing<Global>>>(&heap, &heap, from, to, longer)?;
+        assert_eq!(rt; fault, Some(TextFault::TooLarge));
+    }
     Ok(())
 }
 
 pub(crate) fn edit_of<A: Allocator + Copy>(
     alloc: A,
-    a: u64,
-    b: u64,
+    from: Pos,
+    to: Pos,
     bytes: &[u8],
 ) -> Result<Edit<A>, AllocError> {
     Ok(Edit {
-        a,
-        b,
+        from,
+        to,
         bytes: Vec::from_slice(alloc, bytes)?,
     })
 }
@@ -162,11 +218,12 @@ fn shown_behind<S: LineStore<Alloc = Global>>(
 fn replay_goes_on_behind_a_refused_edit(rt: HostRuntime) -> Result<(), Fail> {
     let alloc = rt.alloc();
     let edits = [
-        edit_of(alloc, 1, 2, b"x \ny\r")?,
-        edit_of(alloc, 3, 3, b"\n")?,
-        edit_of(alloc, 0, 1, b"")?,
+        edit_of(alloc, at(1, 0), at(2, 0), b"x \ny\r")?,
+        edit_of(alloc, at(3, 3), at(3, 3), b"z")?,
+        edit_of(alloc, at(0, 1), at(1, 1), b"")?,
+        edit_of(alloc, at(2, 0), at(2, 0), b"\n")?,
     ];
     let shown = shown_behind::<Plain>(alloc, b"a \nb\nc ", &edits)?;
-    assert_eq!(rt; shown.as_str(), "ere x |y|c |");
+    assert_eq!(rt; shown.as_str(), "eree a |y|c |");
     Ok(())
 }

@@ -80,8 +80,6 @@ pub fn name_of(fault: TextFault) -> &'static str {
     match fault {
         TextFault::NotUtf8 { valid_up_to: _ } => "NotUtf8",
         TextFault::Range => "Range",
-        TextFault::OpenEnd => "OpenEnd",
-        TextFault::JoinedBreak => "JoinedBreak",
         TextFault::TooLarge => "TooLarge",
         TextFault::Memory => "Memory",
     }

@@ -1,7 +1,7 @@
 //! Values that are typed on, letter by letter: where they are keys and where they are not, where a rule finds something at them, and
 //! where a fault stands beside them.
 use crate::edits::{Line, check_rows, keys};
-use crate::sessions::{edit, opened};
+use crate::sessions::{edit_lines, opened};
 use std::alloc::Global;
 use std::process::Abort;
 use std::test::Fail;
@@ -240,7 +240,7 @@ fn values_that_are_typed_on(rt: HostRuntime) -> Result<(), Fail> {
 }
 
 // A text, an edit, and how many documents it tells.
-type Counted = (&'static str, u64, u64, &'static [u8], u32);
+type Counted = (&'static str, u32, u32, &'static [u8], u32);
 
 // Where a document stays as it was it is counted all the same: an edit of a value judges it, as that of a key does.
 static COUNTED: &[Counted] = &[
@@ -271,12 +271,12 @@ static COUNTED: &[Counted] = &[
 fn documents<S: LineStore<Alloc = Global>>(
     alloc: Global,
     text: &str,
-    a: u64,
-    b: u64,
+    a: u32,
+    b: u32,
     bytes: &[u8],
 ) -> Result<u32, TextFault> {
     let mut session: Session<S> = opened(alloc, text.as_bytes())?;
-    Ok(edit(&mut session, a, b, bytes)?.documents)
+    Ok(edit_lines(&mut session, a, b, bytes)?.documents)
 }
 
 // The same over both stores.
@@ -284,8 +284,8 @@ fn check_documents(
     rt: &impl Abort,
     alloc: Global,
     text: &str,
-    a: u64,
-    b: u64,
+    a: u32,
+    b: u32,
     bytes: &[u8],
     wanted: u32,
 ) -> Result<(), Fail> {

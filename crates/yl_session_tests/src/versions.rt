@@ -2,7 +2,7 @@
 //! take such a directive away and bring it back.
 use crate::edits::{Change, Line, check_rows};
 use crate::rows::edit_of;
-use crate::sessions::replayed;
+use crate::sessions::{at, replayed};
 use crate::shown::{name_of, report_shown};
 use std::alloc::{AllocError, Global};
 use std::process::Abort;
@@ -149,7 +149,7 @@ fn first_edits(
 ) -> Result<Vec<Edit<Global>, Global>, AllocError> {
     let mut edits = Vec::new(alloc);
     for (a, b, bytes, _, _) in changes.iter().take(count) {
-        edits.push(edit_of(alloc, *a, *b, bytes)?)?;
+        edits.push(edit_of(alloc, at(*a, 0), at(*b, 0), bytes)?)?;
     }
     Ok(edits)
 }

@@ -19,10 +19,10 @@ loop-edit-preserved g c =
     let s = c.loop-edit.session in
     let r = c.edit-answer.result in
     let u = c.edit-answer.new.self in
-    let seen : List ℕ → EditValue = λ bs. record { a = c.edit.inside.a; b = c.edit.inside.b; bytes = bs } in
+    let seen : List ℕ → EditValue = λ bs. record { from = c.edit.inside.from; to = c.edit.inside.to; bytes = bs } in
     let inside : seen c.as_slice.result.now ≡ e = ap seen c.as_slice.ensures.value ∙ c.edit.view_is in
-    let P : EditValue → Type 0 = λ d. IsAnswer s.rows d.a d.b d.bytes r in
-    let Q : EditValue → Type 0 = λ d. OnOk r (Shows s.config (edited_text s.rows d.a d.b d.bytes) u) in
+    let P : EditValue → Type 0 = λ d. IsAnswer s.rows d.from d.to d.bytes r in
+    let Q : EditValue → Type 0 = λ d. OnOk r (Shows s.config (edited_text s.rows d.from d.to d.bytes) u) in
     let run = Replayed-push c.args.config c.args.bytes.now (take i es) c.loop-edit.answers.items s e r u c.loop-edit.invariant.run (subst P inside c.edit-answer.ensures.answer) (subst Q inside c.edit-answer.ensures.done) c.edit-answer.ensures.refused in
     let more = taken es i e c.loop-edit-test.true c.edit-item.is in
     record {

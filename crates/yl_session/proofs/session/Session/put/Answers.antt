@@ -3,7 +3,7 @@ use Rattle.std.specs.Prelude.{OnOk}
 use Rattle.std.specs.List.{splice}
 use Rattle.yl_text.specs.Lines.{RowValue, IsLines}
 use Rattle.yl_text.specs.Store.{AreLines}
-use Rattle.yl_text.specs.Edit.{CanEdit, edited_text, inserted_rows, incoming_lines}
+use Rattle.yl_text.specs.PutLines.{CanPutLines, put_text, inserted_rows, incoming_lines}
 use Rattle.yl_text.proofs.Edited.{AreLines-edited}
 use Rattle.yl_session.specs.State.{SessionValue, Shows}
 use Rattle.yl_lint.specs.TextReport.{report}
@@ -11,12 +11,12 @@ use Rattle.yl_config.specs.declared.config.Config.{Config}
 use Rattle.yl_session.proofs.session.Session.put.Goals as goal
 
 -- what the new rows are
-arrives : (s : SessionValue) (ps ns : List RowValue) (a b n : ℕ) (t : List ℕ) → ps ≡ s.rows → AreLines ps → CanEdit s.rows a b t → n ≡ length ps → ns ≡ incoming_lines (ltb b n) t
-    → AreLines (splice s.rows a b ns) × IsLines (edited_text s.rows a b t) (splice s.rows a b ns)
+arrives : (s : SessionValue) (ps ns : List RowValue) (a b n : ℕ) (t : List ℕ) → ps ≡ s.rows → AreLines ps → CanPutLines s.rows a b t → n ≡ length ps → ns ≡ incoming_lines (ltb b n) t
+    → AreLines (splice s.rows a b ns) × IsLines (put_text s.rows a b t) (splice s.rows a b ns)
 arrives s ps ns a b n t e h can l i =
     let P : List RowValue → Type 0 = λ qs. AreLines qs in
     let is : ns ≡ inserted_rows s.rows b t = i ∙ ap (λ (k : ℕ). incoming_lines (ltb b k) t) (l ∙ ap length e) in
-    let R : List RowValue → Type 0 = λ qs. AreLines (splice s.rows a b qs) × IsLines (edited_text s.rows a b t) (splice s.rows a b qs) in
+    let R : List RowValue → Type 0 = λ qs. AreLines (splice s.rows a b qs) × IsLines (put_text s.rows a b t) (splice s.rows a b qs) in
     subst R (sym is) (AreLines-edited s.rows a b t (subst P e h) can)
 
 -- where it is done, both hold
@@ -25,9 +25,9 @@ both (Ok x) p q f = f p q
 both (Err e) p q f = tt
 
 -- what is shown then
-shown : (s u : SessionValue) (a b : ℕ) (t : List ℕ) (ns : List RowValue) → u.config ≡ s.config → IsLines (edited_text s.rows a b t) (splice s.rows a b ns) → u.rows ≡ splice s.rows a b ns → u.problems ≡ report u.config u.rows → Shows s.config (edited_text s.rows a b t) u
+shown : (s u : SessionValue) (a b : ℕ) (t : List ℕ) (ns : List RowValue) → u.config ≡ s.config → IsLines (put_text s.rows a b t) (splice s.rows a b ns) → u.rows ≡ splice s.rows a b ns → u.problems ≡ report u.config u.rows → Shows s.config (put_text s.rows a b t) u
 shown s u a b t ns config lines rows problems =
-    let P : List RowValue → Type 0 = λ ps. IsLines (edited_text s.rows a b t) ps in
+    let P : List RowValue → Type 0 = λ ps. IsLines (put_text s.rows a b t) ps in
     record { config = config; lines = subst P (sym rows) lines; problems = problems ∙ ap (λ (o : Config). report o u.rows) config }
 
 pub change-requires-clause-lines : goal.change-requires-clause-lines
