@@ -157,7 +157,7 @@ static ROWS: &[Row] = &[
         &[
             (1, 3, 1, 3, b"\"", 4, 1),
             (1, 5, 1, 5, b"\"", 4, 1),
-            (1, 3, 1, 4, b"", 3, 1),
+            (1, 3, 1, 4, b"", 4, 1),
             (1, 4, 1, 5, b"", 3, 1),
         ],
         "edited ---|a: \"b  # c|d: e||\n2:4 syntax error: quoted scalar is not closed\n\

@@ -460,8 +460,8 @@ static EDITS: &[(&str, &[Change])] = &[
 // An edit among 20 keys, and one inside of a line.
 const AMONG_KEYS: &[Change] = &[(10, 0, 11, 0, b"z: v\n"), (10, 4, 10, 4, b"w")];
 
-// Among 600 keys: from inside a line to inside one far below it, over lines that a store keeps in several pieces, and in the line that is left.
-const ACROSS: &[Change] = &[(200, 4, 530, 7, b"1: x"), (200, 8, 200, 8, b"\n  ")];
+// Among 300 keys: from inside a line to inside one far below it, over lines that a store keeps in several pieces, and in the line that is left.
+const ACROSS: &[Change] = &[(20, 4, 290, 7, b"1: x"), (20, 8, 20, 8, b"\n  ")];
 
 // Each of these edits in turn.
 fn check_across<S: LineStore>(
@@ -470,7 +470,7 @@ fn check_across<S: LineStore>(
     heap: &Refusing<Global>,
     taken: S::Alloc,
 ) -> Result<(), Fail> {
-    let text = keys(alloc, 600)?;
+    let text = keys(alloc, 300)?;
     for (i, change) in ACROSS.iter().enumerate() {
         let row = (text.as_str(), ACROSS.get(..i).unwrap_or(&[]), *change);
         let runs = refused_in_turn::<S>(rt, alloc, heap, taken, row)?;
