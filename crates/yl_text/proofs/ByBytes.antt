@@ -1,24 +1,23 @@
 -- Places by bytes: where a text is cut, and what stands there.
-use Rattle.std.proofs.Common.{◌≡◌, ◌≢◌, ℕ, zero, suc, ◌+◌, ◌-◌, ◌<◌, ◌≤◌, ◌⊎◌, inl, inr, Some, Bool, true, false, List, [], ◌∷◌, ◌++◌, length, take, drop, get_or, refl, sym, ◌∙◌, ap, subst, arith, add-one, append_assoc, length-append}
+use Rattle.std.proofs.Common.{◌≡◌, ◌≢◌, ℕ, zero, suc, ◌+◌, ◌-◌, ◌<◌, ◌≤◌, ◌⊎◌, inl, inr, Some, true, List, [], ◌∷◌, ◌++◌, length, take, drop, get_or, refl, sym, ◌∙◌, ap, subst, arith, length-append}
 use Rattle.std.proofs.Math.Seq.{take-add, take-append-add, drop-append-add}
-use Rattle.std.proofs.lemmas.Bool.{cases_lt, cases_Bool, and_parts, and_from, or_cases, or_left, or_right, cond-true, cond-false, eqb-true, eq-eqb, ne_eqb, eqb-false, lt-ltb, le-ltb, not-true, not_from_false, and_left, and_right, false_from_ne_true}
+use Rattle.std.proofs.lemmas.Bool.{cases_lt, and_parts, and_from, or_cases, or_left, or_right, cond-true, cond-false, eqb-true, eq-eqb, ne_eqb, eqb-false, lt-ltb, le-ltb, not-true, not_from_false}
 use Rattle.std.proofs.lemmas.Option.{slice_get_within, slice_get-get_or}
-use Rattle.std.proofs.lemmas.List.{append-nil, take-append-drop, take-append-le, drop-append-le, drop-drop, drop_all, take_all, get_or-take, get_or_append_left, get_or-append_right, get_or-drop, length-take, length-take-le, length-drop, nil_from_length}
+use Rattle.std.proofs.lemmas.List.{append-nil, take-append-drop, take-append-le, drop-append-le, drop-drop, drop_all, take_all, get_or-take, get_or_append_left, get_or-append_right, length-take-le}
 use Rattle.std.proofs.lemmas.List.Concat.{flat_map-append}
 use Rattle.std.proofs.lemmas.List.Elements.{All-head, All-drop, All-get_or}
-use Rattle.std.specs.Prelude.{All, ◌↔◌, nat_lt, ◌==◌, ◌||◌, ◌&&◌, not, if◌then◌else◌}
+use Rattle.std.specs.Prelude.{All, ◌↔◌, ◌==◌, ◌||◌, ◌&&◌, not}
 use Rattle.std.specs.List.{slice_get}
 use Rattle.std.specs.Str.{IsUtf8}
 use Rattle.yl_text.specs.declared.row.Break.{Break}
 use Rattle.yl_text.specs.declared.row.Break.TheVariants.{No, Lf, CrLf, Cr}
-use Rattle.yl_text.specs.declared.position.Pos.{Pos}
 use Rattle.yl_text.specs.Lines.{RowValue, break_bytes, row_bytes, text_of, HasNoBreak, AreEnded, AreWhole}
 use Rattle.yl_text.specs.Store.{AreLines}
 use Rattle.yl_text.specs.Edit.{first_byte, last_byte, line_bytes, line_start, begins_line, line_at}
 use Rattle.yl_text.specs.PutLines.{Joins, EndsInBreak, front_of, back_of}
 use Rattle.yl_text.specs.Places.{IsCut, IsBytePlace, BeginsBehind}
-use Rattle.yl_text.proofs.Edited.{ended_back, first_of, has_last, last_of, some_byte}
-use Rattle.yl_text.proofs.Seams.{drop_here, take_here, back_starts, front_ends, ends_at, last_at}
+use Rattle.yl_text.proofs.Edited.{ended_back, has_last, last_of, some_byte}
+use Rattle.yl_text.proofs.Seams.{drop_here, back_starts, front_ends, ends_at, last_at}
 
 -- ---- the parts of a text about a line
 pub back_parts : (ps : List RowValue) (i : ℕ) → back_of ps i ≡ line_bytes ps i ++ back_of ps (i + 1)
@@ -112,15 +111,18 @@ begins x y = (told x y, tells x y) where
   told [] y h = inl refl
   told (b ∷ bs) y h =
       let x = b ∷ bs in
-      inr (omega arith, elim (or_cases (length x == 0 || last_byte x == 10) (last_byte x == 13 && not (first_byte y == 10)) h) [
-        | inl early ↦ elim (or_cases (length x == 0) (last_byte x == 10) early) [
-          | inl none ↦ absurd (omega (arith, eqb-true (length x) 0 none))
-          | inr lf ↦ inl (eqb-true (last_byte x) 10 lf)
-        ]
-        | inr late ↦
-            let parts = and_parts (last_byte x == 13) (not (first_byte y == 10)) late in
-            inr (eqb-true (last_byte x) 13 parts.0, eqb-false (first_byte y) 10 (not-true (first_byte y == 10) parts.1))
-      ])
+      inr (
+        omega arith,
+        elim (or_cases (length x == 0 || last_byte x == 10) (last_byte x == 13 && not (first_byte y == 10)) h) [
+          | inl early ↦ elim (or_cases (length x == 0) (last_byte x == 10) early) [
+            | inl none ↦ absurd (omega (arith, eqb-true (length x) 0 none))
+            | inr lf ↦ inl (eqb-true (last_byte x) 10 lf)
+          ]
+          | inr late ↦
+              let parts = and_parts (last_byte x == 13) (not (first_byte y == 10)) late in
+              inr (eqb-true (last_byte x) 13 parts.0, eqb-false (first_byte y) 10 (not-true (first_byte y == 10) parts.1))
+        ],
+      )
 
   tells : (x y : List ℕ) → BeginsBehind x y → begins_line x y ≡ true
   tells x y (inl none) = or_left (length x == 0 || last_byte x == 10) _ (or_left (length x == 0) _ (eq-eqb (length x) 0 (ap length none)))
@@ -165,14 +167,15 @@ pub begins_at : (ps : List RowValue) (n i k : ℕ) → AreLines ps → IsBytePla
 begins_at ps n i k h at =
     let cut = cut_text ps n i k at.place at.cut.within in
     let B : List ℕ → List ℕ → Type 0 = λ x y. BeginsBehind x y in
-    let test = begins (take n (text_of ps)) (drop n (text_of ps)) in
-    (λ t. elim (cases_lt 0 k) [
-      | inl some ↦ absurd (inside ps i k h at.line at.inside at.cut.within some (subst (λ (x : List ℕ). B x (drop k (line_bytes ps i) ++ back_of ps (i + 1))) cut.0 (subst (λ (y : List ℕ). B (take n (text_of ps)) y) cut.1 (test.0 t))))
-      | inr none ↦ omega arith
-    ],
-     λ none. test.1 (subst (λ (x : List ℕ). B x (drop n (text_of ps))) (sym (cut.0 ∙ ap (λ (m : ℕ). front_of ps i ++ take m (line_bytes ps i)) none ∙ append-nil (front_of ps i)))
-         (subst (λ (y : List ℕ). B (front_of ps i) y) (sym (cut.1 ∙ ap (λ (m : ℕ). drop m (line_bytes ps i) ++ back_of ps (i + 1)) none ∙ sym (back_parts ps i)))
-         (start ps i h at.line)))) where
+    let test = begins (take n (text_of ps)) (drop n (text_of ps)) in (
+      λ t. elim (cases_lt 0 k) [
+        | inl some ↦ absurd (inside ps i k h at.line at.inside at.cut.within some (subst (λ (x : List ℕ). B x (drop k (line_bytes ps i) ++ back_of ps (i + 1))) cut.0 (subst (λ (y : List ℕ). B (take n (text_of ps)) y) cut.1 (test.0 t))))
+        | inr none ↦ omega arith
+      ],
+      λ none. test.1 (subst (λ (x : List ℕ). B x (drop n (text_of ps))) (sym (cut.0 ∙ ap (λ (m : ℕ). front_of ps i ++ take m (line_bytes ps i)) none ∙ append-nil (front_of ps i)))
+          (subst (λ (y : List ℕ). B (front_of ps i) y) (sym (cut.1 ∙ ap (λ (m : ℕ). drop m (line_bytes ps i) ++ back_of ps (i + 1)) none ∙ sym (back_parts ps i)))
+          (start ps i h at.line))),
+    ) where
       start : (ps : List RowValue) (i : ℕ) → AreLines ps → i < length ps → BeginsBehind (front_of ps i) (back_of ps i)
       start ps i h l = elim (broken_at ps i h l) [
         | inl none ↦ inl none

@@ -5,6 +5,7 @@ pub mod Computed
 pub mod Cut
 pub mod Edited
 pub mod Fitting
+pub mod LineEdits
 pub mod OneAnswer
 pub mod Printable
 pub mod Seams

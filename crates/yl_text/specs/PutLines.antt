@@ -1,6 +1,6 @@
 -- Bridge: an edit between two places is made by lines: the lines a to b, b not included, counted from 0, are replaced by bytes that
 -- hold what is left of them too.
-use Rattle.std.specs.Prelude.{◌≡◌, ◌≢◌, ℕ, ◌+◌, ◌-◌, ◌≤◌, ◌<◌, ◌⊎◌, Bool, nat_lt, if◌then◌else◌, List, [], ◌++◌, length, take, drop}
+use Rattle.std.specs.Prelude.{◌≡◌, ◌≢◌, ℕ, ◌-◌, ◌≤◌, ◌<◌, ◌⊎◌, Bool, nat_lt, if◌then◌else◌, List, [], ◌++◌, length, take, drop}
 use Rattle.std.specs.List.{splice}
 use Rattle.std.specs.Str.{IsUtf8}
 use Rattle.yl_text.specs.Char as char
@@ -8,7 +8,7 @@ use Rattle.yl_text.specs.Lines.{RowValue, text_of, lines_of, IsLines}
 use Rattle.yl_text.specs.Store.{AreLines}
 use Rattle.yl_text.specs.declared.TheConstants.{MAX_BYTES}
 use Rattle.yl_text.specs.declared.position.Pos.{Pos}
-use Rattle.yl_text.specs.Edit.{first_byte, last_byte, line_bytes, line_start, offset, IsInText, edited_text, first_line, end_line}
+use Rattle.yl_text.specs.Edit.{first_byte, last_byte, edited_text, first_line, end_line}
 
 -- lines a to b can be replaced: a is a line, and b is none before it and at most one past the last
 pub record IsLineRange (ps : List RowValue) (a b : ℕ) : Type 0 where

@@ -1,6 +1,6 @@
-use Rattle.std.proofs.Common.{◌≡◌, ◌≤◌, ◌<◌, ◌-◌, ℕ, List, length, take, arith, rules, ap, ◌∙◌, subst, sym}
+use Rattle.std.proofs.Common.{◌-◌, ℕ, List, length, take, arith, ap, ◌∙◌, subst}
 use Rattle.std.specs.Str.{IsUtf8, chars, encode_utf8_all}
-use Rattle.yl_text.specs.Lines.{row_bytes, break_bytes}
+use Rattle.yl_text.specs.Lines.{break_bytes}
 use Rattle.yl_text.proofs.Columns.{byte_of_row, length_row_chars}
 use Rattle.yl_text.proofs.places.byte_of.Goals as goal
 

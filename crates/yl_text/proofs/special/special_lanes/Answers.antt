@@ -1,4 +1,4 @@
-use Rattle.std.proofs.Common.{◌≡◌, ℕ, ◌+◌, ◌-◌, ◌^◌, ◌%◌, cond, leb, List, length, map, take, drop, replicate, refl, ap, ◌∙◌, sym, w8, arith}
+use Rattle.std.proofs.Common.{◌≡◌, ℕ, ◌+◌, ◌-◌, ◌^◌, ◌%◌, cond, leb, List, length, map, take, drop, replicate, ap, ◌∙◌, sym, w8, arith}
 use Rattle.std.proofs.lemmas.Simd.{bitmask_splat, zip2_splat, length-chunk, chunk-fits, map-map}
 use Rattle.std.proofs.lemmas.List.{length-map}
 use Rattle.std.specs.Simd.Lanes.{chunk, mask_l, zip2, top}
