@@ -342,7 +342,11 @@ static EDITS: &[(&str, &[Change])] = &[
         "---\n# yamllint disable rule:colons\na:  1\n",
         &[(1, 2, b"")],
     ),
-    ("---\na: &x 1\n---\nb: *x\n", &[(2, 3, b"")]),
+    // An alias of an anchor of the document before: first in an edit that leaves both documents, then in one that joins them.
+    (
+        "---\na: &x 1\n---\nb: *x\n",
+        &[(3, 4, b"b:  *x\n"), (2, 3, b"")],
+    ),
     (
         "---\na: 1\n---\nb: 'x\n---\nc:  1\n",
         &[(4, 5, b"y\n"), (3, 5, b"b: 1\n---\n"), (0, 2, b"")],
