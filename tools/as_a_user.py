@@ -247,9 +247,10 @@ def refuse_each(runs, case, may_come):
 def check_refusals(runs):
     for words in (["--help"], ["long.yaml"], ["-s", "-c", "settings", "f.yaml", "long.yaml", "-"], ["-c", "many", "f.yaml"]):
         refuse_each(runs, Case("yamllint", words, given=LONG_TEXT), set())
-    # Words that are wrong may be told as that: some of the memory is for words of help, which are not printed.
-    wrong = Case("yamllint", ["-f", "other", "f.yaml"])
-    refuse_each(runs, wrong, {runs.ran(wrong)})
+    for words in (["-f", "other", "f.yaml"], ["--strikt", "f.yaml"], ["-q"], ["-c", "settings", "-d", "default", "f.yaml"], []):
+        refuse_each(runs, Case("yamllint", words), set())
+    for words in (["--strict", "f.yaml"], ["-s", "f.yaml", "long.yaml"]):
+        refuse_each(runs, Case("yledit", words), set())
     for words in (["long.yaml"], ["--work", "-d", LONG_CONFIG, "long.yaml"]):
         case = Case("yledit", words, given=b"".join(COMMANDS))
         refuse_each(runs, case, without_each(runs, case, COMMANDS))

@@ -1,11 +1,10 @@
 //! Words read by `clap`.
 use crate::answer::{Asked, AskedDump, Flags, Source, Stop, View};
+use clap::builder::PossibleValue;
 use clap::error::ErrorKind;
 use clap::{Arg, ArgAction, ArgGroup, ArgMatches, Command, Error};
 use std::alloc::{AllocError, Global};
 use yl_devices::Program;
-
-const FORMATS: [&str; 1] = ["parsable"];
 
 fn flag<'a>(alloc: Global, id: &'a str, help: &'a str) -> Arg<'a> {
     Arg::new(alloc, id)
@@ -14,13 +13,19 @@ fn flag<'a>(alloc: Global, id: &'a str, help: &'a str) -> Arg<'a> {
         .help(help)
 }
 
-fn format_option<'a>(alloc: Global) -> Arg<'a> {
+// The formats of printed problems. clap looks for none of nearly the same name among those that are hidden, so the help names them.
+fn formats<'a>() -> [PossibleValue<'a>; 1] {
+    [PossibleValue::new("parsable").hide(true)]
+}
+
+fn format_option<'a>(alloc: Global, formats: &'a [PossibleValue<'a>]) -> Arg<'a> {
     Arg::new(alloc, "format")
         .short('f')
         .action(ArgAction::Set)
         .value_name("FORMAT")
-        .value_parser(FORMATS.as_slice())
-        .help("how problems are printed")
+        .value_parser(formats)
+        .hide_possible_values(true)
+        .help("how problems are printed [possible values: parsable]")
 }
 
 fn files<'a>(alloc: Global) -> Arg<'a> {
@@ -54,14 +59,17 @@ fn configurations<'a>(alloc: Global) -> Result<ArgGroup<'a>, AllocError> {
         .arg("config-data")
 }
 
-fn lint_command<'a>(alloc: Global) -> Result<Command<'a>, AllocError> {
+fn lint_command<'a>(
+    alloc: Global,
+    formats: &'a [PossibleValue<'a>],
+) -> Result<Command<'a>, AllocError> {
     Command::new(alloc, "yamllint")
         .no_binary_name(true)
         .after_help("Example: yamllint -d \"rules: {line-length: {max: 100}}\" a.yaml b.yaml")
         .arg(config_file(alloc))?
         .arg(config_data(alloc))?
         .group(configurations(alloc)?)?
-        .arg(format_option(alloc))?
+        .arg(format_option(alloc, formats))?
         .arg(flag(alloc, "strict", "give status 2 for warnings").short('s'))?
         .arg(flag(alloc, "no-warnings", "print errors alone"))?
         .arg(files(alloc))
@@ -127,6 +135,52 @@ fn stop_of(alloc: Global, error: Error) -> Stop {
     }
 }
 
+// Whether the word has the form of a long option, and the command has none of its name.
+fn is_unknown_option(command: &Command<'_>, word: &str) -> bool {
+    let Some(text) = word.strip_prefix("--") else {
+        return false;
+    };
+    let name = match text.split_once('=') {
+        Some((name, _)) => name,
+        None => text,
+    };
+    !text.is_empty()
+        && name != "help"
+        && !command
+            .get_arguments()
+            .iter()
+            .any(|arg| arg.get_long() == Some(name))
+}
+
+// The words before the first that is an unknown option. Behind `--` no word is an option.
+fn known_words<'w>(command: &Command<'_>, words: &'w [String]) -> &'w [String] {
+    for (i, word) in words.iter().enumerate() {
+        if word.as_str() == "--" {
+            return words;
+        }
+        if is_unknown_option(command, word.as_str()) {
+            let (known, _) = words.split_at(i);
+            return known;
+        }
+    }
+    words
+}
+
+// What the command takes the words for. At an unknown option clap looks for one of nearly the same name, and asks a refused growth again
+// there. So it is given the words before it alone: help or a fault among them answers, and else the option is the fault.
+fn matches_of<'a>(
+    alloc: Global,
+    command: Command<'a>,
+    words: &'a [String],
+) -> Result<ArgMatches<'a>, Stop> {
+    let known = known_words(&command, words);
+    match command.try_get_matches_from(known) {
+        Ok(matches) if known.len() == words.len() => Ok(matches),
+        Ok(_) => Err(Stop::Use),
+        Err(error) => Err(stop_of(alloc, error)),
+    }
+}
+
 fn files_of(alloc: Global, matches: &ArgMatches<'_>) -> Result<Vec<String>, Stop> {
     let mut files = Vec::new(alloc);
     if let Some(names) = matches.get_strs("FILE") {
@@ -161,10 +215,7 @@ fn source_of(alloc: Global, matches: &ArgMatches<'_>) -> Result<Source, AllocErr
 // file.
 fn asked_edit(alloc: Global, words: &[String]) -> Result<Asked, Stop> {
     let command = edit_command(alloc)?;
-    let matches = match command.try_get_matches_from(words) {
-        Ok(matches) => matches,
-        Err(error) => return Err(stop_of(alloc, error)),
-    };
+    let matches = matches_of(alloc, command, words)?;
     let files = files_of(alloc, &matches)?;
     if files.iter().any(|file| file.as_str() == "-") {
         return Err(Stop::Use);
@@ -187,11 +238,9 @@ pub fn asked(alloc: Global, program: Program, words: &[String]) -> Result<Asked,
     if program == Program::Yledit {
         return asked_edit(alloc, words);
     }
-    let command = lint_command(alloc)?;
-    let matches = match command.try_get_matches_from(words) {
-        Ok(matches) => matches,
-        Err(error) => return Err(stop_of(alloc, error)),
-    };
+    let formats = formats();
+    let command = lint_command(alloc, &formats)?;
+    let matches = matches_of(alloc, command, words)?;
     Ok(Asked {
         config: source_of(alloc, &matches)?,
         files: files_of(alloc, &matches)?,
@@ -217,10 +266,7 @@ fn view_of(matches: &ArgMatches<'_>) -> View {
 /// of the flags that say what is shown, and more than one file, are `Use`.
 pub fn asked_dump(alloc: Global, words: &[String]) -> Result<AskedDump, Stop> {
     let command = dump_command(alloc)?;
-    let matches = match command.try_get_matches_from(words) {
-        Ok(matches) => matches,
-        Err(error) => return Err(stop_of(alloc, error)),
-    };
+    let matches = matches_of(alloc, command, words)?;
     let Some(file) = matches.get_str("FILE") else {
         return Err(Stop::Use);
     };

@@ -54,7 +54,7 @@ fn answer_of(alloc: Global, program: Program, texts: &[&str]) -> Result<String, 
 #[test]
 fn reads_words(rt: HostRuntime) -> Result<(), Fail> {
     let alloc = rt.alloc();
-    let rows: [(&[&str], &str); 12] = [
+    let rows: [(&[&str], &str); 13] = [
         (&["a.yaml"], "files a.yaml"),
         (&["a", "b", "-", "-"], "files a b - -"),
         (&["-s", "a"], "files a, strict"),
@@ -65,6 +65,7 @@ fn reads_words(rt: HostRuntime) -> Result<(), Fail> {
         (&["-f=parsable", "a"], "files a"),
         (&["-sfparsable", "a"], "files a, strict"),
         (&["--", "-s", "--help"], "files -s --help"),
+        (&["--strict", "--", "--strikt"], "files --strikt, strict"),
         (
             &["-s", "--no-warnings", "--", "-"],
             "files -, strict, no warnings",
@@ -117,7 +118,7 @@ fn reads_configurations(rt: HostRuntime) -> Result<(), Fail> {
 #[test]
 fn refuses_words(rt: HostRuntime) -> Result<(), Fail> {
     let alloc = rt.alloc();
-    let rows: [&[&str]; 14] = [
+    let rows: [&[&str]; 17] = [
         &[],
         &["-s"],
         &["--"],
@@ -131,6 +132,9 @@ fn refuses_words(rt: HostRuntime) -> Result<(), Fail> {
         &["-s", "--strict", "a"],
         &["-f", "parsable", "-f", "parsable", "a"],
         &["--strict=yes", "a"],
+        &["--strikt", "a"],
+        &["a", "--=", "b"],
+        &["a", "--strikt=yes", "--", "b"],
         &["--version"],
     ];
     for given in rows {
@@ -145,19 +149,21 @@ const HELP: &str =
 #[test]
 fn helps_unless_a_fault_comes_first(rt: HostRuntime) -> Result<(), Fail> {
     let alloc = rt.alloc();
-    let helped: [&[&str]; 6] = [
+    let helped: [&[&str]; 7] = [
         &["-h"],
         &["--help"],
         &["a", "-sh"],
         &["-h", "-q"],
+        &["-sh", "--strikt"],
         &["--help", "-f", "colored"],
         &["-s", "-h", "-s"],
     ];
     for given in helped {
         assert_eq!(rt; answer(alloc, given)?.as_str(), HELP);
     }
-    let refused: [&[&str]; 4] = [
+    let refused: [&[&str]; 5] = [
         &["-q", "-h"],
+        &["--strikt", "-h"],
         &["-f", "colored", "-h"],
         &["-f", "-h"],
         &["-s", "-s", "--help"],

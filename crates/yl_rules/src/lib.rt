@@ -26,6 +26,9 @@ pub use rows::{push_line_problems, push_row_problems, row_problems};
 pub use runs::{RunReader, run_problems};
 pub use trailing_spaces::is_white;
 pub use width::character_count;
+pub use yl_indentation::{
+    Fact, IndentSequences, IndentationOptions, Measure, Spaces, indent_facts, indent_problems,
+};
 pub use yl_layout::{
     BracketsOptions, ColonsOptions, CommasOptions, DocumentStartOptions, Forbid, HyphensOptions,
     LexemeOptions, QuoteType, QuotedStringsOptions, TruthyOptions, TruthyWords, lexeme_problems,

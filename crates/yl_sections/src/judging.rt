@@ -1,5 +1,5 @@
 //! Judging a section.
-ghost use Rattle.std.specs.Prelude.{◌≡◌, ◌≤◌, ◌<◌, ◌-◌, ◌+◌, ◌++◌, ◌∷◌, ◌^◌, [], List, drop, map, length, slice_get, IfOk, OnOk};
+ghost use Rattle.std.specs.Prelude.{◌≡◌, ◌≤◌, ◌<◌, ◌-◌, ◌+◌, ◌++◌, ◌∷◌, ◌^◌, [], List, drop, take, map, length, slice_get, IfOk, OnOk};
 ghost use Rattle.yl_record.specs.Records.{RecordValue};
 ghost use Rattle.std.specs.Option.{option_map};
 ghost use Rattle.yl_config.specs.declared.config.Config.{Config};
@@ -15,7 +15,7 @@ ghost use Rattle.yl_sections.specs.Reading.{IsReading};
 use crate::comments::{kept_comments, shown_comments};
 use crate::fault::{SectionFault, comment_lines, counted, scan_fault, section_fault};
 use crate::kept::Kept;
-use crate::lexemes::lexemes_of;
+use crate::lexemes::section_lexemes;
 use crate::reading::{DocumentReading, read_document};
 use crate::rules::found;
 use crate::sections::section_len;
@@ -119,22 +119,28 @@ fn keep<A: Allocator + Copy>(
     ))
 }
 
-/// What is kept of the section of these rows. Counts its document in the meter, if it has one. The only error is out of memory.
-pub fn judge<A: Allocator + Copy>(
+/// What is kept of the section of a text's rows from one to before another: by these rows alone, whatever documents come before it.
+/// Counts its document in the meter, if it has one. The only error is out of memory.
+fn judge<A: Allocator + Copy>(
     alloc: A,
     config: &Config,
     records: &[&Record<A>],
+    from: usize,
+    to: usize,
     meter: &mut Meter,
 ) -> Result<Kept<A>, AllocError>
     requires rows { length records.now < 2 ^ 32 }
+    requires rising { from ≤ to }
+    requires within { to ≤ length records.now }
     requires documents { meter.old.documents < 2 ^ 32 - 1 }
-    ensures kept { IfOk result (λ k. k ≡ kept_of_section config.now (map (λ r. r.now) records.now)) }
+    ensures kept { IfOk result (λ k. k ≡ kept_of_section config.now (map (λ r. r.now) (take (to - from) (drop from records.now)))) }
     ensures counted { OnOk result (meter.new
-        ≡ record meter.old { documents = meter.old.documents + document_count (lexemes_of (map (λ r. r.now) records.now)) }) }
+        ≡ record meter.old { documents = meter.old.documents + document_count (lexemes_of (map (λ r. r.now) (take (to - from) (drop from records.now)))) }) }
 {
-    let lexemes = lexemes_of(alloc, records)?;
-    let reading = read_document(alloc, config, records, &lexemes, meter)?;
-    keep(alloc, config, records, &lexemes, reading)
+    let section = &records[from..to];
+    let lexemes = section_lexemes(alloc, records, from, to)?;
+    let reading = read_document(alloc, config, section, &lexemes, meter)?;
+    keep(alloc, config, section, &lexemes, reading)
 }
 
 /// Judges the sections of these rows but the last one, to which rows that follow may belong, and puts what is kept of each after the
@@ -162,9 +168,9 @@ pub fn judge_whole<A: Allocator + Copy>(
     let mut judged = 0;
     let mut count = section_len(records);
     while count < records.len() - judged {
-        let section = &records[judged..judged + count];
-        kept.push(judge(alloc, config, section, meter)?)?;
-        judged += count;
+        let end = judged + count;
+        kept.push(judge(alloc, config, records, judged, end, meter)?)?;
+        judged = end;
         count = section_len(&records[judged..]);
     }
     Ok(judged)
@@ -185,7 +191,6 @@ pub fn judge_all<A: Allocator + Copy>(
 {
     let mut all = Vec::new(alloc);
     let judged = judge_whole(alloc, config, records, &mut all, meter)?;
-    let (_, last) = records.split_at(judged);
-    all.push(judge(alloc, config, last, meter)?)?;
+    all.push(judge(alloc, config, records, judged, records.len(), meter)?)?;
     Ok(all)
 }

@@ -1,5 +1,5 @@
 //! The lexemes of a section.
-ghost use Rattle.std.specs.Prelude.{◌≡◌, ◌<◌, ◌^◌, ◌-◌, ◌++◌, map, min, length, IfOk, OnOk};
+ghost use Rattle.std.specs.Prelude.{◌≡◌, ◌<◌, ◌≤◌, ◌^◌, ◌-◌, ◌++◌, drop, take, map, min, length, IfOk, OnOk};
 ghost use Rattle.std.specs.Option.{option_map};
 ghost use Rattle.yl_marks.specs.Keys.{lexeme_at_line};
 ghost use Rattle.yl_sections.specs.Sections.{lexemes_of};
@@ -35,7 +35,7 @@ fn lexeme_count<A: Allocator + Copy>(records: &[&Record<A>]) -> usize
 }
 
 /// The lexemes of these rows, with lines from the first.
-pub fn lexemes_of<'a, A: Allocator + Copy>(
+fn lexemes_of<'a, A: Allocator + Copy>(
     alloc: A,
     records: &[&'a Record<A>],
 ) -> Result<Vec<LexemeAtLine<'a, A>, A>, AllocError>
@@ -47,6 +47,23 @@ pub fn lexemes_of<'a, A: Allocator + Copy>(
         push_lexemes(&mut lexemes, line as u32, record.lexemes())?;
     }
     Ok(lexemes)
+}
+
+/// The lexemes of the section of a text's rows from one to before another, with lines from its first: no lexeme of a document before it is
+/// among them.
+pub fn section_lexemes<'a, A: Allocator + Copy>(
+    alloc: A,
+    records: &[&'a Record<A>],
+    from: usize,
+    to: usize,
+) -> Result<Vec<LexemeAtLine<'a, A>, A>, AllocError>
+    requires rows { length records.now < 2 ^ 32 }
+    requires rising { from ≤ to }
+    requires within { to ≤ length records.now }
+    ensures { IfOk result (λ v. map (λ x. lexeme_at_line x.line x.lexeme.now) v.items
+        ≡ lexemes_of (map (λ r. r.now) (take (to - from) (drop from records.now)))) }
+{
+    lexemes_of(alloc, &records[from..to])
 }
 
 /// With how many spaces each row begins.

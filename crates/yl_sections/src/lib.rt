@@ -17,7 +17,7 @@ mod sections;
 
 pub use fault::SectionFault;
 pub use front::kept_of_front;
-pub use judging::{judge, judge_all, judge_whole};
+pub use judging::{judge_all, judge_whole};
 pub use kept::{Kept, KeptComment};
 pub use laws::{first_section, lost_rows, one_kept, sections_are_local, states_tell_kinds};
 pub use sections::{is_section_start, last_kind, section_len};

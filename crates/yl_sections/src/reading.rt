@@ -211,6 +211,14 @@ fn read_lines<'a, A: Allocator + Copy>(
     Ok(None)
 }
 
+/// The rules on keys and anchors before a document's first event: what they find is what its own events give, whatever documents came
+/// before.
+fn rules_at_start<'a, A: Allocator + Copy>(alloc: A, config: &Config) -> TreeRules<'a, A>
+    ensures { (es : List EventValue) → Finds result es (event_findings config.now es) }
+{
+    TreeRules::new(alloc, &tree_options(config))
+}
+
 /// The document of these lexemes begins. The only error is out of memory.
 fn begin<'a, A: Allocator + Copy>(
     alloc: A,
@@ -222,7 +230,7 @@ fn begin<'a, A: Allocator + Copy>(
         (built_by (map (λ x. lexeme_at_line x.line x.lexeme.now) lexemes.now) (outcome_of_symbols symbols_at_start 0 start_events ws))) }
 {
     let mut parser = SymbolParser::new(alloc);
-    let mut tree = TreeRules::new(alloc, &tree_options(config));
+    let mut tree = rules_at_start(alloc, config);
     let mut outlines = Vec::new(alloc);
     parser.begin(&mut outlines)?;
     push_events(lexemes, &outlines, &mut tree)?;

@@ -351,7 +351,11 @@ static EDITS: &[(&str, &[Change])] = &[
         "---\n# yamllint disable rule:colons\na:  1\n",
         &[(1, 0, 2, 0, b"")],
     ),
-    ("---\na: &x 1\n---\nb: *x\n", &[(2, 0, 3, 0, b"")]),
+    // An alias of an anchor of the document before: first in an edit that leaves both documents, then in one that joins them.
+    (
+        "---\na: &x 1\n---\nb: *x\n",
+        &[(3, 0, 4, 0, b"b:  *x\n"), (2, 0, 3, 0, b"")],
+    ),
     (
         "---\na: 1\n---\nb: 'x\n---\nc:  1\n",
         &[
