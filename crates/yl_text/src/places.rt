@@ -171,7 +171,7 @@ fn byte_before<A: Allocator>(row: &Row<A>, place: usize) -> u8
     if place <= text.len() {
         text[place - 1]
     } else {
-        row.end().bytes()[place - 1 - text.len()]
+        row.end().as_bytes()[place - 1 - text.len()]
     }
 }
 
@@ -247,7 +247,7 @@ fn put_front<A: Allocator, B: Allocator>(row: &Row<A>, count: usize, piece: &mut
         .extend_from_slice(&text[..count.min(text.len())])
         .unwrap();
     piece
-        .extend_from_slice(&row.end().bytes()[..count.saturating_sub(text.len())])
+        .extend_from_slice(&row.end().as_bytes()[..count.saturating_sub(text.len())])
         .unwrap();
 }
 
@@ -263,7 +263,7 @@ fn put_rest<A: Allocator, B: Allocator>(row: &Row<A>, count: usize, piece: &mut 
         .extend_from_slice(&text[count.min(text.len())..])
         .unwrap();
     piece
-        .extend_from_slice(&row.end().bytes()[count.saturating_sub(text.len())..])
+        .extend_from_slice(&row.end().as_bytes()[count.saturating_sub(text.len())..])
         .unwrap();
 }
 

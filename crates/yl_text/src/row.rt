@@ -33,7 +33,7 @@ impl Break {
     }
 
     /// The bytes of the break.
-    pub fn bytes(self) -> &'static [u8]
+    pub fn as_bytes(self) -> &'static [u8]
         ensures { result.now ≡ break_bytes self }
     {
         match self {

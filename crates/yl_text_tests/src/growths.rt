@@ -1,11 +1,11 @@
 //! Each growth refused in turn, up to the first run that meets no refusal.
 
-use crate::stores::{Heap, edit_lines, opened};
+use crate::stores::{Heap, edit_lines, opened, place};
 use refusing::Refusing;
 use std::alloc::{AllocError, Global};
 use std::process::Abort;
 use std::test::Fail;
-use yl_text::{Break, LineStore, Lines, PlainStore, Row, TextFault, characters, split};
+use yl_text::{Break, LineStore, Lines, PlainStore, Row, TextFault, characters, line_edit, split};
 
 #[test]
 fn of_split(rt: HostRuntime) -> Result<(), Fail> {
@@ -116,6 +116,25 @@ fn of_splice(rt: HostRuntime) -> Result<(), Fail> {
             assert!(rt; n > 1, "{n} growths");
             return Ok(());
         }
+    }
+    Ok(())
+}
+
+// The bytes of a line edit take one growth, as large as they are; where a CR is before the place, too.
+#[test]
+fn of_a_line_edit(rt: HostRuntime) -> Result<(), Fail> {
+    let heap = Refusing::new(rt.alloc());
+    let store: PlainStore<Heap<'_>> = opened(&heap, b"a\rbcd\r\ne")?;
+    for (line, col) in [(1, 1), (1, 0)] {
+        let (from, to) = (place(line, col), place(1, 2));
+        store.check(from, to, b"\n")?;
+        heap.refuse(1);
+        assert!(rt; line_edit(&heap, &store, from, to, b"\n").is_err());
+        heap.refuse(2);
+        let edit = line_edit(&heap, &store, from, to, b"\n")?;
+        assert_eq!(rt; heap.left(), 1);
+        heap.refuse(0);
+        assert_eq!(rt; edit.bytes.capacity(), edit.bytes.len());
     }
     Ok(())
 }

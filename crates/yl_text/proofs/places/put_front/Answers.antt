@@ -17,7 +17,7 @@ both_put old new last text xs es bs n m s a b t u e f =
 pub returns-clause-items : goal.returns-clause-items
 returns-clause-items g c =
     let first : c.extend_from_slice.new.self.items ≡ c.args.piece.now.items ++ take c.min.result c.as_bytes-text.result.now = pushed (take c.min.result c.as_bytes-text.result.now) refl c.unwrap.ensures c.extend_from_slice.ensures.items in
-    let last : c.extend_from_slice-2.new.self.items ≡ c.extend_from_slice.new.self.items ++ take c.saturating_sub.result c.bytes.result.now = pushed (take c.saturating_sub.result c.bytes.result.now) refl c.unwrap-2.ensures c.extend_from_slice-2.ensures.items in
-    let es : c.bytes.result.now ≡ break_bytes c.args.row.now.end = c.bytes.ensures ∙ ap break_bytes c.end.ensures in
-    both_put c.args.piece.now.items c.extend_from_slice.new.self.items c.extend_from_slice-2.new.self.items c.as_bytes-text.result.now c.args.row.now.text (break_bytes c.args.row.now.end) c.bytes.result.now c.args.count c.min.result c.saturating_sub.result
+    let last : c.extend_from_slice-2.new.self.items ≡ c.extend_from_slice.new.self.items ++ take c.saturating_sub.result c.as_bytes.result.now = pushed (take c.saturating_sub.result c.as_bytes.result.now) refl c.unwrap-2.ensures c.extend_from_slice-2.ensures.items in
+    let es : c.as_bytes.result.now ≡ break_bytes c.args.row.now.end = c.as_bytes.ensures ∙ ap break_bytes c.end.ensures in
+    both_put c.args.piece.now.items c.extend_from_slice.new.self.items c.extend_from_slice-2.new.self.items c.as_bytes-text.result.now c.args.row.now.text (break_bytes c.args.row.now.end) c.as_bytes.result.now c.args.count c.min.result c.saturating_sub.result
     first last (c.as_bytes-text.ensures.value ∙ c.as_str.ensures) es (search rules) (search rules)

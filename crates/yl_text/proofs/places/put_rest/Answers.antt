@@ -19,8 +19,8 @@ pub returns-clause-items : goal.returns-clause-items
 returns-clause-items g c =
     let text = c.as_bytes-text.result.now in
     let first : c.extend_from_slice.new.self.items ≡ c.args.piece.now.items ++ take (length text - c.min.result) (drop c.min.result text) = pushed (take (length text - c.min.result) (drop c.min.result text)) refl c.unwrap.ensures c.extend_from_slice.ensures.items in
-    let bs = c.bytes.result.now in
+    let bs = c.as_bytes.result.now in
     let last : c.extend_from_slice-2.new.self.items ≡ c.extend_from_slice.new.self.items ++ take (length bs - c.saturating_sub.result) (drop c.saturating_sub.result bs) = pushed (take (length bs - c.saturating_sub.result) (drop c.saturating_sub.result bs)) refl c.unwrap-2.ensures c.extend_from_slice-2.ensures.items in
-    let es : c.bytes.result.now ≡ break_bytes c.args.row.now.end = c.bytes.ensures ∙ ap break_bytes c.end.ensures in
-    both_put c.args.piece.now.items c.extend_from_slice.new.self.items c.extend_from_slice-2.new.self.items c.as_bytes-text.result.now c.args.row.now.text (break_bytes c.args.row.now.end) c.bytes.result.now c.args.count c.min.result c.saturating_sub.result
+    let es : c.as_bytes.result.now ≡ break_bytes c.args.row.now.end = c.as_bytes.ensures ∙ ap break_bytes c.end.ensures in
+    both_put c.args.piece.now.items c.extend_from_slice.new.self.items c.extend_from_slice-2.new.self.items c.as_bytes-text.result.now c.args.row.now.text (break_bytes c.args.row.now.end) c.as_bytes.result.now c.args.count c.min.result c.saturating_sub.result
     (first ∙ ap (λ (u : List ℕ). c.args.piece.now.items ++ u) (take_rest text c.min.result)) (last ∙ ap (λ (u : List ℕ). c.extend_from_slice.new.self.items ++ u) (take_rest bs c.saturating_sub.result)) (c.as_bytes-text.ensures.value ∙ c.as_str.ensures) es (search rules) (search rules)
