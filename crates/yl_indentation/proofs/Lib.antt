@@ -1,4 +1,5 @@
 pub mod Measured
+pub mod Onward
 pub mod LookBack
 pub mod SlimElements
 pub mod BySymbols

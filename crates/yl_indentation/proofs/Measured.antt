@@ -29,7 +29,7 @@ measure_is_local (f ∷ fs) later =
     ap (and_later (measure_at f.column f.expectation)) (measure_is_local fs later)
     ∙ sym (and_later_assoc (measure_at f.column f.expectation) (measure_of fs) (measure_of later))
 
-problems_of_both : (o : IndentationOptions) (before whole : Measure) (xs ys : List Fact)
+pub problems_of_both : (o : IndentationOptions) (before whole : Measure) (xs ys : List Fact)
     → indent_problems o before whole (xs ++ ys) ≡ indent_problems o before whole xs ++ indent_problems o (and_later before (measure_of xs)) whole ys
 problems_of_both o before whole [] ys = ap (λ (m : Measure). indent_problems o m whole ys) (sym (and_later_unknown before))
 problems_of_both o before whole (f ∷ fs) ys =

@@ -5,5 +5,6 @@ pub mod SlimElements
 pub mod Context
 pub mod Measures
 pub mod Problems
+pub mod Onward
 pub mod Laws
 pub mod SymbolFacts

@@ -7,7 +7,7 @@
 //! documents is their `Measure`.
 #![tactic(auto)]
 
-ghost use Rattle.yl_indentation.specs.Laws.{MeasureIsLocal, ProblemsAreByDocuments};
+ghost use Rattle.yl_indentation.specs.Laws.{MeasureIsLocal, ProblemsAreByDocuments, FactsCountEntriesOnceSeen, BothCountEntriesOnceSeen, FindingLooksBack, ProblemsLookBack, ProblemsOfSomeLookBack, TextProblemsGoOnward, TextProblemsLookBack};
 
 mod context;
 mod element;
@@ -36,4 +36,16 @@ pub fn measure_is_local()
 /// of the earlier ones and that of all.
 pub fn problems_are_by_documents()
     ensures { ProblemsAreByDocuments }
+{}
+
+/// Laws: the measure of the whole text is never needed. What is found at a place, and so the problems
+/// of facts, do not depend on what stands behind them. Each is by the measure of the facts up to it.
+pub fn problems_look_back()
+    ensures facts { FactsCountEntriesOnceSeen }
+    ensures both { BothCountEntriesOnceSeen }
+    ensures finding { FindingLooksBack }
+    ensures onward { ProblemsLookBack }
+    ensures some { ProblemsOfSomeLookBack }
+    ensures whole { TextProblemsGoOnward }
+    ensures text { TextProblemsLookBack }
 {}

@@ -4,4 +4,5 @@ pub mod Reported
 pub mod Rows
 pub mod Streamed
 pub mod Shown
+pub mod Onward
 pub mod Together

@@ -2,3 +2,4 @@ pub mod Laws
 pub mod Left
 pub mod TextReport
 pub mod Unsilenced
+pub mod Onward

@@ -1,5 +1,6 @@
 //! Laws of reports.
 ghost use Rattle.yl_lint.specs.Laws.{OneReport, ReportReports};
+ghost use Rattle.yl_lint.specs.Onward.{SectionsLookBack, FirstSectionsLookBack, ShownLooksBack, FoundLooksBack, ReportLooksBack};
 ghost use Rattle.yl_lint.specs.Unsilenced.{IsHeardOfText};
 
 use yl_report::heard_reports;
@@ -19,3 +20,13 @@ pub fn heard_of_text()
 {
     heard_reports();
 }
+
+/// Laws: the indentation of sections is judged by the facts up to each place, and no measure of the whole text is needed. So what is shown up
+/// to the first section with a fault does not depend on the sections behind it.
+pub fn indentation_looks_back()
+    ensures sections { SectionsLookBack }
+    ensures first { FirstSectionsLookBack }
+    ensures shown { ShownLooksBack }
+    ensures found { FoundLooksBack }
+    ensures report { ReportLooksBack }
+{}

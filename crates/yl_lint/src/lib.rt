@@ -20,7 +20,7 @@ mod moving;
 pub use assembling::{push_section, report_of_kept};
 pub use comments::push_comments;
 pub use kept::kept_of_records;
-pub use laws::{heard_of_text, one_report};
+pub use laws::{heard_of_text, indentation_looks_back, one_report};
 pub use lines::find_in_lines;
 pub use lint::{
     report_in_lines, report_of_lines, report_of_text, report_with_kept, report_with_lines,

@@ -8,6 +8,9 @@ use Rattle.yl_text.specs.Finding.{FindingValue}
 use Rattle.yl_text.specs.Lines.{RowValue}
 use Rattle.yl_text.specs.declared.finding.RuleId.{RuleId}
 use Rattle.yl_text.specs.declared.position.Pos.{Pos}
+use Rattle.yl_rules.specs.EmptyLines.{empty_lines}
+use Rattle.yl_rules.specs.EndOfFile.{end_of_file}
+use Rattle.yl_rules.specs.NewLines.{new_lines}
 use Rattle.yl_rules.specs.Levels.{LevelTable}
 use Rattle.yl_indentation.specs.declared.measure.Measure.{Measure}
 use Rattle.yl_indentation.specs.Measures.{empty_measure}
@@ -17,9 +20,10 @@ use Rattle.yl_config.specs.Config.{levels_of, options_of}
 use Rattle.yl_report.specs.Directive.{is_silenced}
 use Rattle.yl_report.specs.Heard.{nothing_silenced}
 use Rattle.yl_report.specs.Report.{ProblemValue, report_of}
-use Rattle.yl_sections.specs.Kept.{KeptValue, SectionFaultValue, Here}
+use Rattle.yl_sections.specs.Kept.{KeptValue, SectionFaultValue, Here, items_if}
 use Rattle.yl_rejudge.specs.Places.{rows_kept}
-use Rattle.yl_lint.specs.TextReport.{end_of_lines, fault_in_sections, fault_or_later, finding_of_fault, findings_in_lines, findings_in_sections, moved, shown, syntax_finding, unless_fault}
+use Rattle.yl_lint.specs.TextReport.{end_of_lines, fault_in_sections, fault_or_later, finding_of_fault, findings_from, findings_in_lines, findings_in_sections, moved, shown, syntax_finding, unless_fault}
+use Rattle.yl_lint.proofs.Onward.{front_looks_back}
 use Rattle.yl_lint.specs.Unsilenced.{reported_in_lines, unsilenced_by, unsilenced_of_kept}
 use Rattle.yl_patch.specs.Cut.{is_filled}
 use Rattle.yl_patch.specs.Faultless.{IsFaultless, faultless, faultless_by, faultless_one}
@@ -102,12 +106,15 @@ module _ (config : Config) (xs ys : List RowValue) (seam : is_seam xs ys ≡ tru
   upto_seam : (ps qs : List ProblemValue) → AllByRecursion (λ p. (0 < p.line) × (p.line ≤ n)) ps → AllByRecursion (λ p. n < p.line) qs → prefix_len (is_upto n) (ps ++ qs) ≡ length ps
   upto_seam ps qs h k = prefix_by (is_upto n) ps qs (upto_true n 0 n ps (omega arith) h) (upto_false n n qs (omega arith) k)
 
-  module _ (ks ls : List KeptValue) (plain : AllByRecursion IsPlain (ks ++ ls)) (plain₁ : AllByRecursion IsPlain ks) (plain₂ : AllByRecursion IsPlain ls) (fit : rows_kept ks ≡ n) (same : measured ks ≡ measured (ks ++ ls)) where
+  module _ (ks ls : List KeptValue) (plain : AllByRecursion IsPlain (ks ++ ls)) (plain₁ : AllByRecursion IsPlain ks) (plain₂ : AllByRecursion IsPlain ls) (fit : rows_kept ks ≡ n) where
     abbrev w : Measure
     w = measured (all_bare (ks ++ ls))
 
-    measure_is : measured (all_bare ks) ≡ w
-    measure_is = measured_bare ks ∙ (same ∙ sym (measured_bare (ks ++ ls)))
+    -- no section behind them changes what is found in these
+    front_alone : (rows : List RowValue) → part o (measured (all_bare ks)) true true empty_measure rows (all_bare ks) ≡ part o w true true empty_measure rows (all_bare ks)
+    front_alone rows =
+        ap (λ (fs : List FindingValue). findings_from o.row 1 rows ++ (items_if true (new_lines o.run.new_line rows) ++ (empty_lines o.run.empty_lines rows ++ (items_if true (end_of_file rows) ++ fs))))
+        (sym (front_looks_back o.indentation (all_bare ks) (all_bare ls)) ∙ ap (λ (zs : List KeptValue). findings_in_sections o.indentation (measured zs) 0 empty_measure (all_bare ks)) (sym (map-append bare ks ls)))
 
     fit_bare : rows_kept (all_bare ks) ≡ n
     fit_bare = rows_bare ks ∙ fit
@@ -121,7 +128,7 @@ module _ (config : Config) (xs ys : List RowValue) (seam : is_seam xs ys ≡ tru
     top_is : unsilenced_by config (xs ++ ys) ks ≡ front w (all_bare ks) ++ bare_back
     top_is =
         unsilenced_part config (xs ++ ys) ks plain₁
-        ∙ (ap (λ (m : Measure). arranged levels quiet (part o m true true empty_measure (xs ++ ys) (all_bare ks))) measure_is
+        ∙ (ap (arranged levels quiet) (front_alone (xs ++ ys))
         ∙ (ap (λ (zs : List KeptValue). arranged levels quiet (part o w true true empty_measure (xs ++ ys) zs)) (sym (append-nil (all_bare ks)))
         ∙ two_parts (all_bare ks) [] w (plain_bare ks plain₁) tt fit_bare))
 
@@ -259,21 +266,17 @@ module _ (config : Config) (rows : List RowValue) (ks : List KeptValue) (f : Fau
   faultless_both : faultless ks ≡ faultless (xs ++ k ∷ []) ++ faultless ls
   faultless_both = ap (λ (zs : List KeptValue). faultless zs) both_parts ∙ map-append faultless_one (xs ++ k ∷ []) ls
 
-  pub shown_so : (end : ℕ) (all lines : List ProblemValue) → end ≡ f.row + k.rows → end ≤ length rows → (end < length rows → is_filled (slice_get rows end) ≡ true) → f.whole ≡ measured (take (f.at + 1) ks)
-      → all ≡ faultless_by config rows ks → lines ≡ reported_in_lines config rows
+  pub shown_so : (end : ℕ) (all lines : List ProblemValue) → end ≡ f.row + k.rows → end ≤ length rows → (end < length rows → is_filled (slice_get rows end) ≡ true) → all ≡ faultless_by config rows ks → lines ≡ reported_in_lines config rows
       → take (prefix_len (is_upto end) all) all ++ drop (prefix_len (is_upto end) lines) lines ≡ report_of (levels_of config) false nothing_silenced (others config rows xs ls k known.only.above)
-  shown_so end all lines e within filled whole all_is lines_is =
+  shown_so end all lines e within filled all_is lines_is =
       let front = faultless (xs ++ k ∷ []) in
       let back = faultless ls in
       let plain = subst (λ (zs : List KeptValue). AllByRecursion IsPlain zs) faultless_both known.plain in
       let cut : rows ≡ take end rows ++ drop end rows = sym (take-append-drop end rows) in
       let n : length (take end rows) ≡ end = length-take-le end rows within in
       let fit : rows_kept front ≡ length (take end rows) = omega (arith, rows_faultless (xs ++ k ∷ []), rows_both xs (k ∷ []), known.row, e, n) in
-      let same : measured front ≡ measured (front ++ back) =
-      measured_faultless (xs ++ k ∷ [])
-      ∙ (ap measured (sym upto_is) ∙ (sym whole ∙ (known.whole ∙ (sym (measured_faultless ks) ∙ ap measured faultless_both)))) in
       ap (λ (i : ℕ). take (prefix_len (is_upto i) all) all ++ drop (prefix_len (is_upto i) lines) lines) (sym n)
-      ∙ (joined_at_seam config (take end rows) (drop end rows) (cut_rows rows end filled) front back plain (all_front IsPlain front back plain) (all_back IsPlain front back plain) fit same all lines
+      ∙ (joined_at_seam config (take end rows) (drop end rows) (cut_rows rows end filled) front back plain (all_front IsPlain front back plain) (all_back IsPlain front back plain) fit all lines
       (all_is ∙ (ap (λ (ps : List RowValue). unsilenced_by config ps (faultless ks)) cut ∙ ap (λ (zs : List KeptValue). unsilenced_by config (take end rows ++ drop end rows) zs) faultless_both))
       (lines_is ∙ ap (λ (ps : List RowValue). reported_in_lines config ps) cut)
       ∙ (ap (λ (ps : List RowValue). unsilenced_by config ps front) (sym cut) ∙ top_report config rows xs ls k known.only.above))

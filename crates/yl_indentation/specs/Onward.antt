@@ -1,0 +1,21 @@
+-- Meaning: the problems of the rule indentation, each by the facts up to its place.
+use Rattle.std.specs.Prelude.{◌≡◌, List, [], ◌∷◌, ◌++◌, None}
+use Rattle.yl_text.specs.Finding.{FindingValue}
+use Rattle.yl_indentation.specs.declared.fact.Fact.{Fact}
+use Rattle.yl_indentation.specs.declared.measure.Measure.{Measure}
+use Rattle.yl_indentation.specs.declared.options.IndentationOptions.{IndentationOptions}
+use Rattle.yl_indentation.specs.Measures.{and_later, measure_at, is_flush}
+use Rattle.yl_indentation.specs.Problems.{finding_at}
+
+-- while no entry was seen, it makes no difference whether entries are counted. Each measure of facts
+-- is so
+abbrev pub CountsEntriesOnceSeen : Measure → Type 0
+CountsEntriesOnceSeen m = m.flush ≡ None → m.step ≡ m.step_with_entries
+
+-- the problems of facts after facts of this measure, each by the measure of the facts up to its own
+-- alone
+abbrev pub onward_problems : IndentationOptions → Measure → List Fact → List FindingValue
+onward_problems options before [] = []
+onward_problems options before (f ∷ fs) =
+    let here = and_later before (measure_at f.column f.expectation) in
+    finding_at options here (is_flush here) f ++ onward_problems options here fs
