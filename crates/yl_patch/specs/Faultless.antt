@@ -39,8 +39,7 @@ pub record IsFaultless (ks : List KeptValue) (f : Faultless) : Type 0 where
   pub whole : f.whole ≡ measure_of (facts_in_sections ks)
   pub silencing : IsSilencingOf ks f.silencing
 
--- the only fault stands in its section's rows; the lines behind them begin with one that is not empty, if there are any, and the facts
--- up to there have the measure of all
+-- the only fault stands in its section's rows; the lines behind them begin with one that is not empty, if there are any
 pub record IsFaultInRows (rows : List RowValue) (ks : List KeptValue) (f : Faultless) (t : FaultInRows) : Type 0 where
   pub one : KeptValue
   pub at : slice_get ks f.at ≡ Some one
@@ -48,4 +47,3 @@ pub record IsFaultInRows (rows : List RowValue) (ks : List KeptValue) (f : Fault
   pub end : t.end ≡ f.row + one.rows
   pub within : t.end ≤ length rows
   pub filled : t.end < length rows → is_filled (slice_get rows t.end) ≡ true
-  pub measure : f.whole ≡ measure_of (facts_in_sections (take (f.at + 1) ks))

@@ -1,45 +1,21 @@
 //! The report of a text in which one section has a fault, by what would be reported if none had one.
 ghost use Rattle.std.specs.Prelude.{◌≡◌, ◌<◌, ◌≤◌, ◌++◌, true, length, slice_get, take, drop, IfOk, IfSome};
 ghost use Rattle.std.specs.List.{prefix_len};
-ghost use Rattle.yl_indentation.specs.Measures.{measure_of};
-ghost use Rattle.yl_lint.specs.TextReport.{facts_in_sections};
 ghost use Rattle.yl_lint.specs.Unsilenced.{reported_in_lines, unsilenced_by};
 ghost use Rattle.yl_patch.specs.Cut.{is_filled};
 ghost use Rattle.yl_patch.specs.Faultless.{IsFaultInRows, IsFaultless, faultless_by};
 ghost use Rattle.yl_patch.specs.Patched.{is_upto};
 
 use crate::faultless::Faultless;
-use crate::overview::is_same_measure;
 use crate::places::count_upto;
 use crate::there::fault_finding;
 use crate::touched::is_filled;
 use std::alloc::{AllocError, Allocator};
 use yl_chunks::Spliced;
 use yl_config::Config;
-use yl_indentation::Measure;
 use yl_report::{Problem, Silences, arrange_with, copies};
 use yl_sections::{Kept, SectionFault};
 use yl_text::{Lines, Pos};
-
-/// Whether the facts of the first so many sections have the measure of those of all. It looks no further once it is found.
-fn have_measure<A: Allocator + Copy>(
-    sections: &Spliced<'_, Kept<A>, A>,
-    count: usize,
-    whole: Measure,
-) -> bool
-    requires within { count ≤ length sections.now }
-    requires whole { whole ≡ measure_of (facts_in_sections sections.now) }
-    ensures { result ≡ true → whole ≡ measure_of (facts_in_sections (take count sections.now)) }
-{
-    let mut measure = Measure::empty();
-    for i in 0..count {
-        if is_same_measure(measure, whole) {
-            return true;
-        }
-        measure = measure.and_later(sections.get(i).measure());
-    }
-    is_same_measure(measure, whole)
-}
 
 /// The former problems up to a line, and the latter ones below it.
 fn joined<A: Allocator + Copy>(
@@ -93,7 +69,7 @@ pub fn fault_in_rows<L: Lines>(
         return None;
     };
     let end = known.row.checked_add(one.rows())?;
-    if !is_apart(lines, end as usize) || !have_measure(sections, known.at + 1, known.whole) {
+    if !is_apart(lines, end as usize) {
         return None;
     }
     Some(FaultInRows { place, text, end })

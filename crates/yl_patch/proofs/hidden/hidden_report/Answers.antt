@@ -22,7 +22,7 @@ returns g c =
     let h = c.requires.fault in
     let none = c.none.result in
     let os = others config rows (take f.at ks) (drop (f.at + 1) ks) h.one c.requires.known.only.above in
-    let here = shown_so config rows ks f h.one c.requires.known h.at t.end c.args.all.now c.args.in_lines.now h.end h.within h.filled h.measure c.requires.all c.requires.in_lines in
+    let here = shown_so config rows ks f h.one c.requires.known h.at t.end c.args.all.now c.args.in_lines.now h.end h.within h.filled c.requires.all c.requires.in_lines in
     let there = fault_so config rows ks f h.one c.requires.known h.at t.place t.text.now h.fault in
     let shown =
     c.deref.ensures.value
