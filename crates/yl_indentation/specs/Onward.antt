@@ -19,3 +19,8 @@ onward_problems options before [] = []
 onward_problems options before (f ∷ fs) =
     let here = and_later before (measure_at f.column f.expectation) in
     finding_at options here (is_flush here) f ++ onward_problems options here fs
+
+-- these facts have the same problems behind facts of either measure, under any options
+abbrev pub AreJudgedAlike : Measure → Measure → List Fact → Type 0
+AreJudgedAlike one other fs =
+    (options : IndentationOptions) → onward_problems options one fs ≡ onward_problems options other fs

@@ -9,6 +9,7 @@
 
 ghost use Rattle.yl_indentation.specs.Laws.{MeasureIsLocal, ProblemsAreByDocuments, FactsCountEntriesOnceSeen, BothCountEntriesOnceSeen, FindingLooksBack, ProblemsLookBack, ProblemsOfSomeLookBack, TextProblemsGoOnward, TextProblemsLookBack};
 
+mod alike;
 mod context;
 mod element;
 mod expected;
@@ -19,6 +20,7 @@ mod measure;
 mod options;
 mod problems;
 
+pub use alike::are_judged_alike;
 pub use fact::{Expectation, Fact};
 pub use fact_reader::{FactReader, facts_are_by_symbols};
 pub use facts::indent_facts;

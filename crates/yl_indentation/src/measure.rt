@@ -1,5 +1,5 @@
 //! What the facts of a text decide for all of it.
-ghost use Rattle.std.specs.Prelude.{◌≡◌, ◌-◌};
+ghost use Rattle.std.specs.Prelude.{◌≡◌, ◌-◌, true};
 ghost use Rattle.yl_indentation.specs.Measures.{empty_measure, first, and_later, positive_step, measure_at, measure_of};
 
 use crate::fact::{Expectation, Fact};
@@ -35,6 +35,28 @@ fn positive_step(column: u32, base: u32) -> Option<u32>
         Some(column - base)
     } else {
         None
+    }
+}
+
+/// Whether two steps are the same, or neither is there.
+pub(crate) fn is_same_step(one: Option<u32>, other: Option<u32>) -> bool
+    ensures { result ≡ true → one ≡ other }
+{
+    match (one, other) {
+        (None, None) => true,
+        (Some(m), Some(n)) => m == n,
+        _ => false,
+    }
+}
+
+/// Whether two first entries stand alike, or neither is there.
+pub(crate) fn is_same_flush(one: Option<bool>, other: Option<bool>) -> bool
+    ensures { result ≡ true → one ≡ other }
+{
+    match (one, other) {
+        (None, None) => true,
+        (Some(m), Some(n)) => m == n,
+        _ => false,
     }
 }
 
@@ -81,6 +103,15 @@ impl Measure {
             step_with_entries: first(self.step_with_entries, later.step_with_entries),
             flush: first(self.flush, later.flush),
         }
+    }
+
+    /// Whether two measures are the same.
+    pub fn is_same(self, other: Measure) -> bool
+        ensures { result ≡ true → self ≡ other }
+    {
+        is_same_step(self.step, other.step)
+            && is_same_step(self.step_with_entries, other.step_with_entries)
+            && is_same_flush(self.flush, other.flush)
     }
 
     /// The measure of these facts.

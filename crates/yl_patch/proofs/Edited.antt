@@ -24,14 +24,14 @@ use Rattle.yl_patch.specs.Patched.{is_upto, patched}
 use Rattle.yl_patch.specs.Plain.{IsPlain}
 use Rattle.yl_patch.specs.Seen.{IsSeen, sections_between}
 use Rattle.yl_patch.specs.Speaking.{SpeakAlike}
-use Rattle.yl_patch.specs.Settled.{LeavesBelow, fault_behind, found_by_fault, hides_below, measure_upto, settled, settled_below}
+use Rattle.yl_patch.specs.Settled.{AreFoundAlike, LeavesBelow, fault_behind, found_by_fault, hides_below, measure_upto, settled, settled_below}
 use Rattle.yl_patch.specs.There.{found_there}
 use Rattle.yl_patch.specs.declared.touched.Ends.{Ends}
 use Rattle.yl_patch.specs.declared.touched.Touched.{Touched}
 use Rattle.yl_patch.proofs.Arranged.{AreSame, arranged, arranged_same, in_behind, in_either, in_front}
 use Rattle.yl_patch.proofs.Renewed.{report_renewed, report_with}
 use Rattle.yl_patch.proofs.Sections.{measured, no_fault, shown_plain}
-use Rattle.yl_patch.proofs.Settled.{comments_hidden, facts_hidden, findings_hidden, length_settled, measure_seen, plain_put, rows_settled, settled_splice, settled_take, settled_touched}
+use Rattle.yl_patch.proofs.Settled.{alike_seen, comments_hidden, facts_hidden, findings_hidden, length_settled, plain_put, rows_settled, settled_splice, settled_take, settled_touched}
 
 -- ---- lists with the same members
 
@@ -152,19 +152,19 @@ module _ (config : Config) (rows ins : List RowValue) (kept new : List KeptValue
   pub report_edited : (head head' : List ℕ) → disables_file head ≡ false → disables_file head' ≡ false → AllByRecursion IsPlain (settled kept) → AllByRecursion IsPlain put_new → LeavesBelow h ls new (drop end kept)
       → t.first ≡ rows_kept ks → t.old_end ≡ t.first + rows_kept ls → t.new_end ≡ t.first + rows_kept new → (e : Ends) → e.begins ≡ (t.first == 0) → e.ends ≡ (t.old_end == length rows)
       → (e.begins ≡ false → is_filled (slice_get rows t.first) ≡ true) → (e.begins ≡ false → is_filled (slice_get rows' t.first) ≡ true) → (e.ends ≡ false → is_filled (slice_get rows t.old_end) ≡ true)
-      → SpeakAlike (settled_below h ls) put_new → measure_upto (measured (settled ks)) (settled_below h ls) ≡ measure_upto (measured (settled ks)) put_new
+      → SpeakAlike (settled_below h ls) put_new → AreFoundAlike (measure_upto (measured (settled ks)) (settled_below h ls)) (measure_upto (measured (settled ks)) put_new) (settled_below (hides_below h ls) (drop end kept))
       → (i j : ℕ) (put old : List ProblemValue) → old ≡ report_with config head rows kept → i ≡ prefix_len (is_upto t.first) old → j ≡ prefix_len (is_upto t.old_end) old
-      → put ≡ arranged (levels_of config) (is_silenced (comments_in_sections 0 (settled ks ++ put_new))) (map (moved t.first) (found_there (options_of config) e (measured (settled kept)) (measured (settled ks)) qs put_new))
+      → put ≡ arranged (levels_of config) (is_silenced (comments_in_sections 0 (settled ks ++ put_new))) (map (moved t.first) (found_there (options_of config) e (measured (settled ks)) qs put_new))
       → patched i j put t.old_end t.new_end old ≡ report_with config head' rows' (splice kept from end new)
   report_edited head head' loud loud' plain plainₙ below first old_end new_end e begins ends filled filled' filled'' alike same i j put old old_is i_is j_is put_is =
       let spliced = settled_splice kept new from end h within within' above below in
       let all = plain_put kept new from end h within within' above plain plainₙ below in
       report_renewed config rows ins (settled kept) put_new a b from end t ordered within (omega (arith, within', length_settled false kept)) inside head head' loud loud' plain plainₙ
       (omega (arith, first, ap rows_kept front_is, rows_settled false ks)) (omega (arith, old_end, ap rows_kept touched_is, rows_settled h ls)) (omega (arith, new_end, rows_settled h new)) e begins ends filled filled' filled''
-      (subst (λ (xs : List KeptValue). SpeakAlike xs put_new) (sym touched_is) alike) (measure_seen kept new from end h within within' above same) i j put old
+      (subst (λ (xs : List KeptValue). SpeakAlike xs put_new) (sym touched_is) alike) (alike_seen kept new from end h within within' above same) i j put old
       (old_is ∙ settled_report config (findings_in_lines (options_of config) rows) head (end_of_lines rows) kept plain loud) i_is j_is
       (put_is
-      ∙ ap (λ (xs : List KeptValue). arranged (levels_of config) (is_silenced (comments_in_sections 0 (xs ++ put_new))) (map (moved t.first) (found_there (options_of config) e (measured (settled kept)) (measured xs) qs put_new))) (sym front_is))
+      ∙ ap (λ (xs : List KeptValue). arranged (levels_of config) (is_silenced (comments_in_sections 0 (xs ++ put_new))) (map (moved t.first) (found_there (options_of config) e (measured xs) qs put_new))) (sym front_is))
       ∙ (ap (report_with config head' rows') spliced ∙ sym (settled_report config (findings_in_lines (options_of config) rows') head' (end_of_lines rows') (splice kept from end new) all loud'))
 
 -- ---- an edit of a text whose report is this
@@ -177,5 +177,5 @@ pub report_as_shown : (config : Config) (rows ins : List RowValue) (kept new : L
     → patched i j put t.old_end t.new_end old ≡ report_by config (splice rows a b ins) (splice kept from end new)
 report_as_shown config rows ins kept new a b from end sound t h found seen ordered within within' loud loud' alike i j put old old_is i_is j_is put_is =
     report_edited config rows ins kept new a b from end t ordered within within' seen.inside h seen.hides.above (first_text rows) (first_text (splice rows a b ins)) loud loud' seen.plain seen.new_plain seen.below
-    seen.first seen.old_end seen.new_end seen.ends seen.begins_text seen.ends_text seen.old_seam seen.new_seam seen.behind_seam alike seen.measure i j put old old_is i_is j_is
+    seen.first seen.old_end seen.new_end seen.ends seen.begins_text seen.ends_text seen.old_seam seen.new_seam seen.behind_seam alike seen.alike i j put old old_is i_is j_is
     (put_is ∙ ap (arranged (levels_of config) (is_silenced (comments_in_sections 0 (settled (take from kept) ++ settled_below h new)))) seen.there)

@@ -14,7 +14,8 @@ use Rattle.yl_rules.specs.Levels.{LevelTable}
 use Rattle.yl_settings.specs.declared.options.RuleOptions.{RuleOptions}
 use Rattle.yl_report.specs.Report.{report_of}
 use Rattle.yl_sections.specs.Kept.{KeptValue}
-use Rattle.yl_lint.specs.TextReport.{findings_in_sections, moved}
+use Rattle.yl_lint.specs.Onward.{onward_in_sections}
+use Rattle.yl_lint.specs.TextReport.{moved}
 use Rattle.yl_patch.specs.Cut.{IsInside}
 use Rattle.yl_patch.specs.There.{found_there, lines_there}
 use Rattle.yl_patch.specs.declared.touched.Ends.{Ends}
@@ -32,6 +33,10 @@ in_some {X = X} P o x e h = subst (λ (v : Option X). IfSome v P) e h
 pub then : {X : Type 0} {P Q : X → Type 0} (o : Option X) → IfSome o P → ((x : X) → P x → Q x) → IfSome o Q
 then None p f = tt
 then (Some x) p f = f x p
+
+pub then_both : {X : Type 0} {P Q R : X → Type 0} (o : Option X) → IfSome o P → IfSome o Q → ((x : X) → P x → Q x → R x) → IfSome o R
+then_both None p q f = tt
+then_both (Some x) p q f = f x p q
 
 pub then_iff : {X : Type 0} (P : Type 0) {Q : X → Type 0} (o : Option X) (v : X) → SomeIff o P v → ((x : X) → x ≡ v → Q x) → IfSome o Q
 then_iff P None v h f = tt
@@ -52,22 +57,22 @@ pub same_silences : (l : LevelTable) (file : Bool) (s t : RuleId → ℕ → Boo
 same_silences l file s t xs ys a b c = rw (a, b, c) refl
 
 -- what is found in lines and in sections that stand so many lines further down
-pub all_moved : (o : RuleOptions) (e : Ends) (whole before : Measure) (down : ℕ) (rows : List RowValue) (ks : List KeptValue)
-    → map (moved down) (lines_there o e rows) ++ findings_in_sections o.indentation whole down before ks ≡ map (moved down) (found_there o e whole before rows ks)
-all_moved o e whole before down rows ks =
-    ap (λ (fs : List FindingValue). map (moved down) (lines_there o e rows) ++ fs) (sections_moved o.indentation whole before down 0 down ks (omega arith))
-    ∙ sym (map-append (moved down) (lines_there o e rows) (findings_in_sections o.indentation whole 0 before ks))
+pub all_moved : (o : RuleOptions) (e : Ends) (before : Measure) (down : ℕ) (rows : List RowValue) (ks : List KeptValue)
+    → map (moved down) (lines_there o e rows) ++ onward_in_sections o.indentation down before ks ≡ map (moved down) (found_there o e before rows ks)
+all_moved o e before down rows ks =
+    ap (λ (fs : List FindingValue). map (moved down) (lines_there o e rows) ++ fs) (sections_moved o.indentation before down 0 down ks (omega arith))
+    ∙ sym (map-append (moved down) (lines_there o e rows) (onward_in_sections o.indentation 0 before ks))
 
 -- the same, put together
-pub put_together : (o : RuleOptions) (e : Ends) (whole before : Measure) (down : ℕ) (rows : List RowValue) (ks : List KeptValue) (p : IndentationOptions) (first last : List FindingValue)
-    → first ≡ map (moved down) (lines_there o e rows) → p ≡ o.indentation → last ≡ first ++ findings_in_sections p whole down before ks → last ≡ map (moved down) (found_there o e whole before rows ks)
-put_together o e whole before down rows ks p first last in_lines options all =
+pub put_together : (o : RuleOptions) (e : Ends) (before : Measure) (down : ℕ) (rows : List RowValue) (ks : List KeptValue) (p : IndentationOptions) (first last : List FindingValue)
+    → first ≡ map (moved down) (lines_there o e rows) → p ≡ o.indentation → last ≡ first ++ onward_in_sections p down before ks → last ≡ map (moved down) (found_there o e before rows ks)
+put_together o e before down rows ks p first last in_lines options all =
     all
-    ∙ (ap (λ (fs : List FindingValue). fs ++ findings_in_sections p whole down before ks) in_lines
-    ∙ (ap (λ (q : IndentationOptions). map (moved down) (lines_there o e rows) ++ findings_in_sections q whole down before ks) options ∙ all_moved o e whole before down rows ks))
+    ∙ (ap (λ (fs : List FindingValue). fs ++ onward_in_sections p down before ks) in_lines
+    ∙ (ap (λ (q : IndentationOptions). map (moved down) (lines_there o e rows) ++ onward_in_sections q down before ks) options ∙ all_moved o e before down rows ks))
 
-pub same_there : (o : RuleOptions) (e : Ends) (w v b d : Measure) (xs ys : List RowValue) (ks : List KeptValue) → w ≡ v → b ≡ d → xs ≡ ys → found_there o e w b xs ks ≡ found_there o e v d ys ks
-same_there o e w v b d xs ys ks f g h = rw (f, g, h) refl
+pub same_there : (o : RuleOptions) (e : Ends) (b d : Measure) (xs ys : List RowValue) (ks : List KeptValue) → b ≡ d → xs ≡ ys → found_there o e b xs ks ≡ found_there o e d ys ks
+same_there o e b d xs ys ks g h = rw (g, h) refl
 
 pub then_each : {X : Type 0} {P Q R S T : X → Type 0} (o : Option X) → IfSome o P → IfSome o Q → IfSome o R → IfSome o S → ((x : X) → P x → Q x → R x → S x → T x) → IfSome o T
 then_each None p q r s f = tt

@@ -83,7 +83,7 @@ inside_old old now s g t h gone inside = record {
 pub seen_lines : (config : Config) (old now : List RowValue) (s : Stayed) (g : Gone) (t : Touched) (e : Ends) (found : List FindingValue) → HasStayed old now s → IsGone s (length now) g
     → IsInside t g.from g.old_end (g.new_end - g.from) s.lines → e.begins ≡ (t.first == 0) → e.ends ≡ (t.old_end == s.lines) → (e.begins ≡ false → t.first < g.from)
     → (e.begins ≡ false → is_filled (slice_get now t.first) ≡ true) → (e.ends ≡ false → is_filled (slice_get now t.new_end) ≡ true)
-    → found ≡ map (moved t.first) (found_there (options_of config) e empty_measure empty_measure (take (t.new_end - t.first) (drop t.first now)) [])
+    → found ≡ map (moved t.first) (found_there (options_of config) e empty_measure (take (t.new_end - t.first) (drop t.first now)) [])
     → IsSeen config old (middle s now) (blank_sections t (length old)) (one_blank t) s.above (length old - s.behind) 1 2 0 t false found
 seen_lines config old now s g t e found h gone inside begins ends stayed above behind is =
     let within = inside_old old now s g t h gone inside in
@@ -94,7 +94,7 @@ seen_lines config old now s g t e found h gone inside begins ends stayed above b
       plain = (plain t.first, (plain (t.old_end - t.first), (plain (length old - t.old_end), tt)));
       new_plain = (plain (t.new_end - t.first), tt);
       below = refl;
-      measure = refl;
+      alike = λ o line. refl;
       inside = within;
       first = omega arith;
       old_end = omega (arith, inside.old_some);
@@ -114,7 +114,7 @@ seen_lines config old now s g t e found h gone inside begins ends stayed above b
           ∙ (got_dropped (length now - s.behind) now d
           ∙ ap (slice_get now) (omega (arith, within.ends, inside.fits, gone.from, gone.old_end, gone.new_end, gone.new_ordered, h.lines))))))
           ∙ behind b;
-      there = is ∙ ap (λ xs. map (moved t.first) (found_there (options_of config) e empty_measure empty_measure (take (t.new_end - t.first) (drop t.first xs)) [])) (sym same);
+      there = is ∙ ap (λ xs. map (moved t.first) (found_there (options_of config) e empty_measure (take (t.new_end - t.first) (drop t.first xs)) [])) (sym same);
     }
 
 pub lines_edited : (config : Config) (old now : List RowValue) (s : Stayed) (t : Touched) (found : List FindingValue) → HasStayed old now s

@@ -3,6 +3,7 @@ pub mod BeforeFault
 pub mod Edited
 pub mod Ends
 pub mod InLines
+pub mod Later
 pub mod Lines
 pub mod Parts
 pub mod Renewed

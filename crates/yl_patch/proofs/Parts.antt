@@ -16,8 +16,10 @@ use Rattle.yl_settings.specs.declared.options.RuleOptions.{RuleOptions}
 use Rattle.yl_report.specs.Report.{ProblemValue}
 use Rattle.yl_sections.specs.Kept.{KeptValue, items_if}
 use Rattle.yl_rejudge.specs.Places.{rows_kept}
-use Rattle.yl_lint.specs.TextReport.{moved, findings_from, findings_in_sections}
+use Rattle.yl_lint.specs.Onward.{onward_in_sections}
+use Rattle.yl_lint.specs.TextReport.{moved, findings_from}
 use Rattle.yl_patch.specs.Plain.{IsPlain}
+use Rattle.yl_patch.specs.Settled.{AreFoundAlike}
 use Rattle.yl_patch.proofs.Arranged.{AreSame, arranged, arranged_same, arranged_apart, arranged_moved, below, lower, in_front, in_behind, in_either}
 use Rattle.yl_patch.proofs.Lines.{Between, between_both, empty_lines_between, end_of_file_between, first_apart, if_none, is_seam, last_apart, new_lines_between, rows_apart, rows_between, runs_apart}
 use Rattle.yl_patch.proofs.Sections.{between_wider, between_moved, measured, sections_apart, sections_between}
@@ -26,25 +28,30 @@ use Rattle.yl_patch.specs.Patched.{is_upto, patched, shifted}
 -- ---- what is found in a part of a text
 
 -- in these lines, which begin the text or not and end it or not, and in these sections of them, behind facts of this measure
-abbrev pub part : RuleOptions → Measure → Bool → Bool → Measure → List RowValue → List KeptValue → List FindingValue
-part o whole begins ends before rows ks =
+abbrev pub part : RuleOptions → Bool → Bool → Measure → List RowValue → List KeptValue → List FindingValue
+part o begins ends before rows ks =
     findings_from o.row 1 rows
     ++ (items_if begins (new_lines o.run.new_line rows)
-    ++ (empty_lines o.run.empty_lines rows ++ (items_if ends (end_of_file rows) ++ findings_in_sections o.indentation whole 0 before ks)))
+    ++ (empty_lines o.run.empty_lines rows ++ (items_if ends (end_of_file rows) ++ onward_in_sections o.indentation 0 before ks)))
 
 if_between : (low high : ℕ) (b : Bool) (fs : List FindingValue) → Between low high fs → Between low high (items_if b fs)
 if_between low high true fs h = h
 if_between low high false fs h = tt
 
-pub part_between : (o : RuleOptions) (whole : Measure) (begins ends : Bool) (before : Measure) (rows : List RowValue) (ks : List KeptValue) (high : ℕ) → AllByRecursion IsPlain ks → length rows ≤ high → rows_kept ks ≤ high
-    → Between 0 high (part o whole begins ends before rows ks)
-part_between o whole begins ends before rows ks high h l m =
+pub part_between : (o : RuleOptions) (begins ends : Bool) (before : Measure) (rows : List RowValue) (ks : List KeptValue) (high : ℕ) → AllByRecursion IsPlain ks → length rows ≤ high → rows_kept ks ≤ high
+    → Between 0 high (part o begins ends before rows ks)
+part_between o begins ends before rows ks high h l m =
     let n = length rows in
     between_both 0 high (findings_from o.row 1 rows) _ (rows_between o.row 0 high 1 rows (omega arith) (omega (arith, l)))
     (between_both 0 high (items_if begins (new_lines o.run.new_line rows)) _ (if_between 0 high begins (new_lines o.run.new_line rows) (between_wider 0 n 0 high (new_lines o.run.new_line rows) (omega arith) l (new_lines_between o.run.new_line rows)))
     (between_both 0 high (empty_lines o.run.empty_lines rows) _ (empty_lines_between o.run.empty_lines 0 high [] rows (omega arith) (omega (arith, l)))
     (between_both 0 high (items_if ends (end_of_file rows)) _ (if_between 0 high ends (end_of_file rows) (between_wider 0 n 0 high (end_of_file rows) (omega arith) l (end_of_file_between rows)))
-    (sections_between o.indentation whole before 0 high ks h (omega (arith, m))))))
+    (sections_between o.indentation before 0 high ks h (omega (arith, m))))))
+
+-- the same behind facts of either measure, where the same is found in the sections
+pub part_alike : (o : RuleOptions) (begins ends : Bool) (one other : Measure) (rows : List RowValue) (ks : List KeptValue) → AreFoundAlike one other ks → part o begins ends one rows ks ≡ part o begins ends other rows ks
+part_alike o begins ends one other rows ks same =
+    ap (λ (fs : List FindingValue). findings_from o.row 1 rows ++ (items_if begins (new_lines o.run.new_line rows) ++ (empty_lines o.run.empty_lines rows ++ (items_if ends (end_of_file rows) ++ fs)))) (same o.indentation 0)
 
 -- ---- the members of two parts
 
@@ -88,7 +95,7 @@ pub lines_above : (n high : ℕ) (fs : List FindingValue) → Between n high fs 
 lines_above n high [] h = tt
 lines_above n high (f ∷ fs) h = (h.0.0, lines_above n high fs h.1)
 
-module _ (levels : LevelTable) (s : RuleId → ℕ → Bool) (o : RuleOptions) (whole : Measure) (begins ends : Bool) (before : Measure) (xs ys : List RowValue) (ks ls : List KeptValue)
+module _ (levels : LevelTable) (s : RuleId → ℕ → Bool) (o : RuleOptions) (begins ends : Bool) (before : Measure) (xs ys : List RowValue) (ks ls : List KeptValue)
     (plain : AllByRecursion IsPlain ks) (plain' : AllByRecursion IsPlain ls) (fit : rows_kept ks ≡ length xs) (seam : is_seam xs ys ≡ true) where
   abbrev m : List FindingValue → List FindingValue
   m fs = map (moved (length xs)) fs
@@ -121,21 +128,21 @@ module _ (levels : LevelTable) (s : RuleId → ℕ → Bool) (o : RuleOptions) (
   z₂ = items_if ends (end_of_file ys)
 
   abbrev s₁ : List FindingValue
-  s₁ = findings_in_sections o.indentation whole 0 before ks
+  s₁ = onward_in_sections o.indentation 0 before ks
 
   abbrev s₂ : List FindingValue
-  s₂ = findings_in_sections o.indentation whole 0 later ls
+  s₂ = onward_in_sections o.indentation 0 later ls
 
   abbrev first_part : List FindingValue
-  first_part = part o whole begins (if_none ys ends) before xs ks
+  first_part = part o begins (if_none ys ends) before xs ks
 
   abbrev second_part : List FindingValue
-  second_part = part o whole (if_none xs begins) ends later ys ls
+  second_part = part o (if_none xs begins) ends later ys ls
 
-  sections_are : findings_in_sections o.indentation whole 0 before (ks ++ ls) ≡ s₁ ++ m s₂
-  sections_are = sections_apart o.indentation whole before ks ls ∙ ap (λ k. s₁ ++ map (moved k) s₂) fit
+  sections_are : onward_in_sections o.indentation 0 before (ks ++ ls) ≡ s₁ ++ m s₂
+  sections_are = sections_apart o.indentation before ks ls ∙ ap (λ k. s₁ ++ map (moved k) s₂) fit
 
-  whole_is : part o whole begins ends before (xs ++ ys) (ks ++ ls) ≡ together r₁ (m r₂) n₁ (m n₂) e₁ (m e₂) z₁ (m z₂) s₁ (m s₂)
+  whole_is : part o begins ends before (xs ++ ys) (ks ++ ls) ≡ together r₁ (m r₂) n₁ (m n₂) e₁ (m e₂) z₁ (m z₂) s₁ (m s₂)
   whole_is =
       rw (rows_apart o.row xs ys, first_apart o.run.new_line begins xs ys, runs_apart o.run.empty_lines xs ys seam, last_apart ends xs ys, sections_are)
       refl
@@ -148,10 +155,10 @@ module _ (levels : LevelTable) (s : RuleId → ℕ → Bool) (o : RuleOptions) (
       ∙ ap (λ (fs : List FindingValue). m n₂ ++ fs) (map-append l e₂ (z₂ ++ s₂) ∙ ap (λ (fs : List FindingValue). m e₂ ++ fs) (map-append l z₂ s₂))))
 
   front_low : Between 0 (length xs) first_part
-  front_low = part_between o whole begins (if_none ys ends) before xs ks (length xs) plain (omega arith) (omega (arith, fit))
+  front_low = part_between o begins (if_none ys ends) before xs ks (length xs) plain (omega arith) (omega (arith, fit))
 
   second_between : Between 0 (length ys + rows_kept ls) second_part
-  second_between = part_between o whole (if_none xs begins) ends later ys ls (length ys + rows_kept ls) plain' (omega arith) (omega arith)
+  second_between = part_between o (if_none xs begins) ends later ys ls (length ys + rows_kept ls) plain' (omega arith) (omega arith)
 
   back_high : AllByRecursion (λ f. length xs < f.line) (m second_part)
   back_high =
@@ -159,7 +166,7 @@ module _ (levels : LevelTable) (s : RuleId → ℕ → Bool) (o : RuleOptions) (
       let b = between_moved (length xs) 0 high second_part second_between in
       lines_above (length xs) (length xs + high) (m second_part) (between_wider (length xs + 0) (length xs + high) (length xs) (length xs + high) (m second_part) (omega arith) (omega arith) b)
 
-  pub parts_apart : arranged levels s (part o whole begins ends before (xs ++ ys) (ks ++ ls)) ≡ arranged levels s first_part ++ map (lower (length xs)) (arranged levels (below (length xs) s) second_part)
+  pub parts_apart : arranged levels s (part o begins ends before (xs ++ ys) (ks ++ ls)) ≡ arranged levels s first_part ++ map (lower (length xs)) (arranged levels (below (length xs) s) second_part)
   parts_apart =
       ap (arranged levels s) whole_is
       ∙ (arranged_same levels s (together r₁ (m r₂) n₁ (m n₂) e₁ (m e₂) z₁ (m z₂) s₁ (m s₂))

@@ -13,7 +13,6 @@ use Rattle.yl_rules.specs.EndOfFile.{end_of_file}
 use Rattle.yl_rules.specs.Levels.{LevelTable}
 use Rattle.yl_indentation.specs.declared.measure.Measure.{Measure}
 use Rattle.yl_indentation.specs.Measures.{and_later, empty_measure}
-use Rattle.yl_indentation.proofs.Measured.{and_later_assoc}
 use Rattle.yl_settings.specs.declared.options.RuleOptions.{RuleOptions}
 use Rattle.yl_config.specs.declared.config.Config.{Config}
 use Rattle.yl_config.specs.Config.{levels_of, options_of}
@@ -21,30 +20,32 @@ use Rattle.yl_report.specs.Directive.{disables_file, is_silenced}
 use Rattle.yl_report.specs.Report.{ProblemValue, report_of}
 use Rattle.yl_sections.specs.Kept.{KeptValue, items_if}
 use Rattle.yl_rejudge.specs.Places.{rows_kept}
+use Rattle.yl_lint.proofs.Onward.{whole_looks_back}
+use Rattle.yl_lint.specs.Onward.{onward_in_sections}
 use Rattle.yl_lint.specs.TextReport.{findings_from, findings_in_lines, findings_in_sections, fault_in_sections, comments_in_sections, moved, moved_comment, shown, end_of_lines, report_of_kept}
 use Rattle.yl_patch.specs.Cut.{IsInside, is_filled}
 use Rattle.yl_patch.specs.Patched.{is_upto, patched}
 use Rattle.yl_patch.specs.Plain.{IsPlain}
-use Rattle.yl_patch.specs.Settled.{measure_upto}
+use Rattle.yl_patch.specs.Settled.{AreFoundAlike, measure_upto}
 use Rattle.yl_patch.specs.Speaking.{SpeakAlike, SpeaksWithin, switch_texts}
 use Rattle.yl_patch.specs.There.{found_there}
 use Rattle.yl_patch.specs.declared.touched.Ends.{Ends}
 use Rattle.yl_patch.specs.declared.touched.Touched.{Touched}
 use Rattle.yl_patch.proofs.Arranged.{arranged, arranged_alike, arranged_lines, arranged_moved, below, lower}
 use Rattle.yl_patch.proofs.Lines.{back_seam, front_seam, if_none, is_seam, none_by, seam_behind, seam_more}
-use Rattle.yl_patch.proofs.Parts.{lines_above, part, part_between, parts_apart, patched_so}
-use Rattle.yl_patch.proofs.Sections.{all_back, all_both, all_front, comments_three, comments_two, comments_within, measured, measured_both, no_fault, shown_plain}
+use Rattle.yl_patch.proofs.Parts.{lines_above, part, part_alike, part_between, parts_apart, patched_so}
+use Rattle.yl_patch.proofs.Sections.{all_back, all_both, all_front, comments_three, comments_two, comments_within, measured, no_fault, shown_plain}
 use Rattle.yl_patch.proofs.Silenced.{IsHeardAbove, heard_further, heard_moved, moved_high, said_above, said_alike, same_off}
 
 -- ---- the report of plain sections
 
-found_is_part : (o : RuleOptions) (e : Ends) (whole before : Measure) (rows : List RowValue) (ks : List KeptValue) → found_there o e whole before rows ks ≡ part o whole e.begins e.ends before rows ks
-found_is_part o e whole before rows ks =
+found_is_part : (o : RuleOptions) (e : Ends) (before : Measure) (rows : List RowValue) (ks : List KeptValue) → found_there o e before rows ks ≡ part o e.begins e.ends before rows ks
+found_is_part o e before rows ks =
     let r = findings_from o.row 1 rows in
     let n = items_if e.begins (new_lines o.run.new_line rows) in
     let l = empty_lines o.run.empty_lines rows in
     let z = items_if e.ends (end_of_file rows) in
-    let s = findings_in_sections o.indentation whole 0 before ks in
+    let s = onward_in_sections o.indentation 0 before ks in
     append_assoc r (n ++ (l ++ z)) s ∙ ap (λ (fs : List FindingValue). r ++ fs) (append_assoc n (l ++ z) s ∙ ap (λ (fs : List FindingValue). n ++ fs) (append_assoc l z s))
 
 module _ (config : Config) (first : List ℕ) (end : Pos) (rows : List RowValue) (ks : List KeptValue) (plain : AllByRecursion IsPlain ks) (loud : disables_file first ≡ false) where
@@ -54,13 +55,15 @@ module _ (config : Config) (first : List ℕ) (end : Pos) (rows : List RowValue)
   abbrev found : List KeptValue → List FindingValue → List FindingValue
   found seen faults = findings_in_lines o rows ++ (faults ++ findings_in_sections o.indentation (measured seen) 0 empty_measure seen)
 
-  whole_part : found ks [] ≡ part o (measured ks) true true empty_measure rows ks
-  whole_part = found_is_part o (record { begins = true; ends = true }) (measured ks) empty_measure rows ks
+  whole_part : found ks [] ≡ part o true true empty_measure rows ks
+  whole_part =
+      ap (λ (fs : List FindingValue). findings_in_lines o rows ++ fs) (whole_looks_back o.indentation ks)
+      ∙ found_is_part o (record { begins = true; ends = true }) empty_measure rows ks
 
   abbrev silenced : RuleId → ℕ → Bool
   silenced = is_silenced (comments_in_sections 0 ks)
 
-  plain_report : report_of_kept config (findings_in_lines o rows) first end ks ≡ arranged (levels_of config) silenced (part o (measured ks) true true empty_measure rows ks)
+  plain_report : report_of_kept config (findings_in_lines o rows) first end ks ≡ arranged (levels_of config) silenced (part o true true empty_measure rows ks)
   unfolding report_of_kept
   plain_report =
       ap (λ (b : Bool). report_of (levels_of config) b (is_silenced (comments_in_sections 0 (shown ks))) (found (shown ks) (fault_in_sections 0 end ks))) loud
@@ -72,48 +75,48 @@ abbrev pub report_with : Config → List ℕ → List RowValue → List KeptValu
 report_with config first rows ks = report_of_kept config (findings_in_lines (options_of config) rows) first (end_of_lines rows) ks
 
 pub report_is : (config : Config) (first : List ℕ) (rows : List RowValue) (ks : List KeptValue) → AllByRecursion IsPlain ks → disables_file first ≡ false
-    → report_with config first rows ks ≡ arranged (levels_of config) (is_silenced (comments_in_sections 0 ks)) (part (options_of config) (measured ks) true true empty_measure rows ks)
+    → report_with config first rows ks ≡ arranged (levels_of config) (is_silenced (comments_in_sections 0 ks)) (part (options_of config) true true empty_measure rows ks)
 report_is config first rows ks plain loud = plain_report config first (end_of_lines rows) rows ks plain loud
 
 -- ---- three parts, of which the second becomes another
 
-module _ (levels : LevelTable) (s : RuleId → ℕ → Bool) (o : RuleOptions) (p : RowValue) (fs ps bs : List RowValue) (ks ls ms : List KeptValue) (whole : Measure)
+module _ (levels : LevelTable) (s : RuleId → ℕ → Bool) (o : RuleOptions) (p : RowValue) (fs ps bs : List RowValue) (ks ls ms : List KeptValue)
     (plain : AllByRecursion IsPlain ks) (plain' : AllByRecursion IsPlain ls) (plain'' : AllByRecursion IsPlain ms)
     (fit : rows_kept ks ≡ length fs) (fit' : rows_kept ls ≡ length (p ∷ ps)) (seam : is_seam fs (p ∷ ps) ≡ true) (seam' : is_seam (p ∷ ps) bs ≡ true) where
   abbrev front : List ProblemValue
-  front = arranged levels s (part o whole true false empty_measure fs ks)
+  front = arranged levels s (part o true false empty_measure fs ks)
 
   abbrev middle : List ProblemValue
-  middle = arranged levels (below (length fs) s) (part o whole (if_none fs true) (if_none bs true) (measured ks) (p ∷ ps) ls)
+  middle = arranged levels (below (length fs) s) (part o (if_none fs true) (if_none bs true) (measured ks) (p ∷ ps) ls)
 
   abbrev behind : Measure → List ProblemValue
-  behind before = arranged levels (below (length (p ∷ ps)) (below (length fs) s)) (part o whole false true before bs ms)
+  behind before = arranged levels (below (length (p ∷ ps)) (below (length fs) s)) (part o false true before bs ms)
 
-  three_parts : arranged levels s (part o whole true true empty_measure (fs ++ ((p ∷ ps) ++ bs)) (ks ++ (ls ++ ms)))
+  three_parts : arranged levels s (part o true true empty_measure (fs ++ ((p ∷ ps) ++ bs)) (ks ++ (ls ++ ms)))
       ≡ front ++ map (lower (length fs)) (middle ++ map (lower (length (p ∷ ps))) (behind (and_later (measured ks) (measured ls))))
   three_parts =
-      parts_apart levels s o whole true true empty_measure fs (p ∷ (ps ++ bs)) ks (ls ++ ms) plain (all_both IsPlain ls ms plain' plain'') fit (seam_more fs ps (ps ++ bs) p seam)
-      ∙ ap (λ (qs : List ProblemValue). front ++ map (lower (length fs)) qs) (parts_apart levels (below (length fs) s) o whole (if_none fs true) true (measured ks) (p ∷ ps) bs ls ms plain' plain'' fit' seam')
+      parts_apart levels s o true true empty_measure fs (p ∷ (ps ++ bs)) ks (ls ++ ms) plain (all_both IsPlain ls ms plain' plain'') fit (seam_more fs ps (ps ++ bs) p seam)
+      ∙ ap (λ (qs : List ProblemValue). front ++ map (lower (length fs)) qs) (parts_apart levels (below (length fs) s) o (if_none fs true) true (measured ks) (p ∷ ps) bs ls ms plain' plain'' fit' seam')
 
-  front_between : AllByRecursion (λ f. (0 < f.line) × (f.line ≤ length fs)) (part o whole true false empty_measure fs ks)
-  front_between = part_between o whole true false empty_measure fs ks (length fs) plain (omega arith) (omega (arith, fit))
+  front_between : AllByRecursion (λ f. (0 < f.line) × (f.line ≤ length fs)) (part o true false empty_measure fs ks)
+  front_between = part_between o true false empty_measure fs ks (length fs) plain (omega arith) (omega (arith, fit))
 
-  middle_between : AllByRecursion (λ f. (0 < f.line) × (f.line ≤ length (p ∷ ps))) (part o whole (if_none fs true) (if_none bs true) (measured ks) (p ∷ ps) ls)
-  middle_between = part_between o whole (if_none fs true) (if_none bs true) (measured ks) (p ∷ ps) ls (length (p ∷ ps)) plain' (omega arith) (omega (arith, fit'))
+  middle_between : AllByRecursion (λ f. (0 < f.line) × (f.line ≤ length (p ∷ ps))) (part o (if_none fs true) (if_none bs true) (measured ks) (p ∷ ps) ls)
+  middle_between = part_between o (if_none fs true) (if_none bs true) (measured ks) (p ∷ ps) ls (length (p ∷ ps)) plain' (omega arith) (omega (arith, fit'))
 
   in_front_lines : AllByRecursion (λ q. (0 < q.line) × (q.line ≤ length fs)) front
-  in_front_lines = arranged_lines (λ l. (0 < l) × (l ≤ length fs)) levels s (part o whole true false empty_measure fs ks) front_between
+  in_front_lines = arranged_lines (λ l. (0 < l) × (l ≤ length fs)) levels s (part o true false empty_measure fs ks) front_between
 
   in_middle_lines : AllByRecursion (λ q. (0 < q.line) × (q.line ≤ length (p ∷ ps))) middle
   in_middle_lines =
-      arranged_lines (λ l. (0 < l) × (l ≤ length (p ∷ ps))) levels (below (length fs) s) (part o whole (if_none fs true) (if_none bs true) (measured ks) (p ∷ ps) ls) middle_between
+      arranged_lines (λ l. (0 < l) × (l ≤ length (p ∷ ps))) levels (below (length fs) s) (part o (if_none fs true) (if_none bs true) (measured ks) (p ∷ ps) ls) middle_between
 
   in_back_lines : (before : Measure) → AllByRecursion (λ q. 0 < q.line) (behind before)
   in_back_lines before =
       let high = length bs + rows_kept ms in
-      let found = part o whole false true before bs ms in
+      let found = part o false true before bs ms in
       arranged_lines (λ l. 0 < l) levels (below (length (p ∷ ps)) (below (length fs) s)) found
-      (lines_above 0 high found (part_between o whole false true before bs ms high plain'' (omega arith) (omega arith)))
+      (lines_above 0 high found (part_between o false true before bs ms high plain'' (omega arith) (omega arith)))
 
 -- what comments of three parts say, where the second has n lines, or is another and has m
 module _ (cs xs ys ds : List PlacedCommentValue) (first n m : ℕ) (low : AllByRecursion (λ c. c.line < first) cs) (low' : AllByRecursion (λ c. c.line < n) xs) (lowₙ : AllByRecursion (λ c. c.line < m) ys)
@@ -156,12 +159,9 @@ module _ (cs xs ys ds : List PlacedCommentValue) (first n m : ℕ) (low : AllByR
 
 -- a text of three parts, the second of which becomes another
 module _ (config : Config) (ks ls news ms : List KeptValue) (plain : AllByRecursion IsPlain ks) (plain' : AllByRecursion IsPlain ls) (plainₙ : AllByRecursion IsPlain news) (plain'' : AllByRecursion IsPlain ms)
-    (alike : SpeakAlike ls news) (same : measure_upto (measured ks) ls ≡ measure_upto (measured ks) news) (head head' : List ℕ) (loud : disables_file head ≡ false) (loud' : disables_file head' ≡ false) where
+    (alike : SpeakAlike ls news) (same : AreFoundAlike (measure_upto (measured ks) ls) (measure_upto (measured ks) news) ms) (head head' : List ℕ) (loud : disables_file head ≡ false) (loud' : disables_file head' ≡ false) where
   abbrev opts : RuleOptions
   opts = options_of config
-
-  abbrev wholly : Measure
-  wholly = measured (ks ++ (ls ++ ms))
 
   abbrev levels : LevelTable
   levels = levels_of config
@@ -178,14 +178,6 @@ module _ (config : Config) (ks ls news ms : List KeptValue) (plain : AllByRecurs
   abbrev ds : List PlacedCommentValue
   ds = comments_in_sections 0 ms
 
-  same_whole : measured (ks ++ (news ++ ms)) ≡ wholly
-  same_whole =
-      measured_both ks (news ++ ms)
-      ∙ (ap (and_later (measured ks)) (measured_both news ms)
-      ∙ (sym (and_later_assoc (measured ks) (measured news) (measured ms))
-      ∙ (ap (λ (m : Measure). and_later m (measured ms)) (sym same)
-      ∙ (and_later_assoc (measured ks) (measured ls) (measured ms) ∙ (ap (and_later (measured ks)) (sym (measured_both ls ms)) ∙ sym (measured_both ks (ls ++ ms)))))))
-
   -- what is silenced, where the second part has these comments and so many lines
   abbrev says_of : List PlacedCommentValue → ℕ → ℕ → RuleId → ℕ → Bool
   says_of zs first n = is_silenced (cs ++ (map (moved_comment first) zs ++ map (moved_comment (first + n)) ds))
@@ -199,7 +191,7 @@ module _ (config : Config) (ks ls news ms : List KeptValue) (plain : AllByRecurs
   renewed_parts : (fs ps qs bs : List RowValue) → rows_kept ks ≡ length fs → rows_kept ls ≡ length ps → rows_kept news ≡ length qs
       → 0 < length ps → 0 < length qs → is_seam fs ps ≡ true → is_seam fs qs ≡ true → is_seam ps bs ≡ true
       → (i j up down : ℕ) (put old : List ProblemValue) → old ≡ report_with config head (fs ++ (ps ++ bs)) (ks ++ (ls ++ ms)) → i ≡ prefix_len (is_upto (length fs)) old → j ≡ prefix_len (is_upto up) old → up ≡ length fs + length ps → down ≡ length fs + length qs
-      → (e : Ends) → e.begins ≡ if_none fs true → e.ends ≡ if_none bs true → put ≡ arranged levels (is_silenced (comments_in_sections 0 (ks ++ news))) (map (moved (length fs)) (found_there opts e wholly (measured ks) qs news))
+      → (e : Ends) → e.begins ≡ if_none fs true → e.ends ≡ if_none bs true → put ≡ arranged levels (is_silenced (comments_in_sections 0 (ks ++ news))) (map (moved (length fs)) (found_there opts e (measured ks) qs news))
       → patched i j put up down old ≡ report_with config head' (fs ++ (qs ++ bs)) (ks ++ (news ++ ms))
   renewed_parts fs [] qs bs f g h some _ _ _ _ _ _ _ _ _ _ _ _ _ _ _ _ _ _ _ = absurd (omega (arith, some))
   renewed_parts fs (p ∷ ps) [] bs f g h _ some _ _ _ _ _ _ _ _ _ _ _ _ _ _ _ _ _ _ = absurd (omega (arith, some))
@@ -220,43 +212,42 @@ module _ (config : Config) (ks ls news ms : List KeptValue) (plain : AllByRecurs
       let all' = all_both IsPlain ks (news ++ ms) plain (all_both IsPlain news ms plainₙ plain'') in
       let behind_seam' = seam_behind ps qs bs p q behind_seam in
       let before = and_later (measured ks) (measured ls) in
-      let a = front levels s opts p fs ps bs ks ls ms wholly plain plain' plain'' f g seam behind_seam in
-      let b = middle levels s opts p fs ps bs ks ls ms wholly plain plain' plain'' f g seam behind_seam in
-      let c = behind levels s opts p fs ps bs ks ls ms wholly plain plain' plain'' f g seam behind_seam before in
-      let b' = middle levels s' opts q fs qs bs ks news ms wholly plain plainₙ plain'' f h seam' behind_seam' in
+      let a = front levels s opts p fs ps bs ks ls ms plain plain' plain'' f g seam behind_seam in
+      let b = middle levels s opts p fs ps bs ks ls ms plain plain' plain'' f g seam behind_seam in
+      let c = behind levels s opts p fs ps bs ks ls ms plain plain' plain'' f g seam behind_seam before in
+      let b' = middle levels s' opts q fs qs bs ks news ms plain plainₙ plain'' f h seam' behind_seam' in
       let old_rows = fs ++ ((p ∷ ps) ++ bs) in
       let new_rows = fs ++ ((q ∷ qs) ++ bs) in
       let old_parts =
       report_is config head old_rows (ks ++ (ls ++ ms)) all loud
-      ∙ (ap (λ (z : RuleId → ℕ → Bool). arranged levels z (part opts wholly true true empty_measure old_rows (ks ++ (ls ++ ms)))) (old_says first n f g)
-      ∙ three_parts levels s opts p fs ps bs ks ls ms wholly plain plain' plain'' f g seam behind_seam) in
-      let front_is : front levels s' opts q fs qs bs ks news ms wholly plain plainₙ plain'' f h seam' behind_seam' ≡ a =
-      arranged_alike levels s' s first (part opts wholly true false empty_measure fs ks) (front_between levels s opts p fs ps bs ks ls ms wholly plain plain' plain'' f g seam behind_seam) (says_front cs xs ys ds first n m low low' lowₙ within withinₙ alike.switches some some') in
-      let back_is : behind levels s' opts q fs qs bs ks news ms wholly plain plainₙ plain'' f h seam' behind_seam' (and_later (measured ks) (measured news)) ≡ c =
-      ap (λ (d : Measure). behind levels s' opts q fs qs bs ks news ms wholly plain plainₙ plain'' f h seam' behind_seam' d) (sym same)
-      ∙ ap (λ (z : RuleId → ℕ → Bool). arranged levels z (part opts wholly false true before bs ms)) (says_behind cs xs ys ds first n m low low' lowₙ within withinₙ alike.switches some some') in
+      ∙ (ap (λ (z : RuleId → ℕ → Bool). arranged levels z (part opts true true empty_measure old_rows (ks ++ (ls ++ ms)))) (old_says first n f g)
+      ∙ three_parts levels s opts p fs ps bs ks ls ms plain plain' plain'' f g seam behind_seam) in
+      let front_is : front levels s' opts q fs qs bs ks news ms plain plainₙ plain'' f h seam' behind_seam' ≡ a =
+      arranged_alike levels s' s first (part opts true false empty_measure fs ks) (front_between levels s opts p fs ps bs ks ls ms plain plain' plain'' f g seam behind_seam) (says_front cs xs ys ds first n m low low' lowₙ within withinₙ alike.switches some some') in
+      let back_is : behind levels s' opts q fs qs bs ks news ms plain plainₙ plain'' f h seam' behind_seam' (and_later (measured ks) (measured news)) ≡ c =
+      ap (arranged levels (below m (below first s'))) (sym (part_alike opts false true before (and_later (measured ks) (measured news)) bs ms same))
+      ∙ ap (λ (z : RuleId → ℕ → Bool). arranged levels z (part opts false true before bs ms)) (says_behind cs xs ys ds first n m low low' lowₙ within withinₙ alike.switches some some') in
       let new_parts =
       report_is config head' new_rows (ks ++ (news ++ ms)) all' loud'
-      ∙ (ap (λ (d : Measure). arranged levels (is_silenced (comments_in_sections 0 (ks ++ (news ++ ms)))) (part opts d true true empty_measure new_rows (ks ++ (news ++ ms)))) same_whole
-      ∙ (ap (λ (z : RuleId → ℕ → Bool). arranged levels z (part opts wholly true true empty_measure new_rows (ks ++ (news ++ ms)))) (new_says first m f h)
-      ∙ (three_parts levels s' opts q fs qs bs ks news ms wholly plain plainₙ plain'' f h seam' behind_seam'
-      ∙ (ap (λ (z : List ProblemValue). z ++ map (lower first) (b' ++ map (lower m) (behind levels s' opts q fs qs bs ks news ms wholly plain plainₙ plain'' f h seam' behind_seam' (and_later (measured ks) (measured news))))) front_is
-      ∙ ap (λ (z : List ProblemValue). a ++ map (lower first) (b' ++ map (lower m) z)) back_is)))) in
+      ∙ (ap (λ (z : RuleId → ℕ → Bool). arranged levels z (part opts true true empty_measure new_rows (ks ++ (news ++ ms)))) (new_says first m f h)
+      ∙ (three_parts levels s' opts q fs qs bs ks news ms plain plainₙ plain'' f h seam' behind_seam'
+      ∙ (ap (λ (z : List ProblemValue). z ++ map (lower first) (b' ++ map (lower m) (behind levels s' opts q fs qs bs ks news ms plain plainₙ plain'' f h seam' behind_seam' (and_later (measured ks) (measured news))))) front_is
+      ∙ ap (λ (z : List ProblemValue). a ++ map (lower first) (b' ++ map (lower m) z)) back_is))) in
       let here = cs ++ map (moved_comment first) ys in
-      let found = part opts wholly (if_none fs true) (if_none bs true) (measured ks) (q ∷ qs) news in
-      let found_between = middle_between levels s' opts q fs qs bs ks news ms wholly plain plainₙ plain'' f h seam' behind_seam' in
-      let there : found_there opts e wholly (measured ks) (q ∷ qs) news ≡ found =
-      found_is_part opts e wholly (measured ks) (q ∷ qs) news
-      ∙ (ap (λ begins. part opts wholly begins e.ends (measured ks) (q ∷ qs) news) begins ∙ ap (λ ends. part opts wholly (if_none fs true) ends (measured ks) (q ∷ qs) news) ends) in
+      let found = part opts (if_none fs true) (if_none bs true) (measured ks) (q ∷ qs) news in
+      let found_between = middle_between levels s' opts q fs qs bs ks news ms plain plainₙ plain'' f h seam' behind_seam' in
+      let there : found_there opts e (measured ks) (q ∷ qs) news ≡ found =
+      found_is_part opts e (measured ks) (q ∷ qs) news
+      ∙ (ap (λ begins. part opts begins e.ends (measured ks) (q ∷ qs) news) begins ∙ ap (λ ends. part opts (if_none fs true) ends (measured ks) (q ∷ qs) news) ends) in
       patched_so a b c b' old (report_with config head' new_rows (ks ++ (news ++ ms))) put first n m i j up down (old_is ∙ old_parts) new_parts
       (put_is
       ∙ (ap (λ (fs : List FindingValue). arranged levels (is_silenced (comments_in_sections 0 (ks ++ news))) (map (moved first) fs)) there
       ∙ (ap (λ (zs : List PlacedCommentValue). arranged levels (is_silenced zs) (map (moved first) found)) (comments_two ks news first (sym f))
       ∙ (arranged_moved levels (is_silenced here) first found (lines_above 0 m found found_between)
       ∙ ap (map (lower first)) (arranged_alike levels (below first (is_silenced here)) (below first s') m found found_between (says_middle cs xs ys ds first n m low low' lowₙ within withinₙ alike.switches some some'))))))
-      (in_front_lines levels s opts p fs ps bs ks ls ms wholly plain plain' plain'' f g seam behind_seam)
-      (in_middle_lines levels s opts p fs ps bs ks ls ms wholly plain plain' plain'' f g seam behind_seam)
-      (in_back_lines levels s opts p fs ps bs ks ls ms wholly plain plain' plain'' f g seam behind_seam before)
+      (in_front_lines levels s opts p fs ps bs ks ls ms plain plain' plain'' f g seam behind_seam)
+      (in_middle_lines levels s opts p fs ps bs ks ls ms plain plain' plain'' f g seam behind_seam)
+      (in_back_lines levels s opts p fs ps bs ks ls ms plain plain' plain'' f g seam behind_seam before)
       i_is j_is up_is down_is
 
 -- ---- an edit
@@ -353,9 +344,9 @@ module _ (config : Config) (rows ins : List RowValue) (kept new : List KeptValue
   pub report_renewed : (head head' : List ℕ) → disables_file head ≡ false → disables_file head' ≡ false → AllByRecursion IsPlain kept → AllByRecursion IsPlain new
       → t.first ≡ rows_kept ks → t.old_end ≡ t.first + rows_kept ls → t.new_end ≡ t.first + rows_kept new → (e : Ends) → e.begins ≡ (t.first == 0) → e.ends ≡ (t.old_end == length rows)
       → (e.begins ≡ false → is_filled (slice_get rows t.first) ≡ true) → (e.begins ≡ false → is_filled (slice_get rows' t.first) ≡ true) → (e.ends ≡ false → is_filled (slice_get rows t.old_end) ≡ true)
-      → SpeakAlike ls new → measure_upto (measured ks) ls ≡ measure_upto (measured ks) new
+      → SpeakAlike ls new → AreFoundAlike (measure_upto (measured ks) ls) (measure_upto (measured ks) new) ms
       → (i j : ℕ) (put old : List ProblemValue) → old ≡ report_with config head rows kept → i ≡ prefix_len (is_upto t.first) old → j ≡ prefix_len (is_upto t.old_end) old
-      → put ≡ arranged (levels_of config) (is_silenced (comments_in_sections 0 (ks ++ new))) (map (moved t.first) (found_there (options_of config) e (measured kept) (measured ks) qs new))
+      → put ≡ arranged (levels_of config) (is_silenced (comments_in_sections 0 (ks ++ new))) (map (moved t.first) (found_there (options_of config) e (measured ks) qs new))
       → patched i j put t.old_end t.new_end old ≡ report_with config head' rows' (splice kept from end new)
   report_renewed head head' loud loud' plain plainₙ first old_end new_end e begins ends filled filled' filled'' alike same i j put old old_is i_is j_is put_is =
       let split = subst (λ xs. AllByRecursion IsPlain xs) kept_three plain in
@@ -370,6 +361,5 @@ module _ (config : Config) (rows ins : List RowValue) (kept new : List KeptValue
       i j t.old_end t.new_end put old (old_is ∙ (ap (report_with config head rows) kept_three ∙ ap (λ xs. report_with config head xs (ks ++ (ls ++ ms))) rows_three)) (i_is ∙ ap (λ n. prefix_len (is_upto n) old) (sym fs_length)) j_is (omega (arith, fs_length, ps_length, inside.old_some)) (omega (arith, fs_length, qs_length, inside.new_some))
       e begins_is ends_is
       (put_is
-      ∙ (ap (λ n. arranged (levels_of config) (is_silenced (comments_in_sections 0 (ks ++ new))) (map (moved n) (found_there (options_of config) e (measured kept) (measured ks) qs new))) (sym fs_length)
-      ∙ ap (λ (xs : List KeptValue). arranged (levels_of config) (is_silenced (comments_in_sections 0 (ks ++ new))) (map (moved (length fs)) (found_there (options_of config) e (measured xs) (measured ks) qs new))) kept_three))
+      ∙ ap (λ n. arranged (levels_of config) (is_silenced (comments_in_sections 0 (ks ++ new))) (map (moved n) (found_there (options_of config) e (measured ks) qs new))) (sym fs_length))
       ∙ ap (λ xs. report_with config head' xs (splice kept from end new)) (sym rows_three')

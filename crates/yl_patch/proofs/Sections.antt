@@ -13,11 +13,13 @@ use Rattle.yl_indentation.specs.declared.measure.Measure.{Measure}
 use Rattle.yl_indentation.specs.declared.options.IndentationOptions.{IndentationOptions}
 use Rattle.yl_indentation.specs.declared.options.IndentSequences.{IndentSequences}
 use Rattle.yl_indentation.specs.Measures.{empty_measure, and_later, first, measure_at, measure_of, is_flush}
-use Rattle.yl_indentation.specs.Problems.{finding_at, finding_by, finding_by_width, indent_problems, not_as_expected, indentation_width}
+use Rattle.yl_indentation.specs.Onward.{onward_problems}
+use Rattle.yl_indentation.specs.Problems.{finding_at, finding_by, finding_by_width, not_as_expected, indentation_width}
 use Rattle.yl_indentation.proofs.Measured.{and_later_assoc, measure_is_local}
 use Rattle.yl_sections.specs.Kept.{KeptValue, SectionFaultValue}
 use Rattle.yl_rejudge.specs.Places.{rows_kept}
-use Rattle.yl_lint.specs.TextReport.{moved, shown, unless_fault, fault_or_later, fault_in_sections, comments_in_sections, moved_comment, findings_in_section, findings_in_sections, facts_in_sections}
+use Rattle.yl_lint.specs.TextReport.{moved, shown, unless_fault, fault_or_later, fault_in_sections, comments_in_sections, moved_comment, facts_in_sections}
+use Rattle.yl_lint.specs.Onward.{onward_in_section, onward_in_sections}
 use Rattle.yl_patch.specs.Plain.{IsPlain, IsSilent}
 use Rattle.yl_patch.proofs.Lines.{Between, between_both}
 
@@ -131,32 +133,32 @@ all_moved n line there [] e = refl
 all_moved n line there (f ∷ fs) e =
     ap (λ (g : FindingValue). g ∷ map (moved there) fs) (same_place n line there f e) ∙ ap (λ (gs : List FindingValue). moved n (moved line f) ∷ gs) (all_moved n line there fs e)
 
-pub sections_moved : (o : IndentationOptions) (whole before : Measure) (n line there : ℕ) (ks : List KeptValue) → there ≡ n + line
-    → findings_in_sections o whole there before ks ≡ map (moved n) (findings_in_sections o whole line before ks)
-sections_moved o whole before n line there [] e = refl
-sections_moved o whole before n line there (k ∷ ks) e =
+pub sections_moved : (o : IndentationOptions) (before : Measure) (n line there : ℕ) (ks : List KeptValue) → there ≡ n + line
+    → onward_in_sections o there before ks ≡ map (moved n) (onward_in_sections o line before ks)
+sections_moved o before n line there [] e = refl
+sections_moved o before n line there (k ∷ ks) e =
     let later = and_later before (measure_of k.facts) in
-    ap (λ (fs : List FindingValue). findings_in_section o whole there before k ++ fs) (sections_moved o whole later n (line + k.rows) (there + k.rows) ks (omega (arith, e)))
-    ∙ (ap (λ (fs : List FindingValue). fs ++ map (moved n) (findings_in_sections o whole (line + k.rows) later ks)) (all_moved n line there (k.found ++ indent_problems o before whole k.facts) e)
-    ∙ sym (map-append (moved n) (findings_in_section o whole line before k) (findings_in_sections o whole (line + k.rows) later ks)))
+    ap (λ (fs : List FindingValue). onward_in_section o there before k ++ fs) (sections_moved o later n (line + k.rows) (there + k.rows) ks (omega (arith, e)))
+    ∙ (ap (λ (fs : List FindingValue). fs ++ map (moved n) (onward_in_sections o (line + k.rows) later ks)) (all_moved n line there (k.found ++ onward_problems o before k.facts) e)
+    ∙ sym (map-append (moved n) (onward_in_section o line before k) (onward_in_sections o (line + k.rows) later ks)))
 
-sections_both : (o : IndentationOptions) (whole before : Measure) (line there : ℕ) (ks ls : List KeptValue) → there ≡ line + rows_kept ks
-    → findings_in_sections o whole line before (ks ++ ls) ≡ findings_in_sections o whole line before ks ++ findings_in_sections o whole there (and_later before (measured ks)) ls
-sections_both o whole before line there [] ls e =
-    ap (λ k. findings_in_sections o whole k before ls) (omega (arith, e)) ∙ ap (λ (m : Measure). findings_in_sections o whole there m ls) (sym (and_later_none before))
-sections_both o whole before line there (k ∷ ks) ls e =
+sections_both : (o : IndentationOptions) (before : Measure) (line there : ℕ) (ks ls : List KeptValue) → there ≡ line + rows_kept ks
+    → onward_in_sections o line before (ks ++ ls) ≡ onward_in_sections o line before ks ++ onward_in_sections o there (and_later before (measured ks)) ls
+sections_both o before line there [] ls e =
+    ap (λ k. onward_in_sections o k before ls) (omega (arith, e)) ∙ ap (λ (m : Measure). onward_in_sections o there m ls) (sym (and_later_none before))
+sections_both o before line there (k ∷ ks) ls e =
     let later = and_later before (measure_of k.facts) in
     let m : and_later later (measured ks) ≡ and_later before (measured (k ∷ ks)) =
     and_later_assoc before (measure_of k.facts) (measured ks) ∙ ap (and_later before) (sym (measure_is_local k.facts (facts_in_sections ks))) in
-    ap (λ (fs : List FindingValue). findings_in_section o whole line before k ++ fs) (sections_both o whole later (line + k.rows) there ks ls (omega (arith, e)))
-    ∙ (sym (append_assoc (findings_in_section o whole line before k) (findings_in_sections o whole (line + k.rows) later ks) (findings_in_sections o whole there (and_later later (measured ks)) ls))
-    ∙ ap (λ (b : Measure). findings_in_sections o whole line before (k ∷ ks) ++ findings_in_sections o whole there b ls) m)
+    ap (λ (fs : List FindingValue). onward_in_section o line before k ++ fs) (sections_both o later (line + k.rows) there ks ls (omega (arith, e)))
+    ∙ (sym (append_assoc (onward_in_section o line before k) (onward_in_sections o (line + k.rows) later ks) (onward_in_sections o there (and_later later (measured ks)) ls))
+    ∙ ap (λ (b : Measure). onward_in_sections o line before (k ∷ ks) ++ onward_in_sections o there b ls) m)
 
-pub sections_apart : (o : IndentationOptions) (whole before : Measure) (ks ls : List KeptValue)
-    → findings_in_sections o whole 0 before (ks ++ ls) ≡ findings_in_sections o whole 0 before ks ++ map (moved (rows_kept ks)) (findings_in_sections o whole 0 (and_later before (measured ks)) ls)
-sections_apart o whole before ks ls =
-    sections_both o whole before 0 (rows_kept ks) ks ls (omega arith)
-    ∙ ap (λ (fs : List FindingValue). findings_in_sections o whole 0 before ks ++ fs) (sections_moved o whole (and_later before (measured ks)) (rows_kept ks) 0 (rows_kept ks) ls (omega arith))
+pub sections_apart : (o : IndentationOptions) (before : Measure) (ks ls : List KeptValue)
+    → onward_in_sections o 0 before (ks ++ ls) ≡ onward_in_sections o 0 before ks ++ map (moved (rows_kept ks)) (onward_in_sections o 0 (and_later before (measured ks)) ls)
+sections_apart o before ks ls =
+    sections_both o before 0 (rows_kept ks) ks ls (omega arith)
+    ∙ ap (λ (fs : List FindingValue). onward_in_sections o 0 before ks ++ fs) (sections_moved o (and_later before (measured ks)) (rows_kept ks) 0 (rows_kept ks) ls (omega arith))
 
 -- ---- the lines of what is found
 
@@ -190,20 +192,20 @@ by_there rows c flush w f (At e) l = unless_there rows f.line _ _ _ _ l
 by_there rows c flush w f (Beyond base) l = by_width rows base w f l
 by_there rows c flush w f (EntryIn base) l = either_there rows _ (finding_by_width w base f) (not_as_expected base f) (by_width rows base w f l) (unless_there rows f.line _ _ _ _ l)
 
-indented_there : (rows : ℕ) (o : IndentationOptions) (before whole : Measure) (fs : List Fact) → AllByRecursion (λ f. f.line < rows) fs → Between 0 rows (indent_problems o before whole fs)
-indented_there rows o before whole [] h = tt
-indented_there rows o before whole (f ∷ fs) h =
+indented_there : (rows : ℕ) (o : IndentationOptions) (before : Measure) (fs : List Fact) → AllByRecursion (λ f. f.line < rows) fs → Between 0 rows (onward_problems o before fs)
+indented_there rows o before [] h = tt
+indented_there rows o before (f ∷ fs) h =
     let here = and_later before (measure_at f.column f.expectation) in
-    between_both 0 rows (finding_at o here (is_flush whole) f) (indent_problems o here whole fs) (by_there rows o.indent_sequences (is_flush whole) (indentation_width o here (is_flush whole)) f f.expectation h.0) (indented_there rows o here whole fs h.1)
+    between_both 0 rows (finding_at o here (is_flush here) f) (onward_problems o here fs) (by_there rows o.indent_sequences (is_flush here) (indentation_width o here (is_flush here)) f f.expectation h.0) (indented_there rows o here fs h.1)
 
-pub sections_between : (o : IndentationOptions) (whole before : Measure) (line high : ℕ) (ks : List KeptValue) → AllByRecursion IsPlain ks → line + rows_kept ks ≤ high → Between line high (findings_in_sections o whole line before ks)
-sections_between o whole before line high [] h l = tt
-sections_between o whole before line high (k ∷ ks) h l =
+pub sections_between : (o : IndentationOptions) (before : Measure) (line high : ℕ) (ks : List KeptValue) → AllByRecursion IsPlain ks → line + rows_kept ks ≤ high → Between line high (onward_in_sections o line before ks)
+sections_between o before line high [] h l = tt
+sections_between o before line high (k ∷ ks) h l =
     let later = and_later before (measure_of k.facts) in
-    let all = k.found ++ indent_problems o before whole k.facts in
-    between_both line high (findings_in_section o whole line before k) (findings_in_sections o whole (line + k.rows) later ks)
-    (between_wider (line + 0) (line + k.rows) line high (map (moved line) all) (omega arith) (omega (arith, l)) (between_moved line 0 k.rows all (between_both 0 k.rows k.found (indent_problems o before whole k.facts) h.0.found (indented_there k.rows o before whole k.facts h.0.facts))))
-    (between_wider (line + k.rows) high line high (findings_in_sections o whole (line + k.rows) later ks) (omega arith) (omega arith) (sections_between o whole later (line + k.rows) high ks h.1 (omega (arith, l))))
+    let all = k.found ++ onward_problems o before k.facts in
+    between_both line high (onward_in_section o line before k) (onward_in_sections o (line + k.rows) later ks)
+    (between_wider (line + 0) (line + k.rows) line high (map (moved line) all) (omega arith) (omega (arith, l)) (between_moved line 0 k.rows all (between_both 0 k.rows k.found (onward_problems o before k.facts) h.0.found (indented_there k.rows o before k.facts h.0.facts))))
+    (between_wider (line + k.rows) high line high (onward_in_sections o (line + k.rows) later ks) (omega arith) (omega arith) (sections_between o later (line + k.rows) high ks h.1 (omega (arith, l))))
 
 -- ---- a measure that no later fact changes
 

@@ -12,12 +12,13 @@ use Rattle.yl_indentation.specs.Measures.{and_later, measure_of}
 use Rattle.yl_indentation.proofs.Measured.{and_later_assoc, measure_is_local}
 use Rattle.yl_sections.specs.Kept.{KeptValue, SectionFaultValue, Here, Behind}
 use Rattle.yl_rejudge.specs.Places.{rows_kept}
-use Rattle.yl_lint.specs.TextReport.{comments_in_sections, facts_in_sections, findings_in_section, findings_in_sections}
+use Rattle.yl_lint.specs.Onward.{onward_in_section, onward_in_sections}
+use Rattle.yl_lint.specs.TextReport.{comments_in_sections, facts_in_sections, findings_in_sections}
 use Rattle.yl_patch.specs.Plain.{IsPlain, IsSilent, IsSound, IsWithin}
-use Rattle.yl_patch.specs.Settled.{IsFaultWithin, LeavesBelow, fault_behind, found_by_fault, hides_below, measure_upto, settled, settled_below, settled_one}
+use Rattle.yl_patch.specs.Settled.{AreFoundAlike, IsFaultWithin, LeavesBelow, fault_behind, found_by_fault, hides_below, measure_upto, settled, settled_below, settled_one}
 use Rattle.yl_patch.proofs.Sections.{all_both, and_later_none, comments_both, measured, measured_both}
 use Rattle.yl_rejudge.proofs.KeptRows.{got}
-use Rattle.yl_patch.proofs.Walks.{all_drop, all_take, all_three, measure_put, one_at, one_more}
+use Rattle.yl_patch.proofs.Walks.{all_drop, all_take, all_three, measure_parts, measure_put, one_at, one_more}
 
 -- ---- sections one after another
 
@@ -76,15 +77,19 @@ module _ (ks new : List KeptValue) (from end : ℕ) (h : Bool) (l : from ≤ end
   pub settled_touched : take (end - from) (drop from (settled ks)) ≡ settled_below h touched
   settled_touched = ap (take (end - from)) (settled_drop from false ks ∙ ap (λ (b : Bool). settled_below b (drop from ks)) above) ∙ settled_take (end - from) h (drop from ks)
 
+  -- what stands behind them, as it is shown
+  pub settled_behind : drop end (settled ks) ≡ settled_below (hides_below h touched) (drop end ks)
+  settled_behind =
+      settled_drop end false ks
+      ∙ ap (λ (b : Bool). settled_below b (drop end ks)) (ap (hides_below false) (until ks from end l m) ∙ (hides_both false (take from ks) touched ∙ ap (λ (b : Bool). hides_below b touched) above))
+
   pub settled_splice : LeavesBelow h touched new (drop end ks) → splice (settled ks) from end (settled_below h new) ≡ settled (splice ks from end new)
   settled_splice same =
       let front = take from ks in
       let back = drop end ks in
       let put = settled_below h new in
-      let behind : hides_below false (take end ks) ≡ hides_below h touched =
-      ap (hides_below false) (until ks from end l m) ∙ (hides_both false front touched ∙ ap (λ (b : Bool). hides_below b touched) above) in
       ap (λ (xs : List KeptValue). xs ++ (put ++ drop end (settled ks))) (settled_take from false ks)
-      ∙ (ap (λ (xs : List KeptValue). settled front ++ (put ++ xs)) (settled_drop end false ks ∙ (ap (λ (b : Bool). settled_below b back) behind ∙ same))
+      ∙ (ap (λ (xs : List KeptValue). settled front ++ (put ++ xs)) (settled_behind ∙ same)
       ∙ sym (settled_both false front (new ++ back) ∙ ap (λ (xs : List KeptValue). settled front ++ xs) (ap (λ (b : Bool). settled_below b (new ++ back)) above ∙ settled_both h new back)))
 
   pub plain_put : AllByRecursion IsPlain (settled ks) → AllByRecursion IsPlain (settled_below h new) → LeavesBelow h touched new (drop end ks) → AllByRecursion IsPlain (settled (splice ks from end new))
@@ -92,17 +97,30 @@ module _ (ks new : List KeptValue) (from end : ℕ) (h : Bool) (l : from ≤ end
       subst (λ (xs : List KeptValue). AllByRecursion IsPlain xs) (settled_splice same)
       (all_three IsPlain (settled ks) (settled_below h new) from end (all_take IsPlain (settled ks) from plain) put (all_drop IsPlain (settled ks) end plain))
 
-  -- the measure up to their end, by the sections as they are shown
-  pub measure_seen : measure_upto (measured (settled (take from ks))) (settled_below h touched) ≡ measure_upto (measured (settled (take from ks))) (settled_below h new)
-      → measure_upto (measured (take from (settled ks))) (take (end - from) (drop from (settled ks))) ≡ measure_upto (measured (take from (settled ks))) (settled_below h new)
-  measure_seen measure =
-      ap (λ (xs : List KeptValue). measure_upto (measured xs) (take (end - from) (drop from (settled ks)))) (settled_take from false ks)
-      ∙ (ap (measure_upto (measured (settled (take from ks)))) settled_touched ∙ (measure ∙ ap (λ (xs : List KeptValue). measure_upto (measured xs) (settled_below h new)) (sym (settled_take from false ks))))
+  abbrev above_is : Measure
+  above_is = measured (settled (take from ks))
 
-  pub settled_put : measure_upto (measured (settled (take from ks))) (settled_below h touched) ≡ measure_upto (measured (settled (take from ks))) (settled_below h new) → LeavesBelow h touched new (drop end ks)
-      → measured (settled ks) ≡ measured (settled (splice ks from end new))
-  settled_put measure same =
-      measure_put (settled ks) (settled_below h new) from end l (omega (arith, m, length_settled false ks)) (measure_seen measure) ∙ ap measured (settled_splice same)
+  -- what is found behind them, by the sections as they are shown
+  pub alike_seen : AreFoundAlike (measure_upto above_is (settled_below h touched)) (measure_upto above_is (settled_below h new)) (settled_below (hides_below h touched) (drop end ks))
+      → AreFoundAlike (measure_upto (measured (take from (settled ks))) (take (end - from) (drop from (settled ks)))) (measure_upto (measured (take from (settled ks))) (settled_below h new)) (drop end (settled ks))
+  alike_seen alike =
+      subst (λ (xs : List KeptValue). AreFoundAlike (measure_upto (measured xs) (take (end - from) (drop from (settled ks)))) (measure_upto (measured xs) (settled_below h new)) (drop end (settled ks))) (sym (settled_take from false ks))
+      (subst (λ (xs : List KeptValue). AreFoundAlike (measure_upto above_is xs) (measure_upto above_is (settled_below h new)) (drop end (settled ks))) (sym settled_touched)
+      (subst (λ (xs : List KeptValue). AreFoundAlike (measure_upto above_is (settled_below h touched)) (measure_upto above_is (settled_below h new)) xs) (sym settled_behind) alike))
+
+  -- the measure of all, and what it is once others are put in place of some
+  pub whole_seen : measured (settled ks) ≡ measure_upto (measure_upto above_is (settled_below h touched)) (settled_below (hides_below h touched) (drop end ks))
+  whole_seen =
+      measure_parts (settled ks) from end l (omega (arith, m, length_settled false ks))
+      ∙ (ap (λ (xs : List KeptValue). and_later (and_later (measured xs) (measured (take (end - from) (drop from (settled ks))))) (measured (drop end (settled ks)))) (settled_take from false ks)
+      ∙ (ap (λ (xs : List KeptValue). and_later (and_later above_is (measured xs)) (measured (drop end (settled ks)))) settled_touched
+      ∙ ap (λ (xs : List KeptValue). and_later (and_later above_is (measured (settled_below h touched))) (measured xs)) settled_behind))
+
+  pub whole_put : LeavesBelow h touched new (drop end ks) → measure_upto (measure_upto above_is (settled_below h new)) (settled_below (hides_below h touched) (drop end ks)) ≡ measured (settled (splice ks from end new))
+  whole_put same =
+      ap (λ (xs : List KeptValue). and_later (and_later (measured xs) (measured (settled_below h new))) (measured (settled_below (hides_below h touched) (drop end ks)))) (sym (settled_take from false ks))
+      ∙ (ap (λ (xs : List KeptValue). and_later (and_later (measured (take from (settled ks))) (measured (settled_below h new))) (measured xs)) (sym settled_behind)
+      ∙ (measure_put (settled ks) (settled_below h new) from end ∙ ap measured (settled_splice same)))
 
 -- at the text's end nothing stands behind them
 pub nothing_below : (h : Bool) (old new ks : List KeptValue) (end : ℕ) → length ks ≡ end → LeavesBelow h old new (drop end ks)
@@ -175,6 +193,10 @@ hidden_plain (k ∷ ks) = (record { sound = refl; found = tt; facts = tt; commen
 pub findings_hidden : (o : IndentationOptions) (w : Measure) (line : ℕ) (before : Measure) (ks : List KeptValue) → findings_in_sections o w line before (settled_below true ks) ≡ []
 findings_hidden o w line before [] = refl
 findings_hidden o w line before (k ∷ ks) = findings_hidden o w (line + k.rows) (and_later before (measure_of [])) ks
+
+pub onward_hidden : (o : IndentationOptions) (line : ℕ) (before : Measure) (ks : List KeptValue) → onward_in_sections o line before (settled_below true ks) ≡ []
+onward_hidden o line before [] = refl
+onward_hidden o line before (k ∷ ks) = onward_hidden o (line + k.rows) (and_later before (measure_of [])) ks
 
 pub comments_hidden : (line : ℕ) (ks : List KeptValue) → comments_in_sections line (settled_below true ks) ≡ []
 comments_hidden line [] = refl
@@ -259,7 +281,7 @@ module _ (ks : List KeptValue) (i : ℕ) (k : KeptValue) (l : i < length ks) (is
   abbrev rest : List KeptValue
   rest = drop (i + 1) ks
 
-  next_is : (b : Bool) → is_some k.fault ≡ b → settled (drop i ks) ≡ settled_one false k ∷ settled_below b rest
+  pub next_is : (b : Bool) → is_some k.fault ≡ b → settled (drop i ks) ≡ settled_one false k ∷ settled_below b rest
   next_is b e = ap settled (one_at ks i k l is) ∙ ap (λ (c : Bool). settled_one false k ∷ settled_below c rest) e
 
   pub hides_next : (b : Bool) → is_some k.fault ≡ b → hides_below false (drop i ks) ≡ hides_below b rest
@@ -284,11 +306,11 @@ module _ (ks : List KeptValue) (i : ℕ) (k : KeptValue) (l : i < length ks) (is
       new_is ∙ (ap (λ (fs : List Fact). and_later m (measure_of fs)) (sym facts) ∙ (ap (λ (xs : List KeptValue). and_later m (measured xs)) (sym (next_is true e)) ∙ whole))
 
   -- what is found in it is put behind the rest
-  pub found_last : (o : IndentationOptions) (w : Measure) (line : ℕ) (here : Measure) (old new total : List FindingValue) → new ≡ old ++ findings_in_section o w line here (settled_one false k)
-      → old ++ findings_in_sections o w line here (settled (drop i ks)) ≡ total → is_some k.fault ≡ true → new ≡ total
-  found_last o w line here old new total put whole e =
-      let one = findings_in_section o w line here (settled_one false k) in
+  pub found_last : (o : IndentationOptions) (line : ℕ) (here : Measure) (old new total : List FindingValue) → new ≡ old ++ onward_in_section o line here (settled_one false k)
+      → old ++ onward_in_sections o line here (settled (drop i ks)) ≡ total → is_some k.fault ≡ true → new ≡ total
+  found_last o line here old new total put whole e =
+      let one = onward_in_section o line here (settled_one false k) in
       put
       ∙ (ap (λ (fs : List FindingValue). old ++ fs)
-      (sym (append-nil one) ∙ ap (λ (fs : List FindingValue). one ++ fs) (sym (findings_hidden o w (line + k.rows) (and_later here (measure_of k.facts)) rest)))
-      ∙ (ap (λ (xs : List KeptValue). old ++ findings_in_sections o w line here xs) (sym (next_is true e)) ∙ whole))
+      (sym (append-nil one) ∙ ap (λ (fs : List FindingValue). one ++ fs) (sym (onward_hidden o (line + k.rows) (and_later here (measure_of k.facts)) rest)))
+      ∙ (ap (λ (xs : List KeptValue). old ++ onward_in_sections o line here xs) (sym (next_is true e)) ∙ whole))

@@ -8,9 +8,6 @@ use Rattle.yl_text.specs.Finding.{FindingValue}
 use Rattle.yl_text.specs.Lines.{RowValue}
 use Rattle.yl_text.specs.declared.finding.RuleId.{RuleId}
 use Rattle.yl_text.specs.declared.position.Pos.{Pos}
-use Rattle.yl_rules.specs.EmptyLines.{empty_lines}
-use Rattle.yl_rules.specs.EndOfFile.{end_of_file}
-use Rattle.yl_rules.specs.NewLines.{new_lines}
 use Rattle.yl_rules.specs.Levels.{LevelTable}
 use Rattle.yl_indentation.specs.declared.measure.Measure.{Measure}
 use Rattle.yl_indentation.specs.Measures.{empty_measure}
@@ -20,10 +17,9 @@ use Rattle.yl_config.specs.Config.{levels_of, options_of}
 use Rattle.yl_report.specs.Directive.{is_silenced}
 use Rattle.yl_report.specs.Heard.{nothing_silenced}
 use Rattle.yl_report.specs.Report.{ProblemValue, report_of}
-use Rattle.yl_sections.specs.Kept.{KeptValue, SectionFaultValue, Here, items_if}
+use Rattle.yl_sections.specs.Kept.{KeptValue, SectionFaultValue, Here}
 use Rattle.yl_rejudge.specs.Places.{rows_kept}
-use Rattle.yl_lint.specs.TextReport.{end_of_lines, fault_in_sections, fault_or_later, finding_of_fault, findings_from, findings_in_lines, findings_in_sections, moved, shown, syntax_finding, unless_fault}
-use Rattle.yl_lint.proofs.Onward.{front_looks_back}
+use Rattle.yl_lint.specs.TextReport.{end_of_lines, fault_in_sections, fault_or_later, finding_of_fault, findings_in_lines, findings_in_sections, moved, shown, syntax_finding, unless_fault}
 use Rattle.yl_lint.specs.Unsilenced.{reported_in_lines, unsilenced_by, unsilenced_of_kept}
 use Rattle.yl_patch.specs.Cut.{is_filled}
 use Rattle.yl_patch.specs.Faultless.{IsFaultless, faultless, faultless_by, faultless_one}
@@ -40,7 +36,7 @@ use Rattle.yl_patch.proofs.Parts.{drop_front, lines_above, part, part_between, p
 use Rattle.yl_patch.proofs.Renewed.{report_is}
 use Rattle.yl_patch.proofs.Sections.{all_back, all_front, measured}
 use Rattle.yl_patch.proofs.Walks.{one_at, one_more, rows_both}
-use Rattle.yl_patch.proofs.WithoutSilences.{all_bare, bare, measured_bare, no_comments, plain_bare, rows_bare, unsilenced_with}
+use Rattle.yl_patch.proofs.WithoutSilences.{all_bare, bare, no_comments, plain_bare, rows_bare, unsilenced_with}
 
 -- ---- the report of plain sections that no comment silences
 
@@ -48,11 +44,11 @@ abbrev quiet : RuleId → ℕ → Bool
 quiet = is_silenced []
 
 unsilenced_part : (config : Config) (rows : List RowValue) (ks : List KeptValue) → AllByRecursion IsPlain ks
-    → unsilenced_by config rows ks ≡ arranged (levels_of config) quiet (part (options_of config) (measured (all_bare ks)) true true empty_measure rows (all_bare ks))
+    → unsilenced_by config rows ks ≡ arranged (levels_of config) quiet (part (options_of config) true true empty_measure rows (all_bare ks))
 unsilenced_part config rows ks plain =
     unsilenced_with config rows ks
     ∙ (report_is config [] rows (all_bare ks) (plain_bare ks plain) refl
-    ∙ ap (λ cs. arranged (levels_of config) (is_silenced cs) (part (options_of config) (measured (all_bare ks)) true true empty_measure rows (all_bare ks))) (no_comments 0 ks))
+    ∙ ap (λ cs. arranged (levels_of config) (is_silenced cs) (part (options_of config) true true empty_measure rows (all_bare ks))) (no_comments 0 ks))
 
 one_blank : (config : Config) (in_lines : List FindingValue) (end : Pos) (k : ℕ) → unsilenced_of_kept config in_lines end (blank k ∷ []) ≡ unsilenced_of_kept config in_lines end []
 unfolding unsilenced_of_kept
@@ -70,33 +66,33 @@ module _ (config : Config) (xs ys : List RowValue) (seam : is_seam xs ys ≡ tru
   abbrev n : ℕ
   n = length xs
 
-  -- up to the seam, with these sections, where all facts have this measure
-  abbrev front : Measure → List KeptValue → List ProblemValue
-  front whole ks = arranged levels quiet (part o whole true (if_none ys true) empty_measure xs ks)
+  -- up to the seam, with these sections
+  abbrev front : List KeptValue → List ProblemValue
+  front ks = arranged levels quiet (part o true (if_none ys true) empty_measure xs ks)
 
   -- behind it
-  abbrev back : Measure → Measure → List KeptValue → List ProblemValue
-  back whole before ls = map (lower n) (arranged levels (below n quiet) (part o whole (if_none xs true) true before ys ls))
+  abbrev back : Measure → List KeptValue → List ProblemValue
+  back before ls = map (lower n) (arranged levels (below n quiet) (part o (if_none xs true) true before ys ls))
 
   -- nothing is found in no section
   abbrev bare_back : List ProblemValue
-  bare_back = back empty_measure empty_measure []
+  bare_back = back empty_measure []
 
-  two_parts : (ks ls : List KeptValue) (whole : Measure) → AllByRecursion IsPlain ks → AllByRecursion IsPlain ls → rows_kept ks ≡ n
-      → arranged levels quiet (part o whole true true empty_measure (xs ++ ys) (ks ++ ls)) ≡ front whole ks ++ back whole (measured ks) ls
-  two_parts ks ls whole plain plain' fit = parts_apart levels quiet o whole true true empty_measure xs ys ks ls plain plain' fit seam
+  two_parts : (ks ls : List KeptValue) → AllByRecursion IsPlain ks → AllByRecursion IsPlain ls → rows_kept ks ≡ n
+      → arranged levels quiet (part o true true empty_measure (xs ++ ys) (ks ++ ls)) ≡ front ks ++ back (measured ks) ls
+  two_parts ks ls plain plain' fit = parts_apart levels quiet o true true empty_measure xs ys ks ls plain plain' fit seam
 
-  front_in : (whole : Measure) (ks : List KeptValue) → AllByRecursion IsPlain ks → rows_kept ks ≡ n → AllByRecursion (λ p. (0 < p.line) × (p.line ≤ n)) (front whole ks)
-  front_in whole ks plain fit =
-      arranged_lines (λ l. (0 < l) × (l ≤ n)) levels quiet (part o whole true (if_none ys true) empty_measure xs ks)
-      (part_between o whole true (if_none ys true) empty_measure xs ks n plain (omega arith) (omega (arith, fit)))
+  front_in : (ks : List KeptValue) → AllByRecursion IsPlain ks → rows_kept ks ≡ n → AllByRecursion (λ p. (0 < p.line) × (p.line ≤ n)) (front ks)
+  front_in ks plain fit =
+      arranged_lines (λ l. (0 < l) × (l ≤ n)) levels quiet (part o true (if_none ys true) empty_measure xs ks)
+      (part_between o true (if_none ys true) empty_measure xs ks n plain (omega arith) (omega (arith, fit)))
 
-  back_above : (whole before : Measure) (ls : List KeptValue) → AllByRecursion IsPlain ls → AllByRecursion (λ p. n < p.line) (back whole before ls)
-  back_above whole before ls plain =
-      let found = part o whole (if_none xs true) true before ys ls in
+  back_above : (before : Measure) (ls : List KeptValue) → AllByRecursion IsPlain ls → AllByRecursion (λ p. n < p.line) (back before ls)
+  back_above before ls plain =
+      let found = part o (if_none xs true) true before ys ls in
       let high = length ys + rows_kept ls in
       lowered (arranged levels (below n quiet) found)
-      (arranged_lines (λ l. 0 < l) levels (below n quiet) found (lines_above 0 high found (part_between o whole (if_none xs true) true before ys ls high plain (omega arith) (omega arith))))
+      (arranged_lines (λ l. 0 < l) levels (below n quiet) found (lines_above 0 high found (part_between o (if_none xs true) true before ys ls high plain (omega arith) (omega arith))))
     where
       lowered : (ps : List ProblemValue) → AllByRecursion (λ p. 0 < p.line) ps → AllByRecursion (λ p. n < p.line) (map (lower n) ps)
       lowered [] h = tt
@@ -107,36 +103,26 @@ module _ (config : Config) (xs ys : List RowValue) (seam : is_seam xs ys ≡ tru
   upto_seam ps qs h k = prefix_by (is_upto n) ps qs (upto_true n 0 n ps (omega arith) h) (upto_false n n qs (omega arith) k)
 
   module _ (ks ls : List KeptValue) (plain : AllByRecursion IsPlain (ks ++ ls)) (plain₁ : AllByRecursion IsPlain ks) (plain₂ : AllByRecursion IsPlain ls) (fit : rows_kept ks ≡ n) where
-    abbrev w : Measure
-    w = measured (all_bare (ks ++ ls))
-
-    -- no section behind them changes what is found in these
-    front_alone : (rows : List RowValue) → part o (measured (all_bare ks)) true true empty_measure rows (all_bare ks) ≡ part o w true true empty_measure rows (all_bare ks)
-    front_alone rows =
-        ap (λ (fs : List FindingValue). findings_from o.row 1 rows ++ (items_if true (new_lines o.run.new_line rows) ++ (empty_lines o.run.empty_lines rows ++ (items_if true (end_of_file rows) ++ fs))))
-        (sym (front_looks_back o.indentation (all_bare ks) (all_bare ls)) ∙ ap (λ (zs : List KeptValue). findings_in_sections o.indentation (measured zs) 0 empty_measure (all_bare ks)) (sym (map-append bare ks ls)))
-
     fit_bare : rows_kept (all_bare ks) ≡ n
     fit_bare = rows_bare ks ∙ fit
 
-    all_is : unsilenced_by config (xs ++ ys) (ks ++ ls) ≡ front w (all_bare ks) ++ back w (measured (all_bare ks)) (all_bare ls)
+    all_is : unsilenced_by config (xs ++ ys) (ks ++ ls) ≡ front (all_bare ks) ++ back (measured (all_bare ks)) (all_bare ls)
     all_is =
         unsilenced_part config (xs ++ ys) (ks ++ ls) plain
-        ∙ (ap (λ (zs : List KeptValue). arranged levels quiet (part o w true true empty_measure (xs ++ ys) zs)) (map-append bare ks ls)
-        ∙ two_parts (all_bare ks) (all_bare ls) w (plain_bare ks plain₁) (plain_bare ls plain₂) fit_bare)
+        ∙ (ap (λ (zs : List KeptValue). arranged levels quiet (part o true true empty_measure (xs ++ ys) zs)) (map-append bare ks ls)
+        ∙ two_parts (all_bare ks) (all_bare ls) (plain_bare ks plain₁) (plain_bare ls plain₂) fit_bare)
 
-    top_is : unsilenced_by config (xs ++ ys) ks ≡ front w (all_bare ks) ++ bare_back
+    top_is : unsilenced_by config (xs ++ ys) ks ≡ front (all_bare ks) ++ bare_back
     top_is =
         unsilenced_part config (xs ++ ys) ks plain₁
-        ∙ (ap (arranged levels quiet) (front_alone (xs ++ ys))
-        ∙ (ap (λ (zs : List KeptValue). arranged levels quiet (part o w true true empty_measure (xs ++ ys) zs)) (sym (append-nil (all_bare ks)))
-        ∙ two_parts (all_bare ks) [] w (plain_bare ks plain₁) tt fit_bare))
+        ∙ (ap (λ (zs : List KeptValue). arranged levels quiet (part o true true empty_measure (xs ++ ys) zs)) (sym (append-nil (all_bare ks)))
+        ∙ two_parts (all_bare ks) [] (plain_bare ks plain₁) tt fit_bare)
 
-    blank_is : reported_in_lines config (xs ++ ys) ≡ front empty_measure (blank n ∷ []) ++ bare_back
+    blank_is : reported_in_lines config (xs ++ ys) ≡ front (blank n ∷ []) ++ bare_back
     blank_is =
         sym (one_blank config (findings_in_lines o (xs ++ ys)) (end_of_lines (xs ++ ys)) n)
         ∙ (unsilenced_part config (xs ++ ys) (blank n ∷ []) (plain_blank, tt)
-        ∙ two_parts (blank n ∷ []) [] empty_measure (plain_blank, tt) tt (omega arith))
+        ∙ two_parts (blank n ∷ []) [] (plain_blank, tt) tt (omega arith))
       where
         plain_blank : IsPlain (blank n)
         plain_blank = record { sound = refl; found = tt; facts = tt; comments = tt }
@@ -144,16 +130,16 @@ module _ (config : Config) (xs ys : List RowValue) (seam : is_seam xs ys ≡ tru
     pub joined_at_seam : (all lines : List ProblemValue) → all ≡ unsilenced_by config (xs ++ ys) (ks ++ ls) → lines ≡ reported_in_lines config (xs ++ ys)
         → take (prefix_len (is_upto n) all) all ++ drop (prefix_len (is_upto n) lines) lines ≡ unsilenced_by config (xs ++ ys) ks
     joined_at_seam all lines e f =
-        let here = front w (all_bare ks) in
-        let there = back w (measured (all_bare ks)) (all_bare ls) in
-        let blanks = front empty_measure (blank n ∷ []) in
+        let here = front (all_bare ks) in
+        let there = back (measured (all_bare ks)) (all_bare ls) in
+        let blanks = front (blank n ∷ []) in
         let bare = plain_bare ls plain₂ in
         let above : take (prefix_len (is_upto n) all) all ≡ here =
         ap (λ (ps : List ProblemValue). take (prefix_len (is_upto n) ps) ps) (e ∙ all_is)
-        ∙ (ap (λ (i : ℕ). take i (here ++ there)) (upto_seam here there (front_in w (all_bare ks) (plain_bare ks plain₁) fit_bare) (back_above w (measured (all_bare ks)) (all_bare ls) bare)) ∙ take_front here there) in
+        ∙ (ap (λ (i : ℕ). take i (here ++ there)) (upto_seam here there (front_in (all_bare ks) (plain_bare ks plain₁) fit_bare) (back_above (measured (all_bare ks)) (all_bare ls) bare)) ∙ take_front here there) in
         let behind : drop (prefix_len (is_upto n) lines) lines ≡ bare_back =
         ap (λ (ps : List ProblemValue). drop (prefix_len (is_upto n) ps) ps) (f ∙ blank_is)
-        ∙ (ap (λ (i : ℕ). drop i (blanks ++ bare_back)) (upto_seam blanks bare_back (front_in empty_measure (blank n ∷ []) (record { sound = refl; found = tt; facts = tt; comments = tt }, tt) (omega arith)) (back_above empty_measure empty_measure [] tt)) ∙ drop_front blanks bare_back) in
+        ∙ (ap (λ (i : ℕ). drop i (blanks ++ bare_back)) (upto_seam blanks bare_back (front_in (blank n ∷ []) (record { sound = refl; found = tt; facts = tt; comments = tt }, tt) (omega arith)) (back_above empty_measure [] tt)) ∙ drop_front blanks bare_back) in
         ap (λ (ps : List ProblemValue). ps ++ drop (prefix_len (is_upto n) lines) lines) above ∙ (ap (λ (ps : List ProblemValue). here ++ ps) behind ∙ sym top_is)
 
 -- ---- the fault of the first section that has one

@@ -93,16 +93,18 @@ all_take P xs n h = all_front P (take n xs) (drop n xs) (subst (λ ys. AllByRecu
 pub all_drop : {X : Type 0} (P : X → Type 0) (xs : List X) (n : ℕ) → AllByRecursion P xs → AllByRecursion P (drop n xs)
 all_drop P xs n h = all_back P (take n xs) (drop n xs) (subst (λ ys. AllByRecursion P ys) (sym (take-append-drop n xs)) h)
 
--- sections in place of some, where the measure up to their end is the same
-pub measure_put : (ks ns : List KeptValue) (from end : ℕ) → from ≤ end → end ≤ length ks → and_later (measured (take from ks)) (measured (take (end - from) (drop from ks))) ≡ and_later (measured (take from ks)) (measured ns) → measured ks ≡ measured (splice ks from end ns)
-measure_put ks ns from end l h same =
+-- the measure of all, by the sections above some, those and the ones behind them
+pub measure_parts : (ks : List KeptValue) (from end : ℕ) → from ≤ end → end ≤ length ks → measured ks ≡ and_later (and_later (measured (take from ks)) (measured (take (end - from) (drop from ks)))) (measured (drop end ks))
+measure_parts ks from end l h =
     let parts : ks ≡ take from ks ++ (take (end - from) (drop from ks) ++ drop end ks) = same_lists _ _ (search (rules, places)) (λ n d o. grind (arith, places)) in
     let above = measured (take from ks) in
-    let behind = measured (drop end ks) in
     ap measured parts
     ∙ (measured_both (take from ks) (take (end - from) (drop from ks) ++ drop end ks)
-    ∙ (ap (and_later above) (measured_both (take (end - from) (drop from ks)) (drop end ks))
-    ∙ (sym (and_later_assoc above (measured (take (end - from) (drop from ks))) behind) ∙ (ap (λ (m : Measure). and_later m behind) same ∙ (and_later_assoc above (measured ns) behind ∙ measure_three ks ns from end)))))
+    ∙ (ap (and_later above) (measured_both (take (end - from) (drop from ks)) (drop end ks)) ∙ sym (and_later_assoc above (measured (take (end - from) (drop from ks))) (measured (drop end ks)))))
+
+-- and once others are put in place of some
+pub measure_put : (ks ns : List KeptValue) (from end : ℕ) → and_later (and_later (measured (take from ks)) (measured ns)) (measured (drop end ks)) ≡ measured (splice ks from end ns)
+measure_put ks ns from end = and_later_assoc (measured (take from ks)) (measured ns) (measured (drop end ks)) ∙ measure_three ks ns from end
 
 -- ---- some lines of a text
 

@@ -18,6 +18,7 @@ use Rattle.yl_report.specs.Report.{ProblemValue}
 use Rattle.yl_sections.specs.Kept.{KeptValue, SectionFaultValue}
 use Rattle.yl_rejudge.specs.Places.{rows_kept}
 use Rattle.yl_lint.specs.Unsilenced.{unsilenced_by}
+use Rattle.yl_lint.specs.Onward.{onward_in_section, onward_in_sections}
 use Rattle.yl_lint.specs.TextReport.{facts_in_sections, findings_in_section, findings_in_sections, moved}
 use Rattle.yl_patch.specs.Faultless.{AreSoundBut, IsFaultless, faultless, faultless_by, faultless_one}
 use Rattle.yl_patch.specs.declared.faultless.Faultless.{Faultless}
@@ -25,7 +26,7 @@ use Rattle.yl_patch.specs.declared.overview.Overview.{Overview}
 use Rattle.yl_patch.specs.Patched.{is_upto, patched}
 use Rattle.yl_patch.specs.Plain.{IsPlain, IsSound, IsSoundUpto, IsSurveyed, IsWithin}
 use Rattle.yl_patch.specs.Seen.{IsCut, IsSeen, new_lines_of, sections_between}
-use Rattle.yl_patch.specs.Settled.{hides_below, measure_upto, settled, settled_below}
+use Rattle.yl_patch.specs.Settled.{AreFoundAlike, hides_below, measure_upto, settled, settled_below}
 use Rattle.yl_patch.specs.There.{found_there, lines_there}
 use Rattle.yl_patch.specs.declared.touched.Ends.{Ends}
 use Rattle.yl_patch.specs.declared.touched.Touched.{Touched}
@@ -68,6 +69,11 @@ findings_faultless o w line before [] = refl
 findings_faultless o w line before (k ∷ ks) =
     ap (λ (fs : List FindingValue). findings_in_section o w line before k ++ fs) (findings_faultless o w (line + k.rows) (and_later before (measure_of k.facts)) ks)
 
+pub onward_faultless : (o : IndentationOptions) (line : ℕ) (before : Measure) (ks : List KeptValue) → onward_in_sections o line before (faultless ks) ≡ onward_in_sections o line before ks
+onward_faultless o line before [] = refl
+onward_faultless o line before (k ∷ ks) =
+    ap (λ (fs : List FindingValue). onward_in_section o line before k ++ fs) (onward_faultless o (line + k.rows) (and_later before (measure_of k.facts)) ks)
+
 pub faultless_take : (n : ℕ) (ks : List KeptValue) → take n (faultless ks) ≡ faultless (take n ks)
 faultless_take n ks = take-map faultless_one n ks
 
@@ -107,8 +113,8 @@ measured_to_end ks i m total l whole = sym (and_later_none m) ∙ (ap (λ (xs : 
 
 pub seen_faultless : (config : Config) (rows ins : List RowValue) (ks new : List KeptValue) (a b from end from_row end_row : ℕ) (t : Touched) (e : Ends) (found : List FindingValue)
     → IsCut rows ins a b from_row end_row (rows_kept new) t e → from_row ≡ rows_kept (take from ks) → end_row ≡ rows_kept (take end ks) → from ≤ end → end ≤ length ks
-    → AllByRecursion IsPlain (faultless ks) → AllByRecursion IsPlain (faultless new) → measure_upto (measured (take from ks)) (sections_between from end ks) ≡ measure_upto (measured (take from ks)) new
-    → found ≡ map (moved t.first) (found_there (options_of config) e (measured ks) (measured (take from ks)) (new_lines_of t a b rows ins) new)
+    → AllByRecursion IsPlain (faultless ks) → AllByRecursion IsPlain (faultless new) → AreFoundAlike (measure_upto (measured (take from ks)) (sections_between from end ks)) (measure_upto (measured (take from ks)) new) (drop end ks)
+    → found ≡ map (moved t.first) (found_there (options_of config) e (measured (take from ks)) (new_lines_of t a b rows ins) new)
     → IsSeen config rows ins (faultless ks) (faultless new) a b from end 0 t false found
 seen_faultless config rows ins ks new a b from end from_row end_row t e found cut first old_end ordered within plain plainₙ same is =
     let all = sound_faultless ks in
@@ -121,16 +127,23 @@ seen_faultless config rows ins ks new a b from end from_row end_row t e found cu
     let front_is : measured (settled (take from (faultless ks))) ≡ measured (take from ks) = ap measured front ∙ measured_faultless (take from ks) in
     let middle_is : measured (settled (sections_between from end (faultless ks))) ≡ measured ls = ap measured (ap settled (faultless_between from end ks) ∙ settled_faultless ls) ∙ measured_faultless ls in
     let new_is : measured (settled (faultless new)) ≡ measured new = ap measured (settled_faultless new) ∙ measured_faultless new in
-    let whole_is : measured (settled (faultless ks)) ≡ measured ks = ap measured (settled_faultless ks) ∙ measured_faultless ks in record {
+    let behind : settled_below (hides_below false (sections_between from end (faultless ks))) (drop end (faultless ks)) ≡ faultless (drop end ks) =
+    ap (λ (h : Bool). settled_below h (drop end (faultless ks))) old ∙ (ap settled (drop-map faultless_one end ks) ∙ settled_faultless (drop end ks)) in
+    let there : (o : IndentationOptions) (line : ℕ) (m : Measure) → onward_in_sections o line m (settled_below (hides_below false (sections_between from end (faultless ks))) (drop end (faultless ks))) ≡ onward_in_sections o line m (drop end ks) =
+    λ o line m. ap (onward_in_sections o line m) behind ∙ onward_faultless o line m (drop end ks) in
+    let was : measure_upto (measured (settled (take from (faultless ks)))) (settled (sections_between from end (faultless ks))) ≡ measure_upto (measured (take from ks)) ls =
+    ap (λ (m : Measure). and_later m (measured (settled (sections_between from end (faultless ks))))) front_is ∙ ap (and_later (measured (take from ks))) middle_is in
+    let is_now : measure_upto (measured (settled (take from (faultless ks)))) (settled (faultless new)) ≡ measure_upto (measured (take from ks)) new =
+    ap (λ (m : Measure). and_later m (measured (settled (faultless new)))) front_is ∙ ap (and_later (measured (take from ks))) new_is in record {
       hides = record { above = above; behind = λ h. absurd (cc); fault = λ h. absurd (cc) };
       plain = subst (λ (xs : List KeptValue). AllByRecursion IsPlain xs) (sym (settled_faultless ks)) plain;
       new_plain = subst (λ (xs : List KeptValue). AllByRecursion IsPlain xs) (sym (settled_faultless new)) plainₙ;
       below = ap (λ (h : Bool). settled_below h (drop end (faultless ks))) (old ∙ sym now);
-      measure =
-          ap (λ (m : Measure). and_later m (measured (settled (sections_between from end (faultless ks))))) front_is
-          ∙ (ap (and_later (measured (take from ks))) middle_is
-          ∙ (same
-          ∙ (ap (and_later (measured (take from ks))) (sym new_is) ∙ ap (λ (m : Measure). and_later m (measured (settled (faultless new)))) (sym front_is))));
+      alike = λ o line.
+          there o line (measure_upto (measured (settled (take from (faultless ks)))) (settled (sections_between from end (faultless ks))))
+          ∙ (ap (λ (m : Measure). onward_in_sections o line m (drop end ks)) was
+          ∙ (same o line
+          ∙ (ap (λ (m : Measure). onward_in_sections o line m (drop end ks)) (sym is_now) ∙ sym (there o line (measure_upto (measured (settled (take from (faultless ks)))) (settled (faultless new)))))));
       inside = cut.inside;
       first = cut.first ∙ (first ∙ sym (ap rows_kept (faultless_take from ks) ∙ rows_faultless (take from ks)));
       old_end =
@@ -144,11 +157,10 @@ seen_faultless config rows ins ks new a b from end from_row end_row t e found cu
       behind_seam = cut.behind_seam;
       there =
           is
-          ∙ (ap (λ (fs : List FindingValue). map (moved t.first) (lines_there (options_of config) e (new_lines_of t a b rows ins) ++ fs)) (sym (findings_faultless (options_of config).indentation (measured ks) 0 (measured (take from ks)) new))
-          ∙ (ap (λ (m : Measure). map (moved t.first) (found_there (options_of config) e m (measured (take from ks)) (new_lines_of t a b rows ins) (faultless new))) (sym whole_is)
-          ∙ (ap (λ (m : Measure). map (moved t.first) (found_there (options_of config) e (measured (settled (faultless ks))) m (new_lines_of t a b rows ins) (faultless new))) (sym front_is)
-          ∙ ap (λ (xs : List KeptValue). map (moved t.first) (found_there (options_of config) e (measured (settled (faultless ks))) (measured (settled (take from (faultless ks)))) (new_lines_of t a b rows ins) xs))
-          (sym (settled_faultless new)))));
+          ∙ (ap (λ (fs : List FindingValue). map (moved t.first) (lines_there (options_of config) e (new_lines_of t a b rows ins) ++ fs)) (sym (onward_faultless (options_of config).indentation 0 (measured (take from ks)) new))
+          ∙ (ap (λ (m : Measure). map (moved t.first) (found_there (options_of config) e m (new_lines_of t a b rows ins) (faultless new))) (sym front_is)
+          ∙ ap (λ (xs : List KeptValue). map (moved t.first) (found_there (options_of config) e (measured (settled (take from (faultless ks)))) (new_lines_of t a b rows ins) xs))
+          (sym (settled_faultless new))));
     }
 
 pub faultless_edited : (config : Config) (rows ins : List RowValue) (ks new : List KeptValue) (a b from end : ℕ) (t : Touched) (found : List FindingValue)

@@ -18,12 +18,13 @@ use Rattle.yl_report.specs.Directive.{is_silenced}
 use Rattle.yl_report.specs.Report.{ProblemValue, report_of}
 use Rattle.yl_sections.specs.Kept.{KeptValue, SectionFaultValue, Here, Behind}
 use Rattle.yl_rejudge.specs.Places.{rows_kept}
+use Rattle.yl_lint.specs.Onward.{onward_in_section, onward_in_sections}
 use Rattle.yl_lint.specs.TextReport.{comments_in_sections, end_of_lines, facts_in_sections, fault_in_sections, fault_or_later, finding_of_fault, findings_in_lines, findings_in_section, findings_in_sections, found_of_kept, moved, place_after, report_of_kept, shown, syntax_finding, unless_fault}
 use Rattle.yl_lint.specs.Unsilenced.{unsilenced_by, unsilenced_of_kept}
 use Rattle.yl_patch.specs.Patched.{is_upto, patched}
 use Rattle.yl_patch.specs.Plain.{IsPlain}
 use Rattle.yl_patch.specs.Seen.{IsSeen, new_lines_of, sections_between}
-use Rattle.yl_patch.specs.Settled.{LeavesBelow, hides_below, measure_upto, settled, settled_below, settled_one}
+use Rattle.yl_patch.specs.Settled.{AreFoundAlike, LeavesBelow, hides_below, measure_upto, settled, settled_below, settled_one}
 use Rattle.yl_patch.specs.There.{found_there, lines_there}
 use Rattle.yl_patch.specs.declared.touched.Ends.{Ends}
 use Rattle.yl_patch.specs.declared.touched.Touched.{Touched}
@@ -81,6 +82,10 @@ findings_bare : (o : IndentationOptions) (w : Measure) (line : ℕ) (before : Me
 findings_bare o w line before [] = refl
 findings_bare o w line before (k ∷ ks) = ap (λ (fs : List FindingValue). findings_in_section o w line before k ++ fs) (findings_bare o w (line + k.rows) (and_later before (measure_of k.facts)) ks)
 
+onward_bare : (o : IndentationOptions) (line : ℕ) (before : Measure) (ks : List KeptValue) → onward_in_sections o line before (all_bare ks) ≡ onward_in_sections o line before ks
+onward_bare o line before [] = refl
+onward_bare o line before (k ∷ ks) = ap (λ (fs : List FindingValue). onward_in_section o line before k ++ fs) (onward_bare o (line + k.rows) (and_later before (measure_of k.facts)) ks)
+
 settled_bare : (h : Bool) (ks : List KeptValue) → settled_below h (all_bare ks) ≡ all_bare (settled_below h ks)
 settled_bare h [] = refl
 settled_bare h (k ∷ ks) = ap (λ (l : KeptValue). l ∷ settled_below (h || is_some k.fault) (all_bare ks)) (one h) ∙ ap (λ (ls : List KeptValue). bare (settled_one h k) ∷ ls) (settled_bare (h || is_some k.fault) ks)
@@ -133,8 +138,8 @@ bare_report config in_lines end ks =
 pub unsilenced_with : (config : Config) (rows : List RowValue) (ks : List KeptValue) → unsilenced_by config rows ks ≡ report_with config [] rows (all_bare ks)
 unsilenced_with config rows ks = bare_report config (findings_in_lines (options_of config) rows) (end_of_lines rows) ks
 
-there_bare : (o : RuleOptions) (e : Ends) (w before : Measure) (rows : List RowValue) (ks : List KeptValue) → found_there o e w before rows ks ≡ found_there o e w before rows (all_bare ks)
-there_bare o e w before rows ks = ap (λ (fs : List FindingValue). lines_there o e rows ++ fs) (sym (findings_bare o.indentation w 0 before ks))
+there_bare : (o : RuleOptions) (e : Ends) (before : Measure) (rows : List RowValue) (ks : List KeptValue) → found_there o e before rows ks ≡ found_there o e before rows (all_bare ks)
+there_bare o e before rows ks = ap (λ (fs : List FindingValue). lines_there o e rows ++ fs) (sym (onward_bare o.indentation 0 before ks))
 
 -- what stands behind the touched sections
 below_bare : (h : Bool) (from end : ℕ) (ks new : List KeptValue) → LeavesBelow h (sections_between from end ks) new (drop end ks)
@@ -163,28 +168,38 @@ unsilenced_edited config rows ins kept new a b from end sound t h found seen ord
     let touched : settled_below h (sections_between from end (all_bare kept)) ≡ all_bare (settled_below h ls) = ap (settled_below h) (between_bare from end kept) ∙ settled_bare h ls in
     let front : settled (take from (all_bare kept)) ≡ all_bare (settled ks) = ap settled (take-map bare from kept) ∙ settled_bare false ks in
     let above_is : measured (settled (take from (all_bare kept))) ≡ measured (settled ks) = ap measured front ∙ measured_bare (settled ks) in
-    let measure : measure_upto (measured (settled (take from (all_bare kept)))) (settled_below h (sections_between from end (all_bare kept))) ≡ measure_upto (measured (settled (take from (all_bare kept)))) (settled_below h (all_bare new)) =
-    ap (λ (m : Measure). measure_upto m (settled_below h (sections_between from end (all_bare kept)))) above_is
-    ∙ (ap (and_later (measured (settled ks))) (ap measured touched ∙ measured_bare (settled_below h ls))
-    ∙ (seen.measure
-    ∙ sym (ap (λ (m : Measure). measure_upto m (settled_below h (all_bare new))) above_is ∙ ap (and_later (measured (settled ks))) (ap measured (settled_bare h new) ∙ measured_bare (settled_below h new))))) in
+    let was : measure_upto (measured (settled (take from (all_bare kept)))) (settled_below h (sections_between from end (all_bare kept))) ≡ measure_upto (measured (settled ks)) (settled_below h ls) =
+    ap (λ (m : Measure). measure_upto m (settled_below h (sections_between from end (all_bare kept)))) above_is ∙ ap (and_later (measured (settled ks))) (ap measured touched ∙ measured_bare (settled_below h ls)) in
+    let is_now : measure_upto (measured (settled (take from (all_bare kept)))) (settled_below h (all_bare new)) ≡ measure_upto (measured (settled ks)) (settled_below h new) =
+    ap (λ (m : Measure). measure_upto m (settled_below h (all_bare new))) above_is ∙ ap (and_later (measured (settled ks))) (ap measured (settled_bare h new) ∙ measured_bare (settled_below h new)) in
+    let later = settled_below (hides_below h ls) (drop end kept) in
+    let bare_later = settled_below (hides_below h (sections_between from end (all_bare kept))) (drop end (all_bare kept)) in
+    let later_is : bare_later ≡ all_bare later =
+    ap (λ (b : Bool). settled_below b (drop end (all_bare kept))) (ap (hides_below h) (between_bare from end kept) ∙ hides_bare h ls)
+    ∙ (ap (settled_below (hides_below h ls)) (drop-map bare end kept) ∙ settled_bare (hides_below h ls) (drop end kept)) in
+    let at : (p : IndentationOptions) (line : ℕ) (m : Measure) → onward_in_sections p line m bare_later ≡ onward_in_sections p line m later = λ p line m. ap (onward_in_sections p line m) later_is ∙ onward_bare p line m later in
+    let same : AreFoundAlike (measure_upto (measured (settled (take from (all_bare kept)))) (settled_below h (sections_between from end (all_bare kept)))) (measure_upto (measured (settled (take from (all_bare kept)))) (settled_below h (all_bare new))) bare_later =
+    λ p line.
+    at p line (measure_upto (measured (settled (take from (all_bare kept)))) (settled_below h (sections_between from end (all_bare kept))))
+    ∙ (ap (λ (m : Measure). onward_in_sections p line m later) was
+    ∙ (seen.alike p line
+    ∙ (ap (λ (m : Measure). onward_in_sections p line m later) (sym is_now) ∙ sym (at p line (measure_upto (measured (settled (take from (all_bare kept)))) (settled_below h (all_bare new))))))) in
     let none : comments_in_sections 0 (settled (take from (all_bare kept)) ++ settled_below h (all_bare new)) ≡ [] =
     ap (λ (xs : List KeptValue). comments_in_sections 0 (xs ++ settled_below h (all_bare new))) front
     ∙ (ap (λ (xs : List KeptValue). comments_in_sections 0 (all_bare (settled ks) ++ xs)) (settled_bare h new)
     ∙ (ap (comments_in_sections 0) (sym (map-append bare (settled ks) (settled_below h new))) ∙ no_comments 0 (settled ks ++ settled_below h new))) in
-    let there : found ≡ map (moved t.first) (found_there o seen.ends (measured (settled (all_bare kept))) (measured (settled (take from (all_bare kept)))) qs (settled_below h (all_bare new))) =
+    let there : found ≡ map (moved t.first) (found_there o seen.ends (measured (settled (take from (all_bare kept)))) qs (settled_below h (all_bare new))) =
     seen.there
     ∙ ap (map (moved t.first))
-    (there_bare o seen.ends (measured (settled kept)) (measured (settled ks)) qs (settled_below h new)
-    ∙ (ap (λ (w : Measure). found_there o seen.ends w (measured (settled ks)) qs (all_bare (settled_below h new))) (sym (ap measured (settled_bare false kept) ∙ measured_bare (settled kept)))
-    ∙ (ap (λ (w : Measure). found_there o seen.ends (measured (settled (all_bare kept))) w qs (all_bare (settled_below h new))) (sym above_is)
-    ∙ ap (found_there o seen.ends (measured (settled (all_bare kept))) (measured (settled (take from (all_bare kept)))) qs) (sym (settled_bare h new))))) in
+    (there_bare o seen.ends (measured (settled ks)) qs (settled_below h new)
+    ∙ (ap (λ (w : Measure). found_there o seen.ends w qs (all_bare (settled_below h new))) (sym above_is)
+    ∙ ap (found_there o seen.ends (measured (settled (take from (all_bare kept)))) qs) (sym (settled_bare h new)))) in
     report_edited config rows ins (all_bare kept) (all_bare new) a b from end t ordered within (subst (λ (n : ℕ). end ≤ n) (sym (length-map kept bare)) within') seen.inside h above [] [] refl refl
     (settled_plain false kept seen.plain) (settled_plain h new seen.new_plain) (below_bare h from end kept new seen.below)
     (seen.first ∙ sym (ap rows_kept (take-map bare from kept) ∙ rows_bare ks)) (seen.old_end ∙ sym (ap (λ (n : ℕ). t.first + n) (ap rows_kept (between_bare from end kept) ∙ rows_bare ls)))
     (seen.new_end ∙ sym (ap (λ (n : ℕ). t.first + n) (rows_bare new))) seen.ends seen.begins_text seen.ends_text seen.old_seam seen.new_seam seen.behind_seam
     (none_alike (settled_below h (sections_between from end (all_bare kept))) (settled_below h (all_bare new)) (ap (comments_in_sections 0) touched ∙ no_comments 0 (settled_below h ls)) (ap (comments_in_sections 0) (settled_bare h new) ∙ no_comments 0 (settled_below h new)))
-    measure i j put old (old_is ∙ unsilenced_with config rows kept) i_is j_is
+    same i j put old (old_is ∙ unsilenced_with config rows kept) i_is j_is
     (put_is
     ∙ (ap (λ (cs : List PlacedCommentValue). arranged l (is_silenced cs) found) (sym none)
     ∙ ap (arranged l (is_silenced (comments_in_sections 0 (settled (take from (all_bare kept)) ++ settled_below h (all_bare new))))) there))

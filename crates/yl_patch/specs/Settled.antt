@@ -5,6 +5,8 @@ use Rattle.yl_text.specs.Finding.{FindingValue}
 use Rattle.yl_indentation.specs.declared.measure.Measure.{Measure}
 use Rattle.yl_indentation.specs.Measures.{and_later, measure_of}
 use Rattle.yl_sections.specs.Kept.{KeptValue, SectionFaultValue, Here, Behind}
+use Rattle.yl_indentation.specs.declared.options.IndentationOptions.{IndentationOptions}
+use Rattle.yl_lint.specs.Onward.{onward_in_sections}
 use Rattle.yl_lint.specs.TextReport.{facts_in_sections, syntax_finding}
 
 -- the problem of a fault at a place of the section
@@ -36,6 +38,10 @@ settled ks = settled_below false ks
 -- the measure of facts of this one and of those of these sections behind them
 abbrev pub measure_upto : Measure → List KeptValue → Measure
 measure_upto above ks = and_later above (measure_of (facts_in_sections ks))
+
+-- behind facts of either measure the same is found in these sections, under any options
+abbrev pub AreFoundAlike : Measure → Measure → List KeptValue → Type 0
+AreFoundAlike one other ks = (options : IndentationOptions) (line : ℕ) → onward_in_sections options line one ks ≡ onward_in_sections options line other ks
 
 -- what stands behind these sections is hidden, where they are hidden or not
 abbrev pub hides_below : Bool → List KeptValue → Bool

@@ -10,7 +10,8 @@ use Rattle.yl_rules.specs.EndOfFile.{end_of_file}
 use Rattle.yl_rules.specs.NewLines.{new_lines}
 use Rattle.yl_settings.specs.declared.options.RuleOptions.{RuleOptions}
 use Rattle.yl_sections.specs.Kept.{KeptValue, items_if}
-use Rattle.yl_lint.specs.TextReport.{findings_from, findings_in_sections}
+use Rattle.yl_lint.specs.Onward.{onward_in_sections}
+use Rattle.yl_lint.specs.TextReport.{findings_from}
 use Rattle.yl_patch.specs.declared.touched.Ends.{Ends}
 
 -- a rule judges such lines: one judges a text's first line and no other, one its last line and no other
@@ -25,6 +26,6 @@ lines_there o e rows =
     findings_from o.row 1 rows
     ++ (items_if e.begins (new_lines o.run.new_line rows) ++ (empty_lines o.run.empty_lines rows ++ items_if e.ends (end_of_file rows)))
 
--- in the sections too, behind facts of one measure, where all of the text have the other
-abbrev pub found_there : RuleOptions → Ends → Measure → Measure → List RowValue → List KeptValue → List FindingValue
-found_there o e whole before rows ks = lines_there o e rows ++ findings_in_sections o.indentation whole 0 before ks
+-- in the sections too, behind facts of this measure
+abbrev pub found_there : RuleOptions → Ends → Measure → List RowValue → List KeptValue → List FindingValue
+found_there o e before rows ks = lines_there o e rows ++ onward_in_sections o.indentation 0 before ks

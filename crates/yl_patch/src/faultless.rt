@@ -9,7 +9,7 @@ ghost use Rattle.yl_rejudge.specs.Places.{rows_kept};
 ghost use Rattle.yl_patch.specs.Faultless.{AreSoundBut, IsFaultless, faultless};
 ghost use Rattle.yl_patch.specs.Plain.{IsOverviewOf, IsSound};
 
-use crate::overview::{Overview, SectionEdit, are_alike_but_faults, measure_of_facts_before};
+use crate::overview::{Overview, SectionEdit, measure_of_facts_after, measure_of_facts_before};
 use crate::silencing::{Silencing, silencing_after};
 use crate::sound::{count_sound, has_fault};
 use crate::touched::{count_rows, narrow};
@@ -145,9 +145,7 @@ pub fn faultless_after<A: Allocator + Copy>(
     ensures { IfSome result (λ f. IsFaultless (splice kept.now.items edit.now.from edit.now.end edit.now.kept.now) f) }
 {
     let above = measure_of_facts_before(kept, edit.from, known.whole);
-    if !are_alike_but_faults(kept, edit.from, edit.end, above, edit.kept) {
-        return None;
-    }
+    let whole = measure_of_facts_after(kept, edit, above, known.whole)?;
     let (at, row) = place_after(known.at, kept, edit)?;
     let silencing = silencing_after(
         known.silencing,
@@ -160,7 +158,7 @@ pub fn faultless_after<A: Allocator + Copy>(
     Some(Faultless {
         at,
         row,
-        whole: known.whole,
+        whole,
         silencing,
     })
 }

@@ -154,7 +154,7 @@ fn see_lines<S: LineStore>(
     }
     let window = Window::new(edited, touched.first as usize, touched.new_end as usize);
     let (measure, line) = (Measure::empty(), touched.first);
-    let found = find_there(alloc, config, ends, &window, line, measure, measure, &[])?;
+    let found = find_there(alloc, config, ends, &window, line, measure, &[])?;
     Ok(Some(SeenEdit {
         touched,
         hidden: false,

@@ -1,5 +1,5 @@
 //! What is known of all sections of a text without a walk over them.
-ghost use Rattle.std.specs.Prelude.{◌≡◌, ◌≤◌, ◌-◌, true, false, length, take, drop};
+ghost use Rattle.std.specs.Prelude.{◌≡◌, ◌≤◌, ◌-◌, true, false, length, take, drop, IfSome};
 ghost use Rattle.std.specs.List.{AllByRecursion, splice};
 ghost use Rattle.yl_text.specs.Store.{IsRange};
 ghost use Rattle.yl_indentation.specs.Measures.{measure_of};
@@ -7,7 +7,8 @@ ghost use Rattle.yl_rejudge.specs.Places.{rows_kept};
 ghost use Rattle.yl_lint.specs.TextReport.{facts_in_sections};
 ghost use Rattle.yl_patch.specs.Faultless.{faultless};
 ghost use Rattle.yl_patch.specs.Plain.{IsOverviewOf, IsPlain, IsSoundUpto};
-ghost use Rattle.yl_patch.specs.Settled.{LeavesBelow, hides_below, measure_upto, settled, settled_below};
+ghost use Rattle.yl_patch.specs.Seen.{IsShownAfter, sections_between};
+ghost use Rattle.yl_patch.specs.Settled.{AreFoundAlike, LeavesBelow, hides_below, measure_upto, settled, settled_below};
 
 use crate::plain::{are_all_plain, are_plain, are_plain_but_faults};
 use crate::silencing::{Silencing, silencing_after, silencing_of, silencing_of_all};
@@ -16,7 +17,7 @@ use crate::sound::{
 };
 use std::alloc::Allocator;
 use yl_chunks::{Chunks, Spliced};
-use yl_indentation::Measure;
+use yl_indentation::{Measure, are_judged_alike};
 use yl_sections::Kept;
 
 /// What is known of all sections of a text: where those are plain that are shown, so that each has its own part in the report, how many
@@ -38,35 +39,6 @@ pub struct SectionEdit<'a, A: Allocator> {
     pub from_row: usize,
     pub end_row: usize,
     pub kept: &'a [Kept<A>],
-}
-
-fn is_same_step(one: Option<u32>, other: Option<u32>) -> bool
-    ensures { result ≡ true → one ≡ other }
-{
-    match (one, other) {
-        (None, None) => true,
-        (Some(m), Some(n)) => m == n,
-        _ => false,
-    }
-}
-
-fn is_same_flush(one: Option<bool>, other: Option<bool>) -> bool
-    ensures { result ≡ true → one ≡ other }
-{
-    match (one, other) {
-        (None, None) => true,
-        (Some(m), Some(n)) => m == n,
-        _ => false,
-    }
-}
-
-/// Whether two measures are the same.
-pub fn is_same_measure(one: Measure, other: Measure) -> bool
-    ensures { result ≡ true → one ≡ other }
-{
-    is_same_step(one.step, other.step)
-        && is_same_step(one.step_with_entries, other.step_with_entries)
-        && is_same_flush(one.flush, other.flush)
 }
 
 /// The measure of the facts of these sections, up to the first with a fault.
@@ -131,7 +103,7 @@ fn measure_before<A: Allocator + Copy>(
 {
     let mut measure = Measure::empty();
     for i in 0..from {
-        if is_same_measure(measure, whole) {
+        if measure.is_same(whole) {
             return measure;
         }
         measure = measure.and_later(kept.get(i).measure());
@@ -198,44 +170,79 @@ fn leaves_below<A: Allocator + Copy>(
     hides_between(kept, from, end) == hides(new)
 }
 
-/// Whether the new sections are plain as far as they are shown, and behind facts of the measure `above` leave the measure as those from
-/// one on, before `end`, do, and leave what stands behind these.
-fn are_shown_alike<A: Allocator + Copy>(
+/// The measure of what is shown once the facts before a section have the measure `other` in place of `one`, where that is `whole` before; none
+/// where it is not seen that the same is found from that section on. It looks no further once both are the same.
+fn measure_below<A: Allocator + Copy>(
     kept: &Chunks<Kept<A>, A>,
-    from: usize,
     end: usize,
-    above: Measure,
-    new: &[Kept<A>],
-) -> bool
-    requires { IsRange from end (length kept.now.items) }
-    ensures plain { result ≡ true → AllByRecursion IsPlain (settled new.now) }
-    ensures measure { result ≡ true → measure_upto above (settled (take (end - from) (drop from kept.now.items))) ≡ measure_upto above (settled new.now) }
-    ensures below { result ≡ true → LeavesBelow false (take (end - from) (drop from kept.now.items)) new.now (drop end kept.now.items) }
+    one: Measure,
+    other: Measure,
+    whole: Measure,
+) -> Option<Measure>
+    requires within { end ≤ length kept.now.items }
+    requires whole { whole ≡ measure_upto one (settled (drop end kept.now.items)) }
+    ensures alike { IfSome result (λ _. AreFoundAlike one other (settled (drop end kept.now.items))) }
+    ensures whole { IfSome result (λ w. w ≡ measure_upto other (settled (drop end kept.now.items))) }
 {
-    let old = measure_between(kept, from, end);
-    are_plain(new)
-        && is_same_measure(above.and_later(old), above.and_later(measure_of(new)))
-        && leaves_below(kept, from, end, new)
+    let mut first = one;
+    let mut second = other;
+    for i in end..kept.len() {
+        if first.is_same(second) {
+            return Some(whole);
+        }
+        let next = kept.get(i);
+        if !are_judged_alike(next.facts(), first, second) {
+            return None;
+        }
+        let more = next.measure();
+        first = first.and_later(more);
+        second = second.and_later(more);
+        if has_fault(next) {
+            return Some(second);
+        }
+    }
+    Some(second)
 }
 
-/// The same where these sections are hidden or not.
-pub fn is_alike<A: Allocator + Copy>(
+/// The measure of what is shown once the sections are edited, of which the touched ones are shown behind facts of the measure `above`; none
+/// where the new ones are not plain as far as they are shown, or it is not seen that the same is shown below and found there.
+fn shown_after<A: Allocator + Copy>(
+    kept: &Chunks<Kept<A>, A>,
+    edit: &SectionEdit<'_, A>,
+    above: Measure,
+    whole: Measure,
+) -> Option<Measure>
+    requires range { IsRange edit.now.from edit.now.end (length kept.now.items) }
+    requires whole { whole ≡ measure_upto (measure_upto above (settled (sections_between edit.now.from edit.now.end kept.now.items))) (settled_below (hides_below false (sections_between edit.now.from edit.now.end kept.now.items)) (drop edit.now.end kept.now.items)) }
+    ensures { IfSome result (λ w. IsShownAfter false above kept.now.items edit.now.from edit.now.end edit.now.kept.now w) }
+{
+    let one = above.and_later(measure_between(kept, edit.from, edit.end));
+    let other = above.and_later(measure_of(edit.kept));
+    if !are_plain(edit.kept) || !leaves_below(kept, edit.from, edit.end, edit.kept) {
+        return None;
+    }
+    if hides(edit.kept) {
+        return Some(other);
+    }
+    measure_below(kept, edit.end, one, other, whole)
+}
+
+/// The same where the touched sections are hidden or not.
+pub fn measure_after<A: Allocator + Copy>(
     hidden: bool,
     kept: &Chunks<Kept<A>, A>,
-    from: usize,
-    end: usize,
+    edit: &SectionEdit<'_, A>,
     above: Measure,
-    new: &[Kept<A>],
-) -> bool
-    requires { IsRange from end (length kept.now.items) }
-    ensures plain { result ≡ true → AllByRecursion IsPlain (settled_below hidden new.now) }
-    ensures measure { result ≡ true → measure_upto above (settled_below hidden (take (end - from) (drop from kept.now.items))) ≡ measure_upto above (settled_below hidden new.now) }
-    ensures below { result ≡ true → LeavesBelow hidden (take (end - from) (drop from kept.now.items)) new.now (drop end kept.now.items) }
+    whole: Measure,
+) -> Option<Measure>
+    requires range { IsRange edit.now.from edit.now.end (length kept.now.items) }
+    requires whole { whole ≡ measure_upto (measure_upto above (settled_below hidden (sections_between edit.now.from edit.now.end kept.now.items))) (settled_below (hides_below hidden (sections_between edit.now.from edit.now.end kept.now.items)) (drop edit.now.end kept.now.items)) }
+    ensures { IfSome result (λ w. IsShownAfter hidden above kept.now.items edit.now.from edit.now.end edit.now.kept.now w) }
 {
     if hidden {
-        return true;
+        return Some(whole);
     }
-    are_shown_alike(kept, from, end, above, new)
+    shown_after(kept, edit, above, whole)
 }
 
 /// The measure of all facts of these sections, whatever a fault hides.
@@ -277,7 +284,7 @@ pub fn measure_of_facts_before<A: Allocator + Copy>(
 {
     let mut measure = Measure::empty();
     for i in 0..from {
-        if is_same_measure(measure, whole) {
+        if measure.is_same(whole) {
             return measure;
         }
         measure = measure.and_later(kept.get(i).measure());
@@ -285,22 +292,57 @@ pub fn measure_of_facts_before<A: Allocator + Copy>(
     measure
 }
 
-/// Whether the new sections are plain but for their faults, and behind facts of the measure `above` leave the measure of all facts as those
-/// from one on, before `end`, do.
-pub fn are_alike_but_faults<A: Allocator + Copy>(
+/// The measure of all facts once those before a section have the measure `other` in place of `one`, where that is `whole` before; none where
+/// it is not seen that the same is found from that section on, whatever a fault hides. It looks no further once both are the same.
+fn measure_of_facts_below<A: Allocator + Copy>(
     kept: &Chunks<Kept<A>, A>,
-    from: usize,
     end: usize,
-    above: Measure,
-    new: &[Kept<A>],
-) -> bool
-    requires { IsRange from end (length kept.now.items) }
-    ensures plain { result ≡ true → AllByRecursion IsPlain (faultless new.now) }
-    ensures measure { result ≡ true → measure_upto above (take (end - from) (drop from kept.now.items)) ≡ measure_upto above new.now }
+    one: Measure,
+    other: Measure,
+    whole: Measure,
+) -> Option<Measure>
+    requires within { end ≤ length kept.now.items }
+    requires whole { whole ≡ measure_upto one (drop end kept.now.items) }
+    ensures alike { IfSome result (λ _. AreFoundAlike one other (drop end kept.now.items)) }
+    ensures whole { IfSome result (λ w. w ≡ measure_upto other (drop end kept.now.items)) }
 {
-    let old = measure_of_facts_between(kept, from, end);
-    are_plain_but_faults(new)
-        && is_same_measure(above.and_later(old), above.and_later(measure_of_facts(new)))
+    let mut first = one;
+    let mut second = other;
+    for i in end..kept.len() {
+        if first.is_same(second) {
+            return Some(whole);
+        }
+        let next = kept.get(i);
+        if !are_judged_alike(next.facts(), first, second) {
+            return None;
+        }
+        let more = next.measure();
+        first = first.and_later(more);
+        second = second.and_later(more);
+    }
+    Some(second)
+}
+
+/// The measure of all facts once the sections are edited, of which the touched ones stand behind facts of the measure `above`; none where the
+/// new ones are not plain but for their faults, or it is not seen that the same is found below, whatever a fault hides.
+pub fn measure_of_facts_after<A: Allocator + Copy>(
+    kept: &Chunks<Kept<A>, A>,
+    edit: &SectionEdit<'_, A>,
+    above: Measure,
+    whole: Measure,
+) -> Option<Measure>
+    requires range { IsRange edit.now.from edit.now.end (length kept.now.items) }
+    requires whole { whole ≡ measure_upto (measure_upto above (sections_between edit.now.from edit.now.end kept.now.items)) (drop edit.now.end kept.now.items) }
+    ensures plain { IfSome result (λ _. AllByRecursion IsPlain (faultless edit.now.kept.now)) }
+    ensures alike { IfSome result (λ _. AreFoundAlike (measure_upto above (sections_between edit.now.from edit.now.end kept.now.items)) (measure_upto above edit.now.kept.now) (drop edit.now.end kept.now.items)) }
+    ensures whole { IfSome result (λ w. w ≡ measure_upto (measure_upto above edit.now.kept.now) (drop edit.now.end kept.now.items)) }
+{
+    let one = above.and_later(measure_of_facts_between(kept, edit.from, edit.end));
+    let other = above.and_later(measure_of_facts(edit.kept));
+    if !are_plain_but_faults(edit.kept) {
+        return None;
+    }
+    measure_of_facts_below(kept, edit.end, one, other, whole)
 }
 
 /// The overview once the sections are edited. It looks at those of the edit alone, and says that sections are plain only where they were.
@@ -327,9 +369,9 @@ pub fn overview_after<A: Allocator + Copy>(
         return unknown;
     };
     let above = measure_above(kept, edit.from, hidden, overview.whole);
-    if !is_alike(hidden, kept, edit.from, edit.end, above, edit.kept) {
+    let Some(whole) = measure_after(hidden, kept, edit, above, overview.whole) else {
         return unknown;
-    }
+    };
     let Some(silencing) = silencing_after(
         overview.silencing,
         kept,
@@ -346,7 +388,7 @@ pub fn overview_after<A: Allocator + Copy>(
     Overview {
         is_plain: true,
         sound,
-        whole: overview.whole,
+        whole,
         silencing,
     }
 }

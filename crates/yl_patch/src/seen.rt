@@ -12,7 +12,8 @@ ghost use Rattle.yl_patch.specs.Plain.{IsOverviewOf, IsPlain};
 ghost use Rattle.yl_patch.specs.Seen.{IsCut, IsSeen};
 
 use crate::overview::{
-    Overview, SectionEdit, are_alike_but_faults, is_alike, measure_above, measure_of_facts_before,
+    Overview, SectionEdit, measure_above, measure_after, measure_of_facts_after,
+    measure_of_facts_before,
 };
 use crate::sound::{hides_before, shown_of};
 use crate::there::{find_there, find_without_faults};
@@ -109,11 +110,10 @@ pub fn see_edit<S: LineStore>(
     let Some(hidden) = hides_before(kept, overview.sound, edit.from) else {
         return Ok(None);
     };
-    let whole = overview.whole;
-    let before = measure_above(kept, edit.from, hidden, whole);
-    if !is_alike(hidden, kept, edit.from, edit.end, before, edit.kept) {
+    let before = measure_above(kept, edit.from, hidden, overview.whole);
+    let Some(_) = measure_after(hidden, kept, edit, before, overview.whole) else {
         return Ok(None);
-    }
+    };
     let Some(cut) = cut_edit(store, a, b, rows, edit) else {
         return Ok(None);
     };
@@ -121,16 +121,7 @@ pub fn see_edit<S: LineStore>(
     let patched = Patched::new(store, a, b, rows);
     let window = Window::new(patched, touched.first as usize, touched.new_end as usize);
     let shown = shown_of(hidden, edit.kept);
-    let found = find_there(
-        alloc,
-        config,
-        ends,
-        &window,
-        touched.first,
-        whole,
-        before,
-        shown,
-    )?;
+    let found = find_there(alloc, config, ends, &window, touched.first, before, shown)?;
     Ok(Some(SeenEdit {
         touched,
         hidden,
@@ -160,9 +151,9 @@ pub fn see_faultless<S: LineStore>(
     ensures { IfOk result (λ o. IfSome o (λ s. IsSeen config.now (S.rows store.now) rows.now (faultless kept.now.items) (faultless edit.now.kept.now) a b edit.now.from edit.now.end 0 s.touched false s.found.items)) }
 {
     let before = measure_of_facts_before(kept, edit.from, whole);
-    if !are_alike_but_faults(kept, edit.from, edit.end, before, edit.kept) {
+    let Some(_) = measure_of_facts_after(kept, edit, before, whole) else {
         return Ok(None);
-    }
+    };
     let Some(cut) = cut_edit(store, a, b, rows, edit) else {
         return Ok(None);
     };
@@ -170,7 +161,7 @@ pub fn see_faultless<S: LineStore>(
     let patched = Patched::new(store, a, b, rows);
     let window = Window::new(patched, touched.first as usize, touched.new_end as usize);
     let (down, new) = (touched.first, edit.kept);
-    let found = find_without_faults(alloc, config, ends, &window, down, whole, before, new)?;
+    let found = find_without_faults(alloc, config, ends, &window, down, before, new)?;
     Ok(Some(SeenEdit {
         touched,
         hidden: false,

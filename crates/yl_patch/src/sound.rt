@@ -5,7 +5,8 @@ ghost use Rattle.yl_text.specs.Store.{IsRange};
 ghost use Rattle.yl_indentation.specs.declared.measure.Measure.{Measure};
 ghost use Rattle.yl_indentation.specs.declared.options.IndentationOptions.{IndentationOptions};
 ghost use Rattle.yl_patch.specs.Plain.{IsSoundUpto};
-ghost use Rattle.yl_lint.specs.TextReport.{comments_in_sections, findings_in_sections};
+ghost use Rattle.yl_lint.specs.Onward.{onward_in_sections};
+ghost use Rattle.yl_lint.specs.TextReport.{comments_in_sections};
 ghost use Rattle.yl_patch.specs.Settled.{IsHidden, hides_below, settled, settled_below};
 
 use std::alloc::Allocator;
@@ -113,7 +114,7 @@ pub fn shown_before<A: Allocator + Copy>(
 /// Those of these sections of which something may be found, where a fault above hides them or not.
 pub fn shown_of<A: Allocator>(hidden: bool, kept: &[Kept<A>]) -> &[Kept<A>]
     ensures items { result.now ≡ (if hidden then [] else kept.now) }
-    ensures findings { (o : IndentationOptions) (whole before : Measure) (line : ℕ) → findings_in_sections o whole line before (settled result.now) ≡ findings_in_sections o whole line before (settled_below hidden kept.now) }
+    ensures findings { (o : IndentationOptions) (before : Measure) (line : ℕ) → onward_in_sections o line before (settled result.now) ≡ onward_in_sections o line before (settled_below hidden kept.now) }
 {
     if hidden { &kept[..0] } else { kept }
 }

@@ -3,7 +3,9 @@ ghost use Rattle.std.specs.Prelude.{◌≡◌, ◌++◌, map, false, IfOk, OnOk}
 ghost use Rattle.std.specs.Option.{option_map};
 ghost use Rattle.yl_config.specs.Config.{options_of};
 ghost use Rattle.yl_sections.specs.Owned.{section_fault_value};
-ghost use Rattle.yl_lint.specs.TextReport.{findings_in_section, findings_in_sections, moved, syntax_finding};
+ghost use Rattle.yl_indentation.specs.Onward.{CountsEntriesOnceSeen};
+ghost use Rattle.yl_lint.specs.Onward.{onward_in_section, onward_in_sections};
+ghost use Rattle.yl_lint.specs.TextReport.{moved, syntax_finding};
 ghost use Rattle.yl_patch.specs.Settled.{found_by_fault, settled, settled_one};
 ghost use Rattle.yl_patch.specs.There.{found_there, lines_there};
 ghost use Rattle.yl_patch.specs.There as spec;
@@ -47,20 +49,37 @@ fn push_fault<A: Allocator + Copy>(
     Ok(())
 }
 
-/// Puts what is found in a section that is shown behind the rest, its fault too.
-fn push_shown<A: Allocator + Copy>(
+/// Puts what is found in a section that begins at `line` behind the rest. Its indentation is judged by the facts before it, which have the
+/// measure `before`, and its own.
+fn push_onward<A: Allocator + Copy>(
     alloc: A,
     options: &IndentationOptions,
-    whole: Measure,
     line: u32,
     before: Measure,
     one: &Kept<A>,
     found: &mut Vec<Finding<A>, A>,
 ) -> Result<(), AllocError>
-    ensures { OnOk result (found.new.items ≡ found.old.items ++ findings_in_section options.now whole line before (settled_one false one.now)) }
+    requires { CountsEntriesOnceSeen before }
+    ensures { OnOk result (found.new.items ≡ found.old.items ++ onward_in_section options.now line before one.now) }
+{
+    let upto = before.and_later(one.measure());
+    push_section(alloc, options, upto, line, before, one, found)
+}
+
+/// Puts what is found in a section that is shown behind the rest, its fault too.
+fn push_shown<A: Allocator + Copy>(
+    alloc: A,
+    options: &IndentationOptions,
+    line: u32,
+    before: Measure,
+    one: &Kept<A>,
+    found: &mut Vec<Finding<A>, A>,
+) -> Result<(), AllocError>
+    requires { CountsEntriesOnceSeen before }
+    ensures { OnOk result (found.new.items ≡ found.old.items ++ onward_in_section options.now line before (settled_one false one.now)) }
 {
     push_fault(alloc, line, one.fault(), found)?;
-    push_section(alloc, options, whole, line, before, one, found)
+    push_onward(alloc, options, line, before, one, found)
 }
 
 /// Puts what is found in these sections behind the rest, up to the first with a fault; the first begins `down` lines below the first of
@@ -68,18 +87,18 @@ fn push_shown<A: Allocator + Copy>(
 fn push_sections<A: Allocator + Copy>(
     alloc: A,
     options: &IndentationOptions,
-    whole: Measure,
     down: u32,
     before: Measure,
     kept: &[Kept<A>],
     found: &mut Vec<Finding<A>, A>,
 ) -> Result<(), AllocError>
-    ensures { OnOk result (found.new.items ≡ found.old.items ++ findings_in_sections options.now whole down before (settled kept.now)) }
+    requires { CountsEntriesOnceSeen before }
+    ensures { OnOk result (found.new.items ≡ found.old.items ++ onward_in_sections options.now down before (settled kept.now)) }
 {
     let mut line = down;
     let mut here = before;
     for one in kept {
-        push_shown(alloc, options, whole, line, here, one, found)?;
+        push_shown(alloc, options, line, here, one, found)?;
         if has_fault(one) {
             return Ok(());
         }
@@ -93,18 +112,18 @@ fn push_sections<A: Allocator + Copy>(
 fn push_sections_without_faults<A: Allocator + Copy>(
     alloc: A,
     options: &IndentationOptions,
-    whole: Measure,
     down: u32,
     before: Measure,
     kept: &[Kept<A>],
     found: &mut Vec<Finding<A>, A>,
 ) -> Result<(), AllocError>
-    ensures { OnOk result (found.new.items ≡ found.old.items ++ findings_in_sections options.now whole down before kept.now) }
+    requires { CountsEntriesOnceSeen before }
+    ensures { OnOk result (found.new.items ≡ found.old.items ++ onward_in_sections options.now down before kept.now) }
 {
     let mut line = down;
     let mut here = before;
     for one in kept {
-        push_section(alloc, options, whole, line, here, one, found)?;
+        push_onward(alloc, options, line, here, one, found)?;
         line = line_below(line, one.rows())?;
         here = here.and_later(one.measure());
     }
@@ -159,15 +178,15 @@ pub fn find_there<L: Lines>(
     ends: Ends,
     lines: &L,
     down: u32,
-    whole: Measure,
     before: Measure,
     kept: &[Kept<L::Alloc>],
 ) -> Result<Vec<Finding<L::Alloc>, L::Alloc>, AllocError>
-    ensures { IfOk result (λ v. v.items ≡ map (moved down) (found_there (options_of config.now) ends whole before (L.rows lines.now) (settled kept.now))) }
+    requires { CountsEntriesOnceSeen before }
+    ensures { IfOk result (λ v. v.items ≡ map (moved down) (found_there (options_of config.now) ends before (L.rows lines.now) (settled kept.now))) }
 {
     let mut found = find_in_lines_there(alloc, config, ends, lines, down)?;
     let options = config.indentation_options();
-    push_sections(alloc, options, whole, down, before, kept, &mut found)?;
+    push_sections(alloc, options, down, before, kept, &mut found)?;
     Ok(found)
 }
 
@@ -178,14 +197,14 @@ pub fn find_without_faults<L: Lines>(
     ends: Ends,
     lines: &L,
     down: u32,
-    whole: Measure,
     before: Measure,
     kept: &[Kept<L::Alloc>],
 ) -> Result<Vec<Finding<L::Alloc>, L::Alloc>, AllocError>
-    ensures { IfOk result (λ v. v.items ≡ map (moved down) (found_there (options_of config.now) ends whole before (L.rows lines.now) kept.now)) }
+    requires { CountsEntriesOnceSeen before }
+    ensures { IfOk result (λ v. v.items ≡ map (moved down) (found_there (options_of config.now) ends before (L.rows lines.now) kept.now)) }
 {
     let mut found = find_in_lines_there(alloc, config, ends, lines, down)?;
     let options = config.indentation_options();
-    push_sections_without_faults(alloc, options, whole, down, before, kept, &mut found)?;
+    push_sections_without_faults(alloc, options, down, before, kept, &mut found)?;
     Ok(found)
 }

@@ -13,5 +13,4 @@ returns g c =
       end = omega (arith, c.in_ok-end.ensures, c.rows.ensures);
       within = apart.within is_true;
       filled = apart.filled is_true;
-      measure = c.have_measure.ensures c.if-not-have_measure.false;
     }

@@ -39,8 +39,8 @@ returns-clause-seen g c = λ old h.
     let gone = subst (λ n. IsGone c.args.stayed n c.in-Some.gone) (c.len.ensures ∙ ap (λ (xs : List RowValue). length xs) here) c.in-Some.ensures in
     let apart = c.if-not-is_apart.false in
     let window = c.new-window.ensures ∙ ap (λ (xs : List RowValue). take (t.new_end - t.first) (drop t.first xs)) here in
-    let measures = ap (λ m. map (moved t.first) (found_there (options_of config) e m m c.new-window.result [])) c.empty-measure.ensures in
+    let measures = ap (λ m. map (moved t.first) (found_there (options_of config) e m c.new-window.result [])) c.empty-measure.ensures in
     seen_lines config old now c.args.stayed c.in-Some.gone t e c.in_ok-found.found.items h gone (c.is_inside.ensures c.if-not-is_inside.false) c.ends_of-ends.ensures.begins c.ends_of-ends.ensures.ends (c.is_apart.ensures.stayed apart)
     (λ b. ap (λ (xs : List RowValue). is_filled (slice_get xs t.first)) (sym here) ∙ c.is_apart.ensures.above apart b)
     (λ b. ap (λ (xs : List RowValue). is_filled (slice_get xs t.new_end)) (sym here) ∙ c.is_apart.ensures.behind apart b)
-    (c.in_ok-found.ensures ∙ (measures ∙ ap (λ (xs : List RowValue). map (moved t.first) (found_there (options_of config) e empty_measure empty_measure xs [])) window))
+    (c.in_ok-found.ensures ∙ (measures ∙ ap (λ (xs : List RowValue). map (moved t.first) (found_there (options_of config) e empty_measure xs [])) window))

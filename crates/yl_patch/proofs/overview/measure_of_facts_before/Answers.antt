@@ -4,9 +4,9 @@ use Rattle.yl_rejudge.proofs.KeptRows.{got}
 use Rattle.yl_patch.proofs.Walks.{measure_last, measure_stays}
 use Rattle.yl_patch.proofs.overview.measure_of_facts_before.Goals as goal
 
-pub returns-then-is_same_measure : goal.returns-then-is_same_measure
-returns-then-is_same_measure g c =
-    measure_stays c.args.kept.now.items c.loop-i.i c.args.from c.loop-i.measure c.args.whole c.loop-i.auto.i-end c.requires.within c.loop-i.invariant c.requires.whole (c.is_same_measure.ensures c.if-is_same_measure.true)
+pub returns-then-is_same : goal.returns-then-is_same
+returns-then-is_same g c =
+    measure_stays c.args.kept.now.items c.loop-i.i c.args.from c.loop-i.measure c.args.whole c.loop-i.auto.i-end c.requires.within c.loop-i.invariant c.requires.whole (c.is_same.ensures c.if-is_same.true)
 
 pub loop-i-preserved : goal.loop-i-preserved
 loop-i-preserved g c =

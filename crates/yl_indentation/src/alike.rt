@@ -1,0 +1,46 @@
+//! Facts that have the same problems, whichever of two measures the facts before them have.
+ghost use Rattle.std.specs.Prelude.{◌≡◌, true};
+ghost use Rattle.yl_indentation.specs.declared.options.IndentationOptions.{IndentationOptions};
+ghost use Rattle.yl_indentation.specs.Measures.{is_flush};
+ghost use Rattle.yl_indentation.specs.Problems.{finding_at};
+ghost use Rattle.yl_indentation.specs.Onward.{AreJudgedAlike};
+
+use crate::fact::{Expectation, Fact};
+use crate::measure::{Measure, is_same_flush, is_same_step};
+
+/// Whether the same is found at a place, where the facts up to it have the one measure or the other.
+/// An entry in a mapping is judged by the step with entries alone.
+fn is_judged_alike(fact: Fact, one: Measure, other: Measure) -> bool
+    ensures { result ≡ true → (o : IndentationOptions)
+        → finding_at o one (is_flush one) fact ≡ finding_at o other (is_flush other) fact }
+{
+    match fact.expectation {
+        Expectation::At(_) => true,
+        Expectation::Beyond(_) => one.is_same(other),
+        Expectation::EntryIn(_) => {
+            is_same_step(one.step_with_entries, other.step_with_entries)
+                && is_same_flush(one.flush, other.flush)
+        }
+    }
+}
+
+/// Whether it is seen that these facts have the same problems behind facts of either measure, under
+/// any options; false says nothing. It looks no further once both measures are the same.
+pub fn are_judged_alike(facts: &[Fact], one: Measure, other: Measure) -> bool
+    ensures { result ≡ true → AreJudgedAlike one other facts.now }
+{
+    let mut one = one;
+    let mut other = other;
+    for fact in facts {
+        if one.is_same(other) {
+            return true;
+        }
+        let at = Measure::at(*fact);
+        one = one.and_later(at);
+        other = other.and_later(at);
+        if !is_judged_alike(*fact, one, other) {
+            return false;
+        }
+    }
+    true
+}
