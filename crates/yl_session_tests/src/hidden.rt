@@ -166,6 +166,46 @@ static HIDDEN: &[Hidden] = &[
          -- edited\n2:6 trailing spaces\n3:2 syntax error: comma or closing bracket expected\n\
          -- edited\n7:1 wrong indentation: expected 2 but found 0\n9:5 wrong indentation: expected 2 but found 4\n9:8 too many spaces after colon\n",
     ),
+    // The first sequence and the first indentation of all stand below it.
+    (
+        "---\na: 1\nb: 2\n---\nc:\n  - 3\nd:\n- 4\n---\ne:\n  - 5 \n",
+        &[
+            (1, 2, b"a: \"1\n", 612, 1),
+            (1, 2, b"a: \"12 \n", 5, 1),
+            (2, 3, b"b: 22\n", 5, 1),
+            (1, 2, b"a: \"12\"\n", 612, 303),
+            (1, 2, b"a: [12\n", 5, 2),
+            (2, 3, b"b: 2 \n", 5, 2),
+            (1, 2, b"a: 1\n", 5, 2),
+        ],
+        "8:1 wrong indentation: expected 2 but found 0\n11:6 trailing spaces\n\
+         -- edited\n4:1 syntax error: document marker in quoted scalar\n11:6 trailing spaces\n\
+         -- edited\n2:7 trailing spaces\n4:1 syntax error: document marker in quoted scalar\n11:6 trailing spaces\n\
+         -- edited\n2:7 trailing spaces\n4:1 syntax error: document marker in quoted scalar\n11:6 trailing spaces\n\
+         -- edited\n8:1 wrong indentation: expected 2 but found 0\n11:6 trailing spaces\n\
+         -- edited\n3:2 syntax error: comma or closing bracket expected\n11:6 trailing spaces\n\
+         -- edited\n3:2 syntax error: comma or closing bracket expected\n3:5 trailing spaces\n11:6 trailing spaces\n\
+         -- edited\n3:5 trailing spaces\n8:1 wrong indentation: expected 2 but found 0\n11:6 trailing spaces\n",
+    ),
+    // They stand in its document, which hides them, and those below are indented as they are.
+    (
+        "---\na: 1\nb:\n  - 2\n---\nc:\n  - 3\nd:\n- 4\n---\ne:\n  - 5 \n",
+        &[
+            (1, 2, b"a: \"1\n", 613, 1),
+            (1, 2, b"a: \"12 \n", 6, 1),
+            (3, 4, b"  - 22\n", 6, 1),
+            (1, 2, b"a: \"12\"\n", 613, 303),
+            (3, 4, b"    - 2\n", 5, 1),
+            (3, 4, b"- 2\n", 5, 1),
+        ],
+        "9:1 wrong indentation: expected 2 but found 0\n12:6 trailing spaces\n\
+         -- edited\n5:1 syntax error: document marker in quoted scalar\n12:6 trailing spaces\n\
+         -- edited\n2:7 trailing spaces\n5:1 syntax error: document marker in quoted scalar\n12:6 trailing spaces\n\
+         -- edited\n2:7 trailing spaces\n5:1 syntax error: document marker in quoted scalar\n12:6 trailing spaces\n\
+         -- edited\n9:1 wrong indentation: expected 2 but found 0\n12:6 trailing spaces\n\
+         -- edited\n7:3 wrong indentation: expected 4 but found 2\n9:1 wrong indentation: expected 4 but found 0\n12:3 wrong indentation: expected 4 but found 2\n12:6 trailing spaces\n\
+         -- edited\n7:3 wrong indentation: expected 0 but found 2\n12:3 wrong indentation: expected 0 but found 2\n12:6 trailing spaces\n",
+    ),
     // Comments silence while a bracket is open, and no more once they go.
     (
         "---\na: 1\n---\nb:  2\nc: 3\n---\nd:  4\n",

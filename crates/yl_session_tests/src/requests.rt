@@ -21,6 +21,9 @@ type Row = (&'static str, &'static str, &'static str, &'static [Change]);
 // Lines whose problems vary in what they say, so that a copy of each asks for memory.
 const BELOW: &str = "---\nk: v\nk: yes\n";
 
+// The same with an indented block.
+const INDENTED: &str = "---\nk:\n  - v\nk: yes\n";
+
 static ROWS: &[Row] = &[
     // A letter in a short line.
     (
@@ -153,6 +156,87 @@ static ROWS: &[Row] = &[
             (1, 2, b"a: \"bc\n", 45, 0),
             (1, 2, b"a: \"bcd\n", 45, 0),
             (2, 3, b"c: de\n", 45, 0),
+        ],
+    ),
+    // One above the first indented block of all, which stands in the document below.
+    (
+        BELOW,
+        "---\na: b\nc: d\n",
+        INDENTED,
+        &[
+            (1, 2, b"a: \"b\n", 60, 5),
+            (1, 2, b"a: \"bc\n", 45, 0),
+            (2, 3, b"c: de\n", 45, 0),
+        ],
+    ),
+    // One that hides it in its own document, where those below are indented as it is.
+    (
+        BELOW,
+        "---\na: b\nc:\n  - d\n",
+        INDENTED,
+        &[
+            (1, 2, b"a: \"b\n", 60, 5),
+            (1, 2, b"a: \"bc\n", 45, 0),
+            (3, 4, b"  - de\n", 45, 0),
+        ],
+    ),
+    // A fault that is none of the scan comes, is typed under and goes, above the first indented block of all.
+    (
+        BELOW,
+        "---\na: b\nc: d\n",
+        INDENTED,
+        &[
+            (1, 2, b"a: *b\n", 60, 5),
+            (2, 3, b"c: de\n", 45, 0),
+            (1, 2, b"a: b\n", 60, 5),
+            (2, 3, b"c: def\n", 14, 0),
+        ],
+    ),
+    // Below it.
+    (
+        INDENTED,
+        "---\na: b\nc: d\n",
+        INDENTED,
+        &[
+            (1, 2, b"a: *b\n", 60, 5),
+            (2, 3, b"c: de\n", 45, 0),
+            (1, 2, b"a: b\n", 60, 5),
+            (2, 3, b"c: def\n", 14, 0),
+        ],
+    ),
+    // Above it in its own document, where those below are indented as it is.
+    (
+        BELOW,
+        "---\na: b\nc:\n  - d\n",
+        INDENTED,
+        &[
+            (1, 2, b"a: *b\n", 60, 5),
+            (3, 4, b"  - de\n", 45, 0),
+            (1, 2, b"a: b\n", 60, 5),
+            (3, 4, b"  - def\n", 20, 0),
+        ],
+    ),
+    // The same where those below have no indented block.
+    (
+        BELOW,
+        "---\na: b\nc:\n  - d\n",
+        BELOW,
+        &[
+            (1, 2, b"a: *b\n", 60, 5),
+            (3, 4, b"  - de\n", 45, 0),
+            (1, 2, b"a: b\n", 60, 5),
+            (3, 4, b"  - def\n", 20, 0),
+        ],
+    ),
+    // No fault: the first indented block of all is indented otherwise, and is no block any more.
+    (
+        BELOW,
+        "---\na: b\nc:\n  - d\n",
+        BELOW,
+        &[
+            (3, 4, b"    - d\n", 45, 0),
+            (2, 4, b"c: d\n", 45, 0),
+            (2, 3, b"c:\n  - d\n", 45, 0),
         ],
     ),
     // A bracket: its fault stands at the marker below, outside of its document's lines.
