@@ -195,8 +195,8 @@ static HIDDEN: &[Hidden] = &[
             (1, 2, b"a: \"12 \n", 6, 1),
             (3, 4, b"  - 22\n", 6, 1),
             (1, 2, b"a: \"12\"\n", 613, 303),
-            (3, 4, b"    - 2\n", 5, 1),
-            (3, 4, b"- 2\n", 5, 1),
+            (3, 4, b"    - 2\n", 5, 2),
+            (3, 4, b"- 2\n", 5, 2),
         ],
         "9:1 wrong indentation: expected 2 but found 0\n12:6 trailing spaces\n\
          -- edited\n5:1 syntax error: document marker in quoted scalar\n12:6 trailing spaces\n\
@@ -204,7 +204,7 @@ static HIDDEN: &[Hidden] = &[
          -- edited\n2:7 trailing spaces\n5:1 syntax error: document marker in quoted scalar\n12:6 trailing spaces\n\
          -- edited\n9:1 wrong indentation: expected 2 but found 0\n12:6 trailing spaces\n\
          -- edited\n7:3 wrong indentation: expected 4 but found 2\n9:1 wrong indentation: expected 4 but found 0\n12:3 wrong indentation: expected 4 but found 2\n12:6 trailing spaces\n\
-         -- edited\n7:3 wrong indentation: expected 0 but found 2\n12:3 wrong indentation: expected 0 but found 2\n12:6 trailing spaces\n",
+         -- edited\n4:1 wrong indentation: expected at least 1\n9:1 wrong indentation: expected 2 but found 0\n12:6 trailing spaces\n",
     ),
     // Comments silence while a bracket is open, and no more once they go.
     (
