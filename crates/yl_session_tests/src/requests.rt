@@ -234,9 +234,9 @@ static ROWS: &[Row] = &[
         "---\na: b\nc:\n  - d\n",
         BELOW,
         &[
-            (3, 4, b"    - d\n", 45, 0),
-            (2, 4, b"c: d\n", 45, 0),
-            (2, 3, b"c:\n  - d\n", 45, 0),
+            (3, 4, b"    - d\n", 65, 0),
+            (2, 4, b"c: d\n", 65, 0),
+            (2, 3, b"c:\n  - d\n", 65, 0),
         ],
     ),
     // A bracket: its fault stands at the marker below, outside of its document's lines.
