@@ -1,6 +1,6 @@
 -- A run goes on by one command.
-use Rattle.std.proofs.Common.{◌≡◌, ℕ, ◌+◌, ◌-◌, ◌^◌, Bool, true, false, List, [], ◌∷◌, ◌++◌, Option, None, Some, IfSome, Result, Ok, Err, inl, inr, refl, sym, ap, ◌∙◌, subst, append-nil, append_assoc, length, arith, length-append}
-use Rattle.std.proofs.KnownBytes.{Appends-nil, Appends-trans}
+use Rattle.std.proofs.Common.{◌≡◌, ℕ, ◌+◌, ◌-◌, ◌^◌, true, false, List, [], ◌∷◌, ◌++◌, Option, None, Some, IfSome, Result, Ok, Err, inl, inr, refl, sym, ap, ◌∙◌, subst, append-nil, append_assoc, arith, length-append}
+use Rattle.std.proofs.KnownBytes.{Appends-trans}
 use Rattle.std.specs.Io.KnownBytes.{Appends, IsAtEnd, prepend_known}
 use Rattle.std.specs.Prelude.{is_err, OnOk, OnErr}
 use Rattle.yl_text.specs.declared.fault.TextFault.{TextFault}
@@ -10,7 +10,7 @@ use Rattle.yl_text.proofs.Computed.{lines_of-is}
 use Rattle.yl_config.specs.declared.config.Config.{Config}
 use Rattle.yl_devices.specs.Written.{AppendsFront}
 use Rattle.yl_session.specs.declared.work.Work.{Work}
-use Rattle.yl_session.specs.Runs.{EditValue, AreAnswers, IsAnswer, Replayed, text_after, text_after_all}
+use Rattle.yl_session.specs.Runs.{EditValue, AreAnswers, IsAnswer, text_after, text_after_all}
 use Rattle.yl_session.specs.State.{SessionValue, Shows}
 use Rattle.yl_lint.specs.TextReport.{report}
 use Rattle.yl_report.specs.Report.{status_of}
@@ -21,7 +21,7 @@ use Rattle.yl_devices.specs.declared.fault.RunFault.{RunFault}
 use Rattle.yl_devices.specs.declared.fault.RunFault.TheVariants as fault
 use Rattle.yl_cli.specs.Run.{Failures, IsCommandFault}
 use Rattle.yl_devices.specs.Text.{without_mark}
-use Rattle.yl_cli.specs.Drive.{AreCommands, WereRead, text_of_run, refused_line, replies, reply, scanned_shown, shown_lines, shown_text, Devices, IsBegun, IsDriven, IsDriveFault}
+use Rattle.yl_cli.specs.Drive.{AreCommands, WereRead, text_of_run, refused_line, replies, reply, scanned_shown, shown_lines, shown_text, IsBegun, IsDriven, IsDriveFault}
 use Rattle.yl_cli.specs.Reading.{TakesCommand, IsReply, IsReplyBegun, SoFar}
 
 AreCommands-push : (xs mid rest : List ℕ) (es : List EditValue) (e : EditValue) → AreCommands xs es mid → next_command mid ≡ Command e rest → AreCommands xs (es ++ e ∷ []) rest

@@ -1,10 +1,10 @@
 -- Laws of lines on a stream.
-use Rattle.std.proofs.Common.{◌≡◌, ◌≢◌, ℕ, zero, suc, ◌+◌, ◌-◌, ◌<◌, ◌≤◌, ◌==◌, Bool, false, List, [], ◌∷◌, ◌++◌, Option, None, Some, IfSome, refl, sym, ap, ◌∙◌, subst, length, append-nil, append_assoc, arith, length-append}
+use Rattle.std.proofs.Common.{◌≡◌, ◌≢◌, ℕ, zero, suc, ◌+◌, ◌-◌, ◌<◌, ◌≤◌, List, [], ◌∷◌, ◌++◌, Option, None, Some, IfSome, refl, sym, ap, ◌∙◌, length, append-nil, append_assoc, arith, length-append}
 use Rattle.std.proofs.lemmas.Bool.{cond-false, ne_eqb}
 use Rattle.std.specs.Option.{option_map}
 use Rattle.std.specs.Io.KnownBytes.{Consumes, IsAtEnd}
 use Rattle.yl_cli.specs.Command.{first_line}
-use Rattle.yl_cli.specs.Reading.{onto, HasBegun, LineBegan, TakesLine, HasNoLine}
+use Rattle.yl_cli.specs.Reading.{onto, LineBegan, TakesLine, HasNoLine}
 
 onto-nil : (o : Option (List ℕ × List ℕ)) → onto [] o ≡ o
 onto-nil None = refl

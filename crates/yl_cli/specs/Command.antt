@@ -1,6 +1,6 @@
 -- Meaning: the commands of an editing run: `replace LINE COLUMN LINE COLUMN BYTES`, a line feed, and then that many bytes, in place of what stands
 -- between the two places. Lines and columns count from 0.
-use Rattle.std.specs.Prelude.{ℕ, zero, suc, Bool, ◌&&◌, ◌==◌, nat_le, if◌then◌else◌, List, [], ◌∷◌, ◌+◌, ◌*◌, ◌-◌, length, take, drop, codes, bytes_eq, Option, Some, None}
+use Rattle.std.specs.Prelude.{ℕ, zero, suc, ◌&&◌, ◌==◌, nat_le, if◌then◌else◌, List, [], ◌∷◌, ◌+◌, ◌*◌, ◌-◌, length, take, drop, codes, bytes_eq, Option, Some, None}
 use Rattle.std.specs.List.{slice_split}
 use Rattle.std.specs.Option.{option_map}
 use Rattle.std.specs.Char.{is_ascii_digit}

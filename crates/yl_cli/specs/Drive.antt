@@ -15,7 +15,7 @@ use Rattle.yl_devices.specs.declared.fault.RunFault.{RunFault}
 use Rattle.yl_devices.specs.declared.fault.RunFault.TheVariants as fault
 use Rattle.yl_devices.specs.Text.{without_mark, IsBadText}
 use Rattle.yl_cli.specs.Run.{Failures}
-use Rattle.yl_cli.specs.Command.{Next, Command, Bad, next_command}
+use Rattle.yl_cli.specs.Command.{Command, Bad, next_command}
 
 -- ---- what is read
 
