@@ -261,8 +261,9 @@ impl<S: LineStore> Session<S> {
         self.put(lines.first, lines.end, lines.bytes.as_slice())
     }
 
-    /// Puts the bytes in place of what stands between two places. Where this is refused nothing changes. An
-    /// edit of nothing, no bytes from a place to itself, takes no memory.
+    /// Puts the bytes in place of what stands between two places, whose lines and columns count from 0, columns in
+    /// characters. It is refused for the first cause that stands, `NotUtf8`, `Range` or `TooLarge`, or for `Memory`,
+    /// and then nothing changes. An edit of nothing, no bytes from a place to itself, takes no memory.
     pub fn edit(&mut self, from: Pos, to: Pos, bytes: &[u8]) -> Result<Work, TextFault>
         ensures answer { IsAnswer self.old.rows from to bytes.now result }
         ensures done { OnOk result (Shows self.old.config (edited_text self.old.rows from to bytes.now) self.new) }
