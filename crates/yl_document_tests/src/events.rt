@@ -1,115 +1,13 @@
 //! The events of documents, whole and line by line.
-use crate::asked::{Question, asked, parsed, refuse_each};
+use crate::asked::{Question, parsed, refuse_each};
 use crate::by_line::fed_shown;
-use crate::lexemes::{DOUBLE, Heap, PLAIN, Spot, lexemes, placed};
+use crate::lexemes::{Heap, PLAIN, Spot, lexemes, placed};
 use refusing::Refusing;
 use std::alloc::{AllocError, Global};
 use std::test::Fail;
 use yl_events::{Parser, one_derivation, one_fault, told_documents};
 use yl_lexeme::Kind;
-
-// Texts, their lexemes, and their events or the fault. Of an event there is what it is or its value, where it
-// begins, its anchor and where that stands, and ! for a tag.
-static DOCUMENTS: &[(&str, &[Spot], &str)] = &[
-    (
-        "- a\n-\n",
-        &[
-            (0, Kind::Entry, 0, 1, ""),
-            (0, PLAIN, 2, 3, "a"),
-            (1, Kind::Entry, 0, 1, ""),
-        ],
-        "+document +sequence@0:0 =a@0:2 (empty) -sequence -document",
-    ),
-    // A key ends an indentless sequence.
-    ("a:\n- 1\n- 2\nb:\n", INDENTLESS, EVENTS_OF_INDENTLESS),
-    // A pair in a flow sequence is a mapping.
-    (
-        "[a: 1, b]\n",
-        &[
-            (0, Kind::SeqOpen, 0, 1, ""),
-            (0, PLAIN, 1, 2, "a"),
-            (0, Kind::Value, 2, 3, ""),
-            (0, PLAIN, 4, 5, "1"),
-            (0, Kind::Comma, 5, 6, ""),
-            (0, PLAIN, 7, 8, "b"),
-            (0, Kind::SeqClose, 8, 9, ""),
-        ],
-        "+document +sequence@0:0 +mapping@0:1 =a@0:1 =1@0:4 -mapping =b@0:7 -sequence -document",
-    ),
-    // A value belongs to the key before it.
-    (
-        "? a\n: b\n",
-        &[
-            (0, Kind::Key, 0, 1, ""),
-            (0, PLAIN, 2, 3, "a"),
-            (1, Kind::Value, 0, 1, ""),
-            (1, PLAIN, 2, 3, "b"),
-        ],
-        "+document +mapping@0:0 =a@0:2 =b@1:2 -mapping -document",
-    ),
-    // Properties in front of a key are the key's.
-    (
-        "!a &b c: *d\n",
-        &[
-            (0, Kind::Tag, 0, 2, ""),
-            (0, Kind::Anchor, 3, 5, "b"),
-            (0, PLAIN, 6, 7, "c"),
-            (0, Kind::Value, 7, 8, ""),
-            (0, Kind::Alias, 9, 11, "d"),
-        ],
-        "+document +mapping@0:0 =c@0:6&b@0:3! *d@0:9 -mapping -document",
-    ),
-    (
-        "--- &x &y a\n",
-        &[
-            (0, Kind::DocStart, 0, 3, ""),
-            (0, Kind::Anchor, 4, 6, "x"),
-            (0, Kind::Anchor, 7, 9, "y"),
-            (0, PLAIN, 10, 11, "a"),
-        ],
-        "PropertiesGivenTwice at 2",
-    ),
-    (
-        "%YAML 1.2\na: 1\n",
-        &[
-            (0, Kind::Directive, 0, 9, "%YAML 1.2"),
-            (1, PLAIN, 0, 1, "a"),
-            (1, Kind::Value, 1, 2, ""),
-            (1, PLAIN, 3, 4, "1"),
-        ],
-        "DocumentStartExpected at 1",
-    ),
-    ("a: 1\n- b\n", ENTRY_BEHIND_A_PAIR, FAULT_BEHIND_A_PAIR),
-    (
-        "\"a\":1\n",
-        &[(0, DOUBLE, 0, 3, "a"), (0, PLAIN, 3, 5, ":1")],
-        "SecondNode at 1",
-    ),
-    (
-        "a:\n- \"1\"\n \"b\"\n",
-        &[
-            (0, PLAIN, 0, 1, "a"),
-            (0, Kind::Value, 1, 2, ""),
-            (1, Kind::Entry, 0, 1, ""),
-            (1, DOUBLE, 2, 5, "1"),
-            (2, DOUBLE, 1, 4, "b"),
-        ],
-        "EntryOrEndOfSequenceExpected at 4",
-    ),
-    // The fault stands behind the last lexeme.
-    (
-        "a: [1, 2\n",
-        &[
-            (0, PLAIN, 0, 1, "a"),
-            (0, Kind::Value, 1, 2, ""),
-            (0, Kind::SeqOpen, 3, 4, ""),
-            (0, PLAIN, 4, 5, "1"),
-            (0, Kind::Comma, 5, 6, ""),
-            (0, PLAIN, 7, 8, "2"),
-        ],
-        "CommaOrBracketExpected at 6",
-    ),
-];
+use yl_tree::code_point_order;
 
 // a:
 // - 1
@@ -140,16 +38,6 @@ const ENTRY_BEHIND_A_PAIR: &[Spot] = &[
 ];
 
 const FAULT_BEHIND_A_PAIR: &str = "KeyOrEndOfMappingExpected at 3";
-
-#[test]
-fn events_and_faults_of_documents(rt: HostRuntime) -> Result<(), Fail> {
-    let heap = Refusing::new(rt.alloc());
-    for (text, spots, wanted) in DOCUMENTS {
-        let shown = asked(rt.alloc(), &heap, Question::Events, spots, 0)?;
-        assert_eq!(rt; shown.as_str(), *wanted, "of {text}");
-    }
-    Ok(())
-}
 
 // What is asked of which lexemes while each growth is refused in turn, more growths than so many, and the answer
 // where none is refused.
@@ -311,6 +199,7 @@ fn deep(rt: HostRuntime) -> Result<(), Fail> {
 // Laws of the definitions, for any caller.
 #[test]
 fn laws(_rt: HostRuntime) {
+    code_point_order();
     one_derivation();
     one_fault();
     told_documents();

@@ -9,8 +9,6 @@ pub type Heap<'a> = &'a Refusing<Global>;
 
 pub const PLAIN: Kind = Kind::Scalar(Style::Plain);
 
-pub const DOUBLE: Kind = Kind::Scalar(Style::Double);
-
 /// A lexeme in one line: the line, the kind, the columns from and to, the value. Lines and columns count from 0,
 /// columns in characters; the column to is the one behind the lexeme.
 pub type Spot = (u32, Kind, u32, u32, &'static str);

@@ -1,6 +1,5 @@
-//! Writers that fail, and memory that is refused.
+//! Writers that fail.
 use crate::views::{PrintedView, shown, write_view};
-use refusing::Refusing;
 use std::alloc::Global;
 use std::io;
 use std::io::{ErrorKind, Write};
@@ -12,10 +11,6 @@ const VIEWS: [PrintedView; 3] = [
     PrintedView::Events,
     PrintedView::Lines,
 ];
-
-const TEXT: &str = "a: &x [1, 'b\n  c', |] # d\n";
-
-const GOOD: &str = "a: &x [1, 'b\n  c', é] # d\n---\n- *x\n- !t k: |\n   v\n";
 
 /// A writer over memory, which has room for so many bytes, and then fails.
 #[derive(Drop)]
@@ -64,28 +59,6 @@ fn a_writer_fails(rt: HostRuntime) -> Result<(), Fail> {
             assert_eq!(rt; answer, Err(DumpFault::Write));
             assert_eq!(rt; bytes.len(), room);
             assert!(rt; whole.as_bytes().starts_with(&bytes));
-        }
-    }
-    Ok(())
-}
-
-#[test]
-fn each_growth_is_refused(rt: HostRuntime) -> Result<(), Fail> {
-    for view in VIEWS {
-        for text in [TEXT, GOOD] {
-            let heap = Refusing::new(rt.alloc());
-            for n in 1..u64::MAX {
-                let mut bytes = Vec::new(rt.alloc());
-                heap.refuse(n);
-                let answer = write_view(&heap, view, text, &mut bytes);
-                if heap.is_armed() {
-                    heap.refuse(0);
-                    assert!(rt; answer.is_ok());
-                    assert!(rt; n > 5, "{n} growths");
-                    break;
-                }
-                assert_eq!(rt; answer, Err(DumpFault::Memory));
-            }
         }
     }
     Ok(())

@@ -3,26 +3,15 @@
 mod documents;
 mod growths;
 mod large;
-mod texts;
 
 use crate::lexemes::{placed, scanned};
 use std::alloc::{AllocError, Allocator, Global};
 use std::test::Fail;
 use yl_events::documents;
-use yl_indentation::{
-    Fact, IndentSequences, IndentationOptions, Measure, Spaces, indent_facts, indent_problems,
-};
+use yl_indentation::{Fact, IndentationOptions, Measure, indent_facts, indent_problems};
 use yl_lexeme::LexemeAtLine;
 use yl_marks::mark;
 use yl_text::{Row, split};
-
-/// Options of these values.
-fn options(spaces: Spaces, indent_sequences: IndentSequences) -> IndentationOptions {
-    IndentationOptions {
-        spaces,
-        indent_sequences,
-    }
-}
 
 /// The leading spaces of each row.
 fn indentations<A: Allocator>(alloc: Global, rows: &[Row<A>]) -> Result<Vec<u32>, AllocError> {
@@ -97,14 +86,4 @@ fn problems_of(
         before = before.and_later(Measure::of(facts));
     }
     Ok(shown)
-}
-
-/// The problems of a text.
-fn problems(
-    alloc: Global,
-    text: &str,
-    options: &IndentationOptions,
-) -> Result<String<Global>, Fail> {
-    let facts = text_facts(alloc, text, usize::MAX)?;
-    Ok(problems_of(alloc, &facts, options)?)
 }

@@ -1,11 +1,9 @@
 //! The rules on lexemes: what they find in texts of one document.
 
-mod growths;
+mod counted;
 mod keys;
 mod large;
 mod options;
-mod spaces;
-mod words;
 
 use crate::lexemes::{placed, scanned};
 use std::alloc::{AllocError, Allocator, Global};

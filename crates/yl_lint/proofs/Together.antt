@@ -1,5 +1,5 @@
 -- What is found in a text, and its report, from their parts.
-use Rattle.std.proofs.Common.{◌≡◌, ℕ, Bool, false, List, [], ◌++◌, append_assoc, append-nil, refl, ap, sym, ◌∙◌}
+use Rattle.std.proofs.Common.{◌≡◌, ℕ, Bool, List, ◌++◌, append_assoc, refl}
 use Rattle.yl_text.specs.declared.position.Pos.{Pos}
 use Rattle.yl_text.specs.declared.finding.RuleId.{RuleId}
 use Rattle.yl_text.specs.Finding.{FindingValue}
@@ -9,13 +9,11 @@ use Rattle.yl_indentation.specs.declared.options.IndentationOptions.{Indentation
 use Rattle.yl_indentation.specs.Measures.{empty_measure, measure_of}
 use Rattle.yl_rules.specs.Levels.{LevelTable}
 use Rattle.yl_report.specs.Directive.{disables_file, is_silenced}
-use Rattle.yl_report.specs.Heard.{nothing_silenced}
-use Rattle.yl_report.specs.Report.{ProblemValue, report_of}
+use Rattle.yl_report.specs.Report.{report_of}
 use Rattle.yl_config.specs.declared.config.Config.{Config}
 use Rattle.yl_config.specs.Config.{levels_of, options_of}
 use Rattle.yl_sections.specs.Kept.{KeptValue}
 use Rattle.yl_lint.specs.TextReport.{shown, comments_in_sections, fault_in_sections, findings_in_sections, facts_in_sections, found_of_kept, report_of_kept}
-use Rattle.yl_lint.specs.Unsilenced.{unsilenced_of_kept}
 
 pub found_together : (config : Config) (in_lines with_fault all : List FindingValue) (end : Pos) (ks seen : List KeptValue) (o : IndentationOptions) (whole : Measure)
     → seen ≡ shown ks → with_fault ≡ in_lines ++ fault_in_sections 0 end ks → o ≡ (options_of config).indentation → whole ≡ measure_of (facts_in_sections seen)
@@ -29,17 +27,3 @@ pub put_together : (config : Config) (in_lines all : List FindingValue) (first :
     → all ≡ found_of_kept config in_lines end ks → levels ≡ levels_of config → report_of levels file silenced all ≡ report_of_kept config in_lines first end ks
 unfolding report_of_kept
 put_together config in_lines all first end ks seen levels cs file silenced is_seen is_comments is_file is_lines is_all is_levels = rw (is_levels, is_file, is_lines, is_all, is_comments, is_seen) refl
-
-pub put_unsilenced : (config : Config) (in_lines all : List FindingValue) (end : Pos) (ks : List KeptValue) (levels : LevelTable) (file : Bool) (silenced : RuleId → ℕ → Bool)
-    → file ≡ false → silenced ≡ nothing_silenced → all ≡ found_of_kept config in_lines end ks → levels ≡ levels_of config → report_of levels file silenced all ≡ unsilenced_of_kept config in_lines end ks
-unfolding unsilenced_of_kept
-put_unsilenced config in_lines all end ks levels file silenced is_file is_lines is_all is_levels = rw (is_levels, is_file, is_lines, is_all) refl
-
-pub put_parts : (config : Config) (in_lines rest : List FindingValue) (end : Pos) (ks : List KeptValue) → rest ≡ found_of_kept config [] end ks → found_of_kept config in_lines end [] ++ rest ≡ found_of_kept config in_lines end ks
-put_parts config in_lines rest end ks is =
-    ap (λ (fs : List FindingValue). found_of_kept config in_lines end [] ++ fs) is ∙ ap (λ (fs : List FindingValue). fs ++ found_of_kept config [] end ks) (append-nil in_lines)
-
-pub lines_alone : (config : Config) (in_lines : List FindingValue) (end : Pos) (levels : LevelTable) (problems : List ProblemValue) → levels ≡ levels_of config → problems ≡ unsilenced_of_kept config in_lines end []
-    → problems ≡ report_of levels false nothing_silenced (found_of_kept config in_lines end [])
-unfolding unsilenced_of_kept
-lines_alone config in_lines end levels problems same is = is ∙ ap (λ (l : LevelTable). report_of l false nothing_silenced (found_of_kept config in_lines end [])) (sym same)

@@ -19,10 +19,6 @@ unsilenced_of_kept config in_lines end ks = report_of (levels_of config) false n
 abbrev pub unsilenced_by : Config → List RowValue → List KeptValue → List ProblemValue
 unsilenced_by config rows ks = unsilenced_of_kept config (findings_in_lines (options_of config) rows) (end_of_lines rows) ks
 
--- of what the rules on lines find alone
-abbrev pub reported_in_lines : Config → List RowValue → List ProblemValue
-reported_in_lines config rows = unsilenced_by config rows []
-
 -- the report is what the comments leave of that
 abbrev pub IsHeardOfText : Type 0
 IsHeardOfText = (config : Config) (rows : List RowValue) (ks : List KeptValue)

@@ -1,9 +1,7 @@
 //! The report of a text, from what is kept of its sections.
-ghost use Rattle.std.specs.Prelude.{◌≡◌, ◌≤◌, ◌++◌, [], List, length, map, take, IfOk, OnOk};
+ghost use Rattle.std.specs.Prelude.{◌≡◌, ◌≤◌, ◌++◌, length, map, take, IfOk, OnOk};
 ghost use Rattle.yl_indentation.specs.Measures.{empty_measure, measure_of};
 ghost use Rattle.yl_lint.specs.TextReport.{facts_in_sections, findings_in_section, findings_in_sections, found_of_kept, report_of_kept, shown};
-ghost use Rattle.yl_lint.specs.Unsilenced.{unsilenced_of_kept};
-ghost use Rattle.yl_text.specs.Finding.{FindingValue};
 
 use crate::comments::comments_in_sections;
 use crate::fault::push_fault;
@@ -11,7 +9,7 @@ use crate::moving::{line_below, push_moved};
 use std::alloc::{AllocError, Allocator};
 use yl_config::Config;
 use yl_indentation::{IndentationOptions, Measure, indent_problems};
-use yl_report::{Problem, Silences, arrange, arrange_with};
+use yl_report::{Problem, Silences, arrange};
 use yl_sections::Kept;
 use yl_text::{Finding, Pos};
 
@@ -111,36 +109,4 @@ pub fn report_of_kept<A: Allocator + Copy>(
     let silences = Silences::read(alloc, first, &comments)?;
     let found = found_of_kept(alloc, config, found, end, kept)?;
     arrange(alloc, found, config.levels(), &silences)
-}
-
-/// The same where these are the problems of the lines alone, as if no comment silenced anything.
-pub fn report_of_parts<A: Allocator + Copy>(
-    alloc: A,
-    config: &Config,
-    in_lines: &[Problem<A>],
-    first: &str,
-    end: Pos,
-    kept: &[&Kept<A>],
-) -> Result<Vec<Problem<A>, A>, AllocError>
-    ensures { (found : List FindingValue) → in_lines.now ≡ unsilenced_of_kept config.now found end []
-        → IfOk result (λ problems. problems.items ≡ report_of_kept config.now found first.now end (map (λ k. k.now) kept.now)) }
-{
-    let comments = comments_in_sections(alloc, &kept[..count_shown(kept)])?;
-    let silences = Silences::read(alloc, first, &comments)?;
-    let found = found_of_kept(alloc, config, Vec::new(alloc), end, kept)?;
-    arrange_with(alloc, in_lines, found, config.levels(), &silences)
-}
-
-/// The same as if no comment silenced anything.
-pub fn unsilenced_of_kept<A: Allocator + Copy>(
-    alloc: A,
-    config: &Config,
-    found: Vec<Finding<A>, A>,
-    end: Pos,
-    kept: &[&Kept<A>],
-) -> Result<Vec<Problem<A>, A>, AllocError>
-    ensures { IfOk result (λ problems. problems.items ≡ unsilenced_of_kept config.now found.items end (map (λ k. k.now) kept.now)) }
-{
-    let found = found_of_kept(alloc, config, found, end, kept)?;
-    arrange(alloc, found, config.levels(), &Silences::none(alloc))
 }

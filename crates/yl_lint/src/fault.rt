@@ -35,7 +35,7 @@ fn place_after<A: Allocator>(line: u32, end: Pos, later: &[&Kept<A>]) -> Pos
 }
 
 /// The problem of the fault of a section of `rows` rows that begins at `line`, before these sections.
-fn finding_of_fault<A: Allocator + Copy>(
+pub fn finding_of_fault<A: Allocator + Copy>(
     alloc: A,
     line: u32,
     rows: u32,

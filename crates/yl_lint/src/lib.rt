@@ -4,8 +4,7 @@
 //! on lines find: `report_of_lines`. Sections after the first with a fault are hidden.
 //!
 //! For a session, which keeps the records and what is kept of the sections, there are two of the steps by themselves: `kept_of_records` and
-//! `report_with_kept`. It can ask too what would be reported if no comment silenced anything: `unsilenced_with_kept`. Where it knows what is
-//! reported of the lines alone (`report_in_lines`), the rest is put to that: `report_with_lines`.
+//! `report_with_kept`, and what finds problems in lines, in a section, and by its fault.
 #![tactic(auto)]
 
 mod assembling;
@@ -19,11 +18,9 @@ mod moving;
 
 pub use assembling::{push_section, report_of_kept};
 pub use comments::push_comments;
+pub use fault::finding_of_fault;
 pub use kept::kept_of_records;
 pub use laws::{heard_of_text, indentation_looks_back, one_report};
-pub use lines::find_in_lines;
-pub use lint::{
-    report_in_lines, report_of_lines, report_of_text, report_with_kept, report_with_lines,
-    unsilenced_with_kept,
-};
+pub use lines::{end_of, find_in_lines, first_text};
+pub use lint::{report_of_lines, report_of_text, report_with_kept};
 pub use moving::{line_below, push_moved};

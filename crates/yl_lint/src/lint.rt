@@ -5,9 +5,8 @@ ghost use Rattle.yl_text.specs.Lines.{lines_of};
 ghost use Rattle.yl_text.specs.Store.{AreLines};
 ghost use Rattle.yl_lint.specs.Left.{kept_left, lines_left};
 ghost use Rattle.yl_lint.specs.TextReport.{document_total, report, report_by, report_of_kept};
-ghost use Rattle.yl_lint.specs.Unsilenced.{reported_in_lines, unsilenced_by};
 
-use crate::assembling::{report_of_kept, report_of_parts, unsilenced_of_kept};
+use crate::assembling::report_of_kept;
 use crate::kept::{SectionReader, kept_of_lines, lent};
 use crate::lines::{LineReader, end_of, find_in_lines, first_text};
 use std::alloc::{AllocError, Allocator};
@@ -29,49 +28,6 @@ pub fn report_with_kept<L: Lines>(
 {
     let found = find_in_lines(alloc, config, lines)?;
     report_of_kept(alloc, config, found, first_text(lines), end_of(lines), kept)
-}
-
-/// The same where `in_lines` is what is reported of the lines alone, as if no comment silenced anything: no line is read again but the first
-/// and the last.
-pub fn report_with_lines<L: Lines>(
-    alloc: L::Alloc,
-    config: &Config,
-    lines: &L,
-    in_lines: &[Problem<L::Alloc>],
-    kept: &[&Kept<L::Alloc>],
-) -> Result<Vec<Problem<L::Alloc>, L::Alloc>, AllocError>
-    requires lines { AreLines (L.rows lines.now) }
-    requires in_lines { in_lines.now ≡ reported_in_lines config.now (L.rows lines.now) }
-    ensures { IfOk result (λ problems. problems.items ≡ report_by config.now (L.rows lines.now) (map (λ k. k.now) kept.now)) }
-{
-    let (first, end) = (first_text(lines), end_of(lines));
-    report_of_parts(alloc, config, in_lines, first, end, kept)
-}
-
-/// The report of what the rules on lines find in these lines, as if no comment silenced anything. The only error is out of memory.
-pub fn report_in_lines<L: Lines>(
-    alloc: L::Alloc,
-    config: &Config,
-    lines: &L,
-) -> Result<Vec<Problem<L::Alloc>, L::Alloc>, AllocError>
-    requires lines { AreLines (L.rows lines.now) }
-    ensures { IfOk result (λ problems. problems.items ≡ reported_in_lines config.now (L.rows lines.now)) }
-{
-    unsilenced_with_kept(alloc, config, lines, &[])
-}
-
-/// The same as if no comment silenced anything.
-pub fn unsilenced_with_kept<L: Lines>(
-    alloc: L::Alloc,
-    config: &Config,
-    lines: &L,
-    kept: &[&Kept<L::Alloc>],
-) -> Result<Vec<Problem<L::Alloc>, L::Alloc>, AllocError>
-    requires lines { AreLines (L.rows lines.now) }
-    ensures { IfOk result (λ problems. problems.items ≡ unsilenced_by config.now (L.rows lines.now) (map (λ k. k.now) kept.now)) }
-{
-    let found = find_in_lines(alloc, config, lines)?;
-    unsilenced_of_kept(alloc, config, found, end_of(lines), kept)
 }
 
 /// The report of the lines of a text under a configuration, in order. Counts its lines and its documents in the meter. The only error is

@@ -40,11 +40,11 @@ all_insert : (P : FindingValue → Type 0) (x : FindingValue) (ys : List Finding
 all_insert P x [] p h = (p, tt)
 all_insert P x (y ∷ ys) p h = all_by P (finding_order x y) x y ys (insert_once x ys) p h.0 h.1 (all_insert P x ys p h.1)
 
-all_sorted : (P : FindingValue → Type 0) (xs : List FindingValue) → AllByRecursion P xs → AllByRecursion P (sorted_once xs)
+pub all_sorted : (P : FindingValue → Type 0) (xs : List FindingValue) → AllByRecursion P xs → AllByRecursion P (sorted_once xs)
 all_sorted P [] h = tt
 all_sorted P (x ∷ xs) h = all_insert P x (sorted_once xs) h.0 (all_sorted P xs h.1)
 
-less_line : (x y : FindingValue) → x.line < y.line → finding_order x y ≡ Less
+pub less_line : (x y : FindingValue) → x.line < y.line → finding_order x y ≡ Less
 less_line x y l = ap (λ (o : Ordering). ordering_then o (order_in_line x y)) (sym (nat_cmp_is x.line y.line Less l))
 
 above : (n : ℕ) (x : FindingValue) (ys : List FindingValue) → x.line ≤ n → AllByRecursion (λ f. n < f.line) ys → AllByRecursion (λ y. finding_order x y ≡ Less) ys

@@ -1,6 +1,7 @@
 -- What follows of optional values, and of one report and its parts.
 use Rattle.std.proofs.Common.{◌≡◌, ◌≤◌, ℕ, Bool, length, true, false, List, Option, Some, None, refl, ap, sym, subst, ◌∙◌, arith}
 use Rattle.std.proofs.lemmas.List.{map-append}
+use Rattle.std.proofs.Math.Bool.{beq}
 use Rattle.std.specs.List.{splice}
 use Rattle.std.specs.Option.{SomeIff}
 use Rattle.std.specs.Prelude.{not, IfSome, IfOk, Result, Ok, Err, ◌++◌, map}
@@ -26,6 +27,16 @@ use Rattle.yl_patch.proofs.Sections.{sections_moved}
 pub is_so : (b : Bool) → not b ≡ false → b ≡ true
 is_so true h = refl
 is_so false h = sym h
+
+-- no equation of both
+pub never : {X : Type 0} → false ≡ true → X
+never e = absurd (cc)
+
+pub same_bool : (a b : Bool) → not (beq a b) ≡ false → a ≡ b
+same_bool true true e = refl
+same_bool false false e = refl
+same_bool true false e = never (sym e)
+same_bool false true e = never (sym e)
 
 pub in_some : {X : Type 0} (P : X → Type 0) (o : Option X) (x : X) → o ≡ Some x → IfSome o P → P x
 in_some {X = X} P o x e h = subst (λ (v : Option X). IfSome v P) e h

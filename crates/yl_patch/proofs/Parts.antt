@@ -19,11 +19,11 @@ use Rattle.yl_rejudge.specs.Places.{rows_kept}
 use Rattle.yl_lint.specs.Onward.{onward_in_sections}
 use Rattle.yl_lint.specs.TextReport.{moved, findings_from}
 use Rattle.yl_patch.specs.Plain.{IsPlain}
-use Rattle.yl_patch.specs.Settled.{AreFoundAlike}
+use Rattle.yl_parting.specs.Parts.{is_upto, shifted}
+use Rattle.yl_patch.specs.Seen.{AreFoundAlike}
 use Rattle.yl_patch.proofs.Arranged.{AreSame, arranged, arranged_same, arranged_apart, arranged_moved, below, lower, in_front, in_behind, in_either}
 use Rattle.yl_patch.proofs.Lines.{Between, between_both, empty_lines_between, end_of_file_between, first_apart, if_none, is_seam, last_apart, new_lines_between, rows_apart, rows_between, runs_apart}
 use Rattle.yl_patch.proofs.Sections.{between_wider, between_moved, measured, sections_apart, sections_between}
-use Rattle.yl_patch.specs.Patched.{is_upto, patched, shifted}
 
 -- ---- what is found in a part of a text
 
@@ -176,6 +176,10 @@ module _ (levels : LevelTable) (s : RuleId → ℕ → Bool) (o : RuleOptions) (
       ∙ ap (λ (ps : List ProblemValue). arranged levels s first_part ++ ps) (arranged_moved levels s (length xs) second_part (lines_above 0 (length ys + rows_kept ls) second_part second_between)))))
 
 -- ---- a list of problems, patched
+
+-- with these in place of those from one on, before another, counted from 0; those behind them are shifted
+abbrev pub patched : ℕ → ℕ → List ProblemValue → ℕ → ℕ → List ProblemValue → List ProblemValue
+patched from end new up down problems = take from problems ++ (new ++ map (shifted up down) (drop end problems))
 
 pub prefix_by : (p : ProblemValue → Bool) (xs ys : List ProblemValue) → AllByRecursion (λ x. p x ≡ true) xs → AllByRecursion (λ x. p x ≡ false) ys → prefix_len p (xs ++ ys) ≡ length xs
 prefix_by p [] [] h k = refl

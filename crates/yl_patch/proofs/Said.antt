@@ -1,56 +1,71 @@
--- What the comments of all sections say, where none has a fault, and what they leave where there are none.
-use Rattle.std.proofs.Common.{◌≡◌, ℕ, ◌-◌, ◌<◌, ◌≤◌, Bool, true, false, List, [], ◌∷◌, Option, Some, None, length, take, drop, refl, cond, ap, sym, subst, ◌∙◌, arith}
-use Rattle.std.specs.Prelude.{◌||◌}
-use Rattle.std.specs.List.{AllByRecursion, filter}
-use Rattle.std.proofs.lemmas.List.{take_all}
-use Rattle.yl_text.specs.Lines.{RowValue}
-use Rattle.yl_lexeme.specs.Lexeme.{PlacedCommentValue}
-use Rattle.yl_config.specs.declared.config.Config.{Config}
+-- Which sections are shown, and what their comments say.
+use Rattle.std.proofs.Common.{◌≡◌, ℕ, zero, suc, ◌+◌, ◌-◌, ◌<◌, ◌≤◌, Bool, true, false, List, [], ◌∷◌, ◌++◌, Option, Some, None, length, take, drop, get_or, refl, ap, sym, subst, ◌∙◌, arith, rules, ⊎_elim}
+use Rattle.std.specs.Prelude.{is_some}
+use Rattle.std.specs.List.{AllByRecursion, slice_get}
+use Rattle.std.proofs.lemmas.List.{same_lists, places, take_all, take-append-drop, length-take-le}
+use Rattle.std.proofs.lemmas.Option.{slice_get_cases, slice_get_within}
 use Rattle.yl_sections.specs.Kept.{KeptValue, SectionFaultValue}
-use Rattle.yl_report.specs.Directive.{disables_file, is_silenced}
-use Rattle.yl_report.specs.Heard.{heard, is_heard}
-use Rattle.yl_report.specs.Report.{ProblemValue, is_syntax}
-use Rattle.yl_lint.specs.TextReport.{comments_in_sections, first_text, report_by, shown, unless_fault}
-use Rattle.yl_lint.specs.Unsilenced.{IsHeardOfText, unsilenced_by}
-use Rattle.yl_patch.specs.Plain.{IsSilencingOf, IsSilent, IsSound, IsSoundUpto}
+use Rattle.yl_rejudge.specs.Places.{rows_kept}
+use Rattle.yl_rejudge.proofs.KeptRows.{got}
+use Rattle.yl_lint.specs.TextReport.{comments_in_sections, shown, unless_fault}
+use Rattle.yl_patch.specs.Plain.{IsFirstFault, IsSilencingOf, IsSound}
 use Rattle.yl_patch.specs.declared.silencing.Silencing.{Silencing}
-use Rattle.yl_patch.proofs.Edited.{comments_same}
-use Rattle.yl_patch.proofs.Sections.{no_comments}
-use Rattle.yl_patch.proofs.Settled.{sound_settled}
-use Rattle.yl_patch.proofs.SilencingSections.{comments_known, none_before}
+use Rattle.yl_patch.proofs.SilencingSections.{comments_known}
+use Rattle.yl_patch.proofs.Walks.{one_at, one_more, rows_both}
 
-pub all_said : (ks : List KeptValue) (s : Silencing) (n stop : ℕ) → IsSilencingOf ks s → IsSoundUpto ks n → n ≡ length ks → stop ≤ length ks → (stop < length ks → s.end ≤ stop)
-    → comments_in_sections s.row (take (stop - s.from) (drop s.from ks)) ≡ comments_in_sections 0 (shown ks)
-all_said ks s n stop known sound e l m =
-    let whole = take_all (length ks) ks (omega arith) in
-    let all_sound = subst (λ (xs : List KeptValue). AllByRecursion IsSound xs) (ap (λ k. take k ks) e ∙ whole) sound.sound in
-    comments_known ks s (length ks) stop known (omega arith) l m
-    ∙ (ap (comments_in_sections 0) whole ∙ sym (comments_same 0 ks ∙ ap (comments_in_sections 0) (sound_settled ks all_sound)))
+-- ---- the sections that are shown
 
--- ---- no comments
+shown_unless : (o : Option SectionFaultValue) (ks : List KeptValue) → is_some o ≡ true → unless_fault o ks ≡ []
+shown_unless None ks e = absurd (cc)
+shown_unless (Some f) ks e = refl
 
-silent_unless : (o : Option SectionFaultValue) (ks : List KeptValue) → AllByRecursion IsSilent ks → AllByRecursion IsSilent (unless_fault o ks)
-silent_unless None ks a = a
-silent_unless (Some f) ks a = tt
+shown_sound : (xs ys : List KeptValue) → AllByRecursion IsSound xs → shown (xs ++ ys) ≡ xs ++ shown ys
+shown_sound [] ys h = refl
+shown_sound (x ∷ xs) ys h = ap (λ (f : Option SectionFaultValue). x ∷ unless_fault f (shown (xs ++ ys))) h.0 ∙ ap (λ (zs : List KeptValue). x ∷ zs) (shown_sound xs ys h.1)
 
-silent_shown : (ks : List KeptValue) → AllByRecursion IsSilent ks → AllByRecursion IsSilent (shown ks)
-silent_shown [] a = tt
-silent_shown (k ∷ ks) a = (a.0, silent_unless k.fault (shown ks) (silent_shown ks a.1))
+shown_upto : (ks : List KeptValue) (n : ℕ) → AllByRecursion IsSound (take n ks) → shown ks ≡ take n ks ++ shown (drop n ks)
+shown_upto ks n h = ap shown (sym (take-append-drop n ks)) ∙ shown_sound (take n ks) (drop n ks) h
 
-passes : (b : Bool) (p : ProblemValue) (ps : List ProblemValue) → cond (b || true) (p ∷ ps) ps ≡ p ∷ ps
-passes true p ps = refl
-passes false p ps = refl
+-- up to the one with a fault
+shown_one : (ks : List KeptValue) (n : ℕ) (k : KeptValue) → AllByRecursion IsSound (take n ks) → n < length ks → k ≡ get_or ks n k → is_some k.fault ≡ true → shown ks ≡ take n ks ++ k ∷ []
+shown_one ks n k h l is some =
+    shown_upto ks n h
+    ∙ (ap (λ (xs : List KeptValue). take n ks ++ shown xs) (one_at ks n k l is) ∙ ap (λ (xs : List KeptValue). take n ks ++ k ∷ xs) (shown_unless k.fault (shown (drop (n + 1) ks)) some))
 
-all_heard : (ps : List ProblemValue) → filter (is_heard (is_silenced [])) ps ≡ ps
-all_heard [] = refl
-all_heard (p ∷ ps) = ap (λ (qs : List ProblemValue). cond (is_syntax p.rule || true) (p ∷ qs) qs) (all_heard ps) ∙ passes (is_syntax p.rule) p ps
+pub shown_first : (ks : List KeptValue) (n row : ℕ) (k : KeptValue) → IsFirstFault ks n row → slice_get ks n ≡ Some k → take (n + 1) ks ≡ shown ks
+shown_first ks n row k first e =
+    let l = slice_get_within ks n k e in
+    let is = got ks n k e in
+    one_more ks n k l is ∙ sym (shown_one ks n k first.upto.sound l is (first.next k e))
 
--- what no section and no first line silences is the report
-pub quiet_so : (config : Config) (rows : List RowValue) (ks : List KeptValue) (s : Silencing) → IsHeardOfText → IsSilencingOf ks s → s.end ≤ s.from → disables_file (first_text rows) ≡ false
-    → report_by config rows ks ≡ unsilenced_by config rows ks
-quiet_so config rows ks s law known none loud =
-    let u = unsilenced_by config rows ks in
-    let silent = subst (λ (xs : List KeptValue). AllByRecursion IsSilent xs) (take_all (length ks) ks (omega arith)) (none_before ks s (length ks) known (omega arith) none) in
-    sym (law config rows ks)
-    ∙ (ap (λ (b : Bool). heard b (is_silenced (comments_in_sections 0 (shown ks))) u) loud
-    ∙ (ap (λ (cs : List PlacedCommentValue). heard false (is_silenced cs) u) (no_comments 0 (shown ks) (silent_shown ks silent)) ∙ all_heard u))
+pub shown_there : (ks : List KeptValue) (n row : ℕ) → IsFirstFault ks n row → n < length ks → take (n + 1) ks ≡ shown ks
+shown_there ks n row first l = ⊎_elim (λ s. shown_first ks n row s.0 first s.2) (λ s. absurd (omega (arith, l, s.0))) (slice_get_cases ks n).1
+
+-- all, where none has one
+pub shown_all : (ks : List KeptValue) (n row : ℕ) → IsFirstFault ks n row → length ks ≤ n → take n ks ≡ shown ks
+shown_all ks n row first l =
+    let none : drop n ks ≡ [] = same_lists _ _ (search (rules, places)) (λ k d o. grind (arith, places)) in
+    let whole = take_all n ks l in
+    sym (shown_upto ks n first.upto.sound ∙ (ap (λ (xs : List KeptValue). take n ks ++ shown xs) none ∙ (ap (λ (xs : List KeptValue). xs ++ []) whole ∙ (nothing_more ks ∙ sym whole))))
+  where
+    nothing_more : (xs : List KeptValue) → xs ++ [] ≡ xs
+    nothing_more xs = same_lists _ _ (search (rules, places)) (λ k d o. grind (arith, places))
+
+-- how many lines they have
+pub rows_first : (ks : List KeptValue) (n row rows : ℕ) (k : KeptValue) → IsFirstFault ks n row → slice_get ks n ≡ Some k → rows ≡ row + k.rows → rows ≡ rows_kept (shown ks)
+rows_first ks n row rows k first e is =
+    let l = slice_get_within ks n k e in
+    let one = one_more ks n k l (got ks n k e) in
+    omega (arith, is, first.rows, rows_both (take n ks) (k ∷ []), ap rows_kept one, ap rows_kept (shown_first ks n row k first e))
+
+pub rows_all : (ks : List KeptValue) (n row : ℕ) → IsFirstFault ks n row → length ks ≤ n → row ≡ rows_kept (shown ks)
+rows_all ks n row first l = first.rows ∙ ap rows_kept (shown_all ks n row first l)
+
+-- ---- what the comments of the first of them say
+
+pub said_upto : (ks : List KeptValue) (s : Silencing) (shown_count count upto stop : ℕ) → IsSilencingOf ks s → shown_count ≤ length ks → take shown_count ks ≡ shown ks
+    → count ≤ upto → count ≤ shown_count → (count < upto → count ≡ shown_count) → stop ≤ count → (stop < count → s.end ≤ stop)
+    → comments_in_sections s.row (take (stop - s.from) (drop s.from ks)) ≡ comments_in_sections 0 (take upto (shown ks))
+said_upto ks s shown_count count upto stop known within is l m o h e =
+    let same : take count ks ≡ take upto (take shown_count ks) = same_lists _ _ (search (rules, places)) (λ k d q. grind (arith, places)) in
+    comments_known ks s count stop known (omega (arith, m, within)) h e ∙ ap (comments_in_sections 0) (same ∙ ap (take upto) is)

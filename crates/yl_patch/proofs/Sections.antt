@@ -142,7 +142,7 @@ sections_moved o before n line there (k ∷ ks) e =
     ∙ (ap (λ (fs : List FindingValue). fs ++ map (moved n) (onward_in_sections o (line + k.rows) later ks)) (all_moved n line there (k.found ++ onward_problems o before k.facts) e)
     ∙ sym (map-append (moved n) (onward_in_section o line before k) (onward_in_sections o (line + k.rows) later ks)))
 
-sections_both : (o : IndentationOptions) (before : Measure) (line there : ℕ) (ks ls : List KeptValue) → there ≡ line + rows_kept ks
+pub sections_both : (o : IndentationOptions) (before : Measure) (line there : ℕ) (ks ls : List KeptValue) → there ≡ line + rows_kept ks
     → onward_in_sections o line before (ks ++ ls) ≡ onward_in_sections o line before ks ++ onward_in_sections o there (and_later before (measured ks)) ls
 sections_both o before line there [] ls e =
     ap (λ k. onward_in_sections o k before ls) (omega (arith, e)) ∙ ap (λ (m : Measure). onward_in_sections o there m ls) (sym (and_later_none before))

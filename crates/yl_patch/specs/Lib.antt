@@ -1,10 +1,9 @@
 pub mod Cut
 pub mod Faultless
-pub mod InLines
-pub mod Patched
+pub mod Found
+pub mod Patching
 pub mod Plain
 pub mod Seen
-pub mod Settled
+pub mod ShownUpto
 pub mod Speaking
-pub mod Stayed
 pub mod There

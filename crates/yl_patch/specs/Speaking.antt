@@ -5,8 +5,7 @@ use Rattle.yl_lexeme.specs.Lexeme.{PlacedCommentValue}
 use Rattle.yl_report.specs.Directive.{own_line}
 use Rattle.yl_sections.specs.Kept.{KeptValue}
 use Rattle.yl_rejudge.specs.Places.{rows_kept}
-use Rattle.yl_lint.specs.TextReport.{comments_in_sections}
-use Rattle.yl_patch.specs.Settled.{settled_below}
+use Rattle.yl_lint.specs.TextReport.{comments_in_sections, shown}
 
 -- it may switch rules; one that begins so speaks of one line alone
 abbrev pub may_switch : PlacedCommentValue → Bool
@@ -20,13 +19,14 @@ switch_texts cs = map (λ c. c.text) (filter may_switch cs)
 abbrev pub SpeaksWithin : ℕ → PlacedCommentValue → Type 0
 SpeaksWithin rows c = may_switch c ≡ false → own_line c < rows
 
--- the comments of these sections speak of no single line behind them, and those that may switch rules have the same texts in both
+-- the comments that are shown of these sections speak of no single line behind them, and those that may switch rules have the same texts in both
 pub record SpeakAlike (ls ns : List KeptValue) : Type 0 where
+  pub old : AllByRecursion (SpeaksWithin (rows_kept ls)) (comments_in_sections 0 (shown ls))
+  pub new : AllByRecursion (SpeaksWithin (rows_kept ns)) (comments_in_sections 0 (shown ns))
+  pub switches : switch_texts (comments_in_sections 0 (shown ls)) ≡ switch_texts (comments_in_sections 0 (shown ns))
+
+-- all comments of them do, whatever a fault hides
+pub record AllSpeakAlike (ls ns : List KeptValue) : Type 0 where
   pub old : AllByRecursion (SpeaksWithin (rows_kept ls)) (comments_in_sections 0 ls)
   pub new : AllByRecursion (SpeaksWithin (rows_kept ns)) (comments_in_sections 0 ns)
   pub switches : switch_texts (comments_in_sections 0 ls) ≡ switch_texts (comments_in_sections 0 ns)
-
--- what is shown of these does, where a fault above hides them or not, and all comments of the latter are shown if it does not
-pub record SpeakAsShown (hidden : Bool) (ls ns : List KeptValue) : Type 0 where
-  pub alike : SpeakAlike (settled_below hidden ls) (settled_below hidden ns)
-  pub shown : hidden ≡ false → (line : ℕ) → comments_in_sections line ns ≡ comments_in_sections line (settled_below false ns)

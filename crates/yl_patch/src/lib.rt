@@ -1,38 +1,39 @@
-//! What an edit does to a report, where the problems of some lines become others and those below them stand further up or down.
+//! What an edit does to the problems that are found in a text.
 //!
-//! The problems of a text are those of its sections, one after another. Up to the first with a fault they are all that is found in
-//! them, its fault too; after it they are what the rules on lines find. So an edit within some sections changes the problems of their
-//! lines alone, and moves those below them. That is so where a fault in them neither comes nor goes, or they end the text, and what their
-//! comments say of the lines below stays.
+//! What is found in a text, whatever comments silence and the first fault hides, is that of its lines and that of its sections, one after
+//! another. So an edit within some sections changes what is found in their lines alone, and moves what is found below them. It is kept in
+//! two lists, what is shown and what is not: `found_problems` puts both together, and `patched_problems` says what an edit makes of them.
+//!
+//! Which of what is found below is shown stays too, where the touched sections hide it as before and their comments say the same of it.
+//! Where it does not, all below is parted anew. The text's fault stands among what is shown, in its place.
 #![tactic(auto)]
 
+mod below;
 mod comments;
-mod faultless;
-mod hidden;
-mod in_lines;
-mod loud;
+mod edit;
+mod fault;
+mod first_fault;
+mod found;
+mod laws;
+mod measures;
 mod overview;
+mod parting;
 mod patching;
-mod places;
 mod plain;
 mod seen;
-mod shifting;
+mod showing;
 mod silencing;
 mod sound;
 mod speaking;
-mod stayed;
 mod there;
 mod touched;
-mod whole;
 mod window;
 
-pub use faultless::{Faultless, faultless_after, faultless_of, overview_of_faultless};
-pub use hidden::{FaultInRows, fault_in_rows, hidden_report};
-pub use in_lines::patched_lines;
-pub use overview::{Overview, SectionEdit, overview_after, overview_of, overview_renewed};
-pub use patching::{patched_faultless, patched_report, patched_unsilenced};
-pub use shifting::{ReportPatch, patched_copy, put_patch};
+pub use edit::SectionEdit;
+pub use fault::fault_of;
+pub use found::found_problems;
+pub use laws::report_is_shown;
+pub use overview::{Overview, overview_after, overview_of};
+pub use patching::patched_problems;
+pub use showing::showing_of;
 pub use silencing::Silencing;
-pub use sound::hides;
-pub use stayed::Stayed;
-pub use whole::{is_quiet, is_unsilenced, silences_of_text};

@@ -1,83 +1,75 @@
-//! What an edit does to a report.
-ghost use Rattle.std.specs.Prelude.{◌≡◌, ◌<◌, ◌+◌, ◌^◌, length, take, drop, IfOk, IfSome};
-ghost use Rattle.std.specs.List.{AllByRecursion, prefix_len, splice};
+//! What an edit makes of what is found in a text.
+ghost use Rattle.std.specs.Prelude.{◌≡◌, ◌≤◌, ◌<◌, ◌+◌, ◌^◌, true, false, length, take, IfOk, IfSome, MatchOption};
+ghost use Rattle.std.specs.List.{splice};
 ghost use Rattle.yl_text.specs.Store.{AreLines, IsRange};
 ghost use Rattle.yl_config.specs.Config.{levels_of};
+ghost use Rattle.yl_report.specs.Heard.{nothing_silenced};
 ghost use Rattle.yl_report.specs.Report.{report_of};
-ghost use Rattle.yl_report.specs.Silence.{is_file_silenced_by, is_silenced_at};
+ghost use Rattle.yl_parting.specs.Changes.{parts_in, patch_in, patched};
+ghost use Rattle.yl_parting.specs.Order.{IsInOrder};
+ghost use Rattle.yl_parting.specs.Parts.{parted, with_fault, without_fault};
+ghost use Rattle.yl_parting.specs.Rooms.{ToldFault};
+ghost use Rattle.yl_parting.specs.Showing.{is_shown_by};
 ghost use Rattle.yl_rejudge.specs.Places.{rows_kept};
-ghost use Rattle.yl_lint.specs.TextReport.{report_by};
-ghost use Rattle.yl_lint.specs.Unsilenced.{unsilenced_by};
-ghost use Rattle.yl_patch.specs.Faultless.{IsFaultless, faultless_by};
-ghost use Rattle.yl_patch.specs.Patched.{IsLow, is_upto, patched};
-ghost use Rattle.yl_patch.specs.Plain.{IsOverviewOf};
+ghost use Rattle.yl_patch.specs.Found.{all_parts, is_shown};
+ghost use Rattle.yl_patch.specs.Plain.{IsOverviewOf, IsSurveyed};
+ghost use Rattle.yl_patch.specs.ShownUpto.{is_shown_upto};
 
-use crate::faultless::Faultless;
-use crate::loud::is_loud;
-use crate::overview::{Overview, SectionEdit};
-use crate::places::count_upto;
-use crate::seen::{SeenEdit, see_edit, see_faultless};
-use crate::shifting::{ReportPatch, are_low};
-use crate::silencing::silences_upto;
-use crate::sound::{shown_before, shown_of};
-use crate::speaking::speak_as_shown;
-use crate::touched::Touched;
-use std::alloc::{AllocError, Allocator};
-use yl_chunks::Chunks;
+use crate::below::stays_shown;
+use crate::edit::SectionEdit;
+use crate::fault::fault_of;
+use crate::overview::Overview;
+use crate::parting::part;
+use crate::seen::{SeenEdit, see_edit};
+use crate::showing::showing_of;
+use std::alloc::AllocError;
+use yl_chunks::{Chunks, Spliced};
 use yl_config::Config;
-use yl_report::{Problem, Silences, arrange};
+use yl_parting::{FoundProblems, LinesPatch, Showing};
+use yl_report::{Silences, arrange};
 use yl_sections::Kept;
-use yl_text::{LineStore, Patched, Row};
+use yl_text::{Finding, LineStore, Lines, Patched, Row};
 
-/// The patch that puts these problems in place of those of the touched lines.
-fn patch_with<A: Allocator>(
-    problems: &[Problem<A>],
-    touched: Touched,
-    new: Vec<Problem<A>, A>,
-) -> Option<ReportPatch<A>>
-    ensures range { IfSome result (λ p. IsRange p.from p.end (length problems.now)) }
-    ensures low { IfSome result (λ p. AllByRecursion IsLow (drop p.end problems.now)) }
-    ensures from { IfSome result (λ p. p.from ≡ prefix_len (is_upto touched.first) problems.now) }
-    ensures end { IfSome result (λ p. p.end ≡ prefix_len (is_upto touched.old_end) problems.now) }
-    ensures parts { IfSome result (λ p. (p.problems.items ≡ new.items) × (p.up ≡ touched.old_end) × (p.down ≡ touched.new_end)) }
-{
-    let from = count_upto(problems, u64::from(touched.first));
-    let end = count_upto(problems, u64::from(touched.old_end));
-    if end < from || end > problems.len() || !are_low(&problems[end..]) {
-        return None;
-    }
-    Some(ReportPatch {
-        from,
-        end,
-        problems: new,
-        up: touched.old_end,
-        down: touched.new_end,
-    })
-}
-
-/// The patch that puts what was found in the touched lines in place of their problems, where so much is silenced.
-pub fn patch_of<A: Allocator + Copy>(
-    alloc: A,
+/// What was found in some lines, parted by the comments of the first `upto` sections.
+fn part_found<L: Lines>(
+    alloc: L::Alloc,
     config: &Config,
-    problems: &[Problem<A>],
-    seen: SeenEdit<A>,
-    silences: &Silences<A>,
-) -> Result<Option<ReportPatch<A>>, AllocError>
-    ensures range { IfOk result (λ o. IfSome o (λ p. IsRange p.from p.end (length problems.now))) }
-    ensures low { IfOk result (λ o. IfSome o (λ p. AllByRecursion IsLow (drop p.end problems.now))) }
-    ensures from { IfOk result (λ o. IfSome o (λ p. p.from ≡ prefix_len (is_upto seen.touched.first) problems.now)) }
-    ensures end { IfOk result (λ o. IfSome o (λ p. p.end ≡ prefix_len (is_upto seen.touched.old_end) problems.now)) }
-    ensures put { IfOk result (λ o. IfSome o (λ p. p.problems.items ≡ report_of (levels_of config.now) (is_file_silenced_by silences.now) (is_silenced_at silences.now) seen.found.items)) }
-    ensures shift { IfOk result (λ o. IfSome o (λ p. (p.up ≡ seen.touched.old_end) × (p.down ≡ seen.touched.new_end))) }
+    lines: &L,
+    sections: &Spliced<'_, Kept<L::Alloc>, L::Alloc>,
+    overview: Overview,
+    upto: usize,
+    found: Vec<Finding<L::Alloc>, L::Alloc>,
+) -> Result<FoundProblems<L::Alloc>, AllocError>
+    requires { IsSurveyed sections.now overview }
+    ensures { IfOk result (λ f. parts_in f ≡ parted (is_shown_upto upto (L.rows lines.now) sections.now) (report_of (levels_of config.now) false nothing_silenced found.items)) }
 {
-    let SeenEdit { touched, found, .. } = seen;
-    let there = arrange(alloc, found, config.levels(), silences)?;
-    Ok(patch_with(problems, touched, there))
+    let showing = showing_of(alloc, lines, sections, overview, upto)?;
+    let there = arrange(alloc, found, config.levels(), &Silences::none(alloc))?;
+    part(alloc, &showing, there)
 }
 
-/// What the edit that puts these rows in place of the lines a to b does to the report, where it is seen that a patch does; none where it is
-/// not. `kept` is what was kept of the sections, whatever it is, and `edit` is what becomes of it. The only error is out of memory.
-pub fn patched_report<S: LineStore>(
+/// Which of what is found is shown, unless that is known.
+fn showing_unless<L: Lines>(
+    alloc: L::Alloc,
+    is_known: bool,
+    lines: &L,
+    sections: &Spliced<'_, Kept<L::Alloc>, L::Alloc>,
+    overview: Overview,
+) -> Result<Option<Showing<L::Alloc>>, AllocError>
+    requires { IsSurveyed sections.now overview }
+    ensures { IfOk result (λ o. MatchOption o (is_known ≡ true) (λ s. is_shown_by s ≡ is_shown (L.rows lines.now) sections.now)) }
+{
+    if is_known {
+        return Ok(None);
+    }
+    let showing = showing_of(alloc, lines, sections, overview, sections.len())?;
+    Ok(Some(showing))
+}
+
+/// What the edit that puts these rows in place of the lines a to b makes of what is found in the text. `kept` is what was kept of the sections,
+/// `edit` is what becomes of them, and the overviews are those before it and after it. None where the sections are not seen to be plain, the
+/// touched lines are not apart from the others, or indentation below would be judged otherwise. The only error is out of memory.
+pub fn patched_problems<S: LineStore>(
     alloc: S::Alloc,
     config: &Config,
     store: &S,
@@ -85,103 +77,51 @@ pub fn patched_report<S: LineStore>(
     b: usize,
     rows: &[Row<S::Alloc>],
     kept: &Chunks<Kept<S::Alloc>, S::Alloc>,
-    overview: Overview,
+    before: Overview,
+    after: Overview,
     edit: &SectionEdit<'_, S::Alloc>,
-    problems: &[Problem<S::Alloc>],
-) -> Result<Option<ReportPatch<S::Alloc>>, AllocError>
+) -> Result<Option<LinesPatch<S::Alloc>>, AllocError>
     requires range { IsRange a b (length (S.rows store.now)) }
     requires few { length (S.rows store.now) + length rows.now < 2 ^ 64 }
-    requires overview { IsOverviewOf kept.now.items overview }
+    requires lines { AreLines (splice (S.rows store.now) a b rows.now) }
+    requires before { IsOverviewOf kept.now.items before }
+    requires after { IsOverviewOf (splice kept.now.items edit.now.from edit.now.end edit.now.kept.now) after }
     requires kept_range { IsRange edit.now.from edit.now.end (length kept.now.items) }
+    requires kept_few { length kept.now.items + length edit.now.kept.now < 2 ^ 64 }
     requires from_row { edit.now.from_row ≡ rows_kept (take edit.now.from kept.now.items) }
     requires end_row { edit.now.end_row ≡ rows_kept (take edit.now.end kept.now.items) }
-    requires problems { problems.now ≡ report_by config.now (S.rows store.now) kept.now.items }
-    ensures range { IfOk result (λ o. IfSome o (λ p. IsRange p.from p.end (length problems.now))) }
-    ensures low { IfOk result (λ o. IfSome o (λ p. AllByRecursion IsLow (drop p.end problems.now))) }
-    ensures report { IfOk result (λ o. IfSome o (λ p. patched p.from p.end p.problems.items p.up p.down problems.now ≡ report_by config.now (splice (S.rows store.now) a b rows.now) (splice kept.now.items edit.now.from edit.now.end edit.now.kept.now))) }
+    ensures plain { IfOk result (λ o. IfSome o (λ _. (before.is_plain ≡ true) × (after.is_plain ≡ true))) }
+    ensures lines { IfOk result (λ o. IfSome o (λ p. p.first ≤ p.old_end)) }
+    ensures shown_order { IfOk result (λ o. IfSome o (λ _. IsInOrder (all_parts config.now (S.rows store.now) kept.now.items).shown)) }
+    ensures suppressed_order { IfOk result (λ o. IfSome o (λ _. IsInOrder (all_parts config.now (S.rows store.now) kept.now.items).suppressed)) }
+    ensures told { IfOk result (λ o. IfSome o (λ p. ToldFault p.had_fault (all_parts config.now (S.rows store.now) kept.now.items).shown)) }
+    ensures parts { IfOk result (λ o. IfSome o (λ p. with_fault p.fault (patched (patch_in p) (without_fault (all_parts config.now (S.rows store.now) kept.now.items)))
+        ≡ all_parts config.now (splice (S.rows store.now) a b rows.now) (splice kept.now.items edit.now.from edit.now.end edit.now.kept.now))) }
 {
-    let seen = see_edit(alloc, config, store, a, b, rows, kept, overview, edit)?;
-    let Some(seen) = seen else {
-        return Ok(None);
-    };
-    let speaks_alike = speak_as_shown(alloc, seen.hidden, kept, edit.from, edit.end, edit.kept)?;
-    if !speaks_alike {
+    if !before.is_plain || !after.is_plain {
         return Ok(None);
     }
+    let whole = before.whole;
+    let seen = see_edit(alloc, config, store, a, b, rows, kept, whole, edit)?;
+    let Some(SeenEdit { touched, found }) = seen else {
+        return Ok(None);
+    };
     let edited = Patched::new(store, a, b, rows);
-    if !is_loud(alloc, store)? || !is_loud(alloc, &edited)? {
-        return Ok(None);
-    }
-    let above = shown_before(kept, overview.sound, edit.from, seen.hidden);
-    let shown = shown_of(seen.hidden, edit.kept);
-    let first = seen.touched.first;
-    let silences = silences_upto(alloc, kept, overview.silencing, above, first, shown)?;
-    let patch = patch_of(alloc, config, problems, seen, &silences)?;
-    Ok(patch)
-}
-
-/// The same of what would be reported if no comment silenced anything.
-pub fn patched_unsilenced<S: LineStore>(
-    alloc: S::Alloc,
-    config: &Config,
-    store: &S,
-    a: usize,
-    b: usize,
-    rows: &[Row<S::Alloc>],
-    kept: &Chunks<Kept<S::Alloc>, S::Alloc>,
-    overview: Overview,
-    edit: &SectionEdit<'_, S::Alloc>,
-    problems: &[Problem<S::Alloc>],
-) -> Result<Option<ReportPatch<S::Alloc>>, AllocError>
-    requires range { IsRange a b (length (S.rows store.now)) }
-    requires few { length (S.rows store.now) + length rows.now < 2 ^ 64 }
-    requires overview { IsOverviewOf kept.now.items overview }
-    requires kept_range { IsRange edit.now.from edit.now.end (length kept.now.items) }
-    requires from_row { edit.now.from_row ≡ rows_kept (take edit.now.from kept.now.items) }
-    requires end_row { edit.now.end_row ≡ rows_kept (take edit.now.end kept.now.items) }
-    requires problems { problems.now ≡ unsilenced_by config.now (S.rows store.now) kept.now.items }
-    ensures range { IfOk result (λ o. IfSome o (λ p. IsRange p.from p.end (length problems.now))) }
-    ensures low { IfOk result (λ o. IfSome o (λ p. AllByRecursion IsLow (drop p.end problems.now))) }
-    ensures report { IfOk result (λ o. IfSome o (λ p. patched p.from p.end p.problems.items p.up p.down problems.now ≡ unsilenced_by config.now (splice (S.rows store.now) a b rows.now) (splice kept.now.items edit.now.from edit.now.end edit.now.kept.now))) }
-{
-    let seen = see_edit(alloc, config, store, a, b, rows, kept, overview, edit)?;
-    let Some(seen) = seen else {
-        return Ok(None);
-    };
-    let patch = patch_of(alloc, config, problems, seen, &Silences::none(alloc))?;
-    Ok(patch)
-}
-
-/// The same of what would be reported if no comment silenced anything and no section had a fault.
-pub fn patched_faultless<S: LineStore>(
-    alloc: S::Alloc,
-    config: &Config,
-    store: &S,
-    a: usize,
-    b: usize,
-    rows: &[Row<S::Alloc>],
-    kept: &Chunks<Kept<S::Alloc>, S::Alloc>,
-    known: Faultless,
-    edit: &SectionEdit<'_, S::Alloc>,
-    problems: &[Problem<S::Alloc>],
-) -> Result<Option<ReportPatch<S::Alloc>>, AllocError>
-    requires range { IsRange a b (length (S.rows store.now)) }
-    requires few { length (S.rows store.now) + length rows.now < 2 ^ 64 }
-    requires known { IsFaultless kept.now.items known }
-    requires kept_range { IsRange edit.now.from edit.now.end (length kept.now.items) }
-    requires from_row { edit.now.from_row ≡ rows_kept (take edit.now.from kept.now.items) }
-    requires end_row { edit.now.end_row ≡ rows_kept (take edit.now.end kept.now.items) }
-    requires problems { problems.now ≡ faultless_by config.now (S.rows store.now) kept.now.items }
-    ensures range { IfOk result (λ o. IfSome o (λ p. IsRange p.from p.end (length problems.now))) }
-    ensures low { IfOk result (λ o. IfSome o (λ p. AllByRecursion IsLow (drop p.end problems.now))) }
-    ensures report { IfOk result (λ o. IfSome o (λ p. patched p.from p.end p.problems.items p.up p.down problems.now ≡ faultless_by config.now (splice (S.rows store.now) a b rows.now) (splice kept.now.items edit.now.from edit.now.end edit.now.kept.now))) }
-{
-    let whole = known.whole;
-    let seen = see_faultless(alloc, config, store, a, b, rows, kept, whole, edit)?;
-    let Some(seen) = seen else {
-        return Ok(None);
-    };
-    let nothing = Silences::none(alloc);
-    let patch = patch_of(alloc, config, problems, seen, &nothing)?;
-    Ok(patch)
+    let sections = Spliced::new(kept, edit.from, edit.end, edit.kept);
+    let upto = edit.from + edit.kept.len();
+    let parts = part_found(alloc, config, &edited, &sections, after, upto, found)?;
+    let is_known = stays_shown(alloc, store, &edited, kept, before, edit)?;
+    let below = showing_unless(alloc, is_known, &edited, &sections, after)?;
+    let fault = fault_of(alloc, config, &edited, &sections, after)?;
+    let FoundProblems { shown, suppressed } = parts;
+    Ok(Some(LinesPatch {
+        first: touched.first,
+        old_end: touched.old_end,
+        new_end: touched.new_end,
+        shown,
+        suppressed,
+        below,
+        had_fault: before.sound < kept.len(),
+        fault,
+    }))
 }

@@ -1,18 +1,15 @@
-//! Whether the part of sections in a report is theirs alone.
-ghost use Rattle.std.specs.Prelude.{◌≡◌, ◌<◌, ◌≤◌, true, false};
+//! Whether what is found in sections stands in their own lines.
+ghost use Rattle.std.specs.Prelude.{◌≡◌, ◌<◌, ◌≤◌, true};
 ghost use Rattle.std.specs.List.{AllByRecursion};
-ghost use Rattle.std.specs.Option.{option_map};
-ghost use Rattle.yl_sections.specs.Owned.{section_fault_value};
 ghost use Rattle.yl_patch.specs.Faultless.{faultless, faultless_one};
 ghost use Rattle.yl_patch.specs.Plain.{IsPlain, IsWithin};
-ghost use Rattle.yl_patch.specs.Settled.{IsFaultWithin, settled, settled_one};
+ghost use Rattle.yl_patch.specs.Plain as spec;
 
-use crate::sound::has_fault;
 use std::alloc::Allocator;
 use yl_chunks::Spliced;
 use yl_indentation::Fact;
-use yl_sections::{Kept, KeptComment, SectionFault};
-use yl_text::Finding;
+use yl_sections::{Kept, KeptComment};
+use yl_text::{Finding, RuleId};
 
 /// Whether these stand in the first lines, counted from 1.
 fn are_within<A: Allocator>(found: &[Finding<A>], rows: u32) -> bool
@@ -20,6 +17,33 @@ fn are_within<A: Allocator>(found: &[Finding<A>], rows: u32) -> bool
 {
     for one in found {
         if one.line() == 0 || one.line() > u64::from(rows) {
+            return false;
+        }
+    }
+    true
+}
+
+/// Whether the rule is one on sections.
+fn is_of_section(rule: RuleId) -> bool
+    ensures { result ≡ spec.is_of_section rule }
+{
+    match rule {
+        RuleId::EmptyLines
+        | RuleId::LineLength
+        | RuleId::NewLineAtEndOfFile
+        | RuleId::NewLines
+        | RuleId::Syntax
+        | RuleId::TrailingSpaces => false,
+        _ => true,
+    }
+}
+
+/// Whether rules on sections found all of these.
+fn are_of_section<A: Allocator>(found: &[Finding<A>]) -> bool
+    ensures { result ≡ true → AllByRecursion (λ f. spec.is_of_section f.rule ≡ true) found.now }
+{
+    for one in found {
+        if !is_of_section(one.rule()) {
             return false;
         }
     }
@@ -50,23 +74,12 @@ fn are_comments_within<A: Allocator>(comments: &[KeptComment<A>], rows: u32) -> 
     true
 }
 
-/// Whether the fault, if there is one, stands at a place in the first lines, counted from 0.
-fn is_fault_within(fault: Option<SectionFault>, rows: u32) -> bool
-    ensures { result ≡ true → IsFaultWithin rows (option_map section_fault_value fault) }
-{
-    match fault {
-        None => true,
-        Some(SectionFault::Here(place, _)) => place.line < rows,
-        Some(SectionFault::Behind(_)) => false,
-    }
-}
-
-/// Whether all stands in the section's own lines that was found in it, its fault and each comment that silences.
+/// Whether all stands in the section's own lines that was found in it but its fault, and each comment that silences.
 fn is_plain<A: Allocator>(kept: &Kept<A>) -> bool
-    ensures { result ≡ true → IsPlain (settled_one false kept.now) }
+    ensures { result ≡ true → IsPlain (faultless_one kept.now) }
 {
     let rows = kept.rows();
-    if !is_fault_within(kept.fault(), rows) || !are_within(kept.found(), rows) {
+    if !are_within(kept.found(), rows) || !are_of_section(kept.found()) {
         return false;
     }
     if !are_facts_within(kept.facts(), rows) {
@@ -75,16 +88,13 @@ fn is_plain<A: Allocator>(kept: &Kept<A>) -> bool
     are_comments_within(kept.comments(), rows)
 }
 
-/// Whether all of these are plain that are shown: those up to the first with a fault.
+/// Whether all of these are plain, their faults aside.
 pub fn are_plain<A: Allocator>(kept: &[Kept<A>]) -> bool
-    ensures { result ≡ true → AllByRecursion IsPlain (settled kept.now) }
+    ensures { result ≡ true → AllByRecursion IsPlain (faultless kept.now) }
 {
     for one in kept {
         if !is_plain(one) {
             return false;
-        }
-        if has_fault(one) {
-            return true;
         }
     }
     true
@@ -92,37 +102,10 @@ pub fn are_plain<A: Allocator>(kept: &[Kept<A>]) -> bool
 
 /// The same where some sections are kept in place of others.
 pub fn are_all_plain<A: Allocator + Copy>(sections: &Spliced<'_, Kept<A>, A>) -> bool
-    ensures { result ≡ true → AllByRecursion IsPlain (settled sections.now) }
+    ensures { result ≡ true → AllByRecursion IsPlain (faultless sections.now) }
 {
     for i in 0..sections.len() {
-        let one = sections.get(i);
-        if !is_plain(one) {
-            return false;
-        }
-        if has_fault(one) {
-            return true;
-        }
-    }
-    true
-}
-
-/// Whether all stands in the section's own lines that was found in it but its fault, and each comment that silences.
-fn is_plain_but_fault<A: Allocator>(kept: &Kept<A>) -> bool
-    ensures { result ≡ true → IsPlain (faultless_one kept.now) }
-{
-    let rows = kept.rows();
-    if !are_within(kept.found(), rows) || !are_facts_within(kept.facts(), rows) {
-        return false;
-    }
-    are_comments_within(kept.comments(), rows)
-}
-
-/// Whether all of these are.
-pub fn are_plain_but_faults<A: Allocator>(kept: &[Kept<A>]) -> bool
-    ensures { result ≡ true → AllByRecursion IsPlain (faultless kept.now) }
-{
-    for one in kept {
-        if !is_plain_but_fault(one) {
+        if !is_plain(sections.get(i)) {
             return false;
         }
     }

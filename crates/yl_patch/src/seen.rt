@@ -1,22 +1,15 @@
 //! What is seen of an edit in the lines of the touched sections.
 ghost use Rattle.std.specs.Prelude.{◌≡◌, ◌<◌, ◌+◌, ◌^◌, true, false, length, take, slice_get, IfOk, IfSome};
-ghost use Rattle.std.specs.List.{splice};
-ghost use Rattle.yl_text.specs.Store.{AreLines, IsRange};
+ghost use Rattle.yl_text.specs.Store.{IsRange};
 ghost use Rattle.yl_rejudge.specs.Places.{rows_kept};
 ghost use Rattle.yl_indentation.specs.Measures.{measure_of};
 ghost use Rattle.yl_lint.specs.TextReport.{facts_in_sections};
-ghost use Rattle.std.specs.List.{AllByRecursion};
 ghost use Rattle.yl_patch.specs.Cut.{is_filled};
-ghost use Rattle.yl_patch.specs.Faultless.{faultless};
-ghost use Rattle.yl_patch.specs.Plain.{IsOverviewOf, IsPlain};
 ghost use Rattle.yl_patch.specs.Seen.{IsCut, IsSeen};
 
-use crate::overview::{
-    Overview, SectionEdit, measure_above, measure_after, measure_of_facts_after,
-    measure_of_facts_before,
-};
-use crate::sound::{hides_before, shown_of};
-use crate::there::{find_there, find_without_faults};
+use crate::edit::SectionEdit;
+use crate::measures::{leaves_below, measure_before};
+use crate::there::find_there;
 use crate::touched::{Ends, Touched, ends_of, find_touched, is_filled, is_inside};
 use crate::window::Window;
 use std::alloc::{AllocError, Allocator};
@@ -26,11 +19,10 @@ use yl_indentation::Measure;
 use yl_sections::Kept;
 use yl_text::{Finding, LineStore, Lines, Patched, Row};
 
-/// What is seen of an edit: where the touched sections stand, whether a fault above hides them, and what is found in their lines.
+/// What is seen of an edit: where the touched sections stand, and what is found in their lines.
 #[derive(Drop)]
 pub struct SeenEdit<A: Allocator> {
     pub touched: Touched,
-    pub hidden: bool,
     pub found: Vec<Finding<A>, A>,
 }
 
@@ -82,55 +74,10 @@ fn cut_edit<S: LineStore>(
     Some(CutEdit { touched, ends })
 }
 
-/// What is seen of the edit that puts these rows in place of the lines a to b, whatever comments say; none where it does not show that what
-/// is found elsewhere stays. `kept` is what was kept of the sections, and `edit` is what becomes of it. The only error is out of memory.
+/// What is seen of the edit that puts these rows in place of the lines a to b, whatever comments say and a fault hides; none where it does
+/// not show that what is found elsewhere stays. `kept` is what was kept of the sections, `whole` is the measure of their facts, and `edit` is
+/// what becomes of them. The only error is out of memory.
 pub fn see_edit<S: LineStore>(
-    alloc: S::Alloc,
-    config: &Config,
-    store: &S,
-    a: usize,
-    b: usize,
-    rows: &[Row<S::Alloc>],
-    kept: &Chunks<Kept<S::Alloc>, S::Alloc>,
-    overview: Overview,
-    edit: &SectionEdit<'_, S::Alloc>,
-) -> Result<Option<SeenEdit<S::Alloc>>, AllocError>
-    requires range { IsRange a b (length (S.rows store.now)) }
-    requires few { length (S.rows store.now) + length rows.now < 2 ^ 64 }
-    requires overview { IsOverviewOf kept.now.items overview }
-    requires kept_range { IsRange edit.now.from edit.now.end (length kept.now.items) }
-    requires from_row { edit.now.from_row ≡ rows_kept (take edit.now.from kept.now.items) }
-    requires end_row { edit.now.end_row ≡ rows_kept (take edit.now.end kept.now.items) }
-    ensures known { IfOk result (λ o. IfSome o (λ _. overview.is_plain ≡ true)) }
-    ensures seen { IfOk result (λ o. IfSome o (λ s. IsSeen config.now (S.rows store.now) rows.now kept.now.items edit.now.kept.now a b edit.now.from edit.now.end overview.sound s.touched s.hidden s.found.items)) }
-{
-    if !overview.is_plain {
-        return Ok(None);
-    }
-    let Some(hidden) = hides_before(kept, overview.sound, edit.from) else {
-        return Ok(None);
-    };
-    let before = measure_above(kept, edit.from, hidden, overview.whole);
-    let Some(_) = measure_after(hidden, kept, edit, before, overview.whole) else {
-        return Ok(None);
-    };
-    let Some(cut) = cut_edit(store, a, b, rows, edit) else {
-        return Ok(None);
-    };
-    let (touched, ends) = (cut.touched, cut.ends);
-    let patched = Patched::new(store, a, b, rows);
-    let window = Window::new(patched, touched.first as usize, touched.new_end as usize);
-    let shown = shown_of(hidden, edit.kept);
-    let found = find_there(alloc, config, ends, &window, touched.first, before, shown)?;
-    Ok(Some(SeenEdit {
-        touched,
-        hidden,
-        found,
-    }))
-}
-
-/// What is seen of the same edit if no section has a fault or shows it, where the facts of all sections have this measure.
-pub fn see_faultless<S: LineStore>(
     alloc: S::Alloc,
     config: &Config,
     store: &S,
@@ -143,17 +90,16 @@ pub fn see_faultless<S: LineStore>(
 ) -> Result<Option<SeenEdit<S::Alloc>>, AllocError>
     requires range { IsRange a b (length (S.rows store.now)) }
     requires few { length (S.rows store.now) + length rows.now < 2 ^ 64 }
-    requires plain { AllByRecursion IsPlain (faultless kept.now.items) }
     requires whole { whole ≡ measure_of (facts_in_sections kept.now.items) }
     requires kept_range { IsRange edit.now.from edit.now.end (length kept.now.items) }
     requires from_row { edit.now.from_row ≡ rows_kept (take edit.now.from kept.now.items) }
     requires end_row { edit.now.end_row ≡ rows_kept (take edit.now.end kept.now.items) }
-    ensures { IfOk result (λ o. IfSome o (λ s. IsSeen config.now (S.rows store.now) rows.now (faultless kept.now.items) (faultless edit.now.kept.now) a b edit.now.from edit.now.end 0 s.touched false s.found.items)) }
+    ensures { IfOk result (λ o. IfSome o (λ s. IsSeen config.now (S.rows store.now) rows.now kept.now.items edit.now.kept.now a b edit.now.from edit.now.end s.touched s.found.items)) }
 {
-    let before = measure_of_facts_before(kept, edit.from, whole);
-    let Some(_) = measure_of_facts_after(kept, edit, before, whole) else {
+    let before = measure_before(kept, edit.from, whole);
+    if !leaves_below(kept, edit, before) {
         return Ok(None);
-    };
+    }
     let Some(cut) = cut_edit(store, a, b, rows, edit) else {
         return Ok(None);
     };
@@ -161,10 +107,6 @@ pub fn see_faultless<S: LineStore>(
     let patched = Patched::new(store, a, b, rows);
     let window = Window::new(patched, touched.first as usize, touched.new_end as usize);
     let (down, new) = (touched.first, edit.kept);
-    let found = find_without_faults(alloc, config, ends, &window, down, before, new)?;
-    Ok(Some(SeenEdit {
-        touched,
-        hidden: false,
-        found,
-    }))
+    let found = find_there(alloc, config, ends, &window, down, before, new)?;
+    Ok(Some(SeenEdit { touched, found }))
 }

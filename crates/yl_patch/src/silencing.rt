@@ -1,21 +1,14 @@
-//! Which sections of a text may silence rules, and what the comments of those before one say.
-ghost use Rattle.std.specs.Prelude.{◌≡◌, ◌≤◌, ◌<◌, ◌+◌, ◌-◌, ◌^◌, ◌++◌, ◌∷◌, [], List, true, false, length, map, take, drop, IfOk, IfSome};
+//! Which sections of a text may silence rules.
+ghost use Rattle.std.specs.Prelude.{◌≡◌, ◌≤◌, ◌<◌, ◌+◌, ◌-◌, ◌^◌, ◌++◌, ◌∷◌, [], List, true, length, take, drop, IfSome};
 ghost use Rattle.std.specs.List.{AllByRecursion, splice};
 ghost use Rattle.yl_text.specs.Store.{IsRange};
-ghost use Rattle.yl_lexeme.specs.PlacedComments.{placed_comment_value};
-ghost use Rattle.yl_report.specs.Directive.{is_silenced};
-ghost use Rattle.yl_report.specs.Silence.{is_file_silenced_by, is_silenced_at};
 ghost use Rattle.yl_sections.specs.Kept.{KeptValue};
 ghost use Rattle.yl_rejudge.specs.Places.{rows_kept};
-ghost use Rattle.yl_lint.specs.TextReport.{comments_in_sections};
 ghost use Rattle.yl_patch.specs.Plain.{IsSilencingOf, IsSilent, IsStart};
 
-use crate::comments::{comments_between, with_comments_of};
 use crate::touched::count_rows;
-use std::alloc::{AllocError, Allocator};
+use std::alloc::Allocator;
 use yl_chunks::{Chunks, Spliced};
-use yl_lexeme::PlacedComment;
-use yl_report::Silences;
 use yl_sections::Kept;
 
 /// Which sections of a text may silence rules, counted from 0: some of those from `from` on, before `end`; `row` lines stand before the first of these.
@@ -108,24 +101,7 @@ fn with_one<A: Allocator>(silencing: Silencing, count: usize, row: u32, one: &Ke
     }
 }
 
-/// Which of these sections may silence rules.
-pub fn silencing_of<A: Allocator>(kept: &[Kept<A>]) -> Silencing
-    ensures { IsSilencingOf kept.now result }
-{
-    let mut silencing = any_of(0);
-    let mut row: u32 = 0;
-    for i in 0..kept.len() {
-        let one = &kept[i];
-        silencing = with_one(silencing, i, row, one);
-        let Some(below) = row.checked_add(one.rows()) else {
-            return any_of(kept.len());
-        };
-        row = below;
-    }
-    silencing
-}
-
-/// The same where some sections are kept in place of others.
+/// Which of these sections may silence rules, where some are kept in place of others.
 pub fn silencing_of_all<A: Allocator + Copy>(sections: &Spliced<'_, Kept<A>, A>) -> Silencing
     ensures { IsSilencingOf sections.now result }
 {
@@ -284,39 +260,4 @@ pub fn silencing_after<A: Allocator + Copy>(
         row,
         end: behind,
     })
-}
-
-/// The comments of the sections before one that may silence rules.
-fn comments_before<'a, A: Allocator + Copy>(
-    alloc: A,
-    kept: &'a Chunks<Kept<A>, A>,
-    silencing: Silencing,
-    from: usize,
-) -> Result<Vec<PlacedComment<'a>, A>, AllocError>
-    requires range { from ≤ length kept.now.items }
-    requires silencing { IsSilencingOf kept.now.items silencing }
-    ensures { IfOk result (λ v. map placed_comment_value v.items ≡ comments_in_sections 0 (take from kept.now.items)) }
-{
-    let stop = from.min(silencing.end);
-    comments_between(alloc, kept, silencing.from, stop, silencing.row)
-}
-
-/// What the comments of the sections before one say, and those of these, of which the first begins at `row`, where the first line of the
-/// text silences nothing.
-pub fn silences_upto<A: Allocator + Copy>(
-    alloc: A,
-    kept: &Chunks<Kept<A>, A>,
-    silencing: Silencing,
-    from: usize,
-    row: u32,
-    new: &[Kept<A>],
-) -> Result<Silences<A>, AllocError>
-    requires range { from ≤ length kept.now.items }
-    requires silencing { IsSilencingOf kept.now.items silencing }
-    ensures file { IfOk result (λ s. is_file_silenced_by s ≡ false) }
-    ensures lines { IfOk result (λ s. is_silenced_at s ≡ is_silenced (comments_in_sections 0 (take from kept.now.items) ++ comments_in_sections row new.now)) }
-{
-    let before = comments_before(alloc, kept, silencing, from)?;
-    let comments = with_comments_of(before, row, new)?;
-    Silences::read(alloc, "", &comments)
 }

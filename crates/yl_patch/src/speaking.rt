@@ -4,7 +4,7 @@ ghost use Rattle.std.specs.List.{AllByRecursion, filter};
 ghost use Rattle.yl_text.specs.Store.{IsRange};
 ghost use Rattle.yl_lexeme.specs.PlacedComments.{placed_comment_value};
 ghost use Rattle.yl_report.specs.Directive as directive;
-ghost use Rattle.yl_patch.specs.Speaking.{SpeakAlike, SpeakAsShown, SpeaksWithin};
+ghost use Rattle.yl_patch.specs.Speaking.{AllSpeakAlike, SpeakAlike, SpeaksWithin};
 ghost use Rattle.yl_patch.specs.Speaking as spec;
 
 use crate::comments::{comments_between, with_comments_of};
@@ -84,8 +84,8 @@ fn have_same_texts(one: &[PlacedComment<'_>], other: &[PlacedComment<'_>]) -> bo
     true
 }
 
-/// Whether the comments of the sections from one on, before `end`, and those of these say the same of all lines behind them.
-fn speak_alike<A: Allocator + Copy>(
+/// Whether all comments of the sections from one on, before `end`, and all of these say the same of all lines behind them.
+fn all_speak_alike<A: Allocator + Copy>(
     alloc: A,
     kept: &Chunks<Kept<A>, A>,
     from: usize,
@@ -93,7 +93,7 @@ fn speak_alike<A: Allocator + Copy>(
     new: &[Kept<A>],
 ) -> Result<bool, AllocError>
     requires { IsRange from end (length kept.now.items) }
-    ensures { IfOk result (λ alike. alike ≡ true → SpeakAlike (take (end - from) (drop from kept.now.items)) new.now) }
+    ensures { IfOk result (λ alike. alike ≡ true → AllSpeakAlike (take (end - from) (drop from kept.now.items)) new.now) }
 {
     let Some(old_rows) = count_rows_between(kept, from, end) else {
         return Ok(false);
@@ -111,23 +111,20 @@ fn speak_alike<A: Allocator + Copy>(
     Ok(have_same_texts(&gone, &here))
 }
 
-/// The same of what is shown of them, where a fault above hides them or not. A fault in them is seen where they are silent.
-pub fn speak_as_shown<A: Allocator + Copy>(
+/// Whether the comments that are shown of the sections from one on, before `end`, and those of these say the same of all lines behind them. Where
+/// some have a fault, that is seen only if all are silent.
+pub fn speak_alike<A: Allocator + Copy>(
     alloc: A,
-    hidden: bool,
     kept: &Chunks<Kept<A>, A>,
     from: usize,
     end: usize,
     new: &[Kept<A>],
 ) -> Result<bool, AllocError>
     requires { IsRange from end (length kept.now.items) }
-    ensures { IfOk result (λ alike. alike ≡ true → SpeakAsShown hidden (take (end - from) (drop from kept.now.items)) new.now) }
+    ensures { IfOk result (λ alike. alike ≡ true → SpeakAlike (take (end - from) (drop from kept.now.items)) new.now) }
 {
-    if hidden {
-        return Ok(true);
-    }
     if hides(new) || hides_between(kept, from, end) {
         return Ok(are_both_silent(kept, from, end, new));
     }
-    speak_alike(alloc, kept, from, end, new)
+    all_speak_alike(alloc, kept, from, end, new)
 }

@@ -4,7 +4,6 @@ pub mod Filtered
 pub mod HasLine
 pub mod Heard
 pub mod Inserted
-pub mod Joined
 pub mod LastSwitch
 pub mod Noted
 pub mod Order

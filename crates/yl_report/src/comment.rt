@@ -39,7 +39,7 @@ pub fn own_line(comment: &PlacedComment<'_>) -> u64
     }
 }
 
-// Whether the first line silences the whole file.
+/// Whether the first line silences the whole file.
 pub fn disables_file(first_row: &str) -> bool
     ensures { result ≡ spec.disables_file first_row.now }
 {

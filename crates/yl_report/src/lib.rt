@@ -6,7 +6,6 @@ mod arranging;
 mod comment;
 mod directive;
 mod hearing;
-mod joining;
 mod marks;
 mod noting;
 mod printing;
@@ -14,8 +13,8 @@ mod problem;
 mod silence;
 
 pub use arranging::{arrange, compare, one_arrangement};
-pub use hearing::{copies, heard_reports, retain_heard};
-pub use joining::arrange_with;
+pub use comment::disables_file;
+pub use hearing::heard_reports;
 pub use printing::write_report;
 pub use problem::{Problem, status};
 pub use silence::Silences;

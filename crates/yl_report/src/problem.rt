@@ -1,4 +1,4 @@
-use std::alloc::{AllocError, Allocator};
+use std::alloc::Allocator;
 use std::marker::Model;
 use yl_rules::Level;
 use yl_text::{Finding, RuleId};
@@ -21,9 +21,8 @@ impl<A: Allocator> Model for Problem<A> {
 }
 
 impl<A: Allocator> Problem<A> {
-    ghost use Rattle.std.specs.Prelude.{◌≡◌, IfOk};
+    ghost use Rattle.std.specs.Prelude.{◌≡◌};
     ghost use Rattle.yl_report.specs.Report.{is_error};
-    ghost use Rattle.yl_report.specs.Told.{finding_told};
 
     /// What was found, at a level.
     pub fn new(found: Finding<A>, level: Level) -> Problem<A>
@@ -77,22 +76,6 @@ impl<A: Allocator> Problem<A> {
         ensures { result.now ≡ self.now.message }
     {
         self.found.message()
-    }
-
-    /// What it tells, without its level. Where what is said never varies, it takes no memory. The only error is out of
-    /// memory.
-    pub fn told(&self, alloc: A) -> Result<Finding<A>, AllocError>
-        ensures { IfOk result (λ f. f ≡ finding_told self.now) }
-    {
-        self.found.copy_at(alloc, self.line)
-    }
-
-    /// A copy. Where what is said never varies, it takes no memory. The only error is out of memory.
-    pub fn copy(&self, alloc: A) -> Result<Problem<A>, AllocError>
-        ensures { IfOk result (λ p. p ≡ self.now) }
-    {
-        let told = self.told(alloc)?;
-        Ok(Problem::new(told, self.level))
     }
 }
 

@@ -1,8 +1,6 @@
 //! Configurations: what their texts say, or the first fault.
 
-mod growth;
 mod large;
-mod rows;
 mod settings;
 mod standard;
 
@@ -13,11 +11,6 @@ use yl_config::{Config, ConfigFault};
 /// What bytes say. It has no clauses, so that what `Config::read` promises is not carried through the proofs of the tests.
 fn read<A: Allocator + Copy>(alloc: A, bytes: &[u8]) -> Result<Config, ConfigFault> {
     Config::read(alloc, bytes)
-}
-
-/// What is told of a text: the fault, or nothing.
-fn told(alloc: Global, text: &str) -> Result<String, AllocError> {
-    told_of_bytes(alloc, text.as_bytes())
 }
 
 /// What is told of bytes: the fault, or nothing.

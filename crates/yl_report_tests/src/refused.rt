@@ -3,7 +3,7 @@ use refusing::Refusing;
 use std::alloc::{AllocError, Global};
 use std::test::Fail;
 use yl_lexeme::PlacedComment;
-use yl_report::{Silences, arrange, arrange_with};
+use yl_report::{Silences, arrange};
 use yl_rules::RuleLevels;
 use yl_text::{Finding, RuleId};
 
@@ -98,30 +98,11 @@ fn arrange_refused(heap: Heap<'_>, n: u64) -> Result<Outcome, AllocError> {
     Ok(judged(is_met, is_right))
 }
 
-// What became of a report, of which all is reported already and found once more, with the nth growth refused.
-fn join_refused(heap: Heap<'_>, n: u64) -> Result<Outcome, AllocError> {
-    let levels = RuleLevels::standard();
-    let silences = Silences::none(heap);
-    let reported = arrange(heap, found_in_three_lines(heap)?, &levels, &silences)?;
-    let found = found_in_three_lines(heap)?;
-    heap.refuse(n);
-    let answer = arrange_with(heap, reported.as_slice(), found, &levels, &silences);
-    let is_met = !heap.is_armed();
-    heap.refuse(0);
-    let is_right = answer.ok().map(|problems| problems.len() == 3);
-    Ok(judged(is_met, is_right))
-}
-
-// One growth for a report. Where three problems are reported already, one for all that is told of them, one for each
-// message, and one for the report.
+// One growth for a report.
 #[test]
 fn each_growth_of_arranging_is_refused(rt: HostRuntime) -> Result<(), Fail> {
     let heap = Refusing::new(rt.alloc());
     assert_eq!(rt; arrange_refused(&heap, 1)?, Outcome::Memory);
     assert_eq!(rt; arrange_refused(&heap, 2)?, Outcome::Whole);
-    for n in 1..6 {
-        assert_eq!(rt; join_refused(&heap, n)?, Outcome::Memory, "growth {n}");
-    }
-    assert_eq!(rt; join_refused(&heap, 6)?, Outcome::Whole);
     Ok(())
 }

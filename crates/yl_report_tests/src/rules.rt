@@ -3,7 +3,6 @@
 mod comments;
 mod growths;
 mod levels;
-mod rows;
 mod runs;
 
 use std::alloc::{AllocError, Allocator, Global};

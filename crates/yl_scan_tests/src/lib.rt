@@ -6,8 +6,6 @@ mod bounds;
 #[cfg(test)]
 mod deep;
 #[cfg(test)]
-mod faults;
-#[cfg(test)]
 mod growths;
 #[cfg(test)]
 mod large;
@@ -17,5 +15,3 @@ mod records;
 mod scans;
 #[cfg(test)]
 mod steps;
-#[cfg(test)]
-mod texts;

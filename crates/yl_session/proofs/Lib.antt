@@ -9,6 +9,7 @@ mod HeldReport
 mod HeldDocuments
 mod Read
 mod Renewed
+mod Parts
 mod Places
 pub mod Between
 pub mod Goes

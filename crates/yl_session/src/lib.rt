@@ -5,16 +5,12 @@
 #![tactic(auto)]
 
 mod beginning;
-mod faultless;
 mod guide;
-mod in_lines;
-mod known;
 mod planning;
 mod reading;
 mod renewing;
 mod replaying;
 mod session;
-mod turning;
 mod work;
 
 pub use replaying::{Edit, replay};

@@ -12,30 +12,27 @@ ghost use Rattle.yl_session.specs.Runs.{IsNothing};
 ghost use Rattle.yl_session.specs.Work.{IsWork};
 
 use crate::beginning::{OpenedText, begin};
-use crate::faultless::FaultlessRenewal;
 use crate::guide::{put_kept, renew_places};
-use crate::in_lines::{LinesReport, lines_kept};
-use crate::known::Known;
 use crate::planning::{make_room, planned};
-use crate::renewing::{Renewal, renew};
+use crate::renewing::Renewal;
 use crate::work::Work;
 use std::alloc::{AllocError, Allocator};
 use std::marker::Model;
 use yl_chunks::Chunks;
 use yl_config::Config;
-use yl_patch::{Faultless, Overview};
+use yl_parting::FoundProblems;
+use yl_patch::Overview;
 use yl_record::Record;
 use yl_rejudge::Place;
 use yl_report::{Problem, status};
 use yl_sections::Kept;
 use yl_text::{LineStore, Lines, Pos, Row, TextFault, are_one_place, line_edit, split};
 
-/// The lines of a text, with a record of each, what is kept of its sections and known of all of them, places
-/// among them, its report under a configuration, and, once it is known, what would be reported if no comment
-/// silenced anything, what was reported of the lines alone, and while a section has a fault, what would be
-/// reported if none had one. The records from row `cut` on, where there is one, stand below a scan fault, behind
-/// which nothing is read: they are as they were before it came, so that they need not be made again once it
-/// goes. What is kept of the sections is kept by these records; of those below a fault the report shows nothing.
+/// The lines of a text, with a record of each, what is kept of its sections and known of all of them, places among them, and all that is found
+/// in it under a configuration, parted into what its report shows and what its first fault and its comments keep from being shown. The records
+/// from row `cut` on, where there is one, stand below a scan fault, behind which nothing is read: they are as they were before it came, so that
+/// they need not be made again once it goes. What is kept of the sections is kept by these records; of those below a fault the report shows
+/// nothing.
 #[derive(Drop)]
 pub struct Session<S: LineStore> {
     alloc: S::Alloc,
@@ -46,43 +43,35 @@ pub struct Session<S: LineStore> {
     kept: Chunks<Kept<S::Alloc>, S::Alloc>,
     places: Vec<Place, S::Alloc>,
     overview: Overview,
-    problems: Vec<Problem<S::Alloc>, S::Alloc>,
-    unsilenced: Vec<Problem<S::Alloc>, S::Alloc>,
-    is_known: bool,
-    in_lines: Option<LinesReport<S::Alloc>>,
-    faultless: Vec<Problem<S::Alloc>, S::Alloc>,
-    known_faultless: Option<Faultless>,
+    found: FoundProblems<S::Alloc>,
 }
 
 impl<S: LineStore> Model for Session<S> {
-    ghost use Rattle.std.specs.Prelude.{◌≡◌, true, map, IfSome};
-    ghost use Rattle.yl_session.specs.Faultless.{WouldBeReported};
-    ghost use Rattle.yl_session.specs.InLines.{WereReported};
+    ghost use Rattle.std.specs.Prelude.{◌≡◌, true, map};
     ghost use Rattle.yl_session.specs.State.{SessionValue};
     ghost use Rattle.yl_record.specs.Records.{characters_in};
     ghost use Rattle.yl_sections.specs.Judge.{kept_of_section};
     ghost use Rattle.yl_sections.specs.Sections.{sections};
     ghost use Rattle.yl_rescan.specs.Held.{AreHeld};
     ghost use Rattle.yl_lint.specs.TextReport.{report};
-    ghost use Rattle.yl_lint.specs.Unsilenced.{unsilenced_by};
     ghost use Rattle.std.specs.List.{AllByRecursion};
+    ghost use Rattle.yl_parting.specs.Changes.{parts_in};
+    ghost use Rattle.yl_patch.specs.Found.{all_parts};
     ghost use Rattle.yl_patch.specs.Plain.{IsOverviewOf};
     ghost use Rattle.yl_rejudge.specs.Places.{IsAt};
     ghost use Rattle.yl_text.specs.Store.{AreLines};
 
     ghost Value = { SessionValue };
 
-    ghost view = { λ s. record { config = s.config; rows = S.rows s.store; problems = s.problems.items } };
+    ghost view = { λ s. record { config = s.config; rows = S.rows s.store; problems = s.found.shown.items } };
 
     ghost invariant = { λ s. AreLines (S.rows s.store)
         × AreHeld (characters_in (S.rows s.store)) s.cut s.records.items
         × (s.kept.items ≡ map (kept_of_section s.config) (sections s.records.items))
-        × (s.problems.items ≡ report s.config (S.rows s.store))
+        × (s.found.shown.items ≡ report s.config (S.rows s.store))
         × IsOverviewOf s.kept.items s.overview
         × AllByRecursion (IsAt s.kept.items) s.places.items
-        × (s.is_known ≡ true → s.unsilenced.items ≡ unsilenced_by s.config (S.rows s.store) s.kept.items)
-        × IfSome s.in_lines (λ l. WereReported s.config (S.rows s.store) l.problems.items l.stayed)
-        × IfSome s.known_faultless (λ f. WouldBeReported s.config (S.rows s.store) s.kept.items s.faultless.items f) };
+        × (s.overview.is_plain ≡ true → parts_in s.found ≡ all_parts s.config (S.rows s.store) s.kept.items) };
 }
 
 impl<S: LineStore> Session<S> {
@@ -109,7 +98,7 @@ impl<S: LineStore> Session<S> {
             kept,
             places,
             overview,
-            problems,
+            found,
         } = begun;
         Ok(Session {
             alloc,
@@ -120,12 +109,7 @@ impl<S: LineStore> Session<S> {
             kept,
             places,
             overview,
-            problems,
-            unsilenced: Vec::new(alloc),
-            is_known: false,
-            in_lines: None,
-            faultless: Vec::new(alloc),
-            known_faultless: None,
+            found,
         })
     }
 
@@ -150,14 +134,14 @@ impl<S: LineStore> Session<S> {
         ensures shown { result.now ≡ self.now.problems }
         ensures report { self.now.problems ≡ report self.now.config self.now.rows }
     {
-        self.problems.as_slice()
+        self.found.shown.as_slice()
     }
 
     /// 1 if the report has an error, else 2 if it has a warning and `strict` is asked, else 0.
     pub fn status(&self, strict: bool) -> u8
         ensures { result ≡ status_of (report self.now.config self.now.rows) strict }
     {
-        status(self.problems.as_slice(), strict)
+        status(self.found.shown.as_slice(), strict)
     }
 
     /// Puts these rows in place of the lines a to b. All memory is taken before the first change.
@@ -175,39 +159,27 @@ impl<S: LineStore> Session<S> {
         ensures work { IfOk result (λ work. IsWork (characters_in self.old.rows) (characters_in (splice self.old.rows a b rows.old.items)) a b (length rows.old.items) work) }
         ensures err { OnErr result (self.new ≡ self.old) }
     {
-        let mut plan = {
-            let known = Known {
-                kept: &self.kept,
-                overview: self.overview,
-                problems: &self.problems,
-                unsilenced: &self.unsilenced,
-                is_known: self.is_known,
-                in_lines: &self.in_lines,
-                faultless: &self.faultless,
-                known_faultless: self.known_faultless,
-            };
-            planned(
-                self.alloc,
-                &self.config,
-                &self.store,
-                &self.records,
-                self.cut,
-                &self.places,
-                &known,
-                a,
-                b,
-                rows.as_slice(),
-            )?
-        };
-        make_room(
+        let mut plan = planned(
+            self.alloc,
+            &self.config,
+            &self.store,
+            &self.records,
+            self.cut,
+            &self.places,
+            &self.kept,
+            self.overview,
+            &self.found,
+            a,
+            b,
+            rows.as_slice(),
+        )?;
+        let spare = make_room(
+            self.alloc,
             &mut self.records,
             &mut self.kept,
-            &mut self.problems,
-            &mut self.unsilenced,
-            &mut self.faultless,
+            &mut self.found,
             &plan,
         )?;
-        let lines = self.store.len();
         self.store.splice(a, b, rows)?;
         self.records.fill_room(
             plan.rescan.from,
@@ -217,21 +189,9 @@ impl<S: LineStore> Session<S> {
         self.cut = plan.rescan.cut;
         renew_places(&self.kept, &mut self.places, plan.places);
         put_kept(&mut self.kept, &mut self.places, &mut plan.rejudged);
-        let Renewal {
-            report,
-            unsilenced,
-            is_known,
-            overview,
-        } = plan.renewal;
+        let Renewal { change, overview } = plan.renewal;
         self.overview = overview;
-        self.is_known = is_known;
-        renew(&mut self.problems, report);
-        renew(&mut self.unsilenced, unsilenced);
-        let FaultlessRenewal { problems, known } = plan.faultless;
-        renew(&mut self.faultless, problems);
-        self.known_faultless = known;
-        let (before, now) = (self.in_lines.take(), self.store.len());
-        self.in_lines = lines_kept(before, plan.in_lines, a, b, lines, now);
+        self.found.renew(change, spare);
         Ok(plan.work)
     }
 

@@ -5,7 +5,9 @@ use refusing::Refusing;
 use std::alloc::{AllocError, Global};
 use std::process::Abort;
 use std::test::Fail;
-use yl_text::{Break, LineStore, Lines, PlainStore, Row, TextFault, characters, line_edit, split};
+use yl_text::{
+    Break, LineStore, Lines, PlainStore, Pos, Row, TextFault, characters, line_edit, split,
+};
 
 #[test]
 fn of_split(rt: HostRuntime) -> Result<(), Fail> {
@@ -93,26 +95,41 @@ fn shown<S: Lines>(alloc: Global, lines: &S) -> Result<String, AllocError> {
     Ok(text)
 }
 
+// Whether this is the text of a store.
+fn is_shown<S: Lines>(alloc: Global, lines: &S, text: &str) -> Result<bool, AllocError> {
+    Ok(shown(alloc, lines)?.as_str() == text)
+}
+
+const EDITED: &str = "a |x|y|z|c ||";
+
 // Makes an edit whose nth growth is refused. A refusal changes nothing, and the same edit is made
-// when it is asked again. Whether it was made at once.
-fn is_made_at_once(rt: &impl Abort, alloc: Global, heap: Heap<'_>, n: u64) -> Result<bool, Fail> {
+// when it is asked again. Whether it was made at once; there is no answer where the store is not as it has to be.
+fn is_made_at_once(
+    rt: &impl Abort,
+    alloc: Global,
+    heap: Heap<'_>,
+    n: u64,
+) -> Result<Option<bool>, Fail> {
     let mut store: PlainStore<Heap<'_>> = opened(heap, b"a \nb\nc \n")?;
     let answer = edit_lines(rt, heap, n, &mut store, 1, 2, b"x\r\ny\r\nz\n");
-    if answer.is_err() {
-        assert!(rt; answer == Err(TextFault::Memory), "the {n}th growth");
-        assert_eq!(rt; shown(alloc, &store)?.as_str(), "a |b|c ||");
-        assert_eq!(rt; store.bytes(), 8);
-        edit_lines(rt, heap, 0, &mut store, 1, 2, b"x\r\ny\r\nz\n")?;
+    if answer.is_ok() {
+        return Ok(is_shown(alloc, &store, EDITED)?.then_some(true));
     }
-    assert_eq!(rt; shown(alloc, &store)?.as_str(), "a |x|y|z|c ||");
-    Ok(answer.is_ok())
+    let is_same = store.bytes() == 8 && is_shown(alloc, &store, "a |b|c ||")?;
+    if answer != Err(TextFault::Memory) || !is_same {
+        return Ok(None);
+    }
+    edit_lines(rt, heap, 0, &mut store, 1, 2, b"x\r\ny\r\nz\n")?;
+    Ok(is_shown(alloc, &store, EDITED)?.then_some(false))
 }
 
 #[test]
 fn of_splice(rt: HostRuntime) -> Result<(), Fail> {
     let heap = Refusing::new(rt.alloc());
     for n in 1..u64::MAX {
-        if is_made_at_once(&rt, rt.alloc(), &heap, n)? {
+        let answer = is_made_at_once(&rt, rt.alloc(), &heap, n)?;
+        assert!(rt; answer.is_some(), "the {n}th growth");
+        if answer == Some(true) {
             assert!(rt; n > 1, "{n} growths");
             return Ok(());
         }
@@ -120,21 +137,29 @@ fn of_splice(rt: HostRuntime) -> Result<(), Fail> {
     Ok(())
 }
 
-// The bytes of a line edit take one growth, as large as they are; where a CR is before the place, too.
+// Whether the bytes of a line edit from this place on take one growth, as large as they are.
+fn takes_one_growth(heap: Heap<'_>, from: Pos) -> Result<bool, Fail> {
+    let store: PlainStore<Heap<'_>> = opened(heap, b"a\rbcd\r\ne")?;
+    let to = place(1, 2);
+    store.check(from, to, b"\n")?;
+    heap.refuse(1);
+    let is_refused = line_edit(heap, &store, from, to, b"\n").is_err();
+    heap.refuse(2);
+    let edit = line_edit(heap, &store, from, to, b"\n")?;
+    let left = heap.left();
+    heap.refuse(0);
+    Ok(is_refused && left == 1 && edit.bytes.capacity() == edit.bytes.len())
+}
+
+// Where a CR is before the place, too.
 #[test]
 fn of_a_line_edit(rt: HostRuntime) -> Result<(), Fail> {
     let heap = Refusing::new(rt.alloc());
-    let store: PlainStore<Heap<'_>> = opened(&heap, b"a\rbcd\r\ne")?;
-    for (line, col) in [(1, 1), (1, 0)] {
-        let (from, to) = (place(line, col), place(1, 2));
-        store.check(from, to, b"\n")?;
-        heap.refuse(1);
-        assert!(rt; line_edit(&heap, &store, from, to, b"\n").is_err());
-        heap.refuse(2);
-        let edit = line_edit(&heap, &store, from, to, b"\n")?;
-        assert_eq!(rt; heap.left(), 1);
-        heap.refuse(0);
-        assert_eq!(rt; edit.bytes.capacity(), edit.bytes.len());
+    for col in 0..2 {
+        assert!(rt;
+            takes_one_growth(&heap, place(1, col))?,
+            "from column {col}"
+        );
     }
     Ok(())
 }

@@ -7,7 +7,7 @@ use std::alloc::{AllocError, Global};
 use std::process::Abort;
 use std::test::Fail;
 use yl_chunks::ChunkStore;
-use yl_text::{LineStore, PlainStore, Pos, are_one_place, split};
+use yl_text::{LineStore, PlainStore, Pos, Row, TextFault, are_one_place, split};
 
 // Numbers that look random, the same ones at each run.
 #[derive(Drop)]
@@ -76,7 +76,55 @@ fn place_behind(text: &str, count: usize, other_name: bool) -> (Pos, usize) {
     (place(line, col), byte)
 }
 
-// Makes a random edit of a random text by both stores, and compares.
+// Whether a store of a text takes these places for one, or for two.
+fn are_told(
+    heap: Heap<'_>,
+    text: &str,
+    places: (Pos, Pos),
+    are_one: bool,
+) -> Result<bool, TextFault> {
+    let (from, to) = places;
+    let plain: PlainStore<Heap<'_>> = opened(heap, text.as_bytes())?;
+    plain.check(from, to, b"")?;
+    Ok(are_one_place(&plain, from, to) == are_one)
+}
+
+// Whether a store has these rows behind an edit.
+fn has_rows<'a, S: LineStore<Alloc = Heap<'a>>>(
+    rt: &impl Abort,
+    heap: Heap<'a>,
+    text: &str,
+    places: (Pos, Pos),
+    bytes: &str,
+    rows: &[Row<Global>],
+) -> Result<bool, TextFault> {
+    let (from, to) = places;
+    let mut store: S = opened(heap, text.as_bytes())?;
+    edit(rt, heap, 0, &mut store, from, to, bytes.as_bytes())?;
+    Ok(shows(&store, rows))
+}
+
+// Makes an edit of what stands between two bytes of a text by both stores, and compares.
+fn are_edited(
+    rt: &impl Abort,
+    alloc: Global,
+    heap: Heap<'_>,
+    text: &str,
+    range: (usize, usize),
+    places: (Pos, Pos),
+    bytes: &str,
+) -> Result<bool, Fail> {
+    let (start, end) = range;
+    let whole = replaced(alloc, text.as_bytes(), start, end, bytes.as_bytes())?;
+    let rows = split(alloc, whole.as_slice())?;
+    Ok(
+        are_told(heap, text, places, start == end)?
+            && has_rows::<PlainStore<Heap<'_>>>(rt, heap, text, places, bytes, &rows)?
+            && has_rows::<ChunkStore<Heap<'_>>>(rt, heap, text, places, bytes, &rows)?,
+    )
+}
+
+// Makes a random edit of a random text.
 fn compare(
     rt: &impl Abort,
     alloc: Global,
@@ -93,19 +141,8 @@ fn compare(
     let (to, end) = place_behind(&text, p.max(q), random.below(3) == 0);
     let count = random.below(7);
     let bytes = random_text(alloc, random, count)?;
-    let whole = replaced(alloc, text.as_bytes(), start, end, bytes.as_bytes())?;
-    let rows = split(alloc, whole.as_slice())?;
-    let mut plain: PlainStore<Heap<'_>> = opened(heap, text.as_bytes())?;
-    let mut chunks: ChunkStore<Heap<'_>> = opened(heap, text.as_bytes())?;
-    plain.check(from, to, bytes.as_bytes())?;
     assert!(rt;
-        are_one_place(&plain, from, to) == (start == end),
-        "{text:?} {from:?} {to:?}"
-    );
-    edit(rt, heap, 0, &mut plain, from, to, bytes.as_bytes())?;
-    edit(rt, heap, 0, &mut chunks, from, to, bytes.as_bytes())?;
-    assert!(rt;
-        shows(&plain, rows.as_slice()) && shows(&chunks, rows.as_slice()),
+        are_edited(rt, alloc, heap, &text, (start, end), (from, to), &bytes)?,
         "{text:?} {from:?} {to:?} {bytes:?}"
     );
     Ok(())

@@ -61,8 +61,8 @@ pub(crate) fn shows<S: Lines>(lines: &S, rows: &[Row<Global>]) -> bool {
     true
 }
 
-// Makes an edit that can be made, of what stands from byte p to q, and compares what is shown then.
-fn compare(
+// Makes an edit that can be made, of what stands between two bytes, and tells whether the text that is edited is shown then.
+fn is_edited(
     rt: &impl Abort,
     alloc: Global,
     heap: Heap<'_>,
@@ -70,18 +70,13 @@ fn compare(
     range: (usize, usize),
     places: (Pos, Pos),
     bytes: &str,
-) -> Result<(), Fail> {
+) -> Result<bool, Fail> {
     let mut store: PlainStore<Heap<'_>> = opened(heap, text.as_bytes())?;
     let (from, to) = places;
     edit(rt, heap, 0, &mut store, from, to, bytes.as_bytes())?;
     let whole = replaced(alloc, text.as_bytes(), range.0, range.1, bytes.as_bytes())?;
     let rows = split(alloc, whole.as_slice())?;
-    assert!(rt;
-        shows(&store, rows.as_slice()),
-        "{text:?} {from:?} {to:?} {bytes:?}"
-    );
-    assert_eq!(rt; store.bytes(), whole.len() as u64);
-    Ok(())
+    Ok(shows(&store, rows.as_slice()) && store.bytes() == whole.len() as u64)
 }
 
 // The place of `OFFSETS` by its number.
@@ -89,7 +84,39 @@ fn nth_place(n: usize) -> Pos {
     place(n / COLUMNS, n % COLUMNS)
 }
 
-// Makes all edits of a text between two of its places, and compares; and sees that those between others are refused.
+// Whether no edit between these places can be made.
+fn is_no_range(heap: Heap<'_>, text: &str, places: (Pos, Pos)) -> Result<bool, TextFault> {
+    let store: PlainStore<Heap<'_>> = opened(heap, text.as_bytes())?;
+    Ok(store.check(places.0, places.1, b"") == Err(TextFault::Range))
+}
+
+// Whether all edits between two places are made rightly, or none can be where one is no place or the second stands before
+// the first. These say how many bytes stand before each.
+fn are_edited(
+    rt: &impl Abort,
+    alloc: Global,
+    heap: Heap<'_>,
+    text: &str,
+    places: (Pos, Pos),
+    offsets: (u8, u8),
+) -> Result<bool, Fail> {
+    let (p, q) = offsets;
+    if p == b'.' || q == b'.' || q < p {
+        return Ok(is_no_range(heap, text, places)?);
+    }
+    let range = (
+        p.saturating_sub(b'0') as usize,
+        q.saturating_sub(b'0') as usize,
+    );
+    for bytes in TEXTS {
+        if !is_edited(rt, alloc, heap, text, range, places, bytes)? {
+            return Ok(false);
+        }
+    }
+    Ok(true)
+}
+
+// Makes all edits of a text between two of its places, and sees that those between others are refused.
 fn all_edits(
     rt: &impl Abort,
     alloc: Global,
@@ -97,24 +124,13 @@ fn all_edits(
     text: &str,
     offsets: &str,
 ) -> Result<(), Fail> {
-    let store: PlainStore<Heap<'_>> = opened(heap, text.as_bytes())?;
     for (i, p) in offsets.bytes().enumerate() {
         for (j, q) in offsets.bytes().enumerate() {
-            let (from, to) = (nth_place(i), nth_place(j));
-            if p == b'.' || q == b'.' || q < p {
-                assert!(rt;
-                    store.check(from, to, b"") == Err(TextFault::Range),
-                    "{text:?} {from:?} {to:?}"
-                );
-                continue;
-            }
-            let range = (
-                p.saturating_sub(b'0') as usize,
-                q.saturating_sub(b'0') as usize,
+            let places = (nth_place(i), nth_place(j));
+            assert!(rt;
+                are_edited(rt, alloc, heap, text, places, (p, q))?,
+                "{text:?} {places:?}"
             );
-            for bytes in TEXTS {
-                compare(rt, alloc, heap, text, range, (from, to), bytes)?;
-            }
         }
     }
     Ok(())
@@ -174,20 +190,33 @@ const REFUSED: [Refused; 9] = [
     ),
 ];
 
+// Whether an edit is refused for this, and the text stays.
+fn is_refused(
+    rt: &impl Abort,
+    alloc: Global,
+    heap: Heap<'_>,
+    text: &str,
+    places: (Pos, Pos),
+    bytes: &[u8],
+    fault: TextFault,
+) -> Result<bool, TextFault> {
+    let (from, to) = places;
+    let mut store: PlainStore<Heap<'_>> = opened(heap, text.as_bytes())?;
+    let is_told = store.check(from, to, bytes) == Err(fault);
+    let is_answered = edit(rt, heap, 0, &mut store, from, to, bytes) == Err(fault);
+    let rows = split(alloc, text.as_bytes())?;
+    Ok(is_told && is_answered && shows(&store, rows.as_slice()))
+}
+
 #[test]
 fn refused_edits(rt: HostRuntime) -> Result<(), Fail> {
     let heap = Refusing::new(rt.alloc());
     for (text, from, to, bytes, fault) in REFUSED {
-        let from = place(from.0, from.1);
-        let to = place(to.0, to.1);
-        let mut store: PlainStore<Heap<'_>> = opened(&heap, text.as_bytes())?;
+        let places = (place(from.0, from.1), place(to.0, to.1));
         assert!(rt;
-            store.check(from, to, bytes) == Err(fault),
+            is_refused(&rt, rt.alloc(), &heap, text, places, bytes, fault)?,
             "{text:?} {bytes:?}"
         );
-        assert!(rt; edit(&rt, &heap, 0, &mut store, from, to, bytes) == Err(fault));
-        let rows = split(rt.alloc(), text.as_bytes())?;
-        assert!(rt; shows(&store, rows.as_slice()), "{text:?}");
     }
     Ok(())
 }

@@ -2,9 +2,10 @@
 
 use crate::stores::{Heap, opened};
 use refusing::Refusing;
+use std::alloc::{AllocError, Global};
 use std::test::Fail;
 use yl_text::{
-    Break, LineStore, Lines, Patched, PlainStore, TextFault, characters, first_special, split,
+    Break, LineStore, Lines, Patched, PlainStore, Row, TextFault, characters, first_special, split,
 };
 
 // Texts and their lines, each with its break.
@@ -35,21 +36,49 @@ const LINES: [(&str, &[(&str, Break)]); 7] = [
     ),
 ];
 
+fn is_line(row: &Row<Global>, line: &str, end: Break) -> bool {
+    let size = line.len().saturating_add(end.len());
+    row.as_str() == line && row.end() == end && row.bytes() == size
+}
+
+// Whether these are the lines of a text.
+fn are_lines(alloc: Global, text: &str, want: &[(&str, Break)]) -> Result<bool, TextFault> {
+    let rows = split(alloc, text.as_bytes())?;
+    for (row, (line, end)) in rows.iter().zip(want) {
+        if !is_line(row, line, *end) {
+            return Ok(false);
+        }
+    }
+    Ok(rows.len() == want.len())
+}
+
 #[test]
 fn splits(rt: HostRuntime) -> Result<(), Fail> {
     for (text, want) in LINES {
-        let rows = split(rt.alloc(), text.as_bytes())?;
-        assert_eq!(rt; rows.len(), want.len(), "{text:?}");
-        for (row, (line, end)) in rows.iter().zip(want) {
-            assert_eq!(rt; row.as_str(), *line, "{text:?}");
-            assert!(rt; row.end() == *end, "{text:?}");
-            assert_eq!(rt; row.bytes(), line.len() + end.len());
-        }
+        assert!(rt; are_lines(rt.alloc(), text, want)?, "{text:?}");
     }
-    assert!(rt;
-        split(rt.alloc(), b"a: \xE4\n").err() == Some(TextFault::NotUtf8 { valid_up_to: 3 })
-    );
+    let fault = split(rt.alloc(), b"a: \xE4\n").err();
+    assert!(rt; fault == Some(TextFault::NotUtf8 { valid_up_to: 3 }));
     Ok(())
+}
+
+// The texts of all rows, each before a bar.
+fn shown<S: Lines>(alloc: Global, lines: &S) -> Result<String, AllocError> {
+    let mut seen = String::new(alloc);
+    for i in 0..lines.len() {
+        seen.push_str(lines.row(i).as_str())?;
+        seen.push('|')?;
+    }
+    Ok(seen)
+}
+
+// How many rows are lent from this one on.
+fn lent<S: Lines>(lines: &S, i: usize) -> usize {
+    if i < lines.len() {
+        lines.rows_from(i).len()
+    } else {
+        0
+    }
 }
 
 // A store of lines that are not ASCII, and the same with a line replaced.
@@ -57,22 +86,15 @@ fn splits(rt: HostRuntime) -> Result<(), Fail> {
 fn shows_lines_of_other_alphabets(rt: HostRuntime) -> Result<(), Fail> {
     let heap = Refusing::new(rt.alloc());
     let store: PlainStore<Heap<'_>> = opened(&heap, "ключ: значение\r\n名: 値\n🙂".as_bytes())?;
-    assert_eq!(rt; store.len(), 3);
-    assert_eq!(rt; store.bytes(), 26 + 2 + 8 + 1 + 4);
-    assert_eq!(rt; store.row(1).as_str(), "名: 値");
     let rows = split(&heap, "é\rè\n".as_bytes())?;
-    assert_eq!(rt; rows.len(), 3);
+    assert_eq!(rt;
+        (store.len(), store.bytes(), rows.len()),
+        (3, 26 + 2 + 8 + 1 + 4, 3)
+    );
     let patched = Patched::new(&store, 1, 2, rows.as_slice());
-    let mut seen = String::new(rt.alloc());
-    for i in 0..patched.len() {
-        seen.push_str(patched.row(i).as_str())?;
-        seen.push('|')?;
-    }
-    assert_eq!(rt; seen.as_str(), "ключ: значение|é|è||🙂|");
-    assert_eq!(rt; patched.rows_from(0).len(), 1);
-    assert_eq!(rt; patched.rows_from(2).len(), 2);
-    assert_eq!(rt; patched.rows_from(4).len(), 1);
-    assert_eq!(rt; store.rows_from(1).len(), 2);
+    let seen = shown(rt.alloc(), &patched)?;
+    let counts = (lent(&patched, 0), lent(&patched, 2), lent(&patched, 4));
+    assert!(rt; seen.as_str() == "ключ: значение|é|è||🙂|" && counts == (1, 2, 1));
     Ok(())
 }
 

@@ -19,11 +19,9 @@ use Rattle.yl_rules.specs.Rows.{row_findings}
 use Rattle.yl_rules.specs.Runs.{run_findings}
 use Rattle.yl_config.specs.declared.config.Config.{Config}
 use Rattle.yl_config.specs.Config.{options_of}
-use Rattle.yl_sections.specs.Kept.{KeptValue}
-use Rattle.yl_lint.specs.TextReport.{findings_from, findings_in_lines, first_text, text_in, width_of_line, end_of_lines, report_by, report_of_kept}
-use Rattle.yl_lint.specs.Unsilenced.{unsilenced_by, unsilenced_of_kept}
+use Rattle.yl_lint.specs.TextReport.{findings_from, findings_in_lines, text_in, width_of_line, end_of_lines}
 use Rattle.yl_lint.proofs.Rows.{rows_at}
-use Rattle.yl_unchanged.specs.Alike.{IsAlike, AreAlike}
+use Rattle.yl_unchanged.specs.Alike.{IsAlike, AreAlike, AreReadAlike}
 
 -- ---- what the rule on empty lines looks at
 
@@ -188,23 +186,11 @@ lines_same config old new s =
     let o = options_of config in
     ap (λ (fs : List FindingValue). fs ++ run_findings o.run new) s.found ∙ ap (λ (fs : List FindingValue). findings_from o.row 1 old ++ fs) (runs_same config o.run old new s)
 
-report_same : (config : Config) (old new : List RowValue) (ks ls : List KeptValue) → AreSame config old new → ls ≡ ks → report_by config new ls ≡ report_by config old ks
-report_same config old new ks ls s k =
-    let o = options_of config in
-    ap (λ (fs : List FindingValue). report_of_kept config fs (first_text new) (end_of_lines new) ls) (lines_same config old new s)
-    ∙ (ap (λ (r : Option RowValue). report_of_kept config (findings_in_lines o old) (text_in r) (end_of_lines new) ls) s.first
-    ∙ (ap (λ (p : Pos). report_of_kept config (findings_in_lines o old) (first_text old) p ls) (end_same config old new s) ∙ ap (report_by config old) k))
-
-unsilenced_same : (config : Config) (old new : List RowValue) (ks ls : List KeptValue) → AreSame config old new → ls ≡ ks → unsilenced_by config new ls ≡ unsilenced_by config old ks
-unsilenced_same config old new ks ls s k =
-    ap (λ (fs : List FindingValue). unsilenced_of_kept config fs (end_of_lines new) ls) (lines_same config old new s)
-    ∙ (ap (λ (p : Pos). unsilenced_of_kept config (findings_in_lines (options_of config) old) p ls) (end_same config old new s) ∙ ap (unsilenced_by config old) k)
-
--- an edit within a text, after which the same is kept of its sections
-pub edit_leaves : (config : Config) (rows new : List RowValue) (ks ls : List KeptValue) (a b : ℕ) → 0 < a → b < length rows → b ≡ a + length new → AreAlike (options_of config).row (a + 1) (drop a rows) new → ls ≡ ks
-    → (report_by config (splice rows a b new) ls ≡ report_by config rows ks) × (unsilenced_by config (splice rows a b new) ls ≡ unsilenced_by config rows ks)
-edit_leaves config rows new ks ls a b z l e h k =
-    let same = are_same_texts config rows new a b z l e h in (report_same config rows (splice rows a b new) ks ls same k, unsilenced_same config rows (splice rows a b new) ks ls same k)
+-- an edit within a text
+pub edit_reads_alike : (config : Config) (rows new : List RowValue) (a b : ℕ) → 0 < a → b < length rows → b ≡ a + length new → AreAlike (options_of config).row (a + 1) (drop a rows) new → AreReadAlike config rows (splice rows a b new)
+edit_reads_alike config rows new a b z l e h =
+    let same = are_same_texts config rows new a b z l e h in
+    record { found = lines_same config rows (splice rows a b new) same; first = ap text_in same.first; end = end_same config rows (splice rows a b new) same }
 
 -- ---- lists compared
 

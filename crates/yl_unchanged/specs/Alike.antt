@@ -3,6 +3,9 @@ use Rattle.std.specs.Prelude.{◌≡◌, ℕ, ◌==◌, ◌+◌, List, [], ◌�
 use Rattle.yl_text.specs.Lines.{RowValue}
 use Rattle.yl_rules.specs.declared.options.RowOptions.{RowOptions}
 use Rattle.yl_rules.specs.Rows.{row_findings}
+use Rattle.yl_config.specs.declared.config.Config.{Config}
+use Rattle.yl_config.specs.Config.{options_of}
+use Rattle.yl_lint.specs.TextReport.{end_of_lines, findings_in_lines, first_text}
 
 -- an old line and the new one of the same number
 pub record IsAlike (o : RowOptions) (line : ℕ) (old new : RowValue) : Type 0 where
@@ -15,3 +18,9 @@ abbrev pub AreAlike : RowOptions → ℕ → List RowValue → List RowValue →
 AreAlike o line old [] = Unit {0}
 AreAlike o line [] (q ∷ qs) = ⊥
 AreAlike o line (p ∷ ps) (q ∷ qs) = IsAlike o line p q × AreAlike o (line + 1) ps qs
+
+-- of the new lines a report tells what it told of the old ones, whatever is found in their sections
+pub record AreReadAlike (config : Config) (old new : List RowValue) : Type 0 where
+  pub found : findings_in_lines (options_of config) new ≡ findings_in_lines (options_of config) old
+  pub first : first_text new ≡ first_text old
+  pub end : end_of_lines new ≡ end_of_lines old

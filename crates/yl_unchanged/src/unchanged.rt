@@ -1,10 +1,8 @@
 //! Whether an edit leaves the report as it is.
-ghost use Rattle.std.specs.Prelude.{◌≡◌, ◌<◌, ◌+◌, length, true, List, IfOk};
+ghost use Rattle.std.specs.Prelude.{◌≡◌, ◌<◌, ◌+◌, length, true, IfOk};
 ghost use Rattle.std.specs.List.{splice};
 ghost use Rattle.yl_text.specs.Store.{AreLines, IsRange};
-ghost use Rattle.yl_sections.specs.Kept.{KeptValue};
-ghost use Rattle.yl_lint.specs.TextReport.{report_by};
-ghost use Rattle.yl_lint.specs.Unsilenced.{unsilenced_by};
+ghost use Rattle.yl_unchanged.specs.Alike.{AreReadAlike};
 
 use crate::comparing::are_same;
 use crate::lines::are_alike;
@@ -36,11 +34,10 @@ fn stays<A: Allocator + Copy>(
     are_same(kept, from, end, new)
 }
 
-/// Whether the edit that puts these rows in place of the lines a to b, b not included, leaves the report as it is, and what would be
-/// reported if no comment silenced anything, as far as the edited lines and the sections that were judged again show: true only where it
-/// does. Of the sections, `kept` is what was kept, whatever it is, and `new` is what is to be kept in place of those from `from` on, before
-/// `end`. The same is kept then, and whatever may be kept, what would be reported of that if no comment silenced anything stays. The only
-/// error is out of memory.
+/// Whether the edit that puts these rows in place of the lines a to b, b not included, leaves all that is found in the text as it is, as far as
+/// the edited lines and the sections that were judged again show: true only where it does. Of the sections, `kept` is what was kept, whatever
+/// it is, and `new` is what is to be kept in place of those from `from` on, before `end`; the same is kept then. The only error is out of
+/// memory.
 pub fn leaves_report<S: LineStore>(
     alloc: S::Alloc,
     config: &Config,
@@ -57,10 +54,8 @@ pub fn leaves_report<S: LineStore>(
     requires old { AreLines (S.rows store.now) }
     requires lines { AreLines (splice (S.rows store.now) a b rows.now) }
     requires kept_range { IsRange from end (length kept.now.items) }
-    ensures report { IfOk result (λ same. same ≡ true → report_by config.now (splice (S.rows store.now) a b rows.now) (splice kept.now.items from end new.now) ≡ report_by config.now (S.rows store.now) kept.now.items) }
-    ensures unsilenced { IfOk result (λ same. same ≡ true → unsilenced_by config.now (splice (S.rows store.now) a b rows.now) (splice kept.now.items from end new.now) ≡ unsilenced_by config.now (S.rows store.now) kept.now.items) }
+    ensures lines { IfOk result (λ same. same ≡ true → AreReadAlike config.now (S.rows store.now) (splice (S.rows store.now) a b rows.now)) }
     ensures kept { IfOk result (λ same. same ≡ true → splice kept.now.items from end new.now ≡ kept.now.items) }
-    ensures any { IfOk result (λ same. same ≡ true → (ks : List KeptValue) → unsilenced_by config.now (splice (S.rows store.now) a b rows.now) ks ≡ unsilenced_by config.now (S.rows store.now) ks) }
 {
     if !is_inner(a, b, rows.len(), store.len()) || !stays(kept, from, end, new) {
         return Ok(false);

@@ -8,16 +8,16 @@ use yl_text::Pos;
 const COUNT: u32 = 100_000;
 
 /// An event in this line, without an anchor.
-pub(crate) fn event(kind: EventKind<'_>, line: u32) -> Event<'_> {
+fn event(kind: EventKind<'_>, line: u32) -> Event<'_> {
     Event::new(kind, Some(Pos { line, col: 0 }), None, false)
 }
 
-pub(crate) fn plain(value: &str, line: u32) -> Event<'_> {
+fn plain(value: &str, line: u32) -> Event<'_> {
     event(EventKind::Scalar(Style::Plain, value), line)
 }
 
 /// An anchor of this name on a missing node.
-pub(crate) fn anchored(name: &str, line: u32) -> Event<'_> {
+fn anchored(name: &str, line: u32) -> Event<'_> {
     let anchor = EventAnchor {
         name,
         place: Pos { line, col: 2 },
@@ -36,11 +36,7 @@ fn names(alloc: Global) -> Result<Vec<String>, AllocError> {
 }
 
 /// Puts a key in this line and a missing value behind the events.
-pub(crate) fn push_key<'a>(
-    events: &mut Vec<Event<'a>>,
-    name: &'a str,
-    line: u32,
-) -> Result<(), AllocError> {
+fn push_key<'a>(events: &mut Vec<Event<'a>>, name: &'a str, line: u32) -> Result<(), AllocError> {
     events.push(plain(name, line))?;
     events.push(event(EventKind::Empty, line))?;
     Ok(())

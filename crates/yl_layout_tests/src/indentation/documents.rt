@@ -1,18 +1,7 @@
-//! Texts of several documents, and documents of which not all counts.
-use super::{problems, problems_of, text_facts};
+//! The facts of documents, and documents of which not all counts.
+use super::{problems_of, text_facts};
 use std::test::Fail;
 use yl_indentation::{Expectation, Fact, IndentationOptions, Measure};
-
-#[test]
-fn the_first_document_gives_the_width_of_all(rt: HostRuntime) -> Result<(), Fail> {
-    let text = "---\na:\n    b: 1\n---\nc:\n  d: 1\n---\ne:\n  f: 1\n";
-    let shown = problems(rt.alloc(), text, &IndentationOptions::standard())?;
-    assert_eq!(rt;
-        shown.as_str(),
-        "6:3 wrong indentation: expected 4 but found 2\n9:3 wrong indentation: expected 4 but found 2\n"
-    );
-    Ok(())
-}
 
 // What stands behind a fault gives neither facts nor a width.
 #[test]

@@ -21,22 +21,6 @@ fn is_found(
 }
 
 #[test]
-fn many_brackets(rt: HostRuntime) -> Result<(), Fail> {
-    let wanted = "2:100001 truthy value should be one of [false, true] (truthy)\n\
-                  2:100001 string value is not quoted with any quotes (quoted-strings)\n";
-    assert!(rt; is_found(rt.alloc(), "---\n", "[", "yes", wanted)?);
-    Ok(())
-}
-
-#[test]
-fn many_entries_in_a_row(rt: HostRuntime) -> Result<(), Fail> {
-    let wanted = "2:200001 truthy value should be one of [false, true] (truthy)\n\
-                  2:200001 string value is not quoted with any quotes (quoted-strings)\n";
-    assert!(rt; is_found(rt.alloc(), "---\n", "- ", "yes", wanted)?);
-    Ok(())
-}
-
-#[test]
 fn many_anchors_in_a_row(rt: HostRuntime) -> Result<(), Fail> {
     let wanted = "2:300003 truthy value should be one of [false, true] (truthy)\n\
                   2:300003 string value is not quoted with any quotes (quoted-strings)\n";

@@ -15,78 +15,6 @@ fn found_in(
     shown(alloc, found.as_slice())
 }
 
-// A comment in a line and a column behind a column of content, and what is found in it.
-const USUAL: &[(u32, u32, &str, Option<u32>, &str)] = &[
-    (
-        1,
-        5,
-        "# x",
-        Some(4),
-        "2:6 comments too few spaces before comment\n",
-    ),
-    (1, 6, "# x", Some(4), ""),
-    (1, 1, "# x", None, ""),
-    (
-        1,
-        0,
-        "##x",
-        None,
-        "2:3 comments missing starting space in comment\n",
-    ),
-    (
-        1,
-        2,
-        "#é",
-        None,
-        "2:4 comments missing starting space in comment\n",
-    ),
-    (
-        1,
-        0,
-        "#\tx",
-        None,
-        "2:2 comments missing starting space in comment\n",
-    ),
-    (1, 0, "###", None, ""),
-    (
-        1,
-        5,
-        "#x",
-        Some(4),
-        "2:6 comments too few spaces before comment\n2:7 comments missing starting space in comment\n",
-    ),
-    (0, 0, "#!x", None, ""),
-    (0, 0, "##!é", None, ""),
-    (
-        1,
-        0,
-        "#!x",
-        None,
-        "2:2 comments missing starting space in comment\n",
-    ),
-    (
-        0,
-        1,
-        "#!x",
-        None,
-        "1:3 comments missing starting space in comment\n",
-    ),
-    (
-        0,
-        0,
-        "#! x",
-        None,
-        "1:2 comments missing starting space in comment\n",
-    ),
-    (
-        0,
-        0,
-        "#!",
-        None,
-        "1:2 comments missing starting space in comment\n",
-    ),
-];
-
 fn check(
     rt: &impl Abort,
     alloc: Global,
@@ -96,27 +24,6 @@ fn check(
 ) -> Result<(), Fail> {
     let found = found_in(alloc, comment, options)?;
     assert_eq!(rt; found.as_str(), wanted, "at {}", comment.text);
-    Ok(())
-}
-
-#[test]
-fn comments_with_the_usual_options(rt: HostRuntime) -> Result<(), Fail> {
-    for row in USUAL {
-        let (line, col, text, behind, wanted) = *row;
-        let comment = PlacedComment {
-            line,
-            col,
-            text,
-            behind,
-        };
-        check(
-            &rt,
-            rt.alloc(),
-            comment,
-            &CommentsOptions::standard(),
-            wanted,
-        )?;
-    }
     Ok(())
 }
 

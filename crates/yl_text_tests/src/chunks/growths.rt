@@ -1,13 +1,16 @@
 //! Each growth refused in turn, up to the first run that meets no refusal.
 
+ghost use Rattle.std.specs.Prelude.{◌≡◌, OnErr};
+ghost use Rattle.yl_text.specs.Store.{AreLines};
+
 use crate::chunks::{NEW, is_edited, numbered};
 use crate::stores::{Heap, edit_lines, opened};
 use refusing::Refusing;
-use std::alloc::Global;
+use std::alloc::{AllocError, Global};
 use std::process::Abort;
 use std::test::Fail;
 use yl_chunks::ChunkStore;
-use yl_text::{LineStore, TextFault, split};
+use yl_text::{LineStore, Row, TextFault, split};
 
 // Edits of texts of that many rows: the first row that goes, the one behind the last that goes, how many
 // come in, and how often memory is asked for at least. The rows of 257 are in two chunks.
@@ -21,7 +24,7 @@ const EDITS: [(usize, usize, usize, usize, u64); 6] = [
 ];
 
 // Makes an edit of a text whose nth growth is refused. A refusal changes nothing, and the same edit
-// is made when it is asked again. Whether it was made at once.
+// is made when it is asked again. Whether it was made at once; there is no answer where the rows are not as they have to be.
 fn is_made_at_once(
     rt: &impl Abort,
     heap: Heap<'_>,
@@ -30,17 +33,19 @@ fn is_made_at_once(
     range: (usize, usize),
     bytes: &str,
     sizes: (usize, usize),
-) -> Result<bool, TextFault> {
+) -> Result<Option<bool>, TextFault> {
     let (a, b) = range;
     let (size, count) = sizes;
     let mut store: ChunkStore<Heap<'_>> = opened(heap, text.as_bytes())?;
     let answer = edit_lines(rt, heap, n, &mut store, a, b, bytes.as_bytes());
-    if answer.is_err() {
-        assert!(rt; answer == Err(TextFault::Memory) && is_edited(&store, size, 0, 0, 0));
-        edit_lines(rt, heap, 0, &mut store, a, b, bytes.as_bytes())?;
+    if answer.is_ok() {
+        return Ok(is_edited(&store, size, a, b, count).then_some(true));
     }
-    assert!(rt; is_edited(&store, size, a, b, count));
-    Ok(answer.is_ok())
+    if answer != Err(TextFault::Memory) || !is_edited(&store, size, 0, 0, 0) {
+        return Ok(None);
+    }
+    edit_lines(rt, heap, 0, &mut store, a, b, bytes.as_bytes())?;
+    Ok(is_edited(&store, size, a, b, count).then_some(false))
 }
 
 // How many growths there are where none is refused.
@@ -51,15 +56,17 @@ fn refused_in_turn(
     size: usize,
     range: (usize, usize),
     count: usize,
-) -> Result<u64, Fail> {
+) -> Result<Option<u64>, Fail> {
     let text = numbered(alloc, 0, size, true)?;
     let bytes = numbered(alloc, NEW, count, false)?;
     for n in 1..u64::MAX {
-        if is_made_at_once(rt, heap, n, &text, range, &bytes, (size, count))? {
-            return Ok(n.saturating_sub(1));
+        match is_made_at_once(rt, heap, n, &text, range, &bytes, (size, count))? {
+            Some(true) => return Ok(Some(n.saturating_sub(1))),
+            Some(false) => {}
+            None => break,
         }
     }
-    Ok(0)
+    Ok(None)
 }
 
 #[test]
@@ -68,8 +75,8 @@ fn of_splice(rt: HostRuntime) -> Result<(), Fail> {
     for (size, a, b, count, least) in EDITS {
         let growths = refused_in_turn(&rt, rt.alloc(), &heap, size, (a, b), count)?;
         assert!(rt;
-            growths >= least,
-            "{growths} growths at {a} to {b} of {size}"
+            growths >= Some(least),
+            "{growths:?} growths at {a} to {b} of {size}"
         );
     }
     Ok(())
@@ -78,28 +85,31 @@ fn of_splice(rt: HostRuntime) -> Result<(), Fail> {
 // How many rows a store is made of, which are in two chunks.
 const SIZE: usize = 257;
 
-// Makes a store of a text's rows, where the nth growth is refused. A refusal leaves the rows, and a
-// store is made of them when it is asked again. Whether it was made at once.
-fn is_stored_at_once(
-    rt: &impl Abort,
-    heap: Heap<'_>,
+// Makes a store of rows, where the nth growth is refused, and tells whether it has them. A refusal leaves the rows.
+fn stored<'a>(
+    heap: Heap<'a>,
     n: u64,
-    text: &[u8],
-) -> Result<bool, TextFault> {
-    let mut rows = split(heap, text)?;
+    rows: &mut Vec<Row<Heap<'a>>, Heap<'a>>,
+) -> Result<bool, AllocError>
+    requires { AreLines rows.old.items }
+    ensures { OnErr result (rows.new.items ≡ rows.old.items) }
+{
     heap.refuse(n);
-    let answer = ChunkStore::from_rows(&mut rows);
+    let answer = ChunkStore::from_rows(rows);
     heap.refuse(0);
-    if let Ok(store) = answer {
-        assert!(rt; is_edited(&store, SIZE, 0, 0, 0));
-        return Ok(true);
+    let store = answer?;
+    Ok(is_edited(&store, SIZE, 0, 0, 0) && rows.is_empty())
+}
+
+// The same of a text's rows. Where a growth was refused, a store is made of them when it is asked again. Whether it was made
+// at once; there is no answer where a store or the rows are not as they have to be.
+fn is_stored_at_once(heap: Heap<'_>, n: u64, text: &[u8]) -> Result<Option<bool>, TextFault> {
+    let mut rows = split(heap, text)?;
+    if let Ok(is_right) = stored(heap, n, &mut rows) {
+        return Ok(is_right.then_some(true));
     }
-    assert_eq!(rt; rows.len(), SIZE);
-    let Ok(store) = ChunkStore::from_rows(&mut rows) else {
-        return Err(TextFault::Memory);
-    };
-    assert!(rt; rows.is_empty() && is_edited(&store, SIZE, 0, 0, 0));
-    Ok(false)
+    let is_right = rows.len() == SIZE && stored(heap, 0, &mut rows) == Ok(true);
+    Ok(is_right.then_some(false))
 }
 
 #[test]
@@ -107,7 +117,9 @@ fn of_from_rows(rt: HostRuntime) -> Result<(), Fail> {
     let heap = Refusing::new(rt.alloc());
     let text = numbered(rt.alloc(), 0, SIZE, true)?;
     for n in 1..u64::MAX {
-        if is_stored_at_once(&rt, &heap, n, text.as_bytes())? {
+        let answer = is_stored_at_once(&heap, n, text.as_bytes())?;
+        assert!(rt; answer.is_some(), "the {n}th growth");
+        if answer == Some(true) {
             assert!(rt; n > 4, "{n} growths");
             return Ok(());
         }

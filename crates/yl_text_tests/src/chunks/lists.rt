@@ -1,6 +1,6 @@
 //! Lists of numbers: room made, filled and refused, and lists of which some items are replaced.
 
-ghost use Rattle.std.specs.Prelude.{◌≡◌, ◌+◌, ◌^◌, ◌<◌, ◌≤◌, IfOk, length, vec_len};
+ghost use Rattle.std.specs.Prelude.{◌≡◌, ◌+◌, ◌^◌, ◌<◌, ◌≤◌, IfOk, IsTrue, length, vec_len};
 ghost use Rattle.yl_text.specs.Store.{IsRange};
 
 use crate::chunks::seams::{COUNTS, PLACES, SIZES};
@@ -95,18 +95,43 @@ fn edit<'a>(
     Ok(())
 }
 
+// Whether this edit can be made of the list.
+fn can_be_made(list: &Numbers<'_>, a: usize, b: usize, count: usize) -> bool
+    ensures { IsTrue result → (IsRange a b (length list.now.items)) × (length list.now.items + count < 2 ^ 64) }
+{
+    a <= b && b <= list.len() && list.len() < MANY && count < MANY
+}
+
+// Whether an edit is seen before it is made, and is made.
+fn is_seen_and_made(
+    rt: &impl Abort,
+    heap: Heap<'_>,
+    size: usize,
+    range: (usize, usize),
+    count: usize,
+) -> Result<bool, AllocError> {
+    let (a, b) = range;
+    let mut list = listed(heap, size)?;
+    if !can_be_made(&list, a, b, count) {
+        return Ok(false);
+    }
+    let new = numbers(heap, NEW, count)?;
+    let is_seen = is_seen_edited(
+        &Spliced::new(&list, a, b, new.as_slice()),
+        size,
+        a,
+        b,
+        count,
+    );
+    edit(rt, heap, 0, &mut list, a, b, count)?;
+    Ok(is_seen && is_edited(&list, size, a, b, count))
+}
+
 // Puts numbers in place of those from a to b, so many in turn, and looks at the list before and behind.
 fn edits(rt: &impl Abort, heap: Heap<'_>, size: usize, a: usize, b: usize) -> Result<(), Fail> {
     for count in COUNTS {
-        let mut list = listed(heap, size)?;
-        assert!(rt; a <= b && b <= list.len() && list.len() < MANY && count < MANY);
-        let new = numbers(heap, NEW, count)?;
-        let seen = Spliced::new(&list, a, b, new.as_slice());
-        assert!(rt; is_seen_edited(&seen, size, a, b, count));
-        drop(seen);
-        edit(rt, heap, 0, &mut list, a, b, count)?;
         assert!(rt;
-            is_edited(&list, size, a, b, count),
+            is_seen_and_made(rt, heap, size, (a, b), count)?,
             "{count} in place of {a} to {b} of {size}"
         );
     }
@@ -139,40 +164,57 @@ const EDITS: [(usize, usize, usize, usize, u64); 6] = [
     (257, 5, 250, 600, 5),
 ];
 
-// Refuses each growth of `make_room` in turn: the list is as before, and the same edit is made when it is
-// asked again. How many growths there are.
+// Makes an edit whose nth growth is refused. A refusal leaves the list as before, and the same edit is made when it is
+// asked again. Whether it was made at once; there is no answer where the list is not as it has to be.
+fn is_made_at_once(
+    rt: &impl Abort,
+    heap: Heap<'_>,
+    n: u64,
+    size: usize,
+    range: (usize, usize),
+    count: usize,
+) -> Result<Option<bool>, AllocError> {
+    let (a, b) = range;
+    let mut list = listed(heap, size)?;
+    if !can_be_made(&list, a, b, count) {
+        return Ok(None);
+    }
+    if edit(rt, heap, n, &mut list, a, b, count).is_ok() {
+        return Ok(is_edited(&list, size, a, b, count).then_some(true));
+    }
+    if !is_edited(&list, size, 0, 0, 0) || !can_be_made(&list, a, b, count) {
+        return Ok(None);
+    }
+    edit(rt, heap, 0, &mut list, a, b, count)?;
+    Ok(is_edited(&list, size, a, b, count).then_some(false))
+}
+
+// How many growths of `make_room` there are where none is refused.
 fn refused_in_turn(
     rt: &impl Abort,
     heap: Heap<'_>,
     size: usize,
-    a: usize,
-    b: usize,
+    range: (usize, usize),
     count: usize,
-) -> Result<u64, Fail> {
+) -> Result<Option<u64>, AllocError> {
     for n in 1..u64::MAX {
-        let mut list = listed(heap, size)?;
-        assert!(rt; a <= b && b <= list.len() && list.len() < MANY && count < MANY);
-        let answer = edit(rt, heap, n, &mut list, a, b, count);
-        if answer.is_ok() {
-            assert!(rt; is_edited(&list, size, a, b, count));
-            return Ok(n.saturating_sub(1));
+        match is_made_at_once(rt, heap, n, size, range, count)? {
+            Some(true) => return Ok(Some(n.saturating_sub(1))),
+            Some(false) => {}
+            None => break,
         }
-        assert!(rt; is_edited(&list, size, 0, 0, 0));
-        assert!(rt; b <= list.len() && list.len() < MANY);
-        edit(rt, heap, 0, &mut list, a, b, count)?;
-        assert!(rt; is_edited(&list, size, a, b, count));
     }
-    Ok(0)
+    Ok(None)
 }
 
 #[test]
 fn refused_room(rt: HostRuntime) -> Result<(), Fail> {
     let heap = Refusing::new(rt.alloc());
     for (size, a, b, count, least) in EDITS {
-        let growths = refused_in_turn(&rt, &heap, size, a, b, count)?;
+        let growths = refused_in_turn(&rt, &heap, size, (a, b), count)?;
         assert!(rt;
-            growths >= least,
-            "{growths} growths at {a} to {b} of {size}"
+            growths >= Some(least),
+            "{growths:?} growths at {a} to {b} of {size}"
         );
     }
     Ok(())

@@ -1,12 +1,15 @@
 //! The same random edits of both stores.
 
+ghost use Rattle.yl_text.specs.Store.{AreLines};
+
 use crate::chunks::numbered;
 use crate::stores::{Heap, edit_lines, opened};
 use refusing::Refusing;
 use std::alloc::{AllocError, Global};
+use std::process::Abort;
 use std::test::Fail;
 use yl_chunks::ChunkStore;
-use yl_text::{Lines, PlainStore};
+use yl_text::{LineStore, Lines, PlainStore};
 
 // Numbers that look random, the same ones at each run.
 #[derive(Drop)]
@@ -70,6 +73,26 @@ fn have_equal_rows<S: Lines, T: Lines>(one: &S, other: &T) -> bool {
     true
 }
 
+// Makes the same edit of both, and tells whether they answer alike and have the same rows then.
+fn are_edited_alike<'a, S: LineStore<Alloc = Heap<'a>>, T: LineStore<Alloc = Heap<'a>>>(
+    rt: &impl Abort,
+    heap: Heap<'a>,
+    one: &mut S,
+    other: &mut T,
+    range: (usize, usize),
+    bytes: &[u8],
+) -> bool
+    requires one { AreLines (S.rows one.old) }
+    requires other { AreLines (T.rows other.old) }
+    ensures one { AreLines (S.rows one.new) }
+    ensures other { AreLines (T.rows other.new) }
+{
+    let (a, b) = range;
+    let answer = edit_lines(rt, heap, 0, one, a, b, bytes);
+    let same = edit_lines(rt, heap, 0, other, a, b, bytes);
+    answer == same && have_equal_rows(one, other)
+}
+
 #[test]
 fn same_edits_of_both_stores(rt: HostRuntime) -> Result<(), Fail> {
     let heap = Refusing::new(rt.alloc());
@@ -80,10 +103,11 @@ fn same_edits_of_both_stores(rt: HostRuntime) -> Result<(), Fail> {
         let a = random.below(chunks.len());
         let b = a.saturating_add(width(&mut random));
         let bytes = piece(rt.alloc(), &mut random)?;
-        let answer = edit_lines(&rt, &heap, 0, &mut chunks, a, b, bytes.as_bytes());
-        let other = edit_lines(&rt, &heap, 0, &mut plain, a, b, bytes.as_bytes());
-        assert!(rt; answer == other, "edit {n}");
-        assert!(rt; have_equal_rows(&chunks, &plain), "edit {n}");
+        let bytes = bytes.as_bytes();
+        assert!(rt;
+            are_edited_alike(&rt, &heap, &mut chunks, &mut plain, (a, b), bytes),
+            "edit {n}"
+        );
     }
     Ok(())
 }

@@ -1,38 +1,29 @@
-use Rattle.std.proofs.Common.{◌≡◌}
+use Rattle.std.specs.List.{splice}
 use Rattle.yl_patch.proofs.Given.{is_so}
-use Rattle.yl_patch.proofs.Later.{whole_then, whole_upto}
-use Rattle.yl_patch.proofs.Settled.{plain_put}
+use Rattle.yl_patch.proofs.WithoutFaults.{plain_faultless}
 use Rattle.yl_patch.proofs.overview.overview_after.Goals as goal
 
-pub hides_before-requires-clause-sound : goal.hides_before-requires-clause-sound
-hides_before-requires-clause-sound g c = (c.requires.overview (is_so c.args.overview.is_plain c.if-not-overview.false)).sound
+pub first_fault_after-requires-clause-first : goal.first_fault_after-requires-clause-first
+first_fault_after-requires-clause-first g c = (c.requires.overview (is_so c.args.overview.is_plain c.if-not-overview.false)).first
 
-pub measure_above-above-requires-clause-whole : goal.measure_above-above-requires-clause-whole
-measure_above-above-requires-clause-whole g c = (c.requires.overview (is_so c.args.overview.is_plain c.if-not-overview.false)).whole
+pub silencing_after-silencing-requires-clause-silencing : goal.silencing_after-silencing-requires-clause-silencing
+silencing_after-silencing-requires-clause-silencing g c = (c.requires.overview (is_so c.args.overview.is_plain c.if-not-overview.false)).silencing
 
 pub measure_after-requires-clause-whole : goal.measure_after-requires-clause-whole
-measure_after-requires-clause-whole g c =
-    let s = c.requires.overview (is_so c.args.overview.is_plain c.if-not-overview.false) in
-    let edit = c.args.edit.now in
-    whole_upto c.args.kept.now.items edit.kept.now edit.from edit.end c.in-Some.hidden c.args.overview.whole c.measure_above-above.result c.requires.range.ordered c.requires.range.within c.in-Some.ensures.above s.whole c.measure_above-above.ensures
-
-pub silencing_after-requires-clause-silencing : goal.silencing_after-requires-clause-silencing
-silencing_after-requires-clause-silencing g c = (c.requires.overview (is_so c.args.overview.is_plain c.if-not-overview.false)).silencing
-
-pub sound_after-requires-clause-sound : goal.sound_after-requires-clause-sound
-sound_after-requires-clause-sound g c = (c.requires.overview (is_so c.args.overview.is_plain c.if-not-overview.false)).sound
+measure_after-requires-clause-whole g c = (c.requires.overview (is_so c.args.overview.is_plain c.if-not-overview.false)).whole
 
 pub returns : goal.returns
 returns g c = λ h.
     let s = c.requires.overview (is_so c.args.overview.is_plain c.if-not-overview.false) in
-    let ks = c.args.kept.now.items in
-    let edit = c.args.edit.now in
-    let range = c.requires.range in
-    let shown = c.in-Some-measure_after.ensures in
-    let hidden = c.in-Some.hidden in
-    let above = c.in-Some.ensures.above in record {
-      plain = plain_put ks edit.kept.now edit.from edit.end hidden range.ordered range.within above s.plain shown.plain shown.below;
-      sound = c.in-Some-sound_after.ensures;
-      whole = whole_then ks edit.kept.now edit.from edit.end hidden c.in-Some-measure_after.whole c.measure_above-above.result range.ordered range.within above shown c.measure_above-above.ensures;
-      silencing = c.in-Some-silencing_after.ensures;
+    let edit = c.args.edit.now in record {
+      plain = plain_faultless c.args.kept.now.items edit.kept.now edit.from edit.end s.plain (c.are_plain.ensures c.if-not-are_plain.false);
+      first = c.in-Some.ensures;
+      whole = c.measure_after.ensures;
+      silencing = c.in-Some-silencing.ensures;
     }
+
+pub returns-then-not-overview : goal.returns-then-not-overview
+returns-then-not-overview g c = c.unknown.ensures (splice c.args.kept.now.items c.args.edit.now.from c.args.edit.now.end c.args.edit.now.kept.now)
+
+pub returns-in_default : goal.returns-in_default
+returns-in_default g c = c.unknown-in_default.ensures (splice c.args.kept.now.items c.args.edit.now.from c.args.edit.now.end c.args.edit.now.kept.now)

@@ -4,7 +4,6 @@ use Rattle.std.specs.List.{splice}
 use Rattle.std.specs.Str.{chars}
 use Rattle.yl_text.specs.Lines.{RowValue}
 use Rattle.yl_lexeme.specs.declared.meter.Meter.{Meter}
-use Rattle.yl_report.specs.Report.{ProblemValue}
 use Rattle.yl_record.specs.Records.{RecordValue, characters_in}
 use Rattle.yl_sections.specs.Judge.{kept_of_section}
 use Rattle.yl_sections.specs.Kept.{KeptValue}
@@ -14,9 +13,10 @@ use Rattle.yl_rejudge.specs.Documents.{TakesNothing}
 use Rattle.yl_rescan.specs.Held.{AreHeld}
 use Rattle.yl_config.specs.declared.config.Config.{Config}
 use Rattle.yl_lint.specs.TextReport.{report, report_by}
-use Rattle.yl_session.specs.Change.{Makes}
+use Rattle.yl_parting.specs.Changes.{renewed}
 use Rattle.yl_session.proofs.Bounds.{count_records, few_kept, few_lines, few_rows}
 use Rattle.yl_session.proofs.HeldReport.{held_report}
+use Rattle.yl_session.proofs.Parts.{told_so}
 use Rattle.yl_session.proofs.Renewed.{has_row, is_work}
 use Rattle.yl_session.proofs.planning.planned.Goals as goal
 
@@ -103,19 +103,19 @@ rejudge-requires-clause-meter g c =
 
 pub places_anew-requires : goal.places_anew-requires
 places_anew-requires g c =
-    omega (arith, few_rows c.args.config.now (g.S.Lines.rows c.args.store.now) c.args.cut c.args.records.now.items c.args.known.now.kept.now.items c.requires.old c.requires.held c.requires.kept)
+    omega (arith, few_rows c.args.config.now (g.S.Lines.rows c.args.store.now) c.args.cut c.args.records.now.items c.args.kept.now.items c.requires.old c.requires.held c.requires.kept)
 
-pub renewals_of-requires-clause-few : goal.renewals_of-requires-clause-few
-renewals_of-requires-clause-few g c =
-    omega (arith, few_kept c.args.config.now (g.S.Lines.rows c.args.store.now) c.args.cut c.args.records.now.items c.args.known.now.kept.now.items c.requires.old c.requires.held c.requires.kept, c.in_ok-rejudged.rejudged.kept.small)
+pub renewal_of-requires-clause-few : goal.renewal_of-requires-clause-few
+renewal_of-requires-clause-few g c =
+    omega (arith, few_kept c.args.config.now (g.S.Lines.rows c.args.store.now) c.args.cut c.args.records.now.items c.args.kept.now.items c.requires.old c.requires.held c.requires.kept, c.in_ok-rejudged.rejudged.kept.small)
+
+pub renewal_of-requires-clause-few_rows : goal.renewal_of-requires-clause-few_rows
+renewal_of-requires-clause-few_rows g c =
+    omega (arith, few_rows c.args.config.now (g.S.Lines.rows c.args.store.now) c.args.cut c.args.records.now.items c.args.kept.now.items c.requires.old c.requires.held c.requires.kept)
 
 -- the report is that of the text, whatever is kept of what stands below a fault
 reported : (config : Config) (ps : List RowValue) (cut : Option ℕ) (rs : List RecordValue) (ks : List KeptValue) → AreHeld (characters_in ps) cut rs → ks ≡ map (kept_of_section config) (sections rs) → report_by config ps ks ≡ report config ps
 reported config ps cut rs ks held is = ap (λ (ls : List KeptValue). report_by config ps ls) is ∙ held_report config ps cut rs held
-
-pub renewals_of-requires-clause-problems : goal.renewals_of-requires-clause-problems
-renewals_of-requires-clause-problems g c =
-    c.requires.problems ∙ sym (reported c.args.config.now (g.S.Lines.rows c.args.store.now) c.args.cut c.args.records.now.items c.args.known.now.kept.now.items c.requires.held c.requires.kept)
 
 -- what is kept then
 kept_is : (config : Config) (ks : List KeptValue) (spliced rs : List RecordValue) → ks ≡ map (kept_of_section config) (sections spliced) → spliced ≡ rs → ks ≡ map (kept_of_section config) (sections rs)
@@ -127,20 +127,32 @@ returns-clause-kept g c =
     let j = c.in_ok-rejudged.rejudged in
     let olds = c.args.records.now.items in
     let is = spliced_is olds r.records.items c.deref.result.now c.new-spliced.result r.from r.old_end c.deref.ensures.value c.new-spliced.ensures in
-    kept_is c.args.config.now (splice c.args.known.now.kept.now.items j.from j.end j.kept.items) c.new-spliced.result (splice olds r.from r.old_end r.records.items) c.in_ok-rejudged.ensures.kept is
+    kept_is c.args.config.now (splice c.args.kept.now.items j.from j.end j.kept.items) c.new-spliced.result (splice olds r.from r.old_end r.records.items) c.in_ok-rejudged.ensures.kept is
 
-pub returns-clause-report : goal.returns-clause-report
-returns-clause-report g c =
+pub returns-clause-ready : goal.returns-clause-ready
+returns-clause-ready g c = λ ps h.
+    let rows = g.S.Lines.rows c.args.store.now in
+    let ks = c.args.kept.now.items in
+    c.in_ok-renewal.ensures.ready ps
+    (told_so c.args.config.now rows ks c.args.overview (report c.args.config.now rows) (report_by c.args.config.now rows ks) ps
+    (sym (reported c.args.config.now rows c.args.cut c.args.records.now.items ks c.requires.held c.requires.kept)) h)
+
+pub returns-clause-parts : goal.returns-clause-parts
+returns-clause-parts g c = λ ps h.
+    let config = c.args.config.now in
     let rows = g.S.Lines.rows c.args.store.now in
     let new = splice rows c.args.a c.args.b c.args.rows.now in
     let r = c.in_ok-rescan.rescan in
     let j = c.in_ok-rejudged.rejudged in
     let olds = c.args.records.now.items in
     let us = splice olds r.from r.old_end r.records.items in
-    let ks = splice c.args.known.now.kept.now.items j.from j.end j.kept.items in
+    let kept = c.args.kept.now.items in
+    let ks = splice kept j.from j.end j.kept.items in
+    let renewal = c.in_ok-renewal.renewal in
     let is = spliced_is olds r.records.items c.deref.result.now c.new-spliced.result r.from r.old_end c.deref.ensures.value c.new-spliced.ensures in
-    subst (λ (ps : List ProblemValue). Makes c.args.known.now.problems.now ps c.in_ok-renewals.renewals.renewal.report)
-    (reported c.args.config.now new r.cut us ks c.in_ok-rescan.ensures.held (kept_is c.args.config.now ks c.new-spliced.result us c.in_ok-rejudged.ensures.kept is)) c.in_ok-renewals.ensures.report
+    told_so config new ks renewal.overview (report_by config new ks) (report config new) (renewed renewal.change ps)
+    (reported config new r.cut us ks c.in_ok-rescan.ensures.held (kept_is config ks c.new-spliced.result us c.in_ok-rejudged.ensures.kept is))
+    (c.in_ok-renewal.ensures.parts ps (told_so config rows kept c.args.overview (report config rows) (report_by config rows kept) ps (sym (reported config rows c.args.cut olds kept c.requires.held c.requires.kept)) h))
 
 pub returns-clause-work : goal.returns-clause-work
 returns-clause-work g c =
@@ -154,6 +166,3 @@ returns-clause-work g c =
     (omega (arith, has_row new c.requires.lines, length-map new (λ (row : RowValue). chars row.text))) (subst (λ (us : List RecordValue). AreHeld (characters_in new) r.cut us) (sym is) c.in_ok-rescan.ensures.held)
     c.in_ok-rescan.ensures.below c.in_ok-rescan.ensures.work c.in_ok-rejudged.ensures.lines
     (λ m l. less (c.in_ok-rejudged.ensures.documents taken m l) (omega (arith, c.in_ok-rescan.ensures.documents, ap (λ (m : Meter). m.documents) c.new-meter.ensures)))
-
-pub returns-clause-overview : goal.returns-clause-overview
-returns-clause-overview g c = c.in_ok-renewals.ensures.overview

@@ -24,9 +24,9 @@ kept_by config ps records kept = kept ∙ ap (λ (es : List RecordValue). map (k
 
 pub invariant_of-result : goal.invariant_of-result
 invariant_of-result g c =
-    (are_lines c.args.bytes.now c.in_ok-rows.rows.items (g.S.Lines.rows c.in-Ok.store) c.in-Ok.ensures.ok c.in_ok-rows.ensures.lines c.in_ok-rows.ensures.text, c.in-Ok-begin.ensures.records, kept_by c.args.config (g.S.Lines.rows c.in-Ok.store) c.in-Ok-begin.ensures.records c.in-Ok-begin.ensures.kept, c.in-Ok-begin.ensures.problems, c.in-Ok-begin.ensures.overview, c.in-Ok-begin.ensures.places, λ h. absurd (cc), tt, tt)
+    (are_lines c.args.bytes.now c.in_ok-rows.rows.items (g.S.Lines.rows c.in-Ok.store) c.in-Ok.ensures.ok c.in_ok-rows.ensures.lines c.in_ok-rows.ensures.text, c.in-Ok-begin.ensures.records, kept_by c.args.config (g.S.Lines.rows c.in-Ok.store) c.in-Ok-begin.ensures.records c.in-Ok-begin.ensures.kept, c.in-Ok-begin.ensures.found.shown, c.in-Ok-begin.ensures.overview, c.in-Ok-begin.ensures.places, c.in-Ok-begin.ensures.found.all)
 
 pub returns-clause-shown : goal.returns-clause-shown
 returns-clause-shown g c =
     let P : List RowValue → Type 0 = λ rows. IsLines c.args.bytes.now rows in
-    record { config = refl; lines = subst P (sym c.in-Ok.ensures.ok) c.in_ok-rows.ensures.lines; problems = c.in-Ok-begin.ensures.problems }
+    record { config = refl; lines = subst P (sym c.in-Ok.ensures.ok) c.in_ok-rows.ensures.lines; problems = c.in-Ok-begin.ensures.found.shown }

@@ -1,0 +1,76 @@
+-- Both lists, parted anew or with room for it.
+use Rattle.std.proofs.Common.{◌≡◌, ℕ, ◌+◌, ◌≤◌, List, [], ◌++◌, map, Option, Some, None, refl, ap, sym, subst, ◌∙◌, arith, append_assoc}
+use Rattle.std.specs.Prelude.{IsSome, not, reverse, Vec, vec_len, vec_capacity}
+use Rattle.std.specs.List.{filter}
+use Rattle.std.specs.Option.{option_map}
+use Rattle.yl_report.specs.Report.{ProblemValue}
+use Rattle.yl_parting.specs.declared.change.FoundProblems.{FoundProblems}
+use Rattle.yl_parting.specs.declared.change.LinesPatch.{LinesPatch}
+use Rattle.yl_parting.specs.declared.showing.Showing.{Showing}
+use Rattle.yl_parting.specs.Changes.{all_moved, patch_in, patched, shown_below, suppressed_below}
+use Rattle.yl_parting.specs.Order.{merged}
+use Rattle.yl_parting.specs.Parts.{IsLow, PartsValue, above, behind, is_no_fault, shifted, without_fault}
+use Rattle.yl_parting.specs.Popped.{IsTaken}
+use Rattle.yl_parting.specs.Rooms.{AreOrdered, HasRoomFor, crossing}
+use Rattle.yl_parting.specs.Showing.{is_shown_by}
+use Rattle.yl_parting.proofs.Ordered.{all_filter, order_filter}
+
+-- what was taken out, with the last one last again
+given_back : (n m : ℕ) (ss us ts vs spare : List ProblemValue) → IsTaken n m ss us ts vs spare → behind n ts ≡ [] → behind n vs ≡ [] → reverse spare ≡ map (shifted n m) (merged (behind n ss) (behind n us))
+given_back n m ss us ts vs spare taken e d =
+    sym (ap (λ qs. map (shifted n m) (merged qs (behind n vs)) ++ reverse spare) e ∙ ap (λ qs. map (shifted n m) qs ++ reverse spare) d) ∙ taken.taken
+
+-- one list: what stays above, the new ones, and those below that belong to it
+joined : (f : List ProblemValue → List ProblemValue) (out kept aboves aboves' new backs backs' : List ProblemValue) → out ≡ kept ++ f backs → kept ≡ aboves ++ new → aboves ≡ aboves' → backs ≡ backs' → out ≡ aboves' ++ (new ++ f backs')
+joined f out kept aboves aboves' new backs backs' e d h b =
+    e ∙ (ap (λ xs. xs ++ f backs) d ∙ (append_assoc aboves new (f backs) ∙ (ap (λ xs. xs ++ (new ++ f backs)) h ∙ ap (λ xs. aboves' ++ (new ++ f xs)) b)))
+
+abbrev pub both_of : List ProblemValue → List ProblemValue → PartsValue
+both_of ss us = record { shown = ss; suppressed = us }
+
+module _ {A : Type 0} (p : LinesPatch A) (s : Showing A) (ps : PartsValue) (ts vs spare kept kept' out out' : List ProblemValue) (is : p.below ≡ Some s) (lines : p.first ≤ p.old_end)
+    (taken : IsTaken p.old_end p.new_end ps.shown ps.suppressed ts vs spare) (none : behind p.old_end ts ≡ []) (none' : behind p.old_end vs ≡ [])
+    (keeps : kept ≡ above p.first ts ++ p.shown.items) (keeps' : kept' ≡ above p.first vs ++ p.suppressed.items)
+    (gives : out ≡ kept ++ filter (is_shown_by s) (reverse spare)) (gives' : out' ≡ kept' ++ filter (λ q. not (is_shown_by s q)) (reverse spare)) where
+  backs : reverse spare ≡ all_moved (patch_in p) ps
+  backs = given_back p.old_end p.new_end ps.shown ps.suppressed ts vs spare taken none none'
+
+  shown : out ≡ (patched (patch_in p) ps).shown
+  shown =
+      joined (filter (is_shown_by s)) out kept (above p.first ts) (above p.first ps.shown) p.shown.items (reverse spare) (all_moved (patch_in p) ps) gives keeps (taken.shown_above p.first lines) backs
+      ∙ ap (λ (o : Option (Showing A)). above p.first ps.shown ++ (p.shown.items ++ shown_below (option_map (λ (t : Showing A). is_shown_by t) o) (patch_in p) ps)) (sym is)
+
+  suppressed : out' ≡ (patched (patch_in p) ps).suppressed
+  suppressed =
+      joined (filter (λ q. not (is_shown_by s q))) out' kept' (above p.first vs) (above p.first ps.suppressed) p.suppressed.items (reverse spare) (all_moved (patch_in p) ps) gives' keeps' (taken.suppressed_above p.first lines) backs
+      ∙ ap (λ (o : Option (Showing A)). above p.first ps.suppressed ++ (p.suppressed.items ++ suppressed_below (option_map (λ (t : Showing A). is_shown_by t) o) (patch_in p) ps)) (sym is)
+
+  pub parted_anew : both_of out out' ≡ patched (patch_in p) ps
+  parted_anew = λ i. record { shown = shown i; suppressed = suppressed i }
+
+-- ---- room
+
+pub crossing-add : {S : Type 0} (o : Option S) (a b : ℕ) → crossing o (a + b) ≡ crossing o a + crossing o b
+crossing-add None a b = omega arith
+crossing-add (Some s) a b = refl
+
+pub crossing-le : {S : Type 0} (o : Option S) (a b : ℕ) → a ≤ b → crossing o a ≤ crossing o b
+crossing-le None a b l = omega arith
+crossing-le (Some s) a b l = l
+
+pub crossing_some : {S : Type 0} (o : Option S) (n : ℕ) → IsSome o → crossing o n ≡ n
+crossing_some None n h = absurd (cc)
+crossing_some (Some s) n h = refl
+
+pub less_room : {A : Type 0} (f g : FoundProblems A) (p : LinesPatch A) (room : Vec ProblemValue A) → HasRoomFor f p room → vec_len g.shown ≤ vec_len f.shown → vec_capacity g.shown ≡ vec_capacity f.shown → g.suppressed ≡ f.suppressed → HasRoomFor g p room
+less_room f g p room h l e d =
+    let len = ap vec_len d in
+    let cap = ap vec_capacity d in
+    record {
+      shown = omega (arith, h.shown, l, e, crossing-le p.below (vec_len g.suppressed) (vec_len f.suppressed) (omega (arith, len)));
+      suppressed = omega (arith, h.suppressed, len, cap, crossing-le p.below (vec_len g.shown) (vec_len f.shown) l);
+      spare = omega (arith, h.spare, crossing-le p.below (vec_len g.shown + vec_len g.suppressed) (vec_len f.shown + vec_len f.suppressed) (omega (arith, l, len)));
+      empty = h.empty;
+    }
+
+-- ---- without a fault

@@ -1,0 +1,9 @@
+pub mod Anew
+pub mod Faults
+pub mod Following
+pub mod InOrder
+pub mod Lasts
+pub mod Lines
+pub mod Merged
+pub mod Ordered
+pub mod Shifted

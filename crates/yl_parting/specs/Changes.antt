@@ -1,0 +1,70 @@
+-- Meaning: what an edit makes of what is found in a text.
+use Rattle.std.specs.Prelude.{ℕ, Bool, not, List, ◌++◌, map, Option, Some, None}
+use Rattle.std.specs.List.{filter}
+use Rattle.std.specs.Option.{option_map}
+use Rattle.yl_report.specs.Report.{ProblemValue}
+use Rattle.yl_parting.specs.declared.change.Change.{Change}
+use Rattle.yl_parting.specs.declared.change.Change.TheVariants.{Stay, Patch, Anew}
+use Rattle.yl_parting.specs.declared.change.LinesPatch.{LinesPatch}
+use Rattle.yl_parting.specs.declared.change.FoundProblems.{FoundProblems}
+use Rattle.yl_parting.specs.Order.{merged}
+use Rattle.yl_parting.specs.Parts.{PartsValue, above, behind, shifted, with_fault, without_fault}
+use Rattle.yl_parting.specs.Showing.{is_shown_by}
+
+-- both lists
+abbrev pub parts_in : {A : Type 0} → FoundProblems A → PartsValue
+parts_in f = record { shown = f.shown.items; suppressed = f.suppressed.items }
+
+-- what becomes of some lines: in place of those behind the first so many, up to `old_end`, come those up to `new_end`, in which this is shown and
+-- this is not; `below` says what is shown of the problems behind them, where that changes; then comes the text's fault
+pub record PatchValue : Type 0 where
+  pub first : ℕ
+  pub old_end : ℕ
+  pub new_end : ℕ
+  pub shown : List ProblemValue
+  pub suppressed : List ProblemValue
+  pub below : Option (ProblemValue → Bool)
+  pub fault : Option ProblemValue
+
+-- the patch as a value
+abbrev pub patch_in : {A : Type 0} → LinesPatch A → PatchValue
+patch_in p = record {
+  first = p.first;
+  old_end = p.old_end;
+  new_end = p.new_end;
+  shown = p.shown.items;
+  suppressed = p.suppressed.items;
+  below = option_map (λ s. is_shown_by s) p.below;
+  fault = p.fault;
+}
+
+-- those behind the lines, where they stand then
+abbrev pub moved : PatchValue → List ProblemValue → List ProblemValue
+moved p ps = map (shifted p.old_end p.new_end) (behind p.old_end ps)
+
+-- those of both lists, in order
+abbrev pub all_moved : PatchValue → PartsValue → List ProblemValue
+all_moved p ps = map (shifted p.old_end p.new_end) (merged (behind p.old_end ps.shown) (behind p.old_end ps.suppressed))
+
+-- what is shown below: each stays in its list, or all are parted anew
+abbrev pub shown_below : Option (ProblemValue → Bool) → PatchValue → PartsValue → List ProblemValue
+shown_below None p ps = moved p ps.shown
+shown_below (Some f) p ps = filter f (all_moved p ps)
+
+-- what is not shown below
+abbrev pub suppressed_below : Option (ProblemValue → Bool) → PatchValue → PartsValue → List ProblemValue
+suppressed_below None p ps = moved p ps.suppressed
+suppressed_below (Some f) p ps = filter (λ q. not (f q)) (all_moved p ps)
+
+-- both lists, once the lines are others
+abbrev pub patched : PatchValue → PartsValue → PartsValue
+patched p ps = record {
+  shown = above p.first ps.shown ++ (p.shown ++ shown_below p.below p ps);
+  suppressed = above p.first ps.suppressed ++ (p.suppressed ++ suppressed_below p.below p ps);
+}
+
+-- what a change makes of both lists, the text's fault among what is shown
+abbrev pub renewed : {A : Type 0} → Change A → PartsValue → PartsValue
+renewed Stay ps = ps
+renewed (Patch p) ps = with_fault p.fault (patched (patch_in p) (without_fault ps))
+renewed (Anew found) ps = parts_in found

@@ -1,0 +1,13 @@
+pub mod Changes
+pub mod Following
+pub mod Later
+pub mod Order
+pub mod Parts
+pub mod Popped
+pub mod Rooms
+pub mod Showing
+pub use Rattle.yl_report.specs.Heard
+pub use Rattle.yl_report.specs.Report
+pub use Rattle.yl_report.specs.Silence
+pub use Rattle.yl_report.specs.Told
+pub use Rattle.yl_text.specs.Finding

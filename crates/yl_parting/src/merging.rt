@@ -1,0 +1,124 @@
+//! What stands behind some lines in two lists, taken out and given back.
+ghost use Rattle.std.specs.Prelude.{◌≡◌, ◌+◌, ◌≤◌, not, [], ◌++◌, reverse, vec_len, vec_capacity};
+ghost use Rattle.std.specs.List.{AllByRecursion, filter};
+ghost use Rattle.yl_report.specs.Report.{ProblemValue};
+ghost use Rattle.yl_parting.specs.Later.{ends_later};
+ghost use Rattle.yl_parting.specs.Order.{IsInOrder};
+ghost use Rattle.yl_parting.specs.Parts.{IsLow, above, behind};
+ghost use Rattle.yl_parting.specs.Popped.{IsTaken, PopsBehind, PopsLast};
+ghost use Rattle.yl_parting.specs.Showing.{is_shown_by};
+
+use crate::comparing::comes_before;
+use crate::places::count_upto;
+use crate::shifting::shift;
+use crate::showing::Showing;
+use std::alloc::Allocator;
+use yl_report::Problem;
+
+/// Whether the former of two lists ends with what comes last of both.
+fn ends_later<A: Allocator>(one: &[Problem<A>], other: &[Problem<A>]) -> bool
+    ensures { result ≡ ends_later one.now other.now }
+{
+    let Some(last) = one.last() else {
+        return false;
+    };
+    let Some(next) = other.last() else {
+        return true;
+    };
+    comes_before(next, last)
+}
+
+/// Takes out the last problem, if it stands behind these lines.
+fn pop_behind<A: Allocator>(problems: &mut Vec<Problem<A>, A>, line: u64) -> Option<Problem<A>>
+    ensures popped { PopsBehind line problems.old.items problems.new.items result }
+    ensures room { vec_capacity problems.new ≡ vec_capacity problems.old }
+{
+    let is_behind = match problems.last() {
+        Some(last) => last.line() > line,
+        None => false,
+    };
+    if !is_behind {
+        return None;
+    }
+    problems.pop()
+}
+
+/// Takes out what comes last of both, if it stands behind these lines.
+fn pop_last<A: Allocator>(
+    shown: &mut Vec<Problem<A>, A>,
+    suppressed: &mut Vec<Problem<A>, A>,
+    line: u64,
+) -> Option<Problem<A>>
+    requires shown { IsInOrder shown.old.items }
+    requires suppressed { IsInOrder suppressed.old.items }
+    ensures popped { PopsLast line shown.old.items suppressed.old.items shown.new.items suppressed.new.items result }
+    ensures shown_room { vec_capacity shown.new ≡ vec_capacity shown.old }
+    ensures suppressed_room { vec_capacity suppressed.new ≡ vec_capacity suppressed.old }
+{
+    if ends_later(shown, suppressed) {
+        pop_behind(shown, line)
+    } else {
+        pop_behind(suppressed, line)
+    }
+}
+
+/// Takes out all that stands behind `old_end` lines, puts it behind `new_end` lines and then into `spare`, what comes last first. It takes no
+/// memory.
+pub fn take_behind<A: Allocator>(
+    shown: &mut Vec<Problem<A>, A>,
+    suppressed: &mut Vec<Problem<A>, A>,
+    old_end: u32,
+    new_end: u32,
+    spare: &mut Vec<Problem<A>, A>,
+)
+    requires shown { IsInOrder shown.old.items }
+    requires suppressed { IsInOrder suppressed.old.items }
+    requires shown_low { AllByRecursion IsLow shown.old.items }
+    requires suppressed_low { AllByRecursion IsLow suppressed.old.items }
+    requires empty { spare.old.items ≡ [] }
+    requires room { vec_len shown.old + vec_len suppressed.old ≤ vec_capacity spare.old }
+    ensures taken { IsTaken old_end new_end shown.old.items suppressed.old.items shown.new.items suppressed.new.items spare.new.items }
+    ensures shown { behind old_end shown.new.items ≡ [] }
+    ensures suppressed { behind old_end suppressed.new.items ≡ [] }
+    ensures shown_room { vec_capacity shown.new ≡ vec_capacity shown.old }
+    ensures suppressed_room { vec_capacity suppressed.new ≡ vec_capacity suppressed.old }
+{
+    while let Some(mut problem) = pop_last(shown, suppressed, u64::from(old_end)) {
+        shift(&mut problem, old_end, new_end);
+        spare.push(problem).unwrap();
+    }
+}
+
+/// Drops what stands behind the first lines.
+pub fn keep_above<A: Allocator>(problems: &mut Vec<Problem<A>, A>, first: u32)
+    requires { IsInOrder problems.old.items }
+    ensures items { problems.new.items ≡ above first problems.old.items }
+    ensures len { vec_len problems.new ≤ vec_len problems.old }
+    ensures room { vec_capacity problems.new ≡ vec_capacity problems.old }
+{
+    let count = count_upto(problems, u64::from(first));
+    problems.truncate(count);
+}
+
+/// Gives each problem of `spare`, the last one first, to the list that it belongs to now. It takes no memory.
+pub fn give_back<A: Allocator>(
+    shown: &mut Vec<Problem<A>, A>,
+    suppressed: &mut Vec<Problem<A>, A>,
+    mut spare: Vec<Problem<A>, A>,
+    below: &Showing<A>,
+)
+    requires shown_room { vec_len shown.old + vec_len spare ≤ vec_capacity shown.old }
+    requires suppressed_room { vec_len suppressed.old + vec_len spare ≤ vec_capacity suppressed.old }
+    ensures shown { shown.new.items ≡ shown.old.items ++ filter (is_shown_by below.now) (reverse spare.items) }
+    ensures suppressed { suppressed.new.items ≡ suppressed.old.items ++ filter (λ (q : ProblemValue). not (is_shown_by below.now q)) (reverse spare.items) }
+    ensures len { vec_len shown.new ≤ vec_len shown.old + vec_len spare }
+    ensures room { vec_capacity shown.old ≤ vec_capacity shown.new }
+{
+    while let Some(problem) = spare.pop() {
+        if below.shows(&problem) {
+            shown.push(problem).unwrap();
+        } else {
+            suppressed.push(problem).unwrap();
+        }
+    }
+}

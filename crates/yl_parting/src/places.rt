@@ -1,0 +1,43 @@
+//! Where problems stand in a list that is in order.
+ghost use Rattle.std.specs.Prelude.{◌≡◌, ◌≤◌, true, length};
+ghost use Rattle.std.specs.List.{AllByRecursion, prefix_len};
+ghost use Rattle.yl_report.specs.Report.{ProblemValue};
+ghost use Rattle.yl_parting.specs.Order.{IsInOrder, comes_before};
+ghost use Rattle.yl_parting.specs.Parts.{IsLow, is_upto};
+
+use crate::comparing::comes_before;
+use std::alloc::Allocator;
+use yl_report::Problem;
+
+/// How many problems stand in the first lines.
+pub fn count_upto<A: Allocator>(problems: &[Problem<A>], line: u64) -> usize
+    requires { IsInOrder problems.now }
+    ensures count { result ≡ prefix_len (is_upto line) problems.now }
+    ensures within { result ≤ length problems.now }
+{
+    problems.partition_point(|problem| problem.line() <= line)
+}
+
+/// Whether each stands in a line that can be counted on from.
+pub fn are_low<A: Allocator>(problems: &[Problem<A>]) -> bool
+    requires { IsInOrder problems.now }
+    ensures { result ≡ true → AllByRecursion IsLow problems.now }
+{
+    match problems.last() {
+        Some(last) => last.line() < 1 << 63,
+        None => true,
+    }
+}
+
+/// How many problems stand before the first that doesn't come before this one.
+pub fn count_before<A: Allocator>(problems: &[Problem<A>], problem: &Problem<A>) -> usize
+    ensures count { result ≡ prefix_len (λ (q : ProblemValue). comes_before q problem.now) problems.now }
+    ensures within { result ≤ length problems.now }
+{
+    for (i, other) in problems.iter().enumerate() {
+        if !comes_before(other, problem) {
+            return i;
+        }
+    }
+    problems.len()
+}

@@ -1,0 +1,105 @@
+-- A patch of both lists of a text's problems gives both lists of the edited text.
+use Rattle.std.proofs.Common.{◌≡◌, ℕ, ◌+◌, ◌≤◌, Bool, true, false, List, [], ◌∷◌, ◌++◌, length, take, Option, Some, None, refl, ap, sym, subst, ◌∙◌, arith, cond}
+use Rattle.std.specs.List.{AllByRecursion, prefix_len, splice}
+use Rattle.std.proofs.Math.Numerals.{one-add}
+use Rattle.std.proofs.lemmas.Bool.{leb-false, leb-true}
+use Rattle.yl_text.specs.Lines.{RowValue}
+use Rattle.yl_indentation.specs.Measures.{empty_measure}
+use Rattle.yl_config.specs.declared.config.Config.{Config}
+use Rattle.yl_config.specs.Config.{levels_of, options_of}
+use Rattle.yl_report.specs.Heard.{nothing_silenced}
+use Rattle.yl_report.specs.Report.{ProblemValue}
+use Rattle.yl_sections.specs.Kept.{KeptValue}
+use Rattle.yl_rejudge.specs.Places.{rows_kept}
+use Rattle.yl_lint.specs.Onward.{onward_in_sections}
+use Rattle.yl_lint.specs.TextReport.{findings_in_lines}
+use Rattle.yl_parting.specs.Changes.{PatchValue, moved, patched}
+use Rattle.yl_parting.specs.Following.{Follows, FollowsBelow}
+use Rattle.yl_parting.specs.Order.{IsInOrder}
+use Rattle.yl_parting.specs.Parts.{PartsValue, above, behind, is_upto, parted, shifted, with_fault, without_fault}
+use Rattle.yl_parting.proofs.Faults.{report_in_order}
+use Rattle.yl_parting.proofs.Following.{fault_goes, parts_follow}
+use Rattle.yl_parting.proofs.Ordered.{all_behind, all_then}
+use Rattle.yl_patch.specs.Faultless.{faultless}
+use Rattle.yl_patch.specs.Found.{all_parts, fault_told, found_by, is_shown, parts_of}
+use Rattle.yl_patch.specs.Patching.{IsPatchOf, SaysBelow}
+use Rattle.yl_patch.specs.Plain.{IsPlain}
+use Rattle.yl_patch.proofs.AlikeShown.{above_alike, below_alike}
+use Rattle.yl_patch.proofs.EachFound.{InFirst, fault_of_syntax, found_in_lines, no_fault_shown}
+use Rattle.yl_patch.proofs.ReportShown.{found_whole}
+
+-- ---- lists parted by a line
+
+all_any : {X : Type 0} (P : X → Type 0) (xs : List X) → ((x : X) → P x) → AllByRecursion P xs
+all_any P [] f = tt
+all_any P (x ∷ xs) f = (f x, all_any P xs f)
+
+-- those in the first lines are of those that stand there
+all_above : (P : ProblemValue → Type 0) (n : ℕ) (ps : List ProblemValue) → AllByRecursion P ps → AllByRecursion (λ q. P q × (is_upto n q ≡ true)) (above n ps)
+all_above P n [] h = tt
+all_above P n (q ∷ qs) h = at (is_upto n q) refl (all_above P n qs h.1)
+  where
+    at : (b : Bool) → is_upto n q ≡ b → AllByRecursion (λ r. P r × (is_upto n r ≡ true)) (above n qs) → AllByRecursion (λ r. P r × (is_upto n r ≡ true)) (take (cond b (1 + prefix_len (is_upto n) qs) 0) (q ∷ qs))
+    at true e more =
+        subst (λ (i : ℕ). AllByRecursion (λ r. P r × (is_upto n r ≡ true)) (take i (q ∷ qs))) (sym (one-add (prefix_len (is_upto n) qs)))
+        ((h.0, e), more)
+    at false e more = tt
+
+-- ---- what is found is in order
+
+pub found_in_order : (config : Config) (rows : List RowValue) (ks : List KeptValue) → AllByRecursion IsPlain (faultless ks) → IsInOrder (found_by config rows ks)
+found_in_order config rows ks plain =
+    let found = findings_in_lines (options_of config) rows ++ onward_in_sections (options_of config).indentation 0 empty_measure (faultless ks) in
+    subst (λ (ps : List ProblemValue). IsInOrder ps) (sym (found_whole config rows ks plain)) (report_in_order (levels_of config) false nothing_silenced found)
+
+-- ---- the text's fault aside
+
+pub fault_apart : (config : Config) (rows : List RowValue) (ks : List KeptValue) → AllByRecursion IsPlain (faultless ks) → without_fault (all_parts config rows ks) ≡ parts_of config rows ks
+fault_apart config rows ks plain = fault_goes (fault_told config rows ks) (parts_of config rows ks) (no_fault_shown config rows ks plain) (fault_of_syntax config rows ks)
+
+-- ---- an edit
+
+module _ (config : Config) (rows ins : List RowValue) (ks new : List KeptValue) (a b from end : ℕ) (found : List ProblemValue) (p : PatchValue)
+    (within : a ≤ length rows) (ordered : from ≤ end) (within' : end ≤ length ks) (plain : AllByRecursion IsPlain (faultless ks)) (plainₙ : AllByRecursion IsPlain (faultless new)) (first : p.first ≤ a)
+    (is : IsPatchOf config rows (splice rows a b ins) ks new from end found p) where
+  abbrev after : List RowValue
+  after = splice rows a b ins
+
+  abbrev kept : List KeptValue
+  kept = splice ks from end new
+
+  abbrev old : List ProblemValue
+  old = found_by config rows ks
+
+  stays_above : AllByRecursion (λ q. is_shown after kept q ≡ is_shown rows ks q) (above p.first old)
+  stays_above =
+      let n = length rows + rows_kept ks in
+      all_then (λ (q : ProblemValue). InFirst n q × (is_upto p.first q ≡ true)) (λ q. is_shown after kept q ≡ is_shown rows ks q) (above p.first old)
+      (λ q h. above_alike rows ins ks new a b from end q within (omega (arith, is.first, first)) h.0.0 (omega (arith, is.first, leb-true q.line p.first h.1)))
+      (all_above (InFirst n) p.first old (found_in_lines config rows ks plain n (omega arith) (omega arith)))
+
+  follows_below : IsInOrder old → (o : Option (ProblemValue → Bool)) → SaysBelow o rows after ks new from end → FollowsBelow o (is_shown after kept) (is_shown rows ks) p old
+  follows_below order None stays =
+      all_then (λ (q : ProblemValue). is_upto p.old_end q ≡ false) (λ q. is_shown after kept (shifted p.old_end p.new_end q) ≡ is_shown rows ks q) (behind p.old_end old)
+      (λ q h. below_alike rows after ks new from end p.old_end p.new_end q ordered within' is.old_end is.new_end (omega (arith, is.first, is.old_some)) (omega (arith, is.first, is.new_some)) plain plainₙ stays.file stays.faults stays.comments (leb-false q.line p.old_end h))
+      (all_behind p.old_end old order)
+  follows_below order (Some f) says = all_any (λ (q : ProblemValue). f q ≡ is_shown after kept q) (moved p old) says
+
+  follows : Follows (is_shown after kept) (is_shown rows ks) old found p
+  follows =
+      let order = found_in_order config rows ks plain in record {
+        in_order = order;
+        lines = omega (arith, is.old_some);
+        shown = is.shown;
+        suppressed = is.suppressed;
+        above = stays_above;
+        below = follows_below order p.below is.below;
+      }
+
+  -- both lists of the edited text are those of the old one, patched
+  pub parts_edited : with_fault p.fault (patched p (without_fault (all_parts config rows ks))) ≡ all_parts config after kept
+  parts_edited =
+      ap (λ (ps : PartsValue). with_fault p.fault (patched p ps)) (fault_apart config rows ks plain)
+      ∙ (ap (with_fault p.fault) (sym (parts_follow (is_shown after kept) (is_shown rows ks) old found p follows))
+      ∙ (ap (λ (ps : List ProblemValue). with_fault p.fault (parted (is_shown after kept) ps)) (sym is.all)
+      ∙ ap (λ (o : Option ProblemValue). with_fault o (parts_of config after kept)) is.fault))

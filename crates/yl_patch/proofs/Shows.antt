@@ -1,0 +1,30 @@
+-- What is shown by the comments of the first sections, and by those of all.
+use Rattle.std.proofs.Common.{◌≡◌, ℕ, zero, suc, ◌+◌, ◌-◌, ◌<◌, ◌≤◌, Bool, true, false, List, [], ◌∷◌, length, map, take, drop, Option, Some, None, cond, refl, ap, sym, subst, ◌∙◌, arith}
+use Rattle.std.specs.Prelude.{not}
+use Rattle.std.specs.List.{AllByRecursion, filter, splice}
+use Rattle.std.proofs.lemmas.List.{take_all}
+use Rattle.yl_text.specs.Lines.{RowValue}
+use Rattle.yl_text.specs.declared.finding.RuleId.{RuleId}
+use Rattle.yl_report.specs.Directive.{disables_file, is_silenced}
+use Rattle.yl_report.specs.Report.{ProblemValue}
+use Rattle.yl_parting.specs.Parts.{PartsValue, parted}
+use Rattle.yl_parting.specs.Showing.{shows}
+use Rattle.yl_sections.specs.Kept.{KeptValue, SectionFaultValue}
+use Rattle.yl_rejudge.specs.Places.{rows_kept}
+use Rattle.yl_lint.specs.TextReport.{comments_in_sections, first_text, shown, unless_fault}
+use Rattle.yl_patch.specs.Found.{is_shown}
+use Rattle.yl_patch.specs.ShownUpto.{is_shown_upto}
+
+short_unless : (o : Option SectionFaultValue) (ks : List KeptValue) (n : ℕ) → length ks ≤ n → length (unless_fault o ks) ≤ n
+short_unless None ks n l = l
+short_unless (Some f) ks n l = omega arith
+
+shown_short : (ks : List KeptValue) → length (shown ks) ≤ length ks
+shown_short [] = omega arith
+shown_short (k ∷ ks) = let l = short_unless k.fault (shown ks) (length ks) (shown_short ks) in omega (arith, l)
+
+-- of all sections
+pub upto_all : (n : ℕ) (rows : List RowValue) (ks : List KeptValue) → length ks ≤ n → is_shown_upto n rows ks ≡ is_shown rows ks
+upto_all n rows ks l =
+    let l' = shown_short ks in
+    ap (λ (xs : List KeptValue). shows (disables_file (first_text rows)) (is_silenced (comments_in_sections 0 xs)) (rows_kept (shown ks))) (take_all n (shown ks) (omega (arith, l, l')))

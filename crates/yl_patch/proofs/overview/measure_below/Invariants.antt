@@ -1,9 +1,0 @@
-use Rattle.std.proofs.Common.{◌≡◌, drop}
-use Rattle.yl_patch.specs.Settled.{AreFoundAlike, measure_upto, settled}
-use Rattle.yl_patch.proofs.overview.measure_below.Given as goal
-
-abbrev pub invariant-loop-i : goal.invariant-loop-i
-invariant-loop-i g l =
-    (AreFoundAlike l.first l.second (settled (drop l.i l.kept.items)) → AreFoundAlike l.fn.one l.fn.other (settled (drop l.end l.kept.items)))
-    × ((measure_upto l.first (settled (drop l.i l.kept.items)) ≡ l.whole)
-    × (measure_upto l.second (settled (drop l.i l.kept.items)) ≡ measure_upto l.fn.other (settled (drop l.end l.kept.items))))

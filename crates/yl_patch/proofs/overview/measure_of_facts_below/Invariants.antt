@@ -1,8 +1,0 @@
-use Rattle.std.proofs.Common.{◌≡◌, drop}
-use Rattle.yl_patch.specs.Settled.{AreFoundAlike, measure_upto}
-use Rattle.yl_patch.proofs.overview.measure_of_facts_below.Given as goal
-
-abbrev pub invariant-loop-i : goal.invariant-loop-i
-invariant-loop-i g l =
-    (AreFoundAlike l.first l.second (drop l.i l.kept.items) → AreFoundAlike l.fn.one l.fn.other (drop l.end l.kept.items))
-    × ((measure_upto l.first (drop l.i l.kept.items) ≡ l.whole) × (measure_upto l.second (drop l.i l.kept.items) ≡ measure_upto l.fn.other (drop l.end l.kept.items)))

@@ -1,0 +1,6 @@
+use Rattle.std.proofs.Common.{arith, ◌∙◌}
+use Rattle.yl_patch.proofs.Shows.{upto_all}
+use Rattle.yl_patch.proofs.patching.showing_unless.Goals as goal
+
+pub returns : goal.returns
+returns g c = c.in_ok-showing.ensures ∙ upto_all c.len.result (g.L.Lines.rows c.args.lines.now) c.args.sections.now (omega (arith, c.len.ensures))
