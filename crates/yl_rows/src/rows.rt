@@ -1,6 +1,6 @@
 //! Rows, one after another.
 use crate::escapes::push_unescaped;
-use crate::views::{View, growths, show};
+use crate::views::{Wanted, growths, show};
 use yl_config::Config;
 use yl_devices::RunFault;
 
@@ -11,7 +11,7 @@ const SMALL: usize = 1000;
 enum Row<'a> {
     More(usize, &'a str),
     Growths(u64),
-    Shown(View, &'a str),
+    Shown(Wanted, &'a str),
 }
 
 // What is kept between rows: the configuration, how the next text begins, and how many growths it has at least.
@@ -35,11 +35,11 @@ fn row_of(line: &str) -> Option<Row<'_>> {
         "more" => Some(Row::More(1, rest)),
         "times" => times(rest),
         "growths" => Some(Row::Growths(rest.parse().ok()?)),
-        "config" => Some(Row::Shown(View::Fault, rest)),
-        "lint" => Some(Row::Shown(View::Report, rest)),
-        "lexemes" => Some(Row::Shown(View::Lexemes, rest)),
-        "events" => Some(Row::Shown(View::Events, rest)),
-        "lines" => Some(Row::Shown(View::Lines, rest)),
+        "config" => Some(Row::Shown(Wanted::Fault, rest)),
+        "lint" => Some(Row::Shown(Wanted::Report, rest)),
+        "lexemes" => Some(Row::Shown(Wanted::Lexemes, rest)),
+        "events" => Some(Row::Shown(Wanted::Events, rest)),
+        "lines" => Some(Row::Shown(Wanted::Lines, rest)),
         _ => None,
     }
 }
@@ -53,11 +53,11 @@ fn say(rt: &HostRuntime, text: &str) -> Result<(), RunFault> {
 }
 
 // Asks with each growth refused in turn, and says where it is answered otherwise than it has to be.
-fn refuse_each(rt: &HostRuntime, kept: &Kept, view: View) -> Result<(), RunFault> {
+fn refuse_each(rt: &HostRuntime, kept: &Kept, wanted: Wanted) -> Result<(), RunFault> {
     if kept.front.len() >= SMALL && kept.least == 0 {
         return Ok(());
     }
-    match growths(rt.alloc(), &kept.config, view, kept.front.as_str()) {
+    match growths(rt.alloc(), &kept.config, wanted, kept.front.as_str()) {
         None => say(rt, "is answered otherwise where memory is refused"),
         Some(count) if count < kept.least => say(rt, "asks for memory less often"),
         Some(_) => Ok(()),
@@ -65,16 +65,16 @@ fn refuse_each(rt: &HostRuntime, kept: &Kept, view: View) -> Result<(), RunFault
 }
 
 // Shows what is asked of the text that is kept, and takes a configuration that has no fault.
-fn answer(rt: &HostRuntime, kept: &mut Kept, view: View) -> Result<(), RunFault> {
-    refuse_each(rt, kept, view)?;
+fn answer(rt: &HostRuntime, kept: &mut Kept, wanted: Wanted) -> Result<(), RunFault> {
+    refuse_each(rt, kept, wanted)?;
     show(
         rt.alloc(),
         &kept.config,
-        view,
+        wanted,
         kept.front.as_str(),
         rt.stdout(),
     )?;
-    if view == View::Fault {
+    if wanted == Wanted::Fault {
         if let Ok(config) = Config::read(rt.alloc(), kept.front.as_str().as_bytes()) {
             kept.config = config;
         }
@@ -97,9 +97,9 @@ fn follow(rt: &HostRuntime, kept: &mut Kept, row: Row<'_>) -> Result<(), RunFaul
             kept.least = least;
             Ok(())
         }
-        Row::Shown(view, text) => {
+        Row::Shown(wanted, text) => {
             push_unescaped(&mut kept.front, text)?;
-            answer(rt, kept, view)
+            answer(rt, kept, wanted)
         }
     }
 }

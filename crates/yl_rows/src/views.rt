@@ -11,7 +11,7 @@ use yl_text::{MAX_BYTES, Watched};
 
 /// What is asked of a text.
 #[derive(Clone, Copy, PartialEq, Eq)]
-pub enum View {
+pub enum Wanted {
     /// The fault of a configuration, if there is one.
     Fault,
     Report,
@@ -59,16 +59,16 @@ fn show_report<A: Allocator + Copy, W: Write + Drop>(
 // Writes what `yldump` shows of a text.
 fn dump<A: Allocator + Copy, W: Write + Drop>(
     alloc: A,
-    view: View,
+    wanted: Wanted,
     text: &str,
     out: W,
 ) -> Result<(), RunFault> {
     if text.len() > MAX_BYTES {
         return Err(RunFault::Text(BadText::TooLarge));
     }
-    let answer = match view {
-        View::Lexemes => write_lexemes(alloc, text, out),
-        View::Events => write_events(alloc, text, out),
+    let answer = match wanted {
+        Wanted::Lexemes => write_lexemes(alloc, text, out),
+        Wanted::Events => write_events(alloc, text, out),
         _ => write_lines(alloc, text, out),
     };
     match answer {
@@ -82,14 +82,14 @@ fn dump<A: Allocator + Copy, W: Write + Drop>(
 pub fn show<A: Allocator + Copy, W: Write + Drop>(
     alloc: A,
     config: &Config,
-    view: View,
+    wanted: Wanted,
     text: &str,
     out: W,
 ) -> Result<(), RunFault> {
-    match view {
-        View::Fault => show_fault(alloc, text, out),
-        View::Report => show_report(alloc, config, text, out),
-        _ => dump(alloc, view, text, out),
+    match wanted {
+        Wanted::Fault => show_fault(alloc, text, out),
+        Wanted::Report => show_report(alloc, config, text, out),
+        _ => dump(alloc, wanted, text, out),
     }
 }
 
@@ -98,19 +98,19 @@ fn asked(
     global: Global,
     heap: &Refusing<Global>,
     config: &Config,
-    view: View,
+    wanted: Wanted,
     text: &str,
 ) -> Result<(), RunFault> {
     let mut bytes = Vec::new(global);
-    show(heap, config, view, text, &mut bytes)
+    show(heap, config, wanted, text, &mut bytes)
 }
 
 /// How many growths there are where none is refused. Where one is, out of memory has to be the answer, or there is no count.
-pub fn growths(global: Global, config: &Config, view: View, text: &str) -> Option<u64> {
+pub fn growths(global: Global, config: &Config, wanted: Wanted, text: &str) -> Option<u64> {
     let heap = Refusing::new(global);
     for n in 0..u64::MAX {
         heap.refuse(n + 1);
-        let answer = asked(global, &heap, config, view, text);
+        let answer = asked(global, &heap, config, wanted, text);
         if heap.is_armed() {
             return answer.is_ok().then_some(n);
         }
