@@ -17,8 +17,6 @@ mod in_lines;
 #[cfg(test)]
 mod places;
 #[cfg(test)]
-mod random_edits;
-#[cfg(test)]
 mod reached;
 #[cfg(test)]
 mod refused;
