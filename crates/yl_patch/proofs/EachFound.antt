@@ -30,7 +30,8 @@ use Rattle.yl_patch.proofs.Lines.{Between, between_both, empty_lines_between, en
 use Rattle.yl_parting.proofs.Ordered.{all_filter, all_then, filter_all, filter_swap}
 use Rattle.yl_patch.proofs.Passing.{all_report}
 use Rattle.yl_patch.proofs.ReportShown.{fault_of_all, found_whole}
-use Rattle.yl_patch.proofs.Sections.{all_both, between_wider, sections_between}
+use Rattle.yl_patch.proofs.Sections.{between_wider, sections_between}
+use Rattle.yl_overview.proofs.Walks.{all_both}
 use Rattle.yl_patch.proofs.WithoutFaults.{rows_faultless}
 
 -- ---- lines

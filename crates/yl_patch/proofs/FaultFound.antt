@@ -1,5 +1,5 @@
 -- The text's fault, by the first section with one; and all that is found but it.
-use Rattle.std.proofs.Common.{◌≡◌, ℕ, zero, suc, ◌+◌, ◌-◌, ◌<◌, ◌≤◌, Bool, true, false, List, [], ◌∷◌, ◌++◌, length, map, take, drop, get_or, Option, Some, None, cond, refl, ap, sym, subst, ◌∙◌, arith}
+use Rattle.std.proofs.Common.{◌≡◌, ℕ, zero, suc, ◌+◌, ◌≤◌, Bool, true, false, List, [], ◌∷◌, ◌++◌, length, take, drop, Option, Some, None, cond, refl, ap, sym, subst, ◌∙◌, arith}
 use Rattle.std.specs.Prelude.{is_some, slice_get}
 use Rattle.std.specs.List.{AllByRecursion, cons_option, filter, filter_map}
 use Rattle.std.specs.Option.{option_map, option_to_list}
@@ -27,11 +27,11 @@ use Rattle.yl_lint.specs.TextReport.{end_of_lines, fault_in_sections, fault_or_l
 use Rattle.yl_lint.specs.Unsilenced.{unsilenced_of_kept}
 use Rattle.yl_patch.specs.Faultless.{faultless}
 use Rattle.yl_patch.specs.Found.{all_parts, found_by}
-use Rattle.yl_patch.specs.Plain.{IsFirstFault, IsPlain, IsSound}
+use Rattle.yl_patch.specs.Plain.{IsPlain}
+use Rattle.yl_overview.specs.Overview.{IsFirstFault, IsSound}
 use Rattle.yl_patch.proofs.Ready.{no_fault_in, none_shown, none_told}
-use Rattle.yl_patch.proofs.Sections.{measured}
+use Rattle.yl_overview.proofs.Walks.{measured, one_at}
 use Rattle.yl_patch.proofs.ShownSections.{of_sound, shown_sound}
-use Rattle.yl_patch.proofs.Walks.{one_at}
 use Rattle.yl_patch.proofs.WithoutFaults.{findings_faultless, measured_faultless, sound_faultless}
 
 -- ---- the fault

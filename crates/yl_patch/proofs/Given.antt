@@ -1,14 +1,15 @@
 -- What follows of optional values, and of one report and its parts.
-use Rattle.std.proofs.Common.{◌≡◌, ◌≤◌, ℕ, Bool, length, true, false, List, Option, Some, None, refl, ap, sym, subst, ◌∙◌, arith}
+use Rattle.std.proofs.Common.{◌≡◌, ◌<◌, ◌≤◌, ◌^◌, ℕ, Bool, length, take, drop, length-append, true, false, List, Option, Some, None, refl, ap, sym, subst, ◌∙◌, arith}
 use Rattle.std.proofs.lemmas.List.{map-append}
 use Rattle.std.proofs.Math.Bool.{beq}
-use Rattle.std.specs.List.{splice}
+use Rattle.std.specs.List.{AllByRecursion, splice}
 use Rattle.std.specs.Option.{SomeIff}
 use Rattle.std.specs.Prelude.{not, IfSome, IfOk, Result, Ok, Err, ◌++◌, map}
 use Rattle.yl_text.specs.declared.finding.RuleId.{RuleId}
 use Rattle.yl_text.specs.Finding.{FindingValue}
 use Rattle.yl_text.specs.Lines.{RowValue}
-use Rattle.yl_text.specs.Store.{IsRange}
+use Rattle.yl_text.specs.Store.{AreLines, IsRange}
+use Rattle.yl_text.proofs.Edited.{length-lines}
 use Rattle.yl_indentation.specs.declared.measure.Measure.{Measure}
 use Rattle.yl_indentation.specs.declared.options.IndentationOptions.{IndentationOptions}
 use Rattle.yl_rules.specs.Levels.{LevelTable}
@@ -17,7 +18,11 @@ use Rattle.yl_report.specs.Report.{report_of}
 use Rattle.yl_sections.specs.Kept.{KeptValue}
 use Rattle.yl_lint.specs.Onward.{onward_in_sections}
 use Rattle.yl_lint.specs.TextReport.{moved}
+use Rattle.yl_overview.specs.Overview.{IsOverviewOf}
+use Rattle.yl_overview.specs.declared.overview.Overview.{Overview}
 use Rattle.yl_patch.specs.Cut.{IsInside}
+use Rattle.yl_patch.specs.Faultless.{faultless}
+use Rattle.yl_patch.specs.Plain.{IsPlain, IsSurveyed}
 use Rattle.yl_patch.specs.There.{found_there, lines_there}
 use Rattle.yl_patch.specs.declared.touched.Ends.{Ends}
 use Rattle.yl_patch.specs.declared.touched.Touched.{Touched}
@@ -64,9 +69,6 @@ then_ok (Err e) p f = tt
 pub same_report : (l m : LevelTable) (file : Bool) (s : RuleId → ℕ → Bool) (xs ys : List FindingValue) → l ≡ m → xs ≡ ys → report_of l file s xs ≡ report_of m file s ys
 same_report l m file s xs ys a b = rw (a, b) refl
 
-pub same_silences : (l : LevelTable) (file : Bool) (s t : RuleId → ℕ → Bool) (xs ys : List FindingValue) → file ≡ false → s ≡ t → xs ≡ ys → report_of l file s xs ≡ report_of l false t ys
-same_silences l file s t xs ys a b c = rw (a, b, c) refl
-
 -- what is found in lines and in sections that stand so many lines further down
 pub all_moved : (o : RuleOptions) (e : Ends) (before : Measure) (down : ℕ) (rows : List RowValue) (ks : List KeptValue)
     → map (moved down) (lines_there o e rows) ++ onward_in_sections o.indentation down before ks ≡ map (moved down) (found_there o e before rows ks)
@@ -97,3 +99,18 @@ window_fits rows ins edited a b t l m inside is =
       ordered = omega (arith, inside.new_some);
       within = omega (arith, inside.fits, inside.back, n, here);
     }
+
+-- what is known of plain sections
+pub surveyed : (ks : List KeptValue) (o : Overview) → AllByRecursion IsPlain (faultless ks) → IsOverviewOf ks o → IsSurveyed ks o
+surveyed ks o plain known = record { plain = plain; first = known.first; whole = known.whole; silencing = known.silencing }
+
+-- ---- the lines of an edit
+
+new_within : (ps ns : List RowValue) (a b : ℕ) → length ns ≤ length (splice ps a b ns)
+new_within ps ns a b = omega (arith, length-append (take a ps) (ns ++ drop b ps), length-append ns (drop b ps))
+
+pub few_lines : (ps : List RowValue) → AreLines ps → length ps < 2 ^ 30
+few_lines ps h = omega (arith, length-lines ps h.lines.ended, h.short)
+
+pub few_new : (ps ns : List RowValue) (a b : ℕ) → AreLines (splice ps a b ns) → length ns < 2 ^ 30
+few_new ps ns a b h = omega (arith, new_within ps ns a b, few_lines (splice ps a b ns) h)

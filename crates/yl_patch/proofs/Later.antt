@@ -1,6 +1,5 @@
 -- What is found below sections, behind facts of either of two measures, and the measure of all then.
-use Rattle.std.proofs.Common.{◌≡◌, ℕ, ◌+◌, ◌<◌, ◌≤◌, List, ◌∷◌, ◌++◌, length, map, drop, take, get_or, refl, ap, sym, subst, ◌∙◌, append-nil, append_assoc}
-use Rattle.std.specs.List.{splice}
+use Rattle.std.proofs.Common.{◌≡◌, ℕ, ◌+◌, ◌<◌, ◌≤◌, List, ◌∷◌, ◌++◌, length, map, drop, get_or, refl, ap, sym, subst, ◌∙◌, append-nil, append_assoc}
 use Rattle.yl_text.specs.Finding.{FindingValue}
 use Rattle.yl_indentation.specs.declared.fact.Fact.{Fact}
 use Rattle.yl_indentation.specs.declared.measure.Measure.{Measure}
@@ -11,10 +10,8 @@ use Rattle.yl_indentation.proofs.Onward.{both_count, facts_count, problems_of_th
 use Rattle.yl_sections.specs.Kept.{KeptValue}
 use Rattle.yl_lint.specs.Onward.{onward_in_section, onward_in_sections}
 use Rattle.yl_lint.specs.TextReport.{findings_in_section, findings_in_sections, moved}
-use Rattle.yl_patch.specs.Seen.{AreFoundAlike, measure_upto, sections_between}
-use Rattle.yl_patch.proofs.Faults.{none_left}
-use Rattle.yl_patch.proofs.Sections.{and_later_none, measured}
-use Rattle.yl_patch.proofs.Walks.{measure_parts, measure_put, one_at}
+use Rattle.yl_patch.specs.Seen.{AreFoundAlike}
+use Rattle.yl_overview.proofs.Walks.{none_left, one_at}
 
 -- ---- a section, by the facts up to each place
 
@@ -84,19 +81,3 @@ module _ (ks : List KeptValue) (i : ℕ) (k : KeptValue) (l : i < length ks) (is
 -- no section is left
 pub alike_none : (one other : Measure) (ks : List KeptValue) (i : ℕ) → length ks ≤ i → AreFoundAlike one other (drop i ks)
 alike_none one other ks i l = subst (λ (xs : List KeptValue). AreFoundAlike one other xs) (sym (none_left ks i l)) (λ o line. refl)
-
--- ---- once the touched sections are edited
-
--- the measure of all, by these parts
-pub facts_upto : (ks : List KeptValue) (from end : ℕ) (whole above : Measure) → from ≤ end → end ≤ length ks → whole ≡ measured ks → above ≡ measured (take from ks)
-    → whole ≡ measure_upto (measure_upto above (sections_between from end ks)) (drop end ks)
-facts_upto ks from end whole above l m is above_is =
-    is ∙ (measure_parts ks from end l m ∙ ap (λ (n : Measure). measure_upto (measure_upto n (sections_between from end ks)) (drop end ks)) (sym above_is))
-
--- no section is left to be measured
-pub measured_to_end : (ks : List KeptValue) (i : ℕ) (m total : Measure) → length ks ≤ i → and_later m (measured (drop i ks)) ≡ total → m ≡ total
-measured_to_end ks i m total l whole = sym (and_later_none m) ∙ (ap (λ (xs : List KeptValue). and_later m (measured xs)) (sym (none_left ks i l)) ∙ whole)
-
--- and behind them
-pub facts_then : (ks new : List KeptValue) (from end : ℕ) (whole above : Measure) → whole ≡ measure_upto (measure_upto above new) (drop end ks) → above ≡ measured (take from ks) → whole ≡ measured (splice ks from end new)
-facts_then ks new from end whole above is above_is = is ∙ (ap (λ (n : Measure). measure_upto (measure_upto n new) (drop end ks)) above_is ∙ measure_put ks new from end)

@@ -3,7 +3,6 @@ pub mod Arranged
 pub mod EachFound
 pub mod Ends
 pub mod FaultFound
-pub mod Faults
 pub mod Given
 pub mod RuleKinds
 pub mod Later
@@ -11,6 +10,7 @@ pub mod Lines
 pub mod Parts
 pub mod PartsEdited
 pub mod Passing
+pub mod ReadAlike
 pub mod Ready
 pub mod Renewed
 pub mod ReportShown

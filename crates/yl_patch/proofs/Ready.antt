@@ -18,7 +18,8 @@ use Rattle.yl_parting.proofs.Faults.{report_in_order}
 use Rattle.yl_parting.proofs.Ordered.{order_filter}
 use Rattle.yl_patch.specs.Faultless.{faultless}
 use Rattle.yl_patch.specs.Found.{all_parts, fault_told, found_by, is_shown, parts_of}
-use Rattle.yl_patch.specs.Plain.{IsPlain, IsSound}
+use Rattle.yl_patch.specs.Plain.{IsPlain}
+use Rattle.yl_overview.specs.Overview.{IsSound}
 use Rattle.yl_patch.proofs.EachFound.{no_fault_shown}
 use Rattle.yl_patch.proofs.PartsEdited.{found_in_order}
 use Rattle.yl_patch.proofs.ReportShown.{report_shown}

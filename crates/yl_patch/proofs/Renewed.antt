@@ -22,7 +22,7 @@ use Rattle.yl_sections.specs.Kept.{KeptValue, items_if}
 use Rattle.yl_rejudge.specs.Places.{rows_kept}
 use Rattle.yl_lint.proofs.Onward.{whole_looks_back}
 use Rattle.yl_lint.specs.Onward.{onward_in_sections}
-use Rattle.yl_lint.specs.TextReport.{end_of_lines, fault_in_sections, findings_from, findings_in_lines, findings_in_sections, moved, shown}
+use Rattle.yl_lint.specs.TextReport.{end_of_lines, findings_from, findings_in_lines, findings_in_sections, moved, shown}
 use Rattle.yl_lint.specs.Unsilenced.{unsilenced_of_kept}
 use Rattle.yl_patch.specs.Cut.{IsInside, is_filled}
 use Rattle.yl_patch.specs.Faultless.{faultless, faultless_one}
@@ -32,11 +32,11 @@ use Rattle.yl_patch.specs.Seen.{AreFoundAlike, IsSeen, measure_upto, new_lines_o
 use Rattle.yl_patch.specs.There.{found_there, lines_there}
 use Rattle.yl_patch.specs.declared.touched.Ends.{Ends}
 use Rattle.yl_patch.specs.declared.touched.Touched.{Touched}
-use Rattle.yl_patch.proofs.Arranged.{arranged, arranged_lines, arranged_moved, below, lower}
+use Rattle.yl_patch.proofs.Arranged.{arranged, arranged_lines, arranged_moved, lower}
 use Rattle.yl_patch.proofs.Lines.{back_seam, front_seam, if_none, is_seam, none_by, seam_behind, seam_more}
 use Rattle.yl_patch.proofs.Parts.{lines_above, part, part_alike, part_between, parts_apart, patched, patched_so}
-use Rattle.yl_patch.proofs.Sections.{all_back, all_both, all_front, measured, no_fault, shown_plain}
-use Rattle.yl_patch.proofs.Walks.{rows_until}
+use Rattle.yl_patch.proofs.Sections.{no_fault, shown_plain}
+use Rattle.yl_overview.proofs.Walks.{all_back, all_both, all_front, measured, rows_until}
 use Rattle.yl_patch.proofs.WithoutFaults.{faultless_between, measured_faultless, onward_faultless, rows_faultless, splice_faultless}
 
 -- ---- what is found in a whole text

@@ -34,7 +34,7 @@ use Rattle.yl_lint.specs.Onward.{onward_in_section, onward_in_sections}
 use Rattle.yl_lint.specs.TextReport.{findings_from, findings_in_lines, moved}
 use Rattle.yl_parting.specs.Showing.{is_of_lines}
 use Rattle.yl_patch.specs.Plain.{IsPlain, is_of_section}
-use Rattle.yl_patch.proofs.Sections.{all_both}
+use Rattle.yl_overview.proofs.Walks.{all_both}
 
 -- ---- rules
 

@@ -1,17 +1,17 @@
 -- Which sections are shown, and what their comments say.
-use Rattle.std.proofs.Common.{◌≡◌, ℕ, zero, suc, ◌+◌, ◌-◌, ◌<◌, ◌≤◌, Bool, true, false, List, [], ◌∷◌, ◌++◌, Option, Some, None, length, take, drop, get_or, refl, ap, sym, subst, ◌∙◌, arith, rules, ⊎_elim}
+use Rattle.std.proofs.Common.{◌≡◌, ℕ, ◌+◌, ◌-◌, ◌<◌, ◌≤◌, true, List, [], ◌∷◌, ◌++◌, Option, Some, None, length, take, drop, get_or, refl, ap, sym, ◌∙◌, arith, rules, ⊎_elim}
 use Rattle.std.specs.Prelude.{is_some}
 use Rattle.std.specs.List.{AllByRecursion, slice_get}
-use Rattle.std.proofs.lemmas.List.{same_lists, places, take_all, take-append-drop, length-take-le}
+use Rattle.std.proofs.lemmas.List.{same_lists, places, take_all, take-append-drop}
 use Rattle.std.proofs.lemmas.Option.{slice_get_cases, slice_get_within}
 use Rattle.yl_sections.specs.Kept.{KeptValue, SectionFaultValue}
 use Rattle.yl_rejudge.specs.Places.{rows_kept}
 use Rattle.yl_rejudge.proofs.KeptRows.{got}
 use Rattle.yl_lint.specs.TextReport.{comments_in_sections, shown, unless_fault}
-use Rattle.yl_patch.specs.Plain.{IsFirstFault, IsSilencingOf, IsSound}
-use Rattle.yl_patch.specs.declared.silencing.Silencing.{Silencing}
+use Rattle.yl_overview.specs.Overview.{IsFirstFault, IsSilencingOf, IsSound}
+use Rattle.yl_overview.specs.declared.overview.Silencing.{Silencing}
 use Rattle.yl_patch.proofs.SilencingSections.{comments_known}
-use Rattle.yl_patch.proofs.Walks.{one_at, one_more, rows_both}
+use Rattle.yl_overview.proofs.Walks.{one_at, one_more, rows_both}
 
 -- ---- the sections that are shown
 

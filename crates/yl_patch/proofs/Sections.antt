@@ -20,7 +20,9 @@ use Rattle.yl_sections.specs.Kept.{KeptValue, SectionFaultValue}
 use Rattle.yl_rejudge.specs.Places.{rows_kept}
 use Rattle.yl_lint.specs.TextReport.{moved, shown, unless_fault, fault_or_later, fault_in_sections, comments_in_sections, moved_comment, facts_in_sections}
 use Rattle.yl_lint.specs.Onward.{onward_in_section, onward_in_sections}
-use Rattle.yl_patch.specs.Plain.{IsPlain, IsSilent}
+use Rattle.yl_patch.specs.Plain.{IsPlain}
+use Rattle.yl_overview.specs.Overview.{IsSilent}
+use Rattle.yl_overview.proofs.Walks.{all_both, measured}
 use Rattle.yl_patch.proofs.Lines.{Between, between_both}
 
 -- ---- sections that have no fault, and those that silence nothing
@@ -37,18 +39,6 @@ pub no_comments : (line : ℕ) (ks : List KeptValue) → AllByRecursion IsSilent
 no_comments line [] h = refl
 no_comments line (k ∷ ks) h =
     ap (λ (cs : List PlacedCommentValue). map (moved_comment line) cs ++ comments_in_sections (line + k.rows) ks) h.0 ∙ no_comments (line + k.rows) ks h.1
-
-pub all_both : {X : Type 0} (P : X → Type 0) (xs ys : List X) → AllByRecursion P xs → AllByRecursion P ys → AllByRecursion P (xs ++ ys)
-all_both P [] ys h g = g
-all_both P (x ∷ xs) ys h g = (h.0, all_both P xs ys h.1 g)
-
-pub all_front : {X : Type 0} (P : X → Type 0) (xs ys : List X) → AllByRecursion P (xs ++ ys) → AllByRecursion P xs
-all_front P [] ys h = tt
-all_front P (x ∷ xs) ys h = (h.0, all_front P xs ys h.1)
-
-pub all_back : {X : Type 0} (P : X → Type 0) (xs ys : List X) → AllByRecursion P (xs ++ ys) → AllByRecursion P ys
-all_back P [] ys h = h
-all_back P (x ∷ xs) ys h = all_back P xs ys h.1
 
 -- ---- comments of sections one after another
 
@@ -102,16 +92,6 @@ comments_within line high (k ∷ ks) h l =
     (comments_within (line + k.rows) high ks h.1 (omega (arith, l)))
 
 -- ---- measures
-
-pub facts_both : (ks ls : List KeptValue) → facts_in_sections (ks ++ ls) ≡ facts_in_sections ks ++ facts_in_sections ls
-facts_both [] ls = refl
-facts_both (k ∷ ks) ls = ap (λ (fs : List Fact). k.facts ++ fs) (facts_both ks ls) ∙ sym (append_assoc k.facts (facts_in_sections ks) (facts_in_sections ls))
-
-abbrev pub measured : List KeptValue → Measure
-measured ks = measure_of (facts_in_sections ks)
-
-pub measured_both : (ks ls : List KeptValue) → measured (ks ++ ls) ≡ and_later (measured ks) (measured ls)
-measured_both ks ls = ap measure_of (facts_both ks ls) ∙ measure_is_local (facts_in_sections ks) (facts_in_sections ls)
 
 -- no later facts
 pub and_later_none : (m : Measure) → and_later m empty_measure ≡ m
@@ -206,17 +186,3 @@ sections_between o before line high (k ∷ ks) h l =
     between_both line high (onward_in_section o line before k) (onward_in_sections o (line + k.rows) later ks)
     (between_wider (line + 0) (line + k.rows) line high (map (moved line) all) (omega arith) (omega (arith, l)) (between_moved line 0 k.rows all (between_both 0 k.rows k.found (onward_problems o before k.facts) h.0.found (indented_there k.rows o before k.facts h.0.facts))))
     (between_wider (line + k.rows) high line high (onward_in_sections o (line + k.rows) later ks) (omega arith) (omega arith) (sections_between o later (line + k.rows) high ks h.1 (omega (arith, l))))
-
--- ---- a measure that no later fact changes
-
-known_so : {X : Type 0} (a b c : Option X) → first a (first b c) ≡ a → first a b ≡ a
-known_so None None c e = refl
-known_so None (Some x) c e = e
-known_so (Some x) b c e = refl
-
-pub and_later_so : (p q r : Measure) → and_later p (and_later q r) ≡ p → and_later p q ≡ p
-and_later_so p q r e =
-    let a = known_so p.step q.step r.step (ap (λ (m : Measure). m.step) e) in
-    let b = known_so p.step_with_entries q.step_with_entries r.step_with_entries (ap (λ (m : Measure). m.step_with_entries) e) in
-    let c = known_so p.flush q.flush r.flush (ap (λ (m : Measure). m.flush) e) in
-    λ i. record { step = a i; step_with_entries = b i; flush = c i }

@@ -29,7 +29,7 @@ use Rattle.yl_patch.proofs.EachFound.{InFirst}
 use Rattle.yl_patch.proofs.PartsEdited.{parts_edited}
 use Rattle.yl_patch.proofs.Renewed.{found_edited}
 use Rattle.yl_patch.proofs.ShownThere.{rows_upto, shown_upto, suppressed_upto, there_in_first}
-use Rattle.yl_patch.proofs.Walks.{all_drop, all_take, rows_both}
+use Rattle.yl_overview.proofs.Walks.{all_drop, all_take, rows_both}
 
 -- those that were put in place of some are among all
 plain_put : (ks new : List KeptValue) (from end : ℕ) → from ≤ length ks → AllByRecursion IsPlain (faultless (splice ks from end new)) → AllByRecursion IsPlain (faultless new)

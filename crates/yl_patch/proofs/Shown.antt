@@ -5,7 +5,7 @@ use Rattle.yl_lexeme.specs.Lexeme.{PlacedCommentValue}
 use Rattle.yl_sections.specs.Kept.{KeptValue, SectionFaultValue}
 use Rattle.yl_rejudge.specs.Places.{rows_kept}
 use Rattle.yl_lint.specs.TextReport.{comments_in_sections, shown, unless_fault}
-use Rattle.yl_patch.specs.Plain.{IsSilent, has_fault}
+use Rattle.yl_overview.specs.Overview.{IsSilent, has_fault}
 use Rattle.yl_patch.specs.Speaking.{SpeakAlike, SpeaksWithin, switch_texts}
 use Rattle.yl_patch.proofs.Sections.{no_comments}
 use Rattle.yl_patch.proofs.ShownSections.{shown_sound}

@@ -10,7 +10,8 @@ use Rattle.yl_sections.specs.Kept.{KeptValue, SectionFaultValue}
 use Rattle.yl_rejudge.specs.Places.{rows_kept}
 use Rattle.yl_lint.specs.TextReport.{comments_in_sections, moved_comment, shown, unless_fault}
 use Rattle.yl_patch.specs.Faultless.{faultless}
-use Rattle.yl_patch.specs.Plain.{IsPlain, IsSound, has_fault}
+use Rattle.yl_patch.specs.Plain.{IsPlain}
+use Rattle.yl_overview.specs.Overview.{IsSound, has_fault}
 use Rattle.yl_patch.proofs.ReportShown.{plain_shown}
 use Rattle.yl_patch.proofs.Sections.{comments_two, comments_within}
 use Rattle.yl_patch.proofs.Silenced.{moved_high, said_above}

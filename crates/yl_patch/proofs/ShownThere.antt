@@ -30,7 +30,7 @@ use Rattle.yl_patch.proofs.EachFound.{InFirst}
 use Rattle.yl_patch.proofs.Lines.{Between, between_both, empty_lines_between, end_of_file_between, new_lines_between, rows_between}
 use Rattle.yl_patch.proofs.Passing.{all_report}
 use Rattle.yl_patch.proofs.Sections.{between_moved, between_wider, sections_between}
-use Rattle.yl_patch.proofs.Walks.{rows_both}
+use Rattle.yl_overview.proofs.Walks.{rows_both}
 use Rattle.yl_patch.proofs.WithoutFaults.{onward_faultless, rows_faultless}
 
 -- ---- the lines of what is found there

@@ -1,13 +1,8 @@
 -- What is shown by the comments of the first sections, and by those of all.
-use Rattle.std.proofs.Common.{◌≡◌, ℕ, zero, suc, ◌+◌, ◌-◌, ◌<◌, ◌≤◌, Bool, true, false, List, [], ◌∷◌, length, map, take, drop, Option, Some, None, cond, refl, ap, sym, subst, ◌∙◌, arith}
-use Rattle.std.specs.Prelude.{not}
-use Rattle.std.specs.List.{AllByRecursion, filter, splice}
+use Rattle.std.proofs.Common.{◌≡◌, ℕ, ◌≤◌, List, [], ◌∷◌, length, Option, Some, None, ap, arith}
 use Rattle.std.proofs.lemmas.List.{take_all}
 use Rattle.yl_text.specs.Lines.{RowValue}
-use Rattle.yl_text.specs.declared.finding.RuleId.{RuleId}
 use Rattle.yl_report.specs.Directive.{disables_file, is_silenced}
-use Rattle.yl_report.specs.Report.{ProblemValue}
-use Rattle.yl_parting.specs.Parts.{PartsValue, parted}
 use Rattle.yl_parting.specs.Showing.{shows}
 use Rattle.yl_sections.specs.Kept.{KeptValue, SectionFaultValue}
 use Rattle.yl_rejudge.specs.Places.{rows_kept}

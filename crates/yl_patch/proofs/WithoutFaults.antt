@@ -13,10 +13,10 @@ use Rattle.yl_rejudge.specs.Places.{rows_kept}
 use Rattle.yl_lint.specs.Onward.{onward_in_section, onward_in_sections}
 use Rattle.yl_lint.specs.TextReport.{facts_in_sections, findings_in_section, findings_in_sections}
 use Rattle.yl_patch.specs.Faultless.{faultless, faultless_one}
-use Rattle.yl_patch.specs.Plain.{IsPlain, IsSound, IsWithin, is_of_section}
+use Rattle.yl_patch.specs.Plain.{IsPlain, IsWithin, is_of_section}
+use Rattle.yl_overview.specs.Overview.{IsSound}
 use Rattle.yl_patch.specs.Seen.{sections_between}
-use Rattle.yl_patch.proofs.Sections.{all_both, measured}
-use Rattle.yl_patch.proofs.Walks.{all_drop, all_take, one_at}
+use Rattle.yl_overview.proofs.Walks.{all_both, measured, all_drop, all_take, one_at}
 
 -- ---- sections as if none had a fault
 

@@ -1,4 +1,6 @@
+pub mod Alike
 pub mod Cut
+pub mod Edit
 pub mod Faultless
 pub mod Found
 pub mod Patching

@@ -11,7 +11,7 @@ use Rattle.yl_lint.specs.TextReport.{first_text}
 use Rattle.yl_parting.specs.Changes.{PatchValue}
 use Rattle.yl_parting.specs.Following.{found_after}
 use Rattle.yl_patch.specs.Found.{fault_told, found_by, is_shown}
-use Rattle.yl_patch.specs.Plain.{has_fault}
+use Rattle.yl_overview.specs.Overview.{has_fault}
 use Rattle.yl_patch.specs.Speaking.{SpeakAlike}
 
 -- where these sections come in place of those from one on, before another, the first line silences the file as before; and if no fault above hides

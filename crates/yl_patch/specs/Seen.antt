@@ -1,6 +1,6 @@
 -- Bridge: what is seen of an edit in the lines of the touched sections, whatever comments say and a fault hides.
 use Rattle.std.specs.Prelude.{◌≡◌, ◌+◌, ◌-◌, ◌==◌, ℕ, true, false, length, map, take, drop, slice_get, List}
-use Rattle.std.specs.List.{AllByRecursion, splice}
+use Rattle.std.specs.List.{splice}
 use Rattle.yl_text.specs.Finding.{FindingValue}
 use Rattle.yl_text.specs.Lines.{RowValue}
 use Rattle.yl_indentation.specs.declared.measure.Measure.{Measure}
@@ -13,8 +13,6 @@ use Rattle.yl_rejudge.specs.Places.{rows_kept}
 use Rattle.yl_lint.specs.Onward.{onward_in_sections}
 use Rattle.yl_lint.specs.TextReport.{facts_in_sections, moved}
 use Rattle.yl_patch.specs.Cut.{IsInside, is_filled}
-use Rattle.yl_patch.specs.Faultless.{faultless}
-use Rattle.yl_patch.specs.Plain.{IsPlain}
 use Rattle.yl_patch.specs.There.{found_there}
 use Rattle.yl_patch.specs.declared.touched.Ends.{Ends}
 use Rattle.yl_patch.specs.declared.touched.Touched.{Touched}

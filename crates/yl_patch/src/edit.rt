@@ -1,15 +1,35 @@
-//! An edit of sections.
+//! An edit of the lines of a text.
+ghost use Rattle.std.specs.Prelude.{◌≡◌};
+ghost use Rattle.std.specs.List.{splice};
+ghost use Rattle.yl_patch.specs.Edit.{IsTextEdit};
 
-use std::alloc::Allocator;
-use yl_sections::Kept;
+use yl_text::{LineStore, Patched, Row};
 
-/// An edit of sections: what is kept of those from one on, before `end`, becomes this. The first of them begins with the line `from_row`,
-/// the first behind them with `end_row`. Sections and lines are counted from 0.
-#[derive(Drop)]
-pub struct SectionEdit<'a, A: Allocator> {
-    pub from: usize,
-    pub end: usize,
-    pub from_row: usize,
-    pub end_row: usize,
-    pub kept: &'a [Kept<A>],
+/// An edit of the lines of a text: these rows come in place of the lines a to b, b not included, counted from 0.
+pub struct TextEdit<'a, S: LineStore> {
+    pub store: &'a S,
+    pub a: usize,
+    pub b: usize,
+    pub rows: &'a [Row<S::Alloc>],
+}
+
+impl<S: LineStore> Drop for TextEdit<'_, S> {
+    fn drop(self) {
+        let TextEdit {
+            store: _,
+            a: _,
+            b: _,
+            rows: _,
+        } = self;
+    }
+}
+
+impl<'a, S: LineStore> TextEdit<'a, S> {
+    /// The lines that it leaves, with nothing copied.
+    pub fn edited(&self) -> Patched<'a, S>
+        requires { IsTextEdit (S.rows self.now.store.now) self.now.a self.now.b self.now.rows.now }
+        ensures { result ≡ splice (S.rows self.now.store.now) self.now.a self.now.b self.now.rows.now }
+    {
+        Patched::new(self.store, self.a, self.b, self.rows)
+    }
 }

@@ -5,13 +5,14 @@ ghost use Rattle.yl_sections.specs.Kept.{KeptValue};
 ghost use Rattle.yl_sections.specs.Owned.{section_fault_value};
 ghost use Rattle.yl_lint.specs.TextReport.{end_of_lines, fault_in_sections};
 ghost use Rattle.yl_patch.specs.Found.{fault_told};
-ghost use Rattle.yl_patch.specs.Plain.{IsFirstFault, IsSurveyed};
+ghost use Rattle.yl_patch.specs.Plain.{IsSurveyed};
+ghost use Rattle.yl_overview.specs.Overview.{IsFirstFault};
 
-use crate::overview::Overview;
 use std::alloc::{AllocError, Allocator};
 use yl_chunks::Spliced;
 use yl_config::Config;
 use yl_lint::{end_of, finding_of_fault, first_text};
+use yl_overview::Overview;
 use yl_report::{Problem, Silences, arrange, disables_file};
 use yl_sections::{Kept, SectionFault};
 use yl_text::{Finding, Lines, Pos};

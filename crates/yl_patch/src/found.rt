@@ -1,14 +1,16 @@
 //! All that is found in a text, put together.
 ghost use Rattle.std.specs.Prelude.{◌≡◌, ◌++◌, true, map, IfOk, OnOk};
+ghost use Rattle.std.specs.List.{AllByRecursion};
 ghost use Rattle.yl_text.specs.Store.{AreLines};
 ghost use Rattle.yl_indentation.specs.Measures.{empty_measure, measure_of};
 ghost use Rattle.yl_parting.specs.Changes.{parts_in};
 ghost use Rattle.yl_lint.specs.TextReport.{facts_in_sections, findings_in_sections, report_by};
+ghost use Rattle.yl_patch.specs.Faultless.{faultless};
 ghost use Rattle.yl_patch.specs.Found.{all_parts, found_by};
-ghost use Rattle.yl_patch.specs.Plain.{IsOverviewOf, IsSurveyed};
+ghost use Rattle.yl_patch.specs.Plain.{IsPlain, IsSurveyed};
+ghost use Rattle.yl_overview.specs.Overview.{IsOverviewOf};
 
 use crate::fault::fault_of;
-use crate::overview::Overview;
 use crate::parting::part;
 use crate::showing::showing_of;
 use std::alloc::{AllocError, Allocator};
@@ -16,6 +18,7 @@ use yl_chunks::Spliced;
 use yl_config::Config;
 use yl_indentation::{IndentationOptions, Measure};
 use yl_lint::{find_in_lines, line_below, push_section, report_with_kept};
+use yl_overview::Overview;
 use yl_parting::FoundProblems;
 use yl_report::{Problem, Silences, arrange};
 use yl_sections::Kept;
@@ -101,13 +104,15 @@ pub fn found_problems<L: Lines>(
     lines: &L,
     sections: &Spliced<'_, Kept<L::Alloc>, L::Alloc>,
     overview: Overview,
+    are_plain: bool,
 ) -> Result<FoundProblems<L::Alloc>, AllocError>
     requires lines { AreLines (L.rows lines.now) }
     requires overview { IsOverviewOf sections.now overview }
+    requires plain { are_plain ≡ true → AllByRecursion IsPlain (faultless sections.now) }
     ensures shown { IfOk result (λ f. f.shown.items ≡ report_by config.now (L.rows lines.now) sections.now) }
-    ensures plain { IfOk result (λ f. overview.is_plain ≡ true → parts_in f ≡ all_parts config.now (L.rows lines.now) sections.now) }
+    ensures plain { IfOk result (λ f. are_plain ≡ true → parts_in f ≡ all_parts config.now (L.rows lines.now) sections.now) }
 {
-    if overview.is_plain {
+    if are_plain {
         return part_all(alloc, config, lines, sections, overview);
     }
     let all = lent_kept(alloc, sections)?;

@@ -10,30 +10,29 @@
 
 mod below;
 mod comments;
+mod comparing;
 mod edit;
 mod fault;
-mod first_fault;
 mod found;
 mod laws;
 mod measures;
-mod overview;
 mod parting;
 mod patching;
 mod plain;
 mod seen;
 mod showing;
-mod silencing;
-mod sound;
 mod speaking;
 mod there;
 mod touched;
+mod unchanged;
 mod window;
 
-pub use edit::SectionEdit;
+pub use comparing::stays;
+pub use edit::TextEdit;
 pub use fault::fault_of;
 pub use found::found_problems;
 pub use laws::report_is_shown;
-pub use overview::{Overview, overview_after, overview_of};
 pub use patching::patched_problems;
+pub use plain::{are_all_plain, are_plain};
 pub use showing::showing_of;
-pub use silencing::Silencing;
+pub use unchanged::reads_alike;

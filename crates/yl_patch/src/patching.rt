@@ -1,7 +1,6 @@
 //! What an edit makes of what is found in a text.
-ghost use Rattle.std.specs.Prelude.{◌≡◌, ◌≤◌, ◌<◌, ◌+◌, ◌^◌, true, false, length, take, IfOk, IfSome, MatchOption};
-ghost use Rattle.std.specs.List.{splice};
-ghost use Rattle.yl_text.specs.Store.{AreLines, IsRange};
+ghost use Rattle.std.specs.Prelude.{◌≡◌, ◌≤◌, true, false, IfOk, IfSome, MatchOption};
+ghost use Rattle.std.specs.List.{AllByRecursion, splice};
 ghost use Rattle.yl_config.specs.Config.{levels_of};
 ghost use Rattle.yl_report.specs.Heard.{nothing_silenced};
 ghost use Rattle.yl_report.specs.Report.{report_of};
@@ -10,25 +9,27 @@ ghost use Rattle.yl_parting.specs.Order.{IsInOrder};
 ghost use Rattle.yl_parting.specs.Parts.{parted, with_fault, without_fault};
 ghost use Rattle.yl_parting.specs.Rooms.{ToldFault};
 ghost use Rattle.yl_parting.specs.Showing.{is_shown_by};
-ghost use Rattle.yl_rejudge.specs.Places.{rows_kept};
+ghost use Rattle.yl_overview.specs.Edit.{IsSectionEdit};
+ghost use Rattle.yl_patch.specs.Edit.{IsTextEdit};
+ghost use Rattle.yl_patch.specs.Faultless.{faultless};
 ghost use Rattle.yl_patch.specs.Found.{all_parts, is_shown};
-ghost use Rattle.yl_patch.specs.Plain.{IsOverviewOf, IsSurveyed};
+ghost use Rattle.yl_patch.specs.Plain.{IsPlain, IsSurveyed};
 ghost use Rattle.yl_patch.specs.ShownUpto.{is_shown_upto};
 
 use crate::below::stays_shown;
-use crate::edit::SectionEdit;
+use crate::edit::TextEdit;
 use crate::fault::fault_of;
-use crate::overview::Overview;
 use crate::parting::part;
 use crate::seen::{SeenEdit, see_edit};
 use crate::showing::showing_of;
 use std::alloc::AllocError;
-use yl_chunks::{Chunks, Spliced};
+use yl_chunks::Spliced;
 use yl_config::Config;
+use yl_overview::{Overview, SectionEdit};
 use yl_parting::{FoundProblems, LinesPatch, Showing};
 use yl_report::{Silences, arrange};
 use yl_sections::Kept;
-use yl_text::{Finding, LineStore, Lines, Patched, Row};
+use yl_text::{Finding, LineStore, Lines};
 
 /// What was found in some lines, parted by the comments of the first `upto` sections.
 fn part_found<L: Lines>(
@@ -66,51 +67,35 @@ fn showing_unless<L: Lines>(
     Ok(Some(showing))
 }
 
-/// What the edit that puts these rows in place of the lines a to b makes of what is found in the text. `kept` is what was kept of the sections,
-/// `edit` is what becomes of them, and the overviews are those before it and after it. None where the sections are not seen to be plain, the
-/// touched lines are not apart from the others, or indentation below would be judged otherwise. The only error is out of memory.
+/// What an edit makes of what is found in a text, whose sections are plain before and after it. None where the touched lines are not apart from
+/// the others, or indentation below would be judged otherwise. The only error is out of memory.
 pub fn patched_problems<S: LineStore>(
     alloc: S::Alloc,
     config: &Config,
-    store: &S,
-    a: usize,
-    b: usize,
-    rows: &[Row<S::Alloc>],
-    kept: &Chunks<Kept<S::Alloc>, S::Alloc>,
-    before: Overview,
-    after: Overview,
+    text: &TextEdit<'_, S>,
     edit: &SectionEdit<'_, S::Alloc>,
 ) -> Result<Option<LinesPatch<S::Alloc>>, AllocError>
-    requires range { IsRange a b (length (S.rows store.now)) }
-    requires few { length (S.rows store.now) + length rows.now < 2 ^ 64 }
-    requires lines { AreLines (splice (S.rows store.now) a b rows.now) }
-    requires before { IsOverviewOf kept.now.items before }
-    requires after { IsOverviewOf (splice kept.now.items edit.now.from edit.now.end edit.now.kept.now) after }
-    requires kept_range { IsRange edit.now.from edit.now.end (length kept.now.items) }
-    requires kept_few { length kept.now.items + length edit.now.kept.now < 2 ^ 64 }
-    requires from_row { edit.now.from_row ≡ rows_kept (take edit.now.from kept.now.items) }
-    requires end_row { edit.now.end_row ≡ rows_kept (take edit.now.end kept.now.items) }
-    ensures plain { IfOk result (λ o. IfSome o (λ _. (before.is_plain ≡ true) × (after.is_plain ≡ true))) }
+    requires text { IsTextEdit (S.rows text.now.store.now) text.now.a text.now.b text.now.rows.now }
+    requires edit { IsSectionEdit edit.now }
+    requires plain { AllByRecursion IsPlain (faultless edit.now.sections.now.items) }
+    requires plain_then { AllByRecursion IsPlain (faultless (splice edit.now.sections.now.items edit.now.from edit.now.end edit.now.kept.now)) }
     ensures lines { IfOk result (λ o. IfSome o (λ p. p.first ≤ p.old_end)) }
-    ensures shown_order { IfOk result (λ o. IfSome o (λ _. IsInOrder (all_parts config.now (S.rows store.now) kept.now.items).shown)) }
-    ensures suppressed_order { IfOk result (λ o. IfSome o (λ _. IsInOrder (all_parts config.now (S.rows store.now) kept.now.items).suppressed)) }
-    ensures told { IfOk result (λ o. IfSome o (λ p. ToldFault p.had_fault (all_parts config.now (S.rows store.now) kept.now.items).shown)) }
-    ensures parts { IfOk result (λ o. IfSome o (λ p. with_fault p.fault (patched (patch_in p) (without_fault (all_parts config.now (S.rows store.now) kept.now.items)))
-        ≡ all_parts config.now (splice (S.rows store.now) a b rows.now) (splice kept.now.items edit.now.from edit.now.end edit.now.kept.now))) }
+    ensures shown_order { IfOk result (λ o. IfSome o (λ _. IsInOrder (all_parts config.now (S.rows text.now.store.now) edit.now.sections.now.items).shown)) }
+    ensures suppressed_order { IfOk result (λ o. IfSome o (λ _. IsInOrder (all_parts config.now (S.rows text.now.store.now) edit.now.sections.now.items).suppressed)) }
+    ensures told { IfOk result (λ o. IfSome o (λ p. ToldFault p.had_fault (all_parts config.now (S.rows text.now.store.now) edit.now.sections.now.items).shown)) }
+    ensures parts { IfOk result (λ o. IfSome o (λ p. with_fault p.fault (patched (patch_in p) (without_fault (all_parts config.now (S.rows text.now.store.now) edit.now.sections.now.items)))
+        ≡ all_parts config.now (splice (S.rows text.now.store.now) text.now.a text.now.b text.now.rows.now) (splice edit.now.sections.now.items edit.now.from edit.now.end edit.now.kept.now))) }
 {
-    if !before.is_plain || !after.is_plain {
-        return Ok(None);
-    }
-    let whole = before.whole;
-    let seen = see_edit(alloc, config, store, a, b, rows, kept, whole, edit)?;
+    let seen = see_edit(alloc, config, text, edit)?;
     let Some(SeenEdit { touched, found }) = seen else {
         return Ok(None);
     };
-    let edited = Patched::new(store, a, b, rows);
-    let sections = Spliced::new(kept, edit.from, edit.end, edit.kept);
+    let (before, after) = (edit.before(), edit.after());
+    let edited = text.edited();
+    let sections = edit.spliced();
     let upto = edit.from + edit.kept.len();
     let parts = part_found(alloc, config, &edited, &sections, after, upto, found)?;
-    let is_known = stays_shown(alloc, store, &edited, kept, before, edit)?;
+    let is_known = stays_shown(alloc, text.store, &edited, edit)?;
     let below = showing_unless(alloc, is_known, &edited, &sections, after)?;
     let fault = fault_of(alloc, config, &edited, &sections, after)?;
     let FoundProblems { shown, suppressed } = parts;
@@ -121,7 +106,7 @@ pub fn patched_problems<S: LineStore>(
         shown,
         suppressed,
         below,
-        had_fault: before.sound < kept.len(),
+        had_fault: before.has_fault(),
         fault,
     }))
 }

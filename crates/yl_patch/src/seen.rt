@@ -1,23 +1,20 @@
 //! What is seen of an edit in the lines of the touched sections.
-ghost use Rattle.std.specs.Prelude.{◌≡◌, ◌<◌, ◌+◌, ◌^◌, true, false, length, take, slice_get, IfOk, IfSome};
-ghost use Rattle.yl_text.specs.Store.{IsRange};
+ghost use Rattle.std.specs.Prelude.{◌≡◌, true, false, take, slice_get, IfOk, IfSome};
 ghost use Rattle.yl_rejudge.specs.Places.{rows_kept};
-ghost use Rattle.yl_indentation.specs.Measures.{measure_of};
-ghost use Rattle.yl_lint.specs.TextReport.{facts_in_sections};
+ghost use Rattle.yl_overview.specs.Edit.{IsSectionEdit};
 ghost use Rattle.yl_patch.specs.Cut.{is_filled};
+ghost use Rattle.yl_patch.specs.Edit.{IsTextEdit};
 ghost use Rattle.yl_patch.specs.Seen.{IsCut, IsSeen};
 
-use crate::edit::SectionEdit;
-use crate::measures::{leaves_below, measure_before};
+use crate::edit::TextEdit;
+use crate::measures::leaves_below;
 use crate::there::find_there;
 use crate::touched::{Ends, Touched, ends_of, find_touched, is_filled, is_inside};
 use crate::window::Window;
 use std::alloc::{AllocError, Allocator};
-use yl_chunks::Chunks;
 use yl_config::Config;
-use yl_indentation::Measure;
-use yl_sections::Kept;
-use yl_text::{Finding, LineStore, Lines, Patched, Row};
+use yl_overview::SectionEdit;
+use yl_text::{Finding, LineStore, Lines};
 
 /// What is seen of an edit: where the touched sections stand, and what is found in their lines.
 #[derive(Drop)]
@@ -52,61 +49,53 @@ struct CutEdit {
     ends: Ends,
 }
 
-/// Where the edit lies that puts these rows in place of the lines a to b; none where the touched lines are not apart from the others.
+/// Where an edit lies; none where the touched lines are not apart from the others.
 fn cut_edit<S: LineStore>(
-    store: &S,
-    a: usize,
-    b: usize,
-    rows: &[Row<S::Alloc>],
+    text: &TextEdit<'_, S>,
     edit: &SectionEdit<'_, S::Alloc>,
 ) -> Option<CutEdit>
-    requires range { IsRange a b (length (S.rows store.now)) }
-    requires few { length (S.rows store.now) + length rows.now < 2 ^ 64 }
-    ensures { IfSome result (λ c. IsCut (S.rows store.now) rows.now a b edit.now.from_row edit.now.end_row (rows_kept edit.now.kept.now) c.touched c.ends) }
+    requires text { IsTextEdit (S.rows text.now.store.now) text.now.a text.now.b text.now.rows.now }
+    requires edit { IsSectionEdit edit.now }
+    ensures { IfSome result (λ c. IsCut (S.rows text.now.store.now) text.now.rows.now text.now.a text.now.b (rows_kept (take edit.now.from edit.now.sections.now.items)) (rows_kept (take edit.now.end edit.now.sections.now.items)) (rows_kept edit.now.kept.now) c.touched c.ends) }
 {
-    let touched = find_touched(edit.from_row, edit.end_row, edit.kept)?;
-    let patched = Patched::new(store, a, b, rows);
-    let lines = store.len();
+    let touched = find_touched(edit);
+    let patched = text.edited();
+    let lines = text.store.len();
     let ends = ends_of(touched, lines);
-    if !is_inside(touched, a, b, rows.len(), lines) || !is_cut(store, &patched, touched, ends) {
+    let count = text.rows.len();
+    if !is_inside(touched, text.a, text.b, count, lines)
+        || !is_cut(text.store, &patched, touched, ends)
+    {
         return None;
     }
     Some(CutEdit { touched, ends })
 }
 
-/// What is seen of the edit that puts these rows in place of the lines a to b, whatever comments say and a fault hides; none where it does
-/// not show that what is found elsewhere stays. `kept` is what was kept of the sections, `whole` is the measure of their facts, and `edit` is
-/// what becomes of them. The only error is out of memory.
+/// What is seen of an edit, whatever comments say and a fault hides; none where it does not show that what is found elsewhere stays. The only
+/// error is out of memory.
 pub fn see_edit<S: LineStore>(
     alloc: S::Alloc,
     config: &Config,
-    store: &S,
-    a: usize,
-    b: usize,
-    rows: &[Row<S::Alloc>],
-    kept: &Chunks<Kept<S::Alloc>, S::Alloc>,
-    whole: Measure,
+    text: &TextEdit<'_, S>,
     edit: &SectionEdit<'_, S::Alloc>,
 ) -> Result<Option<SeenEdit<S::Alloc>>, AllocError>
-    requires range { IsRange a b (length (S.rows store.now)) }
-    requires few { length (S.rows store.now) + length rows.now < 2 ^ 64 }
-    requires whole { whole ≡ measure_of (facts_in_sections kept.now.items) }
-    requires kept_range { IsRange edit.now.from edit.now.end (length kept.now.items) }
-    requires from_row { edit.now.from_row ≡ rows_kept (take edit.now.from kept.now.items) }
-    requires end_row { edit.now.end_row ≡ rows_kept (take edit.now.end kept.now.items) }
-    ensures { IfOk result (λ o. IfSome o (λ s. IsSeen config.now (S.rows store.now) rows.now kept.now.items edit.now.kept.now a b edit.now.from edit.now.end s.touched s.found.items)) }
+    requires text { IsTextEdit (S.rows text.now.store.now) text.now.a text.now.b text.now.rows.now }
+    requires edit { IsSectionEdit edit.now }
+    ensures { IfOk result (λ o. IfSome o (λ s. IsSeen config.now (S.rows text.now.store.now) text.now.rows.now edit.now.sections.now.items edit.now.kept.now text.now.a text.now.b edit.now.from edit.now.end s.touched s.found.items)) }
 {
-    let before = measure_before(kept, edit.from, whole);
-    if !leaves_below(kept, edit, before) {
+    if !leaves_below(edit) {
         return Ok(None);
     }
-    let Some(cut) = cut_edit(store, a, b, rows, edit) else {
+    let Some(cut) = cut_edit(text, edit) else {
         return Ok(None);
     };
     let (touched, ends) = (cut.touched, cut.ends);
-    let patched = Patched::new(store, a, b, rows);
-    let window = Window::new(patched, touched.first as usize, touched.new_end as usize);
-    let (down, new) = (touched.first, edit.kept);
-    let found = find_there(alloc, config, ends, &window, down, before, new)?;
+    let window = Window::new(
+        text.edited(),
+        touched.first as usize,
+        touched.new_end as usize,
+    );
+    let (down, before) = (touched.first, edit.above.whole);
+    let found = find_there(alloc, config, ends, &window, down, before, edit.kept)?;
     Ok(Some(SeenEdit { touched, found }))
 }

@@ -4,14 +4,15 @@ ghost use Rattle.yl_lexeme.specs.PlacedComments.{placed_comment_value};
 ghost use Rattle.yl_parting.specs.Showing.{is_shown_by};
 ghost use Rattle.yl_rejudge.specs.Places.{rows_kept};
 ghost use Rattle.yl_lint.specs.TextReport.{comments_in_sections, shown};
-ghost use Rattle.yl_patch.specs.Plain.{IsFirstFault, IsSurveyed};
+ghost use Rattle.yl_patch.specs.Plain.{IsSurveyed};
+ghost use Rattle.yl_overview.specs.Overview.{IsFirstFault};
 ghost use Rattle.yl_patch.specs.ShownUpto.{is_shown_upto};
 
-use crate::overview::Overview;
 use std::alloc::{AllocError, Allocator};
 use yl_chunks::Spliced;
 use yl_lexeme::PlacedComment;
 use yl_lint::{first_text, line_below, push_comments};
+use yl_overview::Overview;
 use yl_parting::Showing;
 use yl_report::Silences;
 use yl_sections::Kept;

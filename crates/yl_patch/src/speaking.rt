@@ -1,20 +1,16 @@
 //! Whether comments say the same of all lines behind their sections.
-ghost use Rattle.std.specs.Prelude.{◌≡◌, ◌-◌, true, length, map, take, drop, IfOk};
+ghost use Rattle.std.specs.Prelude.{◌≡◌, ◌-◌, true, map, take, drop, IfOk};
 ghost use Rattle.std.specs.List.{AllByRecursion, filter};
-ghost use Rattle.yl_text.specs.Store.{IsRange};
 ghost use Rattle.yl_lexeme.specs.PlacedComments.{placed_comment_value};
 ghost use Rattle.yl_report.specs.Directive as directive;
+ghost use Rattle.yl_overview.specs.Edit.{IsSectionEdit};
 ghost use Rattle.yl_patch.specs.Speaking.{AllSpeakAlike, SpeakAlike, SpeaksWithin};
 ghost use Rattle.yl_patch.specs.Speaking as spec;
 
 use crate::comments::{comments_between, with_comments_of};
-use crate::silencing::{are_both_silent, count_rows_between};
-use crate::sound::{hides, hides_between};
-use crate::touched::count_rows;
 use std::alloc::{AllocError, Allocator};
-use yl_chunks::Chunks;
 use yl_lexeme::PlacedComment;
-use yl_sections::Kept;
+use yl_overview::SectionEdit;
 
 /// Whether a comment may switch rules; one that begins so speaks of one line alone.
 fn may_switch(comment: &PlacedComment<'_>) -> bool
@@ -84,26 +80,17 @@ fn have_same_texts(one: &[PlacedComment<'_>], other: &[PlacedComment<'_>]) -> bo
     true
 }
 
-/// Whether all comments of the sections from one on, before `end`, and all of these say the same of all lines behind them.
+/// Whether all comments of the sections that go, and all of those that come, say the same of all lines behind them.
 fn all_speak_alike<A: Allocator + Copy>(
     alloc: A,
-    kept: &Chunks<Kept<A>, A>,
-    from: usize,
-    end: usize,
-    new: &[Kept<A>],
+    edit: &SectionEdit<'_, A>,
 ) -> Result<bool, AllocError>
-    requires { IsRange from end (length kept.now.items) }
-    ensures { IfOk result (λ alike. alike ≡ true → AllSpeakAlike (take (end - from) (drop from kept.now.items)) new.now) }
+    requires { IsSectionEdit edit.now }
+    ensures { IfOk result (λ alike. alike ≡ true → AllSpeakAlike (take (edit.now.end - edit.now.from) (drop edit.now.from edit.now.sections.now.items)) edit.now.kept.now) }
 {
-    let Some(old_rows) = count_rows_between(kept, from, end) else {
-        return Ok(false);
-    };
-    let Some(new_rows) = count_rows(new) else {
-        return Ok(false);
-    };
-    let mut gone = comments_between(alloc, kept, from, end, 0)?;
-    let mut here = with_comments_of(Vec::new(alloc), 0, new)?;
-    if !speak_within(&gone, old_rows) || !speak_within(&here, new_rows) {
+    let mut gone = comments_between(alloc, edit.sections, edit.from, edit.end, 0)?;
+    let mut here = with_comments_of(Vec::new(alloc), 0, edit.kept)?;
+    if !speak_within(&gone, edit.gone.rows) || !speak_within(&here, edit.come.rows) {
         return Ok(false);
     }
     retain_switches(&mut gone);
@@ -111,20 +98,19 @@ fn all_speak_alike<A: Allocator + Copy>(
     Ok(have_same_texts(&gone, &here))
 }
 
-/// Whether the comments that are shown of the sections from one on, before `end`, and those of these say the same of all lines behind them. Where
+/// Whether the comments that are shown of the sections that go, and those of the sections that come, say the same of all lines behind them. Where
 /// some have a fault, that is seen only if all are silent.
 pub fn speak_alike<A: Allocator + Copy>(
     alloc: A,
-    kept: &Chunks<Kept<A>, A>,
-    from: usize,
-    end: usize,
-    new: &[Kept<A>],
+    edit: &SectionEdit<'_, A>,
 ) -> Result<bool, AllocError>
-    requires { IsRange from end (length kept.now.items) }
-    ensures { IfOk result (λ alike. alike ≡ true → SpeakAlike (take (end - from) (drop from kept.now.items)) new.now) }
+    requires { IsSectionEdit edit.now }
+    ensures { IfOk result (λ alike. alike ≡ true → SpeakAlike (take (edit.now.end - edit.now.from) (drop edit.now.from edit.now.sections.now.items)) edit.now.kept.now) }
 {
-    if hides(new) || hides_between(kept, from, end) {
-        return Ok(are_both_silent(kept, from, end, new));
+    let comes_faulty = edit.come.has_fault();
+    let was_faulty = edit.gone.has_fault();
+    if comes_faulty || was_faulty {
+        return Ok(edit.come.is_silent() && edit.gone.is_silent());
     }
-    all_speak_alike(alloc, kept, from, end, new)
+    all_speak_alike(alloc, edit)
 }

@@ -1,10 +1,11 @@
 //! Where in a text the sections stand that an edit touches.
-ghost use Rattle.std.specs.Prelude.{◌≡◌, ◌==◌, ◌≤◌, ◌+◌, ◌<◌, ◌^◌, true, slice_get, IfSome};
+ghost use Rattle.std.specs.Prelude.{◌≡◌, ◌==◌, ◌≤◌, ◌+◌, ◌<◌, ◌^◌, true, slice_get, take};
 ghost use Rattle.yl_rejudge.specs.Places.{rows_kept};
+ghost use Rattle.yl_overview.specs.Edit.{IsSectionEdit};
 ghost use Rattle.yl_patch.specs.Cut.{IsInside, is_filled};
 
 use std::alloc::Allocator;
-use yl_sections::Kept;
+use yl_overview::SectionEdit;
 use yl_text::Lines;
 
 /// How many lines stand before the touched sections, and how many up to their end, in the old text and in the new one.
@@ -22,43 +23,19 @@ pub struct Ends {
     pub ends: bool,
 }
 
-/// How many lines these sections have.
-pub fn count_rows<A: Allocator>(kept: &[Kept<A>]) -> Option<u32>
-    ensures { IfSome result (λ n. n ≡ rows_kept kept.now) }
+/// Where the sections stand that an edit touches.
+pub fn find_touched<A: Allocator>(edit: &SectionEdit<'_, A>) -> Touched
+    requires { IsSectionEdit edit.now }
+    ensures first { result.first ≡ rows_kept (take edit.now.from edit.now.sections.now.items) }
+    ensures old_end { result.old_end ≡ rows_kept (take edit.now.end edit.now.sections.now.items) }
+    ensures new_end { result.new_end ≡ result.first + rows_kept edit.now.kept.now }
 {
-    let mut sum: u32 = 0;
-    for one in kept {
-        sum = sum.checked_add(one.rows())?;
-    }
-    Some(sum)
-}
-
-/// The number in fewer bits, if it fits.
-pub fn narrow(n: usize) -> Option<u32>
-    ensures { IfSome result (λ m. m ≡ n) }
-{
-    if n < 1 << 32 { Some(n as u32) } else { None }
-}
-
-/// Where the sections stand that begin with one row and end before another, and this in their place; none where their lines are too many
-/// to be counted.
-pub fn find_touched<A: Allocator>(
-    from_row: usize,
-    end_row: usize,
-    new: &[Kept<A>],
-) -> Option<Touched>
-    ensures first { IfSome result (λ t. t.first ≡ from_row) }
-    ensures old_end { IfSome result (λ t. t.old_end ≡ end_row) }
-    ensures new_end { IfSome result (λ t. t.new_end ≡ t.first + rows_kept new.now) }
-{
-    let first = narrow(from_row)?;
-    let old_end = narrow(end_row)?;
-    let new_end = first.checked_add(count_rows(new)?)?;
-    Some(Touched {
+    let first = edit.above.rows;
+    Touched {
         first,
-        old_end,
-        new_end,
-    })
+        old_end: first + edit.gone.rows,
+        new_end: first + edit.come.rows,
+    }
 }
 
 /// Whether the touched lines begin a text of so many lines, and whether they end it.

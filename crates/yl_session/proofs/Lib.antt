@@ -10,7 +10,6 @@ mod HeldDocuments
 mod Read
 mod Renewed
 mod Parts
-mod Places
 pub mod Between
 pub mod Goes
 pub mod Nothing

@@ -5,11 +5,11 @@
 #![tactic(auto)]
 
 mod beginning;
-mod guide;
 mod planning;
 mod reading;
 mod renewing;
 mod replaying;
+mod sections;
 mod session;
 mod work;
 

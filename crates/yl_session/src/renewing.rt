@@ -1,183 +1,179 @@
-//! What becomes of the problems of a text that is edited.
-ghost use Rattle.std.specs.Prelude.{◌≡◌, ◌≤◌, ◌<◌, ◌^◌, ◌+◌, length, take, vec_len, IfOk};
-ghost use Rattle.std.specs.List.{splice};
-ghost use Rattle.yl_text.specs.Store.{AreLines, IsRange};
-ghost use Rattle.yl_lint.specs.TextReport.{report_by};
-ghost use Rattle.yl_rejudge.specs.Places.{rows_kept};
-ghost use Rattle.yl_parting.specs.Changes.{renewed};
-ghost use Rattle.yl_parting.specs.Parts.{PartsValue};
-ghost use Rattle.yl_parting.specs.Rooms.{IsReady};
-ghost use Rattle.yl_patch.specs.Plain.{IsOverviewOf};
-ghost use Rattle.yl_session.specs.Parts.{AreParts};
+//! What becomes of the problems of a text that is edited, and of what is known of its sections.
+ghost use Rattle.std.specs.Prelude.{◌≡◌, true, length, IfOk, MatchOption};
+ghost use Rattle.std.specs.List.{AllByRecursion, splice};
+ghost use Rattle.yl_text.specs.Store.{IsRange};
+ghost use Rattle.yl_overview.specs.Edit.{IsSectionEdit};
+ghost use Rattle.yl_overview.specs.Overview.{AreFew, AreOverviews};
+ghost use Rattle.yl_patch.specs.Edit.{IsTextEdit};
+ghost use Rattle.yl_patch.specs.Faultless.{faultless};
+ghost use Rattle.yl_patch.specs.Plain.{IsPlain};
+ghost use Rattle.yl_session.specs.Known.{IsKnown, IsKnownAfter};
+ghost use Rattle.yl_session.specs.Parts.{KnownText, Makes, known_text};
 
+use crate::sections::KnownSections;
 use std::alloc::{AllocError, Allocator};
-use yl_chunks::{Chunks, Spliced};
 use yl_config::Config;
+use yl_overview::{Overview, SectionEdit};
 use yl_parting::{Change, FoundProblems};
-use yl_patch::{
-    Overview, SectionEdit, found_problems, overview_after, overview_of, patched_problems,
-};
+use yl_patch::{TextEdit, are_plain, found_problems, patched_problems, reads_alike, stays};
 use yl_rejudge::Rejudged;
-use yl_sections::Kept;
-use yl_text::{LineStore, Lines, Patched, Row};
-use yl_unchanged::leaves_report;
+use yl_text::{LineStore, Lines};
 
-/// What becomes of the problems of a text, and what is known of all its sections then.
+/// What becomes of the problems of a text; and of what is known of its sections: overviews, if they are others then, and whether all are seen to
+/// be plain.
 #[derive(Drop)]
 pub struct Renewal<A: Allocator> {
     pub change: Change<A>,
-    pub overview: Overview,
+    pub overviews: Option<Vec<Overview, A>>,
+    pub are_plain: bool,
 }
 
-/// The problems of the text that this edit of lines and sections makes, found anew.
+/// All that is found once an edit is made, found anew.
 fn found_anew<S: LineStore>(
     alloc: S::Alloc,
     config: &Config,
-    store: &S,
-    a: usize,
-    b: usize,
-    rows: &[Row<S::Alloc>],
-    sections: &Spliced<'_, Kept<S::Alloc>, S::Alloc>,
-) -> Result<Renewal<S::Alloc>, AllocError>
-    requires range { IsRange a b (length (S.rows store.now)) }
-    requires old { AreLines (S.rows store.now) }
-    requires lines { AreLines (splice (S.rows store.now) a b rows.now) }
-    ensures ready { IfOk result (λ r. (ps : PartsValue) → IsReady r.change ps) }
-    ensures overview { IfOk result (λ r. IsOverviewOf sections.now r.overview) }
-    ensures parts { IfOk result (λ r. (ps : PartsValue) → AreParts config.now (splice (S.rows store.now) a b rows.now) sections.now r.overview (report_by config.now (splice (S.rows store.now) a b rows.now) sections.now) (renewed r.change ps)) }
+    text: &TextEdit<'_, S>,
+    edit: &SectionEdit<'_, S::Alloc>,
+    are_plain: bool,
+) -> Result<Change<S::Alloc>, AllocError>
+    requires text { IsTextEdit (S.rows text.now.store.now) text.now.a text.now.b text.now.rows.now }
+    requires edit { IsSectionEdit edit.now }
+    requires plain_then { are_plain ≡ true → AllByRecursion IsPlain (faultless (splice edit.now.sections.now.items edit.now.from edit.now.end edit.now.kept.now)) }
+    ensures { IfOk result (λ change. (old : KnownText) → Makes config.now old
+        (known_text config.now (splice (S.rows text.now.store.now) text.now.a text.now.b text.now.rows.now) (splice edit.now.sections.now.items edit.now.from edit.now.end edit.now.kept.now) are_plain) change) }
 {
-    let overview = overview_of(sections);
-    let edited = Patched::new(store, a, b, rows);
-    let found = found_problems(alloc, config, &edited, sections, overview)?;
-    Ok(Renewal {
-        change: Change::Anew(found),
-        overview,
-    })
+    let edited = text.edited();
+    let sections = edit.spliced();
+    let overview = edit.after();
+    let anew = found_problems(alloc, config, &edited, &sections, overview, are_plain)?;
+    Ok(Change::Anew(anew))
 }
 
-/// What becomes of the problems by the edit that puts these rows in place of the lines a to b, and by this edit of the sections: those of the
-/// touched sections' lines become others, or all are found anew.
-fn renewal_by<S: LineStore>(
+/// What becomes of the problems: those of the touched sections' lines become others, or all are found anew.
+fn change_of<S: LineStore>(
     alloc: S::Alloc,
     config: &Config,
-    store: &S,
-    a: usize,
-    b: usize,
-    rows: &[Row<S::Alloc>],
-    kept: &Chunks<Kept<S::Alloc>, S::Alloc>,
-    overview: Overview,
-    found: &FoundProblems<S::Alloc>,
+    text: &TextEdit<'_, S>,
     edit: &SectionEdit<'_, S::Alloc>,
-) -> Result<Renewal<S::Alloc>, AllocError>
-    requires range { IsRange a b (length (S.rows store.now)) }
-    requires old { AreLines (S.rows store.now) }
-    requires lines { AreLines (splice (S.rows store.now) a b rows.now) }
-    requires overview { IsOverviewOf kept.now.items overview }
-    requires kept_range { IsRange edit.now.from edit.now.end (length kept.now.items) }
-    requires from_row { edit.now.from_row ≡ rows_kept (take edit.now.from kept.now.items) }
-    requires end_row { edit.now.end_row ≡ rows_kept (take edit.now.end kept.now.items) }
-    requires few { length kept.now.items + length edit.now.kept.now < 2 ^ 64 }
-    requires few_rows { rows_kept kept.now.items < 2 ^ 63 }
-    ensures ready { IfOk result (λ r. (ps : PartsValue) → AreParts config.now (S.rows store.now) kept.now.items overview (report_by config.now (S.rows store.now) kept.now.items) ps → IsReady r.change ps) }
-    ensures overview { IfOk result (λ r. IsOverviewOf (splice kept.now.items edit.now.from edit.now.end edit.now.kept.now) r.overview) }
-    ensures parts { IfOk result (λ r. (ps : PartsValue) → AreParts config.now (S.rows store.now) kept.now.items overview (report_by config.now (S.rows store.now) kept.now.items) ps
-        → AreParts config.now (splice (S.rows store.now) a b rows.now) (splice kept.now.items edit.now.from edit.now.end edit.now.kept.now) r.overview (report_by config.now (splice (S.rows store.now) a b rows.now) (splice kept.now.items edit.now.from edit.now.end edit.now.kept.now)) (renewed r.change ps)) }
+    found: &FoundProblems<S::Alloc>,
+    are_plain: bool,
+) -> Result<Change<S::Alloc>, AllocError>
+    requires text { IsTextEdit (S.rows text.now.store.now) text.now.a text.now.b text.now.rows.now }
+    requires edit { IsSectionEdit edit.now }
+    requires plain { are_plain ≡ true → AllByRecursion IsPlain (faultless edit.now.sections.now.items) }
+    requires plain_then { are_plain ≡ true → AllByRecursion IsPlain (faultless (splice edit.now.sections.now.items edit.now.from edit.now.end edit.now.kept.now)) }
+    ensures { IfOk result (λ change. Makes config.now (known_text config.now (S.rows text.now.store.now) edit.now.sections.now.items are_plain)
+        (known_text config.now (splice (S.rows text.now.store.now) text.now.a text.now.b text.now.rows.now) (splice edit.now.sections.now.items edit.now.from edit.now.end edit.now.kept.now) are_plain) change) }
 {
-    let after = overview_after(overview, kept, edit);
-    let patch = patched_problems(
-        alloc, config, store, a, b, rows, kept, overview, after, edit,
-    )?;
-    let lines = Patched::new(store, a, b, rows).len();
+    if !are_plain {
+        let change = found_anew(alloc, config, text, edit, are_plain)?;
+        return Ok(change);
+    }
+    let patch = patched_problems(alloc, config, text, edit)?;
+    let lines = text.edited().len();
     if let Some(patch) = patch
         && !found.is_too_roomy_behind(&patch, lines)
     {
-        return Ok(Renewal {
-            change: Change::Patch(patch),
-            overview: after,
-        });
+        return Ok(Change::Patch(patch));
     }
-    let sections = Spliced::new(kept, edit.from, edit.end, edit.kept);
-    let renewal = found_anew(alloc, config, store, a, b, rows, &sections)?;
-    Ok(renewal)
-}
-/// The edit of the sections that this makes. Where all of them stay, the one that was looked at takes its own place, so that what becomes of
-/// the report is looked for in its lines.
-fn section_edit<'a, A: Allocator + Copy>(
-    kept: &'a Chunks<Kept<A>, A>,
-    new: &'a Rejudged<A>,
-) -> SectionEdit<'a, A>
-    requires range { IsRange new.now.from new.now.end (length kept.now.items) }
-    requires from_row { new.now.from_row ≡ rows_kept (take new.now.from kept.now.items) }
-    requires end_row { new.now.end_row ≡ rows_kept (take new.now.end kept.now.items) }
-    requires few { length kept.now.items + vec_len new.now.kept + 1 < 2 ^ 64 }
-    ensures range { IsRange result.from result.end (length kept.now.items) }
-    ensures from_row { result.from_row ≡ rows_kept (take result.from kept.now.items) }
-    ensures end_row { result.end_row ≡ rows_kept (take result.end kept.now.items) }
-    ensures few { length kept.now.items + length result.kept.now < 2 ^ 64 }
-    ensures same { splice kept.now.items result.from result.end result.kept.now ≡ splice kept.now.items new.now.from new.now.end new.now.kept.items }
-{
-    let from = new.from;
-    if from == new.end && new.kept.is_empty() && from < kept.len() {
-        let rows = kept.get(from).rows() as usize;
-        if let Some(end_row) = new.from_row.checked_add(rows) {
-            let (one, _) = kept.items_from(from).split_at(1);
-            return SectionEdit {
-                from,
-                end: from + 1,
-                from_row: new.from_row,
-                end_row,
-                kept: one,
-            };
-        }
-    }
-    SectionEdit {
-        from,
-        end: new.end,
-        from_row: new.from_row,
-        end_row: new.end_row,
-        kept: new.kept.as_slice(),
-    }
+    let change = found_anew(alloc, config, text, edit, are_plain)?;
+    Ok(change)
 }
 
-/// What becomes of the problems by the edit that puts these rows in place of the lines a to b, where what is kept of the sections becomes this.
+/// The edit of the sections that this makes. Where all of them stay, the one that was looked at takes its own place, so that what becomes of
+/// the problems is looked for in its lines.
+fn section_edit<'a, A: Allocator + Copy>(
+    known: &'a KnownSections<A>,
+    new: &'a Rejudged<A>,
+) -> SectionEdit<'a, A>
+    requires range { IsRange new.now.from new.now.end (length known.now.kept.items) }
+    requires few { AreFew known.now.kept.items }
+    requires few_then { AreFew (splice known.now.kept.items new.now.from new.now.end new.now.kept.items) }
+    requires overviews { AreOverviews known.now.kept.items known.now.overviews.items }
+    ensures edit { IsSectionEdit result }
+    ensures sections { result.sections.now.items ≡ known.now.kept.items }
+    ensures same { splice known.now.kept.items result.from result.end result.kept.now ≡ splice known.now.kept.items new.now.from new.now.end new.now.kept.items }
+{
+    let (kept, overviews) = (&known.kept, known.overviews.as_slice());
+    let from = new.from;
+    if from == new.end && new.kept.is_empty() && from < kept.len() {
+        let (one, _) = kept.items_from(from).split_at(1);
+        return SectionEdit::new(kept, overviews, from, from + 1, one);
+    }
+    SectionEdit::new(kept, overviews, from, new.end, new.kept.as_slice())
+}
+
+/// Whether it is seen that what is kept of all sections stays as it is.
+fn all_stay<A: Allocator + Copy>(known: &KnownSections<A>, new: &Rejudged<A>) -> bool
+    requires { IsRange new.now.from new.now.end (length known.now.kept.items) }
+    ensures { result ≡ true → splice known.now.kept.items new.now.from new.now.end new.now.kept.items ≡ known.now.kept.items }
+{
+    stays(&known.kept, new.from, new.end, &new.kept)
+}
+
+/// Whether all sections are seen to be plain before the edit and after it.
+fn are_plain_by<A: Allocator>(known: &KnownSections<A>, edit: &SectionEdit<'_, A>) -> bool
+    requires known { known.now.are_plain ≡ true → AllByRecursion IsPlain (faultless edit.now.sections.now.items) }
+    ensures before { result ≡ true → known.now.are_plain ≡ true }
+    ensures after { result ≡ true → AllByRecursion IsPlain (faultless (splice edit.now.sections.now.items edit.now.from edit.now.end edit.now.kept.now)) }
+{
+    if !known.are_plain {
+        return false;
+    }
+    are_plain(edit.kept)
+}
+
+/// Overviews of all sections after the edit; none where all of them stay.
+fn overviews_by<A: Allocator + Copy>(
+    alloc: A,
+    all_stay: bool,
+    known: &KnownSections<A>,
+    edit: &SectionEdit<'_, A>,
+) -> Result<Option<Vec<Overview, A>>, AllocError>
+    requires edit { IsSectionEdit edit.now }
+    requires known { AreOverviews edit.now.sections.now.items known.now.overviews.items }
+    ensures { IfOk result (λ o. MatchOption o (all_stay ≡ true) (λ v. AreOverviews (splice edit.now.sections.now.items edit.now.from edit.now.end edit.now.kept.now) v.items)) }
+{
+    if all_stay {
+        return Ok(None);
+    }
+    let after = edit.overviews_after(alloc, known.overviews.as_slice())?;
+    Ok(Some(after))
+}
+
+/// What becomes of the problems by an edit of lines, where what is kept of the sections becomes this, and of what is known of them.
 pub fn renewal_of<S: LineStore>(
     alloc: S::Alloc,
     config: &Config,
-    store: &S,
-    a: usize,
-    b: usize,
-    rows: &[Row<S::Alloc>],
-    kept: &Chunks<Kept<S::Alloc>, S::Alloc>,
-    overview: Overview,
+    text: &TextEdit<'_, S>,
+    known: &KnownSections<S::Alloc>,
     found: &FoundProblems<S::Alloc>,
     new: &Rejudged<S::Alloc>,
 ) -> Result<Renewal<S::Alloc>, AllocError>
-    requires range { IsRange a b (length (S.rows store.now)) }
-    requires old { AreLines (S.rows store.now) }
-    requires lines { AreLines (splice (S.rows store.now) a b rows.now) }
-    requires overview { IsOverviewOf kept.now.items overview }
-    requires kept_range { IsRange new.now.from new.now.end (length kept.now.items) }
-    requires from_row { new.now.from_row ≡ rows_kept (take new.now.from kept.now.items) }
-    requires end_row { new.now.end_row ≡ rows_kept (take new.now.end kept.now.items) }
-    requires few { length kept.now.items + vec_len new.now.kept + 1 < 2 ^ 64 }
-    requires few_rows { rows_kept kept.now.items < 2 ^ 63 }
-    ensures ready { IfOk result (λ r. (ps : PartsValue) → AreParts config.now (S.rows store.now) kept.now.items overview (report_by config.now (S.rows store.now) kept.now.items) ps → IsReady r.change ps) }
-    ensures overview { IfOk result (λ r. IsOverviewOf (splice kept.now.items new.now.from new.now.end new.now.kept.items) r.overview) }
-    ensures parts { IfOk result (λ r. (ps : PartsValue) → AreParts config.now (S.rows store.now) kept.now.items overview (report_by config.now (S.rows store.now) kept.now.items) ps
-        → AreParts config.now (splice (S.rows store.now) a b rows.now) (splice kept.now.items new.now.from new.now.end new.now.kept.items) r.overview (report_by config.now (splice (S.rows store.now) a b rows.now) (splice kept.now.items new.now.from new.now.end new.now.kept.items)) (renewed r.change ps)) }
+    requires text { IsTextEdit (S.rows text.now.store.now) text.now.a text.now.b text.now.rows.now }
+    requires range { IsRange new.now.from new.now.end (length known.now.kept.items) }
+    requires few { AreFew known.now.kept.items }
+    requires few_then { AreFew (splice known.now.kept.items new.now.from new.now.end new.now.kept.items) }
+    requires known { IsKnown known.now.kept.items known.now.overviews.items known.now.are_plain }
+    ensures makes { IfOk result (λ r. Makes config.now (known_text config.now (S.rows text.now.store.now) known.now.kept.items known.now.are_plain)
+        (known_text config.now (splice (S.rows text.now.store.now) text.now.a text.now.b text.now.rows.now) (splice known.now.kept.items new.now.from new.now.end new.now.kept.items) r.are_plain) r.change) }
+    ensures known { IfOk result (λ r. IsKnownAfter (splice known.now.kept.items new.now.from new.now.end new.now.kept.items) known.now.overviews.items r.overviews r.are_plain) }
 {
-    let judged = new.kept.as_slice();
-    if leaves_report(
-        alloc, config, store, a, b, rows, kept, new.from, new.end, judged,
-    )? {
+    let stay = all_stay(known, new);
+    if stay && reads_alike(alloc, config, text)? {
         return Ok(Renewal {
             change: Change::Stay,
-            overview,
+            overviews: None,
+            are_plain: known.are_plain,
         });
     }
-    let edit = section_edit(kept, new);
-    let renewal = renewal_by(
-        alloc, config, store, a, b, rows, kept, overview, found, &edit,
-    )?;
-    Ok(renewal)
+    let edit = section_edit(known, new);
+    let are_plain = are_plain_by(known, &edit);
+    let change = change_of(alloc, config, text, &edit, found, are_plain)?;
+    let overviews = overviews_by(alloc, stay, known, &edit)?;
+    Ok(Renewal {
+        change,
+        overviews,
+        are_plain,
+    })
 }

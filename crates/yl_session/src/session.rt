@@ -12,23 +12,21 @@ ghost use Rattle.yl_session.specs.Runs.{IsNothing};
 ghost use Rattle.yl_session.specs.Work.{IsWork};
 
 use crate::beginning::{OpenedText, begin};
-use crate::guide::{put_kept, renew_places};
 use crate::planning::{make_room, planned};
 use crate::renewing::Renewal;
+use crate::sections::{KnownSections, put_kept};
 use crate::work::Work;
 use std::alloc::{AllocError, Allocator};
 use std::marker::Model;
 use yl_chunks::Chunks;
 use yl_config::Config;
 use yl_parting::FoundProblems;
-use yl_patch::Overview;
+use yl_patch::TextEdit;
 use yl_record::Record;
-use yl_rejudge::Place;
 use yl_report::{Problem, status};
-use yl_sections::Kept;
 use yl_text::{LineStore, Lines, Pos, Row, TextFault, are_one_place, line_edit, split};
 
-/// The lines of a text, with a record of each, what is kept of its sections and known of all of them, places among them, and all that is found
+/// The lines of a text, with a record of each, what is kept of its sections and known of them, and all that is found
 /// in it under a configuration, parted into what its report shows and what its first fault and its comments keep from being shown. The records
 /// from row `cut` on, where there is one, stand below a scan fault, behind which nothing is read: they are as they were before it came, so that
 /// they need not be made again once it goes. What is kept of the sections is kept by these records; of those below a fault the report shows
@@ -40,9 +38,7 @@ pub struct Session<S: LineStore> {
     store: S,
     records: Chunks<Record<S::Alloc>, S::Alloc>,
     cut: Option<usize>,
-    kept: Chunks<Kept<S::Alloc>, S::Alloc>,
-    places: Vec<Place, S::Alloc>,
-    overview: Overview,
+    known: KnownSections<S::Alloc>,
     found: FoundProblems<S::Alloc>,
 }
 
@@ -54,11 +50,9 @@ impl<S: LineStore> Model for Session<S> {
     ghost use Rattle.yl_sections.specs.Sections.{sections};
     ghost use Rattle.yl_rescan.specs.Held.{AreHeld};
     ghost use Rattle.yl_lint.specs.TextReport.{report};
-    ghost use Rattle.std.specs.List.{AllByRecursion};
     ghost use Rattle.yl_parting.specs.Changes.{parts_in};
     ghost use Rattle.yl_patch.specs.Found.{all_parts};
-    ghost use Rattle.yl_patch.specs.Plain.{IsOverviewOf};
-    ghost use Rattle.yl_rejudge.specs.Places.{IsAt};
+    ghost use Rattle.yl_session.specs.Known.{IsKnown};
     ghost use Rattle.yl_text.specs.Store.{AreLines};
 
     ghost Value = { SessionValue };
@@ -67,11 +61,10 @@ impl<S: LineStore> Model for Session<S> {
 
     ghost invariant = { λ s. AreLines (S.rows s.store)
         × AreHeld (characters_in (S.rows s.store)) s.cut s.records.items
-        × (s.kept.items ≡ map (kept_of_section s.config) (sections s.records.items))
+        × (s.known.kept.items ≡ map (kept_of_section s.config) (sections s.records.items))
         × (s.found.shown.items ≡ report s.config (S.rows s.store))
-        × IsOverviewOf s.kept.items s.overview
-        × AllByRecursion (IsAt s.kept.items) s.places.items
-        × (s.overview.is_plain ≡ true → parts_in s.found ≡ all_parts s.config (S.rows s.store) s.kept.items) };
+        × IsKnown s.known.kept.items s.known.overviews.items s.known.are_plain
+        × (s.known.are_plain ≡ true → parts_in s.found ≡ all_parts s.config (S.rows s.store) s.known.kept.items) };
 }
 
 impl<S: LineStore> Session<S> {
@@ -95,9 +88,7 @@ impl<S: LineStore> Session<S> {
         };
         let OpenedText {
             records,
-            kept,
-            places,
-            overview,
+            known,
             found,
         } = begun;
         Ok(Session {
@@ -106,9 +97,7 @@ impl<S: LineStore> Session<S> {
             store,
             records,
             cut: None,
-            kept,
-            places,
-            overview,
+            known,
             found,
         })
     }
@@ -159,24 +148,27 @@ impl<S: LineStore> Session<S> {
         ensures work { IfOk result (λ work. IsWork (characters_in self.old.rows) (characters_in (splice self.old.rows a b rows.old.items)) a b (length rows.old.items) work) }
         ensures err { OnErr result (self.new ≡ self.old) }
     {
-        let mut plan = planned(
-            self.alloc,
-            &self.config,
-            &self.store,
-            &self.records,
-            self.cut,
-            &self.places,
-            &self.kept,
-            self.overview,
-            &self.found,
-            a,
-            b,
-            rows.as_slice(),
-        )?;
+        let mut plan = {
+            let text = TextEdit {
+                store: &self.store,
+                a,
+                b,
+                rows: rows.as_slice(),
+            };
+            planned(
+                self.alloc,
+                &self.config,
+                &text,
+                &self.records,
+                self.cut,
+                &self.known,
+                &self.found,
+            )?
+        };
         let spare = make_room(
             self.alloc,
             &mut self.records,
-            &mut self.kept,
+            &mut self.known.kept,
             &mut self.found,
             &plan,
         )?;
@@ -187,10 +179,12 @@ impl<S: LineStore> Session<S> {
             &mut plan.rescan.records,
         );
         self.cut = plan.rescan.cut;
-        renew_places(&self.kept, &mut self.places, plan.places);
-        put_kept(&mut self.kept, &mut self.places, &mut plan.rejudged);
-        let Renewal { change, overview } = plan.renewal;
-        self.overview = overview;
+        let Renewal {
+            change,
+            overviews,
+            are_plain,
+        } = plan.renewal;
+        put_kept(&mut self.known, &mut plan.rejudged, overviews, are_plain);
         self.found.renew(change, spare);
         Ok(plan.work)
     }

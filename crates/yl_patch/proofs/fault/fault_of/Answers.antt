@@ -1,6 +1,5 @@
-use Rattle.std.proofs.Common.{◌≡◌, ◌≤◌, ◌∙◌, List, length, None, ap, sym, subst, refl, rules}
+use Rattle.std.proofs.Common.{◌≡◌, ◌≤◌, ◌∙◌, List, length, None, ap, sym, subst, rules}
 use Rattle.std.specs.Prelude.{Bool, slice_get}
-use Rattle.yl_text.specs.Finding.{FindingValue}
 use Rattle.yl_rules.specs.LevelOf.{level_of}
 use Rattle.yl_config.specs.Config.{levels_of}
 use Rattle.yl_report.specs.Directive.{disables_file}

@@ -1,8 +1,8 @@
-use Rattle.std.proofs.Common.{◌≡◌, ◌∙◌, ap, arith, List}
+use Rattle.std.proofs.Common.{◌∙◌, ap, arith, List}
 use Rattle.std.specs.Prelude.{Bool, Option}
 use Rattle.yl_report.specs.Report.{ProblemValue}
 use Rattle.yl_parting.specs.Parts.{PartsValue, parted, with_fault}
-use Rattle.yl_patch.specs.Found.{fault_told, found_by, is_shown, parts_of}
+use Rattle.yl_patch.specs.Found.{is_shown, parts_of}
 use Rattle.yl_patch.proofs.Shows.{upto_all}
 use Rattle.yl_patch.proofs.found.part_all.Goals as goal
 

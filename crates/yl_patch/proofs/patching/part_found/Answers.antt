@@ -1,4 +1,4 @@
-use Rattle.std.proofs.Common.{◌≡◌, ◌∙◌, ap, List, refl}
+use Rattle.std.proofs.Common.{◌∙◌, ap, List, refl}
 use Rattle.std.specs.Prelude.{Bool}
 use Rattle.yl_rules.specs.LevelOf.{level_of}
 use Rattle.yl_config.specs.Config.{levels_of}

@@ -1,9 +1,9 @@
-use Rattle.std.proofs.Common.{List, sym, subst, arith, ◌∙◌}
+use Rattle.std.proofs.Common.{List, sym, subst, arith}
 use Rattle.std.specs.List.{AllByRecursion}
 use Rattle.yl_sections.specs.Kept.{KeptValue}
 use Rattle.yl_patch.specs.Faultless.{faultless}
 use Rattle.yl_patch.specs.Plain.{IsPlain}
-use Rattle.yl_patch.proofs.Faults.{none_left}
+use Rattle.yl_overview.proofs.Walks.{none_left}
 use Rattle.yl_patch.proofs.WithoutFaults.{plain_but_next}
 use Rattle.yl_rejudge.proofs.KeptRows.{got}
 use Rattle.yl_patch.proofs.plain.are_all_plain.Goals as goal

@@ -1,4 +1,4 @@
-use Rattle.std.proofs.Common.{arith, ◌∙◌}
+use Rattle.std.proofs.Common.{arith}
 use Rattle.yl_patch.proofs.Said.{shown_all, shown_there}
 use Rattle.yl_patch.proofs.showing.count_shown.Goals as goal
 

@@ -13,8 +13,8 @@ use Rattle.yl_rejudge.specs.Documents.{TakesNothing}
 use Rattle.yl_rescan.specs.Held.{AreHeld}
 use Rattle.yl_config.specs.declared.config.Config.{Config}
 use Rattle.yl_lint.specs.TextReport.{report, report_by}
-use Rattle.yl_parting.specs.Changes.{renewed}
-use Rattle.yl_session.proofs.Bounds.{count_records, few_kept, few_lines, few_rows}
+use Rattle.yl_patch.proofs.Given.{few_lines}
+use Rattle.yl_session.proofs.Bounds.{are_few, count_records}
 use Rattle.yl_session.proofs.HeldReport.{held_report}
 use Rattle.yl_session.proofs.Parts.{told_so}
 use Rattle.yl_session.proofs.Renewed.{has_row, is_work}
@@ -37,12 +37,12 @@ rescan-requires-clause-meter g c = ap (λ (m : Meter). m.lines) c.new-meter.ensu
 
 pub new-spliced-requires-clause-few : goal.new-spliced-requires-clause-few
 new-spliced-requires-clause-few g c =
-    let rows = g.S.Lines.rows c.args.store.now in
+    let rows = g.S.Lines.rows c.args.text.now.store.now in
     omega (
       arith,
-      few_lines rows c.requires.old,
+      few_lines rows c.requires.text.old,
       count_records rows c.args.cut c.args.records.now.items c.requires.held,
-      few_lines (splice rows c.args.a c.args.b c.args.rows.now) c.requires.lines,
+      few_lines (splice rows c.args.text.now.a c.args.text.now.b c.args.text.now.rows.now) c.requires.text.new,
       c.in_ok-rescan.ensures.within,
       c.in_ok-rescan.ensures.len,
       ap (λ (rs : List RecordValue). length rs) c.deref.ensures.value,
@@ -68,7 +68,7 @@ rejudge-requires-clause-alike g c =
 
 pub rejudge-requires-clause-range : goal.rejudge-requires-clause-range
 rejudge-requires-clause-range g c =
-    let new = splice (g.S.Lines.rows c.args.store.now) c.args.a c.args.b c.args.rows.now in
+    let new = splice (g.S.Lines.rows c.args.text.now.store.now) c.args.text.now.a c.args.text.now.b c.args.text.now.rows.now in
     let r = c.in_ok-rescan.rescan in
     let olds = c.args.records.now.items in
     let is = spliced_is olds r.records.items c.deref.result.now c.new-spliced.result r.from r.old_end c.deref.ensures.value c.new-spliced.ensures in
@@ -79,47 +79,51 @@ rejudge-requires-clause-range g c =
 
 pub rejudge-requires-clause-few : goal.rejudge-requires-clause-few
 rejudge-requires-clause-few g c =
-    let rows = g.S.Lines.rows c.args.store.now in
-    let new = splice rows c.args.a c.args.b c.args.rows.now in
+    let rows = g.S.Lines.rows c.args.text.now.store.now in
+    let new = splice rows c.args.text.now.a c.args.text.now.b c.args.text.now.rows.now in
     let r = c.in_ok-rescan.rescan in
     let olds = c.args.records.now.items in
     let is = spliced_is olds r.records.items c.deref.result.now c.new-spliced.result r.from r.old_end c.deref.ensures.value c.new-spliced.ensures in
-    (omega (arith, few_lines rows c.requires.old, count_records rows c.args.cut olds c.requires.held), omega (arith, few_lines new c.requires.lines, count_new new r.cut c.new-spliced.result (splice olds r.from r.old_end r.records.items) is c.in_ok-rescan.ensures.held))
+    (omega (arith, few_lines rows c.requires.text.old, count_records rows c.args.cut olds c.requires.held), omega (arith, few_lines new c.requires.text.new, count_new new r.cut c.new-spliced.result (splice olds r.from r.old_end r.records.items) is c.in_ok-rescan.ensures.held))
 
 pub rejudge-requires-clause-meter : goal.rejudge-requires-clause-meter
 rejudge-requires-clause-meter g c =
-    let rows = g.S.Lines.rows c.args.store.now in
-    let new = splice rows c.args.a c.args.b c.args.rows.now in
+    let rows = g.S.Lines.rows c.args.text.now.store.now in
+    let new = splice rows c.args.text.now.a c.args.text.now.b c.args.text.now.rows.now in
     let r = c.in_ok-rescan.rescan in
     let olds = c.args.records.now.items in
     let is = spliced_is olds r.records.items c.deref.result.now c.new-spliced.result r.from r.old_end c.deref.ensures.value c.new-spliced.ensures in
     omega (
       arith,
-      few_lines new c.requires.lines,
+      few_lines new c.requires.text.new,
       count_new new r.cut c.new-spliced.result (splice olds r.from r.old_end r.records.items) is c.in_ok-rescan.ensures.held,
       c.in_ok-rescan.ensures.documents,
       ap (λ (m : Meter). m.documents) c.new-meter.ensures,
     )
 
-pub places_anew-requires : goal.places_anew-requires
-places_anew-requires g c =
-    omega (arith, few_rows c.args.config.now (g.S.Lines.rows c.args.store.now) c.args.cut c.args.records.now.items c.args.kept.now.items c.requires.old c.requires.held c.requires.kept)
+-- what is kept then
+kept_is : (config : Config) (ks : List KeptValue) (spliced rs : List RecordValue) → ks ≡ map (kept_of_section config) (sections spliced) → spliced ≡ rs → ks ≡ map (kept_of_section config) (sections rs)
+kept_is config ks spliced rs kept is = kept ∙ ap (λ (us : List RecordValue). map (kept_of_section config) (sections us)) is
+
+pub nearest-near-requires-clause-few : goal.nearest-near-requires-clause-few
+nearest-near-requires-clause-few g c = are_few c.args.config.now (g.S.Lines.rows c.args.text.now.store.now) c.args.cut c.args.records.now.items c.args.known.now.kept.items c.requires.text.old c.requires.held c.requires.kept
 
 pub renewal_of-requires-clause-few : goal.renewal_of-requires-clause-few
-renewal_of-requires-clause-few g c =
-    omega (arith, few_kept c.args.config.now (g.S.Lines.rows c.args.store.now) c.args.cut c.args.records.now.items c.args.kept.now.items c.requires.old c.requires.held c.requires.kept, c.in_ok-rejudged.rejudged.kept.small)
+renewal_of-requires-clause-few g c = are_few c.args.config.now (g.S.Lines.rows c.args.text.now.store.now) c.args.cut c.args.records.now.items c.args.known.now.kept.items c.requires.text.old c.requires.held c.requires.kept
 
-pub renewal_of-requires-clause-few_rows : goal.renewal_of-requires-clause-few_rows
-renewal_of-requires-clause-few_rows g c =
-    omega (arith, few_rows c.args.config.now (g.S.Lines.rows c.args.store.now) c.args.cut c.args.records.now.items c.args.kept.now.items c.requires.old c.requires.held c.requires.kept)
+pub renewal_of-requires-clause-few_then : goal.renewal_of-requires-clause-few_then
+renewal_of-requires-clause-few_then g c =
+    let new = splice (g.S.Lines.rows c.args.text.now.store.now) c.args.text.now.a c.args.text.now.b c.args.text.now.rows.now in
+    let r = c.in_ok-rescan.rescan in
+    let j = c.in_ok-rejudged.rejudged in
+    let olds = c.args.records.now.items in
+    let us = splice olds r.from r.old_end r.records.items in
+    let is = spliced_is olds r.records.items c.deref.result.now c.new-spliced.result r.from r.old_end c.deref.ensures.value c.new-spliced.ensures in
+    are_few c.args.config.now new r.cut us (splice c.args.known.now.kept.items j.from j.end j.kept.items) c.requires.text.new c.in_ok-rescan.ensures.held (kept_is c.args.config.now (splice c.args.known.now.kept.items j.from j.end j.kept.items) c.new-spliced.result us c.in_ok-rejudged.ensures.kept is)
 
 -- the report is that of the text, whatever is kept of what stands below a fault
 reported : (config : Config) (ps : List RowValue) (cut : Option ℕ) (rs : List RecordValue) (ks : List KeptValue) → AreHeld (characters_in ps) cut rs → ks ≡ map (kept_of_section config) (sections rs) → report_by config ps ks ≡ report config ps
 reported config ps cut rs ks held is = ap (λ (ls : List KeptValue). report_by config ps ls) is ∙ held_report config ps cut rs held
-
--- what is kept then
-kept_is : (config : Config) (ks : List KeptValue) (spliced rs : List RecordValue) → ks ≡ map (kept_of_section config) (sections spliced) → spliced ≡ rs → ks ≡ map (kept_of_section config) (sections rs)
-kept_is config ks spliced rs kept is = kept ∙ ap (λ (us : List RecordValue). map (kept_of_section config) (sections us)) is
 
 pub returns-clause-kept : goal.returns-clause-kept
 returns-clause-kept g c =
@@ -127,42 +131,33 @@ returns-clause-kept g c =
     let j = c.in_ok-rejudged.rejudged in
     let olds = c.args.records.now.items in
     let is = spliced_is olds r.records.items c.deref.result.now c.new-spliced.result r.from r.old_end c.deref.ensures.value c.new-spliced.ensures in
-    kept_is c.args.config.now (splice c.args.kept.now.items j.from j.end j.kept.items) c.new-spliced.result (splice olds r.from r.old_end r.records.items) c.in_ok-rejudged.ensures.kept is
+    kept_is c.args.config.now (splice c.args.known.now.kept.items j.from j.end j.kept.items) c.new-spliced.result (splice olds r.from r.old_end r.records.items) c.in_ok-rejudged.ensures.kept is
 
-pub returns-clause-ready : goal.returns-clause-ready
-returns-clause-ready g c = λ ps h.
-    let rows = g.S.Lines.rows c.args.store.now in
-    let ks = c.args.kept.now.items in
-    c.in_ok-renewal.ensures.ready ps
-    (told_so c.args.config.now rows ks c.args.overview (report c.args.config.now rows) (report_by c.args.config.now rows ks) ps
-    (sym (reported c.args.config.now rows c.args.cut c.args.records.now.items ks c.requires.held c.requires.kept)) h)
-
-pub returns-clause-parts : goal.returns-clause-parts
-returns-clause-parts g c = λ ps h.
+pub returns-clause-makes : goal.returns-clause-makes
+returns-clause-makes g c =
     let config = c.args.config.now in
-    let rows = g.S.Lines.rows c.args.store.now in
-    let new = splice rows c.args.a c.args.b c.args.rows.now in
+    let rows = g.S.Lines.rows c.args.text.now.store.now in
+    let new = splice rows c.args.text.now.a c.args.text.now.b c.args.text.now.rows.now in
     let r = c.in_ok-rescan.rescan in
     let j = c.in_ok-rejudged.rejudged in
     let olds = c.args.records.now.items in
     let us = splice olds r.from r.old_end r.records.items in
-    let kept = c.args.kept.now.items in
+    let kept = c.args.known.now.kept.items in
     let ks = splice kept j.from j.end j.kept.items in
     let renewal = c.in_ok-renewal.renewal in
     let is = spliced_is olds r.records.items c.deref.result.now c.new-spliced.result r.from r.old_end c.deref.ensures.value c.new-spliced.ensures in
-    told_so config new ks renewal.overview (report_by config new ks) (report config new) (renewed renewal.change ps)
-    (reported config new r.cut us ks c.in_ok-rescan.ensures.held (kept_is config ks c.new-spliced.result us c.in_ok-rejudged.ensures.kept is))
-    (c.in_ok-renewal.ensures.parts ps (told_so config rows kept c.args.overview (report config rows) (report_by config rows kept) ps (sym (reported config rows c.args.cut olds kept c.requires.held c.requires.kept)) h))
+    told_so config rows new kept ks c.args.known.now.are_plain renewal.are_plain (report_by config rows kept) (report_by config new ks) (report config rows) (report config new) renewal.change (reported config rows c.args.cut olds kept c.requires.held c.requires.kept)
+    (reported config new r.cut us ks c.in_ok-rescan.ensures.held (kept_is config ks c.new-spliced.result us c.in_ok-rejudged.ensures.kept is)) c.in_ok-renewal.ensures.makes
 
 pub returns-clause-work : goal.returns-clause-work
 returns-clause-work g c =
-    let rows = g.S.Lines.rows c.args.store.now in
-    let new = splice rows c.args.a c.args.b c.args.rows.now in
+    let rows = g.S.Lines.rows c.args.text.now.store.now in
+    let new = splice rows c.args.text.now.a c.args.text.now.b c.args.text.now.rows.now in
     let r = c.in_ok-rescan.rescan in
     let olds = c.args.records.now.items in
     let is = spliced_is olds r.records.items c.deref.result.now c.new-spliced.result r.from r.old_end c.deref.ensures.value c.new-spliced.ensures in
     let taken = subst (λ (us : List RecordValue). TakesNothing olds us r.from) (sym is) c.in_ok-rescan.ensures.taken in
-    is_work (characters_in rows) (characters_in new) r.cut c.new-spliced.result c.args.a c.args.b (length c.args.rows.now) r.from r.end c.rescan.new.meter.lines c.rejudge.new.meter.lines c.rejudge.new.meter.documents
-    (omega (arith, has_row new c.requires.lines, length-map new (λ (row : RowValue). chars row.text))) (subst (λ (us : List RecordValue). AreHeld (characters_in new) r.cut us) (sym is) c.in_ok-rescan.ensures.held)
+    is_work (characters_in rows) (characters_in new) r.cut c.new-spliced.result c.args.text.now.a c.args.text.now.b (length c.args.text.now.rows.now) r.from r.end c.rescan.new.meter.lines c.rejudge.new.meter.lines c.rejudge.new.meter.documents
+    (omega (arith, has_row new c.requires.text.new, length-map new (λ (row : RowValue). chars row.text))) (subst (λ (us : List RecordValue). AreHeld (characters_in new) r.cut us) (sym is) c.in_ok-rescan.ensures.held)
     c.in_ok-rescan.ensures.below c.in_ok-rescan.ensures.work c.in_ok-rejudged.ensures.lines
     (λ m l. less (c.in_ok-rejudged.ensures.documents taken m l) (omega (arith, c.in_ok-rescan.ensures.documents, ap (λ (m : Meter). m.documents) c.new-meter.ensures)))

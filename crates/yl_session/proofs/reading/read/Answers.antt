@@ -1,5 +1,6 @@
 use Rattle.std.proofs.Common.{None, arith}
-use Rattle.yl_session.proofs.Bounds.{few_lines, count_records}
+use Rattle.yl_patch.proofs.Given.{few_lines}
+use Rattle.yl_session.proofs.Bounds.{count_records}
 use Rattle.yl_session.proofs.reading.read.Goals as goal
 
 pub kept_of_records-requires : goal.kept_of_records-requires

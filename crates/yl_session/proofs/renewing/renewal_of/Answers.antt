@@ -1,26 +1,61 @@
-use Rattle.std.proofs.Common.{List, ap, subst, sym, ◌∙◌}
-use Rattle.std.specs.List.{splice}
+use Rattle.std.proofs.Common.{◌≡◌, List, ap, subst, sym, ◌∙◌}
+use Rattle.std.specs.List.{AllByRecursion, splice}
 use Rattle.yl_sections.specs.Kept.{KeptValue}
-use Rattle.yl_lint.specs.TextReport.{report_by}
-use Rattle.yl_parting.specs.Changes.{renewed}
-use Rattle.yl_patch.specs.Plain.{IsOverviewOf}
-use Rattle.yl_session.specs.Parts.{AreParts}
-use Rattle.yl_session.proofs.Parts.{parts_stay}
+use Rattle.yl_overview.specs.Overview.{AreOverviews}
+use Rattle.yl_patch.specs.Faultless.{faultless}
+use Rattle.yl_patch.specs.Plain.{IsPlain}
+use Rattle.yl_session.specs.Parts.{Makes, known_text}
+use Rattle.yl_session.proofs.Parts.{known_after, plain_where, stays}
 use Rattle.yl_session.proofs.renewing.renewal_of.Goals as goal
 
-pub returns-then-branch-clause-parts : goal.returns-then-branch-clause-parts
-returns-then-branch-clause-parts g c = λ ps h.
-    let rows = g.S.Lines.rows c.args.store.now in
-    let ks = c.args.kept.now.items in
+pub returns-then-branch-clause-makes : goal.returns-then-branch-clause-makes
+returns-then-branch-clause-makes g c =
+    let text = c.args.text.now in
+    let rows = g.S.Lines.rows text.store.now in
+    let ks = c.args.known.now.kept.items in
     let new = c.args.new.now in
-    parts_stay c.args.config.now rows (splice rows c.args.a c.args.b c.args.rows.now) ks (splice ks new.from new.end new.kept.items) c.args.overview ps (c.in_ok-leaves_report.ensures.lines c.if-branch.true)
-    (sym (ap (λ (ls : List KeptValue). splice ks new.from new.end ls) c.as_slice-judged.ensures.value) ∙ c.in_ok-leaves_report.ensures.kept c.if-branch.true) h
+    stays c.args.config.now rows (splice rows text.a text.b text.rows.now) ks (splice ks new.from new.end new.kept.items) c.args.known.now.are_plain (c.in_ok-reads_alike.ensures c.if-branch.true) (c.all_stay-stay.ensures c.if-stay.true)
 
-pub returns-clause-overview : goal.returns-clause-overview
-returns-clause-overview g c = subst (λ (ks : List KeptValue). IsOverviewOf ks c.in_ok-renewal.renewal.overview) c.section_edit-edit.ensures.same c.in_ok-renewal.ensures.overview
+pub returns-then-branch-clause-known : goal.returns-then-branch-clause-known
+returns-then-branch-clause-known g c =
+    let ks = c.args.known.now.kept.items in
+    let same = sym (c.all_stay-stay.ensures c.if-stay.true) in record {
+      overviews = subst (λ (ls : List KeptValue). AreOverviews ls c.args.known.now.overviews.items) same c.requires.known.overviews;
+      plain = λ h. subst (λ (ls : List KeptValue). AllByRecursion IsPlain (faultless ls)) same (c.requires.known.plain h);
+    }
 
-pub returns-clause-parts : goal.returns-clause-parts
-returns-clause-parts g c = λ ps h.
-    let lines = splice (g.S.Lines.rows c.args.store.now) c.args.a c.args.b c.args.rows.now in
-    let renewal = c.in_ok-renewal.renewal in
-    subst (λ (ks : List KeptValue). AreParts c.args.config.now lines ks renewal.overview (report_by c.args.config.now lines ks) (renewed renewal.change ps)) c.section_edit-edit.ensures.same (c.in_ok-renewal.ensures.parts ps h)
+pub are_plain_by-are_plain-requires : goal.are_plain_by-are_plain-requires
+are_plain_by-are_plain-requires g c = record { known = λ h. subst (λ (ls : List KeptValue). AllByRecursion IsPlain (faultless ls)) (sym c.section_edit-edit.ensures.sections) (c.requires.known.plain h) }
+
+pub change_of-requires-clause-plain : goal.change_of-requires-clause-plain
+change_of-requires-clause-plain g c = λ h. subst (λ (ls : List KeptValue). AllByRecursion IsPlain (faultless ls)) (sym c.section_edit-edit.ensures.sections) (c.requires.known.plain (c.are_plain_by-are_plain.ensures.before h))
+
+pub overviews_by-requires-clause-known : goal.overviews_by-requires-clause-known
+overviews_by-requires-clause-known g c = subst (λ (ls : List KeptValue). AreOverviews ls c.args.known.now.overviews.items) (sym c.section_edit-edit.ensures.sections) c.requires.known.overviews
+
+pub returns-clause-makes : goal.returns-clause-makes
+returns-clause-makes g c =
+    let config = c.args.config.now in
+    let text = c.args.text.now in
+    let rows = g.S.Lines.rows text.store.now in
+    let after = splice rows text.a text.b text.rows.now in
+    let ks = c.args.known.now.kept.items in
+    let new = c.args.new.now in
+    let ls = splice ks new.from new.end new.kept.items in
+    let e = c.section_edit-edit.result in
+    let p = c.are_plain_by-are_plain.result in
+    let change = c.in_ok-change.change in
+    let there = subst (λ (es : List KeptValue). Makes config (known_text config rows es p) (known_text config after (splice es e.from e.end e.kept.now) p) change) c.section_edit-edit.ensures.sections c.in_ok-change.ensures in
+    plain_where config rows ks c.args.known.now.are_plain p (known_text config after ls p) change c.are_plain_by-are_plain.ensures.before
+    (subst (λ (us : List KeptValue). Makes config (known_text config rows ks p) (known_text config after us p) change) c.section_edit-edit.ensures.same there)
+
+pub returns-clause-known : goal.returns-clause-known
+returns-clause-known g c =
+    let ks = c.args.known.now.kept.items in
+    let new = c.args.new.now in
+    let ls = splice ks new.from new.end new.kept.items in
+    let e = c.section_edit-edit.result in
+    let same : splice e.sections.now.items e.from e.end e.kept.now ≡ ls = ap (λ (es : List KeptValue). splice es e.from e.end e.kept.now) c.section_edit-edit.ensures.sections ∙ c.section_edit-edit.ensures.same in record {
+      overviews = known_after c.in_ok-overviews.overviews c.all_stay-stay.result ks (splice e.sections.now.items e.from e.end e.kept.now) ls c.args.known.now.overviews.items c.requires.known.overviews c.all_stay-stay.ensures same c.in_ok-overviews.ensures;
+      plain = λ h. subst (λ (us : List KeptValue). AllByRecursion IsPlain (faultless us)) same (c.are_plain_by-are_plain.ensures.after h);
+    }

@@ -1,6 +1,6 @@
-use Rattle.std.proofs.Common.{◌≡◌, ℕ, refl, List, Option, Result, Ok, Err, map, take, length, arith, ap, sym, subst, ◌∙◌}
-use Rattle.std.specs.List.{AllByRecursion, splice}
-use Rattle.std.specs.Prelude.{IfSome, IsErr, OnErr, OnOk}
+use Rattle.std.proofs.Common.{◌≡◌, ℕ, refl, List, Option, Result, Ok, Err, map, length, arith, ap, sym, subst, ◌∙◌}
+use Rattle.std.specs.List.{splice}
+use Rattle.std.specs.Prelude.{IsErr, OnErr, OnOk}
 use Rattle.yl_text.specs.Store.{AreLines, IsRange}
 use Rattle.yl_text.specs.Lines.{RowValue}
 use Rattle.yl_config.specs.declared.config.Config.{Config}
@@ -14,11 +14,10 @@ use Rattle.yl_lint.specs.TextReport.{report}
 use Rattle.yl_parting.specs.Changes.{parts_in, renewed}
 use Rattle.yl_parting.specs.Parts.{PartsValue}
 use Rattle.yl_parting.specs.Rooms.{IsReady}
-use Rattle.yl_patch.specs.Plain.{IsOverviewOf}
-use Rattle.yl_rejudge.specs.declared.places.Place.{Place}
-use Rattle.yl_rejudge.specs.Places.{IsAt, rows_kept}
+use Rattle.yl_session.specs.Known.{IsKnown, IsKnownAfter}
 use Rattle.yl_session.specs.State.{SessionValue}
-use Rattle.yl_session.proofs.Bounds.{few_kept, few_lines, count_records, few_rows, few_rows_put}
+use Rattle.yl_patch.proofs.Given.{few_lines}
+use Rattle.yl_session.proofs.Bounds.{count_records, few_kept}
 use Rattle.yl_session.proofs.Parts.{parts_are, parts_same}
 use Rattle.yl_session.proofs.session.Session.change.Goals as goal
 
@@ -72,9 +71,18 @@ kept_same config ks ls rs us same records is = same ∙ (is ∙ ap (λ (es : Lis
 put_in : {X : Type 0} (all held old items : List X) (i j : ℕ) → all ≡ splice held i j items → held ≡ old → all ≡ splice old i j items
 put_in all held old items i j is same = is ∙ ap (λ xs. splice xs i j items) same
 
--- what is lent is what is kept
-pub planned-requires-clause-at : goal.planned-requires-clause-at
-planned-requires-clause-at g c = subst (λ (ps : List Place). AllByRecursion (IsAt c.self.inside.kept.items) ps) (sym c.deref.ensures.value) c.self.invariant.5
+-- the edit of the lines
+abbrev lines_then : List RowValue → ℕ → ℕ → List RowValue → Type 0
+lines_then ps a b ins = AreLines (splice ps a b ins)
+
+pub planned-requires-clause-text : goal.planned-requires-clause-text
+planned-requires-clause-text g c =
+    let rows = g.S.Lines.rows c.self.inside.store in
+    let here : c.args.self.now.rows ≡ rows = sym (ap (λ (s : SessionValue). s.rows) c.self.view_is) in record {
+      range = subst (λ (ps : List RowValue). IsRange c.args.a c.args.b (length ps)) here c.requires.range;
+      old = c.self.invariant.0;
+      new = subst (lines_then rows c.args.a c.args.b) (sym c.as_slice.ensures.value) (subst (λ (ps : List RowValue). lines_then ps c.args.a c.args.b c.args.rows.now.items) here c.requires.lines);
+    }
 
 pub make_room-requires-clause-few : goal.make_room-requires-clause-few
 make_room-requires-clause-few g c =
@@ -83,7 +91,7 @@ make_room-requires-clause-few g c =
 
 pub make_room-requires-clause-kept_few : goal.make_room-requires-clause-kept_few
 make_room-requires-clause-kept_few g c =
-    omega (arith, few_kept c.self.inside.config (g.S.Lines.rows c.self.inside.store) c.self.inside.cut c.self.inside.records.items c.self.inside.kept.items c.self.invariant.0 c.self.invariant.1 c.self.invariant.2, c.in_ok-plan.plan.rejudged.kept.small)
+    omega (arith, few_kept c.self.inside.config (g.S.Lines.rows c.self.inside.store) c.self.inside.cut c.self.inside.records.items c.self.inside.known.kept.items c.self.invariant.0 c.self.invariant.1 c.self.invariant.2, c.in_ok-plan.plan.rejudged.kept.small)
 
 pub invariant_of-self : goal.invariant_of-self
 invariant_of-self g c =
@@ -91,11 +99,10 @@ invariant_of-self g c =
     let config = c.self.inside.config in (
       c.self.invariant.0,
       held_same rows rows c.self.inside.cut c.self.inside.records.items c.make_room.new.records.items refl c.make_room.ensures.records c.self.invariant.1,
-      kept_same config c.self.inside.kept.items c.make_room.new.kept.items c.self.inside.records.items c.make_room.new.records.items c.make_room.ensures.kept c.make_room.ensures.records c.self.invariant.2,
+      kept_same config c.self.inside.known.kept.items c.make_room.new.kept.items c.self.inside.records.items c.make_room.new.records.items c.make_room.ensures.kept c.make_room.ensures.records c.self.invariant.2,
       c.make_room.ensures.shown ∙ c.self.invariant.3,
-      subst (λ (ks : List KeptValue). IsOverviewOf ks c.self.inside.overview) (sym c.make_room.ensures.kept) c.self.invariant.4,
-      subst (λ (ks : List KeptValue). AllByRecursion (IsAt ks) c.self.inside.places.items) (sym c.make_room.ensures.kept) c.self.invariant.5,
-      λ h. parts_are c.make_room.new.found c.self.inside.found c.make_room.ensures.shown c.make_room.ensures.suppressed ∙ parts_same config rows rows c.self.inside.kept.items c.make_room.new.kept.items (parts_in c.self.inside.found) refl c.make_room.ensures.kept (c.self.invariant.6 h),
+      subst (λ (ks : List KeptValue). IsKnown ks c.self.inside.known.overviews.items c.self.inside.known.are_plain) (sym c.make_room.ensures.kept) c.self.invariant.4,
+      λ h. parts_are c.make_room.new.found c.self.inside.found c.make_room.ensures.shown c.make_room.ensures.suppressed ∙ parts_same config rows rows c.self.inside.known.kept.items c.make_room.new.kept.items (parts_in c.self.inside.found) refl c.make_room.ensures.kept (c.self.invariant.5 h),
     )
 
 pub invariant_of-self-in_err-splice : goal.invariant_of-self-in_err-splice
@@ -107,52 +114,17 @@ invariant_of-self-in_err-splice g c =
     let P : List RowValue → Type 0 = λ ps. AreLines ps in (
       subst P e c.self.invariant.0,
       held_same rows left c.self.inside.cut c.self.inside.records.items c.make_room.new.records.items e c.make_room.ensures.records c.self.invariant.1,
-      kept_same config c.self.inside.kept.items c.make_room.new.kept.items c.self.inside.records.items c.make_room.new.records.items c.make_room.ensures.kept c.make_room.ensures.records c.self.invariant.2,
+      kept_same config c.self.inside.known.kept.items c.make_room.new.kept.items c.self.inside.records.items c.make_room.new.records.items c.make_room.ensures.kept c.make_room.ensures.records c.self.invariant.2,
       c.make_room.ensures.shown ∙ (c.self.invariant.3 ∙ ap (report config) e),
-      subst (λ (ks : List KeptValue). IsOverviewOf ks c.self.inside.overview) (sym c.make_room.ensures.kept) c.self.invariant.4,
-      subst (λ (ks : List KeptValue). AllByRecursion (IsAt ks) c.self.inside.places.items) (sym c.make_room.ensures.kept) c.self.invariant.5,
-      λ h. parts_are c.make_room.new.found c.self.inside.found c.make_room.ensures.shown c.make_room.ensures.suppressed ∙ parts_same config rows left c.self.inside.kept.items c.make_room.new.kept.items (parts_in c.self.inside.found) e c.make_room.ensures.kept (c.self.invariant.6 h),
+      subst (λ (ks : List KeptValue). IsKnown ks c.self.inside.known.overviews.items c.self.inside.known.are_plain) (sym c.make_room.ensures.kept) c.self.invariant.4,
+      λ h. parts_are c.make_room.new.found c.self.inside.found c.make_room.ensures.shown c.make_room.ensures.suppressed ∙ parts_same config rows left c.self.inside.known.kept.items c.make_room.new.kept.items (parts_in c.self.inside.found) e c.make_room.ensures.kept (c.self.invariant.5 h),
     )
 
--- what room was made in is what was kept
-pub put_kept-requires-clause-range : goal.put_kept-requires-clause-range
-put_kept-requires-clause-range g c =
+pub put_kept-requires-clause-known : goal.put_kept-requires-clause-known
+put_kept-requires-clause-known g c =
     let new = c.in_ok-plan.plan.rejudged in
-    subst (λ (ks : List KeptValue). IsRange new.from new.end (length ks)) (sym c.make_room.ensures.kept) c.in_ok-plan.ensures.kept_range
-
-pub put_kept-requires-clause-from_row : goal.put_kept-requires-clause-from_row
-put_kept-requires-clause-from_row g c = c.in_ok-plan.ensures.from_row ∙ ap (λ (ks : List KeptValue). rows_kept (take c.in_ok-plan.plan.rejudged.from ks)) (sym c.make_room.ensures.kept)
-
-pub put_kept-requires-clause-end_row : goal.put_kept-requires-clause-end_row
-put_kept-requires-clause-end_row g c = c.in_ok-plan.ensures.end_row ∙ ap (λ (ks : List KeptValue). rows_kept (take c.in_ok-plan.plan.rejudged.end ks)) (sym c.make_room.ensures.kept)
-
-pub put_kept-requires-clause-few : goal.put_kept-requires-clause-few
-put_kept-requires-clause-few g c =
-    let same : length c.make_room.new.kept.items ≡ length c.self.inside.kept.items = ap (λ (ks : List KeptValue). length ks) c.make_room.ensures.kept in
-    omega (arith, same, few_kept c.self.inside.config (g.S.Lines.rows c.self.inside.store) c.self.inside.cut c.self.inside.records.items c.self.inside.kept.items c.self.invariant.0 c.self.invariant.1 c.self.invariant.2, c.in_ok-plan.plan.rejudged.kept.small)
-
-pub put_kept-requires-clause-few_rows : goal.put_kept-requires-clause-few_rows
-put_kept-requires-clause-few_rows g c =
-    let rows = g.S.Lines.rows c.self.inside.store in
-    let ks = c.self.inside.kept.items in
-    let new = c.in_ok-plan.plan.rejudged in
-    let scan = c.in_ok-plan.plan.rescan in
-    let same : rows_kept c.make_room.new.kept.items ≡ rows_kept ks = ap rows_kept c.make_room.ensures.kept in
-    let Q : List RowValue → Type 0 = λ ps. AreLines (splice ps c.args.a c.args.b c.args.rows.now.items) in
-    let R : List RowValue → Type 0 = λ ps. AreLines (splice rows c.args.a c.args.b ps) in
-    let lines = subst R (sym c.as_slice.ensures.value) (subst Q (sym (ap (λ (s : SessionValue). s.rows) c.self.view_is)) c.requires.lines) in (
-      omega (arith, same, few_rows c.self.inside.config rows c.self.inside.cut c.self.inside.records.items ks c.self.invariant.0 c.self.invariant.1 c.self.invariant.2),
-      omega (arith, few_rows_put c.self.inside.config (splice rows c.args.a c.args.b c.as_slice.result.now) scan.cut (splice c.self.inside.records.items scan.from scan.old_end scan.records.items) ks new.kept.items new.from new.end lines c.in_ok-plan.ensures.held c.in_ok-plan.ensures.kept),
-    )
-
-pub renew_places-requires-clause-at : goal.renew_places-requires-clause-at
-renew_places-requires-clause-at g c = subst (λ (ks : List KeptValue). AllByRecursion (IsAt ks) c.self.inside.places.items) (sym c.make_room.ensures.kept) c.self.invariant.5
-
-pub renew_places-requires-clause-anew : goal.renew_places-requires-clause-anew
-renew_places-requires-clause-anew g c = subst (λ (ks : List KeptValue). IfSome c.in_ok-plan.plan.places (λ v. AllByRecursion (IsAt ks) v.items)) (sym c.make_room.ensures.kept) c.in_ok-plan.ensures.places
-
-pub put_kept-requires-clause-at : goal.put_kept-requires-clause-at
-put_kept-requires-clause-at g c = c.renew_places.ensures
+    let renewal = c.in_ok-plan.plan.renewal in
+    subst (λ (ks : List KeptValue). IsKnownAfter (splice ks new.from new.end new.kept.items) c.self.inside.known.overviews.items renewal.overviews renewal.are_plain) (sym c.make_room.ensures.kept) c.in_ok-plan.ensures.known
 
 pub invariant_of-self-2 : goal.invariant_of-self-2
 invariant_of-self-2 g c =
@@ -168,21 +140,20 @@ invariant_of-self-2 g c =
     let scan = plan.rescan in
     let judged = plan.rejudged in
     let rs = splice c.self.inside.records.items scan.from scan.old_end scan.records.items in
-    let ks = splice c.self.inside.kept.items judged.from judged.end judged.kept.items in
+    let ks = splice c.self.inside.known.kept.items judged.from judged.end judged.kept.items in
     let seen = splice rows c.args.a c.args.b c.as_slice.result.now in
     let put : seen ≡ left = ap (λ (ps : List RowValue). splice rows c.args.a c.args.b ps) c.as_slice.ensures.value ∙ e in
     let records = put_in c.fill_room.new.self.items c.make_room.new.records.items c.self.inside.records.items scan.records.items scan.from scan.old_end c.fill_room.ensures.items c.make_room.ensures.records in
-    let kept = put_in c.put_kept.new.kept.items c.make_room.new.kept.items c.self.inside.kept.items judged.kept.items judged.from judged.end c.put_kept.ensures.items c.make_room.ensures.kept in
-    let told = c.in_ok-plan.ensures.parts (parts_in c.self.inside.found) (record { shown = c.self.invariant.3; all = c.self.invariant.6 }) in
+    let kept = put_in c.put_kept.new.known.kept.items c.make_room.new.kept.items c.self.inside.known.kept.items judged.kept.items judged.from judged.end c.put_kept.ensures.items c.make_room.ensures.kept in
+    let told = c.in_ok-plan.ensures.makes.parts (parts_in c.self.inside.found) (record { shown = c.self.invariant.3; all = c.self.invariant.5 }) in
     let made : parts_in c.renew.new.self ≡ renewed plan.renewal.change (parts_in c.self.inside.found) =
     c.renew.ensures ∙ ap (λ (ps : PartsValue). renewed plan.renewal.change ps) (parts_are c.make_room.new.found c.self.inside.found c.make_room.ensures.shown c.make_room.ensures.suppressed) in (
       subst P e (subst Q here c.requires.lines),
       held_same seen left scan.cut rs c.fill_room.new.self.items put records c.in_ok-plan.ensures.held,
-      kept_same config ks c.put_kept.new.kept.items rs c.fill_room.new.self.items kept records c.in_ok-plan.ensures.kept,
+      kept_same config ks c.put_kept.new.known.kept.items rs c.fill_room.new.self.items kept records c.in_ok-plan.ensures.kept,
       ap (λ (ps : PartsValue). ps.shown) made ∙ (told.shown ∙ ap (report config) put),
-      subst (λ (js : List KeptValue). IsOverviewOf js plan.renewal.overview) (sym kept) c.in_ok-plan.ensures.overview,
-      c.put_kept.ensures.places,
-      λ h. made ∙ parts_same config seen left ks c.put_kept.new.kept.items (renewed plan.renewal.change (parts_in c.self.inside.found)) put kept (told.all h),
+      c.put_kept.ensures.known,
+      λ h. made ∙ parts_same config seen left ks c.put_kept.new.known.kept.items (renewed plan.renewal.change (parts_in c.self.inside.found)) put kept (told.all (sym c.put_kept.ensures.plain ∙ h)),
     )
 
 pub returns-clause-problems : goal.returns-clause-problems
@@ -190,7 +161,7 @@ returns-clause-problems g c =
     let rows = g.S.Lines.rows c.self.inside.store in
     let put : splice rows c.args.a c.args.b c.as_slice.result.now ≡ g.S.Lines.rows c.splice.new.self = ap (λ (ps : List RowValue). splice rows c.args.a c.args.b ps) c.as_slice.ensures.value ∙ sym c.in_ok-splice.ensures.ok in
     let plan = c.in_ok-plan.plan in
-    let told = c.in_ok-plan.ensures.parts (parts_in c.self.inside.found) (record { shown = c.self.invariant.3; all = c.self.invariant.6 }) in
+    let told = c.in_ok-plan.ensures.makes.parts (parts_in c.self.inside.found) (record { shown = c.self.invariant.3; all = c.self.invariant.5 }) in
     let made : parts_in c.renew.new.self ≡ renewed plan.renewal.change (parts_in c.self.inside.found) =
     c.renew.ensures ∙ ap (λ (ps : PartsValue). renewed plan.renewal.change ps) (parts_are c.make_room.new.found c.self.inside.found c.make_room.ensures.shown c.make_room.ensures.suppressed) in
     ap (λ (ps : PartsValue). ps.shown) made ∙ (told.shown ∙ ap (report c.self.inside.config) put)
@@ -198,4 +169,4 @@ returns-clause-problems g c =
 pub renew-requires-clause-ready : goal.renew-requires-clause-ready
 renew-requires-clause-ready g c =
     subst (λ (ps : PartsValue). IsReady c.in_ok-plan.plan.renewal.change ps) (sym (parts_are c.make_room.new.found c.self.inside.found c.make_room.ensures.shown c.make_room.ensures.suppressed))
-    (c.in_ok-plan.ensures.ready (parts_in c.self.inside.found) (record { shown = c.self.invariant.3; all = c.self.invariant.6 }))
+    (c.in_ok-plan.ensures.makes.ready (parts_in c.self.inside.found) (record { shown = c.self.invariant.3; all = c.self.invariant.5 }))

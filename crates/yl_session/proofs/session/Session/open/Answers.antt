@@ -24,7 +24,7 @@ kept_by config ps records kept = kept ∙ ap (λ (es : List RecordValue). map (k
 
 pub invariant_of-result : goal.invariant_of-result
 invariant_of-result g c =
-    (are_lines c.args.bytes.now c.in_ok-rows.rows.items (g.S.Lines.rows c.in-Ok.store) c.in-Ok.ensures.ok c.in_ok-rows.ensures.lines c.in_ok-rows.ensures.text, c.in-Ok-begin.ensures.records, kept_by c.args.config (g.S.Lines.rows c.in-Ok.store) c.in-Ok-begin.ensures.records c.in-Ok-begin.ensures.kept, c.in-Ok-begin.ensures.found.shown, c.in-Ok-begin.ensures.overview, c.in-Ok-begin.ensures.places, c.in-Ok-begin.ensures.found.all)
+    (are_lines c.args.bytes.now c.in_ok-rows.rows.items (g.S.Lines.rows c.in-Ok.store) c.in-Ok.ensures.ok c.in_ok-rows.ensures.lines c.in_ok-rows.ensures.text, c.in-Ok-begin.ensures.records, kept_by c.args.config (g.S.Lines.rows c.in-Ok.store) c.in-Ok-begin.ensures.records c.in-Ok-begin.ensures.kept, c.in-Ok-begin.ensures.found.shown, c.in-Ok-begin.ensures.known, c.in-Ok-begin.ensures.found.all)
 
 pub returns-clause-shown : goal.returns-clause-shown
 returns-clause-shown g c =

@@ -1,0 +1,38 @@
+//! Overviews made by a walk over sections.
+ghost use Rattle.std.specs.Prelude.{◌≡◌, ◌-◌, length, take, drop};
+ghost use Rattle.yl_text.specs.Store.{IsRange};
+ghost use Rattle.yl_overview.specs.Overview.{AreFew, IsOverviewOf};
+
+use crate::overview::Overview;
+use std::alloc::Allocator;
+use yl_chunks::Spliced;
+use yl_sections::Kept;
+
+/// The overview of these sections.
+pub fn overview_of<A: Allocator>(kept: &[Kept<A>]) -> Overview
+    requires { AreFew kept.now }
+    ensures { IsOverviewOf kept.now result }
+{
+    let mut overview = Overview::empty();
+    for one in kept {
+        overview.count(one);
+    }
+    overview
+}
+
+/// The overview of the sections from one on, before `end`.
+pub fn overview_between<A: Allocator + Copy>(
+    sections: &Spliced<'_, Kept<A>, A>,
+    from: usize,
+    end: usize,
+) -> Overview
+    requires range { IsRange from end (length sections.now) }
+    requires few { AreFew sections.now }
+    ensures { IsOverviewOf (take (end - from) (drop from sections.now)) result }
+{
+    let mut overview = Overview::empty();
+    for i in from..end {
+        overview.count(sections.get(i));
+    }
+    overview
+}

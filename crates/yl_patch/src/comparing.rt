@@ -1,0 +1,163 @@
+//! Whether what is kept of two sections is the same.
+ghost use Rattle.std.specs.Prelude.{◌≡◌, ◌-◌, true, length, take, drop};
+ghost use Rattle.std.specs.List.{splice};
+ghost use Rattle.yl_text.specs.Store.{IsRange};
+ghost use Rattle.std.specs.Option.{option_map};
+ghost use Rattle.yl_sections.specs.Owned.{section_fault_value};
+
+use std::alloc::Allocator;
+use yl_chunks::Chunks;
+use yl_indentation::{Expectation, Fact};
+use yl_sections::{Kept, KeptComment, SectionFault};
+use yl_text::Finding;
+
+fn is_same_finding<A: Allocator>(one: &Finding<A>, other: &Finding<A>) -> bool
+    ensures { result ≡ true → one.now ≡ other.now }
+{
+    one.line() == other.line()
+        && one.column() == other.column()
+        && one.rule() == other.rule()
+        && one.message() == other.message()
+}
+
+/// Whether two lists of problems are the same.
+pub fn are_same_findings<A: Allocator>(one: &[Finding<A>], other: &[Finding<A>]) -> bool
+    ensures { result ≡ true → one.now ≡ other.now }
+{
+    if one.len() != other.len() {
+        return false;
+    }
+    for i in 0..one.len() {
+        if !is_same_finding(&one[i], &other[i]) {
+            return false;
+        }
+    }
+    true
+}
+
+fn is_same_expectation(one: Expectation, other: Expectation) -> bool
+    ensures { result ≡ true → one ≡ other }
+{
+    match (one, other) {
+        (Expectation::At(m), Expectation::At(n)) => m == n,
+        (Expectation::Beyond(m), Expectation::Beyond(n)) => m == n,
+        (Expectation::EntryIn(m), Expectation::EntryIn(n)) => m == n,
+        _ => false,
+    }
+}
+
+fn is_same_fact(one: Fact, other: Fact) -> bool
+    ensures { result ≡ true → one ≡ other }
+{
+    one.line == other.line
+        && one.column == other.column
+        && is_same_expectation(one.expectation, other.expectation)
+}
+
+fn are_same_facts(one: &[Fact], other: &[Fact]) -> bool
+    ensures { result ≡ true → one.now ≡ other.now }
+{
+    if one.len() != other.len() {
+        return false;
+    }
+    for i in 0..one.len() {
+        if !is_same_fact(one[i], other[i]) {
+            return false;
+        }
+    }
+    true
+}
+
+fn is_same_column(one: Option<u32>, other: Option<u32>) -> bool
+    ensures { result ≡ true → one ≡ other }
+{
+    match (one, other) {
+        (None, None) => true,
+        (Some(m), Some(n)) => m == n,
+        _ => false,
+    }
+}
+
+fn is_same_comment<A: Allocator>(one: &KeptComment<A>, other: &KeptComment<A>) -> bool
+    ensures { result ≡ true → one.now ≡ other.now }
+{
+    one.line() == other.line()
+        && one.col() == other.col()
+        && is_same_column(one.behind(), other.behind())
+        && one.text() == other.text()
+}
+
+fn are_same_comments<A: Allocator>(one: &[KeptComment<A>], other: &[KeptComment<A>]) -> bool
+    ensures { result ≡ true → one.now ≡ other.now }
+{
+    if one.len() != other.len() {
+        return false;
+    }
+    for i in 0..one.len() {
+        if !is_same_comment(&one[i], &other[i]) {
+            return false;
+        }
+    }
+    true
+}
+
+fn is_same_fault(one: Option<SectionFault>, other: Option<SectionFault>) -> bool
+    ensures { result ≡ true → option_map section_fault_value one ≡ option_map section_fault_value other }
+{
+    match (one, other) {
+        (None, None) => true,
+        (Some(SectionFault::Behind(s)), Some(SectionFault::Behind(t))) => s == t,
+        (Some(SectionFault::Here(p, s)), Some(SectionFault::Here(q, t))) => {
+            p.line == q.line && p.col == q.col && s == t
+        }
+        _ => false,
+    }
+}
+
+/// Whether what is kept of two sections is the same.
+fn is_same<A: Allocator>(one: &Kept<A>, other: &Kept<A>) -> bool
+    ensures { result ≡ true → one.now ≡ other.now }
+{
+    one.rows() == other.rows()
+        && one.first() == other.first()
+        && are_same_findings(one.found(), other.found())
+        && are_same_facts(one.facts(), other.facts())
+        && are_same_comments(one.comments(), other.comments())
+        && is_same_fault(one.fault(), other.fault())
+        && are_same_findings(one.hidden(), other.hidden())
+        && is_same_fault(one.parse_fault(), other.parse_fault())
+}
+
+/// Whether what is kept of the sections from one on, before `end`, is the same as this.
+fn are_same<A: Allocator + Copy>(
+    kept: &Chunks<Kept<A>, A>,
+    from: usize,
+    end: usize,
+    other: &[Kept<A>],
+) -> bool
+    requires { IsRange from end (length kept.now.items) }
+    ensures { result ≡ true → take (end - from) (drop from kept.now.items) ≡ other.now }
+{
+    if end - from != other.len() {
+        return false;
+    }
+    for i in 0..other.len() {
+        if !is_same(kept.get(from + i), &other[i]) {
+            return false;
+        }
+    }
+    true
+}
+
+/// Whether what is kept of the sections from one on, before `end`, stays as it is where this is put in its place.
+pub fn stays<A: Allocator + Copy>(
+    kept: &Chunks<Kept<A>, A>,
+    from: usize,
+    end: usize,
+    new: &[Kept<A>],
+) -> bool
+    requires { IsRange from end (length kept.now.items) }
+    ensures { result ≡ true → splice kept.now.items from end new.now ≡ kept.now.items }
+{
+    are_same(kept, from, end, new)
+}
