@@ -17,6 +17,8 @@ mod in_lines;
 #[cfg(test)]
 mod places;
 #[cfg(test)]
+mod random_edits;
+#[cfg(test)]
 mod reached;
 #[cfg(test)]
 mod refused;

@@ -1,0 +1,214 @@
+//! Random edits of small texts, over both stores: behind each, a session shows what one shows that is opened over the edited text.
+use crate::sessions::{edit_lines, opened};
+use crate::shown::state_shown;
+use std::alloc::{AllocError, Global};
+use std::process::Abort;
+use std::test::Fail;
+use yl_chunks::ChunkStore;
+use yl_session::Session;
+use yl_text::{LineStore, PlainStore};
+
+// What texts are made of: whole lines. Those that make a fault stand last, so that texts of the first ones alone have none.
+static PIECES: &[&str] = &[
+    // Markers, some with a problem in their line, and empty lines at the borders of documents. Some stand here often, so that a text has several
+    // documents.
+    "---\n",
+    "---\n",
+    "---\n",
+    "--- \n",
+    "--- \n",
+    "---\n\n",
+    "\n---\n",
+    "...\n",
+    "...\n",
+    "\n",
+    "\n\n\n\n",
+    // Problems of lines and of sections.
+    "a: 1\n",
+    "b:  2\n",
+    "c: 3 \n",
+    "c: [1,2]\n",
+    "yes: no\n",
+    "k: 1\nk: 2\n",
+    "x: &a 1\n",
+    "x: *a\n",
+    "#comment \n",
+    // Widths of indentation.
+    "m:\n  n: 1\n",
+    "m:\n    n: 1\n",
+    "m:\n   - n\n",
+    "m:\n- n\n",
+    // Comments that silence.
+    "# yamllint disable\n",
+    "# yamllint disable rule:colons\n",
+    "# yamllint enable\n",
+    "# yamllint enable rule:colons rule:trailing-spaces\n",
+    "# yamllint disable-line\n",
+    "e:  5 # yamllint disable-line rule:colons\n",
+    "# yamllint disable-file\n",
+    // Faults that are told at their place or behind their document, and brackets and quotes that are closed somewhere below or not.
+    "n: ['1' 2]\n",
+    "f: [1,\n",
+    "  2]\n",
+    "%YAML 1.2\n",
+    "a: b: c\n",
+    "q: \"open\n",
+    "q: close\"\n",
+];
+
+// How many of them make no fault.
+const SOUND: usize = 31;
+
+// Numbers that look random, the same ones at each run.
+#[derive(Drop)]
+struct Random {
+    seed: u64,
+}
+
+impl Random {
+    // The next number, below a bound.
+    fn below(&mut self, bound: usize) -> usize {
+        self.seed = self
+            .seed
+            .wrapping_mul(6_364_136_223_846_793_005)
+            .wrapping_add(1_442_695_040_888_963_407);
+        ((self.seed >> 33) % (bound as u64).max(1)) as usize
+    }
+
+    // A number from one to another.
+    fn between(&mut self, least: usize, most: usize) -> usize {
+        let more = most.saturating_sub(least).saturating_add(1);
+        least.saturating_add(self.below(more))
+    }
+}
+
+// So many of the first pieces, by their numbers.
+fn random_pieces(
+    alloc: Global,
+    random: &mut Random,
+    kinds: usize,
+    count: usize,
+) -> Result<Vec<usize>, AllocError> {
+    let mut pieces = Vec::new(alloc);
+    for _ in 0..count {
+        pieces.push(random.below(kinds))?;
+    }
+    Ok(pieces)
+}
+
+// The text that pieces make.
+fn text_of(alloc: Global, pieces: &[usize]) -> Result<String, AllocError> {
+    let mut text = String::new(alloc);
+    for piece in pieces {
+        text.push_str(PIECES.get(*piece).unwrap_or(&""))?;
+    }
+    Ok(text)
+}
+
+// How many lines end in it.
+fn lines_in(alloc: Global, pieces: &[usize]) -> Result<u32, AllocError> {
+    let text = text_of(alloc, pieces)?;
+    let ends = text.bytes().filter(|byte| *byte == b'\n').count();
+    Ok(u32::try_from(ends).unwrap_or(u32::MAX))
+}
+
+// An edit: these pieces in place of those from the first number on, before the second.
+#[derive(Drop)]
+struct PiecesEdit {
+    from: usize,
+    end: usize,
+    new: Vec<usize>,
+}
+
+// An edit of so many pieces: up to two go, and up to two come.
+fn random_edit(
+    alloc: Global,
+    random: &mut Random,
+    kinds: usize,
+    len: usize,
+) -> Result<PiecesEdit, AllocError> {
+    let from = random.between(0, len);
+    let end = from.saturating_add(random.below(3)).min(len);
+    let count = random.below(3);
+    let new = random_pieces(alloc, random, kinds, count)?;
+    Ok(PiecesEdit { from, end, new })
+}
+
+// The pieces behind an edit.
+fn edited(alloc: Global, pieces: &[usize], edit: &PiecesEdit) -> Result<Vec<usize>, AllocError> {
+    let mut edited = Vec::new(alloc);
+    edited.extend_from_slice(pieces.get(..edit.from).unwrap_or_default())?;
+    edited.extend_from_slice(&edit.new)?;
+    edited.extend_from_slice(pieces.get(edit.end..).unwrap_or_default())?;
+    Ok(edited)
+}
+
+// Makes an edit of these pieces in a session over their text.
+fn make_edit<S: LineStore>(
+    alloc: Global,
+    session: &mut Session<S>,
+    pieces: &[usize],
+    edit: &PiecesEdit,
+) -> Result<(), Fail> {
+    let a = lines_in(alloc, pieces.get(..edit.from).unwrap_or_default())?;
+    let b = lines_in(alloc, pieces.get(..edit.end).unwrap_or_default())?;
+    let bytes = text_of(alloc, &edit.new)?;
+    edit_lines(session, a, b, bytes.as_bytes())?;
+    Ok(())
+}
+
+// What a session shows that is opened over the text of these pieces.
+fn shown_anew(alloc: Global, pieces: &[usize]) -> Result<String, Fail> {
+    let text = text_of(alloc, pieces)?;
+    let session: Session<PlainStore<Global>> = opened(alloc, text.as_bytes())?;
+    Ok(state_shown(alloc, &session)?)
+}
+
+// Makes an edit in a session over the text of these pieces, and gives the pieces behind it. The session shows then what one shows that is
+// opened over their text.
+fn check_edit<S: LineStore>(
+    rt: &impl Abort,
+    alloc: Global,
+    session: &mut Session<S>,
+    pieces: &[usize],
+    edit: &PiecesEdit,
+) -> Result<Vec<usize>, Fail> {
+    make_edit(alloc, session, pieces, edit)?;
+    let edited = edited(alloc, pieces, edit)?;
+    let shown = state_shown(alloc, session)?;
+    let wanted = shown_anew(alloc, &edited)?;
+    assert_eq!(rt;
+        shown.as_str(),
+        wanted.as_str(),
+        "pieces {pieces:?}, then {edited:?}"
+    );
+    Ok(edited)
+}
+
+// The same for random edits of a random text, one after another.
+fn check_text<S: LineStore<Alloc = Global>>(
+    rt: &impl Abort,
+    alloc: Global,
+    seed: u64,
+) -> Result<(), Fail> {
+    let mut random = Random { seed };
+    let kinds = random.between(SOUND, PIECES.len());
+    let count = random.between(4, 20);
+    let mut pieces = random_pieces(alloc, &mut random, kinds, count)?;
+    let text = text_of(alloc, &pieces)?;
+    let mut session: Session<S> = opened(alloc, text.as_bytes())?;
+    for _ in 0..12 {
+        let edit = random_edit(alloc, &mut random, kinds, pieces.len())?;
+        pieces = check_edit(rt, alloc, &mut session, &pieces, &edit)?;
+    }
+    Ok(())
+}
+
+#[test]
+fn an_edited_text_shows_what_it_shows_opened_anew(rt: HostRuntime) -> Result<(), Fail> {
+    for seed in 0..250 {
+        check_text::<PlainStore<Global>>(&rt, rt.alloc(), seed)?;
+        check_text::<ChunkStore<Global>>(&rt, rt.alloc(), seed)?;
+    }
+    Ok(())
+}
