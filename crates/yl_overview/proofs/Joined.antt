@@ -10,7 +10,7 @@ use Rattle.yl_indentation.specs.Measures.{empty_measure}
 use Rattle.yl_overview.specs.Overview.{AreFew, AreOverviews, IsBorder, IsOverviewOf}
 use Rattle.yl_overview.specs.declared.overview.Overview.{Overview}
 use Rattle.yl_overview.proofs.Walks.{rows_both}
-use Rattle.yl_overview.proofs.Whole.{Sum, few_back, few_front, two_parts}
+use Rattle.yl_overview.proofs.Whole.{Sum, few_back, few_front, three_parts, two_parts}
 
 -- no more sections than there are
 sections_within : (ks : List KeptValue) (o : Overview) → IsOverviewOf (take o.sections ks) o → o.sections ≤ length ks
@@ -147,11 +147,22 @@ module _ (ks ns : List KeptValue) (os : List Overview) (from end : ℕ) (ordered
       (subst (λ (xs : List KeptValue). AreOverviews xs (put ++ drop last os)) (ap (λ (xs : List KeptValue). take until all ++ xs) (sym back) ∙ whole)
       (overviews_both (take until all) (drop stop ks) put (drop last os) (made (subst (λ (xs : List KeptValue). AreOverviews xs (take first os)) (sym front) upto.above)) behind.below))
 
--- ---- an overview of some sections, by overviews and a walk
+  -- the overviews above the edit
+  pub front_put : (start first : ℕ) (put : List Overview) → IsBorder ks os start first → start ≤ from → put ≡ take first os → AreOverviews (take start (splice ks from end ns)) put
+  front_put start first put upto l is =
+      let all = splice ks from end ns in
+      let front : take start all ≡ take start ks = same_lists _ _ (search (rules, places)) (λ k d q. grind (arith, places)) in
+      subst (λ (xs : List Overview). AreOverviews (take start all) xs) (sym is) (subst (λ (xs : List KeptValue). AreOverviews xs (take first os)) (sym front) upto.above)
 
--- a list in which nothing is replaced
-pub itself : (ks all : List KeptValue) → all ≡ splice ks 0 0 [] → all ≡ ks
-itself ks all is = is
+  -- the overview of the sections between the borders
+  pub near_put : (start stop : ℕ) (a b c r s : Overview) → start ≤ from → end ≤ stop → stop ≤ length ks → AreFew (splice ks from end ns) → IsOverviewOf (take (from - start) (drop start ks)) a → IsOverviewOf ns b → IsOverviewOf (take (stop - end) (drop end ks)) c
+      → Sum a b r → Sum r c s → IsOverviewOf (take (stop - end + from + length ns - start) (drop start (splice ks from end ns))) s
+  near_put start stop a b c r s l h w few one two three front whole =
+      let all = splice ks from end ns in
+      three_parts (take (from - start) (drop start ks)) ns (take (stop - end) (drop end ks)) (take (stop - end + from + length ns - start) (drop start all)) a b c r s
+      (same_lists _ _ (search (rules, places)) (λ k d q. grind (arith, places))) (few_front (drop start all) (stop - end + from + length ns - start) (few_back all start few)) one two three front whole
+
+-- ---- an overview of some sections, by overviews and a walk
 
 -- what stands from one on
 pub rest : (os : List Overview) (i : ℕ) → take (length os - i) (drop i os) ≡ drop i os

@@ -205,7 +205,7 @@ Sum a b r = (xs ys : List KeptValue) → AreFew (xs ++ ys) → IsOverviewOf xs a
 pub two_parts : (xs ys all : List KeptValue) (a b r : Overview) → xs ++ ys ≡ all → AreFew all → IsOverviewOf xs a → IsOverviewOf ys b → Sum a b r → IsOverviewOf all r
 two_parts xs ys all a b r e few one two sum = subst (λ (zs : List KeptValue). IsOverviewOf zs r) e (sum xs ys (subst (λ (zs : List KeptValue). AreFew zs) (sym e) few) one two)
 
-three_parts : (xs ys zs all : List KeptValue) (a b c r s : Overview) → (xs ++ ys) ++ zs ≡ all → AreFew all → IsOverviewOf xs a → IsOverviewOf ys b → IsOverviewOf zs c → Sum a b r → Sum r c s → IsOverviewOf all s
+pub three_parts : (xs ys zs all : List KeptValue) (a b c r s : Overview) → (xs ++ ys) ++ zs ≡ all → AreFew all → IsOverviewOf xs a → IsOverviewOf ys b → IsOverviewOf zs c → Sum a b r → Sum r c s → IsOverviewOf all s
 three_parts xs ys zs all a b c r s e few one two three front whole =
     let few' = few_left (xs ++ ys) zs (subst (λ (us : List KeptValue). AreFew us) (sym e) few) in
     two_parts (xs ++ ys) zs all r c s e few (front xs ys few' one two) three whole
@@ -218,3 +218,16 @@ whole_before ks from end a b c r s l h few one two three front whole =
 pub whole_after : (ks ns : List KeptValue) (from end : ℕ) (a b c r s : Overview) → AreFew (splice ks from end ns) → IsOverviewOf (take from ks) a → IsOverviewOf ns b → IsOverviewOf (drop end ks) c → Sum a b r → Sum r c s → IsOverviewOf (splice ks from end ns) s
 whole_after ks ns from end a b c r s few one two three front whole =
     three_parts (take from ks) ns (drop end ks) (splice ks from end ns) a b c r s (append_assoc (take from ks) ns (drop end ks)) few one two three front whole
+
+-- ---- the first of some from one on, which stand in a list of their own
+
+module _ (ks : List KeptValue) (at : ℕ) (items : List KeptValue) (count : ℕ) (few : AreFew ks) (lent : take (length items) (drop at ks) ≡ items) where
+  pub some_few : AreFew (take count items)
+  some_few = few_front items count (subst (λ (xs : List KeptValue). AreFew xs) lent (few_front (drop at ks) (length items) (few_back ks at few)))
+
+pub some_more : (ks : List KeptValue) (from at count : ℕ) (items : List KeptValue) (a b r : Overview) → from ≤ at → count ≤ length items → at + count ≤ length ks → AreFew ks → take (length items) (drop at ks) ≡ items
+    → IsOverviewOf (take (at - from) (drop from ks)) a → IsOverviewOf (take count items) b → Sum a b r → IsOverviewOf (take (at + count - from) (drop from ks)) r
+some_more ks from at count items a b r l within fits few lent known more sum =
+    let first : take count items ≡ take count (drop at ks) = ap (take count) (sym lent) ∙ same_lists _ _ (search (rules, places)) (λ n d o. grind (arith, places)) in
+    two_parts (take (at - from) (drop from ks)) (take count items) (take (at + count - from) (drop from ks)) a b r
+    (ap (λ (xs : List KeptValue). take (at - from) (drop from ks) ++ xs) first ∙ same_lists _ _ (search (rules, places)) (λ n d o. grind (arith, places))) (few_front (drop from ks) (at + count - from) (few_back ks from few)) known more sum

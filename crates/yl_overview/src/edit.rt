@@ -1,61 +1,83 @@
 //! An edit of sections.
-ghost use Rattle.std.specs.Prelude.{◌≡◌, ◌≤◌, ◌++◌, length, take, drop, OnOk};
-ghost use Rattle.std.specs.List.{splice};
-ghost use Rattle.yl_text.specs.Store.{IsRange};
-ghost use Rattle.yl_overview.specs.Overview.{AreFew, AreOverviews, IsOverviewOf};
-ghost use Rattle.yl_overview.specs.Edit.{IsSectionEdit};
+ghost use Rattle.std.specs.Prelude.{◌≡◌, ◌++◌, OnOk};
 
 use crate::overview::Overview;
-use crate::overviews::{Border, all_of, border_behind, border_upto, push_overviews};
-use crate::walking::{overview_between, overview_of};
+use crate::overviews::{Border, USUAL, all_of, border_behind, border_upto, push_overviews};
+use crate::walking::{overview_of, overview_within};
 use std::alloc::{AllocError, Allocator};
 use yl_chunks::{Chunks, Spliced};
 use yl_sections::Kept;
+
+/// The borders between overviews above an edit of sections and below it, and what is known of the sections between them and the edit.
+#[derive(Clone, Copy, Debug)]
+pub struct Nearby {
+    pub start: Border,
+    pub stop: Border,
+    pub above: Overview,
+    pub below: Overview,
+}
+
+impl Nearby {
+    ghost use Rattle.std.specs.Prelude.{◌≤◌, ℕ, List, length, take, drop};
+    ghost use Rattle.yl_text.specs.Store.{IsRange};
+    ghost use Rattle.yl_sections.specs.Kept.{KeptValue};
+    ghost use Rattle.yl_overview.specs.Overview.{AreFew, AreOverviews, IsOverviewOf};
+    ghost use Rattle.yl_overview.specs.Edit.{IsNearby};
+
+    /// What is near the edit that puts others in place of the sections from one on, before `end`.
+    fn new<A: Allocator + Copy>(
+        sections: &Chunks<Kept<A>, A>,
+        overviews: &[Overview],
+        from: usize,
+        end: usize,
+    ) -> Nearby
+        requires range { IsRange from end (length sections.now.items) }
+        requires few { AreFew sections.now.items }
+        requires overviews { AreOverviews sections.now.items overviews.now }
+        ensures { IsNearby sections.now.items overviews.now from end result }
+    {
+        let start = border_upto(sections, overviews, from);
+        let stop = border_behind(sections, overviews, start, end);
+        Nearby {
+            start,
+            stop,
+            above: overview_within(sections, start.sections, from),
+            below: overview_within(sections, end, stop.sections),
+        }
+    }
+
+    /// The overview of all sections above the edit.
+    fn all_above(self, overviews: &[Overview]) -> Overview
+        requires { self.start.overviews ≤ length overviews.now }
+        ensures { (ks : List KeptValue) (from end : ℕ) → AreFew ks → from ≤ length ks → IsNearby ks overviews.now from end self → IsOverviewOf (take from ks) result }
+    {
+        all_of(&overviews[..self.start.overviews]).and_later(self.above)
+    }
+
+    /// The overview of all sections below it.
+    fn all_below(self, overviews: &[Overview]) -> Overview
+        requires { self.stop.overviews ≤ length overviews.now }
+        ensures { (ks : List KeptValue) (from end : ℕ) → AreFew ks → IsNearby ks overviews.now from end self → IsOverviewOf (drop end ks) result }
+    {
+        self.below
+            .and_later(all_of(&overviews[self.stop.overviews..]))
+    }
+}
 
 /// An edit of sections: what is kept of those from one on, before `end`, becomes this; sections are counted from 0. With it goes what is known
 /// of those above, of those that go, of those that come in their place, and of those below.
 #[derive(Drop)]
 pub struct SectionEdit<'a, A: Allocator> {
     pub sections: &'a Chunks<Kept<A>, A>,
+    pub overviews: &'a [Overview],
     pub from: usize,
     pub end: usize,
     pub kept: &'a [Kept<A>],
+    pub near: Nearby,
     pub above: Overview,
     pub gone: Overview,
     pub come: Overview,
     pub below: Overview,
-}
-
-/// The overview of the sections above one.
-fn overview_above<A: Allocator + Copy>(
-    sections: &Chunks<Kept<A>, A>,
-    overviews: &[Overview],
-    from: usize,
-) -> Overview
-    requires few { AreFew sections.now.items }
-    requires overviews { AreOverviews sections.now.items overviews.now }
-    requires within { from ≤ length sections.now.items }
-    ensures { IsOverviewOf (take from sections.now.items) result }
-{
-    let border = border_upto(sections, overviews, from);
-    let all = Spliced::new(sections, 0, 0, &[]);
-    all_of(&overviews[..border.overviews]).and_later(overview_between(&all, border.sections, from))
-}
-
-/// The overview of the sections from one on.
-fn overview_below<A: Allocator + Copy>(
-    sections: &Chunks<Kept<A>, A>,
-    overviews: &[Overview],
-    end: usize,
-) -> Overview
-    requires few { AreFew sections.now.items }
-    requires overviews { AreOverviews sections.now.items overviews.now }
-    requires within { end ≤ length sections.now.items }
-    ensures { IsOverviewOf (drop end sections.now.items) result }
-{
-    let border = border_behind(sections, overviews, Border::first(), end);
-    let all = Spliced::new(sections, 0, 0, &[]);
-    overview_between(&all, end, border.sections).and_later(all_of(&overviews[border.overviews..]))
 }
 
 /// Puts these behind the others.
@@ -72,16 +94,16 @@ fn push_copies<A: Allocator>(
 }
 
 impl<'a, A: Allocator + Copy> SectionEdit<'a, A> {
-    ghost use Rattle.std.specs.Prelude.{◌≡◌, length, IfOk};
+    ghost use Rattle.std.specs.Prelude.{◌≡◌, ◌+◌, ◌-◌, length, take, IfOk, OnOk};
     ghost use Rattle.std.specs.List.{splice};
     ghost use Rattle.yl_text.specs.Store.{IsRange};
     ghost use Rattle.yl_overview.specs.Overview.{AreFew, AreOverviews, IsOverviewOf};
-    ghost use Rattle.yl_overview.specs.Edit.{IsSectionEdit};
+    ghost use Rattle.yl_overview.specs.Edit.{IsSectionEdit, sections_after, sections_upto};
 
     /// The edit by which this is kept in place of the sections from one on, before `end`.
     pub fn new(
         sections: &'a Chunks<Kept<A>, A>,
-        overviews: &[Overview],
+        overviews: &'a [Overview],
         from: usize,
         end: usize,
         kept: &'a [Kept<A>],
@@ -96,16 +118,18 @@ impl<'a, A: Allocator + Copy> SectionEdit<'a, A> {
         ensures end { result.end ≡ end }
         ensures kept { result.kept.now ≡ kept.now }
     {
-        let all = Spliced::new(sections, 0, 0, &[]);
+        let near = Nearby::new(sections, overviews, from, end);
         SectionEdit {
             sections,
+            overviews,
             from,
             end,
             kept,
-            above: overview_above(sections, overviews, from),
-            gone: overview_between(&all, from, end),
+            near,
+            above: near.all_above(overviews),
+            gone: overview_within(sections, from, end),
             come: overview_of(kept),
-            below: overview_below(sections, overviews, end),
+            below: near.all_below(overviews),
         }
     }
 
@@ -133,23 +157,32 @@ impl<'a, A: Allocator + Copy> SectionEdit<'a, A> {
         Spliced::new(self.sections, self.from, self.end, self.kept)
     }
 
-    /// Overviews of all sections after it, where these are those before.
-    pub fn overviews_after(
-        &self,
-        alloc: A,
-        overviews: &[Overview],
-    ) -> Result<Vec<Overview, A>, AllocError>
+    /// Puts overviews of the sections between the borders behind those of the sections above, as the edit leaves them.
+    fn push_near(&self, after: &mut Vec<Overview, A>) -> Result<(), AllocError>
         requires edit { IsSectionEdit self.now }
-        requires overviews { AreOverviews self.now.sections.now.items overviews.now }
+        requires above { AreOverviews (take self.now.near.start.sections (sections_after self.now)) after.old.items }
+        ensures { OnOk result (AreOverviews (take (sections_upto self.now) (sections_after self.now)) after.new.items) }
+    {
+        let near = self.near;
+        let here = near.above.and_later(self.come).and_later(near.below);
+        if 0 < here.sections && here.sections < 2 * USUAL {
+            after.push(here)?;
+            return Ok(());
+        }
+        let until = near.stop.sections - self.end + self.from + self.kept.len();
+        push_overviews(&self.spliced(), near.start.sections, until, after)
+    }
+
+    /// Overviews of all sections after it.
+    pub fn overviews_after(&self, alloc: A) -> Result<Vec<Overview, A>, AllocError>
+        requires { IsSectionEdit self.now }
         ensures { IfOk result (λ v. AreOverviews (splice self.now.sections.now.items self.now.from self.now.end self.now.kept.now) v.items) }
     {
-        let start = border_upto(self.sections, overviews, self.from);
-        let stop = border_behind(self.sections, overviews, start, self.end);
-        let mut after = Vec::with_capacity(alloc, overviews.len())?;
-        push_copies(&overviews[..start.overviews], &mut after)?;
-        let until = stop.sections - self.end + self.from + self.kept.len();
-        push_overviews(&self.spliced(), start.sections, until, &mut after)?;
-        push_copies(&overviews[stop.overviews..], &mut after)?;
+        let (start, stop) = (self.near.start, self.near.stop);
+        let mut after = Vec::with_capacity(alloc, self.overviews.len())?;
+        push_copies(&self.overviews[..start.overviews], &mut after)?;
+        self.push_near(&mut after)?;
+        push_copies(&self.overviews[stop.overviews..], &mut after)?;
         Ok(after)
     }
 }

@@ -14,7 +14,7 @@ use yl_sections::Kept;
 
 /// An overview is of so many sections where it is made, or of fewer than twice as many. Where an edit leaves less than half as many of
 /// them, it is made with those behind it.
-const USUAL: usize = 32;
+pub const USUAL: usize = 32;
 
 /// The overview of all sections of which these are overviews.
 pub fn all_of(overviews: &[Overview]) -> Overview

@@ -5,7 +5,7 @@ ghost use Rattle.yl_overview.specs.Overview.{AreFew, IsOverviewOf};
 
 use crate::overview::Overview;
 use std::alloc::Allocator;
-use yl_chunks::Spliced;
+use yl_chunks::{Chunks, Spliced};
 use yl_sections::Kept;
 
 /// The overview of these sections.
@@ -20,7 +20,28 @@ pub fn overview_of<A: Allocator>(kept: &[Kept<A>]) -> Overview
     overview
 }
 
-/// The overview of the sections from one on, before `end`.
+/// The overview of the sections from one on, before `end`, a chunk of them at a time.
+pub fn overview_within<A: Allocator + Copy>(
+    kept: &Chunks<Kept<A>, A>,
+    from: usize,
+    end: usize,
+) -> Overview
+    requires range { IsRange from end (length kept.now.items) }
+    requires few { AreFew kept.now.items }
+    ensures { IsOverviewOf (take (end - from) (drop from kept.now.items)) result }
+{
+    let mut overview = Overview::empty();
+    let mut at = from;
+    while at < end {
+        let items = kept.items_from(at);
+        let count = items.len().min(end - at);
+        overview = overview.and_later(overview_of(&items[..count]));
+        at += count;
+    }
+    overview
+}
+
+/// The same where some sections are kept in place of others.
 pub fn overview_between<A: Allocator + Copy>(
     sections: &Spliced<'_, Kept<A>, A>,
     from: usize,

@@ -1,15 +1,17 @@
 -- Which sections are shown, and what their comments say.
-use Rattle.std.proofs.Common.{◌≡◌, ℕ, ◌+◌, ◌-◌, ◌<◌, ◌≤◌, true, List, [], ◌∷◌, ◌++◌, Option, Some, None, length, take, drop, get_or, refl, ap, sym, ◌∙◌, arith, rules, ⊎_elim}
+use Rattle.std.proofs.Common.{◌≡◌, ℕ, ◌+◌, ◌-◌, ◌<◌, ◌≤◌, true, List, [], ◌∷◌, ◌++◌, Option, Some, None, length, map, take, drop, get_or, refl, ap, sym, subst, ◌∙◌, arith, rules, ⊎_elim}
 use Rattle.std.specs.Prelude.{is_some}
-use Rattle.std.specs.List.{AllByRecursion, slice_get}
+use Rattle.std.specs.List.{AllByRecursion, filter, slice_get}
 use Rattle.std.proofs.lemmas.List.{same_lists, places, take_all, take-append-drop}
 use Rattle.std.proofs.lemmas.Option.{slice_get_cases, slice_get_within}
+use Rattle.yl_lexeme.specs.Lexeme.{PlacedCommentValue}
 use Rattle.yl_sections.specs.Kept.{KeptValue, SectionFaultValue}
 use Rattle.yl_rejudge.specs.Places.{rows_kept}
 use Rattle.yl_rejudge.proofs.KeptRows.{got}
 use Rattle.yl_lint.specs.TextReport.{comments_in_sections, shown, unless_fault}
 use Rattle.yl_overview.specs.Overview.{IsFirstFault, IsSilencingOf, IsSound}
 use Rattle.yl_overview.specs.declared.overview.Silencing.{Silencing}
+use Rattle.yl_patch.specs.Speaking.{SpeaksWithin, may_switch, switch_texts}
 use Rattle.yl_patch.proofs.SilencingSections.{comments_known}
 use Rattle.yl_overview.proofs.Walks.{one_at, one_more, rows_both}
 
@@ -69,3 +71,12 @@ pub said_upto : (ks : List KeptValue) (s : Silencing) (shown_count count upto st
 said_upto ks s shown_count count upto stop known within is l m o h e =
     let same : take count ks ≡ take upto (take shown_count ks) = same_lists _ _ (search (rules, places)) (λ k d q. grind (arith, places)) in
     comments_known ks s count stop known (omega (arith, m, within)) h e ∙ ap (comments_in_sections 0) (same ∙ ap (take upto) is)
+
+-- ---- what comments say that are listed otherwise
+
+pub said_within : (cs ds : List PlacedCommentValue) (n m : ℕ) → cs ≡ ds → n ≡ m → AllByRecursion (SpeaksWithin n) cs → AllByRecursion (SpeaksWithin m) ds
+said_within cs ds n m e f h = subst (λ k. AllByRecursion (SpeaksWithin k) ds) f (subst (λ (xs : List PlacedCommentValue). AllByRecursion (SpeaksWithin n) xs) e h)
+
+pub same_switches : (gone here one other ls ns : List PlacedCommentValue) → one ≡ filter may_switch gone → other ≡ filter may_switch here → gone ≡ ls → here ≡ ns → map (λ (c : PlacedCommentValue). c.text) one ≡ map (λ (c : PlacedCommentValue). c.text) other → switch_texts ls ≡ switch_texts ns
+same_switches gone here one other ls ns a b e f same =
+    sym (ap (map (λ (c : PlacedCommentValue). c.text)) (a ∙ ap (filter may_switch) e)) ∙ (same ∙ ap (map (λ (c : PlacedCommentValue). c.text)) (b ∙ ap (filter may_switch) f))

@@ -1,13 +1,13 @@
 -- What the comments of sections say, where some may silence rules and some not.
-use Rattle.std.proofs.Common.{◌≡◌, ℕ, suc, ◌+◌, ◌-◌, ◌<◌, ◌≤◌, ⊎_elim, List, ◌∷◌, ◌++◌, length, map, take, drop, get_or, refl, ap, sym, subst, ◌∙◌, arith, rules, append-nil, append_assoc}
-use Rattle.std.specs.List.{AllByRecursion}
+use Rattle.std.proofs.Common.{◌≡◌, ℕ, suc, ◌+◌, ◌-◌, ◌<◌, ◌≤◌, ◌^◌, ⊎_elim, List, [], ◌∷◌, ◌++◌, length, map, take, drop, get_or, refl, ap, sym, subst, ◌∙◌, arith, rules, append-nil, append_assoc, length-append}
+use Rattle.std.specs.List.{AllByRecursion, splice}
 use Rattle.std.proofs.lemmas.Bool.{cases_lt}
-use Rattle.std.proofs.lemmas.List.{same_lists, places}
+use Rattle.std.proofs.lemmas.List.{same_lists, places, length-take}
 use Rattle.yl_lexeme.specs.Lexeme.{PlacedCommentValue}
 use Rattle.yl_sections.specs.Kept.{KeptValue}
 use Rattle.yl_rejudge.specs.Places.{rows_kept}
 use Rattle.yl_lint.specs.TextReport.{comments_in_sections, moved_comment}
-use Rattle.yl_overview.specs.Overview.{IsSilencingOf, IsSilent}
+use Rattle.yl_overview.specs.Overview.{AreFew, IsSilencingOf, IsSilent}
 use Rattle.yl_overview.specs.declared.overview.Silencing.{Silencing}
 use Rattle.yl_patch.proofs.Sections.{comments_both, no_comments}
 use Rattle.yl_overview.proofs.Walks.{all_both, all_drop, all_take, one_at}
@@ -84,3 +84,18 @@ pub comments_end : (ks : List KeptValue) (end i line : ℕ) (cs all : List Place
 comments_end ks end i line cs all l walked =
     let n : end - i ≡ 0 = omega (arith, l) in
     sym (ap (λ k. cs ++ comments_in_sections line (take k (drop i ks))) n ∙ append-nil cs) ∙ walked
+
+-- ---- the sections that go, and those that come
+
+pub gone_within : (ks all : List KeptValue) (end : ℕ) → end ≤ length ks → all ≡ splice ks 0 0 [] → end ≤ length all
+gone_within ks all end l is = omega (arith, l, ap (λ (xs : List KeptValue). length xs) is)
+
+module _ (ks ns all : List KeptValue) (from end : ℕ) (ordered : from ≤ end) (within : end ≤ length ks) (is : all ≡ splice ks from end ns) where
+  pub come_is : take (from + length ns - from) (drop from all) ≡ ns
+  come_is = ap (λ (xs : List KeptValue). take (from + length ns - from) (drop from xs)) is ∙ same_lists _ _ (search (rules, places)) (λ k d o. grind (arith, places))
+
+  pub come_within : from + length ns ≤ length all
+  come_within = omega (arith, ordered, within, ap (λ (xs : List KeptValue). length xs) is, length-append (take from ks) (ns ++ drop end ks), length-append ns (drop end ks), length-take from ks)
+
+pub come_few : (ks ns : List KeptValue) (from end : ℕ) → from ≤ end → end ≤ length ks → AreFew (splice ks from end ns) → from + length ns < 2 ^ 63
+come_few ks ns from end l h few = omega (arith, few.sections, come_within ks ns (splice ks from end ns) from end l h refl)

@@ -1,43 +1,21 @@
 //! Which of what is found in a text is shown.
-ghost use Rattle.std.specs.Prelude.{◌≡◌, ◌≤◌, ◌-◌, length, map, take, drop, IfOk};
-ghost use Rattle.yl_lexeme.specs.PlacedComments.{placed_comment_value};
+ghost use Rattle.std.specs.Prelude.{◌≡◌, ◌≤◌, length, take, IfOk};
 ghost use Rattle.yl_parting.specs.Showing.{is_shown_by};
 ghost use Rattle.yl_rejudge.specs.Places.{rows_kept};
-ghost use Rattle.yl_lint.specs.TextReport.{comments_in_sections, shown};
+ghost use Rattle.yl_lint.specs.TextReport.{shown};
 ghost use Rattle.yl_patch.specs.Plain.{IsSurveyed};
 ghost use Rattle.yl_overview.specs.Overview.{IsFirstFault};
 ghost use Rattle.yl_patch.specs.ShownUpto.{is_shown_upto};
 
+use crate::comments::comments_among;
 use std::alloc::{AllocError, Allocator};
 use yl_chunks::Spliced;
-use yl_lexeme::PlacedComment;
-use yl_lint::{first_text, line_below, push_comments};
+use yl_lint::first_text;
 use yl_overview::Overview;
 use yl_parting::Showing;
 use yl_report::Silences;
 use yl_sections::Kept;
 use yl_text::Lines;
-
-/// The comments of the sections from one on, before `end`; the first of these begins at `row`.
-fn comments_among<'a, A: Allocator + Copy>(
-    alloc: A,
-    sections: &Spliced<'a, Kept<A>, A>,
-    from: usize,
-    end: usize,
-    row: u32,
-) -> Result<Vec<PlacedComment<'a>, A>, AllocError>
-    requires { end ≤ length sections.now }
-    ensures { IfOk result (λ v. map placed_comment_value v.items ≡ comments_in_sections row (take (end - from) (drop from sections.now))) }
-{
-    let mut comments = Vec::new(alloc);
-    let mut line = row;
-    for i in from..end {
-        let one = sections.get(i);
-        push_comments(line, one.comments(), &mut comments)?;
-        line = line_below(line, one.rows())?;
-    }
-    Ok(comments)
-}
 
 /// How many sections are shown, where so many stand before the first with a fault: those up to that one.
 fn count_shown<A: Allocator + Copy>(sections: &Spliced<'_, Kept<A>, A>, overview: Overview) -> usize

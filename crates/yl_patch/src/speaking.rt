@@ -3,12 +3,14 @@ ghost use Rattle.std.specs.Prelude.{◌≡◌, ◌-◌, true, map, take, drop, I
 ghost use Rattle.std.specs.List.{AllByRecursion, filter};
 ghost use Rattle.yl_lexeme.specs.PlacedComments.{placed_comment_value};
 ghost use Rattle.yl_report.specs.Directive as directive;
+ghost use Rattle.yl_lint.specs.TextReport.{comments_in_sections};
 ghost use Rattle.yl_overview.specs.Edit.{IsSectionEdit};
 ghost use Rattle.yl_patch.specs.Speaking.{AllSpeakAlike, SpeakAlike, SpeaksWithin};
 ghost use Rattle.yl_patch.specs.Speaking as spec;
 
-use crate::comments::{comments_between, with_comments_of};
+use crate::comments::comments_among;
 use std::alloc::{AllocError, Allocator};
+use yl_chunks::Spliced;
 use yl_lexeme::PlacedComment;
 use yl_overview::SectionEdit;
 
@@ -80,6 +82,30 @@ fn have_same_texts(one: &[PlacedComment<'_>], other: &[PlacedComment<'_>]) -> bo
     true
 }
 
+/// The comments of the sections that go, as if the first of these began the text.
+fn comments_gone<'a, A: Allocator + Copy>(
+    alloc: A,
+    edit: &SectionEdit<'a, A>,
+) -> Result<Vec<PlacedComment<'a>, A>, AllocError>
+    requires { IsSectionEdit edit.now }
+    ensures { IfOk result (λ v. map placed_comment_value v.items ≡ comments_in_sections 0 (take (edit.now.end - edit.now.from) (drop edit.now.from edit.now.sections.now.items))) }
+{
+    let before = Spliced::new(edit.sections, 0, 0, &[]);
+    comments_among(alloc, &before, edit.from, edit.end, 0)
+}
+
+/// The same of those that come.
+fn comments_come<'a, A: Allocator + Copy>(
+    alloc: A,
+    edit: &SectionEdit<'a, A>,
+) -> Result<Vec<PlacedComment<'a>, A>, AllocError>
+    requires { IsSectionEdit edit.now }
+    ensures { IfOk result (λ v. map placed_comment_value v.items ≡ comments_in_sections 0 edit.now.kept.now) }
+{
+    let end = edit.from + edit.kept.len();
+    comments_among(alloc, &edit.spliced(), edit.from, end, 0)
+}
+
 /// Whether all comments of the sections that go, and all of those that come, say the same of all lines behind them.
 fn all_speak_alike<A: Allocator + Copy>(
     alloc: A,
@@ -88,8 +114,8 @@ fn all_speak_alike<A: Allocator + Copy>(
     requires { IsSectionEdit edit.now }
     ensures { IfOk result (λ alike. alike ≡ true → AllSpeakAlike (take (edit.now.end - edit.now.from) (drop edit.now.from edit.now.sections.now.items)) edit.now.kept.now) }
 {
-    let mut gone = comments_between(alloc, edit.sections, edit.from, edit.end, 0)?;
-    let mut here = with_comments_of(Vec::new(alloc), 0, edit.kept)?;
+    let mut gone = comments_gone(alloc, edit)?;
+    let mut here = comments_come(alloc, edit)?;
     if !speak_within(&gone, edit.gone.rows) || !speak_within(&here, edit.come.rows) {
         return Ok(false);
     }

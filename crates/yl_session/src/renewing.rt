@@ -127,17 +127,15 @@ fn are_plain_by<A: Allocator>(known: &KnownSections<A>, edit: &SectionEdit<'_, A
 fn overviews_by<A: Allocator + Copy>(
     alloc: A,
     all_stay: bool,
-    known: &KnownSections<A>,
     edit: &SectionEdit<'_, A>,
 ) -> Result<Option<Vec<Overview, A>>, AllocError>
-    requires edit { IsSectionEdit edit.now }
-    requires known { AreOverviews edit.now.sections.now.items known.now.overviews.items }
+    requires { IsSectionEdit edit.now }
     ensures { IfOk result (λ o. MatchOption o (all_stay ≡ true) (λ v. AreOverviews (splice edit.now.sections.now.items edit.now.from edit.now.end edit.now.kept.now) v.items)) }
 {
     if all_stay {
         return Ok(None);
     }
-    let after = edit.overviews_after(alloc, known.overviews.as_slice())?;
+    let after = edit.overviews_after(alloc)?;
     Ok(Some(after))
 }
 
@@ -170,7 +168,7 @@ pub fn renewal_of<S: LineStore>(
     let edit = section_edit(known, new);
     let are_plain = are_plain_by(known, &edit);
     let change = change_of(alloc, config, text, &edit, found, are_plain)?;
-    let overviews = overviews_by(alloc, stay, known, &edit)?;
+    let overviews = overviews_by(alloc, stay, &edit)?;
     Ok(Renewal {
         change,
         overviews,

@@ -30,9 +30,6 @@ are_plain_by-are_plain-requires g c = record { known = λ h. subst (λ (ls : Lis
 pub change_of-requires-clause-plain : goal.change_of-requires-clause-plain
 change_of-requires-clause-plain g c = λ h. subst (λ (ls : List KeptValue). AllByRecursion IsPlain (faultless ls)) (sym c.section_edit-edit.ensures.sections) (c.requires.known.plain (c.are_plain_by-are_plain.ensures.before h))
 
-pub overviews_by-requires-clause-known : goal.overviews_by-requires-clause-known
-overviews_by-requires-clause-known g c = subst (λ (ls : List KeptValue). AreOverviews ls c.args.known.now.overviews.items) (sym c.section_edit-edit.ensures.sections) c.requires.known.overviews
-
 pub returns-clause-makes : goal.returns-clause-makes
 returns-clause-makes g c =
     let config = c.args.config.now in

@@ -1,20 +1,22 @@
-use Rattle.std.proofs.Common.{◌+◌, ◌-◌, ◌++◌, List, length, take, arith, ap, subst, ◌∙◌}
-use Rattle.yl_sections.specs.Kept.{KeptValue}
-use Rattle.yl_overview.specs.Overview.{AreOverviews}
+use Rattle.std.proofs.Common.{◌++◌, List, take, ap, ◌∙◌, arith}
 use Rattle.yl_overview.specs.declared.overview.Overview.{Overview}
-use Rattle.yl_overview.proofs.Joined.{overviews_put, rest}
+use Rattle.yl_overview.proofs.Joined.{overviews_put, front_put, rest}
+use Rattle.yl_overview.specs.Edit.{sections_upto}
 use Rattle.yl_overview.proofs.edit.SectionEdit.overviews_after.Goals as goal
+
+pub push_near-requires-clause-above : goal.push_near-requires-clause-above
+push_near-requires-clause-above g c =
+    let e = c.args.self.now in
+    let near = c.requires.near in
+    let range = c.requires.range in
+    front_put e.sections.now.items e.kept.now e.overviews.now e.from e.end range.ordered range.within e.near.start.sections e.near.start.overviews c.push_copies.new.overviews.items near.start near.upto
+    (c.in_ok-push_copies.ensures ∙ ap (λ (xs : List Overview). xs ++ take e.near.start.overviews e.overviews.now) c.in_ok-after.ensures.items)
 
 pub returns : goal.returns
 returns g c =
     let e = c.args.self.now in
-    let ks = e.sections.now.items in
-    let os = c.args.overviews.now in
-    let range = c.requires.edit.range in
-    let put = c.push_overviews.new.overviews.items in
-    let start = c.border_upto-start.result in
-    let stop = c.border_behind-stop.result in
-    let until = stop.sections - e.end + e.from + length e.kept.now in
-    overviews_put ks e.kept.now os e.from e.end range.ordered range.within start.sections start.overviews stop.sections stop.overviews until put c.push_copies-2.new.overviews.items c.border_upto-start.ensures.border c.border_behind-stop.ensures.border c.border_upto-start.ensures.upto
-    c.border_behind-stop.ensures.behind (omega (arith, c.border_behind-stop.ensures.behind))
-    (λ _. subst (λ (xs : List KeptValue). AreOverviews (take until xs) put) c.spliced.ensures c.in_ok-push_overviews.ensures) (c.in_ok-push_copies-2.ensures ∙ ap (λ (xs : List Overview). put ++ xs) (rest os stop.overviews))
+    let near = c.requires.near in
+    let range = c.requires.range in
+    let put = c.push_near.new.after.items in
+    overviews_put e.sections.now.items e.kept.now e.overviews.now e.from e.end range.ordered range.within e.near.start.sections e.near.start.overviews e.near.stop.sections e.near.stop.overviews (sections_upto e) put c.push_copies-2.new.overviews.items near.start near.stop near.upto near.behind (omega (arith, near.behind))
+    (λ _. c.in_ok-push_near.ensures) (c.in_ok-push_copies-2.ensures ∙ ap (λ (xs : List Overview). put ++ xs) (rest e.overviews.now e.near.stop.overviews))
