@@ -64,8 +64,9 @@ impl Nearby {
     }
 }
 
-/// An edit of sections: what is kept of those from one on, before `end`, becomes this; sections are counted from 0. With it goes what is known
-/// of those above, of those that go, of those that come in their place, and of those below.
+/// An edit of sections: what is kept of those from one on, before `end`, becomes this; sections are counted from 0. `overviews` are those of
+/// all sections before it, one after another, and `near` tells which of them it touches. With it goes what is known of the sections above, of
+/// those that go, of those that come in their place, and of those below.
 #[derive(Drop)]
 pub struct SectionEdit<'a, A: Allocator> {
     pub sections: &'a Chunks<Kept<A>, A>,
@@ -179,7 +180,9 @@ impl<'a, A: Allocator + Copy> SectionEdit<'a, A> {
         ensures { IfOk result (λ v. AreOverviews (splice self.now.sections.now.items self.now.from self.now.end self.now.kept.now) v.items) }
     {
         let (start, stop) = (self.near.start, self.near.stop);
-        let mut after = Vec::with_capacity(alloc, self.overviews.len())?;
+        let below = self.overviews.len() - stop.overviews;
+        let count = start.overviews.saturating_add(below).saturating_add(1);
+        let mut after = Vec::with_capacity(alloc, count)?;
         push_copies(&self.overviews[..start.overviews], &mut after)?;
         self.push_near(&mut after)?;
         push_copies(&self.overviews[stop.overviews..], &mut after)?;

@@ -10,7 +10,6 @@ mod overview;
 mod overviews;
 mod walking;
 
-pub use edit::SectionEdit;
+pub use edit::{Nearby, SectionEdit};
 pub use overview::{Overview, Silencing};
-pub use overviews::{all_of, nearest, overviews_of};
-pub use walking::overview_of;
+pub use overviews::{Border, all_of, nearest, overviews_of};

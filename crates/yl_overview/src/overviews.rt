@@ -95,19 +95,6 @@ pub struct Border {
     pub overviews: usize,
 }
 
-impl Border {
-    /// The border before all of them.
-    pub fn first() -> Border
-        ensures sections { result.sections ≡ 0 }
-        ensures overviews { result.overviews ≡ 0 }
-    {
-        Border {
-            sections: 0,
-            overviews: 0,
-        }
-    }
-}
-
 /// The last border between overviews at or before a section.
 pub fn border_upto<A: Allocator>(
     kept: &Chunks<Kept<A>, A>,

@@ -1,5 +1,5 @@
 -- A section that is put in its own place.
-use Rattle.std.proofs.Common.{◌≡◌, ◌+◌, ◌-◌, ◌<◌, ◌≤◌, ℕ, List, [], ◌∷◌, length, take, drop, ap, arith, refl, rules, sym, ◌∙◌}
+use Rattle.std.proofs.Common.{◌≡◌, ◌+◌, ◌-◌, ◌<◌, ℕ, List, [], ◌∷◌, length, take, drop, ap, arith, refl, rules, sym, ◌∙◌}
 use Rattle.std.proofs.lemmas.List.{places, same_lists}
 use Rattle.std.specs.List.{splice}
 use Rattle.yl_sections.specs.Kept.{KeptValue}

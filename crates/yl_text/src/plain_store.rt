@@ -58,6 +58,17 @@ fn remove_between<T: Drop, A: Allocator>(items: &mut Vec<T, A>, a: usize, b: usi
     drop(items.drain(a..b));
 }
 
+/// Puts the new items in place of as many from `a` on, each in the place of one, so that no other moves.
+fn put_each<T: Drop, A: Allocator>(items: &mut Vec<T, A>, a: usize, new: &mut Vec<T, A>)
+    requires { a + vec_len new.old ≤ vec_len items.old }
+    ensures items { items.new.items ≡ splice items.old.items a (a + vec_len new.old) new.old.items }
+    ensures taken { new.new.items ≡ [] }
+{
+    let end = a + new.len();
+    items[a..end].swap_with_slice(new);
+    new.clear();
+}
+
 /// Puts the new items, which it takes out of their `Vec`, in place of the items a to b, b not included,
 /// counted from 0. There is room for the old and the new ones, so it takes no memory.
 pub fn put_between<T: Drop, A: Allocator>(
@@ -72,6 +83,10 @@ pub fn put_between<T: Drop, A: Allocator>(
     ensures taken { new.new.items ≡ [] }
 {
     let added = new.len();
+    if added == b - a {
+        put_each(items, a, new);
+        return;
+    }
     items.append(new).unwrap();
     move_last_to(items, a, added);
     remove_between(items, a + added, b + added);

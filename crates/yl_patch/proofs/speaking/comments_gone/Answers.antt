@@ -1,4 +1,4 @@
-use Rattle.std.proofs.Common.{◌≡◌, ◌-◌, List, length, map, take, drop, subst, sym}
+use Rattle.std.proofs.Common.{◌≡◌, ◌-◌, List, map, take, drop, subst}
 use Rattle.std.specs.Prelude.{IfOk}
 use Rattle.yl_lexeme.specs.PlacedComments.{placed_comment_value}
 use Rattle.yl_sections.specs.Kept.{KeptValue}
