@@ -1,15 +1,13 @@
 #!/usr/bin/env python3
-"""edit.py [MIB] [--folder FOLDER] [--seconds SECONDS] [--documents N..] [--problems N..] [--more NAME..]: times of edits of a text that stays
-open.
+"""edit.py YLEDIT [MIB] [--seconds SECONDS] [--documents N..] [--problems N..] [--more NAME..]: times of edits of a text that stays open.
 
-It makes a repository of the crates below yl_session and of the program in bench/edit, in a folder that goes away again or in
-FOLDER, where a second call finds it, and has `rt run` prove and build it. Texts have MIB MiB (10 unless said otherwise): of
-1,000 documents, of 100,000 documents, and one document, each with no problem, or with so many, whose messages vary. With
---more a fault stands in the text's last document (fault), or a comment that silences the rule key-duplicates and one that
-takes it back in its first document and its last (comments). For each text, at its start, in its middle and at its end, each
-in a fresh process over a session in chunks, the program makes the same edits again and again until SECONDS (20) have passed,
-at least once:
+YLEDIT is a built program, crates/yledit/out/yledit. Texts have MIB MiB (10 unless said otherwise): of 1,000 documents, of
+100,000 documents, and one document, each with no problem, or with so many, whose messages vary: warnings, which are not
+printed. With --more a fault stands in the text's last document (fault), or a comment that silences the rule key-duplicates and
+one that takes it back in its first document and its last (comments). For each text, at its start, in its middle and at its
+end, each in a fresh process, the same edits are made again and again until SECONDS (5) have passed, at least once:
 
+    nothing  no bytes are put from a place to itself
     typing   a value is typed, letter by letter (a line replaced)
     blank    a blank is typed behind a value, and a letter behind that
     long     letters are typed past column 80
@@ -20,20 +18,20 @@ at least once:
     marker   a line `---` is put in, and taken out
     width    the text's first indented line gets another width, and its own again
 
-Each edit is timed by itself: a line of the table has the median and the 99th percentile of those of one kind, in microseconds,
-how often the time of `open` (the first process's; the reading of the file does not count) goes into the median, and the most
-rows and documents that one edit scanned and judged. Beside them stand the time of open, the peak memory of a process that
+Each edit is timed by itself, from when its command is written to when its answer was read, as an editor would wait for it. What
+that takes of an edit of nothing goes to the pipes and to this script. A line of the table has the median and the 99th percentile
+of the edits of one kind, in microseconds, how often the time of opening goes into either (from the start of the first process
+to its first answer), and the most rows that one edit scanned. Beside them stand that time, and the peak memory of a process that
 only opens the text and of the one that edits it."""
 import argparse
 import os
 import statistics
+import subprocess
+import sys
 import tempfile
-
-from building import built, run
+import time
 
 MIB = 1024 * 1024
-NAME = "yl_edit_bench"
-LIBRARIES = ["thiserror", "yl_text", "yl_chunks", "yl_report", "yl_config", "yl_session"]
 # A block of a text, which is a key of a document, and which of its lines is edited. The other has a problem.
 BLOCK = "item-{n}:\n  name: web\n  image: registry/web\n  ports:\n    - 80\n"
 PROBLEM = "item-{n}:\n  name: web\n  image: registry/web\n  k{n}: 1\n  k{n}: 2\n"
@@ -41,9 +39,10 @@ NAME_LINE, IMAGE_LINE = 1, 2
 BLOCK_LINES = BLOCK.count("\n")
 DOCUMENTS = [1000, 100_000, 1]
 PLACES = {"start": 0.0, "middle": 0.5, "end": 1.0}
-KINDS = ["typing", "blank", "long", "line", "quote", "bracket", "comment", "marker", "width"]
+KINDS = ["nothing", "typing", "blank", "long", "line", "quote", "bracket", "comment", "marker", "width"]
 # What stands before a document's first block, or behind the text.
 SILENCED, HEARD, FAULT = "# yamllint disable rule:key-duplicates\n", "# yamllint enable rule:key-duplicates\n", 'end: "open\n'
+CONFIG = "{extends: default, rules: {key-duplicates: {level: warning}}}"
 
 
 def write_text(path, size, documents, problems, more):
@@ -68,12 +67,12 @@ def write_text(path, size, documents, problems, more):
 
 def replaced(kind, line, texts, first):
     """Edits that put these texts one after another in place of a line, and the first one again."""
-    return [f"{kind} {line} {line + 1} {text}" for text in [*texts, first]]
+    return [(kind, line, line + 1, text + "\n") for text in [*texts, first]]
 
 
 def put_in(kind, line, text):
     """The edit that puts a line before this one, and the one that takes it out."""
-    return [f"{kind} {line} {line} {text}", f"{kind} {line} {line + 1} "]
+    return [(kind, line, line, text + "\n"), (kind, line, line + 1, "")]
 
 
 def opened_and_closed(kind, line, sign, closing):
@@ -93,7 +92,8 @@ def edits(line, first_indented):
     below = line + IMAGE_LINE - NAME_LINE
     long = image + "w" * (81 - len(image))
     return (
-        replaced("typing", line, ["  name: w", "  name: we", "  name: web1", "  name: web12"], name)
+        [("nothing", line, line, "")]
+        + replaced("typing", line, ["  name: w", "  name: we", "  name: web1", "  name: web12"], name)
         + replaced("blank", line, [name + " ", name + " 1"], name)
         + replaced("long", below, [long, long + "w", long + "ww"], image)
         + put_in("line", line, "  tier: front")
@@ -105,66 +105,99 @@ def edits(line, first_indented):
     )
 
 
-def write_edits(path, places, place):
-    """Writes the edits of up to 50 blocks next to a place of the text."""
+def listed(places, place):
+    """The edits of up to 50 blocks next to a place of the text, a list for each block: what kind each is, and its command."""
     count = min(50, len(places))
     first = int((len(places) - count) * place)
-    with open(path, "w") as file:
-        for line in places[first : first + count]:
-            file.write("".join(edit + "\n" for edit in edits(line, places[0])))
+    return [
+        [(kind, f"replace {a} 0 {b} 0 {len(text)}\n{text}".encode()) for kind, a, b, text in edits(line, places[0])]
+        for line in places[first : first + count]
+    ]
 
 
-def found(lines):
-    """The nanoseconds of open, and of each kind of edit those of each, the most rows and documents, and the most problems left."""
-    opened = int(lines[0].split()[1])
-    kinds = {}
-    for line in lines[1:]:
-        _, kind, *numbers = line.split()
-        kinds.setdefault(kind, []).append([int(number) for number in numbers])
-    return opened, kinds
+class Opened:
+    """A process of `yledit` over a text."""
+
+    def __init__(self, program, text):
+        start = time.perf_counter_ns()
+        command = [program, "-d", CONFIG, "--no-warnings", "--work", text]
+        self.process = subprocess.Popen(command, stdin=subprocess.PIPE, stdout=subprocess.PIPE, bufsize=0)
+        self.answer()
+        self.spent = time.perf_counter_ns() - start
+
+    def answer(self):
+        """The last line of the next answer."""
+        said, output = b"", self.process.stdout.fileno()
+        while True:
+            said += os.read(output, 65_536)
+            last = said[said.rfind(b"\n", 0, -1) + 1 :]
+            if said.endswith(b"\n") and last.startswith(b"-- "):
+                return last
+            if self.process.poll() is not None:
+                sys.exit(f"it ended, after {said!r}")
+
+    def edit(self, command):
+        """The nanoseconds that an edit takes, and how many rows it scans."""
+        start = time.perf_counter_ns()
+        os.write(self.process.stdin.fileno(), command)
+        last = self.answer()
+        spent = time.perf_counter_ns() - start
+        if not last.startswith(b"-- ok "):
+            sys.exit(f"{command!r} was answered {last!r}")
+        return spent, int(last.split()[3])
+
+    def close(self):
+        """The most memory that it had, in bytes."""
+        self.process.stdin.close()
+        _, status, usage = os.wait4(self.process.pid, 0)
+        self.process.returncode = os.waitstatus_to_exitcode(status)
+        return usage.ru_maxrss * 1024
 
 
-def show_text(words, program, folder, documents, problems, more):
-    text, listed, nothing = (os.path.join(folder, name) for name in ("text.yaml", "edits", "nothing"))
-    open(nothing, "w").close()
+def timed(program, text, blocks, seconds):
+    """Of each kind of edit what each took and how many rows it scanned, and the peak memory."""
+    opened, kinds = Opened(program, text), {}
+    end = time.perf_counter() + seconds
+    while True:
+        for block in blocks:
+            for kind, command in block:
+                kinds.setdefault(kind, []).append(opened.edit(command))
+            if time.perf_counter() >= end:
+                return kinds, opened.close()
+
+
+def show_text(words, folder, documents, problems, more):
+    text = os.path.join(folder, "text.yaml")
     places = write_text(text, int(words.mib * MIB), documents, problems, more)
-    lines, peak = run([program, text, nothing, "0"])
-    opened = int(lines[0].split()[1])
-    print(f"\n{documents} documents, {more}, {os.path.getsize(text) / MIB:.1f} MiB, {lines[0].split()[2]} lines: "
-          f"open {opened / 1e9:.3f} s, peak {peak / MIB:.0f} MiB, {lines[0].split()[3]} problems")
-    print("place   kind      edits  median us   99 % us  open/median  open/99 %  most rows  documents  problems")
+    first = Opened(words.program, text)
+    spent, peak = first.spent, first.close()
+    print(f"\n{documents} documents, {problems} problems, {more}, {os.path.getsize(text) / MIB:.1f} MiB: "
+          f"open {spent / 1e9:.3f} s, peak {peak / MIB:.0f} MiB")
+    print("place   kind      edits  median us   99 % us  open/median  open/99 %  most rows")
     for place, share in PLACES.items():
-        write_edits(listed, places, share)
-        lines, peak = run([program, text, listed, str(words.seconds)])
-        _, kinds = found(lines)
+        kinds, peak = timed(words.program, text, listed(places, share), words.seconds)
         for kind in KINDS:
-            times = sorted(row[0] for row in kinds[kind])
+            times = sorted(took for took, _ in kinds[kind])
             median, most = statistics.median(times), times[min(len(times) - 1, int(len(times) * 0.99))]
-            rows, judged, problems = (max(row[i] for row in kinds[kind]) for i in (1, 2, 3))
-            print(f"{place:7} {kind:8} {len(times):6} {median / 1e3:10.1f} {most / 1e3:9.1f} {opened / median:12.1f} {opened / most:10.1f}"
-                  f" {rows:10} {judged:10} {problems:9}")
+            rows = max(rows for _, rows in kinds[kind])
+            print(f"{place:7} {kind:8} {len(times):6} {median / 1e3:10.1f} {most / 1e3:9.1f} {spent / median:12.1f} {spent / most:10.1f} {rows:10}")
         print(f"{place:7} peak {peak / MIB:.0f} MiB", flush=True)
-
-
-def show(words, program, folder):
-    for documents in words.documents:
-        for problems in words.problems:
-            for more in words.more:
-                show_text(words, program, folder, documents, problems, more)
 
 
 def main():
     words = argparse.ArgumentParser()
+    words.add_argument("program")
     words.add_argument("mib", nargs="?", type=float, default=10)
-    words.add_argument("--folder")
-    words.add_argument("--seconds", type=int, default=20)
+    words.add_argument("--seconds", type=float, default=5)
     words.add_argument("--documents", type=int, nargs="*", default=DOCUMENTS)
     words.add_argument("--problems", type=int, nargs="*", default=[0, 20_000])
     words.add_argument("--more", nargs="*", choices=["nothing", "fault", "comments"], default=["nothing"])
     words = words.parse_args()
     with tempfile.TemporaryDirectory() as folder:
-        program = built(os.path.abspath(words.folder or folder), "edit", NAME, LIBRARIES)
-        show(words, program, folder)
+        for documents in words.documents:
+            for problems in words.problems:
+                for more in words.more:
+                    show_text(words, folder, documents, problems, more)
 
 
 if __name__ == "__main__":

@@ -6,3 +6,4 @@ pub mod Streamed
 pub mod Shown
 pub mod Onward
 pub mod Together
+pub mod Arranged

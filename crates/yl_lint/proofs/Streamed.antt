@@ -46,12 +46,6 @@ few_at_end r all is =
     let len : length ns ≡ length r.records = ap (λ (xs : List ℕ). length xs) (append-nil (indentations_in r.records)) ∙ length-map r.records indentation_in in
     omega (arith, ap (λ (xs : List RecordValue). length xs) is, few, len)
 
--- what is kept of the last sections too
-pub kept_at_end : (f : List RecordValue → KeptValue) (some last all total : List KeptValue) (records : List RecordValue) (told : List RecordValue) → records ≡ told → last ≡ map f (sections records) → all ≡ some ++ last
-    → some ++ map f (sections told) ≡ total → all ≡ total
-kept_at_end f some last all total records told is judged put whole =
-    put ∙ (ap (λ (ks : List KeptValue). some ++ ks) judged ∙ (ap (λ (rs : List RecordValue). some ++ map f (sections rs)) is ∙ whole))
-
 -- and how many documents and lines there are
 pub counted_at_end : (m : Meter) (lines documents : ℕ) → m.lines ≡ lines → m.documents ≡ documents → m ≡ record { lines = lines; documents = documents }
 counted_at_end m lines documents a b = rw (sym a, sym b) refl

@@ -9,6 +9,7 @@ mod change;
 mod comparing;
 mod laws;
 mod merging;
+mod parting;
 mod parts;
 mod places;
 mod shifting;

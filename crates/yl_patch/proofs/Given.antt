@@ -3,7 +3,6 @@ use Rattle.std.proofs.Common.{◌≡◌, ◌<◌, ◌≤◌, ◌^◌, ℕ, Bool,
 use Rattle.std.proofs.lemmas.List.{map-append}
 use Rattle.std.proofs.Math.Bool.{beq}
 use Rattle.std.specs.List.{AllByRecursion, splice}
-use Rattle.std.specs.Option.{SomeIff}
 use Rattle.std.specs.Prelude.{not, IfSome, IfOk, Result, Ok, Err, ◌++◌, map}
 use Rattle.yl_text.specs.declared.finding.RuleId.{RuleId}
 use Rattle.yl_text.specs.Finding.{FindingValue}
@@ -29,10 +28,6 @@ use Rattle.yl_patch.specs.declared.touched.Touched.{Touched}
 use Rattle.yl_patch.proofs.Renewed.{spliced_length}
 use Rattle.yl_patch.proofs.Sections.{sections_moved}
 
-pub is_so : (b : Bool) → not b ≡ false → b ≡ true
-is_so true h = refl
-is_so false h = sym h
-
 -- no equation of both
 pub never : {X : Type 0} → false ≡ true → X
 never e = absurd (cc)
@@ -49,18 +44,6 @@ in_some {X = X} P o x e h = subst (λ (v : Option X). IfSome v P) e h
 pub then : {X : Type 0} {P Q : X → Type 0} (o : Option X) → IfSome o P → ((x : X) → P x → Q x) → IfSome o Q
 then None p f = tt
 then (Some x) p f = f x p
-
-pub then_both : {X : Type 0} {P Q R : X → Type 0} (o : Option X) → IfSome o P → IfSome o Q → ((x : X) → P x → Q x → R x) → IfSome o R
-then_both None p q f = tt
-then_both (Some x) p q f = f x p q
-
-pub then_iff : {X : Type 0} (P : Type 0) {Q : X → Type 0} (o : Option X) (v : X) → SomeIff o P v → ((x : X) → x ≡ v → Q x) → IfSome o Q
-then_iff P None v h f = tt
-then_iff P (Some x) v h f = f x h.1
-
-pub then_all : {X : Type 0} {P Q R S : X → Type 0} (o : Option X) → IfSome o P → IfSome o Q → IfSome o R → ((x : X) → P x → Q x → R x → S x) → IfSome o S
-then_all None p q r f = tt
-then_all (Some x) p q r f = f x p q r
 
 pub then_ok : {X E : Type 0} {P Q : X → Type 0} (r : Result X E) → IfOk r P → ((x : X) → P x → Q x) → IfOk r Q
 then_ok (Ok x) p f = f x p
@@ -86,10 +69,6 @@ put_together o e before down rows ks p first last in_lines options all =
 
 pub same_there : (o : RuleOptions) (e : Ends) (b d : Measure) (xs ys : List RowValue) (ks : List KeptValue) → b ≡ d → xs ≡ ys → found_there o e b xs ks ≡ found_there o e d ys ks
 same_there o e b d xs ys ks g h = rw (g, h) refl
-
-pub then_each : {X : Type 0} {P Q R S T : X → Type 0} (o : Option X) → IfSome o P → IfSome o Q → IfSome o R → IfSome o S → ((x : X) → P x → Q x → R x → S x → T x) → IfSome o T
-then_each None p q r s f = tt
-then_each (Some x) p q r s f = f x p q r s
 
 -- the touched lines lie in the new text
 pub window_fits : (rows ins edited : List RowValue) (a b : ℕ) (t : Touched) → a ≤ b → b ≤ length rows → IsInside t a b (length ins) (length rows) → edited ≡ splice rows a b ins → IsRange t.first t.new_end (length edited)

@@ -1,5 +1,4 @@
 pub mod AlikeShown
-pub mod Arranged
 pub mod EachFound
 pub mod Ends
 pub mod FaultFound

@@ -205,7 +205,3 @@ alike_next o a i old new p q l at_old at_new here more =
     let next : a + (i + 1) ≡ a + i + 1 = omega arith in
     alike_more o (a + i + 1) i (a + i) old new p q at_old (slice_get_read new (length new) i q refl l at_new) here
     (subst (λ n. AreAlike o (n + 1) (drop n old) (drop (i + 1) new)) next more)
-
--- what is put in place of the same
-pub splice_same : {X : Type 0} (xs ns : List X) (from end : ℕ) → from ≤ end → end ≤ length xs → take (end - from) (drop from xs) ≡ ns → splice xs from end ns ≡ xs
-splice_same xs ns from end o l e = ap (λ ms. splice xs from end ms) (sym e) ∙ same_lists _ _ (search (rules, places)) (λ k d h. grind (arith, places))

@@ -32,7 +32,7 @@ use Rattle.yl_patch.specs.Seen.{AreFoundAlike, IsSeen, measure_upto, new_lines_o
 use Rattle.yl_patch.specs.There.{found_there, lines_there}
 use Rattle.yl_patch.specs.declared.touched.Ends.{Ends}
 use Rattle.yl_patch.specs.declared.touched.Touched.{Touched}
-use Rattle.yl_patch.proofs.Arranged.{arranged, arranged_lines, arranged_moved, lower}
+use Rattle.yl_lint.proofs.Arranged.{arranged, arranged_lines, arranged_moved, lower}
 use Rattle.yl_patch.proofs.Lines.{back_seam, front_seam, if_none, is_seam, none_by, seam_behind, seam_more}
 use Rattle.yl_patch.proofs.Parts.{lines_above, part, part_alike, part_between, parts_apart, patched, patched_so}
 use Rattle.yl_patch.proofs.Sections.{no_fault, shown_plain}

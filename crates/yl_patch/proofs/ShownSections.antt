@@ -37,14 +37,6 @@ shown_covered (x ∷ xs) ys h = by x.fault h (shown_covered xs ys)
     by None e later = ap (λ (zs : List KeptValue). x ∷ zs) (later e)
     by (Some f) e later = refl
 
-pub sound_of : (ks : List KeptValue) → has_fault ks ≡ false → AllByRecursion IsSound ks
-sound_of [] h = tt
-sound_of (k ∷ ks) h = by k.fault refl h (sound_of ks)
-  where
-    by : (f : Option SectionFaultValue) → k.fault ≡ f → (is_some f || has_fault ks) ≡ false → (has_fault ks ≡ false → AllByRecursion IsSound ks) → (k.fault ≡ None) × AllByRecursion IsSound ks
-    by None e h later = (e, later h)
-    by (Some f) e h later = absurd (cc)
-
 pub of_sound : (ks : List KeptValue) → AllByRecursion IsSound ks → has_fault ks ≡ false
 of_sound [] h = refl
 of_sound (k ∷ ks) h = ap (λ (f : Option SectionFaultValue). is_some f || has_fault ks) h.0 ∙ of_sound ks h.1

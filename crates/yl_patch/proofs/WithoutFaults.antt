@@ -1,5 +1,5 @@
 -- Sections as if none had a fault: what is found in them, and others in place of some.
-use Rattle.std.proofs.Common.{◌≡◌, ℕ, ◌+◌, ◌-◌, ◌<◌, true, List, [], ◌∷◌, ◌++◌, length, take, drop, get_or, Option, refl, ap, sym, subst, ◌∙◌}
+use Rattle.std.proofs.Common.{◌≡◌, ℕ, ◌+◌, ◌-◌, ◌<◌, true, List, [], ◌∷◌, ◌++◌, length, take, drop, get_or, refl, ap, sym, subst, ◌∙◌}
 use Rattle.std.specs.List.{AllByRecursion, splice}
 use Rattle.std.proofs.lemmas.List.{take-map, drop-map, map-append}
 use Rattle.yl_text.specs.Finding.{FindingValue}
@@ -8,7 +8,7 @@ use Rattle.yl_indentation.specs.declared.fact.Fact.{Fact}
 use Rattle.yl_indentation.specs.declared.measure.Measure.{Measure}
 use Rattle.yl_indentation.specs.declared.options.IndentationOptions.{IndentationOptions}
 use Rattle.yl_indentation.specs.Measures.{and_later, measure_of}
-use Rattle.yl_sections.specs.Kept.{KeptValue, SectionFaultValue}
+use Rattle.yl_sections.specs.Kept.{KeptValue}
 use Rattle.yl_rejudge.specs.Places.{rows_kept}
 use Rattle.yl_lint.specs.Onward.{onward_in_section, onward_in_sections}
 use Rattle.yl_lint.specs.TextReport.{facts_in_sections, findings_in_section, findings_in_sections}
@@ -23,12 +23,6 @@ use Rattle.yl_overview.proofs.Walks.{all_both, measured, all_drop, all_take, one
 pub sound_faultless : (ks : List KeptValue) → AllByRecursion IsSound (faultless ks)
 sound_faultless [] = tt
 sound_faultless (k ∷ ks) = (refl, sound_faultless ks)
-
-pub faultless_same : (ks : List KeptValue) → AllByRecursion IsSound ks → faultless ks ≡ ks
-faultless_same [] h = refl
-faultless_same (k ∷ ks) h =
-    ap (λ (ls : List KeptValue). faultless_one k ∷ ls) (faultless_same ks h.1)
-    ∙ ap (λ (f : Option SectionFaultValue). record k { fault = f } ∷ ks) (sym h.0)
 
 facts_faultless : (ks : List KeptValue) → facts_in_sections (faultless ks) ≡ facts_in_sections ks
 facts_faultless [] = refl
@@ -51,9 +45,6 @@ pub onward_faultless : (o : IndentationOptions) (line : ℕ) (before : Measure) 
 onward_faultless o line before [] = refl
 onward_faultless o line before (k ∷ ks) =
     ap (λ (fs : List FindingValue). onward_in_section o line before k ++ fs) (onward_faultless o (line + k.rows) (and_later before (measure_of k.facts)) ks)
-
-pub faultless_take : (n : ℕ) (ks : List KeptValue) → take n (faultless ks) ≡ faultless (take n ks)
-faultless_take n ks = take-map faultless_one n ks
 
 pub faultless_between : (from end : ℕ) (ks : List KeptValue) → sections_between from end (faultless ks) ≡ faultless (sections_between from end ks)
 faultless_between from end ks = ap (take (end - from)) (drop-map faultless_one from ks) ∙ take-map faultless_one (end - from) (drop from ks)

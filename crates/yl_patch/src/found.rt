@@ -11,7 +11,6 @@ ghost use Rattle.yl_patch.specs.Plain.{IsPlain, IsSurveyed};
 ghost use Rattle.yl_overview.specs.Overview.{IsOverviewOf};
 
 use crate::fault::fault_of;
-use crate::parting::part;
 use crate::showing::showing_of;
 use std::alloc::{AllocError, Allocator};
 use yl_chunks::Spliced;
@@ -90,7 +89,7 @@ fn part_all<L: Lines>(
 {
     let found = find_all(alloc, config, lines, sections, overview.whole)?;
     let showing = showing_of(alloc, lines, sections, overview, sections.len())?;
-    let mut parts = part(alloc, &showing, found)?;
+    let mut parts = FoundProblems::part(alloc, &showing, found)?;
     let fault = fault_of(alloc, config, lines, sections, overview)?;
     parts.add_fault(fault)?;
     Ok(parts)

@@ -10,13 +10,11 @@
 
 mod below;
 mod comments;
-mod comparing;
 mod edit;
 mod fault;
 mod found;
 mod laws;
 mod measures;
-mod parting;
 mod patching;
 mod plain;
 mod seen;
@@ -27,7 +25,6 @@ mod touched;
 mod unchanged;
 mod window;
 
-pub use comparing::stays;
 pub use edit::TextEdit;
 pub use fault::fault_of;
 pub use found::found_problems;

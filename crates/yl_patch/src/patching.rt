@@ -19,7 +19,6 @@ ghost use Rattle.yl_patch.specs.ShownUpto.{is_shown_upto};
 use crate::below::stays_shown;
 use crate::edit::TextEdit;
 use crate::fault::fault_of;
-use crate::parting::part;
 use crate::seen::{SeenEdit, see_edit};
 use crate::showing::showing_of;
 use std::alloc::AllocError;
@@ -46,7 +45,7 @@ fn part_found<L: Lines>(
 {
     let showing = showing_of(alloc, lines, sections, overview, upto)?;
     let there = arrange(alloc, found, config.levels(), &Silences::none(alloc))?;
-    part(alloc, &showing, there)
+    FoundProblems::part(alloc, &showing, there)
 }
 
 /// Which of what is found is shown, unless that is known.

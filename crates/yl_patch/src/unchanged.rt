@@ -6,11 +6,11 @@ ghost use Rattle.yl_config.specs.Config.{options_of};
 ghost use Rattle.yl_patch.specs.Alike.{AreAlike, AreReadAlike, IsAlike};
 ghost use Rattle.yl_patch.specs.Edit.{IsTextEdit};
 
-use crate::comparing::are_same_findings;
 use crate::edit::TextEdit;
 use std::alloc::{AllocError, Allocator};
 use yl_config::Config;
 use yl_rules::row_problems;
+use yl_sections::are_same_findings;
 use yl_text::{LineStore, Lines, Row};
 
 /// Whether both rows end alike, and both are empty or neither is.

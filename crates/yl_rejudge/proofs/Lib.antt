@@ -5,3 +5,4 @@ pub mod Bound
 pub mod Anew
 pub mod Outcome
 pub mod HeldRows
+pub mod Same

@@ -2,7 +2,7 @@
 use Rattle.std.proofs.Common.{◌≡◌, ℕ, suc, ◌+◌, ◌-◌, ◌<◌, ◌≤◌, ◌==◌, ◌&&◌, ltb, ◌⊎◌, Bool, true, false, List, [], ◌∷◌, ◌++◌, length, map, take, drop, Bor, Option, Some, None, refl, ap, sym, ◌∙◌, arith, rules, cond, inl, inr}
 use Rattle.std.specs.List.{splice, slice_get}
 use Rattle.std.proofs.lemmas.Bool.{cases_eq, cases_lt, eq-eqb, ne_eqb, eqb-true, eqb-false, ltb-true, ltb-false}
-use Rattle.std.proofs.lemmas.List.{same_lists, places, take-map, drop-map, map-append, length-map, length-append, take_more, length-take-le, drop-append-le, take_all, length-take, length-drop, take-append-drop}
+use Rattle.std.proofs.lemmas.List.{same_lists, places, take-map, drop-map, map-append, length-map, length-append, take_more, length-take-le, drop-append-le, take_all, length-take, take-append-drop}
 use Rattle.std.proofs.lemmas.Option.{slice_get_within, get_or_from_slice_get}
 use Rattle.std.proofs.Math.ListN.{drop_of_length-le}
 use Rattle.yl_lexeme.specs.declared.lexeme.Kind.{Kind}
@@ -231,6 +231,3 @@ between_more xs new es x i r o is before at =
     ∙ (map-append (λ (b : Bor RecordValue). b.now) xs (r ∷ [])
     ∙ (ap (λ (ys : List RecordValue). ys ++ r.now ∷ []) before
     ∙ sym (ap (λ (ys : List RecordValue). drop x ys) more ∙ drop-append-le x (take i es) (r.now ∷ []) (omega (arith, length-take-le i es (omega (arith, l)), o)))))
-
-pub between_few : (es : List RecordValue) (x z : ℕ) → length (drop x (take z es)) ≤ length es
-between_few es x z = omega (arith, length-drop x (take z es), length-take z es)

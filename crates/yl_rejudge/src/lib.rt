@@ -4,6 +4,7 @@
 //! what is kept of them too.
 #![tactic(auto)]
 
+mod comparing;
 mod places;
 mod rejudging;
 mod shortened;

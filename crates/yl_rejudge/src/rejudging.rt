@@ -21,15 +21,11 @@ use yl_record::Record;
 use yl_retyped::keep_sections;
 use yl_sections::{Kept, judge_all, kept_of_front};
 
-/// What is kept of the sections from one on to before `end`, both counted from 0, becomes this. They begin with `from_row`, and the next one
-/// with `end_row`. Over `walked` sections the first one was looked for.
+/// What is kept of the sections from one on to before `end`, both counted from 0, becomes this.
 #[derive(Drop)]
 pub struct Rejudged<A: Allocator> {
     pub from: usize,
     pub end: usize,
-    pub from_row: usize,
-    pub end_row: usize,
-    pub walked: usize,
     pub kept: Vec<Kept<A>, A>,
 }
 
@@ -155,8 +151,6 @@ fn judge_edited<A: Allocator + Copy>(
     requires meter { meter.old.documents + length records.now < 2 ^ 32 - 1 }
     ensures range { IfOk result (λ r. IsRange r.from r.end (length kept.now.items)) }
     ensures kept { IfOk result (λ r. splice kept.now.items r.from r.end r.kept.items ≡ map (kept_of_section config.now) (sections records.now)) }
-    ensures from_row { IfOk result (λ r. r.from_row ≡ rows_kept (take r.from kept.now.items)) }
-    ensures end_row { IfOk result (λ r. r.end_row ≡ rows_kept (take r.end kept.now.items)) }
     ensures documents { OnOk result (TakesNothing old.now.items records.now from → (m : ℕ) → end ≤ m + 1
         → meter.new.documents ≤ meter.old.documents + documents_holding 0 from m (sections records.now)) }
     ensures lines { OnOk result (meter.new.lines ≡ meter.old.lines) }
@@ -165,16 +159,12 @@ fn judge_edited<A: Allocator + Copy>(
     let first = front_of(kept, records, here);
     let last = back_of(kept, records, first, old_end, end);
     let z = new_row(kept, records.len(), last, old_end, end);
-    let walked = here.section.saturating_sub(near.section);
     if ends_anew(kept, old, records, first, from) {
         let section = kept.get(first.section);
         let kept = judge_behind(alloc, config, section, records, first, from, z, meter)?;
         return Ok(Rejudged {
             from: first.section,
             end: last.section,
-            from_row: first.row,
-            end_row: last.row,
-            walked,
             kept,
         });
     }
@@ -182,9 +172,6 @@ fn judge_edited<A: Allocator + Copy>(
     Ok(Rejudged {
         from: first.section,
         end: last.section,
-        from_row: first.row,
-        end_row: last.row,
-        walked,
         kept,
     })
 }
@@ -231,14 +218,11 @@ pub fn rejudge<A: Allocator + Copy>(
     requires meter { meter.old.documents + length records.now < 2 ^ 32 - 1 }
     ensures range { IfOk result (λ r. IsRange r.from r.end (length kept.now.items)) }
     ensures kept { IfOk result (λ r. splice kept.now.items r.from r.end r.kept.items ≡ map (kept_of_section config.now) (sections records.now)) }
-    ensures from_row { IfOk result (λ r. r.from_row ≡ rows_kept (take r.from kept.now.items)) }
-    ensures end_row { IfOk result (λ r. r.end_row ≡ rows_kept (take r.end kept.now.items)) }
     ensures documents { OnOk result (TakesNothing old.now.items records.now from → (m : ℕ) → end ≤ m + 1
         → meter.new.documents ≤ meter.old.documents + documents_holding 0 from m (sections records.now)) }
     ensures lines { OnOk result (meter.new.lines ≡ meter.old.lines) }
 {
     let begin = section_of(kept, near, from);
-    let walked = begin.section.saturating_sub(near.section);
     if old_end == end
         && end - from <= meter.lines as usize
         && is_in_section(kept, begin, end)
@@ -248,14 +232,10 @@ pub fn rejudge<A: Allocator + Copy>(
         return Ok(Rejudged {
             from: begin.section,
             end: begin.section,
-            from_row: begin.row,
-            end_row: begin.row,
-            walked,
             kept: Vec::new(alloc),
         });
     }
-    let judged = judge_edited(
+    judge_edited(
         alloc, config, kept, begin, old, records, from, old_end, end, meter,
-    )?;
-    Ok(Rejudged { walked, ..judged })
+    )
 }

@@ -1,5 +1,5 @@
 -- Rows that are alike one by one are cut alike into sections.
-use Rattle.std.proofs.Common.{◌≡◌, ℕ, zero, suc, ◌<◌, ◌≤◌, Bool, true, false, List, [], ◌∷◌, ◌++◌, length, take, drop, map, Option, Some, None, refl, ap, sym, ◌∙◌, subst, arith}
+use Rattle.std.proofs.Common.{◌≡◌, ℕ, zero, suc, ◌<◌, ◌≤◌, Bool, true, false, List, [], ◌∷◌, length, take, drop, map, Option, Some, None, refl, ap, sym, ◌∙◌, subst, arith}
 use Rattle.std.specs.List.{slice_get}
 use Rattle.yl_lexeme.specs.declared.lexeme.Kind.{Kind}
 use Rattle.yl_lexeme.specs.Lexeme.{LexemeValue}
@@ -50,18 +50,6 @@ module _ {X : Type 0} (R : X → X → Type 0) where
   pub alike_refl : ((x : X) → R x x) → (xs : List X) → AllRelated R xs xs
   alike_refl same [] = tt
   alike_refl same (x ∷ xs) = (same x, alike_refl same xs)
-
-  alike_append : (xs ys us vs : List X) → AllRelated R xs ys → AllRelated R us vs → AllRelated R (xs ++ us) (ys ++ vs)
-  alike_append [] [] us vs h g = g
-  alike_append [] (y ∷ ys) us vs h g = absurd h
-  alike_append (x ∷ xs) [] us vs h g = absurd h
-  alike_append (x ∷ xs) (y ∷ ys) us vs h g = (h.0, alike_append xs ys us vs h.1 g)
-
-  pub alike_length : (xs ys : List X) → AllRelated R xs ys → length xs ≡ length ys
-  alike_length [] [] h = refl
-  alike_length [] (y ∷ ys) h = absurd h
-  alike_length (x ∷ xs) [] h = absurd h
-  alike_length (x ∷ xs) (y ∷ ys) h = ap suc (alike_length xs ys h.1)
 
   -- lists of one length that are the same but from a place on to before another, where their elements are so related
   pub alike_between : ((x : X) → R x x) → (xs ys : List X) (a b : ℕ) → take a xs ≡ take a ys → drop b xs ≡ drop b ys

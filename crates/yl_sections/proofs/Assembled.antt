@@ -2,11 +2,7 @@
 use Rattle.std.proofs.Common.{◌≡◌, ◌++◌, ℕ, true, List, [], ◌∷◌, map, length, refl, ap, ◌∙◌, Option, None}
 use Rattle.std.specs.Prelude.{slice_get}
 use Rattle.std.specs.List.{filter, flat_map}
-use Rattle.yl_text.specs.declared.finding.RuleId.TheVariants.{Comments, Indentation}
-use Rattle.yl_marks.specs.declared.symbol.Marked.{Marked}
-use Rattle.yl_marks.specs.Keys.{token_of}
-use Rattle.yl_marks.specs.Marks.{marked_lexemes}
-use Rattle.yl_indentation.specs.Facts.{indent_facts}
+use Rattle.yl_text.specs.declared.finding.RuleId.TheVariants.{Comments}
 use Rattle.yl_rules.specs.Comments.{comment_findings}
 use Rattle.yl_config.specs.Config.{options_of}
 use Rattle.yl_text.specs.Finding.{FindingValue}
@@ -52,7 +48,3 @@ flat_map-map f g (x ∷ xs) = ap (λ ys. f (g x) ++ ys) (flat_map-map f g xs)
 pub comments_are : {X : Type 0} (config : Config) (g : X → PlacedCommentValue) (xs : List X) (found : List FindingValue) → is_on config Comments ≡ true
     → found ≡ flat_map (λ x. comment_findings (options_of config).comments (g x)) xs → found ≡ shown_comment_findings config (map g xs)
 comments_are config g xs found on e = rw on (e ∙ flat_map-map (comment_findings (options_of config).comments) g xs)
-
-pub facts_are : (config : Config) (rs : List RecordValue) (xs : List LexemeValue) (counted : ℕ) (marks : List Marked) (ns : List ℕ) (facts : List Fact) → is_on config Indentation ≡ true
-    → facts ≡ indent_facts (map token_of xs) marks counted ns → marks ≡ marked_lexemes xs → ns ≡ map (λ r. r.indentation) rs → facts ≡ facts_of config rs xs counted
-facts_are config rs xs counted marks ns facts on e m n = rw on (e ∙ rw (m, n) refl)

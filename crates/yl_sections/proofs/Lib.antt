@@ -10,4 +10,6 @@ pub mod Last
 pub mod Fronts
 pub mod Stateless
 pub mod LineByLine
+pub mod Quiet
+pub mod QuietSections
 mod Examples

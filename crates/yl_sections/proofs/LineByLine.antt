@@ -207,14 +207,6 @@ module _ {A : Type 0} (config : Config) (xs : List LexemeValue) (b : BuiltValue)
       (ap (λ (ls : List (List Token)). outcome_of_symbols p read [] (marks_by_lines m ls)) cut
       ∙ (ap (λ c. outcome_of_symbols p c [] (marks_of_line m line ++ marks_by_lines (behind_line m line) later)) (sym at) ∙ fails (marks_by_lines (behind_line m line) later)))
 
-  pub told_done : {T : Type 0} (f : T → LexemeValue) (ys : List T) (read : ℕ) (t : TreeRules A) (p : SymbolParserValue) (m : MarkerValue) → read ≤ length ys → length ys ≤ read
-      → Gives config xs t (outcome_of_symbols p read [] (marks_by_lines m (by_line (map token_of (map f (drop read ys)))))) b
-      → Gives config xs t (outcome_of_symbols p (length ys) [] (closings_of_all m.open_ones)) b
-  told_done f ys read t p m within end gives =
-      let same : read ≡ length ys = omega (arith, within, end) in
-      subst (λ n. Gives config xs t (outcome_of_symbols p n [] (closings_of_all m.open_ones)) b) same
-      (subst (λ zs. Gives config xs t (outcome_of_symbols p read [] (marks_by_lines m (by_line (map token_of (map f zs))))) b) (drop_all read ys end) gives)
-
 -- ---- events one after another
 
 pub events_on : {A : Type 0} (xs : List LexemeValue) (t u : TreeRules A) (out : List Outline) (i : ℕ) (o : Outline) (e : EventValue) (es : List EventValue) (all : List FindingValue) → i < length out → o ≡ get_or out i o

@@ -1,9 +1,8 @@
 -- Loops over the rows of a section, by index.
-use Rattle.std.proofs.Common.{◌≡◌, ℕ, zero, suc, ◌+◌, ◌<◌, ◌≤◌, Bool, true, false, cond, List, [], ◌∷◌, ◌++◌, length, map, drop, get_or, Option, Some, None, refl, ap, sym, ◌∙◌, append_assoc, append-nil, add-one, arith, Bor}
+use Rattle.std.proofs.Common.{◌≡◌, ℕ, zero, suc, ◌+◌, ◌<◌, ◌≤◌, Bool, true, false, cond, List, [], ◌∷◌, ◌++◌, length, map, drop, get_or, Option, Some, None, refl, ap, sym, ◌∙◌, append_assoc, add-one, arith, Bor}
 use Rattle.std.proofs.Math.ListN.{drop_of_length-le}
 use Rattle.std.proofs.lemmas.List.{length-append, length-map}
 use Rattle.std.specs.Prelude.{is_some, min}
-use Rattle.std.specs.List.{filter}
 use Rattle.std.specs.Option.{option_map}
 use Rattle.yl_lexeme.specs.declared.lexeme.Kind.{Kind}
 use Rattle.yl_lexeme.specs.Lexeme.{LexemeValue, CommentValue, PlacedCommentValue}
@@ -105,29 +104,6 @@ module _ (rs : List (Bor RecordValue)) (i : ℕ) (x : Bor RecordValue) (within :
       let none : row_count last (drop i (seen rs)) ≡ 0 =
       ap (λ (es : List RecordValue). row_count last es) (next rs i x within is) ∙ ap (λ (b : Bool). counted_if b (row_count (last_kind_from last x.now.entry.lexemes) (drop (i + 1) (seen rs)))) here in
       omega (arith, none, whole)
-
--- after the last row
-pub scanned_all : (rs : List (Bor RecordValue)) (i : ℕ) (total : Option SectionFaultValue) → length rs ≤ i → scan_fault_from i (drop i (seen rs)) ≡ total → None ≡ total
-scanned_all rs i total l whole = ap (λ (es : List RecordValue). scan_fault_from i es) (sym (none_left rs i l)) ∙ whole
-
-pub lexemes_all : (rs : List (Bor RecordValue)) (i : ℕ) (ys total : List LexemeValue) → length rs ≤ i → ys ++ lexemes_from i (drop i (seen rs)) ≡ total → ys ≡ total
-lexemes_all rs i ys total l whole = sym (append-nil ys) ∙ (ap (λ (es : List RecordValue). ys ++ lexemes_from i es) (sym (none_left rs i l)) ∙ whole)
-
-pub comments_all : (rs : List (Bor RecordValue)) (i : ℕ) (last : Option LexemeEnd) (ys total : List PlacedCommentValue) → length rs ≤ i → ys ++ comments_from last i (drop i (seen rs)) ≡ total → ys ≡ total
-comments_all rs i last ys total l whole = sym (append-nil ys) ∙ (ap (λ (es : List RecordValue). ys ++ comments_from last i es) (sym (none_left rs i l)) ∙ whole)
-
-pub counted_all : (rs : List (Bor RecordValue)) (i : ℕ) (last : Option Kind) (total : ℕ) → length rs ≤ i → i + row_count last (drop i (seen rs)) ≡ total → i ≡ total
-counted_all rs i last total l whole =
-    let none : row_count last (drop i (seen rs)) ≡ 0 = ap (λ (es : List RecordValue). row_count last es) (none_left rs i l) in
-    omega (arith, none, whole)
-
--- one element more of a filtered list
-pub filter_more : {X : Type 0} (p : X → Bool) (x : X) (xs : List X) → filter p (x ∷ xs) ≡ filter p (x ∷ []) ++ filter p xs
-filter_more p x xs = by_test (p x)
-  where
-    by_test : (b : Bool) → cond b (x ∷ filter p xs) (filter p xs) ≡ cond b (x ∷ []) [] ++ filter p xs
-    by_test true = refl
-    by_test false = refl
 
 -- ---- what is found and checked
 

@@ -3,18 +3,13 @@ use Rattle.std.specs.Prelude.{List, [], ◌∷◌, map, Some, None}
 use Rattle.yl_lexeme.specs.Lexeme.{LexemeValue}
 use Rattle.yl_marks.specs.Keys.{token_of}
 use Rattle.yl_marks.specs.ByLine.{by_line}
-use Rattle.yl_events.specs.declared.event.Built.{Built}
-use Rattle.yl_events.specs.Event.{event_of_outline, event_value}
+use Rattle.yl_events.specs.Event.{event_of_outline}
 use Rattle.yl_events.specs.DocumentOutcome.{DocumentOutcome, Events, Fails}
 use Rattle.yl_events.specs.Parsing.{parser_at_start, start_events, document_outcome_of_lines}
 use Rattle.yl_config.specs.declared.config.Config.{Config}
 use Rattle.yl_record.specs.Records.{RecordValue}
 use Rattle.yl_sections.specs.Sections.{lexemes_of}
 use Rattle.yl_sections.specs.Kept.{BuiltValue, nothing_built, KeptValue, kept_of}
-
--- what a document gives, as the code has it
-abbrev pub built_value : {A : Type 0} → Built A → BuiltValue
-built_value b = record { events = map event_value b.events.items; fault = b.fault }
 
 abbrev pub built_by : List LexemeValue → DocumentOutcome → BuiltValue
 built_by xs (Events es) = record { events = map (event_of_outline xs) es; fault = None }

@@ -5,6 +5,7 @@
 #![tactic(auto)]
 
 mod comments;
+mod comparing;
 mod fault;
 mod front;
 mod judging;
@@ -15,6 +16,7 @@ mod reading;
 mod rules;
 mod sections;
 
+pub use comparing::are_same_findings;
 pub use fault::SectionFault;
 pub use front::kept_of_front;
 pub use judging::{judge_all, judge_whole};

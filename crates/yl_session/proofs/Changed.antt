@@ -3,7 +3,7 @@ use Rattle.std.proofs.Common.{◌≡◌, ◌+◌, ◌-◌, ◌<◌, ℕ, List, [
 use Rattle.std.proofs.lemmas.List.{places, same_lists}
 use Rattle.std.specs.List.{splice}
 use Rattle.yl_sections.specs.Kept.{KeptValue}
-use Rattle.yl_patch.proofs.ReadAlike.{splice_same}
+use Rattle.yl_rejudge.proofs.Same.{splice_same}
 
 take_first : {X : Type 0} (xs : List X) (n : ℕ) → 0 < n → take 1 (take n xs) ≡ take 1 xs
 take_first xs n h = same_lists _ _ (search (rules, places)) (λ k d l. grind (arith, places))

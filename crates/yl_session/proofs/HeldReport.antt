@@ -13,11 +13,11 @@ use Rattle.yl_sections.specs.Kept.{KeptValue}
 use Rattle.yl_sections.specs.Judge.{kept_of_section}
 use Rattle.yl_lint.specs.TextReport.{end_of_lines, findings_in_lines, first_text, report, report_of_kept}
 use Rattle.yl_rescan.specs.Held.{AreHeld, IsCutAt}
-use Rattle.yl_session.proofs.HeldCut.{fails, held_sections, quiet, stops_at, true_sections}
-use Rattle.yl_session.proofs.HeldKept.{IsQuietRow, kept_longer}
-use Rattle.yl_session.proofs.HeldSections.{grown, grown_behind}
+use Rattle.yl_rescan.proofs.Cut.{fails, held_sections, quiet, stops_at, true_sections}
+use Rattle.yl_sections.proofs.Quiet.{IsQuietRow, kept_longer}
+use Rattle.yl_sections.proofs.QuietSections.{grown, grown_behind}
 use Rattle.yl_session.proofs.HeldShown.{longer, longer_behind, same_report}
-use Rattle.yl_session.proofs.HeldStops.{sections_here}
+use Rattle.yl_rescan.proofs.Stops.{sections_here}
 
 -- what is kept of sections of which the last has quiet rows more
 kept_behind : (config : Config) (qs s : List RecordValue) (ss : List (List RecordValue)) → AllByRecursion IsQuietRow qs

@@ -11,8 +11,8 @@ use Rattle.yl_config.specs.declared.config.Config.{Config}
 use Rattle.yl_config.specs.Config.{options_of}
 use Rattle.yl_sections.specs.Kept.{KeptValue, SectionFaultValue, Here, Behind}
 use Rattle.yl_lint.specs.TextReport.{comments_in_sections, facts_in_sections, fault_in_sections, fault_or_later, findings_in_section, findings_in_sections, moved_comment, place_after, report_of_kept, shown, syntax_finding, unless_fault}
-use Rattle.yl_session.proofs.HeldKept.{with_rows}
-use Rattle.yl_session.proofs.HeldStops.{IsHere, HaveHere}
+use Rattle.yl_sections.proofs.Quiet.{with_rows}
+use Rattle.yl_rescan.proofs.Stops.{IsHere, HaveHere}
 
 -- so many rows more in the last of these
 abbrev pub longer_behind : ℕ → KeptValue → List KeptValue → List KeptValue

@@ -1,12 +1,7 @@
 mod Bounds
 mod Changed
-mod HeldSections
-mod HeldKept
-mod HeldStops
-mod HeldCut
 mod HeldShown
 mod HeldReport
-mod HeldDocuments
 mod Read
 mod Renewed
 mod Parts

@@ -1,7 +1,6 @@
 -- Rows that are recorded one after another, and records that move on from a sound row.
 use Rattle.std.proofs.Common.{◌≡◌, ℕ, ◌+◌, ◌-◌, ◌<◌, ◌≤◌, true, false, Bor, map, List, [], ◌∷◌, ◌++◌, length, take, drop, Option, Some, None, refl, ap, sym, ◌∙◌, subst, arith, rules}
 use Rattle.std.specs.Prelude.{slice_get}
-use Rattle.std.specs.List.{splice}
 use Rattle.std.specs.Str.{chars}
 use Rattle.std.proofs.lemmas.List.{same_lists, places, length-take-le, map-append, take-append-drop, take_more}
 use Rattle.std.proofs.lemmas.Option.{get_or_from_slice_get, slice_get_within}
@@ -21,9 +20,6 @@ use Rattle.yl_lint.specs.TextReport.{records_of}
 use Rattle.yl_session.specs.Reading.{IsReadTo}
 
 -- ---- lists
-
-pub put_last : {X : Type 0} (xs ns all : List X) (n : ℕ) → n ≡ length xs → all ≡ splice xs n n ns → all ≡ xs ++ ns
-put_last xs ns all n at is = is ∙ same_lists _ _ (search (rules, places)) (λ k d h. grind (arith, places))
 
 two_parts : {X : Type 0} (xs : List X) (m i : ℕ) → m ≤ i → take m xs ++ take (i - m) (drop m xs) ≡ take i xs
 two_parts xs m i l = same_lists _ _ (search (rules, places)) (λ k d h. grind (arith, places))

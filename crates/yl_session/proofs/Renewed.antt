@@ -14,7 +14,7 @@ use Rattle.yl_rescan.specs.Held.{AreHeld}
 use Rattle.yl_rescan.specs.Rescan.{IsRescan, IsRestart, IsStop}
 use Rattle.yl_rescan.proofs.Rows.{each_row}
 use Rattle.yl_session.specs.Work.{IsWork}
-use Rattle.yl_session.proofs.HeldDocuments.{documents_above, documents_behind, documents_upto, holding_more}
+use Rattle.yl_rescan.proofs.CutDocuments.{documents_above, documents_behind, documents_upto, holding_more}
 
 -- a text has a row
 pub has_row : (ps : List RowValue) → AreLines ps → 0 < length ps

@@ -15,7 +15,7 @@ use std::alloc::{AllocError, Allocator};
 use yl_config::Config;
 use yl_overview::{Overview, SectionEdit};
 use yl_parting::{Change, FoundProblems};
-use yl_patch::{TextEdit, are_plain, found_problems, patched_problems, reads_alike, stays};
+use yl_patch::{TextEdit, are_plain, found_problems, patched_problems, reads_alike};
 use yl_rejudge::Rejudged;
 use yl_text::{LineStore, Lines};
 
@@ -103,14 +103,6 @@ fn section_edit<'a, A: Allocator + Copy>(
     SectionEdit::new(kept, overviews, from, new.end, new.kept.as_slice())
 }
 
-/// Whether it is seen that what is kept of all sections stays as it is.
-fn all_stay<A: Allocator + Copy>(known: &KnownSections<A>, new: &Rejudged<A>) -> bool
-    requires { IsRange new.now.from new.now.end (length known.now.kept.items) }
-    ensures { result ≡ true → splice known.now.kept.items new.now.from new.now.end new.now.kept.items ≡ known.now.kept.items }
-{
-    stays(&known.kept, new.from, new.end, &new.kept)
-}
-
 /// Whether all sections are seen to be plain before the edit and after it.
 fn are_plain_by<A: Allocator>(known: &KnownSections<A>, edit: &SectionEdit<'_, A>) -> bool
     requires known { known.now.are_plain ≡ true → AllByRecursion IsPlain (faultless edit.now.sections.now.items) }
@@ -157,7 +149,7 @@ pub fn renewal_of<S: LineStore>(
         (known_text config.now (splice (S.rows text.now.store.now) text.now.a text.now.b text.now.rows.now) (splice known.now.kept.items new.now.from new.now.end new.now.kept.items) r.are_plain) r.change) }
     ensures known { IfOk result (λ r. IsKnownAfter (splice known.now.kept.items new.now.from new.now.end new.now.kept.items) known.now.overviews.items r.overviews r.are_plain) }
 {
-    let stay = all_stay(known, new);
+    let stay = new.leaves(&known.kept);
     if stay && reads_alike(alloc, config, text)? {
         return Ok(Renewal {
             change: Change::Stay,

@@ -14,12 +14,12 @@ returns-then-branch-clause-makes g c =
     let rows = g.S.Lines.rows text.store.now in
     let ks = c.args.known.now.kept.items in
     let new = c.args.new.now in
-    stays c.args.config.now rows (splice rows text.a text.b text.rows.now) ks (splice ks new.from new.end new.kept.items) c.args.known.now.are_plain (c.in_ok-reads_alike.ensures c.if-branch.true) (c.all_stay-stay.ensures c.if-stay.true)
+    stays c.args.config.now rows (splice rows text.a text.b text.rows.now) ks (splice ks new.from new.end new.kept.items) c.args.known.now.are_plain (c.in_ok-reads_alike.ensures c.if-branch.true) (c.leaves-stay.ensures c.if-stay.true)
 
 pub returns-then-branch-clause-known : goal.returns-then-branch-clause-known
 returns-then-branch-clause-known g c =
     let ks = c.args.known.now.kept.items in
-    let same = sym (c.all_stay-stay.ensures c.if-stay.true) in record {
+    let same = sym (c.leaves-stay.ensures c.if-stay.true) in record {
       overviews = subst (λ (ls : List KeptValue). AreOverviews ls c.args.known.now.overviews.items) same c.requires.known.overviews;
       plain = λ h. subst (λ (ls : List KeptValue). AllByRecursion IsPlain (faultless ls)) same (c.requires.known.plain h);
     }
@@ -53,6 +53,6 @@ returns-clause-known g c =
     let ls = splice ks new.from new.end new.kept.items in
     let e = c.section_edit-edit.result in
     let same : splice e.sections.now.items e.from e.end e.kept.now ≡ ls = ap (λ (es : List KeptValue). splice es e.from e.end e.kept.now) c.section_edit-edit.ensures.sections ∙ c.section_edit-edit.ensures.same in record {
-      overviews = known_after c.in_ok-overviews.overviews c.all_stay-stay.result ks (splice e.sections.now.items e.from e.end e.kept.now) ls c.args.known.now.overviews.items c.requires.known.overviews c.all_stay-stay.ensures same c.in_ok-overviews.ensures;
+      overviews = known_after c.in_ok-overviews.overviews c.leaves-stay.result ks (splice e.sections.now.items e.from e.end e.kept.now) ls c.args.known.now.overviews.items c.requires.known.overviews c.leaves-stay.ensures same c.in_ok-overviews.ensures;
       plain = λ h. subst (λ (us : List KeptValue). AllByRecursion IsPlain (faultless us)) same (c.are_plain_by-are_plain.ensures.after h);
     }

@@ -1,5 +1,5 @@
 use Rattle.std.proofs.Common.{◌≡◌, take}
-use Rattle.yl_patch.proofs.comparing.are_same_comments.Given as goal
+use Rattle.yl_sections.proofs.comparing.are_same_findings.Given as goal
 
 abbrev pub invariant-loop-i : goal.invariant-loop-i
 invariant-loop-i g l = take l.i l.one ≡ take l.i l.other

@@ -9,9 +9,9 @@ use Rattle.yl_sections.specs.Sections.{sections}
 use Rattle.yl_sections.specs.Local.{all_rows, row_total}
 use Rattle.yl_sections.proofs.Local.{joined_parts}
 use Rattle.yl_rescan.specs.Held.{IsCutAt}
-use Rattle.yl_session.proofs.HeldKept.{IsQuietRow}
-use Rattle.yl_session.proofs.HeldStops.{Fails, fails_above, quiet_below, row_within, stopped_at, without_lexemes}
-use Rattle.yl_session.proofs.HeldSections.{grown, rows_of_all, sections_at, sections_grown}
+use Rattle.yl_sections.proofs.Quiet.{IsQuietRow}
+use Rattle.yl_rescan.proofs.Stops.{Fails, fails_above, quiet_below, row_within, stopped_at, without_lexemes}
+use Rattle.yl_sections.proofs.QuietSections.{grown, rows_of_all, sections_at, sections_grown}
 
 -- ---- the text's
 

@@ -145,20 +145,6 @@ arranged_moved levels s n xs h =
 abbrev AreAlike : (RuleId → ℕ → Bool) → (RuleId → ℕ → Bool) → List FindingValue → Type 0
 AreAlike s t fs = AllByRecursion (λ f. s f.rule (f.line - 1) ≡ t f.rule (f.line - 1)) fs
 
-filter_alike : (levels : LevelTable) (s t : RuleId → ℕ → Bool) (xs : List FindingValue) → AreAlike s t xs → filter (reported levels s) xs ≡ filter (reported levels t) xs
-filter_alike levels s t [] h = refl
-filter_alike levels s t (x ∷ xs) h =
-    ap (λ (fs : List FindingValue). cond (reported levels s x) (x ∷ fs) fs) (filter_alike levels s t xs h.1)
-    ∙ ap (λ b. cond (is_some (levels x.rule) && (is_syntax x.rule || not b)) (x ∷ filter (reported levels t) xs) (filter (reported levels t) xs)) h.0
-
-alike_within : (s t : RuleId → ℕ → Bool) (n : ℕ) (xs : List FindingValue) → AllByRecursion (λ f. (0 < f.line) × (f.line ≤ n)) xs → ((rule : RuleId) (line : ℕ) → line < n → s rule line ≡ t rule line) → AreAlike s t xs
-alike_within s t n [] h e = tt
-alike_within s t n (x ∷ xs) h e = (e x.rule (x.line - 1) (omega (arith, h.0.0, h.0.1)), alike_within s t n xs h.1 e)
-
-pub arranged_alike : (levels : LevelTable) (s t : RuleId → ℕ → Bool) (n : ℕ) (xs : List FindingValue) → AllByRecursion (λ f. (0 < f.line) × (f.line ≤ n)) xs → ((rule : RuleId) (line : ℕ) → line < n → s rule line ≡ t rule line)
-    → arranged levels s xs ≡ arranged levels t xs
-arranged_alike levels s t n xs h e = ap (λ (fs : List FindingValue). filter_map (with_level levels) (sorted_once fs)) (filter_alike levels s t xs (alike_within s t n xs h e))
-
 -- ---- lines apart
 
 pub arranged_apart : (levels : LevelTable) (s : RuleId → ℕ → Bool) (n : ℕ) (xs ys : List FindingValue) → AllByRecursion (λ f. f.line ≤ n) xs → AllByRecursion (λ f. n < f.line) ys

@@ -26,7 +26,7 @@ use Rattle.yl_sections.specs.Judge.{document_of, kept_of_section}
 use Rattle.yl_sections.specs.Last.{HasNoLexeme}
 use Rattle.yl_sections.proofs.Last.{run_count}
 use Rattle.yl_rescan.specs.Agree.{state_of_row}
-use Rattle.yl_session.proofs.HeldKept.{IsQuietRow}
+use Rattle.yl_sections.proofs.Quiet.{IsQuietRow}
 
 -- ---- above it
 
@@ -173,9 +173,6 @@ not_behind : (o : Option SectionFaultValue) (text : List ℕ) → IsHere o → o
 not_behind None text h e = h
 not_behind (Some (Here place other)) text h e = cc
 not_behind (Some (Behind other)) text h e = h
-
-pub never_behind : (config : Config) (rs : List RecordValue) (text : List ℕ) → Fails rs → (kept_of_section config rs).fault ≡ Some (Behind text) → ⊥
-never_behind config rs text h e = not_behind (kept_of_section config rs).fault text (kept_here config rs h) e
 
 -- one of these sections has a fault at a place
 abbrev pub HaveHere : List KeptValue → Type 0

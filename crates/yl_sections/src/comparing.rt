@@ -1,14 +1,12 @@
 //! Whether what is kept of two sections is the same.
-ghost use Rattle.std.specs.Prelude.{◌≡◌, ◌-◌, true, length, take, drop};
-ghost use Rattle.std.specs.List.{splice};
-ghost use Rattle.yl_text.specs.Store.{IsRange};
+ghost use Rattle.std.specs.Prelude.{◌≡◌, true};
 ghost use Rattle.std.specs.Option.{option_map};
 ghost use Rattle.yl_sections.specs.Owned.{section_fault_value};
 
+use crate::fault::SectionFault;
+use crate::kept::{Kept, KeptComment};
 use std::alloc::Allocator;
-use yl_chunks::Chunks;
 use yl_indentation::{Expectation, Fact};
-use yl_sections::{Kept, KeptComment, SectionFault};
 use yl_text::Finding;
 
 fn is_same_finding<A: Allocator>(one: &Finding<A>, other: &Finding<A>) -> bool
@@ -114,50 +112,20 @@ fn is_same_fault(one: Option<SectionFault>, other: Option<SectionFault>) -> bool
     }
 }
 
-/// Whether what is kept of two sections is the same.
-fn is_same<A: Allocator>(one: &Kept<A>, other: &Kept<A>) -> bool
-    ensures { result ≡ true → one.now ≡ other.now }
-{
-    one.rows() == other.rows()
-        && one.first() == other.first()
-        && are_same_findings(one.found(), other.found())
-        && are_same_facts(one.facts(), other.facts())
-        && are_same_comments(one.comments(), other.comments())
-        && is_same_fault(one.fault(), other.fault())
-        && are_same_findings(one.hidden(), other.hidden())
-        && is_same_fault(one.parse_fault(), other.parse_fault())
-}
+impl<A: Allocator> Kept<A> {
+    ghost use Rattle.std.specs.Prelude.{◌≡◌, true};
 
-/// Whether what is kept of the sections from one on, before `end`, is the same as this.
-fn are_same<A: Allocator + Copy>(
-    kept: &Chunks<Kept<A>, A>,
-    from: usize,
-    end: usize,
-    other: &[Kept<A>],
-) -> bool
-    requires { IsRange from end (length kept.now.items) }
-    ensures { result ≡ true → take (end - from) (drop from kept.now.items) ≡ other.now }
-{
-    if end - from != other.len() {
-        return false;
+    /// Whether what is kept of two sections is the same.
+    pub fn is_same(&self, other: &Kept<A>) -> bool
+        ensures { result ≡ true → self.now ≡ other.now }
+    {
+        self.rows() == other.rows()
+            && self.first() == other.first()
+            && are_same_findings(self.found(), other.found())
+            && are_same_facts(self.facts(), other.facts())
+            && are_same_comments(self.comments(), other.comments())
+            && is_same_fault(self.fault(), other.fault())
+            && are_same_findings(self.hidden(), other.hidden())
+            && is_same_fault(self.parse_fault(), other.parse_fault())
     }
-    for i in 0..other.len() {
-        if !is_same(kept.get(from + i), &other[i]) {
-            return false;
-        }
-    }
-    true
-}
-
-/// Whether what is kept of the sections from one on, before `end`, stays as it is where this is put in its place.
-pub fn stays<A: Allocator + Copy>(
-    kept: &Chunks<Kept<A>, A>,
-    from: usize,
-    end: usize,
-    new: &[Kept<A>],
-) -> bool
-    requires { IsRange from end (length kept.now.items) }
-    ensures { result ≡ true → splice kept.now.items from end new.now ≡ kept.now.items }
-{
-    are_same(kept, from, end, new)
 }

@@ -3,7 +3,7 @@ use Rattle.std.specs.List.{slice_get}
 use Rattle.std.proofs.lemmas.List.{get_or-drop, length-drop, take_more_same}
 use Rattle.std.proofs.lemmas.Option.{get_or_from_slice_get, slice_get_within}
 use Rattle.yl_sections.specs.Kept.{KeptValue}
-use Rattle.yl_patch.proofs.comparing.are_same.Goals as goal
+use Rattle.yl_rejudge.proofs.comparing.are_same.Goals as goal
 
 -- one more is the same
 one_more : (ks ns : List KeptValue) (from i : ℕ) (k n : KeptValue) → slice_get ks (from + i) ≡ Some k → i < length ns → n ≡ get_or ns i n → k ≡ n

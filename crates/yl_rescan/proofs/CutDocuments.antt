@@ -11,10 +11,10 @@ use Rattle.yl_sections.specs.Local.{row_total}
 use Rattle.yl_sections.specs.Kept.{document_count}
 use Rattle.yl_rejudge.specs.Documents.{documents_holding}
 use Rattle.yl_rescan.specs.Held.{IsCutAt}
-use Rattle.yl_session.proofs.HeldCut.{held_sections, quiet, rows_above, stops_at, true_sections}
-use Rattle.yl_session.proofs.HeldKept.{IsQuietRow, same_documents}
-use Rattle.yl_session.proofs.HeldSections.{grown, grown_behind}
-use Rattle.yl_session.proofs.HeldStops.{count_records, row_within}
+use Rattle.yl_rescan.proofs.Cut.{held_sections, quiet, rows_above, stops_at, true_sections}
+use Rattle.yl_sections.proofs.Quiet.{IsQuietRow, same_documents}
+use Rattle.yl_sections.proofs.QuietSections.{grown, grown_behind}
+use Rattle.yl_rescan.proofs.Stops.{count_records, row_within}
 
 -- ---- one section
 
