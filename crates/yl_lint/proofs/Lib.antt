@@ -7,3 +7,11 @@ pub mod Shown
 pub mod Onward
 pub mod Together
 pub mod Arranged
+pub mod Ends
+pub mod FewLines
+pub mod LineParts
+pub mod Pushed
+pub mod ReadAlike
+pub mod Windows
+pub mod Silenced
+pub mod Spoken

@@ -3,3 +3,7 @@ pub mod Left
 pub mod TextReport
 pub mod Unsilenced
 pub mod Onward
+pub mod Edit
+pub mod Alike
+pub mod There
+pub mod Switches

@@ -4,23 +4,34 @@
 //! on lines find: `report_of_lines`. Sections after the first with a fault are hidden.
 //!
 //! For a session, which keeps the records and what is kept of the sections, there are two of the steps by themselves: `kept_of_records` and
-//! `report_with_kept`, and what finds problems in lines, in a section, and by its fault.
+//! `report_with_kept`, and what finds problems in lines, in a section, in some of both, and by a fault. `TextEdit` is an edit of the lines,
+//! `reads_alike` says where it leaves what is found in them.
 #![tactic(auto)]
 
 mod assembling;
 mod comments;
+mod edit;
 mod fault;
 mod kept;
 mod laws;
 mod lines;
 mod lint;
 mod moving;
+mod switches;
+mod there;
+mod unchanged;
+mod window;
 
 pub use assembling::{push_section, report_of_kept};
 pub use comments::push_comments;
+pub use edit::TextEdit;
 pub use fault::finding_of_fault;
 pub use kept::kept_of_records;
 pub use laws::{heard_of_text, indentation_looks_back, one_report};
 pub use lines::{end_of, find_in_lines, first_text};
 pub use lint::{report_of_lines, report_of_text, report_with_kept};
-pub use moving::{line_below, push_moved};
+pub use moving::line_below;
+pub use switches::{have_same_texts, retain_switches, speak_within};
+pub use there::{Ends, find_there};
+pub use unchanged::reads_alike;
+pub use window::Window;

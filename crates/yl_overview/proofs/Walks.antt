@@ -1,7 +1,6 @@
 -- Walks over sections: lists of them, their lines and the measure of their facts.
-use Rattle.std.proofs.Common.{◌≡◌, ℕ, suc, ◌+◌, ◌-◌, ◌<◌, ◌≤◌, List, [], ◌∷◌, ◌++◌, length, take, drop, get_or, refl, ap, sym, subst, ◌∙◌, arith, rules, add-one, append_assoc}
+use Rattle.std.proofs.Common.{◌≡◌, ℕ, ◌+◌, ◌-◌, ◌<◌, ◌≤◌, List, [], ◌∷◌, ◌++◌, length, take, drop, get_or, refl, ap, sym, subst, ◌∙◌, arith, rules, append_assoc}
 use Rattle.std.specs.List.{AllByRecursion}
-use Rattle.std.proofs.Math.Seq.{drop-cons}
 use Rattle.std.proofs.lemmas.List.{same_lists, places, take_more, take-append-drop}
 use Rattle.yl_indentation.specs.declared.fact.Fact.{Fact}
 use Rattle.yl_indentation.specs.declared.measure.Measure.{Measure}
@@ -30,9 +29,6 @@ pub all_drop : {X : Type 0} (P : X → Type 0) (xs : List X) (n : ℕ) → AllBy
 all_drop P xs n h = all_back P (take n xs) (drop n xs) (subst (λ ys. AllByRecursion P ys) (sym (take-append-drop n xs)) h)
 
 -- ---- one section more
-
-pub one_at : (ks : List KeptValue) (i : ℕ) (k : KeptValue) → i < length ks → k ≡ get_or ks i k → drop i ks ≡ k ∷ drop (i + 1) ks
-one_at ks i k l e = rw (add-one i) (drop-cons ks i k l ∙ ap (λ (x : KeptValue). x ∷ drop (suc i) ks) (sym e))
 
 pub one_more : (ks : List KeptValue) (i : ℕ) (k : KeptValue) → i < length ks → k ≡ get_or ks i k → take (i + 1) ks ≡ take i ks ++ k ∷ []
 one_more ks i k l e = take_more ks i k l ∙ ap (λ (x : KeptValue). take i ks ++ x ∷ []) (sym e)

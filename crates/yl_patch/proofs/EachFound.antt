@@ -26,7 +26,7 @@ use Rattle.yl_patch.specs.Faultless.{faultless}
 use Rattle.yl_patch.specs.Found.{fault_told, found_by, is_shown, parts_of}
 use Rattle.yl_patch.specs.Plain.{IsPlain, is_of_section}
 use Rattle.yl_patch.proofs.RuleKinds.{in_lines_of, in_sections_of, lines_no_fault, section_no_fault}
-use Rattle.yl_patch.proofs.Lines.{Between, between_both, empty_lines_between, end_of_file_between, new_lines_between, rows_between}
+use Rattle.yl_lint.proofs.LineParts.{Between, between_both, empty_lines_between, end_of_file_between, new_lines_between, rows_between}
 use Rattle.yl_parting.proofs.Ordered.{all_filter, all_then, filter_all, filter_swap}
 use Rattle.yl_patch.proofs.Passing.{all_report}
 use Rattle.yl_patch.proofs.ReportShown.{fault_of_all, found_whole}

@@ -30,7 +30,8 @@ use Rattle.yl_patch.specs.Found.{all_parts, found_by}
 use Rattle.yl_patch.specs.Plain.{IsPlain}
 use Rattle.yl_overview.specs.Overview.{IsFirstFault, IsSound}
 use Rattle.yl_patch.proofs.Ready.{no_fault_in, none_shown, none_told}
-use Rattle.yl_overview.proofs.Walks.{measured, one_at}
+use Rattle.yl_overview.proofs.Walks.{measured}
+use Rattle.yl_lint.proofs.Pushed.{one_at}
 use Rattle.yl_patch.proofs.ShownSections.{of_sound, shown_sound}
 use Rattle.yl_patch.proofs.WithoutFaults.{findings_faultless, measured_faultless, sound_faultless}
 

@@ -1,46 +1,19 @@
 -- What is found below sections, behind facts of either of two measures, and the measure of all then.
 use Rattle.std.proofs.Common.{◌≡◌, ℕ, ◌+◌, ◌<◌, ◌≤◌, List, ◌∷◌, ◌++◌, length, map, drop, get_or, refl, ap, sym, subst, ◌∙◌, append-nil, append_assoc}
 use Rattle.yl_text.specs.Finding.{FindingValue}
-use Rattle.yl_indentation.specs.declared.fact.Fact.{Fact}
 use Rattle.yl_indentation.specs.declared.measure.Measure.{Measure}
 use Rattle.yl_indentation.specs.declared.options.IndentationOptions.{IndentationOptions}
 use Rattle.yl_indentation.specs.Measures.{and_later, measure_of}
-use Rattle.yl_indentation.specs.Onward.{AreJudgedAlike, CountsEntriesOnceSeen}
-use Rattle.yl_indentation.proofs.Onward.{both_count, facts_count, problems_of_these}
+use Rattle.yl_indentation.specs.Onward.{AreJudgedAlike}
 use Rattle.yl_sections.specs.Kept.{KeptValue}
 use Rattle.yl_lint.specs.Onward.{onward_in_section, onward_in_sections}
 use Rattle.yl_lint.specs.TextReport.{findings_in_section, findings_in_sections, moved}
 use Rattle.yl_patch.specs.Seen.{AreFoundAlike}
-use Rattle.yl_overview.proofs.Walks.{none_left, one_at}
+use Rattle.yl_overview.proofs.Walks.{none_left}
+use Rattle.yl_lint.proofs.Pushed.{one_at}
 
--- ---- a section, by the facts up to each place
+-- ---- by the measure of all
 
-pub counts_more : (before more later : Measure) (fs : List Fact) → later ≡ and_later before more → more ≡ measure_of fs → CountsEntriesOnceSeen before → CountsEntriesOnceSeen later
-counts_more before more later fs is measured_is counts =
-    subst (λ (m : Measure). CountsEntriesOnceSeen m) (sym (is ∙ ap (and_later before) measured_is)) (both_count before (measure_of fs) counts (facts_count fs))
-
-pub section_onward : (o : IndentationOptions) (upto : Measure) (line : ℕ) (before : Measure) (k : KeptValue) → upto ≡ and_later before (measure_of k.facts) → CountsEntriesOnceSeen before
-    → findings_in_section o upto line before k ≡ onward_in_section o line before k
-section_onward o upto line before k is counts =
-    ap (λ (m : Measure). findings_in_section o m line before k) is ∙ ap (λ (fs : List FindingValue). map (moved line) (k.found ++ fs)) (problems_of_these o before k.facts counts)
-
--- what is found in one more section is put behind the rest
-pushed_more : (o : IndentationOptions) (line next : ℕ) (here later : Measure) (old new : List FindingValue) (k : KeptValue) (ks : List KeptValue) → new ≡ old ++ onward_in_section o line here k → next ≡ line + k.rows → later ≡ and_later here (measure_of k.facts)
-    → new ++ onward_in_sections o next later ks ≡ old ++ onward_in_sections o line here (k ∷ ks)
-pushed_more o line next here later old new k ks put row_is later_is =
-    let one = onward_in_section o line here k in
-    ap (λ (fs : List FindingValue). fs ++ onward_in_sections o next later ks) put
-    ∙ (append_assoc old one (onward_in_sections o next later ks)
-    ∙ (ap (λ (n : ℕ). old ++ (one ++ onward_in_sections o n later ks)) row_is
-    ∙ ap (λ (m : Measure). old ++ (one ++ onward_in_sections o (line + k.rows) m ks)) later_is))
-
-module _ (o : IndentationOptions) (line next : ℕ) (here later : Measure) (old new total : List FindingValue) (ks : List KeptValue) (i : ℕ) (k : KeptValue) (l : i < length ks) (is : k ≡ get_or ks i k)
-    (row_is : next ≡ line + k.rows) (later_is : later ≡ and_later here (measure_of k.facts)) where
-  pub pushed_next : new ≡ old ++ onward_in_section o line here k → old ++ onward_in_sections o line here (drop i ks) ≡ total → new ++ onward_in_sections o next later (drop (i + 1) ks) ≡ total
-  pushed_next put whole =
-      pushed_more o line next here later old new k (drop (i + 1) ks) put row_is later_is ∙ (ap (λ (xs : List KeptValue). old ++ onward_in_sections o line here xs) (sym (one_at ks i k l is)) ∙ whole)
-
--- the same by the measure of all
 module _ (o : IndentationOptions) (whole : Measure) (line next : ℕ) (here later : Measure) (old new total : List FindingValue) (ks : List KeptValue) (i : ℕ) where
   pub pushed_whole : (k : KeptValue) → i < length ks → k ≡ get_or ks i k → next ≡ line + k.rows → later ≡ and_later here (measure_of k.facts)
       → new ≡ old ++ findings_in_section o whole line here k → old ++ findings_in_sections o whole line here (drop i ks) ≡ total → new ++ findings_in_sections o whole next later (drop (i + 1) ks) ≡ total

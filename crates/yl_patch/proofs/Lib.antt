@@ -1,15 +1,12 @@
 pub mod AlikeShown
 pub mod EachFound
-pub mod Ends
 pub mod FaultFound
 pub mod Given
 pub mod RuleKinds
 pub mod Later
-pub mod Lines
 pub mod Parts
 pub mod PartsEdited
 pub mod Passing
-pub mod ReadAlike
 pub mod Ready
 pub mod Renewed
 pub mod ReportShown
@@ -21,8 +18,5 @@ pub mod ShownBy
 pub mod ShownSections
 pub mod ShownThere
 pub mod Shows
-pub mod Silenced
 pub mod SilencingSections
-pub mod Spoken
-pub mod Walks
 pub mod WithoutFaults

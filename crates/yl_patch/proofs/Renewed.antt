@@ -29,11 +29,11 @@ use Rattle.yl_patch.specs.Faultless.{faultless, faultless_one}
 use Rattle.yl_patch.specs.Found.{found_by}
 use Rattle.yl_patch.specs.Plain.{IsPlain}
 use Rattle.yl_patch.specs.Seen.{AreFoundAlike, IsSeen, measure_upto, new_lines_of, sections_between}
-use Rattle.yl_patch.specs.There.{found_there, lines_there}
-use Rattle.yl_patch.specs.declared.touched.Ends.{Ends}
+use Rattle.yl_lint.specs.There.{found_there, lines_there}
+use Rattle.yl_lint.specs.declared.there.Ends.{Ends}
 use Rattle.yl_patch.specs.declared.touched.Touched.{Touched}
 use Rattle.yl_lint.proofs.Arranged.{arranged, arranged_lines, arranged_moved, lower}
-use Rattle.yl_patch.proofs.Lines.{back_seam, front_seam, if_none, is_seam, none_by, seam_behind, seam_more}
+use Rattle.yl_lint.proofs.LineParts.{if_none, is_seam, none_by, seam_behind, seam_more}
 use Rattle.yl_patch.proofs.Parts.{lines_above, part, part_alike, part_between, parts_apart, patched, patched_so}
 use Rattle.yl_patch.proofs.Sections.{no_fault, shown_plain}
 use Rattle.yl_overview.proofs.Walks.{all_back, all_both, all_front, measured, rows_until}
@@ -155,6 +155,17 @@ module _ (levels : LevelTable) (o : RuleOptions) (ks ls news ms : List KeptValue
       i_is j_is up_is down_is
 
 -- ---- an edit
+
+-- a seam where one side has no line, or else the second lines begin with one that is not empty
+front_seam : (xs ys : List RowValue) → (if_none xs true ≡ false → is_filled (slice_get ys 0) ≡ true) → is_seam xs ys ≡ true
+front_seam [] ys h = refl
+front_seam (x ∷ xs) [] h = refl
+front_seam (x ∷ xs) (y ∷ ys) h = h refl
+
+back_seam : (xs ys : List RowValue) → (if_none ys true ≡ false → is_filled (slice_get ys 0) ≡ true) → is_seam xs ys ≡ true
+back_seam [] ys h = refl
+back_seam (x ∷ xs) [] h = refl
+back_seam (x ∷ xs) (y ∷ ys) h = h refl
 
 -- a line at the head of what is left
 head_dropped : (rows : List RowValue) (i : ℕ) → slice_get (drop i rows) 0 ≡ slice_get rows i

@@ -33,7 +33,7 @@ use Rattle.yl_patch.specs.Faultless.{faultless, faultless_one}
 use Rattle.yl_patch.specs.Found.{all_parts, fault_told, found_by}
 use Rattle.yl_patch.specs.Plain.{IsPlain, is_of_section}
 use Rattle.yl_patch.proofs.RuleKinds.{AreOf, in_lines_of, in_sections_of, lines_no_fault, section_no_fault, section_not_lines}
-use Rattle.yl_patch.proofs.Lines.{Between}
+use Rattle.yl_lint.proofs.LineParts.{Between}
 use Rattle.yl_patch.proofs.Passing.{filter_both, filter_report}
 use Rattle.yl_patch.proofs.Sections.{no_fault, sections_between, sections_both, shown_plain}
 use Rattle.yl_overview.proofs.Walks.{all_back, all_front, measured}

@@ -11,9 +11,10 @@ use Rattle.yl_rejudge.proofs.KeptRows.{got}
 use Rattle.yl_lint.specs.TextReport.{comments_in_sections, shown, unless_fault}
 use Rattle.yl_overview.specs.Overview.{IsFirstFault, IsSilencingOf, IsSound}
 use Rattle.yl_overview.specs.declared.overview.Silencing.{Silencing}
-use Rattle.yl_patch.specs.Speaking.{SpeaksWithin, may_switch, switch_texts}
+use Rattle.yl_lint.specs.Switches.{SpeaksWithin, may_switch, switch_texts}
 use Rattle.yl_patch.proofs.SilencingSections.{comments_known}
-use Rattle.yl_overview.proofs.Walks.{one_at, one_more, rows_both}
+use Rattle.yl_overview.proofs.Walks.{one_more, rows_both}
+use Rattle.yl_lint.proofs.Pushed.{one_at}
 
 -- ---- the sections that are shown
 

@@ -23,7 +23,8 @@ use Rattle.yl_lint.specs.Onward.{onward_in_section, onward_in_sections}
 use Rattle.yl_patch.specs.Plain.{IsPlain}
 use Rattle.yl_overview.specs.Overview.{IsSilent}
 use Rattle.yl_overview.proofs.Walks.{all_both, measured}
-use Rattle.yl_patch.proofs.Lines.{Between, between_both}
+use Rattle.yl_lint.proofs.LineParts.{Between, between_both}
+use Rattle.yl_lint.proofs.Pushed.{sections_moved}
 
 -- ---- sections that have no fault, and those that silence nothing
 
@@ -102,25 +103,6 @@ and_later_none m = λ i. record { step = known m.step i; step_with_entries = kno
     known (Some x) = refl
 
 -- ---- parts
-
-same_place : (n line there : ℕ) (f : FindingValue) → there ≡ n + line → moved there f ≡ moved n (moved line f)
-same_place n line there f e =
-    let l : there + f.line ≡ n + (line + f.line) = omega (arith, e) in
-    λ i. record { line = l i; column = f.column; rule = f.rule; message = f.message }
-
-all_moved : (n line there : ℕ) (fs : List FindingValue) → there ≡ n + line → map (moved there) fs ≡ map (moved n) (map (moved line) fs)
-all_moved n line there [] e = refl
-all_moved n line there (f ∷ fs) e =
-    ap (λ (g : FindingValue). g ∷ map (moved there) fs) (same_place n line there f e) ∙ ap (λ (gs : List FindingValue). moved n (moved line f) ∷ gs) (all_moved n line there fs e)
-
-pub sections_moved : (o : IndentationOptions) (before : Measure) (n line there : ℕ) (ks : List KeptValue) → there ≡ n + line
-    → onward_in_sections o there before ks ≡ map (moved n) (onward_in_sections o line before ks)
-sections_moved o before n line there [] e = refl
-sections_moved o before n line there (k ∷ ks) e =
-    let later = and_later before (measure_of k.facts) in
-    ap (λ (fs : List FindingValue). onward_in_section o there before k ++ fs) (sections_moved o later n (line + k.rows) (there + k.rows) ks (omega (arith, e)))
-    ∙ (ap (λ (fs : List FindingValue). fs ++ map (moved n) (onward_in_sections o (line + k.rows) later ks)) (all_moved n line there (k.found ++ onward_problems o before k.facts) e)
-    ∙ sym (map-append (moved n) (onward_in_section o line before k) (onward_in_sections o (line + k.rows) later ks)))
 
 pub sections_both : (o : IndentationOptions) (before : Measure) (line there : ℕ) (ks ls : List KeptValue) → there ≡ line + rows_kept ks
     → onward_in_sections o line before (ks ++ ls) ≡ onward_in_sections o line before ks ++ onward_in_sections o there (and_later before (measured ks)) ls

@@ -6,7 +6,8 @@ use Rattle.yl_sections.specs.Kept.{KeptValue, SectionFaultValue}
 use Rattle.yl_rejudge.specs.Places.{rows_kept}
 use Rattle.yl_lint.specs.TextReport.{comments_in_sections, shown, unless_fault}
 use Rattle.yl_overview.specs.Overview.{IsSilent, has_fault}
-use Rattle.yl_patch.specs.Speaking.{SpeakAlike, SpeaksWithin, switch_texts}
+use Rattle.yl_lint.specs.Switches.{SpeaksWithin, switch_texts}
+use Rattle.yl_patch.specs.Speaking.{SpeakAlike}
 use Rattle.yl_patch.proofs.Sections.{no_comments}
 use Rattle.yl_patch.proofs.ShownSections.{shown_sound}
 

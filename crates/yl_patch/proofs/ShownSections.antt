@@ -14,7 +14,7 @@ use Rattle.yl_patch.specs.Plain.{IsPlain}
 use Rattle.yl_overview.specs.Overview.{IsSound, has_fault}
 use Rattle.yl_patch.proofs.ReportShown.{plain_shown}
 use Rattle.yl_patch.proofs.Sections.{comments_two, comments_within}
-use Rattle.yl_patch.proofs.Silenced.{moved_high, said_above}
+use Rattle.yl_lint.proofs.Silenced.{moved_high, said_above}
 use Rattle.yl_patch.proofs.WithoutFaults.{rows_faultless}
 
 -- ---- one after another

@@ -23,11 +23,11 @@ use Rattle.yl_parting.proofs.Ordered.{all_then, filter_same}
 use Rattle.yl_patch.specs.Faultless.{faultless}
 use Rattle.yl_patch.specs.Found.{is_shown}
 use Rattle.yl_patch.specs.Plain.{IsPlain}
-use Rattle.yl_patch.specs.There.{found_there, lines_there}
-use Rattle.yl_patch.specs.declared.touched.Ends.{Ends}
+use Rattle.yl_lint.specs.There.{found_there, lines_there}
+use Rattle.yl_lint.specs.declared.there.Ends.{Ends}
 use Rattle.yl_patch.proofs.AlikeShown.{upto_alike}
 use Rattle.yl_patch.proofs.EachFound.{InFirst}
-use Rattle.yl_patch.proofs.Lines.{Between, between_both, empty_lines_between, end_of_file_between, new_lines_between, rows_between}
+use Rattle.yl_lint.proofs.LineParts.{Between, between_both, empty_lines_between, end_of_file_between, new_lines_between, rows_between}
 use Rattle.yl_patch.proofs.Passing.{all_report}
 use Rattle.yl_patch.proofs.Sections.{between_moved, between_wider, sections_between}
 use Rattle.yl_overview.proofs.Walks.{rows_both}

@@ -10,7 +10,8 @@ use Rattle.yl_lint.specs.TextReport.{comments_in_sections, moved_comment}
 use Rattle.yl_overview.specs.Overview.{AreFew, IsSilencingOf, IsSilent}
 use Rattle.yl_overview.specs.declared.overview.Silencing.{Silencing}
 use Rattle.yl_patch.proofs.Sections.{comments_both, no_comments}
-use Rattle.yl_overview.proofs.Walks.{all_both, all_drop, all_take, one_at}
+use Rattle.yl_overview.proofs.Walks.{all_both, all_drop, all_take}
+use Rattle.yl_lint.proofs.Pushed.{one_at}
 
 abbrev Silent : List KeptValue → Type 0
 Silent ks = AllByRecursion IsSilent ks

@@ -16,7 +16,8 @@ use Rattle.yl_patch.specs.Faultless.{faultless, faultless_one}
 use Rattle.yl_patch.specs.Plain.{IsPlain, IsWithin, is_of_section}
 use Rattle.yl_overview.specs.Overview.{IsSound}
 use Rattle.yl_patch.specs.Seen.{sections_between}
-use Rattle.yl_overview.proofs.Walks.{all_both, measured, all_drop, all_take, one_at}
+use Rattle.yl_overview.proofs.Walks.{all_both, measured, all_drop, all_take}
+use Rattle.yl_lint.proofs.Pushed.{one_at}
 
 -- ---- sections as if none had a fault
 

@@ -1,6 +1,4 @@
-pub mod Alike
 pub mod Cut
-pub mod Edit
 pub mod Faultless
 pub mod Found
 pub mod Patching
@@ -8,4 +6,3 @@ pub mod Plain
 pub mod Seen
 pub mod ShownUpto
 pub mod Speaking
-pub mod There

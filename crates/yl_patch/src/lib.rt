@@ -10,7 +10,6 @@
 
 mod below;
 mod comments;
-mod edit;
 mod fault;
 mod found;
 mod laws;
@@ -20,16 +19,9 @@ mod plain;
 mod seen;
 mod showing;
 mod speaking;
-mod there;
 mod touched;
-mod unchanged;
-mod window;
 
-pub use edit::TextEdit;
-pub use fault::fault_of;
 pub use found::found_problems;
 pub use laws::report_is_shown;
 pub use patching::patched_problems;
 pub use plain::{are_all_plain, are_plain};
-pub use showing::showing_of;
-pub use unchanged::reads_alike;

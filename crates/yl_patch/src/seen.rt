@@ -3,16 +3,14 @@ ghost use Rattle.std.specs.Prelude.{◌≡◌, true, false, take, slice_get, IfO
 ghost use Rattle.yl_rejudge.specs.Places.{rows_kept};
 ghost use Rattle.yl_overview.specs.Edit.{IsSectionEdit};
 ghost use Rattle.yl_patch.specs.Cut.{is_filled};
-ghost use Rattle.yl_patch.specs.Edit.{IsTextEdit};
+ghost use Rattle.yl_lint.specs.Edit.{IsTextEdit};
 ghost use Rattle.yl_patch.specs.Seen.{IsCut, IsSeen};
 
-use crate::edit::TextEdit;
 use crate::measures::leaves_below;
-use crate::there::find_there;
-use crate::touched::{Ends, Touched, ends_of, find_touched, is_filled, is_inside};
-use crate::window::Window;
+use crate::touched::{Touched, ends_of, find_touched, is_filled, is_inside};
 use std::alloc::{AllocError, Allocator};
 use yl_config::Config;
+use yl_lint::{Ends, TextEdit, Window, find_there};
 use yl_overview::SectionEdit;
 use yl_text::{Finding, LineStore, Lines};
 

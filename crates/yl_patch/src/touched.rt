@@ -5,6 +5,7 @@ ghost use Rattle.yl_overview.specs.Edit.{IsSectionEdit};
 ghost use Rattle.yl_patch.specs.Cut.{IsInside, is_filled};
 
 use std::alloc::Allocator;
+use yl_lint::Ends;
 use yl_overview::SectionEdit;
 use yl_text::Lines;
 
@@ -14,13 +15,6 @@ pub struct Touched {
     pub first: u32,
     pub old_end: u32,
     pub new_end: u32,
-}
-
-/// Whether some lines of a text begin it, and whether they end it.
-#[derive(Clone, Copy, Debug)]
-pub struct Ends {
-    pub begins: bool,
-    pub ends: bool,
 }
 
 /// Where the sections stand that an edit touches.

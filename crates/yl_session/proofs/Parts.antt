@@ -32,7 +32,7 @@ use Rattle.yl_parting.proofs.Ordered.{order_filter}
 use Rattle.yl_patch.proofs.EachFound.{parts_low}
 use Rattle.yl_patch.proofs.PartsEdited.{fault_apart}
 use Rattle.yl_patch.proofs.ReportShown.{report_shown}
-use Rattle.yl_patch.specs.Alike.{AreReadAlike}
+use Rattle.yl_lint.specs.Alike.{AreReadAlike}
 use Rattle.yl_session.specs.Parts.{KnownText, Makes, known_text}
 
 -- by what is found in the lines, the first of them and where they end

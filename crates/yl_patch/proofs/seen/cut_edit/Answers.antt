@@ -1,7 +1,7 @@
 use Rattle.std.proofs.Common.{◌==◌, List, length, arith, ap, sym, subst, ◌∙◌}
 use Rattle.std.specs.List.{slice_get}
 use Rattle.yl_text.specs.Lines.{RowValue}
-use Rattle.yl_patch.proofs.Given.{few_lines, few_new}
+use Rattle.yl_lint.proofs.FewLines.{few_lines, few_new}
 use Rattle.yl_patch.specs.Cut.{IsInside, is_filled}
 use Rattle.yl_patch.proofs.seen.cut_edit.Goals as goal
 

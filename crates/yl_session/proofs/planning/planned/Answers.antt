@@ -13,7 +13,7 @@ use Rattle.yl_rejudge.specs.Documents.{TakesNothing}
 use Rattle.yl_rescan.specs.Held.{AreHeld}
 use Rattle.yl_config.specs.declared.config.Config.{Config}
 use Rattle.yl_lint.specs.TextReport.{report, report_by}
-use Rattle.yl_patch.proofs.Given.{few_lines}
+use Rattle.yl_lint.proofs.FewLines.{few_lines}
 use Rattle.yl_session.proofs.Bounds.{are_few, count_records}
 use Rattle.yl_session.proofs.HeldReport.{held_report}
 use Rattle.yl_session.proofs.Parts.{told_so}

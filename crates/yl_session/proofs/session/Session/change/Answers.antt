@@ -16,7 +16,7 @@ use Rattle.yl_parting.specs.Parts.{PartsValue}
 use Rattle.yl_parting.specs.Rooms.{IsReady}
 use Rattle.yl_session.specs.Known.{IsKnown, IsKnownAfter}
 use Rattle.yl_session.specs.State.{SessionValue}
-use Rattle.yl_patch.proofs.Given.{few_lines}
+use Rattle.yl_lint.proofs.FewLines.{few_lines}
 use Rattle.yl_session.proofs.Bounds.{count_records, few_kept}
 use Rattle.yl_session.proofs.Parts.{parts_are, parts_same}
 use Rattle.yl_session.proofs.session.Session.change.Goals as goal

@@ -1,0 +1,35 @@
+//! An edit of the lines of a text.
+ghost use Rattle.std.specs.Prelude.{◌≡◌};
+ghost use Rattle.std.specs.List.{splice};
+ghost use Rattle.yl_lint.specs.Edit.{IsTextEdit};
+
+use yl_text::{LineStore, Patched, Row};
+
+/// An edit of the lines of a text: these rows come in place of the lines a to b, b not included, counted from 0.
+pub struct TextEdit<'a, S: LineStore> {
+    pub store: &'a S,
+    pub a: usize,
+    pub b: usize,
+    pub rows: &'a [Row<S::Alloc>],
+}
+
+impl<S: LineStore> Drop for TextEdit<'_, S> {
+    fn drop(self) {
+        let TextEdit {
+            store: _,
+            a: _,
+            b: _,
+            rows: _,
+        } = self;
+    }
+}
+
+impl<'a, S: LineStore> TextEdit<'a, S> {
+    /// The lines that it leaves, with nothing copied.
+    pub fn edited(&self) -> Patched<'a, S>
+        requires { IsTextEdit (S.rows self.now.store.now) self.now.a self.now.b self.now.rows.now }
+        ensures { result ≡ splice (S.rows self.now.store.now) self.now.a self.now.b self.now.rows.now }
+    {
+        Patched::new(self.store, self.a, self.b, self.rows)
+    }
+}
