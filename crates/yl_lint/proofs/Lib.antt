@@ -7,7 +7,7 @@ pub mod Shown
 pub mod Onward
 pub mod Together
 pub mod Arranged
-pub mod Ends
+pub mod ByEnds
 pub mod FewLines
 pub mod LineParts
 pub mod Pushed

@@ -3,7 +3,7 @@ use Rattle.std.specs.List.{filter}
 use Rattle.std.proofs.lemmas.Fn.{filter_same}
 use Rattle.yl_config.specs.Config.{options_of}
 use Rattle.yl_lint.specs.There.{judges}
-use Rattle.yl_lint.proofs.Ends.{within_ends}
+use Rattle.yl_lint.proofs.ByEnds.{within_ends}
 use Rattle.yl_lint.proofs.there.find_in_some_lines.Goals as goal
 
 pub returns : goal.returns

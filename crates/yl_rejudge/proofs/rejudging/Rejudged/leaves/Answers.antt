@@ -2,7 +2,7 @@ use Rattle.std.proofs.Common.{List, ap, sym, ◌∙◌}
 use Rattle.std.specs.List.{splice}
 use Rattle.yl_sections.specs.Kept.{KeptValue}
 use Rattle.yl_rejudge.proofs.Same.{splice_same}
-use Rattle.yl_rejudge.proofs.comparing.Rejudged.leaves.Goals as goal
+use Rattle.yl_rejudge.proofs.rejudging.Rejudged.leaves.Goals as goal
 
 pub returns : goal.returns
 returns g c = λ h.

@@ -5,7 +5,7 @@ use Rattle.std.proofs.lemmas.List.{map-id}
 use Rattle.std.proofs.lemmas.Iterator.Consumers.{YieldsList-end}
 use Rattle.std.proofs.lemmas.Iterator.Adapters.{YieldsList-from_vec}
 use Rattle.yl_parting.specs.Showing.{is_shown_by}
-use Rattle.yl_parting.proofs.parting.FoundProblems.part.Goals as goal
+use Rattle.yl_parting.proofs.change.FoundProblems.part.Goals as goal
 
 pub returns : goal.returns
 returns g c =

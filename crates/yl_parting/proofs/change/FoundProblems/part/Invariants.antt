@@ -2,7 +2,7 @@ use Rattle.std.proofs.Common.{◌≡◌}
 use Rattle.std.specs.Prelude.{not}
 use Rattle.std.specs.List.{filter}
 use Rattle.yl_parting.specs.Showing.{is_shown_by}
-use Rattle.yl_parting.proofs.parting.FoundProblems.part.Given as goal
+use Rattle.yl_parting.proofs.change.FoundProblems.part.Given as goal
 
 abbrev pub invariant-loop-problem : goal.invariant-loop-problem
 invariant-loop-problem g l = record {
