@@ -3,7 +3,7 @@ use Rattle.std.specs.Prelude.{ℕ, ◌≡◌, refl, Bool, true, false, not, List
 use Rattle.std.proofs.Common.{sym, ◌∙◌, ap}
 use Rattle.yl_lexeme.specs.declared.lexeme.Kind.{Kind}
 use Rattle.yl_marks.specs.declared.symbol.Symbol.{Symbol}
-use Rattle.yl_marks.specs.declared.symbol.Symbol.TheVariants.{OpenSequence, OpenMapping, BeginKey, Close, One}
+use Rattle.yl_marks.specs.declared.symbol.Symbol.TheVariants.{OpenSequence, OpenMapping, Close, One}
 use Rattle.yl_events.specs.declared.symbol.BracketKind.{BracketKind}
 use Rattle.yl_events.specs.declared.symbol.BracketKind.TheVariants.{Square, Curly}
 use Rattle.yl_events.specs.declared.symbol.Properties.{Properties}
@@ -19,7 +19,7 @@ use Rattle.yl_events.specs.declared.symbol.Where.{Where}
 use Rattle.yl_events.specs.declared.symbol.Where.TheVariants.{InInline, InBlock}
 use Rattle.yl_events.specs.declared.symbol.Goal.{Goal}
 use Rattle.yl_events.specs.declared.symbol.Goal.TheVariants.{Formed, Ending, Prefix, Colon, ItemEnd, PairEnd, NodeEnd, Directives, ValueOf}
-use Rattle.yl_events.specs.Machine.{Turn, ParserState, node_turn, takes, leaves, step, finish, run, parse}
+use Rattle.yl_events.specs.Machine.{node_turn, takes, leaves, step, finish, run, parse}
 
 -- no node goes on or begins with these
 abbrev pub ends : Bool → List Symbol → Bool
@@ -178,11 +178,6 @@ empty_by Curly last goals rest out = refl
 leaves_properties : (w : Where) (ps : Properties) → leaves (Formed w (Some ps)) ≡ Some (node_event (Some ps) Empty None ∷ [])
 leaves_properties InInline ps = refl
 leaves_properties (InBlock v) ps = refl
-
--- the first symbol of a pair
-open_pair : (b : BracketKind) (at : ℕ) (goals : List Goal) (ws : List Symbol) (out : List Outline) →
-    run (BeginKey at ∷ ws) (g.Items b ∷ goals) out ≡ run ws (Formed InInline None ∷ Colon ∷ Formed (InBlock false) None ∷ PairEnd b ∷ ItemEnd b ∷ goals) (out then pair_start b at)
-open_pair b at goals ws out = refl
 
 open_value : (b : BracketKind) (s : ℕ) (goals : List Goal) (ws : List Symbol) (out : List Outline) →
     run (One Kind.Value s ∷ ws) (g.Items b ∷ goals) out ≡ run ws (Formed (InBlock false) None ∷ PairEnd b ∷ ItemEnd b ∷ goals) (out then pair_start b s ++ missing_node ∷ [])

@@ -2,9 +2,6 @@
 use Rattle.std.specs.Prelude.{ℕ, ◌≡◌, ◌+◌, refl, List, [], ◌∷◌, ◌++◌, Option, Some, None}
 use Rattle.std.proofs.Common.{sym, ◌∙◌, ap, append_assoc, append-nil}
 use Rattle.yl_marks.specs.declared.symbol.Symbol.{Symbol}
-use Rattle.yl_marks.specs.declared.token.Token.{Token}
-use Rattle.yl_marks.specs.ByLine.{MarkerValue, marker_at_start, marks_of_line, behind_line, marks_by_lines}
-use Rattle.yl_events.specs.declared.fault.PlacedParseFault.{PlacedParseFault}
 use Rattle.yl_events.specs.declared.symbol.Goal.{Goal}
 use Rattle.yl_events.specs.declared.symbol.Outline.{Outline}
 use Rattle.yl_events.specs.declared.symbol.Shape.TheVariants.{DocumentEnd}
@@ -14,9 +11,7 @@ use Rattle.yl_events.specs.Machine as m
 use Rattle.yl_events.specs.Machine.{Turn, ParserState, takes, leaves, state_after_turn, step, events_after_leaving, finish, run, taken_count}
 use Rattle.yl_events.specs.Trail.{TrailValue}
 use Rattle.yl_events.specs.DocumentOutcome.{DocumentOutcome, Events, Fails, document_outcome}
-use Rattle.yl_events.specs.Parsing.{parser_at_start, document_outcome_of_lines}
-use Rattle.yl_events.specs.SymbolParsing.{SymbolParserValue, symbols_at_start, outcome_of_symbols, FeedsSymbols, told_behind}
-use Rattle.yl_events.proofs.Counts.{line_count}
+use Rattle.yl_events.specs.SymbolParsing.{SymbolParserValue, outcome_of_symbols, FeedsSymbols, told_behind}
 
 module _ (before : List Outline) where
   -- a state and a list of events with those in front
@@ -94,10 +89,6 @@ module _ (before : List Outline) where
 
 -- ---- for a caller that empties the list of what is told each time
 
-pub told_both : (a b : List Outline) (o : DocumentOutcome) → told_behind a (told_behind b o) ≡ told_behind (a ++ b) o
-told_both a b (Events es) = ap Events (sym (append_assoc a b es))
-told_both a b (Fails f) = refl
-
 pub told_none : (o : DocumentOutcome) → told_behind [] o ≡ o
 told_none (Events es) = refl
 told_none (Fails f) = refl
@@ -109,20 +100,3 @@ fed_apart p q count told ws later h =
     h later ∙ ap (λ o. outcome_of_symbols q (count + lexeme_count ws) o later) (sym (append-nil told)) ∙ symbols_behind told q (count + lexeme_count ws) [] later
 
 -- ---- the same of a line
-
-pub line_fed_apart : (b : MarkerValue) (p q : SymbolParserValue) (told : List Outline) (line : List Token) (lines : List (List Token)) →
-    FeedsSymbols p b.count [] (marks_of_line b line) None q told →
-    outcome_of_symbols p b.count [] (marks_by_lines b (line ∷ lines)) ≡ told_behind told (outcome_of_symbols q (behind_line b line).count [] (marks_by_lines (behind_line b line) lines))
-line_fed_apart b p q told line lines h =
-    let later = marks_by_lines (behind_line b line) lines in
-    fed_apart p q b.count told (marks_of_line b line) later h
-    ∙ ap (λ n. told_behind told (outcome_of_symbols q (b.count + n) [] later)) (line_count b line)
-
-pub line_fed_fault : (b : MarkerValue) (p q : SymbolParserValue) (out told : List Outline) (line : List Token) (lines : List (List Token)) (f : PlacedParseFault) →
-    FeedsSymbols p b.count out (marks_of_line b line) (Some f) q told → outcome_of_symbols p b.count out (marks_by_lines b (line ∷ lines)) ≡ Fails f
-line_fed_fault b p q out told line lines f h = h (marks_by_lines (behind_line b line) lines)
-
--- where a document begins
-pub lines_by_symbols : (out : List Outline) (lines : List (List Token)) →
-    document_outcome_of_lines parser_at_start out lines ≡ outcome_of_symbols symbols_at_start 0 out (marks_by_lines marker_at_start lines)
-lines_by_symbols out lines = refl

@@ -1,6 +1,6 @@
 -- The facts of a document as its symbols come.
 use Rattle.std.proofs.Common.{◌≡◌, ◌≤◌, refl, sym, ◌∙◌, ap, arith, append_assoc, ℕ, Bool, true, false, List, [], ◌∷◌, ◌++◌, map, Option, Some, None}
-use Rattle.std.specs.Prelude.{◌+◌, ◌<◌, length, nat_lt, ◌&&◌, if◌then◌else◌, slice_get, slice_index}
+use Rattle.std.specs.Prelude.{◌+◌, nat_lt, ◌&&◌, if◌then◌else◌, slice_get, slice_index}
 use Rattle.std.proofs.lemmas.Bool.Decides.{nat_tests}
 use Rattle.yl_lexeme.specs.Lexeme.{LexemeValue}
 use Rattle.yl_lexeme.specs.declared.lexeme.Kind.{Kind}
@@ -10,8 +10,7 @@ use Rattle.yl_marks.specs.declared.symbol.Symbol.{Symbol}
 use Rattle.yl_marks.specs.declared.symbol.Symbol.TheVariants.{OpenSequence, OpenMapping, BeginKey, Close, One}
 use Rattle.yl_marks.specs.Keys.{token_of}
 use Rattle.yl_marks.specs.Marks.{as_marked, marked_lexemes, symbols_of_lexemes}
-use Rattle.yl_marks.specs.ByLine.{HaveIndices, MarkerValue, marks_of_line, marks_by_lines}
-use Rattle.yl_marks.proofs.Indices.{indices_of_line, indices_by_lines}
+use Rattle.yl_marks.specs.ByLine.{HaveIndices}
 use Rattle.yl_indentation.specs.declared.element.Site.{Site}
 use Rattle.yl_indentation.specs.declared.element.Element.{Element}
 use Rattle.yl_indentation.specs.Elements.{element_at, lexeme_element, element_of}
@@ -130,23 +129,6 @@ module _ (tokens : List Token) (indentations : List ℕ) where
       ∙ none_counts d n ws h.1
 
 -- ---- for a caller that reads line by line, and knows how many lexemes count only behind a line
-
--- a line whose lexemes all count: it is all one how many more do
-pub line_counts : (b : MarkerValue) (c : ContextValue) (tokens : List Token) (n m : ℕ) (indentations : List ℕ) (line : List Token) →
-    b.count + length line ≤ n → b.count + length line ≤ m →
-    facts_left c tokens n indentations (marks_of_line b line) ≡ facts_left c tokens m indentations (marks_of_line b line)
-line_counts b c tokens n m indentations line h k =
-    as_counted tokens indentations c n m (marks_of_line b line)
-    (indices_of_line (λ i. nat_lt i n ≡ nat_lt i m) b line (λ i first last. below i n (omega arith) ∙ sym (below i m (omega arith))))
-  where
-    below : (i j : ℕ) → i < j → nat_lt i j ≡ true
-    below i j l = grind (arith, nat_tests)
-
--- lines behind the counted lexemes
-pub lines_not_counted : (b : MarkerValue) (c : ContextValue) (tokens : List Token) (n : ℕ) (indentations : List ℕ) (lines : List (List Token)) →
-    n ≤ b.count → facts_left c tokens n indentations (marks_by_lines b lines) ≡ []
-lines_not_counted b c tokens n indentations lines h =
-    none_counts tokens indentations c n (marks_by_lines b lines) (indices_by_lines (λ i. n ≤ i) b lines (λ i first. omega arith))
 
 -- ---- all symbols of a document have its facts
 

@@ -6,20 +6,25 @@ ghost use Rattle.yl_indentation.specs.Problems.{finding_at};
 ghost use Rattle.yl_indentation.specs.Onward.{AreJudgedAlike};
 
 use crate::fact::{Expectation, Fact};
-use crate::measure::{Measure, is_same_flush, is_same_step};
+use crate::measure::{Measure, is_same_step};
 
 /// Whether the same is found at a place, where the facts up to it have the one measure or the other.
-/// An entry in a mapping is judged by the step with entries alone.
+/// An entry in a mapping is judged by the step with entries alone; and it makes no difference whether the
+/// first entry in a mapping is still to come or stands in a column of its own.
 fn is_judged_alike(fact: Fact, one: Measure, other: Measure) -> bool
     ensures { result ≡ true → (o : IndentationOptions)
         → finding_at o one (is_flush one) fact ≡ finding_at o other (is_flush other) fact }
 {
     match fact.expectation {
         Expectation::At(_) => true,
-        Expectation::Beyond(_) => one.is_same(other),
+        Expectation::Beyond(_) => {
+            is_same_step(one.step, other.step)
+                && is_same_step(one.step_with_entries, other.step_with_entries)
+                && one.is_flush() == other.is_flush()
+        }
         Expectation::EntryIn(_) => {
-            is_same_step(one.step_with_entries, other.step_with_entries)
-                && is_same_flush(one.flush, other.flush)
+            let are_flush_alike = one.is_flush() == other.is_flush();
+            is_same_step(one.step_with_entries, other.step_with_entries) && are_flush_alike
         }
     }
 }

@@ -1,6 +1,6 @@
 //! What the facts of a text decide for all of it.
 ghost use Rattle.std.specs.Prelude.{◌≡◌, ◌-◌, true};
-ghost use Rattle.yl_indentation.specs.Measures.{empty_measure, first, and_later, positive_step, measure_at, measure_of};
+ghost use Rattle.yl_indentation.specs.Measures.{empty_measure, first, and_later, positive_step, measure_at, measure_of, is_flush};
 
 use crate::fact::{Expectation, Fact};
 
@@ -102,6 +102,16 @@ impl Measure {
             step: first(self.step, later.step),
             step_with_entries: first(self.step_with_entries, later.step_with_entries),
             flush: first(self.flush, later.flush),
+        }
+    }
+
+    /// Whether the first entry in a mapping stands in the mapping's column; false where there is none.
+    pub(crate) fn is_flush(self) -> bool
+        ensures { result ≡ is_flush self }
+    {
+        match self.flush {
+            None => false,
+            Some(flush) => flush,
         }
     }
 

@@ -1,6 +1,5 @@
 //! The problems of the rule indentation.
 ghost use Rattle.std.specs.Prelude.{◌≡◌, ◌++◌, codes, decimal, IfOk, OnOk, string_bytes};
-ghost use Rattle.yl_indentation.specs.Measures.{is_flush};
 ghost use Rattle.yl_indentation.specs.Problems.{is_indented, indentation_width, not_as_expected, not_beyond, finding_by_width, finding_by, finding_at, indent_problems};
 
 use crate::fact::{Expectation, Fact};
@@ -19,16 +18,6 @@ fn is_indented(choice: IndentSequences, flush: bool, at_base: bool) -> bool
         IndentSequences::NotIndented => false,
         IndentSequences::Whatever => !at_base,
         IndentSequences::Consistent => !flush,
-    }
-}
-
-/// Whether the first entry in a mapping stands in the mapping's column.
-fn is_flush(measure: Measure) -> bool
-    ensures { result ≡ is_flush measure }
-{
-    match measure.flush {
-        None => false,
-        Some(flush) => flush,
     }
 }
 
@@ -173,7 +162,7 @@ pub fn indent_problems<A: Allocator + Copy>(
 ) -> Result<Vec<Finding<A>, A>, AllocError>
     ensures { IfOk result (λ v. v.items ≡ indent_problems options.now before whole facts.now) }
 {
-    let flush = is_flush(whole);
+    let flush = whole.is_flush();
     let mut here = before;
     let mut found = Vec::new(alloc);
     for fact in facts {

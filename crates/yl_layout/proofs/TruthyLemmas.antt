@@ -1,11 +1,10 @@
 -- Lists of truthy words.
-use Rattle.std.proofs.Common.{◌≡◌, ◌<◌, ◌≤◌, ℕ, ◌+◌, Bool, true, false, cond, ◌&&◌, length, List, [], ◌∷◌, ◌++◌, drop, get_or, Option, Some, None, refl, sym, ◌∙◌, ap, add-one, drop-cons, append_assoc, append-nil}
+use Rattle.std.proofs.Common.{◌≡◌, ◌<◌, ℕ, ◌+◌, Bool, true, false, cond, ◌&&◌, length, List, [], ◌∷◌, drop, get_or, Option, Some, None, refl, sym, ◌∙◌, ap, add-one, drop-cons}
 use Rattle.std.specs.Prelude.{bytes_eq}
 use Rattle.std.specs.List.{slice_get}
 use Rattle.std.specs.List.{list_all}
-use Rattle.std.proofs.lemmas.List.{drop_all}
 use Rattle.std.proofs.lemmas.Slice.Eq.{bytes_eq-Decides}
-use Rattle.yl_layout.specs.Truthy.{chosen_words, index_from, word_list}
+use Rattle.yl_layout.specs.Truthy.{chosen_words, index_from}
 use Rattle.yl_layout.proofs.Steps.{drop_here}
 
 -- a word that is not the one looked for
@@ -43,11 +42,3 @@ pub chosen_here : (ws : List (List ℕ)) (flags : List Bool) (i : ℕ) (w : List
 chosen_here ws flags i w e h =
     ap (λ l. chosen_words l (drop i flags)) (drop_here ws i w e)
     ∙ ap (chosen_words (w ∷ drop (i + 1) ws)) (drop-cons flags i false h ∙ ap (λ n. get_or flags i false ∷ drop n flags) (sym (add-one i)))
-
--- all words are listed
-pub all_listed : (ws : List (List ℕ)) (flags : List Bool) (i : ℕ) (is_first : Bool) (text front back : List ℕ) → length ws ≤ i →
-    text ++ word_list is_first (chosen_words (drop i ws) (drop i flags)) ≡ front ++ word_list true (chosen_words ws flags) → text ++ back ≡ front ++ (word_list true (chosen_words ws flags) ++ back)
-all_listed ws flags i is_first text front back h e =
-    let whole : text ≡ front ++ word_list true (chosen_words ws flags) =
-    sym (append-nil text) ∙ sym (ap (λ l. text ++ word_list is_first (chosen_words l (drop i flags))) (drop_all i ws h)) ∙ e in
-    ap (λ l. l ++ back) whole ∙ append_assoc front (word_list true (chosen_words ws flags)) back

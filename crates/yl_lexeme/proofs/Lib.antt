@@ -1,5 +1,4 @@
 mod Examples
 pub mod Looks
 pub mod Opened
-pub mod Stacks
 pub mod Units

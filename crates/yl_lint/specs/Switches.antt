@@ -1,4 +1,4 @@
--- Meaning: comments that may switch rules, and those that speak of one line alone.
+-- Meaning: comments that may switch rules, and those that speak of one line alone (yamllint's documentation, 'Disable with comments').
 use Rattle.std.specs.Prelude.{◌≡◌, ◌<◌, ◌==◌, ℕ, Bool, false, not, List, map, codes}
 use Rattle.std.specs.List.{filter, starts_with}
 use Rattle.yl_lexeme.specs.Lexeme.{PlacedCommentValue}

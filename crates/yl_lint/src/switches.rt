@@ -37,7 +37,8 @@ fn speaks_within(comment: &PlacedComment<'_>, rows: u32) -> bool
     may_switch(comment) || own_line(comment) < u64::from(rows)
 }
 
-/// Whether each comment that speaks of one line alone speaks of one of the first lines.
+/// Whether it is seen that each comment that speaks of one line alone speaks of one of the first `rows` lines, counted from 0; false says
+/// nothing.
 pub fn speak_within(comments: &[PlacedComment<'_>], rows: u32) -> bool
     ensures { result ≡ true → AllByRecursion (SpeaksWithin rows) (map placed_comment_value comments.now) }
 {

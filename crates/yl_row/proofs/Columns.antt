@@ -10,7 +10,7 @@ use Rattle.yl_scalar.specs.PlainSteps.{PlainReaderValue, plain_extent, with_line
 use Rattle.yl_scalar.specs.Quoted.{Stretch, Closes, Breaks, Faulty, stretch}
 use Rattle.yl_scalar.specs.QuotedSteps.{QuotedReaderValue, quoted_step_behind, with_break, unclosed_outcome}
 use Rattle.yl_scalar.specs.Block.{BlockReaderValue, block_extent, text_line, with_content, deeper, unless_too_deep, spaces_with}
-use Rattle.yl_row.specs.ScalarReader.{ScalarReaderValue, InPlain, InQuoted, InBlock, map_step, reader_step, reader_finish, ColumnBy, StepBy}
+use Rattle.yl_row.specs.ScalarReader.{ScalarReaderValue, InPlain, InQuoted, InBlock, map_step, reader_step, ColumnBy, StepBy}
 use Rattle.yl_row.proofs.Modes.{part_len, ClosesBy, stretch_closes}
 
 unless_by : {S : Type 0} (f : S → ScalarReaderValue) (n : ℕ) (bad : Option ℕ) (down column : ℕ) (t : ScalarStepValue S) → StepBy n (map_step f t) → StepBy n (map_step f (unless_bad bad down column t))
@@ -108,12 +108,6 @@ cut_whole n (Some column) s e is = by_case (eqb s.blanks 0) is
     by_case : (b : Bool) → cond b (Refused BadEscape s.down column) (Refused UnclosedQuote 0 s.opening) ≡ Whole e → e.column ≤ n
     by_case true is = cc
     by_case false is = cc
-
--- what the text's end makes of it
-pub finish_by : (n : ℕ) (m : ScalarReaderValue) (e : Extent) → ColumnBy n m → reader_finish m ≡ Whole e → e.column ≤ n
-finish_by n (InPlain s) e h is = extent_by n (plain_extent s) e h is
-finish_by n (InQuoted s) e h is = cut_whole n s.backslash s e is
-finish_by n (InBlock s) e h is = extent_by n (block_extent s) e h is
 
 pub by_more : (a b : ℕ) (m : ScalarReaderValue) → a ≤ b → ColumnBy a m → ColumnBy b m
 by_more a b (InPlain s) le h = omega arith

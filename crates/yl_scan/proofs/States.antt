@@ -149,9 +149,3 @@ items_tell E same itself b xs ys e =
 -- an answer that tells whether two lists are the same, if it says so
 pub items_told : {A : Type 0} (E : A → A → Bool) → ((x y : A) → E x y ≡ true → x ≡ y) → ((x : A) → E x x ≡ true) → (xs ys : List A) → pointwise E xs ys ≡ true → xs ≡ ys
 items_told E same itself xs ys e = (exact_items E (record { same = same; itself = itself })).same xs ys e
-
--- the parts of two states, and whether they are the same
-pub parts_tell : (ls ls' : List ℕ) (bs bs' : List Kind) (k k' : Option Kind)
-    → ((k ≡ k') × (ls ≡ ls')) × (bs ≡ bs') ↔ (Stands ls bs k ≡ Stands ls' bs' k')
-parts_tell ls ls' bs bs' k k' =
-    (λ e. λ i. Stands (e.0.1 i) (e.1 i) (e.0.0 i), λ e. let last : k ≡ k' = cc in ((last, ap levels_in e), ap brackets_in e))

@@ -13,10 +13,8 @@ use Rattle.yl_row.specs.Step.{scalar_found}
 use Rattle.yl_scan.specs.declared.step.LexemeAbove.{LexemeAbove}
 use Rattle.yl_scan.specs.declared.step.FaultAbove.{FaultAbove}
 use Rattle.yl_scan.specs.declared.step.Step.{Step}
-use Rattle.yl_scan.specs.Scanner.{IsUnderWay, IsAbove, IsNotBelow, IsInOrder, BeginsAt, EndsOpen, begun_at, is_sound, state_by, state_for, step_value, fault_above_at}
+use Rattle.yl_scan.specs.Scanner.{IsUnderWay, IsAbove, IsNotBelow, IsInOrder, BeginsAt, EndsOpen, begun_at, state_by, state_for, step_value, fault_above_at}
 use Rattle.yl_scan.specs.declared.step.Soundness.{Soundness}
-use Rattle.yl_scan.specs.declared.step.Soundness.TheVariants.{NotSound, Sound, Stopped as SoundStopped}
-use Rattle.std.specs.Prelude.{is_some}
 use Rattle.std.specs.Option.{ForSome}
 use Rattle.yl_row.specs.ScalarReader.{ScalarReaderValue, InPlain, InQuoted, InBlock, reader_step, reader_finish, rows_in, KeepsSpaces, StepBy}
 use Rattle.yl_row.specs.Begins.{Rests}
@@ -211,12 +209,6 @@ next_here line behind step h = by_case h.next
     by_case : ForSome behind (λ b. b ≡ line) ⊎ (((s : LineStateValue) → step_value line s step ≡ silent_step) × (behind ≡ None)) → ForSome behind (λ b. b ≡ line)
     by_case (inl f) = f
     by_case (inr p) = λ b is. let none : behind ≡ None = p.1 in cc
-
--- whether a state is told is whether the row is sound
-pub sound_told : (s : LineStateValue) (sound : Soundness) → is_some (state_by s sound) ≡ is_sound sound
-sound_told s NotSound = refl
-sound_told s Sound = refl
-sound_told s SoundStopped = refl
 
 -- what is told where states are wanted, or where they are not
 pub wanted_told : (wanted : Bool) (before : Option LineStateValue) (s : LineStateValue) (sound : Soundness) → before ≡ cond wanted (Some s) None → state_for before sound ≡ cond wanted (state_by s sound) None

@@ -54,10 +54,6 @@ abbrev pub last_in : LineStateValue → ℕ
 last_in Stopped = 0
 last_in (Stands levels brackets last) = last_number last
 
-abbrev pub last_kind_in : LineStateValue → Option Kind
-last_kind_in Stopped = None
-last_kind_in (Stands levels brackets last) = last
-
 -- two states are the same
 abbrev pub state_eq : LineStateValue → LineStateValue → Bool
 state_eq = eq_of_both (on levels_in (pointwise nat_eq)) (eq_of_both (on brackets_in (pointwise (on kind_number nat_eq))) (on last_in nat_eq))
