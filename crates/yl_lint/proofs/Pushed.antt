@@ -54,7 +54,7 @@ same_place n line there f e =
     let l : there + f.line ≡ n + (line + f.line) = omega (arith, e) in
     λ i. record { line = l i; column = f.column; rule = f.rule; message = f.message }
 
-all_moved : (n line there : ℕ) (fs : List FindingValue) → there ≡ n + line → map (moved there) fs ≡ map (moved n) (map (moved line) fs)
+pub all_moved : (n line there : ℕ) (fs : List FindingValue) → there ≡ n + line → map (moved there) fs ≡ map (moved n) (map (moved line) fs)
 all_moved n line there [] e = refl
 all_moved n line there (f ∷ fs) e =
     ap (λ (g : FindingValue). g ∷ map (moved there) fs) (same_place n line there f e) ∙ ap (λ (gs : List FindingValue). moved n (moved line f) ∷ gs) (all_moved n line there fs e)

@@ -23,6 +23,11 @@ abbrev pub onward_in_sections : IndentationOptions → ℕ → Measure → List 
 onward_in_sections o line before [] = []
 onward_in_sections o line before (k ∷ ks) = onward_in_section o line before k ++ onward_in_sections o (line + k.rows) (and_later before (measure_of k.facts)) ks
 
+-- what the rule indentation finds in sections
+abbrev pub indentation_in_sections : IndentationOptions → ℕ → Measure → List KeptValue → List FindingValue
+indentation_in_sections o line before [] = []
+indentation_in_sections o line before (k ∷ ks) = map (moved line) (onward_problems o before k.facts) ++ indentation_in_sections o (line + k.rows) (and_later before (measure_of k.facts)) ks
+
 -- the line behind sections, of which the first begins at this one
 abbrev pub line_behind : ℕ → List KeptValue → ℕ
 line_behind line [] = line

@@ -1,7 +1,8 @@
 //! The report of a text, from what is kept of its sections.
 ghost use Rattle.std.specs.Prelude.{◌≡◌, ◌≤◌, ◌++◌, length, map, take, IfOk, OnOk};
 ghost use Rattle.yl_indentation.specs.Measures.{empty_measure, measure_of};
-ghost use Rattle.yl_lint.specs.TextReport.{facts_in_sections, findings_in_section, findings_in_sections, found_of_kept, report_of_kept, shown};
+ghost use Rattle.yl_indentation.specs.Problems.{indent_problems};
+ghost use Rattle.yl_lint.specs.TextReport.{facts_in_sections, findings_in_section, findings_in_sections, found_of_kept, moved, report_of_kept, shown};
 
 use crate::comments::comments_in_sections;
 use crate::fault::push_fault;
@@ -37,6 +38,23 @@ fn measure_of<A: Allocator>(kept: &[&Kept<A>]) -> Measure
     measure
 }
 
+/// Puts what the rule indentation finds in a section that begins at `line` behind the rest. `before` is the measure of the facts of the sections
+/// before it, `whole` that of all facts that are shown. The only error is out of memory.
+pub fn push_indentation<A: Allocator + Copy>(
+    alloc: A,
+    options: &IndentationOptions,
+    whole: Measure,
+    line: u32,
+    before: Measure,
+    kept: &Kept<A>,
+    found: &mut Vec<Finding<A>, A>,
+) -> Result<(), AllocError>
+    ensures { OnOk result (found.new.items ≡ found.old.items ++ map (moved line) (indent_problems options.now before whole kept.now.facts)) }
+{
+    let indented = indent_problems(alloc, kept.facts(), options, before, whole)?;
+    push_moved(alloc, line, &indented, found)
+}
+
 /// Puts what is found in a section that begins at `line` behind the rest. `before` is the measure of the facts of the sections before it,
 /// `whole` that of all facts that are shown.
 pub fn push_section<A: Allocator + Copy>(
@@ -51,8 +69,7 @@ pub fn push_section<A: Allocator + Copy>(
     ensures { OnOk result (found.new.items ≡ found.old.items ++ findings_in_section options.now whole line before kept.now) }
 {
     push_moved(alloc, line, kept.found(), found)?;
-    let indented = indent_problems(alloc, kept.facts(), options, before, whole)?;
-    push_moved(alloc, line, &indented, found)
+    push_indentation(alloc, options, whole, line, before, kept, found)
 }
 
 /// Puts what is found in these sections, of which the first begins at line 0, behind the rest.

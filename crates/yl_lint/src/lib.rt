@@ -22,7 +22,7 @@ mod there;
 mod unchanged;
 mod window;
 
-pub use assembling::{push_section, report_of_kept};
+pub use assembling::{push_indentation, push_section, report_of_kept};
 pub use comments::push_comments;
 pub use edit::TextEdit;
 pub use fault::finding_of_fault;

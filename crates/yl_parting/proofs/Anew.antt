@@ -1,5 +1,5 @@
 -- Both lists, parted anew or with room for it.
-use Rattle.std.proofs.Common.{◌≡◌, ℕ, ◌+◌, ◌≤◌, List, [], ◌++◌, map, Option, Some, None, refl, ap, sym, subst, ◌∙◌, arith, append_assoc}
+use Rattle.std.proofs.Common.{◌≡◌, ℕ, ◌+◌, ◌≤◌, Bool, List, [], ◌++◌, map, Option, Some, None, refl, ap, sym, subst, ◌∙◌, arith, append_assoc}
 use Rattle.std.specs.Prelude.{IsSome, not, reverse, Vec, vec_len, vec_capacity}
 use Rattle.std.specs.List.{filter}
 use Rattle.std.specs.Option.{option_map}
@@ -7,16 +7,16 @@ use Rattle.yl_report.specs.Report.{ProblemValue}
 use Rattle.yl_parting.specs.declared.change.FoundProblems.{FoundProblems}
 use Rattle.yl_parting.specs.declared.change.LinesPatch.{LinesPatch}
 use Rattle.yl_parting.specs.declared.showing.Showing.{Showing}
-use Rattle.yl_parting.specs.Changes.{all_moved, patch_in, patched, shown_below, suppressed_below}
+use Rattle.yl_parting.specs.Changes.{PatchValue, all_moved, patch_in, patched_lines, shown_below, suppressed_below}
 use Rattle.yl_parting.specs.Order.{merged}
 use Rattle.yl_parting.specs.Parts.{IsLow, PartsValue, above, behind, is_no_fault, shifted, without_fault}
 use Rattle.yl_parting.specs.Popped.{IsTaken}
-use Rattle.yl_parting.specs.Rooms.{AreOrdered, HasRoomFor, crossing}
+use Rattle.yl_parting.specs.Rooms.{AreOrdered, HasRoomFor, IsIndentation, count_anew, crossing, fault_count}
 use Rattle.yl_parting.specs.Showing.{is_shown_by}
 use Rattle.yl_parting.proofs.Ordered.{all_filter, order_filter}
 
 -- what was taken out, with the last one last again
-given_back : (n m : ℕ) (ss us ts vs spare : List ProblemValue) → IsTaken n m ss us ts vs spare → behind n ts ≡ [] → behind n vs ≡ [] → reverse spare ≡ map (shifted n m) (merged (behind n ss) (behind n us))
+pub given_back : (n m : ℕ) (ss us ts vs spare : List ProblemValue) → IsTaken n m ss us ts vs spare → behind n ts ≡ [] → behind n vs ≡ [] → reverse spare ≡ map (shifted n m) (merged (behind n ss) (behind n us))
 given_back n m ss us ts vs spare taken e d =
     sym (ap (λ qs. map (shifted n m) (merged qs (behind n vs)) ++ reverse spare) e ∙ ap (λ qs. map (shifted n m) qs ++ reverse spare) d) ∙ taken.taken
 
@@ -35,18 +35,34 @@ module _ {A : Type 0} (p : LinesPatch A) (s : Showing A) (ps : PartsValue) (ts v
   backs : reverse spare ≡ all_moved (patch_in p) ps
   backs = given_back p.old_end p.new_end ps.shown ps.suppressed ts vs spare taken none none'
 
-  shown : out ≡ (patched (patch_in p) ps).shown
+  shown : out ≡ (patched_lines (patch_in p) ps).shown
   shown =
       joined (filter (is_shown_by s)) out kept (above p.first ts) (above p.first ps.shown) p.shown.items (reverse spare) (all_moved (patch_in p) ps) gives keeps (taken.shown_above p.first lines) backs
       ∙ ap (λ (o : Option (Showing A)). above p.first ps.shown ++ (p.shown.items ++ shown_below (option_map (λ (t : Showing A). is_shown_by t) o) (patch_in p) ps)) (sym is)
 
-  suppressed : out' ≡ (patched (patch_in p) ps).suppressed
+  suppressed : out' ≡ (patched_lines (patch_in p) ps).suppressed
   suppressed =
       joined (filter (λ q. not (is_shown_by s q))) out' kept' (above p.first vs) (above p.first ps.suppressed) p.suppressed.items (reverse spare) (all_moved (patch_in p) ps) gives' keeps' (taken.suppressed_above p.first lines) backs
       ∙ ap (λ (o : Option (Showing A)). above p.first ps.suppressed ++ (p.suppressed.items ++ suppressed_below (option_map (λ (t : Showing A). is_shown_by t) o) (patch_in p) ps)) (sym is)
 
-  pub parted_anew : both_of out out' ≡ patched (patch_in p) ps
+  pub parted_anew : both_of out out' ≡ patched_lines (patch_in p) ps
   parted_anew = λ i. record { shown = shown i; suppressed = suppressed i }
+
+-- ---- the lines alone
+
+shown_so : (below : Option (ProblemValue → Bool)) (p : PatchValue) (o : Option (List ProblemValue)) (ps : PartsValue) → shown_below below (record p { indentation = o }) ps ≡ shown_below below p ps
+shown_so None p o ps = refl
+shown_so (Some f) p o ps = refl
+
+suppressed_so : (below : Option (ProblemValue → Bool)) (p : PatchValue) (o : Option (List ProblemValue)) (ps : PartsValue) → suppressed_below below (record p { indentation = o }) ps ≡ suppressed_below below p ps
+suppressed_so None p o ps = refl
+suppressed_so (Some f) p o ps = refl
+
+-- whatever indentation is judged anew
+pub lines_so : (p : PatchValue) (o : Option (List ProblemValue)) (ps : PartsValue) → patched_lines (record p { indentation = o }) ps ≡ patched_lines p ps
+lines_so p o ps =
+    let shown = shown_so p.below p o ps in let suppressed = suppressed_so p.below p o ps in
+    λ i. record { shown = above p.first ps.shown ++ (p.shown ++ shown i); suppressed = above p.first ps.suppressed ++ (p.suppressed ++ suppressed i) }
 
 -- ---- room
 
@@ -62,15 +78,27 @@ pub crossing_some : {S : Type 0} (o : Option S) (n : ℕ) → IsSome o → cross
 crossing_some None n h = absurd (cc)
 crossing_some (Some s) n h = refl
 
-pub less_room : {A : Type 0} (f g : FoundProblems A) (p : LinesPatch A) (room : Vec ProblemValue A) → HasRoomFor f p room → vec_len g.shown ≤ vec_len f.shown → vec_capacity g.shown ≡ vec_capacity f.shown → g.suppressed ≡ f.suppressed → HasRoomFor g p room
-less_room f g p room h l e d =
-    let len = ap vec_len d in
-    let cap = ap vec_capacity d in
+-- with fewer that are shown, and no more that are not but the indentation that is judged anew
+pub less_room : {A : Type 0} (f g : FoundProblems A) (p q : LinesPatch A) (room left : Vec ProblemValue A) → HasRoomFor f p room → vec_len g.shown ≤ vec_len f.shown → vec_capacity g.shown ≡ vec_capacity f.shown
+    → vec_len g.suppressed + count_anew q.indentation ≤ vec_len f.suppressed + count_anew p.indentation → vec_capacity f.suppressed ≤ vec_capacity g.suppressed → left.items ≡ [] → vec_capacity room ≤ vec_capacity left
+    → q.shown ≡ p.shown → q.suppressed ≡ p.suppressed → q.below ≡ p.below → q.fault ≡ p.fault → HasRoomFor g q left
+less_room {A} f g p q room left h l e m k empty spare shown suppressed below fault =
+    let b = p.below in
+    let same : (n : ℕ) → crossing q.below n ≡ crossing b n = λ n. ap (λ (o : Option (Showing A)). crossing o n) below in
     record {
-      shown = omega (arith, h.shown, l, e, crossing-le p.below (vec_len g.suppressed) (vec_len f.suppressed) (omega (arith, len)));
-      suppressed = omega (arith, h.suppressed, len, cap, crossing-le p.below (vec_len g.shown) (vec_len f.shown) l);
-      spare = omega (arith, h.spare, crossing-le p.below (vec_len g.shown + vec_len g.suppressed) (vec_len f.shown + vec_len f.suppressed) (omega (arith, l, len)));
-      empty = h.empty;
+      shown = omega (arith, h.shown, l, e, same (vec_len g.suppressed + count_anew q.indentation), crossing-le b (vec_len g.suppressed + count_anew q.indentation) (vec_len f.suppressed + count_anew p.indentation) m, ap vec_len shown, ap fault_count fault);
+      suppressed = omega (arith, h.suppressed, m, k, same (vec_len g.shown), crossing-le b (vec_len g.shown) (vec_len f.shown) l, ap vec_len suppressed);
+      spare =
+          omega (
+            arith,
+            h.spare,
+            spare,
+            same (vec_len g.shown + (vec_len g.suppressed + count_anew q.indentation)),
+            crossing-le b (vec_len g.shown + (vec_len g.suppressed + count_anew q.indentation)) (vec_len f.shown + (vec_len f.suppressed + count_anew p.indentation)) (omega (arith, l, m)),
+          );
+      empty = empty;
     }
 
--- ---- without a fault
+-- room for the indentation that is judged anew
+pub anew_room : {A : Type 0} (f : FoundProblems A) (p : LinesPatch A) (room : Vec ProblemValue A) → HasRoomFor f p room → IsSome p.below → vec_len f.suppressed + count_anew p.indentation ≤ vec_capacity room
+anew_room f p room h some = omega (arith, h.spare, crossing_some p.below (vec_len f.shown + (vec_len f.suppressed + count_anew p.indentation)) some)

@@ -24,10 +24,10 @@ use Rattle.yl_parting.proofs.Ordered.{order_none}
 
 -- ---- levels
 
-abbrev with : Option Level → FindingValue → Option ProblemValue
+abbrev pub with : Option Level → FindingValue → Option ProblemValue
 with o f = option_map (λ level. record { line = f.line; column = f.column; level = level; rule = f.rule; message = f.message }) o
 
-abbrev leveled : LevelTable → List FindingValue → List ProblemValue
+abbrev pub leveled : LevelTable → List FindingValue → List ProblemValue
 leveled levels = filter_map (with_level levels)
 
 -- ---- a report is in order

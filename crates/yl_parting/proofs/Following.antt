@@ -1,15 +1,18 @@
 -- What an edit leaves of what is found elsewhere, parted.
-use Rattle.std.proofs.Common.{◌≡◌, ℕ, Bool, true, false, cond, List, [], ◌∷◌, ◌++◌, map, Option, Some, None, refl, ap, sym, ◌∙◌}
-use Rattle.std.specs.Prelude.{not, IfSome}
+use Rattle.std.proofs.Common.{◌≡◌, ℕ, Bool, true, false, cond, List, [], ◌∷◌, ◌++◌, map, Option, Some, None, refl, ap, sym, subst, ◌∙◌, arith}
+use Rattle.std.specs.Prelude.{◌≤◌, ◌&&◌, ◌||◌, not, IfSome, IsSome}
 use Rattle.std.specs.List.{AllByRecursion, filter}
 use Rattle.std.proofs.lemmas.List.Elements.{filter-append}
 use Rattle.yl_report.specs.Report.{ProblemValue, is_syntax}
-use Rattle.yl_parting.specs.Changes.{PatchValue, moved, patched, shown_below, suppressed_below}
-use Rattle.yl_parting.specs.Following.{Follows, FollowsBelow, found_after}
+use Rattle.yl_parting.specs.Changes.{PatchValue, moved, patched, patched_lines, shown_below, suppressed_below}
+use Rattle.yl_parting.specs.Following.{Follows, FollowsBelow, IsJudgedAgain, found_after}
 use Rattle.yl_parting.specs.Order.{IsInOrder, comes_before, merged, put_in}
-use Rattle.yl_parting.specs.Parts.{PartsValue, above, behind, is_no_fault, is_upto, parted, shifted, with_fault, without_fault}
+use Rattle.yl_parting.specs.Showing.{is_indentation}
+use Rattle.yl_parting.specs.Parts.{PartsValue, above, behind, is_no_fault, is_upto, judged_again, parted, shifted, stays_judged, with_fault, without_fault}
 use Rattle.yl_parting.proofs.Merged.{merged_parts}
-use Rattle.yl_parting.proofs.Ordered.{above_filter, all_then, behind_filter, behind_is, filter_same, order_filter}
+use Rattle.std.proofs.lemmas.Bool.{le-leb, leb-true}
+use Rattle.yl_parting.proofs.InOrder.{passing}
+use Rattle.yl_parting.proofs.Ordered.{above_filter, above_is, all_then, behind_filter, behind_is, filter_all, filter_same, filter_swap, order_filter}
 
 filter_map_shift : (s : ProblemValue → ProblemValue) (f g : ProblemValue → Bool) (ps : List ProblemValue) → AllByRecursion (λ q. f (s q) ≡ g q) ps → filter f (map s ps) ≡ map s (filter g ps)
 filter_map_shift s f g [] h = refl
@@ -61,12 +64,106 @@ part_follows f g found new given after p s e a b =
     ∙ (ap (λ xs. xs ++ (filter f new ++ filter f (moved p found))) (filter_same f g (above p.first found) a ∙ sym (above_filter p.first g found s))
     ∙ (ap (λ ys. above p.first (filter g found) ++ (ys ++ filter f (moved p found))) (sym e) ∙ ap (λ zs. above p.first (filter g found) ++ (given ++ zs)) b))
 
-pub parts_follow : (now was : ProblemValue → Bool) (found new : List ProblemValue) (p : PatchValue) → Follows now was found new p → parted now (found_after p new found) ≡ patched p (parted was found)
-parts_follow now was found new p h =
-    let shown = part_follows now was found new p.shown (shown_below p.below p (parted was found)) p h.in_order h.shown h.above (shown_follow p.below now was p found h.in_order h.below) in
-    let suppressed = part_follows (λ q. not (now q)) (λ q. not (was q)) found new p.suppressed (suppressed_below p.below p (parted was found)) p h.in_order h.suppressed (nots now was (λ q. q) (above p.first found) h.above)
-    (suppressed_follow p.below now was p found h.in_order h.below) in
+-- both lists, where what was found stays
+lines_follow : (now was : ProblemValue → Bool) (found new : List ProblemValue) (p : PatchValue) → IsInOrder found → p.shown ≡ filter now new → p.suppressed ≡ filter (λ q. not (now q)) new
+    → AllByRecursion (λ q. now q ≡ was q) (above p.first found) → FollowsBelow p.below now was p found → parted now (found_after p new found) ≡ patched_lines p (parted was found)
+lines_follow now was found new p order is_shown is_suppressed above_same below =
+    let shown = part_follows now was found new p.shown (shown_below p.below p (parted was found)) p order is_shown above_same (shown_follow p.below now was p found order below) in
+    let suppressed = part_follows (λ q. not (now q)) (λ q. not (was q)) found new p.suppressed (suppressed_below p.below p (parted was found)) p order is_suppressed (nots now was (λ q. q) (above p.first found) above_same)
+    (suppressed_follow p.below now was p found order below) in
     λ i. record { shown = shown i; suppressed = suppressed i }
+
+-- ---- indentation that is judged anew
+
+module _ (was : ProblemValue → Bool) (line : ℕ) (found all : List ProblemValue) where
+  abbrev stays : ProblemValue → Bool
+  stays = stays_judged line
+
+  abbrev is_gone : ProblemValue → Bool
+  is_gone q = not (stays q)
+
+  -- it was shown and stays
+  abbrev still : ProblemValue → Bool
+  still q = stays q && was q
+
+  stays_and : (q : ProblemValue) → stays q ≡ true → still q ≡ was q
+  stays_and q e = ap (λ b. b && was q) e
+
+  -- of what stays
+  kept : (f : ProblemValue → Bool) → filter stays all ≡ filter stays found → filter stays (filter f all) ≡ filter stays (filter f found)
+  kept f same = filter_swap stays f all ∙ (ap (filter f) same ∙ filter_swap f stays found)
+
+  both_tests : (g f : ProblemValue → Bool) (ps : List ProblemValue) → filter (λ q. g q && f q) ps ≡ filter g (filter f ps)
+  both_tests g f [] = refl
+  both_tests g f (p ∷ ps) = at (g p) (f p) refl (both_tests g f ps)
+    where
+      at : (a b : Bool) → g p ≡ a → filter (λ q. g q && f q) ps ≡ filter g (filter f ps) → cond (a && b) (p ∷ filter (λ q. g q && f q) ps) (filter (λ q. g q && f q) ps) ≡ filter g (cond b (p ∷ filter f ps) (filter f ps))
+      at true true e h = ap (λ qs. p ∷ qs) h ∙ sym (ap (λ c. cond c (p ∷ filter g (filter f ps)) (filter g (filter f ps))) e)
+      at true false e h = h
+      at false true e h = h ∙ sym (ap (λ c. cond c (p ∷ filter g (filter f ps)) (filter g (filter f ps))) e)
+      at false false e h = h
+
+  shown_again : filter stays all ≡ filter stays found → filter still all ≡ filter stays (filter was found)
+  shown_again same = both_tests stays was all ∙ kept was same
+
+  same_where : (q : ProblemValue) → stays q ≡ true → not (still q) ≡ not (was q)
+  same_where q e = ap not (stays_and q e)
+
+  gone_where : (q : ProblemValue) → is_gone q ≡ true → not (still q) ≡ true
+  gone_where q e = at (stays q) refl
+    where
+      at : (b : Bool) → stays q ≡ b → not (b && was q) ≡ true
+      at true h = absurd (let wrong : true ≡ false = sym e ∙ ap not h in cc)
+      at false h = refl
+
+  suppressed_again : (new : List ProblemValue) → IsInOrder all → filter stays all ≡ filter stays found → new ≡ filter is_gone all
+      → filter (λ q. not (still q)) all ≡ merged (filter stays (filter (λ q. not (was q)) found)) new
+  suppressed_again new order same is =
+      let out = filter (λ q. not (still q)) all in
+      let front : filter stays out ≡ filter stays (filter (λ q. not (was q)) found) =
+      filter_swap stays (λ q. not (still q)) all
+      ∙ (filter_same (λ q. not (still q)) (λ q. not (was q)) (filter stays all) (all_then (λ q. stays q ≡ true) (λ q. not (still q) ≡ not (was q)) (filter stays all) same_where (passing stays all))
+      ∙ (filter_swap (λ q. not (was q)) stays all ∙ kept (λ q. not (was q)) same)) in
+      let back : filter is_gone out ≡ new =
+      filter_swap is_gone (λ q. not (still q)) all
+      ∙ (filter_all (λ q. not (still q)) (filter is_gone all) (all_then (λ q. is_gone q ≡ true) (λ q. not (still q) ≡ true) (filter is_gone all) gone_where (passing is_gone all)) ∙ sym is) in
+      sym (merged_parts stays out (order_filter (λ q. not (still q)) all order)) ∙ (ap (λ qs. merged qs (filter is_gone out)) front ∙ ap (merged (filter stays (filter (λ q. not (was q)) found))) back)
+
+  judged : (new : List ProblemValue) → IsInOrder all → filter stays all ≡ filter stays found → new ≡ filter is_gone all → parted still all ≡ judged_again line (Some new) (parted was found)
+  judged new order same is =
+      let shown = shown_again same in let suppressed = suppressed_again new order same is in
+      λ i. record { shown = shown i; suppressed = suppressed i }
+
+  -- what stands in the first lines stays
+  above_stays : (now : ProblemValue → Bool) (first : ℕ) → first ≤ line → IsInOrder all → AllByRecursion (λ q. now q ≡ was q) (above first all) → AllByRecursion (λ q. now q ≡ still q) (above first all)
+  above_stays now first l order h =
+      let there : AllByRecursion (λ q. stays q ≡ true) (above first all) =
+      subst (λ (qs : List ProblemValue). AllByRecursion (λ q. stays q ≡ true) qs) (sym (above_is first all order))
+      (all_then (λ q. is_upto first q ≡ true) (λ q. stays q ≡ true) (filter (is_upto first) all) (λ q e. ap (λ b. b || not (is_indentation q.rule)) (le-leb q.line line (omega (arith, leb-true q.line first e, l)))) (passing (is_upto first) all)) in
+      with_both (above first all) there h
+    where
+      with_both : (qs : List ProblemValue) → AllByRecursion (λ q. stays q ≡ true) qs → AllByRecursion (λ q. now q ≡ was q) qs → AllByRecursion (λ q. now q ≡ still q) qs
+      with_both [] a b = tt
+      with_both (q ∷ qs) a b = (b.0 ∙ sym (stays_and q a.0), with_both qs a.1 b.1)
+
+-- where what stands behind the lines is parted anew, it is all one where it stood
+below_any : (below : Option (ProblemValue → Bool)) (now was other : ProblemValue → Bool) (p : PatchValue) (all : List ProblemValue) → IsSome below → FollowsBelow below now was p all → FollowsBelow below now other p all
+below_any None now was other p all some h = absurd (cc)
+below_any (Some f) now was other p all some h = h
+
+follow_by : (indentation : Option (List ProblemValue)) (now was : ProblemValue → Bool) (found all new : List ProblemValue) (p : PatchValue) → IsInOrder found → p.first ≤ p.old_end → IsJudgedAgain p.old_end indentation found all
+    → (IsSome indentation → IsSome p.below) → p.shown ≡ filter now new → p.suppressed ≡ filter (λ q. not (now q)) new → AllByRecursion (λ q. now q ≡ was q) (above p.first all) → FollowsBelow p.below now was p all
+    → parted now (found_after p new all) ≡ patched_lines p (judged_again p.old_end indentation (parted was found))
+follow_by None now was found all new p order lines same some shown suppressed above_same below =
+    let in_order = subst (λ (qs : List ProblemValue). IsInOrder qs) (sym same) order in
+    lines_follow now was all new p in_order shown suppressed above_same below ∙ ap (λ (qs : List ProblemValue). patched_lines p (parted was qs)) same
+follow_by (Some again) now was found all new p order lines same some shown suppressed above_same below =
+    let still_shown = still was p.old_end found all in
+    lines_follow now still_shown all new p same.0 shown suppressed (above_stays was p.old_end found all now p.first lines same.0 above_same) (below_any p.below now was still_shown p all (some refl) below)
+    ∙ ap (patched_lines p) (judged was p.old_end found all again same.0 same.1 same.2)
+
+pub parts_follow : (now was : ProblemValue → Bool) (found all new : List ProblemValue) (p : PatchValue) → Follows now was found all new p → parted now (found_after p new all) ≡ patched p (parted was found)
+parts_follow now was found all new p h = follow_by p.indentation now was found all new p h.in_order h.lines h.judged h.told h.shown h.suppressed h.above h.below
 
 -- ---- the text's fault
 

@@ -2,6 +2,8 @@ pub mod Anew
 pub mod Faults
 pub mod Following
 pub mod InOrder
+pub mod Judged
+pub mod OfKind
 pub mod Lasts
 pub mod Lines
 pub mod Merged

@@ -10,7 +10,7 @@ use Rattle.yl_parting.proofs.Ordered.{all_behind}
 
 -- ---- nothing is shifted
 
-part : {X : Type 0} (k : ℕ) (xs : List X) → take k xs ++ drop k xs ≡ xs
+pub part : {X : Type 0} (k : ℕ) (xs : List X) → take k xs ++ drop k xs ≡ xs
 part zero xs = refl
 part (suc k) [] = refl
 part (suc k) (x ∷ xs) = ap (λ ys. x ∷ ys) (part k xs)
@@ -18,7 +18,7 @@ part (suc k) (x ∷ xs) = ap (λ ys. x ∷ ys) (part k xs)
 same_problem : (n : ℕ) (p : ProblemValue) → n ≤ p.line → shifted n n p ≡ p
 same_problem n p l = let line : p.line - n + n ≡ p.line = omega (arith, l) in λ i. record { line = line i; column = p.column; level = p.level; rule = p.rule; message = p.message }
 
-same_problems : (n : ℕ) (ps : List ProblemValue) → AllByRecursion (λ q. is_upto n q ≡ false) ps → map (shifted n n) ps ≡ ps
+pub same_problems : (n : ℕ) (ps : List ProblemValue) → AllByRecursion (λ q. is_upto n q ≡ false) ps → map (shifted n n) ps ≡ ps
 same_problems n [] a = refl
 same_problems n (p ∷ ps) a =
     let first = same_problem n p (omega (arith, leb-false p.line n a.0)) in let rest = same_problems n ps a.1 in λ i. first i ∷ rest i

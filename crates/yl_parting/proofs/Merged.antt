@@ -5,11 +5,12 @@ use Rattle.std.specs.List.{AllByRecursion, filter}
 use Rattle.std.specs.declared.cmp.Ordering.TheVariants.{Less}
 use Rattle.yl_report.specs.Report.{ProblemValue}
 use Rattle.yl_parting.specs.Order.{IsInOrder, comes_before, merged, problem_order, put_in}
-use Rattle.yl_parting.proofs.Ordered.{all_filter, less_before, not_after, order_head, order_tail}
+use Rattle.yl_parting.proofs.InOrder.{all_merged}
+use Rattle.yl_parting.proofs.Ordered.{all_back, all_both, all_filter, all_front, less_before, not_after, order_head, order_tail}
 
 -- ---- parted and merged
 
-put_in_first : (p : ProblemValue) (ps : List ProblemValue) → AllByRecursion (λ q. problem_order p q ≡ Less) ps → put_in p ps ≡ p ∷ ps
+pub put_in_first : (p : ProblemValue) (ps : List ProblemValue) → AllByRecursion (λ q. problem_order p q ≡ Less) ps → put_in p ps ≡ p ∷ ps
 put_in_first p [] a = refl
 put_in_first p (q ∷ qs) a = ap (λ b. cond b (q ∷ put_in p qs) (p ∷ q ∷ qs)) (not_after p q a.0)
 
@@ -26,6 +27,16 @@ parted_step g false p ps a h = merged_first p (filter g ps) (filter (λ q. not (
 pub merged_parts : (g : ProblemValue → Bool) (ps : List ProblemValue) → IsInOrder ps → merged (filter g ps) (filter (λ q. not (g q)) ps) ≡ ps
 merged_parts g [] s = refl
 merged_parts g (p ∷ ps) s = parted_step g (g p) p ps (order_head p ps s) (merged_parts g ps (order_tail p ps s))
+
+-- those in the first lines come before all that is merged behind them
+pub merged_above : (ps qs rs : List ProblemValue) → IsInOrder (ps ++ qs) → AllByRecursion (λ p. AllByRecursion (λ r. problem_order p r ≡ Less) rs) ps → merged (ps ++ qs) rs ≡ ps ++ merged qs rs
+merged_above [] qs rs s a = refl
+merged_above (p ∷ ps) qs rs s a =
+    let order = order_head p (ps ++ qs) s in
+    ap (put_in p) (merged_above ps qs rs (order_tail p (ps ++ qs) s) a.1)
+    ∙ put_in_first p (ps ++ merged qs rs)
+    (all_both (λ q. problem_order p q ≡ Less) ps (merged qs rs) (all_front (λ q. problem_order p q ≡ Less) ps qs order)
+    (all_merged (λ q. problem_order p q ≡ Less) qs rs (all_back (λ q. problem_order p q ≡ Less) ps qs order) a.0))
 
 -- ---- what comes last of both
 

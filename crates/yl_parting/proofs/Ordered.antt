@@ -33,6 +33,14 @@ pub all_front : {X : Type 0} (P : X → Type 0) (xs ys : List X) → AllByRecurs
 all_front P [] ys h = tt
 all_front P (x ∷ xs) ys h = (h.0, all_front P xs ys h.1)
 
+pub all_back : {X : Type 0} (P : X → Type 0) (xs ys : List X) → AllByRecursion P (xs ++ ys) → AllByRecursion P ys
+all_back P [] ys h = h
+all_back P (x ∷ xs) ys h = all_back P xs ys h.1
+
+pub all_both : {X : Type 0} (P : X → Type 0) (xs ys : List X) → AllByRecursion P xs → AllByRecursion P ys → AllByRecursion P (xs ++ ys)
+all_both P [] ys h k = k
+all_both P (x ∷ xs) ys h k = (h.0, all_both P xs ys h.1 k)
+
 pub all_last : {X : Type 0} (P : X → Type 0) (xs : List X) (y : X) → AllByRecursion P (xs ++ y ∷ []) → P y
 all_last P [] y h = h.0
 all_last P (x ∷ xs) y h = all_last P xs y h.1
@@ -119,6 +127,19 @@ order_none = tt
 
 pub order_filter : (f : ProblemValue → Bool) (ps : List ProblemValue) → IsInOrder ps → IsInOrder (filter f ps)
 order_filter f ps s = IsStrictlySortedBy-filter problem_order f ps s
+
+pub order_first : (ps qs : List ProblemValue) → IsInOrder (ps ++ qs) → IsInOrder ps
+order_first [] qs s = order_none
+order_first (p ∷ ps) qs s = order_cons p ps (all_front (λ q. problem_order p q ≡ Less) ps qs (order_head p (ps ++ qs) s)) (order_first ps qs (order_tail p (ps ++ qs) s))
+
+-- those of the latter list stand behind the lines of the former
+pub order_both : (n : ℕ) (ps qs : List ProblemValue) → AllByRecursion (λ p. is_upto n p ≡ true) ps → AllByRecursion (λ q. is_upto n q ≡ false) qs → IsInOrder ps → IsInOrder qs → IsInOrder (ps ++ qs)
+order_both n [] qs a b s t = t
+order_both n (p ∷ ps) qs a b s t =
+    order_cons p (ps ++ qs)
+    (all_both (λ q. problem_order p q ≡ Less) ps qs (order_head p ps s)
+    (all_then (λ q. is_upto n q ≡ false) (λ q. problem_order p q ≡ Less) qs (λ q e. less_line p q (omega (arith, leb-true p.line n a.0, leb-false q.line n e))) b))
+    (order_both n ps qs a.1 b (order_tail p ps s) t)
 
 pub order_front : (ps : List ProblemValue) (q : ProblemValue) → IsInOrder (ps ++ q ∷ []) → IsInOrder ps
 order_front [] q s = order_none

@@ -8,7 +8,7 @@ use Rattle.yl_parting.specs.declared.change.Change.TheVariants.{Stay, Patch, Ane
 use Rattle.yl_parting.specs.declared.change.LinesPatch.{LinesPatch}
 use Rattle.yl_parting.specs.declared.change.FoundProblems.{FoundProblems}
 use Rattle.yl_parting.specs.Order.{merged}
-use Rattle.yl_parting.specs.Parts.{PartsValue, above, behind, shifted, with_fault, without_fault}
+use Rattle.yl_parting.specs.Parts.{PartsValue, above, behind, judged_again, shifted, with_fault, without_fault}
 use Rattle.yl_parting.specs.Showing.{is_shown_by}
 
 -- both lists
@@ -16,13 +16,15 @@ abbrev pub parts_in : {A : Type 0} → FoundProblems A → PartsValue
 parts_in f = record { shown = f.shown.items; suppressed = f.suppressed.items }
 
 -- what becomes of some lines: in place of those behind the first so many, up to `old_end`, come those up to `new_end`, in which this is shown and
--- this is not; `below` says what is shown of the problems behind them, where that changes; then comes the text's fault
+-- this is not; in place of the indentation behind them comes `indentation`, where that is judged anew, and `below` says what is shown of the
+-- problems there, where that changes; then comes the text's fault
 pub record PatchValue : Type 0 where
   pub first : ℕ
   pub old_end : ℕ
   pub new_end : ℕ
   pub shown : List ProblemValue
   pub suppressed : List ProblemValue
+  pub indentation : Option (List ProblemValue)
   pub below : Option (ProblemValue → Bool)
   pub fault : Option ProblemValue
 
@@ -34,6 +36,7 @@ patch_in p = record {
   new_end = p.new_end;
   shown = p.shown.items;
   suppressed = p.suppressed.items;
+  indentation = option_map (λ v. v.items) p.indentation;
   below = option_map (λ s. is_shown_by s) p.below;
   fault = p.fault;
 }
@@ -57,11 +60,15 @@ suppressed_below None p ps = moved p ps.suppressed
 suppressed_below (Some f) p ps = filter (λ q. not (f q)) (all_moved p ps)
 
 -- both lists, once the lines are others
-abbrev pub patched : PatchValue → PartsValue → PartsValue
-patched p ps = record {
+abbrev pub patched_lines : PatchValue → PartsValue → PartsValue
+patched_lines p ps = record {
   shown = above p.first ps.shown ++ (p.shown ++ shown_below p.below p ps);
   suppressed = above p.first ps.suppressed ++ (p.suppressed ++ suppressed_below p.below p ps);
 }
+
+-- and indentation behind them is judged anew
+abbrev pub patched : PatchValue → PartsValue → PartsValue
+patched p ps = patched_lines p (judged_again p.old_end p.indentation ps)
 
 -- what a change makes of both lists, the text's fault among what is shown
 abbrev pub renewed : {A : Type 0} → Change A → PartsValue → PartsValue

@@ -1,5 +1,5 @@
 -- Meaning: laws of what an edit makes of what is found in a text.
-use Rattle.std.specs.Prelude.{◌≡◌, ℕ, ◌≤◌, Bool, true, false, not, List, [], ◌∷◌, ◌++◌, Option, Some, None, IfSome, slice_get}
+use Rattle.std.specs.Prelude.{◌≡◌, ℕ, ◌≤◌, Bool, true, false, not, List, [], ◌∷◌, ◌++◌, Option, Some, None, IfSome, IsSome, slice_get}
 use Rattle.std.specs.List.{AllByRecursion, filter}
 use Rattle.yl_text.specs.declared.finding.RuleId.{RuleId}
 use Rattle.yl_text.specs.Finding.{FindingValue}
@@ -7,7 +7,7 @@ use Rattle.yl_rules.specs.Levels.{LevelTable}
 use Rattle.yl_report.specs.Report.{ProblemValue, is_syntax, report_of}
 use Rattle.yl_parting.specs.Changes.{PatchValue, moved, patched}
 use Rattle.yl_parting.specs.Order.{IsInOrder}
-use Rattle.yl_parting.specs.Parts.{PartsValue, above, behind, is_no_fault, parted, shifted, with_fault, without_fault}
+use Rattle.yl_parting.specs.Parts.{PartsValue, above, behind, is_no_fault, parted, shifted, stays_judged, with_fault, without_fault}
 
 -- ---- parts follow
 
@@ -16,22 +16,30 @@ abbrev pub FollowsBelow : Option (ProblemValue → Bool) → (ProblemValue → B
 FollowsBelow None now was p found = AllByRecursion (λ q. now (shifted p.old_end p.new_end q) ≡ was q) (behind p.old_end found)
 FollowsBelow (Some below) now was p found = AllByRecursion (λ q. below q ≡ now q) (moved p found)
 
--- `now` says what is shown of all that is found once the lines are others, `was` said it before; `new` is found in the lines
-pub record Follows (now was : ProblemValue → Bool) (found new : List ProblemValue) (p : PatchValue) : Type 0 where
+-- where indentation behind the first so many lines is judged anew, all else of what was found stays
+abbrev pub IsJudgedAgain : ℕ → Option (List ProblemValue) → List ProblemValue → List ProblemValue → Type 0
+IsJudgedAgain line None found all = all ≡ found
+IsJudgedAgain line (Some new) found all = IsInOrder all × (filter (stays_judged line) all ≡ filter (stays_judged line) found) × (new ≡ filter (λ q. not (stays_judged line q)) all)
+
+-- `now` says what is shown of all that is found once the lines are others, `was` said it before; `new` is found in the lines; `all` was found, but
+-- for indentation that is judged anew
+pub record Follows (now was : ProblemValue → Bool) (found all new : List ProblemValue) (p : PatchValue) : Type 0 where
   pub in_order : IsInOrder found
   pub lines : p.first ≤ p.old_end
+  pub judged : IsJudgedAgain p.old_end p.indentation found all
+  pub told : IsSome p.indentation → IsSome p.below
   pub shown : p.shown ≡ filter now new
   pub suppressed : p.suppressed ≡ filter (λ q. not (now q)) new
-  pub above : AllByRecursion (λ q. now q ≡ was q) (above p.first found)
-  pub below : FollowsBelow p.below now was p found
+  pub above : AllByRecursion (λ q. now q ≡ was q) (above p.first all)
+  pub below : FollowsBelow p.below now was p all
 
 -- all that is found, once the lines are others
 abbrev pub found_after : PatchValue → List ProblemValue → List ProblemValue → List ProblemValue
-found_after p new found = above p.first found ++ (new ++ moved p found)
+found_after p new all = above p.first all ++ (new ++ moved p all)
 
 -- then a patch of both lists gives the lists of all that is found then
 abbrev pub PartsFollow : Type 0
-PartsFollow = (now was : ProblemValue → Bool) (found new : List ProblemValue) (p : PatchValue) → Follows now was found new p → parted now (found_after p new found) ≡ patched p (parted was found)
+PartsFollow = (now was : ProblemValue → Bool) (found all new : List ProblemValue) (p : PatchValue) → Follows now was found all new p → parted now (found_after p new all) ≡ patched p (parted was found)
 
 -- ---- the text's fault
 

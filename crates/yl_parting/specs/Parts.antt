@@ -1,8 +1,9 @@
 -- Meaning: what is found in a text, parted into what is shown and what is not, and what becomes of both.
-use Rattle.std.specs.Prelude.{ℕ, Bool, not, nat_le, ◌+◌, ◌-◌, ◌<◌, ◌^◌, List, take, drop, Option, Some, None}
+use Rattle.std.specs.Prelude.{ℕ, Bool, not, ◌||◌, nat_le, ◌+◌, ◌-◌, ◌<◌, ◌^◌, List, take, drop, Option, Some, None}
 use Rattle.std.specs.List.{filter, prefix_len}
 use Rattle.yl_report.specs.Report.{ProblemValue, is_syntax}
-use Rattle.yl_parting.specs.Order.{put_in}
+use Rattle.yl_parting.specs.Order.{merged, put_in}
+use Rattle.yl_parting.specs.Showing.{is_indentation}
 
 -- each problem stands in one of the two, both in the order of a report
 pub record PartsValue : Type 0 where
@@ -49,3 +50,17 @@ behind line ps = drop (prefix_len (is_upto line) ps) ps
 -- its line can be counted on from
 abbrev pub IsLow : ProblemValue → Type 0
 IsLow p = p.line < 2 ^ 63
+
+-- ---- indentation that is judged anew
+
+-- it is no indentation behind the first so many lines
+abbrev pub stays_judged : ℕ → ProblemValue → Bool
+stays_judged line p = is_upto line p || not (is_indentation p.rule)
+
+-- in place of the indentation behind the lines comes this. It comes among what is not shown: all behind the lines is to be parted anew
+abbrev pub judged_again : ℕ → Option (List ProblemValue) → PartsValue → PartsValue
+judged_again line None ps = ps
+judged_again line (Some new) ps = record {
+  shown = filter (stays_judged line) ps.shown;
+  suppressed = merged (filter (stays_judged line) ps.suppressed) new;
+}

@@ -1,5 +1,5 @@
 -- Bridge: what a change needs: room, and lists in order.
-use Rattle.std.specs.Prelude.{◌≡◌, ℕ, ◌+◌, ◌≤◌, Bool, false, List, [], Option, Some, None, Vec, vec_len, vec_capacity}
+use Rattle.std.specs.Prelude.{◌≡◌, ℕ, ◌+◌, ◌≤◌, Bool, false, List, [], Option, Some, None, IfSome, IsSome, Vec, vec_len, vec_capacity}
 use Rattle.std.specs.List.{AllByRecursion, filter}
 use Rattle.yl_report.specs.Report.{ProblemValue}
 use Rattle.yl_parting.specs.declared.change.Change.{Change}
@@ -7,7 +7,7 @@ use Rattle.yl_parting.specs.declared.change.Change.TheVariants.{Stay, Patch, Ane
 use Rattle.yl_parting.specs.declared.change.FoundProblems.{FoundProblems}
 use Rattle.yl_parting.specs.declared.change.LinesPatch.{LinesPatch}
 use Rattle.yl_parting.specs.Order.{IsInOrder}
-use Rattle.yl_parting.specs.Parts.{IsLow, PartsValue, is_no_fault, without_fault}
+use Rattle.yl_parting.specs.Parts.{IsLow, PartsValue, is_no_fault, is_upto, stays_judged, without_fault}
 
 -- so many come from the other list, or none
 abbrev pub crossing : {S : Type 0} → Option S → ℕ → ℕ
@@ -19,11 +19,16 @@ abbrev pub fault_count : {P : Type 0} → Option P → ℕ
 fault_count None = 0
 fault_count (Some p) = 1
 
+-- the indentation that is judged anew
+abbrev pub count_anew : {A : Type 0} → Option (Vec ProblemValue A) → ℕ
+count_anew None = 0
+count_anew (Some new) = vec_len new
+
 -- room for what the patch puts in, for the text's fault, and in `spare` for what it takes out meanwhile
 pub record HasRoomFor {A : Type 0} (f : FoundProblems A) (p : LinesPatch A) (room : Vec ProblemValue A) : Type 0 where
-  pub shown : vec_len f.shown + vec_len p.shown + crossing p.below (vec_len f.suppressed) + fault_count p.fault ≤ vec_capacity f.shown
-  pub suppressed : vec_len f.suppressed + vec_len p.suppressed + crossing p.below (vec_len f.shown) ≤ vec_capacity f.suppressed
-  pub spare : crossing p.below (vec_len f.shown + vec_len f.suppressed) ≤ vec_capacity room
+  pub shown : vec_len f.shown + vec_len p.shown + crossing p.below (vec_len f.suppressed + count_anew p.indentation) + fault_count p.fault ≤ vec_capacity f.shown
+  pub suppressed : vec_len f.suppressed + count_anew p.indentation + vec_len p.suppressed + crossing p.below (vec_len f.shown) ≤ vec_capacity f.suppressed
+  pub spare : crossing p.below (vec_len f.shown + (vec_len f.suppressed + count_anew p.indentation)) ≤ vec_capacity room
   pub empty : room.items ≡ []
 
 -- room for a change
@@ -43,9 +48,22 @@ pub record AreOrdered (ps : PartsValue) : Type 0 where
 abbrev pub ToldFault : Bool → List ProblemValue → Type 0
 ToldFault had_fault ps = had_fault ≡ false → filter is_no_fault ps ≡ ps
 
+-- indentation behind the lines, in order
+pub record IsIndentation (line : ℕ) (new : List ProblemValue) : Type 0 where
+  pub in_order : IsInOrder new
+  pub low : AllByRecursion IsLow new
+  pub behind : AllByRecursion (λ q. is_upto line q ≡ false) new
+  pub apart : AllByRecursion (λ q. stays_judged line q ≡ false) new
+
+-- where indentation is judged anew, what stands behind the lines is parted anew
+pub record IsJudgedReady {A : Type 0} (p : LinesPatch A) : Type 0 where
+  pub indentation : IfSome p.indentation (λ new. IsIndentation p.old_end new.items)
+  pub below : IsSome p.indentation → IsSome p.below
+
 -- what a patch needs of the lists: those without the fault are in order
 pub record IsReadyFor {A : Type 0} (p : LinesPatch A) (ps : PartsValue) : Type 0 where
   pub lines : p.first ≤ p.old_end
+  pub judged : IsJudgedReady p
   pub ordered : AreOrdered (without_fault ps)
   pub fault : ToldFault p.had_fault ps.shown
 

@@ -2,7 +2,7 @@
 -- with a fault hides what is found in the sections behind it, but not what the rules on lines find there.
 use Rattle.std.specs.Prelude.{ℕ, Bool, true, false, not, ◌&&◌, nat_lt}
 use Rattle.yl_text.specs.declared.finding.RuleId.{RuleId}
-use Rattle.yl_text.specs.declared.finding.RuleId.TheVariants.{EmptyLines, LineLength, NewLineAtEndOfFile, NewLines, TrailingSpaces}
+use Rattle.yl_text.specs.declared.finding.RuleId.TheVariants.{EmptyLines, Indentation, LineLength, NewLineAtEndOfFile, NewLines, TrailingSpaces}
 use Rattle.yl_report.specs.Heard.{is_heard}
 use Rattle.yl_report.specs.Report.{ProblemValue}
 use Rattle.yl_report.specs.Silence.{is_file_silenced_by, is_silenced_at}
@@ -16,6 +16,11 @@ is_of_lines NewLineAtEndOfFile = true
 is_of_lines NewLines = true
 is_of_lines TrailingSpaces = true
 is_of_lines _ = false
+
+-- the rule that judges a line by the lines above it
+abbrev pub is_indentation : RuleId → Bool
+is_indentation Indentation = true
+is_indentation _ = false
 
 -- found in a section, below the last line of which sections are shown, counted from 1
 abbrev pub is_hidden : ℕ → ProblemValue → Bool

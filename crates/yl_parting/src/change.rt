@@ -12,8 +12,8 @@ pub struct FoundProblems<A: Allocator> {
 }
 
 /// What an edit makes of the problems of some lines and of those below. The problems that stand behind the first `first` lines, up to
-/// `old_end`, go; these come. Those behind `old_end` lines stand behind `new_end` lines then, and are parted anew by `below`, if it is there.
-/// Then the text's fault comes in its place. `had_fault` is false only where no fault was shown before.
+/// `old_end`, go; these come. In place of the indentation behind `old_end` lines comes `indentation`, if it is there. All behind them stands behind
+/// `new_end` lines then, and is parted anew by `below`, if it is there. Then the text's fault comes in its place. `had_fault` is false only where no fault was shown before.
 #[derive(Drop)]
 pub struct LinesPatch<A: Allocator> {
     pub first: u32,
@@ -21,6 +21,7 @@ pub struct LinesPatch<A: Allocator> {
     pub new_end: u32,
     pub shown: Vec<Problem<A>, A>,
     pub suppressed: Vec<Problem<A>, A>,
+    pub indentation: Option<Vec<Problem<A>, A>>,
     pub below: Option<Showing<A>>,
     pub had_fault: bool,
     pub fault: Option<Problem<A>>,

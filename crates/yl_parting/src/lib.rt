@@ -7,6 +7,7 @@
 
 mod change;
 mod comparing;
+mod judging;
 mod laws;
 mod merging;
 mod parting;

@@ -82,6 +82,7 @@ pub fn take_behind<A: Allocator>(
     ensures suppressed { behind old_end suppressed.new.items ≡ [] }
     ensures shown_room { vec_capacity shown.new ≡ vec_capacity shown.old }
     ensures suppressed_room { vec_capacity suppressed.new ≡ vec_capacity suppressed.old }
+    ensures spare_room { vec_capacity spare.old ≤ vec_capacity spare.new }
 {
     while let Some(mut problem) = pop_last(shown, suppressed, u64::from(old_end)) {
         shift(&mut problem, old_end, new_end);

@@ -1,9 +1,10 @@
 //! A change of both lists.
 ghost use Rattle.std.specs.Prelude.{◌≡◌, ◌+◌, ◌≤◌, OnOk, vec_len, vec_capacity};
 ghost use Rattle.yl_parting.specs.Order.{put_in};
-ghost use Rattle.yl_parting.specs.Rooms.{crossing, fault_count};
+ghost use Rattle.yl_parting.specs.Rooms.{count_anew, crossing, fault_count};
 
 use crate::change::{Change, FoundProblems, LinesPatch};
+use crate::judging::{drop_indentation, merge_indentation};
 use crate::merging::{give_back, keep_above, take_behind};
 use crate::places::{are_low, count_before, count_upto};
 use crate::shifting::put_lines;
@@ -30,6 +31,16 @@ fn count_fault<A: Allocator>(fault: &Option<Problem<A>>) -> usize
 {
     match fault {
         Some(_) => 1,
+        None => 0,
+    }
+}
+
+/// The indentation that is judged anew, counted.
+fn count_indentation<A: Allocator>(indentation: &Option<Vec<Problem<A>, A>>) -> usize
+    ensures { result ≡ count_anew indentation.now }
+{
+    match indentation {
+        Some(new) => new.len(),
         None => 0,
     }
 }
@@ -79,12 +90,13 @@ fn put_in<A: Allocator>(problems: &mut Vec<Problem<A>, A>, problem: Problem<A>)
 }
 
 impl<A: Allocator + Copy> FoundProblems<A> {
-    ghost use Rattle.std.specs.Prelude.{◌≡◌, ◌+◌, ◌≤◌, true, IfOk, IsSome, IsNone, OnErr, OnOk, vec_len, vec_capacity};
+    ghost use Rattle.std.specs.Prelude.{◌≡◌, ◌+◌, ◌≤◌, [], true, IfOk, IfSome, IsSome, IsNone, OnErr, OnOk, vec_len, vec_capacity};
     ghost use Rattle.std.specs.List.{AllByRecursion};
-    ghost use Rattle.yl_parting.specs.Changes.{parts_in, patch_in, patched, renewed};
+    ghost use Rattle.std.specs.Option.{option_map};
+    ghost use Rattle.yl_parting.specs.Changes.{parts_in, patch_in, patched, patched_lines, renewed};
     ghost use Rattle.yl_parting.specs.Order.{IsInOrder};
-    ghost use Rattle.yl_parting.specs.Parts.{IsLow, with_fault, without_fault};
-    ghost use Rattle.yl_parting.specs.Rooms.{AreOrdered, HasRoom, HasRoomFor, IsReady, IsReadyFor, ToldFault, fault_count};
+    ghost use Rattle.yl_parting.specs.Parts.{IsLow, judged_again, with_fault, without_fault};
+    ghost use Rattle.yl_parting.specs.Rooms.{AreOrdered, HasRoom, HasRoomFor, IsIndentation, IsReady, IsReadyFor, ToldFault, count_anew, fault_count};
 
     /// Takes the text's fault out of what is shown, if one may be there.
     fn take_fault(&mut self, had_fault: bool)
@@ -119,6 +131,34 @@ impl<A: Allocator + Copy> FoundProblems<A> {
         Ok(())
     }
 
+    /// Puts indentation that is judged anew in place of what was found of it behind the first lines, among what is not shown. It takes no memory.
+    fn judge_again(
+        &mut self,
+        line: u32,
+        indentation: Option<Vec<Problem<A>, A>>,
+        spare: &mut Vec<Problem<A>, A>,
+    )
+        requires ordered { AreOrdered (parts_in self.old) }
+        requires new { IfSome indentation (λ new. IsIndentation line new.items) }
+        requires room { vec_len self.old.suppressed + count_anew indentation ≤ vec_capacity self.old.suppressed }
+        requires spare_room { IsSome indentation → vec_len self.old.suppressed + count_anew indentation ≤ vec_capacity spare.old }
+        requires empty { spare.old.items ≡ [] }
+        ensures parts { parts_in self.new ≡ judged_again line (option_map (λ v. v.items) indentation) (parts_in self.old) }
+        ensures shown { vec_len self.new.shown ≤ vec_len self.old.shown }
+        ensures shown_room { vec_capacity self.new.shown ≡ vec_capacity self.old.shown }
+        ensures suppressed { vec_len self.new.suppressed ≤ vec_len self.old.suppressed + count_anew indentation }
+        ensures suppressed_room { vec_capacity self.old.suppressed ≤ vec_capacity self.new.suppressed }
+        ensures spare { spare.new.items ≡ [] }
+        ensures spare_room { vec_capacity spare.old ≤ vec_capacity spare.new }
+    {
+        let Some(new) = indentation else {
+            return;
+        };
+        drop_indentation(&mut self.shown, line);
+        drop_indentation(&mut self.suppressed, line);
+        merge_indentation(&mut self.suppressed, new, line, spare);
+    }
+
     /// Patches both lists where what stands below stays in its list; hands out the text's fault.
     fn put_both(&mut self, patch: LinesPatch<A>) -> Option<Problem<A>>
         requires lines { patch.first ≤ patch.old_end }
@@ -126,7 +166,7 @@ impl<A: Allocator + Copy> FoundProblems<A> {
         requires shown_room { vec_len self.old.shown + vec_len patch.shown + fault_count patch.fault ≤ vec_capacity self.old.shown }
         requires suppressed_room { vec_len self.old.suppressed + vec_len patch.suppressed ≤ vec_capacity self.old.suppressed }
         requires still { IsNone patch.below }
-        ensures parts { parts_in self.new ≡ patched (patch_in patch) (parts_in self.old) }
+        ensures parts { parts_in self.new ≡ patched_lines (patch_in patch) (parts_in self.old) }
         ensures fault { result ≡ patch.fault }
         ensures room { vec_len self.new.shown + fault_count patch.fault ≤ vec_capacity self.new.shown }
     {
@@ -160,7 +200,7 @@ impl<A: Allocator + Copy> FoundProblems<A> {
         requires ordered { AreOrdered (parts_in self.old) }
         requires room { HasRoomFor self.old patch spare }
         requires anew { IsSome patch.below }
-        ensures parts { parts_in self.new ≡ patched (patch_in patch) (parts_in self.old) }
+        ensures parts { parts_in self.new ≡ patched_lines (patch_in patch) (parts_in self.old) }
         ensures fault { result ≡ patch.fault }
         ensures room { vec_len self.new.shown + fault_count patch.fault ≤ vec_capacity self.new.shown }
     {
@@ -170,10 +210,12 @@ impl<A: Allocator + Copy> FoundProblems<A> {
             new_end,
             mut shown,
             mut suppressed,
+            indentation,
             below,
             fault,
             ..
         } = patch;
+        drop(indentation);
         take_behind(
             &mut self.shown,
             &mut self.suppressed,
@@ -196,7 +238,7 @@ impl<A: Allocator + Copy> FoundProblems<A> {
         requires lines { patch.first ≤ patch.old_end }
         requires ordered { AreOrdered (parts_in self.old) }
         requires room { HasRoomFor self.old patch spare }
-        ensures parts { parts_in self.new ≡ patched (patch_in patch) (parts_in self.old) }
+        ensures parts { parts_in self.new ≡ patched_lines (patch_in patch) (parts_in self.old) }
         ensures fault { result ≡ patch.fault }
         ensures room { vec_len self.new.shown + fault_count patch.fault ≤ vec_capacity self.new.shown }
     {
@@ -208,12 +250,14 @@ impl<A: Allocator + Copy> FoundProblems<A> {
     }
 
     /// Patches both lists, and puts the text's fault in.
-    fn patch_lines(&mut self, patch: LinesPatch<A>, spare: Vec<Problem<A>, A>)
+    fn patch_lines(&mut self, mut patch: LinesPatch<A>, mut spare: Vec<Problem<A>, A>)
         requires room { HasRoomFor self.old patch spare }
         requires ready { IsReadyFor patch (parts_in self.old) }
         ensures { parts_in self.new ≡ with_fault patch.fault (patched (patch_in patch) (without_fault (parts_in self.old))) }
     {
         self.take_fault(patch.had_fault);
+        let indentation = patch.indentation.take();
+        self.judge_again(patch.old_end, indentation, &mut spare);
         let fault = self.put_parts(patch, spare);
         self.put_fault(fault);
     }
@@ -259,7 +303,11 @@ impl<A: Allocator + Copy> FoundProblems<A> {
         ensures suppressed { self.new.suppressed.items ≡ self.old.suppressed.items }
         ensures room { IfOk result (λ spare. HasRoomFor self.new patch.now spare) }
     {
-        let from_suppressed = count_crossing(&patch.below, self.suppressed.len());
+        let anew = count_indentation(&patch.indentation);
+        let Some(suppressed) = self.suppressed.len().checked_add(anew) else {
+            return Err(AllocError);
+        };
+        let from_suppressed = count_crossing(&patch.below, suppressed);
         let from_shown = count_crossing(&patch.below, self.shown.len());
         let Some(count) = from_suppressed.checked_add(from_shown) else {
             return Err(AllocError);
@@ -273,8 +321,11 @@ impl<A: Allocator + Copy> FoundProblems<A> {
         let Some(more_suppressed) = patch.suppressed.len().checked_add(from_shown) else {
             return Err(AllocError);
         };
+        let Some(and_anew) = more_suppressed.checked_add(anew) else {
+            return Err(AllocError);
+        };
         fit(alloc, &mut self.shown, and_fault)?;
-        fit(alloc, &mut self.suppressed, more_suppressed)?;
+        fit(alloc, &mut self.suppressed, and_anew)?;
         let spare = Vec::with_capacity(alloc, count)?;
         Ok(spare)
     }
@@ -285,8 +336,7 @@ impl<A: Allocator + Copy> FoundProblems<A> {
         alloc: A,
         change: &Change<A>,
     ) -> Result<Vec<Problem<A>, A>, AllocError>
-        ensures shown { self.new.shown.items ≡ self.old.shown.items }
-        ensures suppressed { self.new.suppressed.items ≡ self.old.suppressed.items }
+        ensures parts { parts_in self.new ≡ parts_in self.old }
         ensures room { IfOk result (λ spare. HasRoom self.new change.now spare) }
     {
         match change {

@@ -1,5 +1,7 @@
+pub mod Again
 pub mod AlikeShown
 pub mod EachFound
+pub mod Edited
 pub mod FaultFound
 pub mod Given
 pub mod RuleKinds

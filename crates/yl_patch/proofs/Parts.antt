@@ -193,10 +193,10 @@ take_front xs ys = same_lists _ _ (search (rules, places)) (λ k d h. grind (ari
 pub drop_front : {X : Type 0} (xs ys : List X) → drop (length xs) (xs ++ ys) ≡ ys
 drop_front xs ys = same_lists _ _ (search (rules, places)) (λ k d h. grind (arith, places))
 
-abbrev InLines : ℕ → ℕ → List ProblemValue → Type 0
+abbrev pub InLines : ℕ → ℕ → List ProblemValue → Type 0
 InLines low high ps = AllByRecursion (λ p. (low < p.line) × (p.line ≤ high)) ps
 
-abbrev Above : ℕ → List ProblemValue → Type 0
+abbrev pub Above : ℕ → List ProblemValue → Type 0
 Above n ps = AllByRecursion (λ p. n < p.line) ps
 
 pub upto_true : (n low high : ℕ) (ps : List ProblemValue) → high ≤ n → InLines low high ps → AllByRecursion (λ p. is_upto n p ≡ true) ps
@@ -211,23 +211,31 @@ above_both : (n : ℕ) (ps qs : List ProblemValue) → Above n ps → Above n qs
 above_both n [] qs h k = k
 above_both n (p ∷ ps) qs h k = (h.0, above_both n ps qs h.1 k)
 
-in_both : (low high : ℕ) (ps qs : List ProblemValue) → InLines low high ps → InLines low high qs → InLines low high (ps ++ qs)
+pub in_both : (low high : ℕ) (ps qs : List ProblemValue) → InLines low high ps → InLines low high qs → InLines low high (ps ++ qs)
 in_both low high [] qs h k = k
 in_both low high (p ∷ ps) qs h k = (h.0, in_both low high ps qs h.1 k)
 
-above_lower : (n : ℕ) (ps : List ProblemValue) → Above 0 ps → Above n (map (lower n) ps)
+pub above_lower : (n : ℕ) (ps : List ProblemValue) → Above 0 ps → Above n (map (lower n) ps)
 above_lower n [] h = tt
 above_lower n (p ∷ ps) h = (omega (arith, h.0), above_lower n ps h.1)
+
+pub above_low_by : (x z : ℕ) (ps : List ProblemValue) → Above z ps → Above (x + z) (map (lower x) ps)
+above_low_by x z [] h = tt
+above_low_by x z (p ∷ ps) h = (omega (arith, h.0), above_low_by x z ps h.1)
+
+pub above_weaker : (x z : ℕ) (ps : List ProblemValue) → z ≤ x → Above x ps → Above z ps
+above_weaker x z [] l h = tt
+above_weaker x z (p ∷ ps) l h = (omega (arith, l, h.0), above_weaker x z ps l h.1)
 
 above_low : (n high : ℕ) (ps : List ProblemValue) → InLines n high ps → Above n ps
 above_low n high [] h = tt
 above_low n high (p ∷ ps) h = (h.0.0, above_low n high ps h.1)
 
-in_lower : (n low high : ℕ) (ps : List ProblemValue) → InLines low high ps → InLines (n + low) (n + high) (map (lower n) ps)
+pub in_lower : (n low high : ℕ) (ps : List ProblemValue) → InLines low high ps → InLines (n + low) (n + high) (map (lower n) ps)
 in_lower n low high [] h = tt
 in_lower n low high (p ∷ ps) h = ((omega (arith, h.0.0), omega (arith, h.0.1)), in_lower n low high ps h.1)
 
-in_wider : (low high low' high' : ℕ) (ps : List ProblemValue) → low' ≤ low → high ≤ high' → InLines low high ps → InLines low' high' ps
+pub in_wider : (low high low' high' : ℕ) (ps : List ProblemValue) → low' ≤ low → high ≤ high' → InLines low high ps → InLines low' high' ps
 in_wider low high low' high' [] l h b = tt
 in_wider low high low' high' (p ∷ ps) l h b = ((omega (arith, l, b.0.0), omega (arith, h, b.0.1)), in_wider low high low' high' ps l h b.1)
 
@@ -260,19 +268,7 @@ module _ (a b c b' old new put : List ProblemValue) (n m line i j up down : ℕ)
   middle_in = in_wider (n + 0) (n + m) n up middle (omega arith) (omega (arith, up_is)) (in_lower n 0 m b b_in)
 
   behind_above : Above up behind
-  behind_above = above_wider (n + m) up behind (omega (arith, up_is)) (above_low_by n m (map (lower m) c) (above_lower m c c_in))
-    where
-      above_wider : (x z : ℕ) (ps : List ProblemValue) → z ≤ x → Above x ps → Above z ps
-      above_wider x z [] l h = tt
-      above_wider x z (p ∷ ps) l h = (omega (arith, l, h.0), above_wider x z ps l h.1)
-
-      above_low_by : (x z : ℕ) (ps : List ProblemValue) → Above z ps → Above (x + z) (map (lower x) ps)
-      above_low_by x z [] h = tt
-      above_low_by x z (p ∷ ps) h = (omega (arith, h.0), above_low_by x z ps h.1)
-
-  above_weaker : (x z : ℕ) (ps : List ProblemValue) → z ≤ x → Above x ps → Above z ps
-  above_weaker x z [] l h = tt
-  above_weaker x z (p ∷ ps) l h = (omega (arith, l, h.0), above_weaker x z ps l h.1)
+  behind_above = above_weaker (n + m) up behind (omega (arith, up_is)) (above_low_by n m (map (lower m) c) (above_lower m c c_in))
 
   front_count : i ≡ length a
   front_count =

@@ -19,6 +19,7 @@ use Rattle.yl_parting.specs.Order.{IsInOrder}
 use Rattle.yl_parting.specs.Parts.{PartsValue, above, behind, is_upto, parted, shifted, with_fault, without_fault}
 use Rattle.yl_parting.proofs.Faults.{report_in_order}
 use Rattle.yl_parting.proofs.Following.{fault_goes, parts_follow}
+use Rattle.yl_parting.proofs.Judged.{judged_above, judged_order}
 use Rattle.yl_parting.proofs.Ordered.{all_behind, all_then}
 use Rattle.yl_patch.specs.Faultless.{faultless}
 use Rattle.yl_patch.specs.Found.{all_parts, fault_told, found_by, is_shown, parts_of}
@@ -59,9 +60,9 @@ fault_apart config rows ks plain = fault_goes (fault_told config rows ks) (parts
 
 -- ---- an edit
 
-module _ (config : Config) (rows ins : List RowValue) (ks new : List KeptValue) (a b from end : ℕ) (found : List ProblemValue) (p : PatchValue)
+module _ (config : Config) (rows ins : List RowValue) (ks new : List KeptValue) (a b from end : ℕ) (all found : List ProblemValue) (p : PatchValue)
     (within : a ≤ length rows) (ordered : from ≤ end) (within' : end ≤ length ks) (plain : AllByRecursion IsPlain (faultless ks)) (plainₙ : AllByRecursion IsPlain (faultless new)) (first : p.first ≤ a)
-    (is : IsPatchOf config rows (splice rows a b ins) ks new from end found p) where
+    (is : IsPatchOf config rows (splice rows a b ins) ks new from end all found p) where
   abbrev after : List RowValue
   after = splice rows a b ins
 
@@ -71,35 +72,40 @@ module _ (config : Config) (rows ins : List RowValue) (ks new : List KeptValue) 
   abbrev old : List ProblemValue
   old = found_by config rows ks
 
-  stays_above : AllByRecursion (λ q. is_shown after kept q ≡ is_shown rows ks q) (above p.first old)
+  in_order : IsInOrder old
+  in_order = found_in_order config rows ks plain
+
+  stays_above : AllByRecursion (λ q. is_shown after kept q ≡ is_shown rows ks q) (above p.first all)
   stays_above =
       let n = length rows + rows_kept ks in
-      all_then (λ (q : ProblemValue). InFirst n q × (is_upto p.first q ≡ true)) (λ q. is_shown after kept q ≡ is_shown rows ks q) (above p.first old)
+      subst (λ (qs : List ProblemValue). AllByRecursion (λ q. is_shown after kept q ≡ is_shown rows ks q) qs) (sym (judged_above p.old_end p.first (omega (arith, is.old_some)) p.indentation old all in_order is.judged))
+      (all_then (λ (q : ProblemValue). InFirst n q × (is_upto p.first q ≡ true)) (λ q. is_shown after kept q ≡ is_shown rows ks q) (above p.first old)
       (λ q h. above_alike rows ins ks new a b from end q within (omega (arith, is.first, first)) h.0.0 (omega (arith, is.first, leb-true q.line p.first h.1)))
-      (all_above (InFirst n) p.first old (found_in_lines config rows ks plain n (omega arith) (omega arith)))
+      (all_above (InFirst n) p.first old (found_in_lines config rows ks plain n (omega arith) (omega arith))))
 
-  follows_below : IsInOrder old → (o : Option (ProblemValue → Bool)) → SaysBelow o rows after ks new from end → FollowsBelow o (is_shown after kept) (is_shown rows ks) p old
-  follows_below order None stays =
-      all_then (λ (q : ProblemValue). is_upto p.old_end q ≡ false) (λ q. is_shown after kept (shifted p.old_end p.new_end q) ≡ is_shown rows ks q) (behind p.old_end old)
+  follows_below : (o : Option (ProblemValue → Bool)) → SaysBelow o rows after ks new from end → FollowsBelow o (is_shown after kept) (is_shown rows ks) p all
+  follows_below None stays =
+      all_then (λ (q : ProblemValue). is_upto p.old_end q ≡ false) (λ q. is_shown after kept (shifted p.old_end p.new_end q) ≡ is_shown rows ks q) (behind p.old_end all)
       (λ q h. below_alike rows after ks new from end p.old_end p.new_end q ordered within' is.old_end is.new_end (omega (arith, is.first, is.old_some)) (omega (arith, is.first, is.new_some)) plain plainₙ stays.file stays.faults stays.comments (leb-false q.line p.old_end h))
-      (all_behind p.old_end old order)
-  follows_below order (Some f) says = all_any (λ (q : ProblemValue). f q ≡ is_shown after kept q) (moved p old) says
+      (all_behind p.old_end all (judged_order p.old_end p.indentation old all in_order is.judged))
+  follows_below (Some f) says = all_any (λ (q : ProblemValue). f q ≡ is_shown after kept q) (moved p all) says
 
-  follows : Follows (is_shown after kept) (is_shown rows ks) old found p
-  follows =
-      let order = found_in_order config rows ks plain in record {
-        in_order = order;
-        lines = omega (arith, is.old_some);
-        shown = is.shown;
-        suppressed = is.suppressed;
-        above = stays_above;
-        below = follows_below order p.below is.below;
-      }
+  follows : Follows (is_shown after kept) (is_shown rows ks) old all found p
+  follows = record {
+    in_order = in_order;
+    lines = omega (arith, is.old_some);
+    judged = is.judged;
+    told = is.told;
+    shown = is.shown;
+    suppressed = is.suppressed;
+    above = stays_above;
+    below = follows_below p.below is.below;
+  }
 
   -- both lists of the edited text are those of the old one, patched
   pub parts_edited : with_fault p.fault (patched p (without_fault (all_parts config rows ks))) ≡ all_parts config after kept
   parts_edited =
       ap (λ (ps : PartsValue). with_fault p.fault (patched p ps)) (fault_apart config rows ks plain)
-      ∙ (ap (with_fault p.fault) (sym (parts_follow (is_shown after kept) (is_shown rows ks) old found p follows))
-      ∙ (ap (λ (ps : List ProblemValue). with_fault p.fault (parted (is_shown after kept) ps)) (sym is.all)
+      ∙ (ap (with_fault p.fault) (sym (parts_follow (is_shown after kept) (is_shown rows ks) old all found p follows))
+      ∙ (ap (λ (ps : List ProblemValue). with_fault p.fault (parted (is_shown after kept) ps)) (sym is.all_after)
       ∙ ap (λ (o : Option ProblemValue). with_fault o (parts_of config after kept)) is.fault))

@@ -1,7 +1,7 @@
 -- What is found in an edited text, from what was found in the old text and what is found in the touched lines.
 use Rattle.std.proofs.Common.{◌≡◌, ℕ, zero, suc, ◌+◌, ◌-◌, ◌<◌, ◌≤◌, ◌==◌, Bool, true, false, List, [], ◌∷◌, ◌++◌, length, map, take, drop, refl, ap, sym, subst, ◌∙◌, arith, rules, append_assoc}
 use Rattle.std.specs.List.{AllByRecursion, splice, slice_get, prefix_len}
-use Rattle.std.proofs.lemmas.List.{same_lists, places, length-take-le, length-drop, length-map, take-map, drop-map}
+use Rattle.std.proofs.lemmas.List.{same_lists, places, length-take-le, length-drop}
 use Rattle.yl_text.specs.Finding.{FindingValue}
 use Rattle.yl_text.specs.Lines.{RowValue}
 use Rattle.yl_text.specs.declared.finding.RuleId.{RuleId}
@@ -10,7 +10,6 @@ use Rattle.yl_rules.specs.NewLines.{new_lines}
 use Rattle.yl_rules.specs.EndOfFile.{end_of_file}
 use Rattle.yl_rules.specs.Levels.{LevelTable}
 use Rattle.yl_indentation.specs.declared.measure.Measure.{Measure}
-use Rattle.yl_indentation.specs.declared.options.IndentationOptions.{IndentationOptions}
 use Rattle.yl_indentation.specs.Measures.{and_later, empty_measure}
 use Rattle.yl_settings.specs.declared.options.RuleOptions.{RuleOptions}
 use Rattle.yl_config.specs.declared.config.Config.{Config}
@@ -25,19 +24,18 @@ use Rattle.yl_lint.specs.Onward.{onward_in_sections}
 use Rattle.yl_lint.specs.TextReport.{end_of_lines, findings_from, findings_in_lines, findings_in_sections, moved, shown}
 use Rattle.yl_lint.specs.Unsilenced.{unsilenced_of_kept}
 use Rattle.yl_patch.specs.Cut.{IsInside, is_filled}
-use Rattle.yl_patch.specs.Faultless.{faultless, faultless_one}
+use Rattle.yl_patch.specs.Faultless.{faultless}
 use Rattle.yl_patch.specs.Found.{found_by}
 use Rattle.yl_patch.specs.Plain.{IsPlain}
-use Rattle.yl_patch.specs.Seen.{AreFoundAlike, IsSeen, measure_upto, new_lines_of, sections_between}
-use Rattle.yl_lint.specs.There.{found_there, lines_there}
+use Rattle.yl_patch.specs.Seen.{measure_upto}
+use Rattle.yl_lint.specs.There.{found_there}
 use Rattle.yl_lint.specs.declared.there.Ends.{Ends}
 use Rattle.yl_patch.specs.declared.touched.Touched.{Touched}
 use Rattle.yl_lint.proofs.Arranged.{arranged, arranged_lines, arranged_moved, lower}
 use Rattle.yl_lint.proofs.LineParts.{if_none, is_seam, none_by, seam_behind, seam_more}
-use Rattle.yl_patch.proofs.Parts.{lines_above, part, part_alike, part_between, parts_apart, patched, patched_so}
+use Rattle.yl_patch.proofs.Parts.{lines_above, part, part_between, parts_apart, patched, patched_so}
 use Rattle.yl_patch.proofs.Sections.{no_fault, shown_plain}
-use Rattle.yl_overview.proofs.Walks.{all_back, all_both, all_front, measured, rows_until}
-use Rattle.yl_patch.proofs.WithoutFaults.{faultless_between, measured_faultless, onward_faultless, rows_faultless, splice_faultless}
+use Rattle.yl_overview.proofs.Walks.{all_back, all_both, all_front, measured}
 
 -- ---- what is found in a whole text
 
@@ -50,7 +48,7 @@ found_is_part o e before rows ks =
     let s = onward_in_sections o.indentation 0 before ks in
     append_assoc r (n ++ (l ++ z)) s ∙ ap (λ (fs : List FindingValue). r ++ fs) (append_assoc n (l ++ z) s ∙ ap (λ (fs : List FindingValue). n ++ fs) (append_assoc l z s))
 
-abbrev silent : RuleId → ℕ → Bool
+abbrev pub silent : RuleId → ℕ → Bool
 silent = nothing_silenced
 
 whole_part : (o : RuleOptions) (rows : List RowValue) (ks : List KeptValue) → findings_in_lines o rows ++ findings_in_sections o.indentation (measured ks) 0 empty_measure ks ≡ part o true true empty_measure rows ks
@@ -72,6 +70,12 @@ found_is config rows ks plain =
     ∙ ap (λ (fs : List FindingValue). report_of l false nothing_silenced fs) (whole_part o rows qs))
 
 -- ---- three parts, of which the second becomes another
+
+-- what is found in them, where indentation in the last one is judged behind facts of this measure
+abbrev pub judged_parts : LevelTable → RuleOptions → Measure → List RowValue → List RowValue → List RowValue → List KeptValue → List KeptValue → List KeptValue → List ProblemValue
+judged_parts levels o before fs ps bs ks ls ms =
+    arranged levels silent (part o true false empty_measure fs ks)
+    ++ map (lower (length fs)) (arranged levels silent (part o (if_none fs true) (if_none bs true) (measured ks) ps ls) ++ map (lower (length ps)) (arranged levels silent (part o false true before bs ms)))
 
 module _ (levels : LevelTable) (o : RuleOptions) (p : RowValue) (fs ps bs : List RowValue) (ks ls ms : List KeptValue)
     (plain : AllByRecursion IsPlain ks) (plain' : AllByRecursion IsPlain ls) (plain'' : AllByRecursion IsPlain ms)
@@ -112,14 +116,13 @@ module _ (levels : LevelTable) (o : RuleOptions) (p : RowValue) (fs ps bs : List
       (lines_above 0 high found (part_between o false true before bs ms high plain'' (omega arith) (omega arith)))
 
 -- of a text of three parts the second becomes another
-module _ (levels : LevelTable) (o : RuleOptions) (ks ls news ms : List KeptValue) (plain : AllByRecursion IsPlain ks) (plain' : AllByRecursion IsPlain ls) (plainₙ : AllByRecursion IsPlain news) (plain'' : AllByRecursion IsPlain ms)
-    (same : AreFoundAlike (measure_upto (measured ks) ls) (measure_upto (measured ks) news) ms) where
+module _ (levels : LevelTable) (o : RuleOptions) (ks ls news ms : List KeptValue) (plain : AllByRecursion IsPlain ks) (plain' : AllByRecursion IsPlain ls) (plainₙ : AllByRecursion IsPlain news) (plain'' : AllByRecursion IsPlain ms) where
   abbrev all_of : List RowValue → List KeptValue → List ProblemValue
   all_of rows xs = arranged levels silent (part o true true empty_measure rows xs)
 
-  renewed_parts : (fs ps qs bs : List RowValue) → rows_kept ks ≡ length fs → rows_kept ls ≡ length ps → rows_kept news ≡ length qs
+  pub renewed_parts : (fs ps qs bs : List RowValue) → rows_kept ks ≡ length fs → rows_kept ls ≡ length ps → rows_kept news ≡ length qs
       → 0 < length ps → 0 < length qs → is_seam fs ps ≡ true → is_seam fs qs ≡ true → is_seam ps bs ≡ true
-      → (i j up down : ℕ) (put old : List ProblemValue) → old ≡ all_of (fs ++ (ps ++ bs)) (ks ++ (ls ++ ms)) → i ≡ prefix_len (is_upto (length fs)) old → j ≡ prefix_len (is_upto up) old → up ≡ length fs + length ps → down ≡ length fs + length qs
+      → (i j up down : ℕ) (put old : List ProblemValue) → old ≡ judged_parts levels o (and_later (measured ks) (measured news)) fs ps bs ks ls ms → i ≡ prefix_len (is_upto (length fs)) old → j ≡ prefix_len (is_upto up) old → up ≡ length fs + length ps → down ≡ length fs + length qs
       → (e : Ends) → e.begins ≡ if_none fs true → e.ends ≡ if_none bs true → put ≡ arranged levels silent (map (moved (length fs)) (found_there o e (measured ks) qs news))
       → patched i j put up down old ≡ all_of (fs ++ (qs ++ bs)) (ks ++ (news ++ ms))
   renewed_parts fs [] qs bs f g h some _ _ _ _ _ _ _ _ _ _ _ _ _ _ _ _ _ _ _ = absurd (omega (arith, some))
@@ -129,23 +132,17 @@ module _ (levels : LevelTable) (o : RuleOptions) (ks ls news ms : List KeptValue
       let n = length (p ∷ ps) in
       let m = length (q ∷ qs) in
       let behind_seam' = seam_behind ps qs bs p q behind_seam in
-      let before = and_later (measured ks) (measured ls) in
+      let before = and_later (measured ks) (measured news) in
       let a = front levels o p fs ps bs ks ls ms plain plain' plain'' f g seam behind_seam in
       let b = middle levels o p fs ps bs ks ls ms plain plain' plain'' f g seam behind_seam in
       let c = back levels o p fs ps bs ks ls ms plain plain' plain'' f g seam behind_seam before in
       let b' = middle levels o q fs qs bs ks news ms plain plainₙ plain'' f h seam' behind_seam' in
-      let new_rows = fs ++ ((q ∷ qs) ++ bs) in
-      let back_is : back levels o q fs qs bs ks news ms plain plainₙ plain'' f h seam' behind_seam' (and_later (measured ks) (measured news)) ≡ c =
-      ap (arranged levels silent) (sym (part_alike o false true before (and_later (measured ks) (measured news)) bs ms same)) in
-      let new_parts =
-      three_parts levels o q fs qs bs ks news ms plain plainₙ plain'' f h seam' behind_seam'
-      ∙ ap (λ (z : List ProblemValue). a ++ map (lower first) (b' ++ map (lower m) z)) back_is in
       let found = part o (if_none fs true) (if_none bs true) (measured ks) (q ∷ qs) news in
       let found_between = middle_between levels o q fs qs bs ks news ms plain plainₙ plain'' f h seam' behind_seam' in
       let there : found_there o e (measured ks) (q ∷ qs) news ≡ found =
       found_is_part o e (measured ks) (q ∷ qs) news
       ∙ (ap (λ begins. part o begins e.ends (measured ks) (q ∷ qs) news) begins ∙ ap (λ ends. part o (if_none fs true) ends (measured ks) (q ∷ qs) news) ends) in
-      patched_so a b c b' old (all_of new_rows (ks ++ (news ++ ms))) put first n m i j up down (old_is ∙ three_parts levels o p fs ps bs ks ls ms plain plain' plain'' f g seam behind_seam) new_parts
+      patched_so a b c b' old (all_of (fs ++ ((q ∷ qs) ++ bs)) (ks ++ (news ++ ms))) put first n m i j up down old_is (three_parts levels o q fs qs bs ks news ms plain plainₙ plain'' f h seam' behind_seam')
       (put_is
       ∙ (ap (λ (fs : List FindingValue). arranged levels silent (map (moved first) fs)) there
       ∙ arranged_moved levels silent first found (lines_above 0 m found found_between)))
@@ -153,6 +150,13 @@ module _ (levels : LevelTable) (o : RuleOptions) (ks ls news ms : List KeptValue
       (in_middle_lines levels o p fs ps bs ks ls ms plain plain' plain'' f g seam behind_seam)
       (in_back_lines levels o p fs ps bs ks ls ms plain plain' plain'' f g seam behind_seam before)
       i_is j_is up_is down_is
+
+-- what is found in a text of three parts
+parts_judged : (levels : LevelTable) (o : RuleOptions) (fs ps bs : List RowValue) (ks ls ms : List KeptValue) → AllByRecursion IsPlain ks → AllByRecursion IsPlain ls → AllByRecursion IsPlain ms → rows_kept ks ≡ length fs → rows_kept ls ≡ length ps
+    → 0 < length ps → is_seam fs ps ≡ true → is_seam ps bs ≡ true
+    → arranged levels silent (part o true true empty_measure (fs ++ (ps ++ bs)) (ks ++ (ls ++ ms))) ≡ judged_parts levels o (and_later (measured ks) (measured ls)) fs ps bs ks ls ms
+parts_judged levels o fs [] bs ks ls ms plain plain' plain'' f g some seam seam' = absurd (omega (arith, some))
+parts_judged levels o fs (p ∷ ps) bs ks ls ms plain plain' plain'' f g some seam seam' = three_parts levels o p fs ps bs ks ls ms plain plain' plain'' f g seam seam'
 
 -- ---- an edit
 
@@ -200,6 +204,11 @@ spliced_three xs ns a b i j k l h m f g e =
     three (splice xs a b ns) i k g (omega (arith, n, e, m))
     ∙ (ap (λ ys. ys ++ (take (k - i) (drop i (splice xs a b ns)) ++ drop k (splice xs a b ns))) (spliced_front xs ns a b i l (omega (arith, h, m)) f)
     ∙ ap (λ ys. take i xs ++ (take (k - i) (drop i (splice xs a b ns)) ++ ys)) (spliced_back xs ns a b j k l h (omega (arith, h, m)) e))
+
+-- what is found in a text whose touched lines and sections are these, where indentation below them is judged behind facts of this measure
+abbrev pub found_judged : Config → List RowValue → List KeptValue → ℕ → ℕ → Touched → Measure → List ProblemValue
+found_judged config rows kept from end t before =
+    judged_parts (levels_of config) (options_of config) before (take t.first rows) (take (t.old_end - t.first) (drop t.first rows)) (drop t.old_end rows) (take from kept) (take (end - from) (drop from kept)) (drop end kept)
 
 module _ (config : Config) (rows ins : List RowValue) (kept new : List KeptValue) (a b from end : ℕ) (t : Touched)
     (ordered : a ≤ b) (within : from ≤ end) (within' : end ≤ length kept) (inside : IsInside t a b (length ins) (length rows)) where
@@ -256,68 +265,65 @@ module _ (config : Config) (rows ins : List RowValue) (kept new : List KeptValue
   bs_none : (t.old_end == length rows) ≡ if_none bs true
   bs_none = none_by bs t.old_end (length rows) (λ e. omega (arith, bs_length, e, inside.back)) (λ e. omega (arith, bs_length, e))
 
-  pub renewed : AllByRecursion IsPlain kept → AllByRecursion IsPlain new
-      → t.first ≡ rows_kept ks → t.old_end ≡ t.first + rows_kept ls → t.new_end ≡ t.first + rows_kept new → (e : Ends) → e.begins ≡ (t.first == 0) → e.ends ≡ (t.old_end == length rows)
-      → (e.begins ≡ false → is_filled (slice_get rows t.first) ≡ true) → (e.begins ≡ false → is_filled (slice_get rows' t.first) ≡ true) → (e.ends ≡ false → is_filled (slice_get rows t.old_end) ≡ true)
-      → AreFoundAlike (measure_upto (measured ks) ls) (measure_upto (measured ks) new) ms
-      → (put old : List ProblemValue) → old ≡ arranged (levels_of config) silent (part (options_of config) true true empty_measure rows kept)
-      → put ≡ arranged (levels_of config) silent (map (moved t.first) (found_there (options_of config) e (measured ks) qs new))
-      → above t.first old ++ (put ++ map (shifted t.old_end t.new_end) (behind t.old_end old)) ≡ arranged (levels_of config) silent (part (options_of config) true true empty_measure rows' (splice kept from end new))
-  renewed plain plainₙ first old_end new_end e begins ends filled filled' filled'' same put old old_is put_is =
-      let l = levels_of config in
-      let o = options_of config in
-      let split = subst (λ xs. AllByRecursion IsPlain xs) kept_three plain in
-      let rest = all_back IsPlain ks (ls ++ ms) split in
-      let begins_is = begins ∙ fs_none in
-      let ends_is = ends ∙ bs_none in
-      let seam = front_seam fs ps (λ h. filled_there rows t.first (t.old_end - t.first) (omega (arith, inside.old_some)) (filled (begins_is ∙ h))) in
-      let seam' = front_seam fs qs (λ h. filled_there rows' t.first (t.new_end - t.first) (omega (arith, inside.new_some)) (filled' (begins_is ∙ h))) in
-      let seam'' = back_seam ps bs (λ h. ap is_filled (head_dropped rows t.old_end) ∙ filled'' (ends_is ∙ h)) in
-      renewed_parts l o ks ls new ms (all_front IsPlain ks (ls ++ ms) split) (all_front IsPlain ls ms rest) plainₙ (all_back IsPlain ls ms rest) same fs ps qs bs
-      (omega (arith, first, fs_length)) (omega (arith, old_end, ps_length)) (omega (arith, new_end, qs_length)) (omega (arith, ps_length, inside.old_some)) (omega (arith, qs_length, inside.new_some)) seam seam' seam''
-      (prefix_len (is_upto t.first) old) (prefix_len (is_upto t.old_end) old) t.old_end t.new_end put old
-      (old_is ∙ (ap (λ xs. arranged l silent (part o true true empty_measure rows xs)) kept_three ∙ ap (λ xs. arranged l silent (part o true true empty_measure xs (ks ++ (ls ++ ms)))) rows_three))
-      (ap (λ n. prefix_len (is_upto n) old) (sym fs_length)) refl (omega (arith, fs_length, ps_length, inside.old_some)) (omega (arith, fs_length, qs_length, inside.new_some))
-      e begins_is ends_is (put_is ∙ ap (λ n. arranged l silent (map (moved n) (found_there o e (measured ks) qs new))) (sym fs_length))
-      ∙ ap (λ xs. arranged l silent (part o true true empty_measure xs (splice kept from end new))) (sym rows_three')
+  module _ (plain : AllByRecursion IsPlain kept) (first : t.first ≡ rows_kept ks) (old_end : t.old_end ≡ t.first + rows_kept ls) (e : Ends) (begins : e.begins ≡ (t.first == 0)) (ends : e.ends ≡ (t.old_end == length rows))
+      (filled : e.begins ≡ false → is_filled (slice_get rows t.first) ≡ true) (filled'' : e.ends ≡ false → is_filled (slice_get rows t.old_end) ≡ true) where
+    split : AllByRecursion IsPlain (ks ++ (ls ++ ms))
+    split = subst (λ xs. AllByRecursion IsPlain xs) kept_three plain
 
--- ---- what is seen of an edit says what is found once it is made
+    rest : AllByRecursion IsPlain (ls ++ ms)
+    rest = all_back IsPlain ks (ls ++ ms) split
 
-pub found_edited : (config : Config) (rows ins : List RowValue) (ks new : List KeptValue) (a b from end : ℕ) (t : Touched) (found : List FindingValue) → IsSeen config rows ins ks new a b from end t found
-    → a ≤ b → from ≤ end → end ≤ length ks → AllByRecursion IsPlain (faultless ks) → AllByRecursion IsPlain (faultless new) → AllByRecursion IsPlain (faultless (splice ks from end new))
-    → found_by config (splice rows a b ins) (splice ks from end new)
-    ≡ above t.first (found_by config rows ks) ++ (arranged (levels_of config) silent found ++ map (shifted t.old_end t.new_end) (behind t.old_end (found_by config rows ks)))
-found_edited config rows ins ks new a b from end t found seen ordered within within' plain plainₙ plain' =
-    let o = options_of config in
-    let l = levels_of config in
-    let cut = seen.cut in
-    let e = seen.ends in
-    let ls = sections_between from end ks in
-    let rows' = splice rows a b ins in
-    let qs = new_lines_of t a b rows ins in
-    let front : take from (faultless ks) ≡ faultless (take from ks) = take-map faultless_one from ks in
-    let between = faultless_between from end ks in
-    let above_is : measured (take from (faultless ks)) ≡ measured (take from ks) = ap measured front ∙ measured_faultless (take from ks) in
-    let was : measure_upto (measured (take from (faultless ks))) (sections_between from end (faultless ks)) ≡ measure_upto (measured (take from ks)) ls =
-    ap (λ (m : Measure). measure_upto m (sections_between from end (faultless ks))) above_is ∙ ap (and_later (measured (take from ks))) (ap measured between ∙ measured_faultless ls) in
-    let is_now : measure_upto (measured (take from (faultless ks))) (faultless new) ≡ measure_upto (measured (take from ks)) new =
-    ap (λ (m : Measure). measure_upto m (faultless new)) above_is ∙ ap (and_later (measured (take from ks))) (measured_faultless new) in
-    let at : (p : IndentationOptions) (line : ℕ) (m : Measure) → onward_in_sections p line m (drop end (faultless ks)) ≡ onward_in_sections p line m (drop end ks) =
-    λ p line m. ap (onward_in_sections p line m) (drop-map faultless_one end ks) ∙ onward_faultless p line m (drop end ks) in
-    let same : AreFoundAlike (measure_upto (measured (take from (faultless ks))) (sections_between from end (faultless ks))) (measure_upto (measured (take from (faultless ks))) (faultless new)) (drop end (faultless ks)) =
-    λ p line.
-    at p line (measure_upto (measured (take from (faultless ks))) (sections_between from end (faultless ks)))
-    ∙ (ap (λ (m : Measure). onward_in_sections p line m (drop end ks)) was
-    ∙ (seen.alike p line
-    ∙ (ap (λ (m : Measure). onward_in_sections p line m (drop end ks)) (sym is_now) ∙ sym (at p line (measure_upto (measured (take from (faultless ks))) (faultless new)))))) in
-    let there : found ≡ map (moved t.first) (found_there o e (measured (take from (faultless ks))) qs (faultless new)) =
-    seen.there
-    ∙ (ap (λ (fs : List FindingValue). map (moved t.first) (lines_there o e qs ++ fs)) (sym (onward_faultless o.indentation 0 (measured (take from ks)) new))
-    ∙ ap (λ (m : Measure). map (moved t.first) (found_there o e m qs (faultless new))) (sym above_is)) in
-    found_is config rows' (splice ks from end new) plain'
-    ∙ (ap (λ (xs : List KeptValue). arranged l silent (part o true true empty_measure rows' xs)) (sym (splice_faultless ks new from end))
-    ∙ sym (renewed config rows ins (faultless ks) (faultless new) a b from end t ordered within (subst (λ n. end ≤ n) (sym (length-map ks faultless_one)) within') cut.inside plain plainₙ
-    (cut.first ∙ sym (ap rows_kept front ∙ rows_faultless (take from ks)))
-    (omega (arith, cut.first, cut.old_end, rows_until ks from end within within', ap rows_kept between, rows_faultless ls))
-    (cut.new_end ∙ ap (λ n. t.first + n) (sym (rows_faultless new))) e cut.begins_text cut.ends_text cut.old_seam cut.new_seam cut.behind_seam same (arranged l silent found) (found_by config rows ks)
-    (found_is config rows ks plain) (ap (λ (fs : List FindingValue). arranged l silent fs) there)))
+    pub plain_above : AllByRecursion IsPlain ks
+    plain_above = all_front IsPlain ks (ls ++ ms) split
+
+    pub plain_there : AllByRecursion IsPlain ls
+    plain_there = all_front IsPlain ls ms rest
+
+    pub plain_below : AllByRecursion IsPlain ms
+    plain_below = all_back IsPlain ls ms rest
+
+    begins_is : e.begins ≡ if_none fs true
+    begins_is = begins ∙ fs_none
+
+    ends_is : e.ends ≡ if_none bs true
+    ends_is = ends ∙ bs_none
+
+    seam : is_seam fs ps ≡ true
+    seam = front_seam fs ps (λ h. filled_there rows t.first (t.old_end - t.first) (omega (arith, inside.old_some)) (filled (begins_is ∙ h)))
+
+    seam'' : is_seam ps bs ≡ true
+    seam'' = back_seam ps bs (λ h. ap is_filled (head_dropped rows t.old_end) ∙ filled'' (ends_is ∙ h))
+
+    pub fit : rows_kept ks ≡ length fs
+    fit = omega (arith, first, fs_length)
+
+    pub fit' : rows_kept ls ≡ length ps
+    fit' = omega (arith, old_end, ps_length)
+
+    pub end_is : length fs + length ps ≡ t.old_end
+    end_is = omega (arith, fs_length, ps_length, inside.old_some)
+
+    -- what was found, where indentation below is judged behind the facts that stood above it
+    pub was_judged : arranged (levels_of config) silent (part (options_of config) true true empty_measure rows kept) ≡ found_judged config rows kept from end t (measure_upto (measured ks) ls)
+    was_judged =
+        let l = levels_of config in
+        let o = options_of config in
+        ap (λ xs. arranged l silent (part o true true empty_measure rows xs)) kept_three
+        ∙ (ap (λ xs. arranged l silent (part o true true empty_measure xs (ks ++ (ls ++ ms)))) rows_three
+        ∙ parts_judged l o fs ps bs ks ls ms plain_above plain_there plain_below fit fit' (omega (arith, ps_length, inside.old_some)) seam seam'')
+
+    -- what is found once the edit is made, where indentation below is judged behind the facts that stand above it then
+    pub renewed : AllByRecursion IsPlain new → t.new_end ≡ t.first + rows_kept new → (e.begins ≡ false → is_filled (slice_get rows' t.first) ≡ true)
+        → (put old : List ProblemValue) → old ≡ found_judged config rows kept from end t (measure_upto (measured ks) new)
+        → put ≡ arranged (levels_of config) silent (map (moved t.first) (found_there (options_of config) e (measured ks) qs new))
+        → above t.first old ++ (put ++ map (shifted t.old_end t.new_end) (behind t.old_end old)) ≡ arranged (levels_of config) silent (part (options_of config) true true empty_measure rows' (splice kept from end new))
+    renewed plainₙ new_end filled' put old old_is put_is =
+        let l = levels_of config in
+        let o = options_of config in
+        let seam' = front_seam fs qs (λ h. filled_there rows' t.first (t.new_end - t.first) (omega (arith, inside.new_some)) (filled' (begins_is ∙ h))) in
+        renewed_parts l o ks ls new ms plain_above plain_there plainₙ plain_below fs ps qs bs
+        fit fit' (omega (arith, new_end, qs_length)) (omega (arith, ps_length, inside.old_some)) (omega (arith, qs_length, inside.new_some)) seam seam' seam''
+        (prefix_len (is_upto t.first) old) (prefix_len (is_upto t.old_end) old) t.old_end t.new_end put old old_is
+        (ap (λ n. prefix_len (is_upto n) old) (sym fs_length)) refl (omega (arith, fs_length, ps_length, inside.old_some)) (omega (arith, fs_length, qs_length, inside.new_some))
+        e begins_is ends_is (put_is ∙ ap (λ n. arranged l silent (map (moved n) (found_there o e (measured ks) qs new))) (sym fs_length))
+        ∙ ap (λ xs. arranged l silent (part o true true empty_measure xs (splice kept from end new))) (sym rows_three')

@@ -7,7 +7,7 @@ use Rattle.std.proofs.lemmas.Bool.{and_parts}
 use Rattle.yl_text.specs.Finding.{FindingValue, one_finding, at_each}
 use Rattle.yl_text.specs.Lines.{RowValue}
 use Rattle.yl_text.specs.declared.finding.RuleId.{RuleId}
-use Rattle.yl_text.specs.declared.finding.RuleId.TheVariants.{Syntax}
+use Rattle.yl_text.specs.declared.finding.RuleId.TheVariants.{Indentation, Syntax}
 use Rattle.yl_indentation.specs.declared.fact.Expectation.{Expectation}
 use Rattle.yl_indentation.specs.declared.fact.Expectation.TheVariants.{At, Beyond, EntryIn}
 use Rattle.yl_indentation.specs.declared.fact.Fact.{Fact}
@@ -29,16 +29,19 @@ use Rattle.yl_rules.specs.Runs.{run_findings}
 use Rattle.yl_rules.specs.TrailingSpaces.{trailing_spaces}
 use Rattle.yl_settings.specs.declared.options.RuleOptions.{RuleOptions}
 use Rattle.yl_report.specs.Report.{is_syntax}
-use Rattle.yl_sections.specs.Kept.{KeptValue}
+use Rattle.yl_sections.specs.Kept.{KeptValue, items_if}
 use Rattle.yl_lint.specs.Onward.{onward_in_section, onward_in_sections}
 use Rattle.yl_lint.specs.TextReport.{findings_from, findings_in_lines, moved}
-use Rattle.yl_parting.specs.Showing.{is_of_lines}
-use Rattle.yl_patch.specs.Plain.{IsPlain, is_of_section}
+use Rattle.yl_lint.specs.There.{lines_there}
+use Rattle.yl_lint.specs.declared.there.Ends.{Ends}
+use Rattle.yl_parting.specs.Showing.{is_indentation, is_of_lines}
+use Rattle.yl_parting.proofs.Ordered.{all_then}
+use Rattle.yl_patch.specs.Plain.{IsPlain, is_kept_rule, is_of_section}
 use Rattle.yl_overview.proofs.Walks.{all_both}
 
 -- ---- rules
 
-not_so : (b : Bool) → not b ≡ true → b ≡ false
+pub not_so : (b : Bool) → not b ≡ true → b ≡ false
 not_so true h = sym h
 not_so false h = refl
 
@@ -68,7 +71,7 @@ module _ (kind : RuleId → Bool) where
   when_of rule line column m true h = (h, tt)
   when_of rule line column m false h = tt
 
-  moved_of : (n : ℕ) (fs : List FindingValue) → AreOf kind fs → AreOf kind (map (moved n) fs)
+  pub moved_of : (n : ℕ) (fs : List FindingValue) → AreOf kind fs → AreOf kind (map (moved n) fs)
   moved_of n [] h = tt
   moved_of n (f ∷ fs) h = (h.0, moved_of n fs h.1)
 
@@ -110,31 +113,48 @@ in_lines_of o rows =
     (both_of is_of_lines (new_lines o.run.new_line rows) (empty_lines o.run.empty_lines rows ++ end_of_file rows) (new_lines_of o.run.new_line (slice_get rows 0))
     (both_of is_of_lines (empty_lines o.run.empty_lines rows) (end_of_file rows) (empty_lines_of o.run.empty_lines [] rows) (end_of (length rows) (slice_get rows (length rows - 1)))))
 
+items_of : (b : Bool) (fs : List FindingValue) → AreOf is_of_lines fs → AreOf is_of_lines (items_if b fs)
+items_of true fs h = h
+items_of false fs h = tt
+
+-- in some lines of a text
+pub lines_there_of : (o : RuleOptions) (e : Ends) (rows : List RowValue) → AreOf is_of_lines (lines_there o e rows)
+lines_there_of o e rows =
+    let n = new_lines o.run.new_line rows in
+    let z = end_of_file rows in
+    both_of is_of_lines (findings_from o.row 1 rows) (items_if e.begins n ++ (empty_lines o.run.empty_lines rows ++ items_if e.ends z)) (rows_of o.row 1 rows)
+    (both_of is_of_lines (items_if e.begins n) (empty_lines o.run.empty_lines rows ++ items_if e.ends z) (items_of e.begins n (new_lines_of o.run.new_line (slice_get rows 0)))
+    (both_of is_of_lines (empty_lines o.run.empty_lines rows) (items_if e.ends z) (empty_lines_of o.run.empty_lines [] rows) (items_of e.ends z (end_of (length rows) (slice_get rows (length rows - 1))))))
+
 -- ---- sections
 
-by_width_of : (base : ℕ) (w : Option ℕ) (f : Fact) → AreOf is_of_section (finding_by_width w base f)
-by_width_of base None f = when_of is_of_section _ (f.line + 1) _ _ _ refl
-by_width_of base (Some w) f = unless_of is_of_section _ (f.line + 1) _ _ _ refl
+module _ (kind : RuleId → Bool) (on : kind Indentation ≡ true) where
+  by_width_of : (base : ℕ) (w : Option ℕ) (f : Fact) → AreOf kind (finding_by_width w base f)
+  by_width_of base None f = when_of kind _ (f.line + 1) _ _ _ on
+  by_width_of base (Some w) f = unless_of kind _ (f.line + 1) _ _ _ on
 
-either_of : (b : Bool) (xs ys : List FindingValue) → AreOf is_of_section xs → AreOf is_of_section ys → AreOf is_of_section (if b then xs else ys)
-either_of true xs ys h k = h
-either_of false xs ys h k = k
+  either_of : (b : Bool) (xs ys : List FindingValue) → AreOf kind xs → AreOf kind ys → AreOf kind (if b then xs else ys)
+  either_of true xs ys h k = h
+  either_of false xs ys h k = k
 
-by_of : (c : IndentSequences) (flush : Bool) (w : Option ℕ) (f : Fact) (e : Expectation) → AreOf is_of_section (finding_by c flush w f e)
-by_of c flush w f (At e) = unless_of is_of_section _ (f.line + 1) _ _ _ refl
-by_of c flush w f (Beyond base) = by_width_of base w f
-by_of c flush w f (EntryIn base) = either_of _ (finding_by_width w base f) (not_as_expected base f) (by_width_of base w f) (unless_of is_of_section _ (f.line + 1) _ _ _ refl)
+  by_of : (c : IndentSequences) (flush : Bool) (w : Option ℕ) (f : Fact) (e : Expectation) → AreOf kind (finding_by c flush w f e)
+  by_of c flush w f (At e) = unless_of kind _ (f.line + 1) _ _ _ on
+  by_of c flush w f (Beyond base) = by_width_of base w f
+  by_of c flush w f (EntryIn base) = either_of _ (finding_by_width w base f) (not_as_expected base f) (by_width_of base w f) (unless_of kind _ (f.line + 1) _ _ _ on)
 
-indented_of : (o : IndentationOptions) (before : Measure) (fs : List Fact) → AreOf is_of_section (onward_problems o before fs)
-indented_of o before [] = tt
-indented_of o before (f ∷ fs) =
-    let here = and_later before (measure_at f.column f.expectation) in
-    both_of is_of_section (finding_at o here (is_flush here) f) (onward_problems o here fs) (by_of o.indent_sequences (is_flush here) (indentation_width o here (is_flush here)) f f.expectation) (indented_of o here fs)
+  pub indented_of : (o : IndentationOptions) (before : Measure) (fs : List Fact) → AreOf kind (onward_problems o before fs)
+  indented_of o before [] = tt
+  indented_of o before (f ∷ fs) =
+      let here = and_later before (measure_at f.column f.expectation) in
+      both_of kind (finding_at o here (is_flush here) f) (onward_problems o here fs) (by_of o.indent_sequences (is_flush here) (indentation_width o here (is_flush here)) f f.expectation) (indented_of o here fs)
+
+kept_of_section : (fs : List FindingValue) → AreOf is_kept_rule fs → AreOf is_of_section fs
+kept_of_section fs h = all_then (λ (f : FindingValue). is_kept_rule f.rule ≡ true) (λ f. is_of_section f.rule ≡ true) fs (λ f e. (and_parts (is_of_section f.rule) (not (is_indentation f.rule)) e).0) h
 
 pub in_sections_of : (o : IndentationOptions) (line : ℕ) (before : Measure) (ks : List KeptValue) → AllByRecursion IsPlain ks → AreOf is_of_section (onward_in_sections o line before ks)
 in_sections_of o line before [] h = tt
 in_sections_of o line before (k ∷ ks) h =
     let all = k.found ++ onward_problems o before k.facts in
     both_of is_of_section (onward_in_section o line before k) (onward_in_sections o (line + k.rows) (and_later before (measure_of k.facts)) ks)
-    (moved_of is_of_section line all (both_of is_of_section k.found (onward_problems o before k.facts) h.0.rules (indented_of o before k.facts)))
+    (moved_of is_of_section line all (both_of is_of_section k.found (onward_problems o before k.facts) (kept_of_section k.found h.0.rules) (indented_of is_of_section refl o before k.facts)))
     (in_sections_of o (line + k.rows) (and_later before (measure_of k.facts)) ks h.1)

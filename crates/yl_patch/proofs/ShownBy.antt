@@ -1,6 +1,7 @@
 -- What is shown by the comments that were read.
-use Rattle.std.proofs.Common.{◌≡◌, ℕ, Bool, true, List, take, Option, Some, None, ap, subst, ◌∙◌}
-use Rattle.std.specs.Prelude.{MatchOption}
+use Rattle.std.proofs.Common.{◌≡◌, ℕ, Bool, true, false, List, take, Option, Some, None, refl, ap, sym, subst, ◌∙◌}
+use Rattle.std.specs.Prelude.{◌&&◌, IsSome, MatchOption, Vec, is_none}
+use Rattle.std.proofs.lemmas.Bool.{and_parts}
 use Rattle.std.specs.List.{splice}
 use Rattle.std.specs.Option.{option_map}
 use Rattle.yl_text.specs.Lines.{RowValue}
@@ -28,3 +29,14 @@ pub below_says : {A : Type 0} (o : Option (Showing A)) (known : Bool) (rows afte
 below_says None known rows after edited ks new kept from end e f h stays = subst (λ (xs : List RowValue). StaysShown rows xs ks new from end) e (stays h)
 below_says (Some s) known rows after edited ks new kept from end e f h stays = λ q.
     ap (λ (says : ProblemValue → Bool). says q) h ∙ (ap (λ (xs : List RowValue). is_shown xs kept q) e ∙ ap (λ (ls : List KeptValue). is_shown after ls q) f)
+
+-- where indentation is judged anew, something says what is shown
+pub told_where : {X Y : Type 0} (o : Option X) (p : Option (Showing Y)) (stays none : Bool) (edited : List RowValue) (kept : List KeptValue) → none ≡ is_none o → MatchOption p ((stays && none) ≡ true) (λ s. is_shown_by s ≡ is_shown edited kept) → IsSome o → IsSome p
+told_where None p stays none edited kept e h some = absurd (cc)
+told_where (Some x) (Some y) stays none edited kept e h some = refl
+told_where (Some x) None stays none edited kept e h some = let wrong : false ≡ true = sym e ∙ (and_parts stays none h).1 in cc
+
+pub told_in : {X Y V Z : Type 0} (o : Option (Vec X V)) (p : Option Y) (f : Y → Z) → (IsSome o → IsSome p) → IsSome (option_map (λ (v : Vec X V). v.items) o) → IsSome (option_map f p)
+told_in None p f h some = absurd (cc)
+told_in (Some v) (Some y) f h some = refl
+told_in (Some v) None f h some = absurd (let none = h refl in cc)

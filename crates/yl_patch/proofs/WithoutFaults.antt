@@ -13,7 +13,7 @@ use Rattle.yl_rejudge.specs.Places.{rows_kept}
 use Rattle.yl_lint.specs.Onward.{onward_in_section, onward_in_sections}
 use Rattle.yl_lint.specs.TextReport.{facts_in_sections, findings_in_section, findings_in_sections}
 use Rattle.yl_patch.specs.Faultless.{faultless, faultless_one}
-use Rattle.yl_patch.specs.Plain.{IsPlain, IsWithin, is_of_section}
+use Rattle.yl_patch.specs.Plain.{IsPlain, IsWithin, is_kept_rule}
 use Rattle.yl_overview.specs.Overview.{IsSound}
 use Rattle.yl_patch.specs.Seen.{sections_between}
 use Rattle.yl_overview.proofs.Walks.{all_both, measured, all_drop, all_take}
@@ -63,13 +63,17 @@ plain_faultless ks ns from end p q =
     (all_both IsPlain (take from (faultless ks)) (faultless ns ++ drop end (faultless ks)) (all_take IsPlain (faultless ks) from p)
     (all_both IsPlain (faultless ns) (drop end (faultless ks)) q (all_drop IsPlain (faultless ks) end p)))
 
+-- those from one on
+pub all_below : (ks : List KeptValue) (end : ℕ) → AllByRecursion IsPlain (faultless ks) → AllByRecursion IsPlain (faultless (drop end ks))
+all_below ks end h = subst (λ (ls : List KeptValue). AllByRecursion IsPlain ls) (drop-map faultless_one end ks) (all_drop IsPlain (faultless ks) end h)
+
 -- one by one
 pub plain_but_by : (k : KeptValue) (rows : ℕ) (xs ys : List FindingValue) (fs : List Fact) (cs : List PlacedCommentValue) → rows ≡ k.rows → xs ≡ k.found → ys ≡ k.found → fs ≡ k.facts → cs ≡ k.comments
-    → AllByRecursion (IsWithin rows) xs → AllByRecursion (λ f. is_of_section f.rule ≡ true) ys → AllByRecursion (λ f. f.line < rows) fs → AllByRecursion (λ c. c.line < rows) cs → IsPlain (faultless_one k)
+    → AllByRecursion (IsWithin rows) xs → AllByRecursion (λ f. is_kept_rule f.rule ≡ true) ys → AllByRecursion (λ f. f.line < rows) fs → AllByRecursion (λ c. c.line < rows) cs → IsPlain (faultless_one k)
 plain_but_by k rows xs ys fs cs a d r e m found rules facts comments = record {
   sound = refl;
   found = subst (λ n. AllByRecursion (IsWithin n) k.found) a (subst (λ (zs : List FindingValue). AllByRecursion (IsWithin rows) zs) d found);
-  rules = subst (λ (zs : List FindingValue). AllByRecursion (λ f. is_of_section f.rule ≡ true) zs) r rules;
+  rules = subst (λ (zs : List FindingValue). AllByRecursion (λ f. is_kept_rule f.rule ≡ true) zs) r rules;
   facts = subst (λ n. AllByRecursion (λ f. f.line < n) k.facts) a (subst (λ (zs : List Fact). AllByRecursion (λ f. f.line < rows) zs) e facts);
   comments = subst (λ n. AllByRecursion (λ c. c.line < n) k.comments) a (subst (λ (zs : List PlacedCommentValue). AllByRecursion (λ c. c.line < rows) zs) m comments);
 }

@@ -1,5 +1,5 @@
 -- Bridge: what a patch of both lists of problems is to say of an edit of some sections.
-use Rattle.std.specs.Prelude.{◌≡◌, ◌<◌, ◌+◌, ◌-◌, ℕ, Bool, false, not, List, take, drop, Option, Some, None}
+use Rattle.std.specs.Prelude.{◌≡◌, ◌<◌, ◌+◌, ◌-◌, ℕ, Bool, false, not, List, take, drop, Option, Some, None, IsSome}
 use Rattle.std.specs.List.{filter, splice}
 use Rattle.yl_text.specs.Lines.{RowValue}
 use Rattle.yl_config.specs.declared.config.Config.{Config}
@@ -9,7 +9,7 @@ use Rattle.yl_sections.specs.Kept.{KeptValue}
 use Rattle.yl_rejudge.specs.Places.{rows_kept}
 use Rattle.yl_lint.specs.TextReport.{first_text}
 use Rattle.yl_parting.specs.Changes.{PatchValue}
-use Rattle.yl_parting.specs.Following.{found_after}
+use Rattle.yl_parting.specs.Following.{IsJudgedAgain, found_after}
 use Rattle.yl_patch.specs.Found.{fault_told, found_by, is_shown}
 use Rattle.yl_overview.specs.Overview.{has_fault}
 use Rattle.yl_patch.specs.Speaking.{SpeakAlike}
@@ -27,14 +27,16 @@ SaysBelow None rows after ks new from end = StaysShown rows after ks new from en
 SaysBelow (Some shows) rows after ks new from end = (q : ProblemValue) → shows q ≡ is_shown after (splice ks from end new) q
 
 -- once the text has those lines and these sections come in place of those from one on, before another: this is found in the lines of the new
--- sections, and parted by what is shown then
-pub record IsPatchOf (config : Config) (rows after : List RowValue) (ks new : List KeptValue) (from end : ℕ) (found : List ProblemValue) (p : PatchValue) : Type 0 where
+-- sections, and parted by what is shown then; `all` was found before, but for indentation that is judged anew
+pub record IsPatchOf (config : Config) (rows after : List RowValue) (ks new : List KeptValue) (from end : ℕ) (all found : List ProblemValue) (p : PatchValue) : Type 0 where
   pub first : p.first ≡ rows_kept (take from ks)
   pub old_end : p.old_end ≡ rows_kept (take end ks)
   pub new_end : p.new_end ≡ rows_kept (take from ks) + rows_kept new
   pub old_some : p.first < p.old_end
   pub new_some : p.first < p.new_end
-  pub all : found_by config after (splice ks from end new) ≡ found_after p found (found_by config rows ks)
+  pub judged : IsJudgedAgain p.old_end p.indentation (found_by config rows ks) all
+  pub told : IsSome p.indentation → IsSome p.below
+  pub all_after : found_by config after (splice ks from end new) ≡ found_after p found all
   pub shown : p.shown ≡ filter (is_shown after (splice ks from end new)) found
   pub suppressed : p.suppressed ≡ filter (λ q. not (is_shown after (splice ks from end new) q)) found
   pub below : SaysBelow p.below rows after ks new from end

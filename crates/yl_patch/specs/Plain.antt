@@ -5,7 +5,7 @@ use Rattle.yl_text.specs.declared.finding.RuleId.{RuleId}
 use Rattle.yl_text.specs.Finding.{FindingValue}
 use Rattle.yl_indentation.specs.Measures.{measure_of}
 use Rattle.yl_report.specs.Report.{is_syntax}
-use Rattle.yl_parting.specs.Showing.{is_of_lines}
+use Rattle.yl_parting.specs.Showing.{is_indentation, is_of_lines}
 use Rattle.yl_sections.specs.Kept.{KeptValue}
 use Rattle.yl_lint.specs.TextReport.{facts_in_sections}
 use Rattle.yl_patch.specs.Faultless.{faultless}
@@ -20,11 +20,15 @@ IsWithin rows f = (0 < f.line) × (f.line ≤ rows)
 abbrev pub is_of_section : RuleId → Bool
 is_of_section rule = not (is_of_lines rule) && not (is_syntax rule)
 
+-- and not the one of which facts are kept
+abbrev pub is_kept_rule : RuleId → Bool
+is_kept_rule rule = is_of_section rule && not (is_indentation rule)
+
 -- no fault; all that is found, in its own lines and by rules on sections; its facts and its comments in its own lines
 pub record IsPlain (k : KeptValue) : Type 0 where
   pub sound : k.fault ≡ None
   pub found : AllByRecursion (IsWithin k.rows) k.found
-  pub rules : AllByRecursion (λ f. is_of_section f.rule ≡ true) k.found
+  pub rules : AllByRecursion (λ f. is_kept_rule f.rule ≡ true) k.found
   pub facts : AllByRecursion (λ f. f.line < k.rows) k.facts
   pub comments : AllByRecursion (λ c. c.line < k.rows) k.comments
 

@@ -45,10 +45,9 @@ pub record IsCut (rows ins : List RowValue) (a b from_row end_row count : ℕ) (
   pub new_seam : e.begins ≡ false → is_filled (slice_get (splice rows a b ins) t.first) ≡ true
   pub behind_seam : e.ends ≡ false → is_filled (slice_get rows t.old_end) ≡ true
 
--- this is found in the touched lines and in the sections that are put in place of those from one on, before another; the edit changes nothing
--- of what is found below them, and the lines that it touches are theirs
+-- this is found in the touched lines and in the sections that are put in place of those from one on, before another; the lines that the edit
+-- touches are theirs
 pub record IsSeen (config : Config) (rows ins : List RowValue) (kept new : List KeptValue) (a b from end : ℕ) (t : Touched) (found : List FindingValue) : Type 0 where
-  pub alike : AreFoundAlike (measure_upto (measure_of (facts_in_sections (take from kept))) (sections_between from end kept)) (measure_upto (measure_of (facts_in_sections (take from kept))) new) (drop end kept)
   pub ends : Ends
   pub cut : IsCut rows ins a b (rows_kept (take from kept)) (rows_kept (take end kept)) (rows_kept new) t ends
   pub there : found ≡ map (moved t.first) (found_there (options_of config) ends (measure_of (facts_in_sections (take from kept))) (new_lines_of t a b rows ins) new)

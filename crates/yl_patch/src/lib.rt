@@ -12,6 +12,7 @@ mod below;
 mod comments;
 mod fault;
 mod found;
+mod indentation;
 mod laws;
 mod measures;
 mod patching;

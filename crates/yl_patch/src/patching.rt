@@ -7,7 +7,7 @@ ghost use Rattle.yl_report.specs.Report.{report_of};
 ghost use Rattle.yl_parting.specs.Changes.{parts_in, patch_in, patched};
 ghost use Rattle.yl_parting.specs.Order.{IsInOrder};
 ghost use Rattle.yl_parting.specs.Parts.{parted, with_fault, without_fault};
-ghost use Rattle.yl_parting.specs.Rooms.{ToldFault};
+ghost use Rattle.yl_parting.specs.Rooms.{IsJudgedReady, ToldFault};
 ghost use Rattle.yl_parting.specs.Showing.{is_shown_by};
 ghost use Rattle.yl_overview.specs.Edit.{IsSectionEdit};
 ghost use Rattle.yl_lint.specs.Edit.{IsTextEdit};
@@ -18,6 +18,7 @@ ghost use Rattle.yl_patch.specs.ShownUpto.{is_shown_upto};
 
 use crate::below::stays_shown;
 use crate::fault::fault_of;
+use crate::indentation::indentation_below;
 use crate::seen::{SeenEdit, see_edit};
 use crate::showing::showing_of;
 use std::alloc::AllocError;
@@ -67,7 +68,7 @@ fn showing_unless<L: Lines>(
 }
 
 /// What an edit makes of what is found in a text, whose sections are plain before and after it. None where the touched lines are not apart from
-/// the others, or indentation below would be judged otherwise. The only error is out of memory.
+/// the others. Where indentation below is judged otherwise then, it is found anew from the facts that are kept. The only error is out of memory.
 pub fn patched_problems<S: LineStore>(
     alloc: S::Alloc,
     config: &Config,
@@ -79,6 +80,7 @@ pub fn patched_problems<S: LineStore>(
     requires plain { AllByRecursion IsPlain (faultless edit.now.sections.now.items) }
     requires plain_then { AllByRecursion IsPlain (faultless (splice edit.now.sections.now.items edit.now.from edit.now.end edit.now.kept.now)) }
     ensures lines { IfOk result (λ o. IfSome o (λ p. p.first ≤ p.old_end)) }
+    ensures judged { IfOk result (λ o. IfSome o (λ p. IsJudgedReady p)) }
     ensures shown_order { IfOk result (λ o. IfSome o (λ _. IsInOrder (all_parts config.now (S.rows text.now.store.now) edit.now.sections.now.items).shown)) }
     ensures suppressed_order { IfOk result (λ o. IfSome o (λ _. IsInOrder (all_parts config.now (S.rows text.now.store.now) edit.now.sections.now.items).suppressed)) }
     ensures told { IfOk result (λ o. IfSome o (λ p. ToldFault p.had_fault (all_parts config.now (S.rows text.now.store.now) edit.now.sections.now.items).shown)) }
@@ -94,7 +96,9 @@ pub fn patched_problems<S: LineStore>(
     let sections = edit.spliced();
     let upto = edit.from + edit.kept.len();
     let parts = part_found(alloc, config, &edited, &sections, after, upto, found)?;
-    let is_known = stays_shown(alloc, text.store, &edited, edit)?;
+    let indentation = indentation_below(alloc, config, edit, touched.old_end)?;
+    let stays = stays_shown(alloc, text.store, &edited, edit)?;
+    let is_known = stays && indentation.is_none();
     let below = showing_unless(alloc, is_known, &edited, &sections, after)?;
     let fault = fault_of(alloc, config, &edited, &sections, after)?;
     let FoundProblems { shown, suppressed } = parts;
@@ -104,6 +108,7 @@ pub fn patched_problems<S: LineStore>(
         new_end: touched.new_end,
         shown,
         suppressed,
+        indentation,
         below,
         had_fault: before.has_fault(),
         fault,

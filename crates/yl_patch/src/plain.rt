@@ -23,12 +23,13 @@ fn are_within<A: Allocator>(found: &[Finding<A>], rows: u32) -> bool
     true
 }
 
-/// Whether the rule is one on sections.
-fn is_of_section(rule: RuleId) -> bool
-    ensures { result ≡ spec.is_of_section rule }
+/// Whether the rule is one on sections, and not the one of which facts are kept.
+fn is_kept_rule(rule: RuleId) -> bool
+    ensures { result ≡ spec.is_kept_rule rule }
 {
     match rule {
         RuleId::EmptyLines
+        | RuleId::Indentation
         | RuleId::LineLength
         | RuleId::NewLineAtEndOfFile
         | RuleId::NewLines
@@ -38,12 +39,12 @@ fn is_of_section(rule: RuleId) -> bool
     }
 }
 
-/// Whether rules on sections found all of these.
-fn are_of_section<A: Allocator>(found: &[Finding<A>]) -> bool
-    ensures { result ≡ true → AllByRecursion (λ f. spec.is_of_section f.rule ≡ true) found.now }
+/// Whether such rules found all of these.
+fn are_of_kept_rules<A: Allocator>(found: &[Finding<A>]) -> bool
+    ensures { result ≡ true → AllByRecursion (λ f. spec.is_kept_rule f.rule ≡ true) found.now }
 {
     for one in found {
-        if !is_of_section(one.rule()) {
+        if !is_kept_rule(one.rule()) {
             return false;
         }
     }
@@ -79,7 +80,7 @@ fn is_plain<A: Allocator>(kept: &Kept<A>) -> bool
     ensures { result ≡ true → IsPlain (faultless_one kept.now) }
 {
     let rows = kept.rows();
-    if !are_within(kept.found(), rows) || !are_of_section(kept.found()) {
+    if !are_within(kept.found(), rows) || !are_of_kept_rules(kept.found()) {
         return false;
     }
     if !are_facts_within(kept.facts(), rows) {

@@ -6,7 +6,6 @@ ghost use Rattle.yl_patch.specs.Cut.{is_filled};
 ghost use Rattle.yl_lint.specs.Edit.{IsTextEdit};
 ghost use Rattle.yl_patch.specs.Seen.{IsCut, IsSeen};
 
-use crate::measures::leaves_below;
 use crate::touched::{Touched, ends_of, find_touched, is_filled, is_inside};
 use std::alloc::{AllocError, Allocator};
 use yl_config::Config;
@@ -69,8 +68,8 @@ fn cut_edit<S: LineStore>(
     Some(CutEdit { touched, ends })
 }
 
-/// What is seen of an edit, whatever comments say and a fault hides; none where it does not show that what is found elsewhere stays. The only
-/// error is out of memory.
+/// What is seen of an edit, whatever comments say and a fault hides; none where the touched lines are not apart from the others. The only error is
+/// out of memory.
 pub fn see_edit<S: LineStore>(
     alloc: S::Alloc,
     config: &Config,
@@ -81,9 +80,6 @@ pub fn see_edit<S: LineStore>(
     requires edit { IsSectionEdit edit.now }
     ensures { IfOk result (λ o. IfSome o (λ s. IsSeen config.now (S.rows text.now.store.now) text.now.rows.now edit.now.sections.now.items edit.now.kept.now text.now.a text.now.b edit.now.from edit.now.end s.touched s.found.items)) }
 {
-    if !leaves_below(edit) {
-        return Ok(None);
-    }
     let Some(cut) = cut_edit(text, edit) else {
         return Ok(None);
     };

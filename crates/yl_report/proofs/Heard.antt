@@ -27,7 +27,7 @@ unfolding IsStrictlySortedBy
 strict_filter p [] s = s
 strict_filter p (x ∷ xs) s = strict_cond (p x) x (filter p xs) (all_filter (λ z. finding_order x z ≡ Less) p xs s.0) (strict_filter p xs s.1)
 
-sorted_filter : (p : FindingValue → Bool) (xs : List FindingValue) → sorted_once (filter p xs) ≡ filter p (sorted_once xs)
+pub sorted_filter : (p : FindingValue → Bool) (xs : List FindingValue) → sorted_once (filter p xs) ≡ filter p (sorted_once xs)
 sorted_filter p xs =
     let ys = sorted_once xs in
     let a = sorted_once_arranged xs in

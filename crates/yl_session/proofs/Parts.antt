@@ -19,7 +19,7 @@ use Rattle.yl_overview.specs.declared.overview.Overview.{Overview}
 use Rattle.yl_parting.specs.Changes.{parts_in, patch_in, patched}
 use Rattle.yl_parting.specs.Order.{IsInOrder}
 use Rattle.yl_parting.specs.Parts.{IsLow, PartsValue, is_no_fault, parted, with_fault, without_fault}
-use Rattle.yl_parting.specs.Rooms.{IsReadyFor, ToldFault}
+use Rattle.yl_parting.specs.Rooms.{IsJudgedReady, IsReadyFor, ToldFault}
 use Rattle.yl_parting.specs.declared.change.Change.{Change}
 use Rattle.yl_parting.specs.declared.change.Change.TheVariants.{Anew, Patch, Stay}
 use Rattle.yl_parting.specs.declared.change.FoundProblems.{FoundProblems}
@@ -63,10 +63,6 @@ stays config old new ks ls plain alike same = record {
   };
 }
 
--- two lists are the same
-pub parts_are : {A : Type 0} (f h : FoundProblems A) → f.shown.items ≡ h.shown.items → f.suppressed.items ≡ h.suppressed.items → parts_in f ≡ parts_in h
-parts_are f h p q = λ i. record { shown = p i; suppressed = q i }
-
 -- by the same reports told otherwise
 pub told_so : {A : Type 0} (config : Config) (rows new : List RowValue) (ks ls : List KeptValue) (was now : Bool) (told then other later : List ProblemValue) (change : Change A) → told ≡ other → then ≡ later
     → Makes config (record { rows = rows; kept = ks; plain = was; report = told }) (record { rows = new; kept = ls; plain = now; report = then }) change
@@ -88,13 +84,14 @@ parts_same config ps qs ks ls found lines same h = h ∙ (ap (λ (xs : List RowV
 
 -- both lists are ready for a patch
 pub ready_for : {A : Type 0} (config : Config) (rows : List RowValue) (ks : List KeptValue) (p : LinesPatch A) (ps : PartsValue) → AllByRecursion IsPlain (faultless ks) → length rows < 2 ^ 63 → rows_kept ks < 2 ^ 63
-    → ps ≡ all_parts config rows ks → p.first ≤ p.old_end → IsInOrder (all_parts config rows ks).shown → IsInOrder (all_parts config rows ks).suppressed → ToldFault p.had_fault (all_parts config rows ks).shown → IsReadyFor p ps
-ready_for config rows ks p ps plain few few_rows is lines shown suppressed told =
+    → ps ≡ all_parts config rows ks → p.first ≤ p.old_end → IsJudgedReady p → IsInOrder (all_parts config rows ks).shown → IsInOrder (all_parts config rows ks).suppressed → ToldFault p.had_fault (all_parts config rows ks).shown → IsReadyFor p ps
+ready_for config rows ks p ps plain few few_rows is lines judged shown suppressed told =
     let all = all_parts config rows ks in
     let apart : parts_of config rows ks ≡ without_fault all = sym (fault_apart config rows ks plain) in
     let low = parts_low config rows ks plain few few_rows in
     subst (λ (qs : PartsValue). IsReadyFor p qs) (sym is) (record {
       lines = lines;
+      judged = judged;
       ordered = record {
         shown_in_order = order_filter is_no_fault all.shown shown;
         suppressed_in_order = suppressed;
@@ -106,10 +103,10 @@ ready_for config rows ks p ps plain few few_rows is lines shown suppressed told 
 
 -- and what a patch makes of them is that of the edited text
 pub makes_patched : {A : Type 0} (config : Config) (rows new : List RowValue) (ks ls : List KeptValue) (plain : Bool) (p : LinesPatch A) → plain ≡ true → AllByRecursion IsPlain (faultless ks) → AllByRecursion IsPlain (faultless ls) → length rows < 2 ^ 63 → rows_kept ks < 2 ^ 63
-    → p.first ≤ p.old_end → IsInOrder (all_parts config rows ks).shown → IsInOrder (all_parts config rows ks).suppressed → ToldFault p.had_fault (all_parts config rows ks).shown
+    → p.first ≤ p.old_end → IsJudgedReady p → IsInOrder (all_parts config rows ks).shown → IsInOrder (all_parts config rows ks).suppressed → ToldFault p.had_fault (all_parts config rows ks).shown
     → with_fault p.fault (patched (patch_in p) (without_fault (all_parts config rows ks))) ≡ all_parts config new ls → Makes config (known_text config rows ks plain) (known_text config new ls plain) (Patch p)
-makes_patched config rows new ks ls plain p is here there few few_rows lines shown suppressed told parts = record {
-  ready = λ ps h. ready_for config rows ks p ps here few few_rows (h.all is) lines shown suppressed told;
+makes_patched config rows new ks ls plain p is here there few few_rows lines judged shown suppressed told parts = record {
+  ready = λ ps h. ready_for config rows ks p ps here few few_rows (h.all is) lines judged shown suppressed told;
   parts = λ ps h.
       let made = ap (λ (qs : PartsValue). with_fault p.fault (patched (patch_in p) (without_fault qs))) (h.all is) ∙ parts in
       record { shown = ap (λ (qs : PartsValue). qs.shown) made ∙ sym (report_shown config new ls there); all = λ _. made };

@@ -7,6 +7,7 @@ ghost use Rattle.yl_record.specs.Records.{characters_in};
 ghost use Rattle.yl_sections.specs.Judge.{kept_of_section};
 ghost use Rattle.yl_sections.specs.Sections.{sections};
 ghost use Rattle.yl_rescan.specs.Held.{AreHeld};
+ghost use Rattle.yl_parting.specs.Changes.{parts_in};
 ghost use Rattle.yl_parting.specs.Rooms.{HasRoom};
 ghost use Rattle.yl_lint.specs.Edit.{IsTextEdit};
 ghost use Rattle.yl_session.specs.Known.{IsKnown, IsKnownAfter};
@@ -54,8 +55,7 @@ pub fn make_room<A: Allocator + Copy>(
     requires kept_few { length kept.old.items + vec_len plan.now.rejudged.kept < 2 ^ 64 }
     ensures records { records.new.items ≡ records.old.items }
     ensures kept { kept.new.items ≡ kept.old.items }
-    ensures shown { found.new.shown.items ≡ found.old.shown.items }
-    ensures suppressed { found.new.suppressed.items ≡ found.old.suppressed.items }
+    ensures found { parts_in found.new ≡ parts_in found.old }
     ensures room { IfOk result (λ _. records.new.room ≡ Some (record { a = plan.now.rescan.from; b = plan.now.rescan.old_end; count = vec_len plan.now.rescan.records })) }
     ensures kept_room { IfOk result (λ _. kept.new.room ≡ Some (record { a = plan.now.rejudged.from; b = plan.now.rejudged.end; count = vec_len plan.now.rejudged.kept })) }
     ensures found_room { IfOk result (λ spare. HasRoom found.new plan.now.renewal.change spare) }

@@ -1,7 +1,9 @@
-use Rattle.std.proofs.Common.{◌+◌, false, List, length, arith, ap, refl, sym, subst, ◌∙◌}
+use Rattle.std.proofs.Common.{◌+◌, false, List, length, take, drop, arith, ap, refl, sym, subst, ◌∙◌}
+use Rattle.std.specs.Prelude.{◌&&◌}
+use Rattle.std.proofs.lemmas.Bool.{and_parts}
 use Rattle.std.specs.List.{splice}
 use Rattle.yl_text.specs.Lines.{RowValue}
-use Rattle.yl_config.specs.Config.{levels_of}
+use Rattle.yl_config.specs.Config.{levels_of, options_of}
 use Rattle.yl_report.specs.Heard.{nothing_silenced}
 use Rattle.yl_report.specs.Report.{report_of}
 use Rattle.yl_parting.specs.Changes.{patch_in}
@@ -14,8 +16,15 @@ use Rattle.yl_patch.proofs.FaultFound.{told_none}
 use Rattle.yl_overview.proofs.Whole.{none_first}
 use Rattle.yl_patch.proofs.Given.{in_some, surveyed}
 use Rattle.yl_patch.proofs.Ready.{shown_in_order, suppressed_in_order}
-use Rattle.yl_patch.proofs.SeenPatch.{seen_patch}
-use Rattle.yl_patch.proofs.ShownBy.{below_says}
+use Rattle.yl_patch.proofs.SeenPatch.{says_indentation, seen_patch}
+use Rattle.yl_patch.proofs.ShownBy.{below_says, told_in, told_where}
+use Rattle.yl_patch.proofs.WithoutFaults.{all_below}
+use Rattle.yl_patch.proofs.Again.{indentation_told, judged_ready}
+use Rattle.yl_patch.specs.Seen.{AreFoundAlike, measure_upto, sections_between}
+use Rattle.yl_parting.specs.Showing.{is_shown_by}
+use Rattle.yl_rejudge.specs.Places.{rows_kept}
+use Rattle.yl_overview.proofs.Walks.{rows_both}
+use Rattle.yl_parting.proofs.Lines.{part}
 use Rattle.yl_patch.proofs.patching.patched_problems.Goals as goal
 
 pub part_found-requires : goal.part_found-requires
@@ -39,6 +48,19 @@ returns-clause-shown_order g c = shown_in_order c.args.config.now (g.S.Lines.row
 
 pub returns-clause-suppressed_order : goal.returns-clause-suppressed_order
 returns-clause-suppressed_order g c = suppressed_in_order c.args.config.now (g.S.Lines.rows c.args.text.now.store.now) c.args.edit.now.sections.now.items c.requires.plain
+
+pub returns-clause-judged : goal.returns-clause-judged
+returns-clause-judged g c =
+    let edit = c.args.edit.now in
+    let ks = edit.sections.now.items in
+    let t = c.in-Some.field-0.touched in
+    let seen = in_some _ c.in_ok-seen.seen c.in-Some.field-0 c.in-Some.is c.in_ok-seen.ensures in
+    let below = all_below ks edit.end c.requires.plain in
+    let whole = part edit.end ks in
+    let few = omega (arith, seen.cut.old_end, rows_both (take edit.end ks) (drop edit.end ks), ap rows_kept whole, c.requires.edit.few.rows) in record {
+      indentation = judged_ready c.in_ok-indentation.indentation (AreFoundAlike (measure_upto edit.above.whole (sections_between edit.from edit.end ks)) (measure_upto edit.above.whole edit.kept.now) (drop edit.end ks)) t.old_end _ (indentation_told (levels_of c.args.config.now) (options_of c.args.config.now).indentation t.old_end (measure_upto edit.above.whole edit.kept.now) (drop edit.end ks) below few) c.in_ok-indentation.ensures;
+      below = told_where c.in_ok-indentation.indentation c.in_ok-below.below c.in_ok-stays.stays c.is_none.result c.edited-edited.result c.spliced-sections.result c.is_none.ensures c.in_ok-below.ensures;
+    }
 
 pub returns-clause-parts : goal.returns-clause-parts
 returns-clause-parts g c =
@@ -72,9 +94,14 @@ returns-clause-parts g c =
       new_end = t.new_end;
       shown = c.in_ok-parts.parts.shown;
       suppressed = c.in_ok-parts.parts.suppressed;
+      indentation = c.in_ok-indentation.indentation;
       below = c.in_ok-below.below;
       had_fault = c.has_fault.result;
       fault = c.in_ok-fault.fault;
     }))
-    (omega arith) (λ q. refl) refl refl refl (ap (λ (ps : PartsValue). ps.shown) parts) (ap (λ (ps : PartsValue). ps.suppressed) parts)
-    (below_says c.in_ok-below.below c.in_ok-is_known.is_known rows after c.edited-edited.result ks new c.spliced-sections.result edit.from edit.end edited sections c.in_ok-below.ensures c.in_ok-is_known.ensures) fault
+    (omega arith) (λ q. refl) refl refl refl
+    (says_indentation config rows ins ks new text.a text.b edit.from edit.end t found seen range.ordered range.within there.ordered there.within c.requires.plain c.requires.plain_then c.in_ok-indentation.indentation edit.above.whole c.requires.edit.above.whole c.in_ok-indentation.ensures)
+    (told_in c.in_ok-indentation.indentation c.in_ok-below.below (λ s. is_shown_by s) (told_where c.in_ok-indentation.indentation c.in_ok-below.below c.in_ok-stays.stays c.is_none.result c.edited-edited.result c.spliced-sections.result c.is_none.ensures c.in_ok-below.ensures))
+    (ap (λ (ps : PartsValue). ps.shown) parts) (ap (λ (ps : PartsValue). ps.suppressed) parts)
+    (below_says c.in_ok-below.below (c.in_ok-stays.stays && c.is_none.result) rows after c.edited-edited.result ks new c.spliced-sections.result edit.from edit.end edited sections c.in_ok-below.ensures
+    (λ h. c.in_ok-stays.ensures (and_parts c.in_ok-stays.stays c.is_none.result h).0)) fault

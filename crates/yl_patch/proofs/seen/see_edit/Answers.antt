@@ -6,7 +6,6 @@ use Rattle.yl_config.specs.Config.{options_of}
 use Rattle.yl_indentation.specs.Onward.{CountsEntriesOnceSeen}
 use Rattle.yl_indentation.proofs.Onward.{facts_count}
 use Rattle.yl_lint.specs.TextReport.{facts_in_sections, moved}
-use Rattle.yl_patch.specs.Seen.{AreFoundAlike, measure_upto}
 use Rattle.yl_patch.proofs.Given.{same_there, window_fits}
 use Rattle.yl_overview.proofs.Walks.{measured}
 use Rattle.yl_patch.proofs.seen.see_edit.Goals as goal
@@ -33,9 +32,6 @@ returns g c =
     let above = c.requires.edit.above.whole in
     let qs = take (t.new_end - t.first) (drop t.first (splice rows text.a text.b text.rows.now)) in
     let window = c.new-window.ensures ∙ ap (λ (xs : List RowValue). take (t.new_end - t.first) (drop t.first xs)) c.edited.ensures in record {
-      alike =
-          subst (λ (m : Measure). AreFoundAlike (measure_upto m (take (edit.end - edit.from) (drop edit.from kept))) (measure_upto m edit.kept.now) (drop edit.end kept)) above
-          (c.leaves_below.ensures c.if-not-leaves_below.false);
       ends = e;
       cut = c.in-Some.ensures;
       there = c.in_ok-found.ensures ∙ ap (map (moved t.first)) (same_there o e edit.above.whole (measured (take edit.from kept)) c.new-window.result qs edit.kept.now above window);

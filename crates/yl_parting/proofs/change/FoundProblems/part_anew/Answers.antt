@@ -1,13 +1,14 @@
-use Rattle.std.proofs.Common.{◌++◌, List, vec_len, refl, ap, ◌∙◌, arith}
+use Rattle.std.proofs.Common.{◌+◌, ◌++◌, List, vec_len, refl, ap, ◌∙◌, arith}
 use Rattle.std.proofs.lemmas.Slice.{pushed}
 use Rattle.yl_report.specs.Report.{ProblemValue}
 use Rattle.yl_parting.specs.Changes.{parts_in}
+use Rattle.yl_parting.specs.Rooms.{count_anew}
 use Rattle.yl_parting.proofs.Anew.{crossing_some, parted_anew}
 use Rattle.yl_parting.proofs.change.FoundProblems.part_anew.Goals as goal
 
 pub unwrap-requires : goal.unwrap-requires
 unwrap-requires g c =
-    let others = crossing_some c.args.patch.below (vec_len c.args.self.now.suppressed) c.requires.anew in
+    let others = crossing_some c.args.patch.below (vec_len c.args.self.now.suppressed + count_anew c.args.patch.indentation) c.requires.anew in
     c.append.ensures.succeeds
     (omega (arith, others, c.requires.room.shown, c.keep_above.ensures.len, c.keep_above.ensures.room, c.take_behind.ensures.shown_room, c.take_behind.ensures.taken.count, c.take_behind.new.shown.ok.0, c.take_behind.new.suppressed.ok.0, c.args.self.now.shown.ok.0, c.args.self.now.suppressed.ok.0))
 

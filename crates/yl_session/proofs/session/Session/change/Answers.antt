@@ -18,7 +18,7 @@ use Rattle.yl_session.specs.Known.{IsKnown, IsKnownAfter}
 use Rattle.yl_session.specs.State.{SessionValue}
 use Rattle.yl_lint.proofs.FewLines.{few_lines}
 use Rattle.yl_session.proofs.Bounds.{count_records, few_kept}
-use Rattle.yl_session.proofs.Parts.{parts_are, parts_same}
+use Rattle.yl_session.proofs.Parts.{parts_same}
 use Rattle.yl_session.proofs.session.Session.change.Goals as goal
 
 -- what holds holds where it is refused
@@ -36,12 +36,16 @@ refused : {X E : Type 0} (P : Type 0) (r : Result X E) → IsErr r → OnOk r P
 refused P (Ok x) h = absurd (cc)
 refused P (Err e) h = tt
 
+-- what was shown is shown
+shown_same : {p q : PartsValue} → p ≡ q → p.shown ≡ q.shown
+shown_same e = ap (λ (ps : PartsValue). ps.shown) e
+
 abbrev state : Config → List RowValue → List ProblemValue → SessionValue
 state c ps problems = record { config = c; rows = ps; problems = problems }
 
 pub returns-in_err-spare-clause-err : goal.returns-in_err-spare-clause-err
 returns-in_err-spare-clause-err g c =
-    held c.from_residual-in_err-spare.result (ap (λ (ps : List ProblemValue). state c.self.inside.config (g.S.Lines.rows c.self.inside.store) ps) c.make_room.ensures.shown ∙ c.self.view_is)
+    held c.from_residual-in_err-spare.result (ap (λ (ps : List ProblemValue). state c.self.inside.config (g.S.Lines.rows c.self.inside.store) ps) (shown_same c.make_room.ensures.found) ∙ c.self.view_is)
 
 pub returns-in_err-spare-clause-rows : goal.returns-in_err-spare-clause-rows
 returns-in_err-spare-clause-rows g c = refused _ c.from_residual-in_err-spare.result c.from_residual-in_err-spare.ensures.0
@@ -53,11 +57,11 @@ pub returns-in_err-splice-clause-err : goal.returns-in_err-splice-clause-err
 returns-in_err-splice-clause-err g c =
     held c.from_residual-in_err-splice.result
     (ap (λ (ps : List RowValue). state c.self.inside.config ps c.make_room.new.found.shown.items) c.in_err-splice.ensures.err
-    ∙ (ap (λ (ps : List ProblemValue). state c.self.inside.config (g.S.Lines.rows c.self.inside.store) ps) c.make_room.ensures.shown ∙ c.self.view_is))
+    ∙ (ap (λ (ps : List ProblemValue). state c.self.inside.config (g.S.Lines.rows c.self.inside.store) ps) (shown_same c.make_room.ensures.found) ∙ c.self.view_is))
 
 pub returns-in_err-splice-clause-problems : goal.returns-in_err-splice-clause-problems
 returns-in_err-splice-clause-problems g c =
-    held_so c.from_residual-in_err-splice.result (c.make_room.ensures.shown ∙ (c.self.invariant.3 ∙ ap (report c.self.inside.config) (sym c.in_err-splice.ensures.err)))
+    held_so c.from_residual-in_err-splice.result (shown_same c.make_room.ensures.found ∙ (c.self.invariant.3 ∙ ap (report c.self.inside.config) (sym c.in_err-splice.ensures.err)))
 
 -- records that are the same are kept of the same lines
 held_same : (ps qs : List RowValue) (cut : Option ℕ) (rs us : List RecordValue) → ps ≡ qs → us ≡ rs → AreHeld (characters_in ps) cut rs → AreHeld (characters_in qs) cut us
@@ -100,9 +104,9 @@ invariant_of-self g c =
       c.self.invariant.0,
       held_same rows rows c.self.inside.cut c.self.inside.records.items c.make_room.new.records.items refl c.make_room.ensures.records c.self.invariant.1,
       kept_same config c.self.inside.known.kept.items c.make_room.new.kept.items c.self.inside.records.items c.make_room.new.records.items c.make_room.ensures.kept c.make_room.ensures.records c.self.invariant.2,
-      c.make_room.ensures.shown ∙ c.self.invariant.3,
+      shown_same c.make_room.ensures.found ∙ c.self.invariant.3,
       subst (λ (ks : List KeptValue). IsKnown ks c.self.inside.known.overviews.items c.self.inside.known.are_plain) (sym c.make_room.ensures.kept) c.self.invariant.4,
-      λ h. parts_are c.make_room.new.found c.self.inside.found c.make_room.ensures.shown c.make_room.ensures.suppressed ∙ parts_same config rows rows c.self.inside.known.kept.items c.make_room.new.kept.items (parts_in c.self.inside.found) refl c.make_room.ensures.kept (c.self.invariant.5 h),
+      λ h. c.make_room.ensures.found ∙ parts_same config rows rows c.self.inside.known.kept.items c.make_room.new.kept.items (parts_in c.self.inside.found) refl c.make_room.ensures.kept (c.self.invariant.5 h),
     )
 
 pub invariant_of-self-in_err-splice : goal.invariant_of-self-in_err-splice
@@ -115,9 +119,9 @@ invariant_of-self-in_err-splice g c =
       subst P e c.self.invariant.0,
       held_same rows left c.self.inside.cut c.self.inside.records.items c.make_room.new.records.items e c.make_room.ensures.records c.self.invariant.1,
       kept_same config c.self.inside.known.kept.items c.make_room.new.kept.items c.self.inside.records.items c.make_room.new.records.items c.make_room.ensures.kept c.make_room.ensures.records c.self.invariant.2,
-      c.make_room.ensures.shown ∙ (c.self.invariant.3 ∙ ap (report config) e),
+      shown_same c.make_room.ensures.found ∙ (c.self.invariant.3 ∙ ap (report config) e),
       subst (λ (ks : List KeptValue). IsKnown ks c.self.inside.known.overviews.items c.self.inside.known.are_plain) (sym c.make_room.ensures.kept) c.self.invariant.4,
-      λ h. parts_are c.make_room.new.found c.self.inside.found c.make_room.ensures.shown c.make_room.ensures.suppressed ∙ parts_same config rows left c.self.inside.known.kept.items c.make_room.new.kept.items (parts_in c.self.inside.found) e c.make_room.ensures.kept (c.self.invariant.5 h),
+      λ h. c.make_room.ensures.found ∙ parts_same config rows left c.self.inside.known.kept.items c.make_room.new.kept.items (parts_in c.self.inside.found) e c.make_room.ensures.kept (c.self.invariant.5 h),
     )
 
 pub put_kept-requires-clause-known : goal.put_kept-requires-clause-known
@@ -147,7 +151,7 @@ invariant_of-self-2 g c =
     let kept = put_in c.put_kept.new.known.kept.items c.make_room.new.kept.items c.self.inside.known.kept.items judged.kept.items judged.from judged.end c.put_kept.ensures.items c.make_room.ensures.kept in
     let told = c.in_ok-plan.ensures.makes.parts (parts_in c.self.inside.found) (record { shown = c.self.invariant.3; all = c.self.invariant.5 }) in
     let made : parts_in c.renew.new.self ≡ renewed plan.renewal.change (parts_in c.self.inside.found) =
-    c.renew.ensures ∙ ap (λ (ps : PartsValue). renewed plan.renewal.change ps) (parts_are c.make_room.new.found c.self.inside.found c.make_room.ensures.shown c.make_room.ensures.suppressed) in (
+    c.renew.ensures ∙ ap (λ (ps : PartsValue). renewed plan.renewal.change ps) c.make_room.ensures.found in (
       subst P e (subst Q here c.requires.lines),
       held_same seen left scan.cut rs c.fill_room.new.self.items put records c.in_ok-plan.ensures.held,
       kept_same config ks c.put_kept.new.known.kept.items rs c.fill_room.new.self.items kept records c.in_ok-plan.ensures.kept,
@@ -163,10 +167,10 @@ returns-clause-problems g c =
     let plan = c.in_ok-plan.plan in
     let told = c.in_ok-plan.ensures.makes.parts (parts_in c.self.inside.found) (record { shown = c.self.invariant.3; all = c.self.invariant.5 }) in
     let made : parts_in c.renew.new.self ≡ renewed plan.renewal.change (parts_in c.self.inside.found) =
-    c.renew.ensures ∙ ap (λ (ps : PartsValue). renewed plan.renewal.change ps) (parts_are c.make_room.new.found c.self.inside.found c.make_room.ensures.shown c.make_room.ensures.suppressed) in
+    c.renew.ensures ∙ ap (λ (ps : PartsValue). renewed plan.renewal.change ps) c.make_room.ensures.found in
     ap (λ (ps : PartsValue). ps.shown) made ∙ (told.shown ∙ ap (report c.self.inside.config) put)
 
 pub renew-requires-clause-ready : goal.renew-requires-clause-ready
 renew-requires-clause-ready g c =
-    subst (λ (ps : PartsValue). IsReady c.in_ok-plan.plan.renewal.change ps) (sym (parts_are c.make_room.new.found c.self.inside.found c.make_room.ensures.shown c.make_room.ensures.suppressed))
+    subst (λ (ps : PartsValue). IsReady c.in_ok-plan.plan.renewal.change ps) (sym c.make_room.ensures.found)
     (c.in_ok-plan.ensures.makes.ready (parts_in c.self.inside.found) (record { shown = c.self.invariant.3; all = c.self.invariant.5 }))

@@ -1,0 +1,66 @@
+//! Indentation that is judged anew, in place of what was found of it behind some lines.
+ghost use Rattle.std.specs.Prelude.{◌≡◌, ◌+◌, ◌≤◌, [], ◌++◌, reverse, vec_len, vec_capacity};
+ghost use Rattle.std.specs.List.{AllByRecursion, filter};
+ghost use Rattle.yl_parting.specs.Order.{IsInOrder, merged};
+ghost use Rattle.yl_parting.specs.Parts.{IsLow, stays_judged};
+ghost use Rattle.yl_parting.specs.Rooms.{IsIndentation};
+ghost use Rattle.yl_parting.specs.Showing.{is_indentation};
+
+use crate::merging::take_behind;
+use std::alloc::Allocator;
+use yl_report::Problem;
+use yl_text::RuleId;
+
+/// Whether it is the rule that judges a line by the lines above it.
+fn is_indentation(rule: RuleId) -> bool
+    ensures { result ≡ is_indentation rule }
+{
+    matches!(rule, RuleId::Indentation)
+}
+
+/// Drops the indentation behind the first lines.
+pub fn drop_indentation<A: Allocator>(problems: &mut Vec<Problem<A>, A>, line: u32)
+    ensures items { problems.new.items ≡ filter (stays_judged line) problems.old.items }
+    ensures len { vec_len problems.new ≤ vec_len problems.old }
+    ensures room { vec_capacity problems.new ≡ vec_capacity problems.old }
+{
+    let line = u64::from(line);
+    problems.retain(|problem| problem.line() <= line || !is_indentation(problem.rule()));
+}
+
+/// Puts all of `spare` behind the problems, the last one first. It takes no memory.
+fn push_back<A: Allocator>(problems: &mut Vec<Problem<A>, A>, spare: &mut Vec<Problem<A>, A>)
+    requires { vec_len problems.old + vec_len spare.old ≤ vec_capacity problems.old }
+    ensures items { problems.new.items ≡ problems.old.items ++ reverse spare.old.items }
+    ensures len { vec_len problems.new ≡ vec_len problems.old + vec_len spare.old }
+    ensures room { vec_capacity problems.old ≤ vec_capacity problems.new }
+    ensures spare { spare.new.items ≡ [] }
+    ensures spare_room { vec_capacity spare.new ≡ vec_capacity spare.old }
+{
+    while let Some(problem) = spare.pop() {
+        problems.push(problem).unwrap();
+    }
+}
+
+/// Merges indentation that stands behind the first lines into a list. It takes no memory.
+pub fn merge_indentation<A: Allocator>(
+    problems: &mut Vec<Problem<A>, A>,
+    mut new: Vec<Problem<A>, A>,
+    line: u32,
+    spare: &mut Vec<Problem<A>, A>,
+)
+    requires order { IsInOrder problems.old.items }
+    requires low { AllByRecursion IsLow problems.old.items }
+    requires new { IsIndentation line new.items }
+    requires room { vec_len problems.old + vec_len new ≤ vec_capacity problems.old }
+    requires spare_room { vec_len problems.old + vec_len new ≤ vec_capacity spare.old }
+    requires empty { spare.old.items ≡ [] }
+    ensures items { problems.new.items ≡ merged problems.old.items new.items }
+    ensures len { vec_len problems.new ≤ vec_len problems.old + vec_len new }
+    ensures room { vec_capacity problems.old ≤ vec_capacity problems.new }
+    ensures spare { spare.new.items ≡ [] }
+    ensures spare_room { vec_capacity spare.old ≤ vec_capacity spare.new }
+{
+    take_behind(problems, &mut new, line, line, spare);
+    push_back(problems, spare);
+}
