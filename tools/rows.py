@@ -14,52 +14,144 @@ sys.path.insert(0, HERE)
 from model import dump  # noqa: E402
 from model.config import Config, ConfigFault  # noqa: E402
 from model.lint import Text, report  # noqa: E402
-from model.report import printed  # noqa: E402
+from model.report import printed, status  # noqa: E402
+from model.text import TextFault, decode, edited, split  # noqa: E402
 
 FOLDER = os.path.join(os.path.dirname(HERE), "crates", "yl_rows")
-ESCAPE = re.compile(r"\\(?:u\{([0-9A-Fa-f]+)\}|([nrt\\]))")
-LETTERS = {"n": "\n", "r": "\r", "t": "\t", "\\": "\\"}
+ESCAPE = re.compile(r"\\(?:u\{([0-9A-Fa-f]+)\}|x\{([0-9A-Fa-f]+)\}|([nrt\\]))")
+LETTERS = {"n": b"\n", "r": b"\r", "t": b"\t", "\\": b"\\"}
+SHOWN = {"lexemes": dump.lexemes, "events": dump.events, "lines": dump.lines}
+LONG = 2000
 
 
 def unescaped(text):
-    return ESCAPE.sub(lambda found: chr(int(found[1], 16)) if found[1] else LETTERS[found[2]], text)
+    """The bytes that a row says."""
+    said, end = b"", 0
+    for found in ESCAPE.finditer(text):
+        said += text[end:found.start()].encode()
+        said += (chr(int(found[1], 16)).encode() if found[1] else
+                 bytes([int(found[2], 16)]) if found[2] else LETTERS[found[3]])
+        end = found.end()
+    return said + text[end:].encode()
+
+
+def front_of(word, rest):
+    """What a row has the next text go on with."""
+    if word == "more":
+        return unescaped(rest)
+    if word == "times":
+        count, _, rest = rest.partition(" ")
+        return unescaped(rest) * int(count)
+    if word == "keys":
+        return "".join(f"k{n:05}: v\n" for n in range(int(rest))).encode()
+    return "".join(" " * depth + "k:\n" for depth in range(int(rest))).encode()
 
 
 def fault_of(text):
     """The configuration that a text says, and the line that tells its fault."""
     try:
-        return Config.read(text.encode()), ""
+        return Config.read(text), ""
     except ConfigFault as fault:
         place = f" at {fault.place[0]}:{fault.place[1]}" if fault.place else ""
         return None, f"{fault.name}{place}\n"
 
 
+def told(text):
+    """A text, or where it is long a line of it."""
+    data = text.encode()
+    if len(data) <= LONG:
+        return text
+    total = 0
+    for byte in data:
+        total = (total * 31 + byte) % 2 ** 32
+    return f"{len(data)} bytes, sum {total}\n"
+
+
+def name_of(fault):
+    place = f" {fault.valid_up_to}" if fault.name == "NotUtf8" else ""
+    return f"{fault.name}{place}\n"
+
+
+class Session:
+    """A text that is kept open under a configuration."""
+
+    def __init__(self, config, data):
+        self.config = config
+        self.take(decode(data))
+
+    def take(self, text):
+        self.text = text
+        self.problems = report(self.config, Text(text))
+
+    def report(self):
+        return told(printed("", self.problems))
+
+    def state(self):
+        lines = "".join(f"{row.text}|" for row in split(self.text))
+        statuses = f" {status(self.problems, False)} {status(self.problems, True)}\n"
+        return told(lines + statuses + printed("", self.problems))
+
+    def line_start(self, line):
+        rows = split(self.text)
+        return (line, 0) if line < len(rows) else (len(rows) - 1, len(rows[-1].text))
+
+    def edit(self, begin, behind, data):
+        """How an edit is answered."""
+        try:
+            edit = edited(self.text, begin, behind, data)
+        except TextFault as fault:
+            return name_of(fault)
+        if not edit.is_nothing:
+            self.take(edit.text)
+        return "edited\n"
+
+
+def numbers(rest, count):
+    """So many numbers, and what is behind them."""
+    found = []
+    for _ in range(count):
+        word, _, rest = rest.partition(" ")
+        found.append(2 ** 32 - 1 if word == "-" else int(word))
+    return found, rest
+
+
 def answers(lines):
     """Of each row the row itself, and then what comes of it."""
-    config, front = Config.standard(), ""
+    config, front, session = Config.standard(), b"", None
     for line in lines:
         if not line or line.startswith("#"):
             continue
         yield line + "\n"
         word, _, rest = line.partition(" ")
-        if word == "growths":
+        if word in ("growths", "most", "exactly"):
             continue
-        count = 1
-        if word == "times":
-            count, _, rest = rest.partition(" ")
-        front += unescaped(rest) * int(count)
-        if word in ("more", "times"):
+        if word in ("more", "times", "keys", "stairs"):
+            front += front_of(word, rest)
             continue
-        if word == "config":
-            read, told = fault_of(front)
+        if word == "edit":
+            (a, b, _, _), rest = numbers(rest, 4)
+            answer = session.edit(session.line_start(a), session.line_start(b), front + unescaped(rest))
+            yield answer + session.report()
+        elif word == "put":
+            (line, column, end_line, end_column, _, _), rest = numbers(rest, 6)
+            answer = session.edit((line, column), (end_line, end_column), front + unescaped(rest))
+            yield answer + session.state()
+        elif word == "open":
+            try:
+                session = Session(config, front + unescaped(rest))
+                yield session.report()
+            except TextFault as fault:
+                session = None
+                yield name_of(fault) + "no text is open\n"
+        elif word == "config":
+            read, said = fault_of(front + unescaped(rest))
             config = read or config
-            yield told
+            yield said
         elif word == "lint":
-            yield printed("", report(config, Text(front)))
-        else:
-            lines = {"lexemes": dump.lexemes, "events": dump.events, "lines": dump.lines}[word](Text(front))
-            yield "".join(f"{line}\n" for line in lines)
-        front = ""
+            yield printed("", report(config, Text(decode(front + unescaped(rest)))))
+        elif word in SHOWN:
+            yield "".join(f"{line}\n" for line in SHOWN[word](Text(decode(front + unescaped(rest)))))
+        front = b""
 
 
 def main():

@@ -4,11 +4,13 @@ use std::alloc::AllocError;
 // What a letter behind a backslash stands for.
 const LETTERS: [(&str, char); 3] = [("n", '\n'), ("r", '\r'), ("t", '\t')];
 
-// The character of a code point in hexadecimal, in braces behind a `u`, and what is behind it.
-fn code_point(piece: &str) -> Option<(char, &str)> {
-    let (hex, rest) = piece.strip_prefix("u{")?.split_once('}')?;
-    let number = u32::from_str_radix(hex, 16).ok()?;
-    Some((char::from_u32(number)?, rest))
+// The number in hexadecimal, in braces behind a letter, and what is behind it.
+fn in_braces<'a>(piece: &'a str, letter: &str) -> Option<(u32, &'a str)> {
+    let (hex, rest) = piece
+        .strip_prefix(letter)?
+        .strip_prefix('{')?
+        .split_once('}')?;
+    Some((u32::from_str_radix(hex, 16).ok()?, rest))
 }
 
 // The character that stands first behind a backslash, and what is behind it.
@@ -18,22 +20,40 @@ fn escape(piece: &str) -> Option<(char, &str)> {
             return Some((c, rest));
         }
     }
-    code_point(piece)
+    let (number, rest) = in_braces(piece, "u")?;
+    Some((char::from_u32(number)?, rest))
+}
+
+// The byte that stands first behind a backslash, and what is behind it.
+fn byte(piece: &str) -> Option<(u8, &str)> {
+    let (number, rest) = in_braces(piece, "x")?;
+    Some((u8::try_from(number).ok()?, rest))
+}
+
+// Puts what a backslash and this piece behind it stand for behind a text, unless they are no escape. Whether they are one.
+fn push_escape(out: &mut Vec<u8>, piece: &str) -> Result<bool, AllocError> {
+    if let Some((c, rest)) = escape(piece) {
+        out.extend_from_slice(c.encode_utf8(&mut [0; 4]).as_bytes())?;
+        out.extend_from_slice(rest.as_bytes())?;
+    } else if let Some((byte, rest)) = byte(piece) {
+        out.push(byte)?;
+        out.extend_from_slice(rest.as_bytes())?;
+    } else {
+        return Ok(false);
+    }
+    Ok(true)
 }
 
 /// Puts a text behind another. A backslash that begins no escape stands for itself.
-pub fn push_unescaped(out: &mut String, text: &str) -> Result<(), AllocError> {
+pub fn push_unescaped(out: &mut Vec<u8>, text: &str) -> Result<(), AllocError> {
     let mut is_plain = true;
     for piece in text.split('\\') {
         if is_plain {
-            out.push_str(piece)?;
+            out.extend_from_slice(piece.as_bytes())?;
             is_plain = false;
-        } else if let Some((c, rest)) = escape(piece) {
-            out.push(c)?;
-            out.push_str(rest)?;
-        } else {
-            out.push('\\')?;
-            out.push_str(piece)?;
+        } else if !push_escape(out, piece)? {
+            out.push(b'\\')?;
+            out.extend_from_slice(piece.as_bytes())?;
             is_plain = piece.is_empty();
         }
     }

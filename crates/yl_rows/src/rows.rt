@@ -1,46 +1,32 @@
 //! Rows, one after another.
+use crate::edits::{Asked, Both, Limits, NO_LIMITS, Question, answer_both, open};
 use crate::escapes::push_unescaped;
-use crate::views::{Wanted, growths, show};
+use crate::sessions::push_answer;
+use crate::views::{SMALL, Wanted, growths, show, told_growths};
+use crate::words::{Row, row_of};
+use refusing::Refusing;
+use std::alloc::Global;
+use std::io::Write;
 use yl_config::Config;
-use yl_devices::RunFault;
+use yl_devices::{BadText, RunFault};
 
-// What is asked of texts of fewer bytes is asked with each growth refused in turn too.
-const SMALL: usize = 1000;
-
-// What a row says.
-enum Row<'a> {
-    More(usize, &'a str),
-    Growths(u64),
-    Shown(Wanted, &'a str),
-}
-
-// What is kept between rows: the configuration, how the next text begins, and how many growths it has at least.
+// What is kept between rows: the configuration, how the next text begins, how often memory may be asked for, and the text that is kept open, with
+// the heap that it takes memory from.
 #[derive(Drop)]
-struct Kept {
+struct Kept<'a> {
     config: Config,
-    front: String,
-    least: u64,
+    front: Vec<u8>,
+    limits: Limits,
+    heap: &'a Refusing<Global>,
+    both: Option<Both<'a>>,
 }
 
-// So many times a text.
-fn times(rest: &str) -> Option<Row<'_>> {
-    let (count, text) = rest.split_once(' ')?;
-    Some(Row::More(count.parse().ok()?, text))
-}
-
-// What a line says, unless it is no row.
-fn row_of(line: &str) -> Option<Row<'_>> {
-    let (word, rest) = line.split_once(' ').unwrap_or((line, ""));
-    match word {
-        "more" => Some(Row::More(1, rest)),
-        "times" => times(rest),
-        "growths" => Some(Row::Growths(rest.parse().ok()?)),
-        "config" => Some(Row::Shown(Wanted::Fault, rest)),
-        "lint" => Some(Row::Shown(Wanted::Report, rest)),
-        "lexemes" => Some(Row::Shown(Wanted::Lexemes, rest)),
-        "events" => Some(Row::Shown(Wanted::Events, rest)),
-        "lines" => Some(Row::Shown(Wanted::Lines, rest)),
-        _ => None,
+// Prints a text.
+fn write(rt: &HostRuntime, text: &[u8]) -> Result<(), RunFault> {
+    let mut out = rt.stdout();
+    match out.write_all(text) {
+        Ok(()) => Ok(()),
+        Err(_) => Err(RunFault::Write),
     }
 }
 
@@ -52,64 +38,151 @@ fn say(rt: &HostRuntime, text: &str) -> Result<(), RunFault> {
     }
 }
 
+// Puts a text so many times behind another.
+fn push_times(out: &mut Vec<u8>, count: usize, text: &str) -> Result<(), RunFault> {
+    for _ in 0..count {
+        push_unescaped(out, text)?;
+    }
+    Ok(())
+}
+
+// Puts lines with a key each behind a text.
+fn push_keys(alloc: Global, out: &mut Vec<u8>, count: usize) -> Result<(), RunFault> {
+    for n in 0..count {
+        let line = format!(in alloc; "k{n:05}: v\n")?;
+        out.extend_from_slice(line.as_str().as_bytes())?;
+    }
+    Ok(())
+}
+
+// Puts lines with a key each behind a text, each key a blank further on than the one above.
+fn push_stairs(alloc: Global, out: &mut Vec<u8>, count: usize) -> Result<(), RunFault> {
+    let mut blanks = Vec::new(alloc);
+    for _ in 0..count {
+        out.extend_from_slice(blanks.as_slice())?;
+        out.extend_from_slice(b"k:\n")?;
+        blanks.push(b' ')?;
+    }
+    Ok(())
+}
+
 // Asks with each growth refused in turn, and says where it is answered otherwise than it has to be.
-fn refuse_each(rt: &HostRuntime, kept: &Kept, wanted: Wanted) -> Result<(), RunFault> {
-    if kept.front.len() >= SMALL && kept.least == 0 {
+fn refuse_each(
+    rt: &HostRuntime,
+    kept: &Kept<'_>,
+    wanted: Wanted,
+    text: &str,
+) -> Result<(), RunFault> {
+    if text.len() >= SMALL && kept.limits.least == 0 {
         return Ok(());
     }
-    match growths(rt.alloc(), &kept.config, wanted, kept.front.as_str()) {
-        None => say(rt, "is answered otherwise where memory is refused"),
-        Some(count) if count < kept.least => say(rt, "asks for memory less often"),
-        Some(_) => Ok(()),
+    let count = growths(rt.alloc(), &kept.config, wanted, text);
+    write(rt, told_growths(count, kept.limits.least).as_bytes())
+}
+
+// Shows what is asked of the text that is kept.
+fn show_front(rt: &HostRuntime, kept: &Kept<'_>, wanted: Wanted) -> Result<(), RunFault> {
+    let Ok(text) = str::from_utf8(kept.front.as_slice()) else {
+        return say(rt, "is no text");
+    };
+    refuse_each(rt, kept, wanted, text)?;
+    show(rt.alloc(), &kept.config, wanted, text, rt.stdout())
+}
+
+// Opens the text that is kept, or prints why it is not opened.
+fn reopen(rt: &HostRuntime, kept: &mut Kept<'_>) -> Result<(), RunFault> {
+    kept.both = None;
+    match open(rt.alloc(), kept.heap, &kept.config, kept.front.as_slice()) {
+        Ok(both) => {
+            kept.both = Some(both);
+            Ok(())
+        }
+        Err(fault) => {
+            let mut line = Vec::new(rt.alloc());
+            push_answer(rt.alloc(), Err(fault), &mut line)?;
+            write(rt, line.as_slice())
+        }
     }
 }
 
-// Shows what is asked of the text that is kept, and takes a configuration that has no fault.
-fn answer(rt: &HostRuntime, kept: &mut Kept, wanted: Wanted) -> Result<(), RunFault> {
-    refuse_each(rt, kept, wanted)?;
-    show(
-        rt.alloc(),
-        &kept.config,
-        wanted,
-        kept.front.as_str(),
-        rt.stdout(),
-    )?;
+// Does what is asked of the text that is open, and prints what comes of it.
+fn ask(rt: &HostRuntime, kept: &mut Kept<'_>, asked: Asked) -> Result<(), RunFault> {
+    let Some(both) = &mut kept.both else {
+        return say(rt, "no text is open");
+    };
+    let question = Question {
+        asked,
+        bytes: kept.front.as_slice(),
+        limits: kept.limits,
+    };
+    let shown = answer_both(rt.alloc(), kept.heap, both, question)?;
+    write(rt, shown.as_slice())
+}
+
+// Forgets what is kept for one row alone.
+fn forget(kept: &mut Kept<'_>) {
+    kept.front.clear();
+    kept.limits = NO_LIMITS;
+}
+
+// Shows what is asked of a text, and takes a configuration that has no fault.
+fn follow_shown(
+    rt: &HostRuntime,
+    kept: &mut Kept<'_>,
+    wanted: Wanted,
+    text: &str,
+) -> Result<(), RunFault> {
+    push_unescaped(&mut kept.front, text)?;
+    show_front(rt, kept, wanted)?;
     if wanted == Wanted::Fault {
-        if let Ok(config) = Config::read(rt.alloc(), kept.front.as_str().as_bytes()) {
+        if let Ok(config) = Config::read(rt.alloc(), kept.front.as_slice()) {
             kept.config = config;
         }
     }
-    kept.front.clear();
-    kept.least = 0;
+    forget(kept);
+    Ok(())
+}
+
+// Does what is asked of a text that is kept open.
+fn follow_asked(
+    rt: &HostRuntime,
+    kept: &mut Kept<'_>,
+    asked: Asked,
+    text: &str,
+) -> Result<(), RunFault> {
+    push_unescaped(&mut kept.front, text)?;
+    if let Asked::Report = asked {
+        reopen(rt, kept)?;
+    }
+    ask(rt, kept, asked)?;
+    forget(kept);
     Ok(())
 }
 
 // Does what a row says.
-fn follow(rt: &HostRuntime, kept: &mut Kept, row: Row<'_>) -> Result<(), RunFault> {
+fn follow(rt: &HostRuntime, kept: &mut Kept<'_>, row: Row<'_>) -> Result<(), RunFault> {
     match row {
-        Row::More(count, text) => {
-            for _ in 0..count {
-                push_unescaped(&mut kept.front, text)?;
-            }
-            Ok(())
-        }
-        Row::Growths(least) => {
-            kept.least = least;
-            Ok(())
-        }
-        Row::Shown(wanted, text) => {
-            push_unescaped(&mut kept.front, text)?;
-            answer(rt, kept, wanted)
-        }
+        Row::More(count, text) => return push_times(&mut kept.front, count, text),
+        Row::Keys(count) => return push_keys(rt.alloc(), &mut kept.front, count),
+        Row::Stairs(count) => return push_stairs(rt.alloc(), &mut kept.front, count),
+        Row::Growths(least) => kept.limits.least = least,
+        Row::Most(most) => kept.limits.most = most,
+        Row::Exactly => kept.limits.is_exact = true,
+        Row::Shown(wanted, text) => return follow_shown(rt, kept, wanted, text),
+        Row::Asked(asked, text) => return follow_asked(rt, kept, asked, text),
     }
+    Ok(())
 }
 
 /// Prints each row, and then does what it says.
 pub fn run(rt: &HostRuntime, text: &str) -> Result<(), RunFault> {
+    let heap = Refusing::new(rt.alloc());
     let mut kept = Kept {
         config: Config::standard(),
-        front: String::new(rt.alloc()),
-        least: 0,
+        front: Vec::new(rt.alloc()),
+        limits: NO_LIMITS,
+        heap: &heap,
+        both: None,
     };
     for line in text.lines() {
         if line.is_empty() || line.starts_with('#') {

@@ -9,6 +9,9 @@ use yl_lint::report_of_text;
 use yl_report::write_report;
 use yl_text::{MAX_BYTES, Watched};
 
+/// What is asked of texts of fewer bytes is asked with each growth refused in turn too.
+pub const SMALL: usize = 1000;
+
 /// What is asked of a text.
 #[derive(Clone, Copy, PartialEq, Eq)]
 pub enum Wanted {
@@ -119,4 +122,13 @@ pub fn growths(global: Global, config: &Config, wanted: Wanted, text: &str) -> O
         }
     }
     None
+}
+
+/// What is said of a count of growths, which there has to be, and at least so many.
+pub fn told_growths(count: Option<u64>, least: u64) -> &'static str {
+    match count {
+        None => "is answered otherwise where memory is refused\n",
+        Some(count) if count < least => "asks for memory less often\n",
+        Some(_) => "",
+    }
 }

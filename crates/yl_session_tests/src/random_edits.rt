@@ -158,10 +158,10 @@ fn make_edit<S: LineStore>(
 }
 
 // What a session shows that is opened over the text of these pieces.
-fn shown_anew(alloc: Global, pieces: &[usize]) -> Result<String, Fail> {
+fn shown_anew(alloc: Global, pieces: &[usize]) -> Result<Vec<u8>, Fail> {
     let text = text_of(alloc, pieces)?;
     let session: Session<PlainStore<Global>> = opened(alloc, text.as_bytes())?;
-    Ok(state_shown(alloc, &session)?)
+    state_shown(alloc, &session)
 }
 
 // Makes an edit in a session over the text of these pieces, and gives the pieces behind it. The session shows then what one shows that is
@@ -177,9 +177,8 @@ fn check_edit<S: LineStore>(
     let edited = edited(alloc, pieces, edit)?;
     let shown = state_shown(alloc, session)?;
     let wanted = shown_anew(alloc, &edited)?;
-    assert_eq!(rt;
-        shown.as_str(),
-        wanted.as_str(),
+    assert!(rt;
+        shown.as_slice() == wanted.as_slice(),
         "pieces {pieces:?}, then {edited:?}"
     );
     Ok(edited)

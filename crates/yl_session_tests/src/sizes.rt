@@ -1,0 +1,49 @@
+//! Texts, and bytes of edits, that are too large.
+use crate::sessions::{edit, opened};
+use refusing::Refusing;
+use std::alloc::Global;
+use std::test::Fail;
+use yl_session::Session;
+use yl_text::{LineStore, PlainStore, Pos, TextFault};
+
+// Why these bytes are not opened.
+fn fault_of<S: LineStore<Alloc = Global>>(alloc: Global, bytes: &[u8]) -> Option<TextFault> {
+    let answer: Result<Session<S>, TextFault> = opened(alloc, bytes);
+    answer.err()
+}
+
+// Why these bytes are not put in a line of two characters, in place of those from a column to another, where the first growth is refused.
+fn edit_fault<S: LineStore>(
+    heap: &Refusing<Global>,
+    taken: S::Alloc,
+    from: u32,
+    to: u32,
+    bytes: &[u8],
+) -> Result<Option<TextFault>, TextFault> {
+    let mut session: Session<S> = opened(taken, b"a\n")?;
+    let (from, to) = (Pos { line: 0, col: from }, Pos { line: 0, col: to });
+    heap.refuse(1);
+    let answer = edit(&mut session, from, to, bytes);
+    heap.refuse(0);
+    Ok(answer.err())
+}
+
+// As many bytes as a text may have want memory, and one more is too large.
+#[test]
+fn what_is_too_large_is_refused(rt: HostRuntime) -> Result<(), Fail> {
+    let heap = Refusing::new(rt.alloc());
+    let long = vec![in rt.alloc(); b'x'; 67_108_865]?;
+    let long = long.as_slice();
+    let whole = fault_of::<PlainStore<Global>>(rt.alloc(), long);
+    assert_eq!(rt; whole, Some(TextFault::TooLarge));
+    for (from, to, most) in [(0, 2, 67_108_864), (1, 2, 67_108_863), (1, 1, 67_108_862)] {
+        let most: usize = most;
+        let fitting = long.get(..most).unwrap_or(&[]);
+        let fault = edit_fault::<PlainStore<&Refusing<Global>>>(&heap, &heap, from, to, fitting)?;
+        assert_eq!(rt; fault, Some(TextFault::Memory));
+        let longer = long.get(..=most).unwrap_or(&[]);
+        let fault = edit_fault::<PlainStore<&Refusing<Global>>>(&heap, &heap, from, to, longer)?;
+        assert_eq!(rt; fault, Some(TextFault::TooLarge));
+    }
+    Ok(())
+}
