@@ -60,7 +60,7 @@ module _ (config : Config) (rows ins : List RowValue) (ks new : List KeptValue) 
   abbrev put : List ProblemValue
   put = report_of (levels_of config) false nothing_silenced found
 
-  plainₙ : AllByRecursion IsPlain (faultless new)
+  pub plainₙ : AllByRecursion IsPlain (faultless new)
   plainₙ = plain_put ks new from end (omega (arith, ordered, within')) plain'
 
   put_in_first : (n : ℕ) → from + length new ≤ n → AllByRecursion (InFirst (rows_kept (take n kept))) put

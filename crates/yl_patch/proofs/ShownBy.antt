@@ -31,10 +31,10 @@ below_says (Some s) known rows after edited ks new kept from end e f h stays = �
     ap (λ (says : ProblemValue → Bool). says q) h ∙ (ap (λ (xs : List RowValue). is_shown xs kept q) e ∙ ap (λ (ls : List KeptValue). is_shown after ls q) f)
 
 -- where indentation is judged anew, something says what is shown
-pub told_where : {X Y : Type 0} (o : Option X) (p : Option (Showing Y)) (stays none : Bool) (edited : List RowValue) (kept : List KeptValue) → none ≡ is_none o → MatchOption p ((stays && none) ≡ true) (λ s. is_shown_by s ≡ is_shown edited kept) → IsSome o → IsSome p
-told_where None p stays none edited kept e h some = absurd (cc)
-told_where (Some x) (Some y) stays none edited kept e h some = refl
-told_where (Some x) None stays none edited kept e h some = let wrong : false ≡ true = sym e ∙ (and_parts stays none h).1 in cc
+pub told_where : {X Y : Type 0} (o : Option X) (p : Option (Showing Y)) (known stays : Bool) (edited : List RowValue) (kept : List KeptValue) → known ≡ (stays && is_none o) → MatchOption p (known ≡ true) (λ s. is_shown_by s ≡ is_shown edited kept) → IsSome o → IsSome p
+told_where None p known stays edited kept e h some = absurd (cc)
+told_where (Some x) (Some y) known stays edited kept e h some = refl
+told_where (Some x) None known stays edited kept e h some = let wrong : false ≡ true = (and_parts stays false (sym e ∙ h)).1 in cc
 
 pub told_in : {X Y V Z : Type 0} (o : Option (Vec X V)) (p : Option Y) (f : Y → Z) → (IsSome o → IsSome p) → IsSome (option_map (λ (v : Vec X V). v.items) o) → IsSome (option_map f p)
 told_in None p f h some = absurd (cc)

@@ -1,5 +1,5 @@
 //! What an edit makes of what is found in a text.
-ghost use Rattle.std.specs.Prelude.{◌≡◌, ◌≤◌, true, false, IfOk, IfSome, MatchOption};
+ghost use Rattle.std.specs.Prelude.{◌≡◌, ◌≤◌, ◌&&◌, true, false, is_none, IfOk, IfSome, MatchOption};
 ghost use Rattle.std.specs.List.{AllByRecursion, splice};
 ghost use Rattle.yl_config.specs.Config.{levels_of};
 ghost use Rattle.yl_report.specs.Heard.{nothing_silenced};
@@ -47,6 +47,13 @@ fn part_found<L: Lines>(
     let showing = showing_of(alloc, lines, sections, overview, upto)?;
     let there = arrange(alloc, found, config.levels(), &Silences::none(alloc))?;
     FoundProblems::part(alloc, &showing, there)
+}
+
+/// Whether what is shown below is known: it stays, and nothing there is judged anew.
+fn is_known_below<T>(stays: bool, anew: &Option<T>) -> bool
+    ensures { result ≡ (stays && is_none anew.now) }
+{
+    stays && anew.is_none()
 }
 
 /// Which of what is found is shown, unless that is known.
@@ -98,7 +105,7 @@ pub fn patched_problems<S: LineStore>(
     let parts = part_found(alloc, config, &edited, &sections, after, upto, found)?;
     let indentation = indentation_below(alloc, config, edit, touched.old_end)?;
     let stays = stays_shown(alloc, text.store, &edited, edit)?;
-    let is_known = stays && indentation.is_none();
+    let is_known = is_known_below(stays, &indentation);
     let below = showing_unless(alloc, is_known, &edited, &sections, after)?;
     let fault = fault_of(alloc, config, &edited, &sections, after)?;
     let FoundProblems { shown, suppressed } = parts;

@@ -5,4 +5,4 @@ use Rattle.yl_patch.proofs.indentation.find_from.Given as goal
 
 abbrev pub invariant-loop-i : goal.invariant-loop-i
 invariant-loop-i g l =
-    (l.found.items ++ indentation_in_sections l.options l.line l.here (drop l.i l.kept.items) ≡ indentation_in_sections l.options l.first l.before (drop l.end l.kept.items)) × CountsEntriesOnceSeen l.here
+    (l.found.items ++ indentation_in_sections l.options l.line l.here (drop l.i l.kept.items) ≡ indentation_in_sections l.options l.first l.fn.before (drop l.end l.kept.items)) × CountsEntriesOnceSeen l.here

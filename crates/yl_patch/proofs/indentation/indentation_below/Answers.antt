@@ -14,8 +14,8 @@ use Rattle.yl_patch.specs.Seen.{measure_upto}
 use Rattle.yl_patch.proofs.FaultFound.{told_as}
 use Rattle.yl_patch.proofs.indentation.indentation_below.Goals as goal
 
-pub find_from-found-requires-clause-counts : goal.find_from-found-requires-clause-counts
-find_from-found-requires-clause-counts g c =
+pub find_from-requires-clause-counts : goal.find_from-requires-clause-counts
+find_from-requires-clause-counts g c =
     let edit = c.args.edit.now in
     let above = subst (λ (m : Measure). CountsEntriesOnceSeen m) (sym c.requires.above.whole) (facts_count (facts_in_sections (take edit.from edit.sections.now.items))) in
     let come = subst (λ (m : Measure). CountsEntriesOnceSeen m) (sym c.requires.come.whole) (facts_count (facts_in_sections edit.kept.now)) in

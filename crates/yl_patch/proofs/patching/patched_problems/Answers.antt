@@ -1,5 +1,5 @@
-use Rattle.std.proofs.Common.{◌+◌, false, List, length, take, drop, arith, ap, refl, sym, subst, ◌∙◌}
-use Rattle.std.specs.Prelude.{◌&&◌}
+use Rattle.std.proofs.Common.{◌+◌, ◌<◌, ◌^◌, false, List, length, take, drop, arith, ap, refl, sym, subst, ◌∙◌}
+use Rattle.std.specs.Prelude.{◌&&◌, is_none}
 use Rattle.std.proofs.lemmas.Bool.{and_parts}
 use Rattle.std.specs.List.{splice}
 use Rattle.yl_text.specs.Lines.{RowValue}
@@ -57,9 +57,9 @@ returns-clause-judged g c =
     let seen = in_some _ c.in_ok-seen.seen c.in-Some.field-0 c.in-Some.is c.in_ok-seen.ensures in
     let below = all_below ks edit.end c.requires.plain in
     let whole = part edit.end ks in
-    let few = omega (arith, seen.cut.old_end, rows_both (take edit.end ks) (drop edit.end ks), ap rows_kept whole, c.requires.edit.few.rows) in record {
+    let few : t.old_end + rows_kept (drop edit.end ks) < 2 ^ 63 = omega (arith, seen.cut.old_end, rows_both (take edit.end ks) (drop edit.end ks), ap rows_kept whole, c.requires.edit.few.rows) in record {
       indentation = judged_ready c.in_ok-indentation.indentation (AreFoundAlike (measure_upto edit.above.whole (sections_between edit.from edit.end ks)) (measure_upto edit.above.whole edit.kept.now) (drop edit.end ks)) t.old_end _ (indentation_told (levels_of c.args.config.now) (options_of c.args.config.now).indentation t.old_end (measure_upto edit.above.whole edit.kept.now) (drop edit.end ks) below few) c.in_ok-indentation.ensures;
-      below = told_where c.in_ok-indentation.indentation c.in_ok-below.below c.in_ok-stays.stays c.is_none.result c.edited-edited.result c.spliced-sections.result c.is_none.ensures c.in_ok-below.ensures;
+      below = told_where c.in_ok-indentation.indentation c.in_ok-below.below c.is_known_below-is_known.result c.in_ok-stays.stays c.edited-edited.result c.spliced-sections.result c.is_known_below-is_known.ensures c.in_ok-below.ensures;
     }
 
 pub returns-clause-parts : goal.returns-clause-parts
@@ -101,7 +101,7 @@ returns-clause-parts g c =
     }))
     (omega arith) (λ q. refl) refl refl refl
     (says_indentation config rows ins ks new text.a text.b edit.from edit.end t found seen range.ordered range.within there.ordered there.within c.requires.plain c.requires.plain_then c.in_ok-indentation.indentation edit.above.whole c.requires.edit.above.whole c.in_ok-indentation.ensures)
-    (told_in c.in_ok-indentation.indentation c.in_ok-below.below (λ s. is_shown_by s) (told_where c.in_ok-indentation.indentation c.in_ok-below.below c.in_ok-stays.stays c.is_none.result c.edited-edited.result c.spliced-sections.result c.is_none.ensures c.in_ok-below.ensures))
+    (told_in c.in_ok-indentation.indentation c.in_ok-below.below (λ s. is_shown_by s) (told_where c.in_ok-indentation.indentation c.in_ok-below.below c.is_known_below-is_known.result c.in_ok-stays.stays c.edited-edited.result c.spliced-sections.result c.is_known_below-is_known.ensures c.in_ok-below.ensures))
     (ap (λ (ps : PartsValue). ps.shown) parts) (ap (λ (ps : PartsValue). ps.suppressed) parts)
-    (below_says c.in_ok-below.below (c.in_ok-stays.stays && c.is_none.result) rows after c.edited-edited.result ks new c.spliced-sections.result edit.from edit.end edited sections c.in_ok-below.ensures
-    (λ h. c.in_ok-stays.ensures (and_parts c.in_ok-stays.stays c.is_none.result h).0)) fault
+    (below_says c.in_ok-below.below c.is_known_below-is_known.result rows after c.edited-edited.result ks new c.spliced-sections.result edit.from edit.end edited sections c.in_ok-below.ensures
+    (λ h. c.in_ok-stays.ensures (and_parts c.in_ok-stays.stays (is_none c.in_ok-indentation.indentation) (sym c.is_known_below-is_known.ensures ∙ h)).0)) fault
