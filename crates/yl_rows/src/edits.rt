@@ -13,27 +13,28 @@ use yl_text::{LineStore, PlainStore, Pos, TextFault};
 // What is shown is told by how many bytes it has, if these are more, and by a sum over them.
 const LONG: usize = 2000;
 
-/// Where an edit is made: in place of the lines from the first to before the second number, or of what stands between two places.
+/// Where an edit is made: in place of the lines from the first to before the second number, or of what stands between two places. Lines and columns
+/// count from 0, columns in characters.
 #[derive(Clone, Copy)]
-pub enum Spot {
+pub enum EditRange {
     Lines(u32, u32),
     Places(Pos, Pos),
 }
 
 /// An edit: where it is made, and the most rows that it may scan, and the most documents of which it may derive events.
 #[derive(Clone, Copy)]
-pub struct Change {
-    pub spot: Spot,
+pub struct BoundedEdit {
+    pub range: EditRange,
     pub scanned: u32,
     pub documents: u32,
 }
 
 /// What a row asks of a text that is kept open.
 #[derive(Clone, Copy)]
-pub enum Asked {
+pub enum Request {
     /// Its report as it was opened.
     Report,
-    Edit(Change),
+    Edit(BoundedEdit),
     /// All edits so far as a list.
     List,
 }
@@ -55,8 +56,8 @@ pub const NO_LIMITS: Limits = Limits {
 
 /// A row that asks: what it asks, the bytes behind that, and what memory may be asked for.
 #[derive(Clone, Copy)]
-pub struct Question<'a> {
-    pub asked: Asked,
+pub struct Inquiry<'a> {
+    pub request: Request,
     pub bytes: &'a [u8],
     pub limits: Limits,
 }
@@ -99,12 +100,12 @@ fn hold<S: LineStore>(
 // Puts these bytes in place of what stands there, as an edit of this text.
 fn edit_of<S: LineStore>(
     held: &Held<S>,
-    spot: Spot,
+    range: EditRange,
     bytes: &[u8],
 ) -> Result<Edit<S::Alloc>, AllocError> {
-    let (from, to) = match spot {
-        Spot::Lines(a, b) => (line_start(&held.session, a), line_start(&held.session, b)),
-        Spot::Places(from, to) => (from, to),
+    let (from, to) = match range {
+        EditRange::Lines(a, b) => (line_start(&held.session, a), line_start(&held.session, b)),
+        EditRange::Places(from, to) => (from, to),
     };
     let bytes = Vec::from_slice(held.taken, bytes)?;
     Ok(Edit { from, to, bytes })
@@ -114,13 +115,13 @@ fn edit_of<S: LineStore>(
 fn push_judged(
     alloc: Global,
     answer: Result<Work, TextFault>,
-    change: Change,
+    bounded: BoundedEdit,
     is_exact: bool,
     out: &mut Vec<u8>,
 ) -> Result<(), AllocError> {
     if let Ok(work) = answer {
-        let fits = work.scanned <= change.scanned && work.documents <= change.documents;
-        if fits && (!is_exact || work.documents == change.documents) {
+        let fits = work.scanned <= bounded.scanned && work.documents <= bounded.documents;
+        if fits && (!is_exact || work.documents == bounded.documents) {
             return out.extend_from_slice(b"edited\n");
         }
     }
@@ -132,21 +133,21 @@ fn edit_held<S: LineStore>(
     alloc: Global,
     heap: &Refusing<Global>,
     held: &mut Held<S>,
-    change: Change,
-    question: Question<'_>,
+    bounded: BoundedEdit,
+    inquiry: Inquiry<'_>,
     out: &mut Vec<u8>,
 ) -> Result<(), AllocError> {
-    let edit = edit_of(held, change.spot, question.bytes)?;
+    let edit = edit_of(held, bounded.range, inquiry.bytes)?;
     heap.refuse(u64::MAX);
     let answer = make(&mut held.session, &edit);
-    let asked = u64::MAX - heap.left();
+    let count = u64::MAX - heap.left();
     heap.refuse(0);
     held.edits.push(edit)?;
     held.last = held.answers.len();
     push_answer(alloc, answer, &mut held.answers)?;
-    push_judged(alloc, answer, change, question.limits.is_exact, out)?;
-    if asked > question.limits.most {
-        let line = format!(in alloc; "asks for memory {asked} times\n")?;
+    push_judged(alloc, answer, bounded, inquiry.limits.is_exact, out)?;
+    if count > inquiry.limits.most {
+        let line = format!(in alloc; "asks for memory {count} times\n")?;
         out.extend_from_slice(line.as_str().as_bytes())?;
     }
     Ok(())
@@ -193,15 +194,15 @@ fn ask_anew<S: LineStore>(
     alloc: Global,
     heap: &Refusing<Global>,
     held: &Held<S>,
-    asked: Asked,
+    request: Request,
     least: u64,
     out: &mut Vec<u8>,
 ) -> Result<(), RunFault> {
-    let count = match asked {
-        Asked::List => list_growths(alloc, heap, held, u64::from(least > 0))?,
+    let count = match request {
+        Request::List => list_growths(alloc, heap, held, u64::from(least > 0))?,
         _ if least == 0 => return Ok(()),
-        Asked::Report => list_growths(alloc, heap, held, 1)?,
-        Asked::Edit(_) => edit_growths(alloc, heap, held)?,
+        Request::Report => list_growths(alloc, heap, held, 1)?,
+        Request::Edit(_) => edit_growths(alloc, heap, held)?,
     };
     out.extend_from_slice(told_growths(count, least).as_bytes())?;
     Ok(())
@@ -212,18 +213,18 @@ fn answer<S: LineStore>(
     alloc: Global,
     heap: &Refusing<Global>,
     held: &mut Held<S>,
-    question: Question<'_>,
+    inquiry: Inquiry<'_>,
     out: &mut Vec<u8>,
 ) -> Result<(), RunFault> {
-    let asked = question.asked;
-    if let Asked::Edit(change) = asked {
-        edit_held(alloc, heap, held, change, question, out)?;
-        let is_all = matches!(change.spot, Spot::Places(..));
+    let request = inquiry.request;
+    if let Request::Edit(bounded) = request {
+        edit_held(alloc, heap, held, bounded, inquiry, out)?;
+        let is_all = matches!(bounded.range, EditRange::Places(..));
         tell_shown(alloc, heap, &held.session, is_all, out)?;
-    } else if let Asked::Report = asked {
+    } else if let Request::Report = request {
         tell_shown(alloc, heap, &held.session, false, out)?;
     }
-    ask_anew(alloc, heap, held, asked, question.limits.least, out)
+    ask_anew(alloc, heap, held, request, inquiry.limits.least, out)
 }
 
 /// A text that is kept open over both stores.
@@ -250,12 +251,12 @@ pub fn answer_both(
     alloc: Global,
     heap: &Refusing<Global>,
     both: &mut Both<'_>,
-    question: Question<'_>,
+    inquiry: Inquiry<'_>,
 ) -> Result<Vec<u8>, RunFault> {
     let mut shown = Vec::new(alloc);
-    answer(alloc, heap, &mut both.plain, question, &mut shown)?;
+    answer(alloc, heap, &mut both.plain, inquiry, &mut shown)?;
     let mut other = Vec::new(alloc);
-    answer(alloc, heap, &mut both.chunks, question, &mut other)?;
+    answer(alloc, heap, &mut both.chunks, inquiry, &mut other)?;
     if other.as_slice() != shown.as_slice() {
         shown.extend_from_slice(b"and over the other store:\n")?;
         shown.extend_from_slice(other.as_slice())?;

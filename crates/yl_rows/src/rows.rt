@@ -1,9 +1,9 @@
 //! Rows, one after another.
-use crate::edits::{Asked, Both, Limits, NO_LIMITS, Question, answer_both, open};
+use crate::edits::{Both, Inquiry, Limits, NO_LIMITS, Request, answer_both, open};
 use crate::escapes::push_unescaped;
 use crate::sessions::push_answer;
 use crate::views::{SMALL, Wanted, growths, show, told_growths};
-use crate::words::{Row, row_of};
+use crate::words::{Instruction, instruction_of};
 use refusing::Refusing;
 use std::alloc::Global;
 use std::io::Write;
@@ -106,16 +106,16 @@ fn reopen(rt: &HostRuntime, kept: &mut Kept<'_>) -> Result<(), RunFault> {
 }
 
 // Does what is asked of the text that is open, and prints what comes of it.
-fn ask(rt: &HostRuntime, kept: &mut Kept<'_>, asked: Asked) -> Result<(), RunFault> {
+fn ask(rt: &HostRuntime, kept: &mut Kept<'_>, request: Request) -> Result<(), RunFault> {
     let Some(both) = &mut kept.both else {
         return say(rt, "no text is open");
     };
-    let question = Question {
-        asked,
+    let inquiry = Inquiry {
+        request,
         bytes: kept.front.as_slice(),
         limits: kept.limits,
     };
-    let shown = answer_both(rt.alloc(), kept.heap, both, question)?;
+    let shown = answer_both(rt.alloc(), kept.heap, both, inquiry)?;
     write(rt, shown.as_slice())
 }
 
@@ -147,29 +147,29 @@ fn follow_shown(
 fn follow_asked(
     rt: &HostRuntime,
     kept: &mut Kept<'_>,
-    asked: Asked,
+    request: Request,
     text: &str,
 ) -> Result<(), RunFault> {
     push_unescaped(&mut kept.front, text)?;
-    if let Asked::Report = asked {
+    if let Request::Report = request {
         reopen(rt, kept)?;
     }
-    ask(rt, kept, asked)?;
+    ask(rt, kept, request)?;
     forget(kept);
     Ok(())
 }
 
 // Does what a row says.
-fn follow(rt: &HostRuntime, kept: &mut Kept<'_>, row: Row<'_>) -> Result<(), RunFault> {
+fn follow(rt: &HostRuntime, kept: &mut Kept<'_>, row: Instruction<'_>) -> Result<(), RunFault> {
     match row {
-        Row::More(count, text) => return push_times(&mut kept.front, count, text),
-        Row::Keys(count) => return push_keys(rt.alloc(), &mut kept.front, count),
-        Row::Stairs(count) => return push_stairs(rt.alloc(), &mut kept.front, count),
-        Row::Growths(least) => kept.limits.least = least,
-        Row::Most(most) => kept.limits.most = most,
-        Row::Exactly => kept.limits.is_exact = true,
-        Row::Shown(wanted, text) => return follow_shown(rt, kept, wanted, text),
-        Row::Asked(asked, text) => return follow_asked(rt, kept, asked, text),
+        Instruction::More(count, text) => return push_times(&mut kept.front, count, text),
+        Instruction::Keys(count) => return push_keys(rt.alloc(), &mut kept.front, count),
+        Instruction::Stairs(count) => return push_stairs(rt.alloc(), &mut kept.front, count),
+        Instruction::Growths(least) => kept.limits.least = least,
+        Instruction::Most(most) => kept.limits.most = most,
+        Instruction::Exactly => kept.limits.is_exact = true,
+        Instruction::Shown(wanted, text) => return follow_shown(rt, kept, wanted, text),
+        Instruction::Request(request, text) => return follow_asked(rt, kept, request, text),
     }
     Ok(())
 }
@@ -189,7 +189,7 @@ pub fn run(rt: &HostRuntime, text: &str) -> Result<(), RunFault> {
             continue;
         }
         say(rt, line)?;
-        match row_of(line) {
+        match instruction_of(line) {
             Some(row) => follow(rt, &mut kept, row)?,
             None => say(rt, "is no row")?,
         }

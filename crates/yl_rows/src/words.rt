@@ -1,10 +1,10 @@
 //! What rows say.
-use crate::edits::{Asked, Change, Spot};
+use crate::edits::{BoundedEdit, EditRange, Request};
 use crate::views::Wanted;
 use yl_text::Pos;
 
 /// What a row says.
-pub enum Row<'a> {
+pub enum Instruction<'a> {
     More(usize, &'a str),
     Keys(usize),
     Stairs(usize),
@@ -12,7 +12,7 @@ pub enum Row<'a> {
     Most(u64),
     Exactly,
     Shown(Wanted, &'a str),
-    Asked(Asked, &'a str),
+    Request(Request, &'a str),
 }
 
 // The first word, and what is behind the space behind it.
@@ -31,38 +31,38 @@ fn pair(text: &str) -> Option<(u32, u32, &str)> {
 }
 
 // So many times a text.
-fn times(rest: &str) -> Option<Row<'_>> {
+fn times(rest: &str) -> Option<Instruction<'_>> {
     let (count, text) = first_word(rest);
-    Some(Row::More(count.parse().ok()?, text))
+    Some(Instruction::More(count.parse().ok()?, text))
 }
 
-// An edit at a spot, of the work and the bytes that are left.
-fn edit(spot: Spot, rest: &str) -> Option<Row<'_>> {
+// An edit of a range, of the work and the bytes that are left.
+fn edit(range: EditRange, rest: &str) -> Option<Instruction<'_>> {
     let (scanned, documents, text) = pair(rest)?;
-    let change = Change {
-        spot,
+    let bounded = BoundedEdit {
+        range,
         scanned,
         documents,
     };
-    Some(Row::Asked(Asked::Edit(change), text))
+    Some(Instruction::Request(Request::Edit(bounded), text))
 }
 
 // An edit of lines.
-fn edit_lines(rest: &str) -> Option<Row<'_>> {
+fn edit_lines(rest: &str) -> Option<Instruction<'_>> {
     let (a, b, rest) = pair(rest)?;
-    edit(Spot::Lines(a, b), rest)
+    edit(EditRange::Lines(a, b), rest)
 }
 
 // An edit between two places.
-fn put(rest: &str) -> Option<Row<'_>> {
+fn put(rest: &str) -> Option<Instruction<'_>> {
     let (line, col, rest) = pair(rest)?;
     let from = Pos { line, col };
     let (line, col, rest) = pair(rest)?;
-    edit(Spot::Places(from, Pos { line, col }), rest)
+    edit(EditRange::Places(from, Pos { line, col }), rest)
 }
 
 // What a row says that is of one text alone.
-fn shown_row<'a>(word: &str, rest: &'a str) -> Option<Row<'a>> {
+fn shown_instruction<'a>(word: &str, rest: &'a str) -> Option<Instruction<'a>> {
     let wanted = match word {
         "config" => Wanted::Fault,
         "lint" => Wanted::Report,
@@ -71,33 +71,33 @@ fn shown_row<'a>(word: &str, rest: &'a str) -> Option<Row<'a>> {
         "lines" => Wanted::Lines,
         _ => return None,
     };
-    Some(Row::Shown(wanted, rest))
+    Some(Instruction::Shown(wanted, rest))
 }
 
 // What a row says of the one behind it.
-fn kept_row<'a>(word: &str, rest: &'a str) -> Option<Row<'a>> {
+fn kept_instruction<'a>(word: &str, rest: &'a str) -> Option<Instruction<'a>> {
     match word {
-        "more" => Some(Row::More(1, rest)),
+        "more" => Some(Instruction::More(1, rest)),
         "times" => times(rest),
-        "keys" => Some(Row::Keys(rest.parse().ok()?)),
-        "stairs" => Some(Row::Stairs(rest.parse().ok()?)),
-        "growths" => Some(Row::Growths(rest.parse().ok()?)),
-        "most" => Some(Row::Most(rest.parse().ok()?)),
-        "exactly" => Some(Row::Exactly),
+        "keys" => Some(Instruction::Keys(rest.parse().ok()?)),
+        "stairs" => Some(Instruction::Stairs(rest.parse().ok()?)),
+        "growths" => Some(Instruction::Growths(rest.parse().ok()?)),
+        "most" => Some(Instruction::Most(rest.parse().ok()?)),
+        "exactly" => Some(Instruction::Exactly),
         _ => None,
     }
 }
 
 /// What a line says, unless it is no row.
-pub fn row_of(line: &str) -> Option<Row<'_>> {
+pub fn instruction_of(line: &str) -> Option<Instruction<'_>> {
     let (word, rest) = first_word(line);
     match word {
-        "open" => Some(Row::Asked(Asked::Report, rest)),
+        "open" => Some(Instruction::Request(Request::Report, rest)),
         "edit" => edit_lines(rest),
         "put" => put(rest),
-        "replay" => Some(Row::Asked(Asked::List, rest)),
-        _ => match shown_row(word, rest) {
-            None => kept_row(word, rest),
+        "replay" => Some(Instruction::Request(Request::List, rest)),
+        _ => match shown_instruction(word, rest) {
+            None => kept_instruction(word, rest),
             row => row,
         },
     }
