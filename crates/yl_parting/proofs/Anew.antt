@@ -1,5 +1,5 @@
 -- Both lists, parted anew or with room for it.
-use Rattle.std.proofs.Common.{◌≡◌, ℕ, ◌+◌, ◌≤◌, Bool, List, [], ◌++◌, map, Option, Some, None, refl, ap, sym, subst, ◌∙◌, arith, append_assoc}
+use Rattle.std.proofs.Common.{◌≡◌, ℕ, ◌+◌, ◌≤◌, Bool, List, [], ◌++◌, map, Option, Some, None, refl, ap, sym, ◌∙◌, arith, append_assoc}
 use Rattle.std.specs.Prelude.{IsSome, not, reverse, Vec, vec_len, vec_capacity}
 use Rattle.std.specs.List.{filter}
 use Rattle.std.specs.Option.{option_map}
@@ -9,11 +9,10 @@ use Rattle.yl_parting.specs.declared.change.LinesPatch.{LinesPatch}
 use Rattle.yl_parting.specs.declared.showing.Showing.{Showing}
 use Rattle.yl_parting.specs.Changes.{PatchValue, all_moved, patch_in, patched_lines, shown_below, suppressed_below}
 use Rattle.yl_parting.specs.Order.{merged}
-use Rattle.yl_parting.specs.Parts.{IsLow, PartsValue, above, behind, is_no_fault, shifted, without_fault}
+use Rattle.yl_parting.specs.Parts.{PartsValue, above, behind, shifted}
 use Rattle.yl_parting.specs.Popped.{IsTaken}
-use Rattle.yl_parting.specs.Rooms.{AreOrdered, HasRoomFor, IsIndentation, count_anew, crossing, fault_count}
+use Rattle.yl_parting.specs.Rooms.{HasRoomFor, count_anew, crossing, fault_count}
 use Rattle.yl_parting.specs.Showing.{is_shown_by}
-use Rattle.yl_parting.proofs.Ordered.{all_filter, order_filter}
 
 -- what was taken out, with the last one last again
 pub given_back : (n m : ℕ) (ss us ts vs spare : List ProblemValue) → IsTaken n m ss us ts vs spare → behind n ts ≡ [] → behind n vs ≡ [] → reverse spare ≡ map (shifted n m) (merged (behind n ss) (behind n us))

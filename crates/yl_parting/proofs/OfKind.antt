@@ -1,11 +1,11 @@
 -- What rules of a kind find stands in a report as if they alone had found something.
 use Rattle.std.proofs.Common.{◌≡◌, ℕ, Bool, true, false, cond, List, [], ◌∷◌, Option, Some, None, refl, ap, sym, ◌∙◌}
-use Rattle.std.specs.List.{cons_option, filter, filter_map}
+use Rattle.std.specs.List.{cons_option, filter}
 use Rattle.yl_text.specs.Finding.{FindingValue}
 use Rattle.yl_text.specs.declared.finding.RuleId.{RuleId}
 use Rattle.yl_rules.specs.declared.level.Level.{Level}
 use Rattle.yl_rules.specs.Levels.{LevelTable}
-use Rattle.yl_report.specs.Report.{ProblemValue, is_reported, report_of, sorted_once, with_level}
+use Rattle.yl_report.specs.Report.{ProblemValue, is_reported, report_of, sorted_once}
 use Rattle.yl_report.proofs.Heard.{sorted_filter}
 use Rattle.yl_parting.proofs.Faults.{leveled, with}
 use Rattle.yl_parting.proofs.Ordered.{filter_swap}

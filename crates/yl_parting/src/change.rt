@@ -12,8 +12,9 @@ pub struct FoundProblems<A: Allocator> {
 }
 
 /// What an edit makes of the problems of some lines and of those below. The problems that stand behind the first `first` lines, up to
-/// `old_end`, go; these come. In place of the indentation behind `old_end` lines comes `indentation`, if it is there. All behind them stands behind
-/// `new_end` lines then, and is parted anew by `below`, if it is there. Then the text's fault comes in its place. `had_fault` is false only where no fault was shown before.
+/// `old_end`, go; these come. In place of the indentation behind `old_end` lines comes `indentation`, if it is there. All behind them stands
+/// behind `new_end` lines then, and is parted anew by `below`, if it is there. Then the text's fault comes in its place. `had_fault` is false
+/// only where no fault was shown before.
 #[derive(Drop)]
 pub struct LinesPatch<A: Allocator> {
     pub first: u32,

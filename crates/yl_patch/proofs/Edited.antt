@@ -1,5 +1,5 @@
 -- What is seen of an edit in the touched lines says what is found once it is made.
-use Rattle.std.proofs.Common.{◌≡◌, ℕ, ◌+◌, ◌-◌, ◌≤◌, ◌++◌, Bool, true, false, List, length, map, take, drop, Some, refl, ap, sym, subst, ◌∙◌, arith}
+use Rattle.std.proofs.Common.{◌≡◌, ℕ, ◌+◌, ◌-◌, ◌≤◌, ◌++◌, true, false, List, length, map, take, drop, Some, refl, ap, sym, subst, ◌∙◌, arith}
 use Rattle.std.specs.List.{AllByRecursion, splice}
 use Rattle.std.proofs.lemmas.List.{length-map, take-map, drop-map}
 use Rattle.yl_text.specs.Finding.{FindingValue}
