@@ -37,14 +37,14 @@ use Rattle.yl_lint.proofs.Arranged.{arranged, arranged_lines, arranged_moved, lo
 use Rattle.yl_lint.proofs.LineParts.{Between, if_none}
 use Rattle.yl_lint.proofs.Pushed.{all_moved, one_at, there_moved}
 use Rattle.yl_overview.proofs.Walks.{measured, none_left}
-use Rattle.yl_patch.specs.Faultless.{faultless}
-use Rattle.yl_patch.specs.Plain.{IsPlain, is_kept_rule, is_of_section}
+use Rattle.yl_found.specs.Faultless.{faultless}
+use Rattle.yl_found.specs.Plain.{IsPlain, is_kept_rule, is_of_section}
 use Rattle.yl_patch.proofs.Parts.{above_low_by, above_lower, in_both, in_lower, in_wider, lines_above, part, part_between, upto_false, upto_true}
 use Rattle.yl_patch.proofs.Renewed.{found_is_part, judged_parts, silent}
-use Rattle.yl_patch.proofs.Passing.{all_report}
-use Rattle.yl_patch.proofs.RuleKinds.{AreOf, indented_of, lines_there_of, moved_of, not_so}
-use Rattle.yl_patch.proofs.Sections.{sections_between}
-use Rattle.yl_patch.proofs.WithoutFaults.{rows_faultless}
+use Rattle.yl_found.proofs.Passing.{all_report}
+use Rattle.yl_found.proofs.RuleKinds.{AreOf, indented_of, lines_there_of, moved_of, not_so}
+use Rattle.yl_found.proofs.Sections.{sections_between}
+use Rattle.yl_found.proofs.WithoutFaults.{rows_faultless}
 
 -- ---- in sections
 

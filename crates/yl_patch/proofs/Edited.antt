@@ -25,16 +25,16 @@ use Rattle.yl_lint.specs.declared.there.Ends.{Ends}
 use Rattle.yl_lint.proofs.Arranged.{arranged, lower}
 use Rattle.yl_lint.proofs.LineParts.{if_none}
 use Rattle.yl_overview.proofs.Walks.{measured, rows_until}
-use Rattle.yl_patch.specs.Faultless.{faultless, faultless_one}
-use Rattle.yl_patch.specs.Found.{found_by}
-use Rattle.yl_patch.specs.Plain.{IsPlain}
+use Rattle.yl_found.specs.Faultless.{faultless, faultless_one}
+use Rattle.yl_found.specs.Found.{found_by}
+use Rattle.yl_found.specs.Plain.{IsPlain}
 use Rattle.yl_patch.specs.Seen.{AreFoundAlike, IsSeen, measure_upto, new_lines_of, sections_between}
 use Rattle.yl_patch.specs.declared.touched.Touched.{Touched}
 use Rattle.yl_patch.proofs.Again.{indentation_faultless, judged_again}
 use Rattle.yl_patch.proofs.Parts.{part, part_alike}
-use Rattle.yl_patch.proofs.PartsEdited.{found_in_order}
+use Rattle.yl_found.proofs.Ready.{found_in_order}
 use Rattle.yl_patch.proofs.Renewed.{end_is, fit, fit', found_is, found_judged, plain_above, plain_below, plain_there, renewed, silent, was_judged}
-use Rattle.yl_patch.proofs.WithoutFaults.{faultless_between, measured_faultless, onward_faultless, rows_faultless, splice_faultless}
+use Rattle.yl_found.proofs.WithoutFaults.{faultless_between, measured_faultless, onward_faultless, rows_faultless, splice_faultless}
 
 module _ (config : Config) (rows ins : List RowValue) (ks new : List KeptValue) (a b from end : ℕ) (t : Touched) (found : List FindingValue) (seen : IsSeen config rows ins ks new a b from end t found)
     (ordered : a ≤ b) (within : from ≤ end) (within' : end ≤ length ks) (plain : AllByRecursion IsPlain (faultless ks)) (plainₙ : AllByRecursion IsPlain (faultless new)) where

@@ -4,30 +4,24 @@ use Rattle.std.specs.List.{AllByRecursion, prefix_len, splice}
 use Rattle.std.proofs.Math.Numerals.{one-add}
 use Rattle.std.proofs.lemmas.Bool.{leb-false, leb-true}
 use Rattle.yl_text.specs.Lines.{RowValue}
-use Rattle.yl_indentation.specs.Measures.{empty_measure}
 use Rattle.yl_config.specs.declared.config.Config.{Config}
-use Rattle.yl_config.specs.Config.{levels_of, options_of}
-use Rattle.yl_report.specs.Heard.{nothing_silenced}
 use Rattle.yl_report.specs.Report.{ProblemValue}
 use Rattle.yl_sections.specs.Kept.{KeptValue}
 use Rattle.yl_rejudge.specs.Places.{rows_kept}
-use Rattle.yl_lint.specs.Onward.{onward_in_sections}
-use Rattle.yl_lint.specs.TextReport.{findings_in_lines}
 use Rattle.yl_parting.specs.Changes.{PatchValue, moved, patched}
 use Rattle.yl_parting.specs.Following.{Follows, FollowsBelow}
 use Rattle.yl_parting.specs.Order.{IsInOrder}
 use Rattle.yl_parting.specs.Parts.{PartsValue, above, behind, is_upto, parted, shifted, with_fault, without_fault}
-use Rattle.yl_parting.proofs.Faults.{report_in_order}
-use Rattle.yl_parting.proofs.Following.{fault_goes, parts_follow}
+use Rattle.yl_parting.proofs.Following.{parts_follow}
 use Rattle.yl_parting.proofs.Judged.{judged_above, judged_order}
 use Rattle.yl_parting.proofs.Ordered.{all_behind, all_then}
-use Rattle.yl_patch.specs.Faultless.{faultless}
-use Rattle.yl_patch.specs.Found.{all_parts, fault_told, found_by, is_shown, parts_of}
+use Rattle.yl_found.specs.Faultless.{faultless}
+use Rattle.yl_found.specs.Found.{all_parts, found_by, is_shown, parts_of}
 use Rattle.yl_patch.specs.Patching.{IsPatchOf, SaysBelow}
-use Rattle.yl_patch.specs.Plain.{IsPlain}
+use Rattle.yl_found.specs.Plain.{IsPlain}
 use Rattle.yl_patch.proofs.AlikeShown.{above_alike, below_alike}
-use Rattle.yl_patch.proofs.EachFound.{InFirst, fault_of_syntax, found_in_lines, no_fault_shown}
-use Rattle.yl_patch.proofs.ReportShown.{found_whole}
+use Rattle.yl_found.proofs.EachFound.{InFirst, found_in_lines}
+use Rattle.yl_found.proofs.Ready.{fault_apart, found_in_order}
 
 -- ---- lists parted by a line
 
@@ -45,18 +39,6 @@ all_above P n (q ∷ qs) h = at (is_upto n q) refl (all_above P n qs h.1)
         subst (λ (i : ℕ). AllByRecursion (λ r. P r × (is_upto n r ≡ true)) (take i (q ∷ qs))) (sym (one-add (prefix_len (is_upto n) qs)))
         ((h.0, e), more)
     at false e more = tt
-
--- ---- what is found is in order
-
-pub found_in_order : (config : Config) (rows : List RowValue) (ks : List KeptValue) → AllByRecursion IsPlain (faultless ks) → IsInOrder (found_by config rows ks)
-found_in_order config rows ks plain =
-    let found = findings_in_lines (options_of config) rows ++ onward_in_sections (options_of config).indentation 0 empty_measure (faultless ks) in
-    subst (λ (ps : List ProblemValue). IsInOrder ps) (sym (found_whole config rows ks plain)) (report_in_order (levels_of config) false nothing_silenced found)
-
--- ---- the text's fault aside
-
-pub fault_apart : (config : Config) (rows : List RowValue) (ks : List KeptValue) → AllByRecursion IsPlain (faultless ks) → without_fault (all_parts config rows ks) ≡ parts_of config rows ks
-fault_apart config rows ks plain = fault_goes (fault_told config rows ks) (parts_of config rows ks) (no_fault_shown config rows ks plain) (fault_of_syntax config rows ks)
 
 -- ---- an edit
 

@@ -24,9 +24,9 @@ use Rattle.yl_lint.specs.Onward.{onward_in_sections}
 use Rattle.yl_lint.specs.TextReport.{end_of_lines, findings_from, findings_in_lines, findings_in_sections, moved, shown}
 use Rattle.yl_lint.specs.Unsilenced.{unsilenced_of_kept}
 use Rattle.yl_patch.specs.Cut.{IsInside, is_filled}
-use Rattle.yl_patch.specs.Faultless.{faultless}
-use Rattle.yl_patch.specs.Found.{found_by}
-use Rattle.yl_patch.specs.Plain.{IsPlain}
+use Rattle.yl_found.specs.Faultless.{faultless}
+use Rattle.yl_found.specs.Found.{found_by}
+use Rattle.yl_found.specs.Plain.{IsPlain}
 use Rattle.yl_patch.specs.Seen.{measure_upto}
 use Rattle.yl_lint.specs.There.{found_there}
 use Rattle.yl_lint.specs.declared.there.Ends.{Ends}
@@ -34,7 +34,7 @@ use Rattle.yl_patch.specs.declared.touched.Touched.{Touched}
 use Rattle.yl_lint.proofs.Arranged.{arranged, arranged_lines, arranged_moved, lower}
 use Rattle.yl_lint.proofs.LineParts.{if_none, is_seam, none_by, seam_behind, seam_more}
 use Rattle.yl_patch.proofs.Parts.{lines_above, part, part_between, parts_apart, patched, patched_so}
-use Rattle.yl_patch.proofs.Sections.{no_fault, shown_plain}
+use Rattle.yl_found.proofs.Sections.{no_fault, shown_plain}
 use Rattle.yl_overview.proofs.Walks.{all_back, all_both, all_front, measured}
 
 -- ---- what is found in a whole text

@@ -22,13 +22,13 @@ use Rattle.yl_parting.specs.Following.{IsJudgedAgain, found_after}
 use Rattle.yl_parting.specs.Parts.{above, behind, shifted, with_fault, without_fault}
 use Rattle.yl_parting.specs.Showing.{shows}
 use Rattle.yl_parting.proofs.Ordered.{all_then}
-use Rattle.yl_patch.specs.Faultless.{faultless, faultless_one}
-use Rattle.yl_patch.specs.Found.{all_parts, fault_told, found_by}
+use Rattle.yl_found.specs.Faultless.{faultless, faultless_one}
+use Rattle.yl_found.specs.Found.{all_parts, fault_told, found_by}
 use Rattle.yl_patch.specs.Patching.{SaysBelow}
-use Rattle.yl_patch.specs.Plain.{IsPlain}
+use Rattle.yl_found.specs.Plain.{IsPlain}
 use Rattle.yl_patch.specs.Seen.{AreFoundAlike, IsSeen, measure_upto, new_lines_of, sections_between}
 use Rattle.yl_patch.specs.declared.touched.Touched.{Touched}
-use Rattle.yl_patch.proofs.EachFound.{InFirst}
+use Rattle.yl_found.proofs.EachFound.{InFirst}
 use Rattle.yl_patch.proofs.PartsEdited.{parts_edited}
 use Rattle.yl_patch.proofs.Edited.{all_judged, found_edited, indentation_anew, judged_alike, judged_anew}
 use Rattle.yl_patch.proofs.ShownThere.{rows_upto, shown_upto, suppressed_upto, there_in_first}

@@ -8,8 +8,8 @@ use Rattle.yl_lint.specs.TextReport.{comments_in_sections, shown, unless_fault}
 use Rattle.yl_overview.specs.Overview.{IsSilent, has_fault}
 use Rattle.yl_lint.specs.Switches.{SpeaksWithin, switch_texts}
 use Rattle.yl_patch.specs.Speaking.{SpeakAlike}
-use Rattle.yl_patch.proofs.Sections.{no_comments}
-use Rattle.yl_patch.proofs.ShownSections.{shown_sound}
+use Rattle.yl_found.proofs.Sections.{no_comments}
+use Rattle.yl_found.proofs.ShownSections.{shown_sound}
 
 -- where the sections that are shown have these comments
 alike_by : (ls ns : List KeptValue) (cs ds : List PlacedCommentValue) → comments_in_sections 0 (shown ls) ≡ cs → comments_in_sections 0 (shown ns) ≡ ds

@@ -20,18 +20,18 @@ use Rattle.yl_lint.specs.Onward.{onward_in_sections}
 use Rattle.yl_lint.specs.TextReport.{comments_in_sections, findings_from, first_text, moved, shown}
 use Rattle.yl_parting.specs.Showing.{shows}
 use Rattle.yl_parting.proofs.Ordered.{all_then, filter_same}
-use Rattle.yl_patch.specs.Faultless.{faultless}
-use Rattle.yl_patch.specs.Found.{is_shown}
-use Rattle.yl_patch.specs.Plain.{IsPlain}
+use Rattle.yl_found.specs.Faultless.{faultless}
+use Rattle.yl_found.specs.Found.{is_shown}
+use Rattle.yl_found.specs.Plain.{IsPlain}
 use Rattle.yl_lint.specs.There.{found_there, lines_there}
 use Rattle.yl_lint.specs.declared.there.Ends.{Ends}
 use Rattle.yl_patch.proofs.AlikeShown.{upto_alike}
-use Rattle.yl_patch.proofs.EachFound.{InFirst}
+use Rattle.yl_found.proofs.EachFound.{InFirst}
 use Rattle.yl_lint.proofs.LineParts.{Between, between_both, empty_lines_between, end_of_file_between, new_lines_between, rows_between}
-use Rattle.yl_patch.proofs.Passing.{all_report}
-use Rattle.yl_patch.proofs.Sections.{between_moved, between_wider, sections_between}
+use Rattle.yl_found.proofs.Passing.{all_report}
+use Rattle.yl_found.proofs.Sections.{between_moved, between_wider, sections_between}
 use Rattle.yl_overview.proofs.Walks.{rows_both}
-use Rattle.yl_patch.proofs.WithoutFaults.{onward_faultless, rows_faultless}
+use Rattle.yl_found.proofs.WithoutFaults.{onward_faultless, rows_faultless}
 
 -- ---- the lines of what is found there
 

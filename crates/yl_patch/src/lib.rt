@@ -2,27 +2,18 @@
 //!
 //! What is found in a text, whatever comments silence and the first fault hides, is that of its lines and that of its sections, one after
 //! another. So an edit within some sections changes what is found in their lines alone, and moves what is found below them. It is kept in
-//! two lists, what is shown and what is not: `found_problems` puts both together, and `patched_problems` says what an edit makes of them.
+//! two lists, what is shown and what is not (yl_found), and `patched_problems` says what an edit makes of them.
 //!
 //! Which of what is found below is shown stays too, where the touched sections hide it as before and their comments say the same of it.
 //! Where it does not, all below is parted anew. The text's fault stands among what is shown, in its place.
 #![tactic(auto)]
 
 mod below;
-mod comments;
-mod fault;
-mod found;
 mod indentation;
-mod laws;
 mod measures;
 mod patching;
-mod plain;
 mod seen;
-mod showing;
 mod speaking;
 mod touched;
 
-pub use found::found_problems;
-pub use laws::report_is_shown;
 pub use patching::patched_problems;
-pub use plain::{are_all_plain, are_plain};

@@ -5,9 +5,9 @@ ghost use Rattle.yl_lint.specs.TextReport.{comments_in_sections};
 ghost use Rattle.yl_overview.specs.Edit.{IsSectionEdit};
 ghost use Rattle.yl_patch.specs.Speaking.{AllSpeakAlike, SpeakAlike};
 
-use crate::comments::comments_among;
 use std::alloc::{AllocError, Allocator};
 use yl_chunks::Spliced;
+use yl_found::comments_among;
 use yl_lexeme::PlacedComment;
 use yl_lint::{have_same_texts, retain_switches, speak_within};
 use yl_overview::SectionEdit;

@@ -25,13 +25,13 @@ use Rattle.yl_parting.specs.declared.change.Change.TheVariants.{Anew, Patch, Sta
 use Rattle.yl_parting.specs.declared.change.FoundProblems.{FoundProblems}
 use Rattle.yl_parting.specs.declared.change.LinesPatch.{LinesPatch}
 use Rattle.yl_parting.specs.Showing.{shows}
-use Rattle.yl_patch.specs.Faultless.{faultless}
-use Rattle.yl_patch.specs.Found.{all_parts, parts_of}
-use Rattle.yl_patch.specs.Plain.{IsPlain}
+use Rattle.yl_found.specs.Faultless.{faultless}
+use Rattle.yl_found.specs.Found.{all_parts, parts_of}
+use Rattle.yl_found.specs.Plain.{IsPlain}
 use Rattle.yl_parting.proofs.Ordered.{order_filter}
-use Rattle.yl_patch.proofs.EachFound.{parts_low}
-use Rattle.yl_patch.proofs.PartsEdited.{fault_apart}
-use Rattle.yl_patch.proofs.ReportShown.{report_shown}
+use Rattle.yl_found.proofs.EachFound.{parts_low}
+use Rattle.yl_found.proofs.Ready.{fault_apart}
+use Rattle.yl_found.proofs.ReportShown.{report_shown}
 use Rattle.yl_lint.specs.Alike.{AreReadAlike}
 use Rattle.yl_session.specs.Parts.{KnownText, Makes, known_text}
 

@@ -4,8 +4,8 @@ use Rattle.std.specs.List.{AllByRecursion}
 use Rattle.yl_sections.specs.Kept.{KeptValue}
 use Rattle.yl_overview.specs.Overview.{AreOverviews}
 use Rattle.yl_overview.specs.declared.overview.Overview.{Overview}
-use Rattle.yl_patch.specs.Faultless.{faultless}
-use Rattle.yl_patch.specs.Plain.{IsPlain}
+use Rattle.yl_found.specs.Faultless.{faultless}
+use Rattle.yl_found.specs.Plain.{IsPlain}
 
 -- these overviews are theirs, and they are plain where it says so
 pub record IsKnown (ks : List KeptValue) (os : List Overview) (are_plain : Bool) : Type 0 where

@@ -9,7 +9,7 @@ use Rattle.yl_parting.specs.Changes.{renewed}
 use Rattle.yl_parting.specs.Parts.{PartsValue}
 use Rattle.yl_parting.specs.Rooms.{IsReady}
 use Rattle.yl_parting.specs.declared.change.Change.{Change}
-use Rattle.yl_patch.specs.Found.{all_parts}
+use Rattle.yl_found.specs.Found.{all_parts}
 
 -- a text as a session knows it: its lines, what is kept of their sections, whether these are seen to be plain, and its report
 pub record KnownText : Type 0 where

@@ -11,9 +11,9 @@ use crate::sections::{KnownSections, known_of};
 use std::alloc::{AllocError, Allocator};
 use yl_chunks::{Chunks, Spliced};
 use yl_config::Config;
+use yl_found::found_problems;
 use yl_overview::all_of;
 use yl_parting::FoundProblems;
-use yl_patch::found_problems;
 use yl_record::Record;
 use yl_text::LineStore;
 

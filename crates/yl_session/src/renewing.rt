@@ -5,18 +5,19 @@ ghost use Rattle.yl_text.specs.Store.{IsRange};
 ghost use Rattle.yl_overview.specs.Edit.{IsSectionEdit};
 ghost use Rattle.yl_overview.specs.Overview.{AreFew, AreOverviews};
 ghost use Rattle.yl_lint.specs.Edit.{IsTextEdit};
-ghost use Rattle.yl_patch.specs.Faultless.{faultless};
-ghost use Rattle.yl_patch.specs.Plain.{IsPlain};
+ghost use Rattle.yl_found.specs.Faultless.{faultless};
+ghost use Rattle.yl_found.specs.Plain.{IsPlain};
 ghost use Rattle.yl_session.specs.Known.{IsKnown, IsKnownAfter};
 ghost use Rattle.yl_session.specs.Parts.{KnownText, Makes, known_text};
 
 use crate::sections::KnownSections;
 use std::alloc::{AllocError, Allocator};
 use yl_config::Config;
+use yl_found::{are_plain, found_problems};
 use yl_lint::{TextEdit, reads_alike};
 use yl_overview::{Overview, SectionEdit};
 use yl_parting::{Change, FoundProblems};
-use yl_patch::{are_plain, found_problems, patched_problems};
+use yl_patch::patched_problems;
 use yl_rejudge::Rejudged;
 use yl_text::{LineStore, Lines};
 

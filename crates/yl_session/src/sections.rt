@@ -6,8 +6,8 @@ ghost use Rattle.yl_session.specs.Known.{IsKnown, IsKnownAfter};
 
 use std::alloc::{AllocError, Allocator};
 use yl_chunks::{Chunks, Spliced};
+use yl_found::are_all_plain;
 use yl_overview::{Overview, overviews_of};
-use yl_patch::are_all_plain;
 use yl_rejudge::Rejudged;
 use yl_sections::Kept;
 

@@ -51,7 +51,7 @@ impl<S: LineStore> Model for Session<S> {
     ghost use Rattle.yl_rescan.specs.Held.{AreHeld};
     ghost use Rattle.yl_lint.specs.TextReport.{report};
     ghost use Rattle.yl_parting.specs.Changes.{parts_in};
-    ghost use Rattle.yl_patch.specs.Found.{all_parts};
+    ghost use Rattle.yl_found.specs.Found.{all_parts};
     ghost use Rattle.yl_session.specs.Known.{IsKnown};
     ghost use Rattle.yl_text.specs.Store.{AreLines};
 

@@ -1,6 +1,7 @@
 use Rattle.std.proofs.Common.{◌-◌, take, drop, ap, sym, ◌∙◌}
 use Rattle.yl_report.specs.Directive.{disables_file}
-use Rattle.yl_patch.proofs.Given.{never, same_bool, then_ok}
+use Rattle.yl_found.proofs.Given.{never, then_ok}
+use Rattle.yl_patch.proofs.Given.{same_bool}
 use Rattle.yl_patch.proofs.below.stays_shown.Goals as goal
 
 pub returns-then-has_fault : goal.returns-then-has_fault

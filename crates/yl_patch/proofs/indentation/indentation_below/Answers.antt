@@ -1,5 +1,4 @@
-use Rattle.std.proofs.Common.{List, drop, take, ap, sym, subst, ◌∙◌}
-use Rattle.yl_text.specs.Finding.{FindingValue}
+use Rattle.std.proofs.Common.{drop, take, ap, sym, subst, ◌∙◌}
 use Rattle.yl_rules.specs.LevelOf.{level_of}
 use Rattle.yl_indentation.specs.declared.measure.Measure.{Measure}
 use Rattle.yl_indentation.specs.declared.options.IndentationOptions.{IndentationOptions}
@@ -11,7 +10,7 @@ use Rattle.yl_report.specs.Silence.{is_file_silenced_by, is_silenced_at}
 use Rattle.yl_lint.specs.Onward.{indentation_in_sections}
 use Rattle.yl_lint.specs.TextReport.{facts_in_sections}
 use Rattle.yl_patch.specs.Seen.{measure_upto}
-use Rattle.yl_patch.proofs.FaultFound.{told_as}
+use Rattle.yl_found.proofs.FaultFound.{told_as}
 use Rattle.yl_patch.proofs.indentation.indentation_below.Goals as goal
 
 pub find_from-requires-clause-counts : goal.find_from-requires-clause-counts

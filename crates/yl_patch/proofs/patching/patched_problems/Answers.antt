@@ -9,16 +9,16 @@ use Rattle.yl_report.specs.Report.{report_of}
 use Rattle.yl_parting.specs.Changes.{patch_in}
 use Rattle.yl_parting.specs.Parts.{PartsValue, parted}
 use Rattle.yl_sections.specs.Kept.{KeptValue}
-use Rattle.yl_patch.specs.Found.{fault_told}
-use Rattle.yl_patch.specs.Plain.{IsSurveyed}
-use Rattle.yl_patch.specs.ShownUpto.{is_shown_upto}
-use Rattle.yl_patch.proofs.FaultFound.{told_none}
+use Rattle.yl_found.specs.Found.{fault_told}
+use Rattle.yl_found.specs.Plain.{IsSurveyed}
+use Rattle.yl_found.specs.ShownUpto.{is_shown_upto}
+use Rattle.yl_found.proofs.FaultFound.{told_none}
 use Rattle.yl_overview.proofs.Whole.{none_first}
-use Rattle.yl_patch.proofs.Given.{in_some, surveyed}
-use Rattle.yl_patch.proofs.Ready.{shown_in_order, suppressed_in_order}
+use Rattle.yl_found.proofs.Given.{in_some, surveyed}
+use Rattle.yl_found.proofs.Ready.{shown_in_order, suppressed_in_order}
 use Rattle.yl_patch.proofs.SeenPatch.{says_indentation, seen_patch}
 use Rattle.yl_patch.proofs.ShownBy.{below_says, told_in, told_where}
-use Rattle.yl_patch.proofs.WithoutFaults.{all_below}
+use Rattle.yl_found.proofs.WithoutFaults.{all_below}
 use Rattle.yl_patch.proofs.Again.{indentation_told, judged_ready}
 use Rattle.yl_patch.specs.Seen.{AreFoundAlike, measure_upto, sections_between}
 use Rattle.yl_parting.specs.Showing.{is_shown_by}

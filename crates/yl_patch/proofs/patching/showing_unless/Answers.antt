@@ -1,5 +1,5 @@
 use Rattle.std.proofs.Common.{arith, ◌∙◌}
-use Rattle.yl_patch.proofs.Shows.{upto_all}
+use Rattle.yl_found.proofs.Shows.{upto_all}
 use Rattle.yl_patch.proofs.patching.showing_unless.Goals as goal
 
 pub returns : goal.returns

@@ -3,7 +3,7 @@ use Rattle.std.specs.Prelude.{IfOk}
 use Rattle.yl_lexeme.specs.PlacedComments.{placed_comment_value}
 use Rattle.yl_sections.specs.Kept.{KeptValue}
 use Rattle.yl_lint.specs.TextReport.{comments_in_sections}
-use Rattle.yl_patch.proofs.SilencingSections.{come_few, come_is, come_within}
+use Rattle.yl_found.proofs.SilencingSections.{come_few, come_is, come_within}
 use Rattle.yl_patch.proofs.speaking.comments_come.Goals as goal
 
 pub overflow_add-end : goal.overflow_add-end

@@ -3,7 +3,7 @@ use Rattle.std.specs.Prelude.{IfOk}
 use Rattle.yl_lexeme.specs.PlacedComments.{placed_comment_value}
 use Rattle.yl_sections.specs.Kept.{KeptValue}
 use Rattle.yl_lint.specs.TextReport.{comments_in_sections}
-use Rattle.yl_patch.proofs.SilencingSections.{gone_within}
+use Rattle.yl_found.proofs.SilencingSections.{gone_within}
 use Rattle.yl_patch.proofs.speaking.comments_gone.Goals as goal
 
 pub comments_among-requires : goal.comments_among-requires

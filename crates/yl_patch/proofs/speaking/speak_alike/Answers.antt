@@ -1,5 +1,5 @@
 use Rattle.std.proofs.Common.{◌-◌, take, drop, sym, ◌∙◌}
-use Rattle.yl_patch.proofs.Given.{then_ok}
+use Rattle.yl_found.proofs.Given.{then_ok}
 use Rattle.yl_patch.proofs.Shown.{silent_alike, sound_alike}
 use Rattle.yl_patch.proofs.speaking.speak_alike.Goals as goal
 

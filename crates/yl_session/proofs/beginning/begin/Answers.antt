@@ -3,7 +3,7 @@ use Rattle.yl_sections.specs.Kept.{KeptValue}
 use Rattle.yl_lint.specs.TextReport.{records_of, report, report_by}
 use Rattle.yl_overview.specs.Overview.{AreOverviews, IsOverviewOf}
 use Rattle.yl_overview.specs.declared.overview.Overview.{Overview}
-use Rattle.yl_patch.specs.Found.{all_parts}
+use Rattle.yl_found.specs.Found.{all_parts}
 use Rattle.yl_session.proofs.Bounds.{are_few, itself}
 use Rattle.yl_session.proofs.beginning.begin.Goals as goal
 

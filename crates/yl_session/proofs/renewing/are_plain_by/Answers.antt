@@ -1,4 +1,4 @@
-use Rattle.yl_patch.proofs.WithoutFaults.{plain_faultless}
+use Rattle.yl_found.proofs.WithoutFaults.{plain_faultless}
 use Rattle.yl_session.proofs.renewing.are_plain_by.Goals as goal
 
 pub returns-clause-before : goal.returns-clause-before

@@ -1,6 +1,6 @@
 use Rattle.std.proofs.Common.{arith}
 use Rattle.std.specs.List.{splice}
-use Rattle.yl_patch.proofs.Given.{in_some}
+use Rattle.yl_found.proofs.Given.{in_some}
 use Rattle.yl_lint.proofs.FewLines.{few_lines}
 use Rattle.yl_session.proofs.Parts.{makes_patched}
 use Rattle.yl_session.proofs.renewing.change_of.Goals as goal

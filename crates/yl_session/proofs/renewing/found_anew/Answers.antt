@@ -5,9 +5,9 @@ use Rattle.yl_text.specs.Store.{AreLines}
 use Rattle.yl_sections.specs.Kept.{KeptValue}
 use Rattle.yl_lint.specs.TextReport.{report_by}
 use Rattle.yl_overview.specs.Overview.{IsOverviewOf}
-use Rattle.yl_patch.specs.Faultless.{faultless}
-use Rattle.yl_patch.specs.Found.{all_parts}
-use Rattle.yl_patch.specs.Plain.{IsPlain}
+use Rattle.yl_found.specs.Faultless.{faultless}
+use Rattle.yl_found.specs.Found.{all_parts}
+use Rattle.yl_found.specs.Plain.{IsPlain}
 use Rattle.yl_session.proofs.Parts.{makes_anew}
 use Rattle.yl_session.proofs.renewing.found_anew.Goals as goal
 

@@ -2,8 +2,8 @@ use Rattle.std.proofs.Common.{◌≡◌, List, ap, subst, sym, ◌∙◌}
 use Rattle.std.specs.List.{AllByRecursion, splice}
 use Rattle.yl_sections.specs.Kept.{KeptValue}
 use Rattle.yl_overview.specs.Overview.{AreOverviews}
-use Rattle.yl_patch.specs.Faultless.{faultless}
-use Rattle.yl_patch.specs.Plain.{IsPlain}
+use Rattle.yl_found.specs.Faultless.{faultless}
+use Rattle.yl_found.specs.Plain.{IsPlain}
 use Rattle.yl_session.specs.Parts.{Makes, known_text}
 use Rattle.yl_session.proofs.Parts.{known_after, plain_where, stays}
 use Rattle.yl_session.proofs.renewing.renewal_of.Goals as goal

@@ -1,0 +1,14 @@
+pub mod EachFound
+pub mod FaultFound
+pub mod Given
+pub mod Passing
+pub mod Pushed
+pub mod Ready
+pub mod ReportShown
+pub mod RuleKinds
+pub mod Said
+pub mod Sections
+pub mod ShownSections
+pub mod Shows
+pub mod SilencingSections
+pub mod WithoutFaults

@@ -1,0 +1,81 @@
+-- Sections as if none had a fault: what is found in them, and others in place of some.
+use Rattle.std.proofs.Common.{◌≡◌, ℕ, ◌+◌, ◌-◌, ◌<◌, true, List, [], ◌∷◌, ◌++◌, length, take, drop, get_or, refl, ap, sym, subst, ◌∙◌}
+use Rattle.std.specs.List.{AllByRecursion, splice}
+use Rattle.std.proofs.lemmas.List.{take-map, drop-map, map-append}
+use Rattle.yl_text.specs.Finding.{FindingValue}
+use Rattle.yl_lexeme.specs.Lexeme.{PlacedCommentValue}
+use Rattle.yl_indentation.specs.declared.fact.Fact.{Fact}
+use Rattle.yl_indentation.specs.declared.measure.Measure.{Measure}
+use Rattle.yl_indentation.specs.declared.options.IndentationOptions.{IndentationOptions}
+use Rattle.yl_indentation.specs.Measures.{and_later, measure_of}
+use Rattle.yl_sections.specs.Kept.{KeptValue}
+use Rattle.yl_rejudge.specs.Places.{rows_kept}
+use Rattle.yl_lint.specs.Onward.{onward_in_section, onward_in_sections}
+use Rattle.yl_lint.specs.TextReport.{facts_in_sections, findings_in_section, findings_in_sections}
+use Rattle.yl_found.specs.Faultless.{faultless, faultless_one}
+use Rattle.yl_found.specs.Plain.{IsPlain, IsWithin, is_kept_rule}
+use Rattle.yl_overview.specs.Overview.{IsSound}
+use Rattle.yl_overview.proofs.Walks.{all_both, measured, all_drop, all_take}
+use Rattle.yl_lint.proofs.Pushed.{one_at}
+
+-- ---- sections as if none had a fault
+
+pub sound_faultless : (ks : List KeptValue) → AllByRecursion IsSound (faultless ks)
+sound_faultless [] = tt
+sound_faultless (k ∷ ks) = (refl, sound_faultless ks)
+
+facts_faultless : (ks : List KeptValue) → facts_in_sections (faultless ks) ≡ facts_in_sections ks
+facts_faultless [] = refl
+facts_faultless (k ∷ ks) = ap (λ (fs : List Fact). k.facts ++ fs) (facts_faultless ks)
+
+pub measured_faultless : (ks : List KeptValue) → measured (faultless ks) ≡ measured ks
+measured_faultless ks = ap measure_of (facts_faultless ks)
+
+pub rows_faultless : (ks : List KeptValue) → rows_kept (faultless ks) ≡ rows_kept ks
+rows_faultless [] = refl
+rows_faultless (k ∷ ks) = ap (λ (n : ℕ). k.rows + n) (rows_faultless ks)
+
+pub findings_faultless : (o : IndentationOptions) (w : Measure) (line : ℕ) (before : Measure) (ks : List KeptValue)
+    → findings_in_sections o w line before (faultless ks) ≡ findings_in_sections o w line before ks
+findings_faultless o w line before [] = refl
+findings_faultless o w line before (k ∷ ks) =
+    ap (λ (fs : List FindingValue). findings_in_section o w line before k ++ fs) (findings_faultless o w (line + k.rows) (and_later before (measure_of k.facts)) ks)
+
+pub onward_faultless : (o : IndentationOptions) (line : ℕ) (before : Measure) (ks : List KeptValue) → onward_in_sections o line before (faultless ks) ≡ onward_in_sections o line before ks
+onward_faultless o line before [] = refl
+onward_faultless o line before (k ∷ ks) =
+    ap (λ (fs : List FindingValue). onward_in_section o line before k ++ fs) (onward_faultless o (line + k.rows) (and_later before (measure_of k.facts)) ks)
+
+pub faultless_between : (from end : ℕ) (ks : List KeptValue) → take (end - from) (drop from (faultless ks)) ≡ faultless (take (end - from) (drop from ks))
+faultless_between from end ks = ap (take (end - from)) (drop-map faultless_one from ks) ∙ take-map faultless_one (end - from) (drop from ks)
+
+pub splice_faultless : (ks ns : List KeptValue) (from end : ℕ) → splice (faultless ks) from end (faultless ns) ≡ faultless (splice ks from end ns)
+splice_faultless ks ns from end =
+    ap (λ (ls : List KeptValue). ls ++ (faultless ns ++ drop end (faultless ks))) (take-map faultless_one from ks)
+    ∙ (ap (λ (ls : List KeptValue). faultless (take from ks) ++ (faultless ns ++ ls)) (drop-map faultless_one end ks)
+    ∙ (ap (λ (ls : List KeptValue). faultless (take from ks) ++ ls) (sym (map-append faultless_one ns (drop end ks)))
+    ∙ sym (map-append faultless_one (take from ks) (ns ++ drop end ks))))
+
+pub plain_faultless : (ks ns : List KeptValue) (from end : ℕ) → AllByRecursion IsPlain (faultless ks) → AllByRecursion IsPlain (faultless ns) → AllByRecursion IsPlain (faultless (splice ks from end ns))
+plain_faultless ks ns from end p q =
+    subst (λ (ls : List KeptValue). AllByRecursion IsPlain ls) (splice_faultless ks ns from end)
+    (all_both IsPlain (take from (faultless ks)) (faultless ns ++ drop end (faultless ks)) (all_take IsPlain (faultless ks) from p)
+    (all_both IsPlain (faultless ns) (drop end (faultless ks)) q (all_drop IsPlain (faultless ks) end p)))
+
+-- those from one on
+pub all_below : (ks : List KeptValue) (end : ℕ) → AllByRecursion IsPlain (faultless ks) → AllByRecursion IsPlain (faultless (drop end ks))
+all_below ks end h = subst (λ (ls : List KeptValue). AllByRecursion IsPlain ls) (drop-map faultless_one end ks) (all_drop IsPlain (faultless ks) end h)
+
+-- one by one
+pub plain_but_by : (k : KeptValue) (rows : ℕ) (xs ys : List FindingValue) (fs : List Fact) (cs : List PlacedCommentValue) → rows ≡ k.rows → xs ≡ k.found → ys ≡ k.found → fs ≡ k.facts → cs ≡ k.comments
+    → AllByRecursion (IsWithin rows) xs → AllByRecursion (λ f. is_kept_rule f.rule ≡ true) ys → AllByRecursion (λ f. f.line < rows) fs → AllByRecursion (λ c. c.line < rows) cs → IsPlain (faultless_one k)
+plain_but_by k rows xs ys fs cs a d r e m found rules facts comments = record {
+  sound = refl;
+  found = subst (λ n. AllByRecursion (IsWithin n) k.found) a (subst (λ (zs : List FindingValue). AllByRecursion (IsWithin rows) zs) d found);
+  rules = subst (λ (zs : List FindingValue). AllByRecursion (λ f. is_kept_rule f.rule ≡ true) zs) r rules;
+  facts = subst (λ n. AllByRecursion (λ f. f.line < n) k.facts) a (subst (λ (zs : List Fact). AllByRecursion (λ f. f.line < rows) zs) e facts);
+  comments = subst (λ n. AllByRecursion (λ c. c.line < n) k.comments) a (subst (λ (zs : List PlacedCommentValue). AllByRecursion (λ c. c.line < rows) zs) m comments);
+}
+
+pub plain_but_next : (ks : List KeptValue) (i : ℕ) (k : KeptValue) → i < length ks → k ≡ get_or ks i k → IsPlain (faultless_one k) → AllByRecursion IsPlain (faultless (drop (i + 1) ks)) → AllByRecursion IsPlain (faultless (drop i ks))
+plain_but_next ks i k l is one rest = subst (λ (xs : List KeptValue). AllByRecursion IsPlain (faultless xs)) (sym (one_at ks i k l is)) (one, rest)

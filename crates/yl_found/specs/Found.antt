@@ -1,0 +1,42 @@
+-- Meaning: all that is found in a text, whatever comments silence and whatever its first fault hides, parted into what is shown and what is
+-- not; and the text's fault.
+use Rattle.std.specs.Prelude.{◌≡◌, Bool, List, Option, slice_get}
+use Rattle.std.specs.List.{AllByRecursion}
+use Rattle.yl_text.specs.Lines.{RowValue}
+use Rattle.yl_config.specs.declared.config.Config.{Config}
+use Rattle.yl_config.specs.Config.{levels_of}
+use Rattle.yl_report.specs.Directive.{disables_file, is_silenced}
+use Rattle.yl_report.specs.Heard.{nothing_silenced}
+use Rattle.yl_report.specs.Report.{ProblemValue, report_of}
+use Rattle.yl_sections.specs.Kept.{KeptValue}
+use Rattle.yl_rejudge.specs.Places.{rows_kept}
+use Rattle.yl_lint.specs.TextReport.{comments_in_sections, end_of_lines, fault_in_sections, first_text, report_by, shown}
+use Rattle.yl_lint.specs.Unsilenced.{unsilenced_by}
+use Rattle.yl_parting.specs.Parts.{PartsValue, parted, with_fault}
+use Rattle.yl_parting.specs.Showing.{shows}
+use Rattle.yl_found.specs.Faultless.{faultless}
+use Rattle.yl_found.specs.Plain.{IsPlain}
+
+-- all that is found in these lines, if this is kept of their sections, but no fault
+abbrev pub found_by : Config → List RowValue → List KeptValue → List ProblemValue
+found_by config rows ks = unsilenced_by config rows (faultless ks)
+
+-- it is shown: the first line does not silence the file, the comments that are shown do not silence it, and no fault hides it
+abbrev pub is_shown : List RowValue → List KeptValue → ProblemValue → Bool
+is_shown rows ks p = shows (disables_file (first_text rows)) (is_silenced (comments_in_sections 0 (shown ks))) (rows_kept (shown ks)) p
+
+-- what is found, in two lists
+abbrev pub parts_of : Config → List RowValue → List KeptValue → PartsValue
+parts_of config rows ks = parted (is_shown rows ks) (found_by config rows ks)
+
+-- the problem of the text's fault, if it has one that is told
+abbrev pub fault_told : Config → List RowValue → List KeptValue → Option ProblemValue
+fault_told config rows ks = slice_get (report_of (levels_of config) (disables_file (first_text rows)) nothing_silenced (fault_in_sections 0 (end_of_lines rows) ks)) 0
+
+-- both lists, with the fault in its place
+abbrev pub all_parts : Config → List RowValue → List KeptValue → PartsValue
+all_parts config rows ks = with_fault (fault_told config rows ks) (parts_of config rows ks)
+
+-- where sections are plain, their faults aside, the report is what is shown of both lists
+abbrev pub ReportIsShown : Type 0
+ReportIsShown = (config : Config) (rows : List RowValue) (ks : List KeptValue) → AllByRecursion IsPlain (faultless ks) → report_by config rows ks ≡ (all_parts config rows ks).shown

@@ -1,0 +1,4 @@
+pub mod Faultless
+pub mod Found
+pub mod Plain
+pub mod ShownUpto

@@ -1,0 +1,121 @@
+//! All that is found in a text, put together.
+ghost use Rattle.std.specs.Prelude.{◌≡◌, ◌++◌, true, map, IfOk, OnOk};
+ghost use Rattle.std.specs.List.{AllByRecursion};
+ghost use Rattle.yl_text.specs.Store.{AreLines};
+ghost use Rattle.yl_indentation.specs.Measures.{empty_measure, measure_of};
+ghost use Rattle.yl_parting.specs.Changes.{parts_in};
+ghost use Rattle.yl_lint.specs.TextReport.{facts_in_sections, findings_in_sections, report_by};
+ghost use Rattle.yl_found.specs.Faultless.{faultless};
+ghost use Rattle.yl_found.specs.Found.{all_parts, found_by};
+ghost use Rattle.yl_found.specs.Plain.{IsPlain, IsSurveyed};
+ghost use Rattle.yl_overview.specs.Overview.{IsOverviewOf};
+
+use crate::fault::fault_of;
+use crate::showing::showing_of;
+use std::alloc::{AllocError, Allocator};
+use yl_chunks::Spliced;
+use yl_config::Config;
+use yl_indentation::{IndentationOptions, Measure};
+use yl_lint::{find_in_lines, line_below, push_section, report_with_kept};
+use yl_overview::Overview;
+use yl_parting::FoundProblems;
+use yl_report::{Problem, Silences, arrange};
+use yl_sections::Kept;
+use yl_text::{Finding, Lines};
+
+/// What is kept of these sections, lent.
+fn lent_kept<'a, A: Allocator + Copy>(
+    alloc: A,
+    sections: &Spliced<'a, Kept<A>, A>,
+) -> Result<Vec<&'a Kept<A>, A>, AllocError>
+    ensures { IfOk result (λ all. map (λ k. k.now) all.items ≡ sections.now) }
+{
+    let mut all = Vec::new(alloc);
+    for i in 0..sections.len() {
+        all.push(sections.get(i))?;
+    }
+    Ok(all)
+}
+
+/// Puts what is found in all sections, whose facts have the measure `whole`, behind the rest.
+fn push_all<A: Allocator + Copy>(
+    alloc: A,
+    options: &IndentationOptions,
+    whole: Measure,
+    sections: &Spliced<'_, Kept<A>, A>,
+    found: &mut Vec<Finding<A>, A>,
+) -> Result<(), AllocError>
+    ensures { OnOk result (found.new.items ≡ found.old.items ++ findings_in_sections options.now whole 0 empty_measure sections.now) }
+{
+    let mut line = 0;
+    let mut before = Measure::empty();
+    for i in 0..sections.len() {
+        let one = sections.get(i);
+        push_section(alloc, options, whole, line, before, one, found)?;
+        line = line_below(line, one.rows())?;
+        before = before.and_later(one.measure());
+    }
+    Ok(())
+}
+
+/// All that is found in these lines, of whose sections this is kept and whose facts have the measure `whole`; but no fault.
+fn find_all<L: Lines>(
+    alloc: L::Alloc,
+    config: &Config,
+    lines: &L,
+    sections: &Spliced<'_, Kept<L::Alloc>, L::Alloc>,
+    whole: Measure,
+) -> Result<Vec<Problem<L::Alloc>, L::Alloc>, AllocError>
+    requires { whole ≡ measure_of (facts_in_sections sections.now) }
+    ensures { IfOk result (λ v. v.items ≡ found_by config.now (L.rows lines.now) sections.now) }
+{
+    let mut found = find_in_lines(alloc, config, lines)?;
+    let options = config.indentation_options();
+    push_all(alloc, options, whole, sections, &mut found)?;
+    arrange(alloc, found, config.levels(), &Silences::none(alloc))
+}
+
+/// The same, parted, and the fault in its place.
+fn part_all<L: Lines>(
+    alloc: L::Alloc,
+    config: &Config,
+    lines: &L,
+    sections: &Spliced<'_, Kept<L::Alloc>, L::Alloc>,
+    overview: Overview,
+) -> Result<FoundProblems<L::Alloc>, AllocError>
+    requires lines { AreLines (L.rows lines.now) }
+    requires overview { IsSurveyed sections.now overview }
+    ensures { IfOk result (λ f. parts_in f ≡ all_parts config.now (L.rows lines.now) sections.now) }
+{
+    let found = find_all(alloc, config, lines, sections, overview.whole)?;
+    let showing = showing_of(alloc, lines, sections, overview, sections.len())?;
+    let mut parts = FoundProblems::part(alloc, &showing, found)?;
+    let fault = fault_of(alloc, config, lines, sections, overview)?;
+    parts.add_fault(fault)?;
+    Ok(parts)
+}
+
+/// All that is found in these lines, of whose sections this is kept: what the report shows, and what else is found, where the sections are seen
+/// to be plain. The only error is out of memory.
+pub fn found_problems<L: Lines>(
+    alloc: L::Alloc,
+    config: &Config,
+    lines: &L,
+    sections: &Spliced<'_, Kept<L::Alloc>, L::Alloc>,
+    overview: Overview,
+    are_plain: bool,
+) -> Result<FoundProblems<L::Alloc>, AllocError>
+    requires lines { AreLines (L.rows lines.now) }
+    requires overview { IsOverviewOf sections.now overview }
+    requires plain { are_plain ≡ true → AllByRecursion IsPlain (faultless sections.now) }
+    ensures shown { IfOk result (λ f. f.shown.items ≡ report_by config.now (L.rows lines.now) sections.now) }
+    ensures plain { IfOk result (λ f. are_plain ≡ true → parts_in f ≡ all_parts config.now (L.rows lines.now) sections.now) }
+{
+    if are_plain {
+        return part_all(alloc, config, lines, sections, overview);
+    }
+    let all = lent_kept(alloc, sections)?;
+    let shown = report_with_kept(alloc, config, lines, &all)?;
+    let suppressed = Vec::new(alloc);
+    Ok(FoundProblems { shown, suppressed })
+}
