@@ -28,7 +28,7 @@ pub fn is_row_alike<A: Allocator + Copy>(
 ) -> Result<bool, AllocError>
     ensures { IfOk result (λ b. b ≡ true → IsRowAlike options.now old.now new.now) }
 {
-    if old.indentation() != new.indentation() || old.fault().is_some() || new.fault().is_some() {
+    if old.indentation() != new.indentation() || old.fault() != new.fault() {
         return Ok(false);
     }
     if are_same(old.lexemes(), new.lexemes()) {

@@ -73,7 +73,7 @@ fn are_rows_alike<A: Allocator + Copy>(
 }
 
 /// Whether a lexeme begins in one of the rows from one on to before `end`.
-fn hold_lexeme<A: Allocator + Copy>(
+pub fn hold_lexeme<A: Allocator + Copy>(
     records: &Spliced<'_, Record<A>, A>,
     from: usize,
     end: usize,
@@ -89,9 +89,8 @@ fn hold_lexeme<A: Allocator + Copy>(
     false
 }
 
-/// Whether it is seen that the same is kept of each section of the new records as of the old ones, and that a lexeme begins in a row from
-/// `from` on to before `end`, rows counted from 0. The records are the same above row `from`, and from row `end` on. It takes time with the
-/// rows between alone. The only error is out of memory.
+/// Whether it is seen that the same is kept of each section of the new records as of the old ones. The records are the same above row
+/// `from`, and from row `end` on, rows counted from 0. It takes time with the rows between alone. The only error is out of memory.
 pub fn keep_sections<A: Allocator + Copy>(
     alloc: A,
     config: &Config,
@@ -105,12 +104,8 @@ pub fn keep_sections<A: Allocator + Copy>(
     requires new { end ≤ length new.now }
     requires before { take from old.now.items ≡ take from new.now }
     requires behind { drop end old.now.items ≡ drop end new.now }
-    ensures kept { IfOk result (λ b. b ≡ true
+    ensures { IfOk result (λ b. b ≡ true
         → map (kept_of_section config.now) (sections old.now.items) ≡ map (kept_of_section config.now) (sections new.now)) }
-    ensures some { IfOk result (λ b. b ≡ true → HoldsLexeme new.now from end) }
 {
-    if !hold_lexeme(new, from, end) {
-        return Ok(false);
-    }
     are_rows_alike(alloc, &value_options(config), old, new, from, end)
 }

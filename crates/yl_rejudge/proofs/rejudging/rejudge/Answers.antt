@@ -1,8 +1,7 @@
-use Rattle.std.proofs.Common.{◌≡◌, ◌<◌, ℕ, List, [], ap, ◌∙◌, arith}
+use Rattle.std.proofs.Common.{◌≡◌, ℕ, List, [], ap, ◌∙◌}
 use Rattle.std.specs.List.{splice}
 use Rattle.std.proofs.lemmas.List.{take-append-drop}
 use Rattle.yl_sections.specs.Kept.{KeptValue}
-use Rattle.yl_rejudge.proofs.HeldRows.{held}
 use Rattle.yl_rejudge.proofs.rejudging.rejudge.Goals as goal
 
 -- nothing in place of nothing
@@ -11,12 +10,7 @@ nothing_put ks ns n e = ap (splice ks n n) e ∙ take-append-drop n ks
 
 pub returns-then-branch-clause-kept : goal.returns-then-branch-clause-kept
 returns-then-branch-clause-kept g c =
-    nothing_put c.args.kept.now.items c.new.result.items c.section_of-begin.result.section c.new.ensures.items ∙ (c.requires.kept ∙ c.in_ok-keep_sections.ensures.kept c.if-branch.true)
+    nothing_put c.args.kept.now.items c.new.result.items c.section_of-begin.result.section c.new.ensures.items ∙ (c.requires.kept ∙ c.in_ok-keep_sections.ensures c.if-branch.true)
 
 pub returns-then-branch-clause-documents : goal.returns-then-branch-clause-documents
-returns-then-branch-clause-documents g c = λ h m l.
-    let holds = c.in_ok-keep_sections.ensures.some c.if-branch.true in
-    let i : ℕ = holds.i in
-    let within : i < c.args.end = holds.within in
-    let one = held c.args.records.now c.args.from m i holds.row holds.there holds.above (omega (arith, within, l)) holds.some in
-    omega (arith, one)
+returns-then-branch-clause-documents g c = λ h m l. c.count_kept.ensures.documents m l

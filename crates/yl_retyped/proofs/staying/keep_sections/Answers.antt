@@ -7,8 +7,8 @@ answered : {T E : Type 0} (r : Result T E) (P Q : T → Type 0) → ((x : T) →
 answered (Ok x) P Q f h = f x h
 answered (Err e) P Q f h = h
 
-pub returns-clause-kept : goal.returns-clause-kept
-returns-clause-kept g c = answered c.are_rows_alike.result _ _
+pub returns : goal.returns
+returns g c = answered c.are_rows_alike.result _ _
     (λ b alike t. sections_kept c.args.config.now c.value_options.result c.args.old.now.items c.args.new.now c.args.from c.args.end (sym c.value_options.ensures.truthy) (sym c.value_options.ensures.quoted) c.requires.range c.requires.old c.requires.new
     c.requires.before c.requires.behind (alike t))
     c.are_rows_alike.ensures
