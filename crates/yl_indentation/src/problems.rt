@@ -34,6 +34,9 @@ fn width(options: &IndentationOptions, here: Measure, flush: bool) -> Option<u32
     }
 }
 
+/// As many bytes as a message has whose columns are below a thousand, so that it grows once.
+const MESSAGE_BYTES: usize = 48;
+
 /// What is said of a lexeme that is not in the column in which it is expected.
 fn other_column_text<A: Allocator + Copy>(
     alloc: A,
@@ -44,7 +47,9 @@ fn other_column_text<A: Allocator + Copy>(
         ≡ codes "wrong indentation: expected "
         ++ (decimal expected ++ (codes " but found " ++ decimal column))) }
 {
-    format!(in alloc; "wrong indentation: expected {expected} but found {column}")
+    let mut text = String::with_capacity(alloc, MESSAGE_BYTES)?;
+    write!(text, "wrong indentation: expected {expected} but found {column}")?;
+    Ok(text)
 }
 
 /// What is said of a lexeme before the first column in which it may be.
@@ -52,7 +57,9 @@ fn least_column_text<A: Allocator + Copy>(alloc: A, least: u64) -> Result<String
     ensures { IfOk result (λ text. string_bytes text
         ≡ codes "wrong indentation: expected at least " ++ decimal least) }
 {
-    format!(in alloc; "wrong indentation: expected at least {least}")
+    let mut text = String::with_capacity(alloc, MESSAGE_BYTES)?;
+    write!(text, "wrong indentation: expected at least {least}")?;
+    Ok(text)
 }
 
 /// Adds the problem of a fact that is not in this column.

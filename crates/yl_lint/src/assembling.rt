@@ -6,7 +6,7 @@ ghost use Rattle.yl_lint.specs.TextReport.{facts_in_sections, findings_in_sectio
 
 use crate::comments::comments_in_sections;
 use crate::fault::push_fault;
-use crate::moving::{line_below, push_moved};
+use crate::moving::{line_below, push_copies, push_moved};
 use std::alloc::{AllocError, Allocator};
 use yl_config::Config;
 use yl_indentation::{IndentationOptions, Measure, indent_problems};
@@ -52,7 +52,7 @@ pub fn push_indentation<A: Allocator + Copy>(
     ensures { OnOk result (found.new.items ≡ found.old.items ++ map (moved line) (indent_problems options.now before whole kept.now.facts)) }
 {
     let indented = indent_problems(alloc, kept.facts(), options, before, whole)?;
-    push_moved(alloc, line, &indented, found)
+    push_moved(line, indented, found)
 }
 
 /// Puts what is found in a section that begins at `line` behind the rest. `before` is the measure of the facts of the sections before it,
@@ -68,7 +68,7 @@ pub fn push_section<A: Allocator + Copy>(
 ) -> Result<(), AllocError>
     ensures { OnOk result (found.new.items ≡ found.old.items ++ findings_in_section options.now whole line before kept.now) }
 {
-    push_moved(alloc, line, kept.found(), found)?;
+    push_copies(alloc, line, kept.found(), found)?;
     push_indentation(alloc, options, whole, line, before, kept, found)
 }
 

@@ -12,27 +12,40 @@ pub fn line_below(line: u32, down: u32) -> Result<u32, AllocError>
     line.checked_add(down).ok_or(AllocError)
 }
 
-/// A copy that stands `line` lines further down.
-fn moved<A: Allocator>(alloc: A, line: u32, found: &Finding<A>) -> Result<Finding<A>, AllocError>
-    ensures { IfOk result (λ f. f ≡ moved line found.now) }
+/// The line of what is found, `down` lines further down, answered so too where there is none.
+fn line_of<A: Allocator>(down: u32, found: &Finding<A>) -> Result<u64, AllocError>
+    ensures { IfOk result (λ n. n ≡ down + found.now.line) }
 {
-    let Some(at) = u64::from(line).checked_add(found.line()) else {
-        return Err(AllocError);
-    };
-    found.copy_at(alloc, at)
+    u64::from(down).checked_add(found.line()).ok_or(AllocError)
 }
 
-/// Puts copies of these behind what was found, each `line` lines further down.
-pub fn push_moved<A: Allocator + Copy>(
+/// Puts these, each `down` lines further down, behind what was found.
+pub fn push_moved<A: Allocator>(
+    down: u32,
+    from: Vec<Finding<A>, A>,
+    found: &mut Vec<Finding<A>, A>,
+) -> Result<(), AllocError>
+    ensures { OnOk result (found.new.items ≡ found.old.items ++ map (moved down) from.items) }
+{
+    for one in from {
+        let line = line_of(down, &one)?;
+        found.push(one.at_line(line))?;
+    }
+    Ok(())
+}
+
+/// Puts copies of these, each `down` lines further down, behind what was found.
+pub fn push_copies<A: Allocator + Copy>(
     alloc: A,
-    line: u32,
+    down: u32,
     from: &[Finding<A>],
     found: &mut Vec<Finding<A>, A>,
 ) -> Result<(), AllocError>
-    ensures { OnOk result (found.new.items ≡ found.old.items ++ map (moved line) from.now) }
+    ensures { OnOk result (found.new.items ≡ found.old.items ++ map (moved down) from.now) }
 {
     for one in from {
-        found.push(moved(alloc, line, one)?)?;
+        let line = line_of(down, one)?;
+        found.push(one.copy_at(alloc, line)?)?;
     }
     Ok(())
 }

@@ -100,7 +100,7 @@ fn find_in_lines_there<L: Lines>(
 {
     let in_lines = find_in_some_lines(alloc, config, ends, lines)?;
     let mut found = Vec::new(alloc);
-    push_moved(alloc, down, &in_lines, &mut found)?;
+    push_moved(down, in_lines, &mut found)?;
     Ok(found)
 }
 

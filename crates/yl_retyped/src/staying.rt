@@ -72,14 +72,15 @@ fn are_rows_alike<A: Allocator + Copy>(
     Ok(true)
 }
 
-/// Whether a lexeme begins in one of the rows from one on to before `end`.
+/// Whether a lexeme begins in one of the rows from `from` on to before `end`, counted from 0.
 pub fn hold_lexeme<A: Allocator + Copy>(
     records: &Spliced<'_, Record<A>, A>,
     from: usize,
     end: usize,
 ) -> bool
     requires { end ≤ length records.now }
-    ensures { result ≡ true → HoldsLexeme records.now from end }
+    ensures some { result ≡ true → HoldsLexeme records.now from end }
+    ensures none { result ≡ false → ¬ (HoldsLexeme records.now from end) }
 {
     for i in from..end {
         if !records.get(i).lexemes().is_empty() {

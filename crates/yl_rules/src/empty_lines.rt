@@ -44,6 +44,9 @@ fn most(options: &EmptyLinesOptions, at_start: bool, at_end: bool) -> u32
     }
 }
 
+/// As many bytes as a message has that names runs of fewer than ten million lines, so that it grows once.
+const MESSAGE_BYTES: usize = 40;
+
 /// The problem of a run of so many lines, of which the last has this number, from 1.
 fn too_many<A: Allocator + Copy>(
     alloc: A,
@@ -56,7 +59,8 @@ fn too_many<A: Allocator + Copy>(
     if run <= most as usize {
         return Ok(None);
     }
-    let message = format!(in alloc; "too many blank lines ({run} > {most})")?;
+    let mut message = String::with_capacity(alloc, MESSAGE_BYTES)?;
+    write!(message, "too many blank lines ({run} > {most})")?;
     Ok(Some(Finding::new(line as u64, 1, RuleId::EmptyLines, message)))
 }
 

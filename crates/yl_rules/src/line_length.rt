@@ -37,6 +37,9 @@ fn is_non_breakable(text: &str) -> bool
     is_one_word(inner)
 }
 
+/// As many bytes as a message has that names lines of fewer than a million characters, so that it grows once.
+const MESSAGE_BYTES: usize = 48;
+
 /// The problem of a line, if it is too long. A line of few bytes has no more characters.
 pub(crate) fn line_length_problem<A: Allocator + Copy>(
     alloc: A,
@@ -51,6 +54,7 @@ pub(crate) fn line_length_problem<A: Allocator + Copy>(
     if width <= max as usize || options.allow_non_breakable_words && is_non_breakable(text) {
         return Ok(None);
     }
-    let message = format!(in alloc; "line too long ({width} > {max} characters)")?;
+    let mut message = String::with_capacity(alloc, MESSAGE_BYTES)?;
+    write!(message, "line too long ({width} > {max} characters)")?;
     Ok(Some(Finding::new(line, max as u64 + 1, RuleId::LineLength, message)))
 }

@@ -162,6 +162,13 @@ impl<A: Allocator> Finding<A> {
         self.message.as_str()
     }
 
+    /// The same in this line, counted from 1. It takes no memory.
+    pub fn at_line(self, line: u64) -> Finding<A>
+        ensures { result ≡ record { line = line; column = self.column; rule = self.rule; message = self.message } }
+    {
+        Finding { line, ..self }
+    }
+
     /// A copy that stands in this line, counted from 1. Where what is said never varies, it takes no memory. The only
     /// error is out of memory.
     pub fn copy_at(&self, alloc: A, line: u64) -> Result<Finding<A>, AllocError>
