@@ -12,7 +12,7 @@ pub fn line_below(line: u32, down: u32) -> Result<u32, AllocError>
     line.checked_add(down).ok_or(AllocError)
 }
 
-/// The line of what is found, `down` lines further down, answered so too where there is none.
+/// The line of what is found, `down` lines further down. Where there is no such line, that is answered as out of memory too.
 fn line_of<A: Allocator>(down: u32, found: &Finding<A>) -> Result<u64, AllocError>
     ensures { IfOk result (λ n. n ≡ down + found.now.line) }
 {
@@ -27,9 +27,10 @@ pub fn push_moved<A: Allocator>(
 ) -> Result<(), AllocError>
     ensures { OnOk result (found.new.items ≡ found.old.items ++ map (moved down) from.items) }
 {
-    for one in from {
+    for mut one in from {
         let line = line_of(down, &one)?;
-        found.push(one.at_line(line))?;
+        one.set_line(line);
+        found.push(one)?;
     }
     Ok(())
 }

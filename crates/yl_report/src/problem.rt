@@ -6,8 +6,6 @@ use yl_text::{Finding, RuleId};
 /// A problem of a report. Its line and its column count from 1, the column in characters.
 #[derive(Drop)]
 pub struct Problem<A: Allocator> {
-    line: u64,
-    // What was found; where it now stands is `line`.
     found: Finding<A>,
     level: Level,
 }
@@ -17,7 +15,7 @@ impl<A: Allocator> Model for Problem<A> {
 
     ghost Value = { ProblemValue };
 
-    ghost view = { λ p. record { line = p.line; column = p.found.column; level = p.level; rule = p.found.rule; message = p.found.message } };
+    ghost view = { λ p. record { line = p.found.line; column = p.found.column; level = p.level; rule = p.found.rule; message = p.found.message } };
 }
 
 impl<A: Allocator> Problem<A> {
@@ -28,22 +26,21 @@ impl<A: Allocator> Problem<A> {
     pub fn new(found: Finding<A>, level: Level) -> Problem<A>
         ensures { result ≡ record { line = found.line; column = found.column; level = level; rule = found.rule; message = found.message } }
     {
-        let line = found.line();
-        Problem { line, found, level }
+        Problem { found, level }
     }
 
     /// The line, counted from 1.
     pub fn line(&self) -> u64
         ensures { result ≡ self.now.line }
     {
-        self.line
+        self.found.line()
     }
 
     /// Puts it in this line. It takes no memory.
     pub fn set_line(&mut self, line: u64)
         ensures { self.new ≡ record { line = line; column = self.old.column; level = self.old.level; rule = self.old.rule; message = self.old.message } }
     {
-        self.line = line;
+        self.found.set_line(line);
     }
 
     /// The column, counted from 1 in characters.

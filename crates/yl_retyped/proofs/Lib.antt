@@ -11,3 +11,4 @@ pub mod Findings
 pub mod OneRow
 pub mod Cut
 pub mod AllRows
+pub mod NoneHeld

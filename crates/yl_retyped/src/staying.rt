@@ -1,11 +1,11 @@
 //! Sections of which the same is kept, since their rows say the same to the rules.
-ghost use Rattle.std.specs.Prelude.{◌≡◌, ◌≤◌, true, None, length, map, take, drop, IfOk};
+ghost use Rattle.std.specs.Prelude.{◌≡◌, ◌≤◌, true, false, None, length, map, take, drop, IfOk};
 ghost use Rattle.yl_text.specs.declared.finding.RuleId.TheVariants.{QuotedStrings, Truthy};
 ghost use Rattle.yl_config.specs.Config.{options_of};
 ghost use Rattle.yl_sections.specs.Kept.{is_on, options_if};
 ghost use Rattle.yl_sections.specs.Judge.{kept_of_section};
 ghost use Rattle.yl_sections.specs.Sections.{sections};
-ghost use Rattle.yl_retyped.specs.Holds.{HoldsLexeme};
+ghost use Rattle.yl_retyped.specs.Holds.{HoldsLexeme, HoldsNone};
 ghost use Rattle.yl_retyped.specs.Rows.{AreRowsAlike};
 
 use crate::rows::is_row_alike;
@@ -80,7 +80,7 @@ pub fn hold_lexeme<A: Allocator + Copy>(
 ) -> bool
     requires { end ≤ length records.now }
     ensures some { result ≡ true → HoldsLexeme records.now from end }
-    ensures none { result ≡ false → ¬ (HoldsLexeme records.now from end) }
+    ensures none { result ≡ false → HoldsNone records.now from end }
 {
     for i in from..end {
         if !records.get(i).lexemes().is_empty() {

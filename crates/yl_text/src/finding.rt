@@ -162,11 +162,11 @@ impl<A: Allocator> Finding<A> {
         self.message.as_str()
     }
 
-    /// The same in this line, counted from 1. It takes no memory.
-    pub fn at_line(self, line: u64) -> Finding<A>
-        ensures { result ≡ record { line = line; column = self.column; rule = self.rule; message = self.message } }
+    /// Puts it in this line, counted from 1. It takes no memory.
+    pub fn set_line(&mut self, line: u64)
+        ensures { self.new ≡ record { line = line; column = self.old.column; rule = self.old.rule; message = self.old.message } }
     {
-        Finding { line, ..self }
+        self.line = line;
     }
 
     /// A copy that stands in this line, counted from 1. Where what is said never varies, it takes no memory. The only
