@@ -48,7 +48,10 @@ fn other_column_text<A: Allocator + Copy>(
         ++ (decimal expected ++ (codes " but found " ++ decimal column))) }
 {
     let mut text = String::with_capacity(alloc, MESSAGE_BYTES)?;
-    write!(text, "wrong indentation: expected {expected} but found {column}")?;
+    write!(
+        text,
+        "wrong indentation: expected {expected} but found {column}"
+    )?;
     Ok(text)
 }
 

@@ -16,4 +16,4 @@ none_upto rs from i row there none h = λ j other above within at. elim (cases_l
       let here : j ≡ i = omega (arith, within, beyond) in
       let same : other ≡ row = cc in
       ap (λ (r : RecordValue). r.entry.lexemes) same ∙ none
-  ]
+]
