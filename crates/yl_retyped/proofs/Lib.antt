@@ -11,4 +11,3 @@ pub mod Findings
 pub mod OneRow
 pub mod Cut
 pub mod AllRows
-pub mod NoneHeld

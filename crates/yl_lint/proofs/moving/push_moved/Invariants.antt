@@ -1,6 +1,6 @@
-use Rattle.std.proofs.Common.{◌≡◌, ◌++◌, map, drop}
+use Rattle.std.proofs.Common.{◌≡◌, ◌++◌, map}
 use Rattle.yl_lint.specs.TextReport.{moved}
 use Rattle.yl_lint.proofs.moving.push_moved.Given as goal
 
 abbrev pub invariant-loop-one : goal.invariant-loop-one
-invariant-loop-one g l = l.found.items ++ map (moved l.line) (drop l.one-index l.from) ≡ l.fn.found.items ++ map (moved l.line) l.from
+invariant-loop-one g l = l.found.items ++ map (moved l.down) l.one-iterator.rest.items ≡ l.fn.found.items ++ map (moved l.down) l.fn.from.items
