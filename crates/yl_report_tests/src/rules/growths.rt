@@ -64,7 +64,7 @@ fn each_growth_of_a_row(rt: HostRuntime) -> Result<(), Fail> {
     check(
         &rt,
         &runs,
-        3,
+        2,
         "4:4 trailing-spaces trailing spaces\n4:3 line-length line too long (4 > 2 characters)\n",
     );
     Ok(())
@@ -181,7 +181,7 @@ fn each_growth_of_a_text(rt: HostRuntime) -> Result<(), Fail> {
     check(
         &rt,
         &runs,
-        5,
+        3,
         "1:1 new-lines wrong new line character: expected \\n\n2:1 empty-lines too many blank lines (2 > 0)\n6:1 empty-lines too many blank lines (3 > 2)\n7:2 new-line-at-end-of-file no new line character at the end of file\n",
     );
     Ok(())
