@@ -4,6 +4,7 @@ pub mod Columns
 pub mod Computed
 pub mod Cut
 pub mod Edited
+pub mod Every
 pub mod Fitting
 pub mod LineEdits
 pub mod OneAnswer
