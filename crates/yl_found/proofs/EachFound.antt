@@ -2,6 +2,7 @@
 use Rattle.std.proofs.Common.{◌≡◌, ℕ, ◌-◌, ◌<◌, ◌≤◌, ◌^◌, Bool, true, false, List, [], ◌∷◌, ◌++◌, length, ap, sym, subst, ◌∙◌, arith, ◌⊎◌, inl, inr}
 use Rattle.std.specs.Prelude.{not, slice_get, IfSome}
 use Rattle.std.specs.List.{AllByRecursion, filter}
+use Rattle.yl_text.proofs.Every.{all_both, all_filter, all_then}
 use Rattle.yl_text.specs.Finding.{FindingValue}
 use Rattle.yl_text.specs.Lines.{RowValue}
 use Rattle.yl_text.specs.declared.finding.RuleId.TheVariants.{Syntax}
@@ -27,11 +28,10 @@ use Rattle.yl_found.specs.Found.{fault_told, found_by, is_shown, parts_of}
 use Rattle.yl_found.specs.Plain.{IsPlain, is_of_section}
 use Rattle.yl_found.proofs.RuleKinds.{in_lines_of, in_sections_of, lines_no_fault, section_no_fault}
 use Rattle.yl_lint.proofs.LineParts.{Between, between_both, empty_lines_between, end_of_file_between, new_lines_between, rows_between}
-use Rattle.yl_parting.proofs.Ordered.{all_filter, all_then, filter_all, filter_swap}
+use Rattle.yl_parting.proofs.Ordered.{filter_all, filter_swap}
 use Rattle.yl_found.proofs.Passing.{all_report}
 use Rattle.yl_found.proofs.ReportShown.{fault_of_all, found_whole}
 use Rattle.yl_found.proofs.Sections.{between_wider, sections_between}
-use Rattle.yl_overview.proofs.Walks.{all_both}
 use Rattle.yl_found.proofs.WithoutFaults.{rows_faultless}
 
 -- ---- lines

@@ -8,6 +8,7 @@ pub mod ReportShown
 pub mod RuleKinds
 pub mod Said
 pub mod Sections
+pub mod SectionsPlain
 pub mod ShownSections
 pub mod Shows
 pub mod SilencingSections

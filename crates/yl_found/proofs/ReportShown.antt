@@ -5,6 +5,7 @@ use Rattle.std.specs.List.{AllByRecursion, filter}
 use Rattle.std.proofs.lemmas.Bool.{lt-ltb, le-ltb}
 use Rattle.std.proofs.lemmas.List.{map-append}
 use Rattle.std.proofs.lemmas.List.Elements.{filter-append}
+use Rattle.yl_text.proofs.Every.{all_back, all_front, all_then}
 use Rattle.yl_text.specs.Finding.{FindingValue}
 use Rattle.yl_text.specs.Lines.{RowValue}
 use Rattle.yl_text.specs.declared.finding.RuleId.{RuleId}
@@ -28,7 +29,7 @@ use Rattle.yl_lint.proofs.Onward.{whole_looks_back}
 use Rattle.yl_parting.specs.Parts.{parted, with_fault}
 use Rattle.yl_parting.specs.Showing.{is_hidden, is_of_lines, shows}
 use Rattle.yl_parting.proofs.Faults.{fault_comes}
-use Rattle.yl_parting.proofs.Ordered.{all_then, filter_all, filter_none}
+use Rattle.yl_parting.proofs.Ordered.{filter_all, filter_none}
 use Rattle.yl_found.specs.Faultless.{faultless, faultless_one}
 use Rattle.yl_found.specs.Found.{all_parts, fault_told, found_by}
 use Rattle.yl_found.specs.Plain.{IsPlain, is_of_section}
@@ -36,7 +37,7 @@ use Rattle.yl_found.proofs.RuleKinds.{AreOf, in_lines_of, in_sections_of, lines_
 use Rattle.yl_lint.proofs.LineParts.{Between}
 use Rattle.yl_found.proofs.Passing.{filter_both, filter_report}
 use Rattle.yl_found.proofs.Sections.{no_fault, sections_between, sections_both, shown_plain}
-use Rattle.yl_overview.proofs.Walks.{all_back, all_front, measured}
+use Rattle.yl_overview.proofs.Walks.{measured}
 use Rattle.yl_found.proofs.WithoutFaults.{onward_faultless, rows_faultless}
 
 -- ---- sections that are shown, and those behind the first with a fault

@@ -4,6 +4,7 @@ use Rattle.std.specs.Prelude.{◌&&◌, ◌||◌, not, slice_get}
 use Rattle.std.specs.List.{AllByRecursion, prefix_len}
 use Rattle.std.specs.Str.{chars}
 use Rattle.std.proofs.lemmas.Bool.{and_parts}
+use Rattle.yl_text.proofs.Every.{all_both, all_then}
 use Rattle.yl_text.specs.Finding.{FindingValue, one_finding, at_each}
 use Rattle.yl_text.specs.Lines.{RowValue}
 use Rattle.yl_text.specs.declared.finding.RuleId.{RuleId}
@@ -35,9 +36,7 @@ use Rattle.yl_lint.specs.TextReport.{findings_from, findings_in_lines, moved}
 use Rattle.yl_lint.specs.There.{lines_there}
 use Rattle.yl_lint.specs.declared.there.Ends.{Ends}
 use Rattle.yl_parting.specs.Showing.{is_indentation, is_of_lines}
-use Rattle.yl_parting.proofs.Ordered.{all_then}
 use Rattle.yl_found.specs.Plain.{IsPlain, is_kept_rule, is_of_section}
-use Rattle.yl_overview.proofs.Walks.{all_both}
 
 -- ---- rules
 

@@ -2,6 +2,7 @@
 use Rattle.std.proofs.Common.{◌≡◌, ℕ, ◌+◌, ◌<◌, ◌≤◌, Bool, true, false, List, [], ◌∷◌, ◌++◌, map, Option, Some, None, refl, ap, sym, ◌∙◌, arith, append_assoc, if◌then◌else◌}
 use Rattle.std.specs.List.{AllByRecursion}
 use Rattle.std.proofs.lemmas.List.{map-append}
+use Rattle.yl_text.proofs.Every.{all_both}
 use Rattle.yl_text.specs.declared.position.Pos.{Pos}
 use Rattle.yl_text.specs.declared.finding.RuleId.{RuleId}
 use Rattle.yl_text.specs.Finding.{FindingValue, one_finding}
@@ -22,7 +23,7 @@ use Rattle.yl_lint.specs.TextReport.{moved, shown, unless_fault, fault_or_later,
 use Rattle.yl_lint.specs.Onward.{onward_in_section, onward_in_sections}
 use Rattle.yl_found.specs.Plain.{IsPlain}
 use Rattle.yl_overview.specs.Overview.{IsSilent}
-use Rattle.yl_overview.proofs.Walks.{all_both, measured}
+use Rattle.yl_overview.proofs.Walks.{measured}
 use Rattle.yl_lint.proofs.LineParts.{Between, between_both}
 use Rattle.yl_lint.proofs.Pushed.{sections_moved}
 

@@ -3,6 +3,7 @@ use Rattle.std.proofs.Common.{◌≡◌, ℕ, suc, ◌+◌, ◌-◌, ◌<◌, �
 use Rattle.std.specs.List.{AllByRecursion, splice}
 use Rattle.std.proofs.lemmas.Bool.{cases_lt}
 use Rattle.std.proofs.lemmas.List.{same_lists, places, length-take}
+use Rattle.yl_text.proofs.Every.{all_both, all_drop, all_take}
 use Rattle.yl_lexeme.specs.Lexeme.{PlacedCommentValue}
 use Rattle.yl_sections.specs.Kept.{KeptValue}
 use Rattle.yl_rejudge.specs.Places.{rows_kept}
@@ -10,7 +11,6 @@ use Rattle.yl_lint.specs.TextReport.{comments_in_sections, moved_comment}
 use Rattle.yl_overview.specs.Overview.{AreFew, IsSilencingOf, IsSilent}
 use Rattle.yl_overview.specs.declared.overview.Silencing.{Silencing}
 use Rattle.yl_found.proofs.Sections.{comments_both, no_comments}
-use Rattle.yl_overview.proofs.Walks.{all_both, all_drop, all_take}
 use Rattle.yl_lint.proofs.Pushed.{one_at}
 
 abbrev Silent : List KeptValue → Type 0

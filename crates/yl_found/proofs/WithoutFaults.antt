@@ -1,9 +1,9 @@
 -- Sections as if none had a fault: what is found in them, and others in place of some.
-use Rattle.std.proofs.Common.{◌≡◌, ℕ, ◌+◌, ◌-◌, ◌<◌, true, List, [], ◌∷◌, ◌++◌, length, take, drop, get_or, refl, ap, sym, subst, ◌∙◌}
+use Rattle.std.proofs.Common.{◌≡◌, ℕ, ◌+◌, ◌-◌, List, [], ◌∷◌, ◌++◌, take, drop, refl, ap, sym, subst, ◌∙◌}
 use Rattle.std.specs.List.{AllByRecursion, splice}
 use Rattle.std.proofs.lemmas.List.{take-map, drop-map, map-append}
+use Rattle.yl_text.proofs.Every.{all_drop}
 use Rattle.yl_text.specs.Finding.{FindingValue}
-use Rattle.yl_lexeme.specs.Lexeme.{PlacedCommentValue}
 use Rattle.yl_indentation.specs.declared.fact.Fact.{Fact}
 use Rattle.yl_indentation.specs.declared.measure.Measure.{Measure}
 use Rattle.yl_indentation.specs.declared.options.IndentationOptions.{IndentationOptions}
@@ -13,10 +13,9 @@ use Rattle.yl_rejudge.specs.Places.{rows_kept}
 use Rattle.yl_lint.specs.Onward.{onward_in_section, onward_in_sections}
 use Rattle.yl_lint.specs.TextReport.{facts_in_sections, findings_in_section, findings_in_sections}
 use Rattle.yl_found.specs.Faultless.{faultless, faultless_one}
-use Rattle.yl_found.specs.Plain.{IsPlain, IsWithin, is_kept_rule}
+use Rattle.yl_found.specs.Plain.{IsPlain}
 use Rattle.yl_overview.specs.Overview.{IsSound}
-use Rattle.yl_overview.proofs.Walks.{all_both, measured, all_drop, all_take}
-use Rattle.yl_lint.proofs.Pushed.{one_at}
+use Rattle.yl_overview.proofs.Walks.{measured}
 
 -- ---- sections as if none had a fault
 
@@ -56,26 +55,6 @@ splice_faultless ks ns from end =
     ∙ (ap (λ (ls : List KeptValue). faultless (take from ks) ++ ls) (sym (map-append faultless_one ns (drop end ks)))
     ∙ sym (map-append faultless_one (take from ks) (ns ++ drop end ks))))
 
-pub plain_faultless : (ks ns : List KeptValue) (from end : ℕ) → AllByRecursion IsPlain (faultless ks) → AllByRecursion IsPlain (faultless ns) → AllByRecursion IsPlain (faultless (splice ks from end ns))
-plain_faultless ks ns from end p q =
-    subst (λ (ls : List KeptValue). AllByRecursion IsPlain ls) (splice_faultless ks ns from end)
-    (all_both IsPlain (take from (faultless ks)) (faultless ns ++ drop end (faultless ks)) (all_take IsPlain (faultless ks) from p)
-    (all_both IsPlain (faultless ns) (drop end (faultless ks)) q (all_drop IsPlain (faultless ks) end p)))
-
 -- those from one on
 pub all_below : (ks : List KeptValue) (end : ℕ) → AllByRecursion IsPlain (faultless ks) → AllByRecursion IsPlain (faultless (drop end ks))
 all_below ks end h = subst (λ (ls : List KeptValue). AllByRecursion IsPlain ls) (drop-map faultless_one end ks) (all_drop IsPlain (faultless ks) end h)
-
--- one by one
-pub plain_but_by : (k : KeptValue) (rows : ℕ) (xs ys : List FindingValue) (fs : List Fact) (cs : List PlacedCommentValue) → rows ≡ k.rows → xs ≡ k.found → ys ≡ k.found → fs ≡ k.facts → cs ≡ k.comments
-    → AllByRecursion (IsWithin rows) xs → AllByRecursion (λ f. is_kept_rule f.rule ≡ true) ys → AllByRecursion (λ f. f.line < rows) fs → AllByRecursion (λ c. c.line < rows) cs → IsPlain (faultless_one k)
-plain_but_by k rows xs ys fs cs a d r e m found rules facts comments = record {
-  sound = refl;
-  found = subst (λ n. AllByRecursion (IsWithin n) k.found) a (subst (λ (zs : List FindingValue). AllByRecursion (IsWithin rows) zs) d found);
-  rules = subst (λ (zs : List FindingValue). AllByRecursion (λ f. is_kept_rule f.rule ≡ true) zs) r rules;
-  facts = subst (λ n. AllByRecursion (λ f. f.line < n) k.facts) a (subst (λ (zs : List Fact). AllByRecursion (λ f. f.line < rows) zs) e facts);
-  comments = subst (λ n. AllByRecursion (λ c. c.line < n) k.comments) a (subst (λ (zs : List PlacedCommentValue). AllByRecursion (λ c. c.line < rows) zs) m comments);
-}
-
-pub plain_but_next : (ks : List KeptValue) (i : ℕ) (k : KeptValue) → i < length ks → k ≡ get_or ks i k → IsPlain (faultless_one k) → AllByRecursion IsPlain (faultless (drop (i + 1) ks)) → AllByRecursion IsPlain (faultless (drop i ks))
-plain_but_next ks i k l is one rest = subst (λ (xs : List KeptValue). AllByRecursion IsPlain (faultless xs)) (sym (one_at ks i k l is)) (one, rest)

@@ -1,4 +1,5 @@
--- Meaning: sections whose part in a report is theirs alone: what is found in them, and the comments that silence, stand in their own lines.
+-- Bridge: sections whose part in a report is theirs alone: what is found in them, and the comments that silence, stand in their own lines.
+-- Each section is such a one, its fault aside, whatever its rows are.
 use Rattle.std.specs.Prelude.{◌≡◌, ◌<◌, ◌≤◌, ℕ, Bool, true, not, ◌&&◌, List, None}
 use Rattle.std.specs.List.{AllByRecursion}
 use Rattle.yl_text.specs.declared.finding.RuleId.{RuleId}

@@ -1,14 +1,11 @@
 //! All that is found in a text, put together.
-ghost use Rattle.std.specs.Prelude.{◌≡◌, ◌++◌, true, map, IfOk, OnOk};
-ghost use Rattle.std.specs.List.{AllByRecursion};
+ghost use Rattle.std.specs.Prelude.{◌≡◌, ◌++◌, IfOk, OnOk};
 ghost use Rattle.yl_text.specs.Store.{AreLines};
 ghost use Rattle.yl_indentation.specs.Measures.{empty_measure, measure_of};
 ghost use Rattle.yl_parting.specs.Changes.{parts_in};
-ghost use Rattle.yl_lint.specs.TextReport.{facts_in_sections, findings_in_sections, report_by};
-ghost use Rattle.yl_found.specs.Faultless.{faultless};
+ghost use Rattle.yl_lint.specs.TextReport.{facts_in_sections, findings_in_sections};
 ghost use Rattle.yl_found.specs.Found.{all_parts, found_by};
-ghost use Rattle.yl_found.specs.Plain.{IsPlain, IsSurveyed};
-ghost use Rattle.yl_overview.specs.Overview.{IsOverviewOf};
+ghost use Rattle.yl_found.specs.Plain.{IsSurveyed};
 
 use crate::fault::fault_of;
 use crate::showing::showing_of;
@@ -16,26 +13,12 @@ use std::alloc::{AllocError, Allocator};
 use yl_chunks::Spliced;
 use yl_config::Config;
 use yl_indentation::{IndentationOptions, Measure};
-use yl_lint::{find_in_lines, line_below, push_section, report_with_kept};
+use yl_lint::{find_in_lines, line_below, push_section};
 use yl_overview::Overview;
 use yl_parting::FoundProblems;
 use yl_report::{Problem, Silences, arrange};
 use yl_sections::Kept;
 use yl_text::{Finding, Lines};
-
-/// What is kept of these sections, lent.
-fn lent_kept<'a, A: Allocator + Copy>(
-    alloc: A,
-    sections: &Spliced<'a, Kept<A>, A>,
-) -> Result<Vec<&'a Kept<A>, A>, AllocError>
-    ensures { IfOk result (λ all. map (λ k. k.now) all.items ≡ sections.now) }
-{
-    let mut all = Vec::new(alloc);
-    for i in 0..sections.len() {
-        all.push(sections.get(i))?;
-    }
-    Ok(all)
-}
 
 /// Puts what is found in all sections, whose facts have the measure `whole`, behind the rest.
 fn push_all<A: Allocator + Copy>(
@@ -75,8 +58,9 @@ fn find_all<L: Lines>(
     arrange(alloc, found, config.levels(), &Silences::none(alloc))
 }
 
-/// The same, parted, and the fault in its place.
-fn part_all<L: Lines>(
+/// All that is found in these lines, of whose sections this is kept: what the report shows, with the text's fault in its place, and what else is
+/// found. The only error is out of memory.
+pub fn found_problems<L: Lines>(
     alloc: L::Alloc,
     config: &Config,
     lines: &L,
@@ -93,29 +77,4 @@ fn part_all<L: Lines>(
     let fault = fault_of(alloc, config, lines, sections, overview)?;
     parts.add_fault(fault)?;
     Ok(parts)
-}
-
-/// All that is found in these lines, of whose sections this is kept: what the report shows, and what else is found, where the sections are seen
-/// to be plain. The only error is out of memory.
-pub fn found_problems<L: Lines>(
-    alloc: L::Alloc,
-    config: &Config,
-    lines: &L,
-    sections: &Spliced<'_, Kept<L::Alloc>, L::Alloc>,
-    overview: Overview,
-    are_plain: bool,
-) -> Result<FoundProblems<L::Alloc>, AllocError>
-    requires lines { AreLines (L.rows lines.now) }
-    requires overview { IsOverviewOf sections.now overview }
-    requires plain { are_plain ≡ true → AllByRecursion IsPlain (faultless sections.now) }
-    ensures shown { IfOk result (λ f. f.shown.items ≡ report_by config.now (L.rows lines.now) sections.now) }
-    ensures plain { IfOk result (λ f. are_plain ≡ true → parts_in f ≡ all_parts config.now (L.rows lines.now) sections.now) }
-{
-    if are_plain {
-        return part_all(alloc, config, lines, sections, overview);
-    }
-    let all = lent_kept(alloc, sections)?;
-    let shown = report_with_kept(alloc, config, lines, &all)?;
-    let suppressed = Vec::new(alloc);
-    Ok(FoundProblems { shown, suppressed })
 }

@@ -1,7 +1,7 @@
 //! The law that ties what is found in a text to its report.
 ghost use Rattle.yl_found.specs.Found.{ReportIsShown};
 
-/// A law: where sections are plain, their faults aside, the report is what is shown of all that is found, with the text's fault in its place.
+/// A law: the report of a text is what is shown of all that is found in it, with the text's fault in its place.
 pub fn report_is_shown()
     ensures { ReportIsShown }
 {}

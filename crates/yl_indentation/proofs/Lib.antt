@@ -1,5 +1,6 @@
 pub mod Measured
 pub mod Onward
+pub mod Own
 pub mod LookBack
 pub mod SlimElements
 pub mod BySymbols

@@ -16,8 +16,8 @@ use yl_report::Problem;
 use yl_sections::Kept;
 use yl_text::{Break, Lines, MAX_BYTES, cut_line};
 
-/// The report of these lines under a configuration, in order, if this is kept of their sections, in order. The only error is out of memory.
-pub fn report_with_kept<L: Lines>(
+/// The report of these lines under a configuration, in order, if this is kept of their sections, in order.
+fn report_with_kept<L: Lines>(
     alloc: L::Alloc,
     config: &Config,
     lines: &L,

@@ -10,24 +10,6 @@ use Rattle.yl_sections.specs.Kept.{KeptValue}
 use Rattle.yl_rejudge.specs.Places.{rows_kept}
 use Rattle.yl_lint.specs.TextReport.{facts_in_sections}
 
-pub all_both : {X : Type 0} (P : X → Type 0) (xs ys : List X) → AllByRecursion P xs → AllByRecursion P ys → AllByRecursion P (xs ++ ys)
-all_both P [] ys h g = g
-all_both P (x ∷ xs) ys h g = (h.0, all_both P xs ys h.1 g)
-
-pub all_front : {X : Type 0} (P : X → Type 0) (xs ys : List X) → AllByRecursion P (xs ++ ys) → AllByRecursion P xs
-all_front P [] ys h = tt
-all_front P (x ∷ xs) ys h = (h.0, all_front P xs ys h.1)
-
-pub all_back : {X : Type 0} (P : X → Type 0) (xs ys : List X) → AllByRecursion P (xs ++ ys) → AllByRecursion P ys
-all_back P [] ys h = h
-all_back P (x ∷ xs) ys h = all_back P xs ys h.1
-
-pub all_take : {X : Type 0} (P : X → Type 0) (xs : List X) (n : ℕ) → AllByRecursion P xs → AllByRecursion P (take n xs)
-all_take P xs n h = all_front P (take n xs) (drop n xs) (subst (λ ys. AllByRecursion P ys) (sym (take-append-drop n xs)) h)
-
-pub all_drop : {X : Type 0} (P : X → Type 0) (xs : List X) (n : ℕ) → AllByRecursion P xs → AllByRecursion P (drop n xs)
-all_drop P xs n h = all_back P (take n xs) (drop n xs) (subst (λ ys. AllByRecursion P ys) (sym (take-append-drop n xs)) h)
-
 -- ---- one section more
 
 pub one_more : (ks : List KeptValue) (i : ℕ) (k : KeptValue) → i < length ks → k ≡ get_or ks i k → take (i + 1) ks ≡ take i ks ++ k ∷ []

@@ -6,6 +6,7 @@ use Rattle.std.proofs.lemmas.Bool.{cases_lt, le-ltb, lt-ltb}
 use Rattle.std.proofs.lemmas.List.{same_lists, places, take_all, length-take, length-drop, take-append-drop, get_or-drop}
 use Rattle.std.proofs.lemmas.List.Folds.{list_any_at}
 use Rattle.std.proofs.lemmas.Option.{get_or_from_slice_get, slice_get-get_or, slice_get_cases, slice_get_within}
+use Rattle.yl_text.proofs.Every.{all_both, all_drop}
 use Rattle.yl_indentation.specs.declared.measure.Measure.{Measure}
 use Rattle.yl_indentation.specs.Measures.{and_later, measure_of}
 use Rattle.yl_sections.specs.Kept.{KeptValue}
@@ -14,7 +15,7 @@ use Rattle.yl_overview.specs.Overview.{AreFew, IsFaulty, IsFirstFault, IsOvervie
 use Rattle.yl_overview.specs.declared.overview.Overview.{Overview}
 use Rattle.yl_overview.specs.declared.overview.Silencing.{Silencing}
 use Rattle.yl_rejudge.proofs.KeptRows.{rows_front}
-use Rattle.yl_overview.proofs.Walks.{all_both, all_drop, measured, measured_both, one_more, rows_both}
+use Rattle.yl_overview.proofs.Walks.{measured, measured_both, one_more, rows_both}
 
 take_front : {X : Type 0} (xs ys : List X) (n : ℕ) → n ≤ length xs → take n (xs ++ ys) ≡ take n xs
 take_front xs ys n l = same_lists _ _ (search (rules, places)) (λ k d h. grind (arith, places))

@@ -7,6 +7,7 @@ use Rattle.std.specs.Option.{option_map}
 use Rattle.std.specs.Ordering.{is_lt, ordering_reverse}
 use Rattle.std.specs.declared.cmp.Ordering.{Ordering}
 use Rattle.std.specs.declared.cmp.Ordering.TheVariants.{Less, Equal, Greater}
+use Rattle.yl_text.proofs.Every.{all_both}
 use Rattle.yl_text.specs.declared.finding.RuleId.{RuleId}
 use Rattle.yl_text.specs.Finding.{FindingValue}
 use Rattle.yl_rules.specs.declared.level.Level.{Level}
@@ -155,10 +156,6 @@ in_all P f [] a h = absurd h
 in_all P f (y ∷ ys) a (inl e) = rw e a.0
 in_all P f (y ∷ ys) a (inr h) = in_all P f ys a.1 h
 
-all_append : (P : FindingValue → Type 0) (xs ys : List FindingValue) → AllByRecursion P xs → AllByRecursion P ys → AllByRecursion P (xs ++ ys)
-all_append P [] ys a b = b
-all_append P (x ∷ xs) ys a b = (a.0, all_append P xs ys a.1 b)
-
 left : (a b : Bool) → a && b ≡ true → a ≡ true
 left true b e = refl
 left false b e = e
@@ -200,5 +197,5 @@ pub fault_comes : (levels : LevelTable) (is_file_silenced : Bool) (silenced othe
 fault_comes levels true silenced other fault before behind ps e a b h = sym h
 fault_comes levels false silenced other fault before behind ps e a b h =
     ap (leveled levels) (moved_up (is_reported levels silenced) fault before behind)
-    ∙ (first levels silenced fault (before ++ behind) (levels fault.rule) ps e (all_append (λ f. is_syntax f.rule ≡ false) before behind a b) refl h
+    ∙ (first levels silenced fault (before ++ behind) (levels fault.rule) ps e (all_both (λ f. is_syntax f.rule ≡ false) before behind a b) refl h
     ∙ ap (λ (qs : List ProblemValue). (with_fault (slice_get qs 0) ps).shown) (sym (alone levels other fault (levels fault.rule) e refl)))

@@ -11,8 +11,9 @@ use Rattle.yl_parting.specs.Showing.{is_indentation}
 use Rattle.yl_parting.specs.Parts.{PartsValue, above, behind, is_no_fault, is_upto, judged_again, parted, shifted, stays_judged, with_fault, without_fault}
 use Rattle.yl_parting.proofs.Merged.{merged_parts}
 use Rattle.std.proofs.lemmas.Bool.{le-leb, leb-true}
+use Rattle.yl_text.proofs.Every.{all_then}
 use Rattle.yl_parting.proofs.InOrder.{passing}
-use Rattle.yl_parting.proofs.Ordered.{above_filter, above_is, all_then, behind_filter, behind_is, filter_all, filter_same, filter_swap, order_filter}
+use Rattle.yl_parting.proofs.Ordered.{above_filter, above_is, behind_filter, behind_is, filter_all, filter_same, filter_swap, order_filter}
 
 filter_map_shift : (s : ProblemValue → ProblemValue) (f g : ProblemValue → Bool) (ps : List ProblemValue) → AllByRecursion (λ q. f (s q) ≡ g q) ps → filter f (map s ps) ≡ map s (filter g ps)
 filter_map_shift s f g [] h = refl

@@ -5,13 +5,14 @@ use Rattle.std.specs.List.{AllByRecursion, filter}
 use Rattle.std.specs.Ordering.{is_lt, ordering_reverse}
 use Rattle.std.specs.declared.cmp.Ordering.{Ordering}
 use Rattle.std.specs.declared.cmp.Ordering.TheVariants.{Less, Equal, Greater}
+use Rattle.yl_text.proofs.Every.{all_then}
 use Rattle.yl_text.specs.Finding.{FindingValue}
 use Rattle.yl_report.specs.Report.{ProblemValue, is_syntax}
 use Rattle.yl_report.specs.Told.{finding_told}
 use Rattle.yl_report.proofs.Order.{only_equal, order_total}
 use Rattle.yl_parting.specs.Order.{IsInOrder, comes_before, merged, problem_order, put_in}
 use Rattle.yl_parting.specs.Parts.{PartsValue, is_no_fault, parted, with_fault}
-use Rattle.yl_parting.proofs.Ordered.{all_then, before_less, less_trans, order_cons, order_filter, order_head, order_none, order_tail}
+use Rattle.yl_parting.proofs.Ordered.{before_less, less_trans, order_cons, order_filter, order_head, order_none, order_tail}
 
 pub parts_in_order : (f : ProblemValue → Bool) (ps : List ProblemValue) → IsInOrder ps → IsInOrder (parted f ps).shown × IsInOrder (parted f ps).suppressed
 parts_in_order f ps s = (order_filter f ps s, order_filter (λ p. not (f p)) ps s)

@@ -6,6 +6,7 @@ use Rattle.std.specs.List.{AllByRecursion, filter, prefix_len}
 use Rattle.std.specs.declared.cmp.Ordering.TheVariants.{Less, Equal}
 use Rattle.std.proofs.lemmas.Bool.{le-leb, leb-false, leb-true}
 use Rattle.std.proofs.lemmas.List.Elements.{filter-append}
+use Rattle.yl_text.proofs.Every.{all_filter, all_then}
 use Rattle.yl_text.specs.Finding.{FindingValue}
 use Rattle.yl_report.specs.Report.{ProblemValue}
 use Rattle.yl_parting.specs.Following.{IsJudgedAgain}
@@ -18,7 +19,7 @@ use Rattle.yl_parting.proofs.Anew.{given_back}
 use Rattle.yl_parting.proofs.InOrder.{IsApart, all_merged, apart, merged_in_order, passing}
 use Rattle.yl_parting.proofs.Lines.{part, same_problems}
 use Rattle.yl_parting.proofs.Merged.{merged_above}
-use Rattle.yl_parting.proofs.Ordered.{above_is, all_behind, all_filter, all_then, behind_is, filter_all, filter_none, filter_same, less_line, order_both, order_filter, order_first}
+use Rattle.yl_parting.proofs.Ordered.{above_is, all_behind, behind_is, filter_all, filter_none, filter_same, less_line, order_both, order_filter, order_first}
 
 module _ (n : ℕ) (ps new : List ProblemValue) (order : IsInOrder ps) (is : IsIndentation n new) where
   in_front : AllByRecursion (λ p. is_upto n p ≡ true) (above n ps)

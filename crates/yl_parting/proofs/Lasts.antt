@@ -8,6 +8,7 @@ use Rattle.std.proofs.lemmas.Bool.{leb-false, leb-true, le-leb, lt-leb, cases_lt
 use Rattle.std.proofs.lemmas.List.Elements.{filter-append}
 use Rattle.std.proofs.lemmas.List.Sums.{prefix_len_is}
 use Rattle.std.proofs.lemmas.Map.Keys.{Less-from_sorted}
+use Rattle.yl_text.proofs.Every.{all_front, all_last, all_then}
 use Rattle.yl_text.specs.declared.finding.RuleId.TheVariants.{Syntax}
 use Rattle.yl_rules.specs.declared.level.Level.TheVariants.{Error}
 use Rattle.yl_report.specs.Report.{ProblemValue}
@@ -16,7 +17,7 @@ use Rattle.yl_parting.specs.Order.{IsInOrder, comes_before, merged, problem_orde
 use Rattle.yl_parting.specs.Parts.{IsLow, above, behind, is_upto}
 use Rattle.yl_parting.specs.Popped.{LastGoes, PopsBehind, PopsLast}
 use Rattle.yl_parting.proofs.Merged.{merged_last_left, merged_last_right}
-use Rattle.yl_parting.proofs.Ordered.{above_is, all_before_last, all_front, all_last, all_then, before_less, behind_is, filter_none, less_before, less_trans, line_le, line_of_not_before, not_after, order_front, order_head, order_tail}
+use Rattle.yl_parting.proofs.Ordered.{above_is, all_before_last, before_less, behind_is, filter_none, less_before, less_trans, line_le, line_of_not_before, not_after, order_front, order_head, order_tail}
 
 -- ---- places
 

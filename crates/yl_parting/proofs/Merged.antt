@@ -3,10 +3,11 @@ use Rattle.std.proofs.Common.{◌≡◌, Bool, true, false, cond, List, [], ◌�
 use Rattle.std.specs.Prelude.{not}
 use Rattle.std.specs.List.{AllByRecursion, filter}
 use Rattle.std.specs.declared.cmp.Ordering.TheVariants.{Less}
+use Rattle.yl_text.proofs.Every.{all_back, all_both, all_filter, all_front}
 use Rattle.yl_report.specs.Report.{ProblemValue}
 use Rattle.yl_parting.specs.Order.{IsInOrder, comes_before, merged, problem_order, put_in}
 use Rattle.yl_parting.proofs.InOrder.{all_merged}
-use Rattle.yl_parting.proofs.Ordered.{all_back, all_both, all_filter, all_front, less_before, not_after, order_head, order_tail}
+use Rattle.yl_parting.proofs.Ordered.{less_before, not_after, order_head, order_tail}
 
 -- ---- parted and merged
 

@@ -5,6 +5,7 @@ use Rattle.std.specs.List.{AllByRecursion, filter}
 use Rattle.std.proofs.lemmas.Bool.{and_parts, lt-leb}
 use Rattle.std.proofs.lemmas.List.{map-append}
 use Rattle.std.proofs.lemmas.List.Elements.{filter-append}
+use Rattle.yl_text.proofs.Every.{all_filter, all_then}
 use Rattle.yl_text.specs.Finding.{FindingValue}
 use Rattle.yl_text.specs.Lines.{RowValue}
 use Rattle.yl_text.specs.declared.finding.RuleId.{RuleId}
@@ -26,7 +27,7 @@ use Rattle.yl_parting.proofs.Faults.{report_in_order}
 use Rattle.yl_parting.proofs.Judged.{is_other, judged_behind}
 use Rattle.yl_parting.proofs.OfKind.{kind_report}
 use Rattle.yl_parting.proofs.InOrder.{passing}
-use Rattle.yl_parting.proofs.Ordered.{all_filter, all_then, filter_all, filter_none}
+use Rattle.yl_parting.proofs.Ordered.{filter_all, filter_none}
 use Rattle.yl_sections.specs.Kept.{KeptValue}
 use Rattle.yl_rejudge.specs.Places.{rows_kept}
 use Rattle.yl_lint.specs.Onward.{indentation_in_sections, onward_in_section, onward_in_sections}

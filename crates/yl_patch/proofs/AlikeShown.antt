@@ -4,6 +4,7 @@ use Rattle.std.specs.Prelude.{◌&&◌, ◌||◌, not, nat_lt}
 use Rattle.std.specs.List.{AllByRecursion, splice}
 use Rattle.std.proofs.lemmas.Bool.{le-ltb, lt-ltb, ltb-true}
 use Rattle.std.proofs.lemmas.List.{drop-map, take-append-drop, take-map, same_lists, places}
+use Rattle.yl_text.proofs.Every.{all_both, all_drop, all_take}
 use Rattle.yl_text.specs.Lines.{RowValue}
 use Rattle.yl_text.specs.declared.finding.RuleId.{RuleId}
 use Rattle.yl_lexeme.specs.Lexeme.{PlacedCommentValue}
@@ -21,7 +22,7 @@ use Rattle.yl_overview.specs.Overview.{has_fault}
 use Rattle.yl_lint.specs.Switches.{SpeaksWithin}
 use Rattle.yl_patch.specs.Speaking.{SpeakAlike}
 use Rattle.yl_found.proofs.Sections.{comments_two, comments_three}
-use Rattle.yl_overview.proofs.Walks.{all_both, all_drop, all_take, rows_both, rows_until}
+use Rattle.yl_overview.proofs.Walks.{rows_both, rows_until}
 use Rattle.yl_found.proofs.ShownSections.{rows_shown, said_by_first, said_upto, shown_both, shown_comments_within, shown_covered, shown_sound}
 use Rattle.yl_lint.proofs.Silenced.{IsHeardAbove, heard_further, heard_moved, said_alike, same_off}
 

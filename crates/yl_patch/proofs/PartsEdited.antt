@@ -3,6 +3,7 @@ use Rattle.std.proofs.Common.{◌≡◌, ℕ, ◌+◌, ◌≤◌, Bool, true, fa
 use Rattle.std.specs.List.{AllByRecursion, prefix_len, splice}
 use Rattle.std.proofs.Math.Numerals.{one-add}
 use Rattle.std.proofs.lemmas.Bool.{leb-false, leb-true}
+use Rattle.yl_text.proofs.Every.{all_then}
 use Rattle.yl_text.specs.Lines.{RowValue}
 use Rattle.yl_config.specs.declared.config.Config.{Config}
 use Rattle.yl_report.specs.Report.{ProblemValue}
@@ -14,7 +15,7 @@ use Rattle.yl_parting.specs.Order.{IsInOrder}
 use Rattle.yl_parting.specs.Parts.{PartsValue, above, behind, is_upto, parted, shifted, with_fault, without_fault}
 use Rattle.yl_parting.proofs.Following.{parts_follow}
 use Rattle.yl_parting.proofs.Judged.{judged_above, judged_order}
-use Rattle.yl_parting.proofs.Ordered.{all_behind, all_then}
+use Rattle.yl_parting.proofs.Ordered.{all_behind}
 use Rattle.yl_found.specs.Faultless.{faultless}
 use Rattle.yl_found.specs.Found.{all_parts, found_by, is_shown, parts_of}
 use Rattle.yl_patch.specs.Patching.{IsPatchOf, SaysBelow}

@@ -2,6 +2,7 @@
 use Rattle.std.proofs.Common.{◌≡◌, ℕ, zero, suc, ◌+◌, ◌-◌, ◌<◌, ◌≤◌, ◌==◌, Bool, true, false, List, [], ◌∷◌, ◌++◌, length, map, take, drop, refl, ap, sym, subst, ◌∙◌, arith, rules, append_assoc}
 use Rattle.std.specs.List.{AllByRecursion, splice, slice_get, prefix_len}
 use Rattle.std.proofs.lemmas.List.{same_lists, places, length-take-le, length-drop}
+use Rattle.yl_text.proofs.Every.{all_back, all_both, all_front}
 use Rattle.yl_text.specs.Finding.{FindingValue}
 use Rattle.yl_text.specs.Lines.{RowValue}
 use Rattle.yl_text.specs.declared.finding.RuleId.{RuleId}
@@ -35,7 +36,7 @@ use Rattle.yl_lint.proofs.Arranged.{arranged, arranged_lines, arranged_moved, lo
 use Rattle.yl_lint.proofs.LineParts.{if_none, is_seam, none_by, seam_behind, seam_more}
 use Rattle.yl_patch.proofs.Parts.{lines_above, part, part_between, parts_apart, patched, patched_so}
 use Rattle.yl_found.proofs.Sections.{no_fault, shown_plain}
-use Rattle.yl_overview.proofs.Walks.{all_back, all_both, all_front, measured}
+use Rattle.yl_overview.proofs.Walks.{measured}
 
 -- ---- what is found in a whole text
 

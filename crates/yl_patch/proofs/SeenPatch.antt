@@ -4,6 +4,7 @@ use Rattle.std.specs.Prelude.{Option, Some, None, IsSome, MatchOption, Vec, not}
 use Rattle.std.specs.Option.{option_map}
 use Rattle.std.specs.List.{AllByRecursion, filter, splice}
 use Rattle.std.proofs.lemmas.List.{drop-map, length-take, same_lists, places, take-map}
+use Rattle.yl_text.proofs.Every.{all_drop, all_take, all_then}
 use Rattle.yl_text.specs.Finding.{FindingValue}
 use Rattle.yl_text.specs.Lines.{RowValue}
 use Rattle.yl_indentation.specs.declared.measure.Measure.{Measure}
@@ -21,7 +22,6 @@ use Rattle.yl_parting.specs.Changes.{PatchValue, patched}
 use Rattle.yl_parting.specs.Following.{IsJudgedAgain, found_after}
 use Rattle.yl_parting.specs.Parts.{above, behind, shifted, with_fault, without_fault}
 use Rattle.yl_parting.specs.Showing.{shows}
-use Rattle.yl_parting.proofs.Ordered.{all_then}
 use Rattle.yl_found.specs.Faultless.{faultless, faultless_one}
 use Rattle.yl_found.specs.Found.{all_parts, fault_told, found_by}
 use Rattle.yl_patch.specs.Patching.{SaysBelow}
@@ -32,7 +32,7 @@ use Rattle.yl_found.proofs.EachFound.{InFirst}
 use Rattle.yl_patch.proofs.PartsEdited.{parts_edited}
 use Rattle.yl_patch.proofs.Edited.{all_judged, found_edited, indentation_anew, judged_alike, judged_anew}
 use Rattle.yl_patch.proofs.ShownThere.{rows_upto, shown_upto, suppressed_upto, there_in_first}
-use Rattle.yl_overview.proofs.Walks.{all_drop, all_take, rows_both}
+use Rattle.yl_overview.proofs.Walks.{rows_both}
 
 -- those that were put in place of some are among all
 plain_put : (ks new : List KeptValue) (from end : ℕ) → from ≤ length ks → AllByRecursion IsPlain (faultless (splice ks from end new)) → AllByRecursion IsPlain (faultless new)

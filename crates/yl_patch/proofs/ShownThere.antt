@@ -3,6 +3,7 @@ use Rattle.std.proofs.Common.{◌≡◌, ℕ, ◌+◌, ◌<◌, ◌≤◌, Bool,
 use Rattle.std.specs.Prelude.{not}
 use Rattle.std.specs.List.{AllByRecursion, filter, splice}
 use Rattle.std.proofs.lemmas.List.{same_lists, places}
+use Rattle.yl_text.proofs.Every.{all_then}
 use Rattle.yl_text.specs.Finding.{FindingValue}
 use Rattle.yl_text.specs.Lines.{RowValue}
 use Rattle.yl_text.specs.declared.finding.RuleId.{RuleId}
@@ -19,7 +20,7 @@ use Rattle.yl_rejudge.specs.Places.{rows_kept}
 use Rattle.yl_lint.specs.Onward.{onward_in_sections}
 use Rattle.yl_lint.specs.TextReport.{comments_in_sections, findings_from, first_text, moved, shown}
 use Rattle.yl_parting.specs.Showing.{shows}
-use Rattle.yl_parting.proofs.Ordered.{all_then, filter_same}
+use Rattle.yl_parting.proofs.Ordered.{filter_same}
 use Rattle.yl_found.specs.Faultless.{faultless}
 use Rattle.yl_found.specs.Found.{is_shown}
 use Rattle.yl_found.specs.Plain.{IsPlain}

@@ -47,7 +47,8 @@ fn most(options: &EmptyLinesOptions, at_start: bool, at_end: bool) -> u32
 /// As many bytes as a message has that names runs of fewer than ten million lines, so that it grows once.
 const MESSAGE_BYTES: usize = 40;
 
-/// The problem of a run of so many lines, of which the last has this number, from 1.
+/// The problem of a run of so many lines, of which the last has this number, from 1. It stands by itself, so that what passes lines is short.
+#[inline(never)]
 fn too_many<A: Allocator + Copy>(
     alloc: A,
     run: usize,

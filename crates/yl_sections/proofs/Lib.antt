@@ -1,5 +1,6 @@
 pub mod Documents
 pub mod Cuts
+pub mod Own
 pub mod Rows
 pub mod Assembled
 pub mod Sequence

@@ -1,10 +1,10 @@
 //! What a session keeps of a text that it opens.
 ghost use Rattle.std.specs.Prelude.{◌≡◌, IfOk};
 ghost use Rattle.yl_text.specs.Store.{AreLines};
-ghost use Rattle.yl_lint.specs.TextReport.{kept_of_text, records_of, report};
+ghost use Rattle.yl_lint.specs.TextReport.{kept_of_text, records_of};
 ghost use Rattle.yl_parting.specs.Changes.{parts_in};
-ghost use Rattle.yl_session.specs.Known.{IsKnown};
-ghost use Rattle.yl_session.specs.Parts.{AreParts};
+ghost use Rattle.yl_overview.specs.Overview.{AreOverviews};
+ghost use Rattle.yl_found.specs.Found.{all_parts};
 
 use crate::reading::{in_chunks, read};
 use crate::sections::{KnownSections, known_of};
@@ -34,8 +34,8 @@ pub fn begin<S: LineStore>(
     requires { AreLines (S.rows store.now) }
     ensures records { IfOk result (λ b. b.records.items ≡ records_of (S.rows store.now)) }
     ensures kept { IfOk result (λ b. b.known.kept.items ≡ kept_of_text config.now (S.rows store.now)) }
-    ensures known { IfOk result (λ b. IsKnown b.known.kept.items b.known.overviews.items b.known.are_plain) }
-    ensures found { IfOk result (λ b. AreParts config.now (record { rows = S.rows store.now; kept = b.known.kept.items; plain = b.known.are_plain; report = report config.now (S.rows store.now) }) (parts_in b.found)) }
+    ensures overviews { IfOk result (λ b. AreOverviews b.known.kept.items b.known.overviews.items) }
+    ensures found { IfOk result (λ b. parts_in b.found ≡ all_parts config.now (S.rows store.now) b.known.kept.items) }
 {
     let (records, mut list) = read(alloc, config, store)?;
     let kept = in_chunks(alloc, &mut list)?;
@@ -43,7 +43,7 @@ pub fn begin<S: LineStore>(
     let found = {
         let all = Spliced::new(&known.kept, 0, 0, &[]);
         let overview = all_of(known.overviews.as_slice());
-        found_problems(alloc, config, store, &all, overview, known.are_plain)?
+        found_problems(alloc, config, store, &all, overview)?
     };
     Ok(OpenedText {
         records,

@@ -2,7 +2,6 @@
 ghost use Rattle.std.specs.Prelude.{◌≡◌, ◌<◌, ◌^◌, ◌+◌, Some, length, map, vec_len, IfOk};
 ghost use Rattle.std.specs.List.{splice};
 ghost use Rattle.yl_text.specs.Store.{IsRange};
-ghost use Rattle.yl_lint.specs.TextReport.{report};
 ghost use Rattle.yl_record.specs.Records.{characters_in};
 ghost use Rattle.yl_sections.specs.Judge.{kept_of_section};
 ghost use Rattle.yl_sections.specs.Sections.{sections};
@@ -10,7 +9,8 @@ ghost use Rattle.yl_rescan.specs.Held.{AreHeld};
 ghost use Rattle.yl_parting.specs.Changes.{parts_in};
 ghost use Rattle.yl_parting.specs.Rooms.{HasRoom};
 ghost use Rattle.yl_lint.specs.Edit.{IsTextEdit};
-ghost use Rattle.yl_session.specs.Known.{IsKnown, IsKnownAfter};
+ghost use Rattle.yl_overview.specs.Overview.{AreOverviews};
+ghost use Rattle.yl_session.specs.Known.{AreOverviewsAfter};
 ghost use Rattle.yl_session.specs.Parts.{Makes};
 ghost use Rattle.yl_session.specs.Work.{IsWork};
 
@@ -31,7 +31,7 @@ use yl_rescan::{Rescanned, rescan};
 use yl_sections::Kept;
 use yl_text::LineStore;
 
-/// What an edit is to change: the records of some rows, what is kept of some sections, and what becomes of what is known of all and of the
+/// What an edit is to change: the records of some rows, what is kept of some sections, and what becomes of the overviews of all and of the
 /// problems.
 #[derive(Drop)]
 pub struct Plan<A: Allocator> {
@@ -88,15 +88,14 @@ pub fn planned<S: LineStore>(
     requires text { IsTextEdit (S.rows text.now.store.now) text.now.a text.now.b text.now.rows.now }
     requires held { AreHeld (characters_in (S.rows text.now.store.now)) cut records.now.items }
     requires kept { known.now.kept.items ≡ map (kept_of_section config.now) (sections records.now.items) }
-    requires known { IsKnown known.now.kept.items known.now.overviews.items known.now.are_plain }
+    requires overviews { AreOverviews known.now.kept.items known.now.overviews.items }
     ensures ranges { IfOk result (λ p. IsRange p.rescan.from p.rescan.old_end (length records.now.items) × IsRange p.rejudged.from p.rejudged.end (length known.now.kept.items)) }
     ensures held { IfOk result (λ p. AreHeld (characters_in (splice (S.rows text.now.store.now) text.now.a text.now.b text.now.rows.now)) p.rescan.cut (splice records.now.items p.rescan.from p.rescan.old_end p.rescan.records.items)) }
     ensures kept { IfOk result (λ p. splice known.now.kept.items p.rejudged.from p.rejudged.end p.rejudged.kept.items
         ≡ map (kept_of_section config.now) (sections (splice records.now.items p.rescan.from p.rescan.old_end p.rescan.records.items))) }
-    ensures known { IfOk result (λ p. IsKnownAfter (splice known.now.kept.items p.rejudged.from p.rejudged.end p.rejudged.kept.items) known.now.overviews.items p.renewal.overviews p.renewal.are_plain) }
-    ensures makes { IfOk result (λ p. Makes config.now
-        (record { rows = S.rows text.now.store.now; kept = known.now.kept.items; plain = known.now.are_plain; report = report config.now (S.rows text.now.store.now) })
-        (record { rows = splice (S.rows text.now.store.now) text.now.a text.now.b text.now.rows.now; kept = splice known.now.kept.items p.rejudged.from p.rejudged.end p.rejudged.kept.items; plain = p.renewal.are_plain; report = report config.now (splice (S.rows text.now.store.now) text.now.a text.now.b text.now.rows.now) }) p.renewal.change) }
+    ensures overviews { IfOk result (λ p. AreOverviewsAfter (splice known.now.kept.items p.rejudged.from p.rejudged.end p.rejudged.kept.items) known.now.overviews.items p.renewal.overviews) }
+    ensures makes { IfOk result (λ p. Makes config.now (S.rows text.now.store.now) (splice (S.rows text.now.store.now) text.now.a text.now.b text.now.rows.now)
+        known.now.kept.items (splice known.now.kept.items p.rejudged.from p.rejudged.end p.rejudged.kept.items) p.renewal.change) }
     ensures work { IfOk result (λ p. IsWork (characters_in (S.rows text.now.store.now)) (characters_in (splice (S.rows text.now.store.now) text.now.a text.now.b text.now.rows.now)) text.now.a text.now.b (length text.now.rows.now) p.work) }
 {
     let mut meter = Meter::new();

@@ -7,13 +7,13 @@ ghost use Rattle.yl_overview.specs.Overview.{AreFew, AreOverviews};
 ghost use Rattle.yl_lint.specs.Edit.{IsTextEdit};
 ghost use Rattle.yl_found.specs.Faultless.{faultless};
 ghost use Rattle.yl_found.specs.Plain.{IsPlain};
-ghost use Rattle.yl_session.specs.Known.{IsKnown, IsKnownAfter};
-ghost use Rattle.yl_session.specs.Parts.{KnownText, Makes, known_text};
+ghost use Rattle.yl_session.specs.Known.{AreOverviewsAfter};
+ghost use Rattle.yl_session.specs.Parts.{Makes};
 
 use crate::sections::KnownSections;
 use std::alloc::{AllocError, Allocator};
 use yl_config::Config;
-use yl_found::{are_plain, found_problems};
+use yl_found::found_problems;
 use yl_lint::{TextEdit, reads_alike};
 use yl_overview::{Overview, SectionEdit};
 use yl_parting::{Change, FoundProblems};
@@ -21,13 +21,11 @@ use yl_patch::patched_problems;
 use yl_rejudge::Rejudged;
 use yl_text::{LineStore, Lines};
 
-/// What becomes of the problems of a text; and of what is known of its sections: overviews, if they are others then, and whether all are seen to
-/// be plain.
+/// What becomes of the problems of a text, and overviews of its sections, if they are others then.
 #[derive(Drop)]
 pub struct Renewal<A: Allocator> {
     pub change: Change<A>,
     pub overviews: Option<Vec<Overview, A>>,
-    pub are_plain: bool,
 }
 
 /// All that is found once an edit is made, found anew.
@@ -36,18 +34,17 @@ fn found_anew<S: LineStore>(
     config: &Config,
     text: &TextEdit<'_, S>,
     edit: &SectionEdit<'_, S::Alloc>,
-    are_plain: bool,
 ) -> Result<Change<S::Alloc>, AllocError>
     requires text { IsTextEdit (S.rows text.now.store.now) text.now.a text.now.b text.now.rows.now }
     requires edit { IsSectionEdit edit.now }
-    requires plain_then { are_plain ≡ true → AllByRecursion IsPlain (faultless (splice edit.now.sections.now.items edit.now.from edit.now.end edit.now.kept.now)) }
-    ensures { IfOk result (λ change. (old : KnownText) → Makes config.now old
-        (known_text config.now (splice (S.rows text.now.store.now) text.now.a text.now.b text.now.rows.now) (splice edit.now.sections.now.items edit.now.from edit.now.end edit.now.kept.now) are_plain) change) }
+    requires plain_then { AllByRecursion IsPlain (faultless (splice edit.now.sections.now.items edit.now.from edit.now.end edit.now.kept.now)) }
+    ensures { IfOk result (λ change. Makes config.now (S.rows text.now.store.now) (splice (S.rows text.now.store.now) text.now.a text.now.b text.now.rows.now)
+        edit.now.sections.now.items (splice edit.now.sections.now.items edit.now.from edit.now.end edit.now.kept.now) change) }
 {
     let edited = text.edited();
     let sections = edit.spliced();
     let overview = edit.after();
-    let anew = found_problems(alloc, config, &edited, &sections, overview, are_plain)?;
+    let anew = found_problems(alloc, config, &edited, &sections, overview)?;
     Ok(Change::Anew(anew))
 }
 
@@ -58,19 +55,14 @@ fn change_of<S: LineStore>(
     text: &TextEdit<'_, S>,
     edit: &SectionEdit<'_, S::Alloc>,
     found: &FoundProblems<S::Alloc>,
-    are_plain: bool,
 ) -> Result<Change<S::Alloc>, AllocError>
     requires text { IsTextEdit (S.rows text.now.store.now) text.now.a text.now.b text.now.rows.now }
     requires edit { IsSectionEdit edit.now }
-    requires plain { are_plain ≡ true → AllByRecursion IsPlain (faultless edit.now.sections.now.items) }
-    requires plain_then { are_plain ≡ true → AllByRecursion IsPlain (faultless (splice edit.now.sections.now.items edit.now.from edit.now.end edit.now.kept.now)) }
-    ensures { IfOk result (λ change. Makes config.now (known_text config.now (S.rows text.now.store.now) edit.now.sections.now.items are_plain)
-        (known_text config.now (splice (S.rows text.now.store.now) text.now.a text.now.b text.now.rows.now) (splice edit.now.sections.now.items edit.now.from edit.now.end edit.now.kept.now) are_plain) change) }
+    requires plain { AllByRecursion IsPlain (faultless edit.now.sections.now.items) }
+    requires plain_then { AllByRecursion IsPlain (faultless (splice edit.now.sections.now.items edit.now.from edit.now.end edit.now.kept.now)) }
+    ensures { IfOk result (λ change. Makes config.now (S.rows text.now.store.now) (splice (S.rows text.now.store.now) text.now.a text.now.b text.now.rows.now)
+        edit.now.sections.now.items (splice edit.now.sections.now.items edit.now.from edit.now.end edit.now.kept.now) change) }
 {
-    if !are_plain {
-        let change = found_anew(alloc, config, text, edit, are_plain)?;
-        return Ok(change);
-    }
     let patch = patched_problems(alloc, config, text, edit)?;
     let lines = text.edited().len();
     if let Some(patch) = patch
@@ -78,7 +70,7 @@ fn change_of<S: LineStore>(
     {
         return Ok(Change::Patch(patch));
     }
-    let change = found_anew(alloc, config, text, edit, are_plain)?;
+    let change = found_anew(alloc, config, text, edit)?;
     Ok(change)
 }
 
@@ -105,18 +97,6 @@ fn section_edit<'a, A: Allocator + Copy>(
     SectionEdit::new(kept, overviews, from, new.end, new.kept.as_slice())
 }
 
-/// Whether all sections are seen to be plain before the edit and after it.
-fn are_plain_by<A: Allocator>(known: &KnownSections<A>, edit: &SectionEdit<'_, A>) -> bool
-    requires known { known.now.are_plain ≡ true → AllByRecursion IsPlain (faultless edit.now.sections.now.items) }
-    ensures before { result ≡ true → known.now.are_plain ≡ true }
-    ensures after { result ≡ true → AllByRecursion IsPlain (faultless (splice edit.now.sections.now.items edit.now.from edit.now.end edit.now.kept.now)) }
-{
-    if !known.are_plain {
-        return false;
-    }
-    are_plain(edit.kept)
-}
-
 /// Overviews of all sections after the edit; none where all of them stay.
 fn overviews_by<A: Allocator + Copy>(
     alloc: A,
@@ -133,7 +113,7 @@ fn overviews_by<A: Allocator + Copy>(
     Ok(Some(after))
 }
 
-/// What becomes of the problems by an edit of lines, where what is kept of the sections becomes this, and of what is known of them.
+/// What becomes of the problems by an edit of lines, where what is kept of the sections becomes this, and of their overviews.
 pub fn renewal_of<S: LineStore>(
     alloc: S::Alloc,
     config: &Config,
@@ -146,26 +126,22 @@ pub fn renewal_of<S: LineStore>(
     requires range { IsRange new.now.from new.now.end (length known.now.kept.items) }
     requires few { AreFew known.now.kept.items }
     requires few_then { AreFew (splice known.now.kept.items new.now.from new.now.end new.now.kept.items) }
-    requires known { IsKnown known.now.kept.items known.now.overviews.items known.now.are_plain }
-    ensures makes { IfOk result (λ r. Makes config.now (known_text config.now (S.rows text.now.store.now) known.now.kept.items known.now.are_plain)
-        (known_text config.now (splice (S.rows text.now.store.now) text.now.a text.now.b text.now.rows.now) (splice known.now.kept.items new.now.from new.now.end new.now.kept.items) r.are_plain) r.change) }
-    ensures known { IfOk result (λ r. IsKnownAfter (splice known.now.kept.items new.now.from new.now.end new.now.kept.items) known.now.overviews.items r.overviews r.are_plain) }
+    requires overviews { AreOverviews known.now.kept.items known.now.overviews.items }
+    requires plain { AllByRecursion IsPlain (faultless known.now.kept.items) }
+    requires plain_then { AllByRecursion IsPlain (faultless (splice known.now.kept.items new.now.from new.now.end new.now.kept.items)) }
+    ensures makes { IfOk result (λ r. Makes config.now (S.rows text.now.store.now) (splice (S.rows text.now.store.now) text.now.a text.now.b text.now.rows.now)
+        known.now.kept.items (splice known.now.kept.items new.now.from new.now.end new.now.kept.items) r.change) }
+    ensures overviews { IfOk result (λ r. AreOverviewsAfter (splice known.now.kept.items new.now.from new.now.end new.now.kept.items) known.now.overviews.items r.overviews) }
 {
     let stay = new.leaves(&known.kept);
     if stay && reads_alike(alloc, config, text)? {
         return Ok(Renewal {
             change: Change::Stay,
             overviews: None,
-            are_plain: known.are_plain,
         });
     }
     let edit = section_edit(known, new);
-    let are_plain = are_plain_by(known, &edit);
-    let change = change_of(alloc, config, text, &edit, found, are_plain)?;
+    let change = change_of(alloc, config, text, &edit, found)?;
     let overviews = overviews_by(alloc, stay, &edit)?;
-    Ok(Renewal {
-        change,
-        overviews,
-        are_plain,
-    })
+    Ok(Renewal { change, overviews })
 }

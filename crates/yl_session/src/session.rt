@@ -43,7 +43,7 @@ pub struct Session<S: LineStore> {
 }
 
 impl<S: LineStore> Model for Session<S> {
-    ghost use Rattle.std.specs.Prelude.{◌≡◌, true, map};
+    ghost use Rattle.std.specs.Prelude.{◌≡◌, map};
     ghost use Rattle.yl_session.specs.State.{SessionValue};
     ghost use Rattle.yl_record.specs.Records.{characters_in};
     ghost use Rattle.yl_sections.specs.Judge.{kept_of_section};
@@ -52,7 +52,7 @@ impl<S: LineStore> Model for Session<S> {
     ghost use Rattle.yl_lint.specs.TextReport.{report};
     ghost use Rattle.yl_parting.specs.Changes.{parts_in};
     ghost use Rattle.yl_found.specs.Found.{all_parts};
-    ghost use Rattle.yl_session.specs.Known.{IsKnown};
+    ghost use Rattle.yl_overview.specs.Overview.{AreOverviews};
     ghost use Rattle.yl_text.specs.Store.{AreLines};
 
     ghost Value = { SessionValue };
@@ -63,8 +63,8 @@ impl<S: LineStore> Model for Session<S> {
         × AreHeld (characters_in (S.rows s.store)) s.cut s.records.items
         × (s.known.kept.items ≡ map (kept_of_section s.config) (sections s.records.items))
         × (s.found.shown.items ≡ report s.config (S.rows s.store))
-        × IsKnown s.known.kept.items s.known.overviews.items s.known.are_plain
-        × (s.known.are_plain ≡ true → parts_in s.found ≡ all_parts s.config (S.rows s.store) s.known.kept.items) };
+        × AreOverviews s.known.kept.items s.known.overviews.items
+        × (parts_in s.found ≡ all_parts s.config (S.rows s.store) s.known.kept.items) };
 }
 
 impl<S: LineStore> Session<S> {
@@ -179,12 +179,8 @@ impl<S: LineStore> Session<S> {
             &mut plan.rescan.records,
         );
         self.cut = plan.rescan.cut;
-        let Renewal {
-            change,
-            overviews,
-            are_plain,
-        } = plan.renewal;
-        put_kept(&mut self.known, &mut plan.rejudged, overviews, are_plain);
+        let Renewal { change, overviews } = plan.renewal;
+        put_kept(&mut self.known, &mut plan.rejudged, overviews);
         self.found.renew(change, spare);
         Ok(plan.work)
     }

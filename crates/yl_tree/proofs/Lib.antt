@@ -6,6 +6,7 @@ pub mod Frames
 pub mod Keys
 pub mod KeyTold
 pub mod Names
+pub mod Own
 pub mod References
 pub mod Skipped
 pub mod Unused

@@ -12,11 +12,9 @@ use Rattle.yl_rejudge.specs.Alike.{GoOnAlike}
 use Rattle.yl_rejudge.specs.Documents.{TakesNothing}
 use Rattle.yl_rescan.specs.Held.{AreHeld}
 use Rattle.yl_config.specs.declared.config.Config.{Config}
-use Rattle.yl_lint.specs.TextReport.{report, report_by}
 use Rattle.yl_lint.proofs.FewLines.{few_lines}
+use Rattle.yl_found.proofs.SectionsPlain.{kept_plain}
 use Rattle.yl_session.proofs.Bounds.{are_few, count_records}
-use Rattle.yl_session.proofs.HeldReport.{held_report}
-use Rattle.yl_session.proofs.Parts.{told_so}
 use Rattle.yl_session.proofs.Renewed.{has_row, is_work}
 use Rattle.yl_session.proofs.planning.planned.Goals as goal
 
@@ -121,9 +119,13 @@ renewal_of-requires-clause-few_then g c =
     let is = spliced_is olds r.records.items c.deref.result.now c.new-spliced.result r.from r.old_end c.deref.ensures.value c.new-spliced.ensures in
     are_few c.args.config.now new r.cut us (splice c.args.known.now.kept.items j.from j.end j.kept.items) c.requires.text.new c.in_ok-rescan.ensures.held (kept_is c.args.config.now (splice c.args.known.now.kept.items j.from j.end j.kept.items) c.new-spliced.result us c.in_ok-rejudged.ensures.kept is)
 
--- the report is that of the text, whatever is kept of what stands below a fault
-reported : (config : Config) (ps : List RowValue) (cut : Option ℕ) (rs : List RecordValue) (ks : List KeptValue) → AreHeld (characters_in ps) cut rs → ks ≡ map (kept_of_section config) (sections rs) → report_by config ps ks ≡ report config ps
-reported config ps cut rs ks held is = ap (λ (ls : List KeptValue). report_by config ps ls) is ∙ held_report config ps cut rs held
+pub renewal_of-requires-clause-plain : goal.renewal_of-requires-clause-plain
+renewal_of-requires-clause-plain g c = kept_plain c.args.config.now (sections c.args.records.now.items) c.args.known.now.kept.items c.requires.kept
+
+pub renewal_of-requires-clause-plain_then : goal.renewal_of-requires-clause-plain_then
+renewal_of-requires-clause-plain_then g c =
+    let j = c.in_ok-rejudged.rejudged in
+    kept_plain c.args.config.now (sections c.new-spliced.result) (splice c.args.known.now.kept.items j.from j.end j.kept.items) c.in_ok-rejudged.ensures.kept
 
 pub returns-clause-kept : goal.returns-clause-kept
 returns-clause-kept g c =
@@ -132,22 +134,6 @@ returns-clause-kept g c =
     let olds = c.args.records.now.items in
     let is = spliced_is olds r.records.items c.deref.result.now c.new-spliced.result r.from r.old_end c.deref.ensures.value c.new-spliced.ensures in
     kept_is c.args.config.now (splice c.args.known.now.kept.items j.from j.end j.kept.items) c.new-spliced.result (splice olds r.from r.old_end r.records.items) c.in_ok-rejudged.ensures.kept is
-
-pub returns-clause-makes : goal.returns-clause-makes
-returns-clause-makes g c =
-    let config = c.args.config.now in
-    let rows = g.S.Lines.rows c.args.text.now.store.now in
-    let new = splice rows c.args.text.now.a c.args.text.now.b c.args.text.now.rows.now in
-    let r = c.in_ok-rescan.rescan in
-    let j = c.in_ok-rejudged.rejudged in
-    let olds = c.args.records.now.items in
-    let us = splice olds r.from r.old_end r.records.items in
-    let kept = c.args.known.now.kept.items in
-    let ks = splice kept j.from j.end j.kept.items in
-    let renewal = c.in_ok-renewal.renewal in
-    let is = spliced_is olds r.records.items c.deref.result.now c.new-spliced.result r.from r.old_end c.deref.ensures.value c.new-spliced.ensures in
-    told_so config rows new kept ks c.args.known.now.are_plain renewal.are_plain (report_by config rows kept) (report_by config new ks) (report config rows) (report config new) renewal.change (reported config rows c.args.cut olds kept c.requires.held c.requires.kept)
-    (reported config new r.cut us ks c.in_ok-rescan.ensures.held (kept_is config ks c.new-spliced.result us c.in_ok-rejudged.ensures.kept is)) c.in_ok-renewal.ensures.makes
 
 pub returns-clause-work : goal.returns-clause-work
 returns-clause-work g c =

@@ -15,6 +15,5 @@ returns g c =
     let o = c.in_ok-patch.patch in
     let p = c.in-Some.patch in
     let all = c.in_ok-patch.ensures in
-    let plain = c.if-not-are_plain.false in
-    makes_patched config rows (splice rows text.a text.b text.rows.now) ks (splice ks edit.from edit.end edit.kept.now) c.args.are_plain p plain (c.requires.plain plain) (c.requires.plain_then plain) (omega (arith, few_lines rows c.requires.text.old))
+    makes_patched config rows (splice rows text.a text.b text.rows.now) ks (splice ks edit.from edit.end edit.kept.now) p c.requires.plain (omega (arith, few_lines rows c.requires.text.old))
     (omega (arith, c.requires.edit.few.rows)) (in_some _ o p c.in-Some.is all.lines) (in_some _ o p c.in-Some.is all.judged) (in_some _ o p c.in-Some.is all.shown_order) (in_some _ o p c.in-Some.is all.suppressed_order) (in_some _ o p c.in-Some.is all.told) (in_some _ o p c.in-Some.is all.parts)

@@ -1,9 +1,10 @@
 use Rattle.std.proofs.Common.{List, sym, subst}
 use Rattle.std.specs.List.{AllByRecursion}
+use Rattle.yl_text.proofs.Every.{all_filter}
 use Rattle.yl_report.specs.Report.{ProblemValue}
 use Rattle.yl_parting.specs.Order.{IsInOrder}
 use Rattle.yl_parting.specs.Parts.{IsLow, stays_judged}
-use Rattle.yl_parting.proofs.Ordered.{all_filter, order_filter}
+use Rattle.yl_parting.proofs.Ordered.{order_filter}
 use Rattle.yl_parting.proofs.change.FoundProblems.judge_again.Goals as goal
 
 pub merge_indentation-requires-clause-order : goal.merge_indentation-requires-clause-order

@@ -14,11 +14,15 @@ use Rattle.yl_lint.specs.TextReport.{report}
 use Rattle.yl_parting.specs.Changes.{parts_in, renewed}
 use Rattle.yl_parting.specs.Parts.{PartsValue}
 use Rattle.yl_parting.specs.Rooms.{IsReady}
-use Rattle.yl_session.specs.Known.{IsKnown, IsKnownAfter}
+use Rattle.yl_parting.specs.declared.change.Change.{Change}
+use Rattle.yl_found.specs.Found.{all_parts}
+use Rattle.yl_overview.specs.Overview.{AreOverviews}
+use Rattle.yl_session.specs.Known.{AreOverviewsAfter}
+use Rattle.yl_session.specs.Parts.{Makes}
 use Rattle.yl_session.specs.State.{SessionValue}
 use Rattle.yl_lint.proofs.FewLines.{few_lines}
 use Rattle.yl_session.proofs.Bounds.{count_records, few_kept}
-use Rattle.yl_session.proofs.Parts.{parts_same}
+use Rattle.yl_session.proofs.Parts.{parts_same, shown_is_report}
 use Rattle.yl_session.proofs.session.Session.change.Goals as goal
 
 -- what holds holds where it is refused
@@ -105,8 +109,8 @@ invariant_of-self g c =
       held_same rows rows c.self.inside.cut c.self.inside.records.items c.make_room.new.records.items refl c.make_room.ensures.records c.self.invariant.1,
       kept_same config c.self.inside.known.kept.items c.make_room.new.kept.items c.self.inside.records.items c.make_room.new.records.items c.make_room.ensures.kept c.make_room.ensures.records c.self.invariant.2,
       shown_same c.make_room.ensures.found ∙ c.self.invariant.3,
-      subst (λ (ks : List KeptValue). IsKnown ks c.self.inside.known.overviews.items c.self.inside.known.are_plain) (sym c.make_room.ensures.kept) c.self.invariant.4,
-      λ h. c.make_room.ensures.found ∙ parts_same config rows rows c.self.inside.known.kept.items c.make_room.new.kept.items (parts_in c.self.inside.found) refl c.make_room.ensures.kept (c.self.invariant.5 h),
+      subst (λ (ks : List KeptValue). AreOverviews ks c.self.inside.known.overviews.items) (sym c.make_room.ensures.kept) c.self.invariant.4,
+      c.make_room.ensures.found ∙ parts_same config rows rows c.self.inside.known.kept.items c.make_room.new.kept.items (parts_in c.self.inside.found) refl c.make_room.ensures.kept c.self.invariant.5,
     )
 
 pub invariant_of-self-in_err-splice : goal.invariant_of-self-in_err-splice
@@ -120,15 +124,19 @@ invariant_of-self-in_err-splice g c =
       held_same rows left c.self.inside.cut c.self.inside.records.items c.make_room.new.records.items e c.make_room.ensures.records c.self.invariant.1,
       kept_same config c.self.inside.known.kept.items c.make_room.new.kept.items c.self.inside.records.items c.make_room.new.records.items c.make_room.ensures.kept c.make_room.ensures.records c.self.invariant.2,
       shown_same c.make_room.ensures.found ∙ (c.self.invariant.3 ∙ ap (report config) e),
-      subst (λ (ks : List KeptValue). IsKnown ks c.self.inside.known.overviews.items c.self.inside.known.are_plain) (sym c.make_room.ensures.kept) c.self.invariant.4,
-      λ h. c.make_room.ensures.found ∙ parts_same config rows left c.self.inside.known.kept.items c.make_room.new.kept.items (parts_in c.self.inside.found) e c.make_room.ensures.kept (c.self.invariant.5 h),
+      subst (λ (ks : List KeptValue). AreOverviews ks c.self.inside.known.overviews.items) (sym c.make_room.ensures.kept) c.self.invariant.4,
+      c.make_room.ensures.found ∙ parts_same config rows left c.self.inside.known.kept.items c.make_room.new.kept.items (parts_in c.self.inside.found) e c.make_room.ensures.kept c.self.invariant.5,
     )
 
-pub put_kept-requires-clause-known : goal.put_kept-requires-clause-known
-put_kept-requires-clause-known g c =
+pub put_kept-requires-clause-overviews : goal.put_kept-requires-clause-overviews
+put_kept-requires-clause-overviews g c =
     let new = c.in_ok-plan.plan.rejudged in
-    let renewal = c.in_ok-plan.plan.renewal in
-    subst (λ (ks : List KeptValue). IsKnownAfter (splice ks new.from new.end new.kept.items) c.self.inside.known.overviews.items renewal.overviews renewal.are_plain) (sym c.make_room.ensures.kept) c.in_ok-plan.ensures.known
+    subst (λ (ks : List KeptValue). AreOverviewsAfter (splice ks new.from new.end new.kept.items) c.self.inside.known.overviews.items c.in_ok-plan.plan.renewal.overviews) (sym c.make_room.ensures.kept) c.in_ok-plan.ensures.overviews
+
+-- what a change makes of both lists
+made_of : {A : Type 0} (config : Config) (rows new : List RowValue) (ks ls : List KeptValue) (change : Change A) (old room now : PartsValue) → Makes config rows new ks ls change → old ≡ all_parts config rows ks → room ≡ old
+    → now ≡ renewed change room → now ≡ all_parts config new ls
+made_of config rows new ks ls change old room now makes is same renew = renew ∙ (ap (renewed change) (same ∙ is) ∙ makes.parts)
 
 pub invariant_of-self-2 : goal.invariant_of-self-2
 invariant_of-self-2 g c =
@@ -149,28 +157,31 @@ invariant_of-self-2 g c =
     let put : seen ≡ left = ap (λ (ps : List RowValue). splice rows c.args.a c.args.b ps) c.as_slice.ensures.value ∙ e in
     let records = put_in c.fill_room.new.self.items c.make_room.new.records.items c.self.inside.records.items scan.records.items scan.from scan.old_end c.fill_room.ensures.items c.make_room.ensures.records in
     let kept = put_in c.put_kept.new.known.kept.items c.make_room.new.kept.items c.self.inside.known.kept.items judged.kept.items judged.from judged.end c.put_kept.ensures.items c.make_room.ensures.kept in
-    let told = c.in_ok-plan.ensures.makes.parts (parts_in c.self.inside.found) (record { shown = c.self.invariant.3; all = c.self.invariant.5 }) in
-    let made : parts_in c.renew.new.self ≡ renewed plan.renewal.change (parts_in c.self.inside.found) =
-    c.renew.ensures ∙ ap (λ (ps : PartsValue). renewed plan.renewal.change ps) c.make_room.ensures.found in (
+    let made = made_of config rows seen c.self.inside.known.kept.items ks plan.renewal.change (parts_in c.self.inside.found) (parts_in c.make_room.new.found) (parts_in c.renew.new.self) c.in_ok-plan.ensures.makes c.self.invariant.5
+    c.make_room.ensures.found c.renew.ensures in (
       subst P e (subst Q here c.requires.lines),
       held_same seen left scan.cut rs c.fill_room.new.self.items put records c.in_ok-plan.ensures.held,
       kept_same config ks c.put_kept.new.known.kept.items rs c.fill_room.new.self.items kept records c.in_ok-plan.ensures.kept,
-      ap (λ (ps : PartsValue). ps.shown) made ∙ (told.shown ∙ ap (report config) put),
-      c.put_kept.ensures.known,
-      λ h. made ∙ parts_same config seen left ks c.put_kept.new.known.kept.items (renewed plan.renewal.change (parts_in c.self.inside.found)) put kept (told.all (sym c.put_kept.ensures.plain ∙ h)),
+      shown_same made ∙ (shown_is_report config seen scan.cut rs ks c.in_ok-plan.ensures.held c.in_ok-plan.ensures.kept ∙ ap (report config) put),
+      c.put_kept.ensures.overviews,
+      parts_same config seen left ks c.put_kept.new.known.kept.items (parts_in c.renew.new.self) put kept made,
     )
 
 pub returns-clause-problems : goal.returns-clause-problems
 returns-clause-problems g c =
     let rows = g.S.Lines.rows c.self.inside.store in
-    let put : splice rows c.args.a c.args.b c.as_slice.result.now ≡ g.S.Lines.rows c.splice.new.self = ap (λ (ps : List RowValue). splice rows c.args.a c.args.b ps) c.as_slice.ensures.value ∙ sym c.in_ok-splice.ensures.ok in
+    let config = c.self.inside.config in
+    let seen = splice rows c.args.a c.args.b c.as_slice.result.now in
+    let put : seen ≡ g.S.Lines.rows c.splice.new.self = ap (λ (ps : List RowValue). splice rows c.args.a c.args.b ps) c.as_slice.ensures.value ∙ sym c.in_ok-splice.ensures.ok in
     let plan = c.in_ok-plan.plan in
-    let told = c.in_ok-plan.ensures.makes.parts (parts_in c.self.inside.found) (record { shown = c.self.invariant.3; all = c.self.invariant.5 }) in
-    let made : parts_in c.renew.new.self ≡ renewed plan.renewal.change (parts_in c.self.inside.found) =
-    c.renew.ensures ∙ ap (λ (ps : PartsValue). renewed plan.renewal.change ps) c.make_room.ensures.found in
-    ap (λ (ps : PartsValue). ps.shown) made ∙ (told.shown ∙ ap (report c.self.inside.config) put)
+    let scan = plan.rescan in
+    let judged = plan.rejudged in
+    let ks = splice c.self.inside.known.kept.items judged.from judged.end judged.kept.items in
+    let made = made_of config rows seen c.self.inside.known.kept.items ks plan.renewal.change (parts_in c.self.inside.found) (parts_in c.make_room.new.found) (parts_in c.renew.new.self) c.in_ok-plan.ensures.makes c.self.invariant.5
+    c.make_room.ensures.found c.renew.ensures in
+    shown_same made
+    ∙ (shown_is_report config seen scan.cut (splice c.self.inside.records.items scan.from scan.old_end scan.records.items) ks c.in_ok-plan.ensures.held c.in_ok-plan.ensures.kept ∙ ap (report config) put)
 
 pub renew-requires-clause-ready : goal.renew-requires-clause-ready
 renew-requires-clause-ready g c =
-    subst (λ (ps : PartsValue). IsReady c.in_ok-plan.plan.renewal.change ps) (sym c.make_room.ensures.found)
-    (c.in_ok-plan.ensures.makes.ready (parts_in c.self.inside.found) (record { shown = c.self.invariant.3; all = c.self.invariant.5 }))
+    subst (λ (ps : PartsValue). IsReady c.in_ok-plan.plan.renewal.change ps) (sym (c.make_room.ensures.found ∙ c.self.invariant.5)) c.in_ok-plan.ensures.makes.ready

@@ -1,0 +1,90 @@
+-- The facts of lexemes of a text's first lines stand in these lines.
+use Rattle.std.proofs.Common.{◌<◌, ℕ, ◌+◌, List, [], ◌∷◌, map, Option, Some, None}
+use Rattle.std.specs.Prelude.{⊤, IfSome, slice_get, slice_index, nat_lt}
+use Rattle.std.specs.List.{AllByRecursion}
+use Rattle.yl_text.proofs.Every.{all_both, all_got, all_if}
+use Rattle.yl_lexeme.specs.declared.lexeme.Kind.{Kind}
+use Rattle.yl_lexeme.specs.declared.lexeme.Kind.TheVariants.{Directive, DocStart, DocEnd, Entry, Key, Value, Comma, SeqOpen, SeqClose, MapOpen, MapClose, Alias, Anchor, Tag, Scalar}
+use Rattle.yl_marks.specs.declared.token.Token.{Token}
+use Rattle.yl_marks.specs.declared.symbol.Marked.{Marked}
+use Rattle.yl_marks.specs.declared.symbol.Marked.TheVariants.{Open, Close, Lexeme}
+use Rattle.yl_indentation.specs.declared.element.Site.{Site}
+use Rattle.yl_indentation.specs.declared.element.Element.{Element}
+use Rattle.yl_indentation.specs.declared.element.Element.TheVariants.{Opening, Closing, Marker, OpeningBracket, ClosingBracket, Other, Nothing}
+use Rattle.yl_indentation.specs.declared.fact.Expectation.{Expectation}
+use Rattle.yl_indentation.specs.declared.fact.Fact.{Fact}
+use Rattle.yl_indentation.specs.Elements.{element_at, element_of, lexeme_element}
+use Rattle.yl_indentation.specs.Facts.{expectation_at, fact_at, fact_at_site, fact_of, facts_after, indent_facts, is_checked, latest_lexeme}
+
+module _ (rows : ℕ) where
+  -- its lexeme, if it is one, begins in these lines
+  abbrev Begins : Element → Type 0
+  Begins (Opening collection column) = ⊤
+  Begins Closing = ⊤
+  Begins (Marker site) = site.token.start.line < rows
+  Begins (OpeningBracket site) = site.token.start.line < rows
+  Begins (ClosingBracket site) = site.token.start.line < rows
+  Begins (Other site) = site.token.start.line < rows
+  Begins Nothing = ⊤
+
+  abbrev Within : Fact → Type 0
+  Within f = f.line < rows
+
+  begins_at : (kind : Kind) (site : Site) → site.token.start.line < rows → Begins (element_at kind site)
+  begins_at Directive site h = h
+  begins_at DocStart site h = h
+  begins_at DocEnd site h = h
+  begins_at Entry site h = h
+  begins_at Key site h = h
+  begins_at Value site h = h
+  begins_at Comma site h = h
+  begins_at SeqOpen site h = h
+  begins_at SeqClose site h = h
+  begins_at MapOpen site h = h
+  begins_at MapClose site h = h
+  begins_at Alias site h = h
+  begins_at Anchor site h = h
+  begins_at Tag site h = h
+  begins_at (Scalar style) site h = h
+
+  lexeme_begins : (tokens : List Token) (counted : ℕ) (indentations : List ℕ) (i : ℕ) (x : Option Token)
+      → IfSome x (λ t. t.start.line < rows) → Begins (lexeme_element tokens counted indentations i x)
+  lexeme_begins tokens counted indentations i None h = tt
+  lexeme_begins tokens counted indentations i (Some x) h =
+      begins_at x.kind (record { token = x; next = slice_get tokens (i + 1); indentation = slice_index indentations x.start.line; counts = nat_lt i counted }) h
+
+  element_begins : (tokens : List Token) (counted : ℕ) (indentations : List ℕ) (m : Marked)
+      → AllByRecursion (λ t. t.start.line < rows) tokens → Begins (element_of tokens counted indentations m)
+  element_begins tokens counted indentations (Open collection column) h = tt
+  element_begins tokens counted indentations Close h = tt
+  element_begins tokens counted indentations (Lexeme i begins) h =
+      lexeme_begins tokens counted indentations i (slice_get tokens i) (all_got (λ (t : Token). t.start.line < rows) tokens i h)
+
+  elements_begin : (tokens : List Token) (counted : ℕ) (indentations : List ℕ) (ms : List Marked)
+      → AllByRecursion (λ t. t.start.line < rows) tokens → AllByRecursion Begins (map (element_of tokens counted indentations) ms)
+  elements_begin tokens counted indentations [] h = tt
+  elements_begin tokens counted indentations (m ∷ ms) h = (element_begins tokens counted indentations m h, elements_begin tokens counted indentations ms h)
+
+  own_fact : (x : Token) (e : Option Expectation) → x.start.line < rows → AllByRecursion Within (fact_of x e)
+  own_fact x None h = tt
+  own_fact x (Some e) h = (h, tt)
+
+  own_at_site : (before : List Element) (site : Site) → site.token.start.line < rows → AllByRecursion Within (fact_at_site before site)
+  own_at_site before site h = all_if Within (is_checked site (latest_lexeme before)) _ (own_fact site.token (expectation_at before site.token) h)
+
+  own_at : (before : List Element) (e : Element) → Begins e → AllByRecursion Within (fact_at before e)
+  own_at before (Opening collection column) h = tt
+  own_at before Closing h = tt
+  own_at before (Marker site) h = tt
+  own_at before (OpeningBracket site) h = own_at_site before site h
+  own_at before (ClosingBracket site) h = own_at_site before site h
+  own_at before (Other site) h = own_at_site before site h
+  own_at before Nothing h = tt
+
+  own_after : (before es : List Element) → AllByRecursion Begins es → AllByRecursion Within (facts_after before es)
+  own_after before [] h = tt
+  own_after before (e ∷ es) h = all_both Within _ _ (own_at before e h.0) (own_after (e ∷ before) es h.1)
+
+  pub own_facts : (tokens : List Token) (marks : List Marked) (counted : ℕ) (indentations : List ℕ)
+      → AllByRecursion (λ t. t.start.line < rows) tokens → AllByRecursion (λ f. f.line < rows) (indent_facts tokens marks counted indentations)
+  own_facts tokens marks counted indentations h = own_after [] _ (elements_begin tokens counted indentations marks h)
