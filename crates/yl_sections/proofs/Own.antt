@@ -1,5 +1,5 @@
 -- What is kept of a section stands in its own lines: what is found in it, its facts and its comments.
-use Rattle.std.proofs.Common.{◌≡◌, ◌<◌, ◌≤◌, ℕ, ◌+◌, Bool, true, false, List, [], ◌∷◌, ◌++◌, length, map, take, Option, Some, None, arith}
+use Rattle.std.proofs.Common.{◌≡◌, ◌<◌, ◌≤◌, ℕ, ◌+◌, Bool, true, false, List, [], ◌∷◌, length, map, take, Option, Some, None, arith, refl}
 use Rattle.std.specs.Prelude.{IfSome, slice_get}
 use Rattle.std.specs.List.{AllByRecursion, flat_map}
 use Rattle.std.specs.Str.{chars}
@@ -7,15 +7,14 @@ use Rattle.std.proofs.lemmas.List.{length-take}
 use Rattle.yl_text.specs.declared.finding.RuleId.{RuleId}
 use Rattle.yl_text.specs.declared.finding.RuleId.TheVariants.{Comments, Indentation}
 use Rattle.yl_text.specs.Finding.{FindingValue}
-use Rattle.yl_text.proofs.Every.{all_both, all_filter, all_flat_map, all_got, all_if, all_then}
+use Rattle.yl_text.proofs.Every.{all_both, all_filter, all_flat_map, all_got, all_if}
 use Rattle.yl_lexeme.specs.Lexeme.{LexemeValue, CommentValue, PlacedCommentValue}
-use Rattle.yl_marks.specs.declared.token.Token.{Token}
 use Rattle.yl_marks.specs.ByLine.{by_line}
 use Rattle.yl_marks.specs.Keys.{lexeme_at_line, token_of}
 use Rattle.yl_marks.specs.Marks.{marked_lexemes}
 use Rattle.yl_events.specs.declared.symbol.Outline.{Outline}
 use Rattle.yl_events.specs.DocumentOutcome.{DocumentOutcome, Events, Fails}
-use Rattle.yl_events.specs.Event.{EventAnchorValue, EventValue, anchor_of, event_of_outline, place_of, start_at, start_of}
+use Rattle.yl_events.specs.Event.{EventValue, anchor_of, event_of_outline, place_of, start_at, start_of}
 use Rattle.yl_events.specs.Parsing.{parser_at_start, start_events, document_outcome_of_lines}
 use Rattle.yl_layout.proofs.Own.{OfLexemeRules, own_lexemes}
 use Rattle.yl_indentation.specs.declared.fact.Fact.{Fact}
@@ -28,7 +27,7 @@ use Rattle.yl_config.specs.declared.config.Config.{Config}
 use Rattle.yl_config.specs.Config.{options_of}
 use Rattle.yl_record.specs.Records.{RecordValue}
 use Rattle.yl_sections.specs.declared.comments.LexemeEnd.{LexemeEnd}
-use Rattle.yl_sections.specs.Kept.{BuiltValue, SectionFaultValue, comment_at, comment_lines, comments_from, column_in, counted_of, items_if, is_on, last_lexeme_end, lexeme_options_of, section_fault, scan_fault_from, shown_comment_findings, shown_comments, shown_events, tree_options_of}
+use Rattle.yl_sections.specs.Kept.{SectionFaultValue, comment_at, comment_lines, comments_from, counted_of, items_if, is_on, last_lexeme_end, lexeme_options_of, section_fault, scan_fault_from, shown_comment_findings, shown_comments, shown_events, tree_options_of}
 use Rattle.yl_sections.specs.Judge.{built_by, document_of, kept_of_section}
 use Rattle.yl_sections.specs.Sections.{lexemes_from, lexemes_of}
 

@@ -1,11 +1,10 @@
 use Rattle.std.proofs.Common.{List, ap, subst, sym, ◌∙◌}
-use Rattle.std.specs.List.{AllByRecursion, splice}
+use Rattle.std.specs.List.{splice}
 use Rattle.yl_text.specs.Lines.{RowValue}
 use Rattle.yl_text.specs.Store.{AreLines}
 use Rattle.yl_sections.specs.Kept.{KeptValue}
-use Rattle.yl_found.specs.Faultless.{faultless}
 use Rattle.yl_found.specs.Found.{all_parts}
-use Rattle.yl_found.specs.Plain.{IsPlain, IsSurveyed}
+use Rattle.yl_found.specs.Plain.{IsSurveyed}
 use Rattle.yl_found.proofs.Given.{surveyed}
 use Rattle.yl_session.proofs.renewing.found_anew.Goals as goal
 
