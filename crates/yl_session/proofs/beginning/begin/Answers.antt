@@ -1,7 +1,7 @@
 use Rattle.std.proofs.Common.{List, None, ap, refl, subst, sym, ◌∙◌}
 use Rattle.yl_sections.specs.Kept.{KeptValue}
 use Rattle.yl_sections.specs.Sections.{sections}
-use Rattle.yl_lint.specs.TextReport.{kept_of_text, records_of}
+use Rattle.yl_lint.specs.TextReport.{records_of}
 use Rattle.yl_overview.specs.Overview.{AreOverviews}
 use Rattle.yl_overview.specs.declared.overview.Overview.{Overview}
 use Rattle.yl_found.specs.Found.{all_parts}
@@ -17,7 +17,6 @@ known_of-requires g c =
     are_few c.args.config.now rows None (records_of rows) c.in_ok-kept.kept.items c.requires refl (c.in_ok-kept.ensures ∙ c.in_ok-records.ensures.kept)
 
 pub found_problems-requires-clause-overview : goal.found_problems-requires-clause-overview
-unfolding kept_of_text
 found_problems-requires-clause-overview g c =
     let rows = g.S.Lines.rows c.args.store.now in
     let ks = c.in_ok-known.known.kept.items in
