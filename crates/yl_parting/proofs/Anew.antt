@@ -11,7 +11,7 @@ use Rattle.yl_parting.specs.Changes.{PatchValue, all_moved, patch_in, patched_li
 use Rattle.yl_parting.specs.Order.{merged}
 use Rattle.yl_parting.specs.Parts.{PartsValue, above, behind, shifted}
 use Rattle.yl_parting.specs.Popped.{IsTaken}
-use Rattle.yl_parting.specs.Rooms.{HasRoomFor, count_anew, crossing, fault_count}
+use Rattle.yl_parting.specs.Rooms.{HasRoomFor, IsRoomFor, count_anew, crossing, fault_count}
 use Rattle.yl_parting.specs.Showing.{is_shown_by}
 
 -- what was taken out, with the last one last again
@@ -79,25 +79,28 @@ crossing_some (Some s) n h = refl
 
 -- with fewer that are shown, and no more that are not but the indentation that is judged anew
 pub less_room : {A : Type 0} (f g : FoundProblems A) (p q : LinesPatch A) (room left : Vec ProblemValue A) → HasRoomFor f p room → vec_len g.shown ≤ vec_len f.shown → vec_capacity g.shown ≡ vec_capacity f.shown
-    → vec_len g.suppressed + count_anew q.indentation ≤ vec_len f.suppressed + count_anew p.indentation → vec_capacity f.suppressed ≤ vec_capacity g.suppressed → left.items ≡ [] → vec_capacity room ≤ vec_capacity left
+    → vec_len g.suppressed + count_anew q.indentation ≤ vec_len f.suppressed + count_anew p.indentation → vec_capacity f.suppressed ≤ vec_capacity g.suppressed → ((n : ℕ) → IsRoomFor n room → IsRoomFor n left)
     → q.shown ≡ p.shown → q.suppressed ≡ p.suppressed → q.below ≡ p.below → q.fault ≡ p.fault → HasRoomFor g q left
-less_room {A} f g p q room left h l e m k empty spare shown suppressed below fault =
+less_room {A} f g p q room left h l e m k goes_on shown suppressed below fault =
     let b = p.below in
     let same : (n : ℕ) → crossing q.below n ≡ crossing b n = λ n. ap (λ (o : Option (Showing A)). crossing o n) below in
     record {
       shown = omega (arith, h.shown, l, e, same (vec_len g.suppressed + count_anew q.indentation), crossing-le b (vec_len g.suppressed + count_anew q.indentation) (vec_len f.suppressed + count_anew p.indentation) m, ap vec_len shown, ap fault_count fault);
       suppressed = omega (arith, h.suppressed, m, k, same (vec_len g.shown), crossing-le b (vec_len g.shown) (vec_len f.shown) l, ap vec_len suppressed);
       spare =
-          omega (
-            arith,
-            h.spare,
-            spare,
-            same (vec_len g.shown + (vec_len g.suppressed + count_anew q.indentation)),
-            crossing-le b (vec_len g.shown + (vec_len g.suppressed + count_anew q.indentation)) (vec_len f.shown + (vec_len f.suppressed + count_anew p.indentation)) (omega (arith, l, m)),
-          );
-      empty = empty;
+          let r = goes_on (crossing b (vec_len f.shown + (vec_len f.suppressed + count_anew p.indentation))) h.spare in record {
+            empty = r.empty;
+            enough =
+                omega (
+                  arith,
+                  r.enough,
+                  same (vec_len g.shown + (vec_len g.suppressed + count_anew q.indentation)),
+                  crossing-le b (vec_len g.shown + (vec_len g.suppressed + count_anew q.indentation)) (vec_len f.shown + (vec_len f.suppressed + count_anew p.indentation)) (omega (arith, l, m)),
+                );
+          };
     }
 
--- room for the indentation that is judged anew
-pub anew_room : {A : Type 0} (f : FoundProblems A) (p : LinesPatch A) (room : Vec ProblemValue A) → HasRoomFor f p room → IsSome p.below → vec_len f.suppressed + count_anew p.indentation ≤ vec_capacity room
-anew_room f p room h some = omega (arith, h.spare, crossing_some p.below (vec_len f.shown + (vec_len f.suppressed + count_anew p.indentation)) some)
+-- room for the indentation that is judged anew: where it is, what stands below is parted anew
+pub room_for_anew : {S T A : Type 0} (o : Option S) (below : Option T) (n m : ℕ) (room : Vec ProblemValue A) → (IsSome o → IsSome below) → n ≤ m → IsRoomFor (crossing below m) room → IsRoomFor (crossing o n) room
+room_for_anew None below n m room h l r = record { empty = r.empty; enough = omega arith }
+room_for_anew (Some s) below n m room h l r = record { empty = r.empty; enough = omega (arith, crossing_some below m (h refl), l, r.enough) }

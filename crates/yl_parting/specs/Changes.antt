@@ -4,7 +4,7 @@ use Rattle.std.specs.List.{filter}
 use Rattle.std.specs.Option.{option_map}
 use Rattle.yl_report.specs.Report.{ProblemValue}
 use Rattle.yl_parting.specs.declared.change.Change.{Change}
-use Rattle.yl_parting.specs.declared.change.Change.TheVariants.{Stay, Patch, Anew}
+use Rattle.yl_parting.specs.declared.change.Change.TheVariants.{Stay, Patch}
 use Rattle.yl_parting.specs.declared.change.LinesPatch.{LinesPatch}
 use Rattle.yl_parting.specs.declared.change.FoundProblems.{FoundProblems}
 use Rattle.yl_parting.specs.Order.{merged}
@@ -74,4 +74,3 @@ patched p ps = patched_lines p (judged_again p.old_end p.indentation ps)
 abbrev pub renewed : {A : Type 0} → Change A → PartsValue → PartsValue
 renewed Stay ps = ps
 renewed (Patch p) ps = with_fault p.fault (patched (patch_in p) (without_fault ps))
-renewed (Anew found) ps = parts_in found

@@ -3,9 +3,10 @@ use Rattle.std.specs.Prelude.{◌≡◌, ℕ, ◌+◌, ◌≤◌, Bool, false, L
 use Rattle.std.specs.List.{AllByRecursion, filter}
 use Rattle.yl_report.specs.Report.{ProblemValue}
 use Rattle.yl_parting.specs.declared.change.Change.{Change}
-use Rattle.yl_parting.specs.declared.change.Change.TheVariants.{Stay, Patch, Anew}
+use Rattle.yl_parting.specs.declared.change.Change.TheVariants.{Stay, Patch}
 use Rattle.yl_parting.specs.declared.change.FoundProblems.{FoundProblems}
 use Rattle.yl_parting.specs.declared.change.LinesPatch.{LinesPatch}
+use Rattle.yl_parting.specs.declared.change.Spare.{Spare}
 use Rattle.yl_parting.specs.Order.{IsInOrder}
 use Rattle.yl_parting.specs.Parts.{IsLow, PartsValue, is_no_fault, is_upto, stays_judged, without_fault}
 
@@ -24,18 +25,21 @@ abbrev pub count_anew : {A : Type 0} → Option (Vec ProblemValue A) → ℕ
 count_anew None = 0
 count_anew (Some new) = vec_len new
 
--- room for what the patch puts in, for the text's fault, and in `spare` for what it takes out meanwhile
+-- an empty list with room for so many
+pub record IsRoomFor {A : Type 0} (n : ℕ) (room : Vec ProblemValue A) : Type 0 where
+  pub empty : room.items ≡ []
+  pub enough : n ≤ vec_capacity room
+
+-- room for what the patch puts in, for the text's fault, and in `room` for what it takes out meanwhile
 pub record HasRoomFor {A : Type 0} (f : FoundProblems A) (p : LinesPatch A) (room : Vec ProblemValue A) : Type 0 where
   pub shown : vec_len f.shown + vec_len p.shown + crossing p.below (vec_len f.suppressed + count_anew p.indentation) + fault_count p.fault ≤ vec_capacity f.shown
   pub suppressed : vec_len f.suppressed + count_anew p.indentation + vec_len p.suppressed + crossing p.below (vec_len f.shown) ≤ vec_capacity f.suppressed
-  pub spare : crossing p.below (vec_len f.shown + (vec_len f.suppressed + count_anew p.indentation)) ≤ vec_capacity room
-  pub empty : room.items ≡ []
+  pub spare : IsRoomFor (crossing p.below (vec_len f.shown + (vec_len f.suppressed + count_anew p.indentation))) room
 
 -- room for a change
-abbrev pub HasRoom : {A : Type 0} → FoundProblems A → Change A → Vec ProblemValue A → Type 0
+abbrev pub HasRoom : {A : Type 0} → FoundProblems A → Change A → Spare A → Type 0
 HasRoom f Stay spare = Unit {0}
-HasRoom f (Patch p) spare = HasRoomFor f p spare
-HasRoom f (Anew found) spare = Unit {0}
+HasRoom f (Patch p) spare = HasRoomFor f p spare.taken
 
 -- lists in order, whose lines can be counted on from
 pub record AreOrdered (ps : PartsValue) : Type 0 where
@@ -71,4 +75,3 @@ pub record IsReadyFor {A : Type 0} (p : LinesPatch A) (ps : PartsValue) : Type 0
 abbrev pub IsReady : {A : Type 0} → Change A → PartsValue → Type 0
 IsReady Stay ps = Unit {0}
 IsReady (Patch p) ps = IsReadyFor p ps
-IsReady (Anew found) ps = Unit {0}

@@ -28,10 +28,18 @@ pub struct LinesPatch<A: Allocator> {
     pub fault: Option<Problem<A>>,
 }
 
-/// What an edit makes of what is found: it stays, some lines are patched, or all was found anew.
+/// What an edit makes of what is found: it stays, or some lines are patched.
 #[derive(Drop)]
 pub enum Change<A: Allocator> {
     Stay,
     Patch(LinesPatch<A>),
-    Anew(FoundProblems<A>),
+}
+
+/// Room that a change needs beside both lists: for what is taken out of them meanwhile, and a list that fits in place of one that would be left
+/// with far more room than it needs.
+#[derive(Drop)]
+pub struct Spare<A: Allocator> {
+    pub taken: Vec<Problem<A>, A>,
+    pub shown: Option<Vec<Problem<A>, A>>,
+    pub suppressed: Option<Vec<Problem<A>, A>>,
 }

@@ -1,9 +1,9 @@
 //! Indentation that is judged anew, in place of what was found of it behind some lines.
-ghost use Rattle.std.specs.Prelude.{◌≡◌, ◌+◌, ◌≤◌, [], ◌++◌, reverse, vec_len, vec_capacity};
+ghost use Rattle.std.specs.Prelude.{◌≡◌, ◌+◌, ◌≤◌, ℕ, [], ◌++◌, reverse, vec_len, vec_capacity};
 ghost use Rattle.std.specs.List.{AllByRecursion, filter};
 ghost use Rattle.yl_parting.specs.Order.{IsInOrder, merged};
 ghost use Rattle.yl_parting.specs.Parts.{IsLow, stays_judged};
-ghost use Rattle.yl_parting.specs.Rooms.{IsIndentation};
+ghost use Rattle.yl_parting.specs.Rooms.{IsIndentation, IsRoomFor};
 ghost use Rattle.yl_parting.specs.Showing.{is_indentation};
 
 use crate::merging::take_behind;
@@ -53,13 +53,11 @@ pub fn merge_indentation<A: Allocator>(
     requires low { AllByRecursion IsLow problems.old.items }
     requires new { IsIndentation line new.items }
     requires room { vec_len problems.old + vec_len new ≤ vec_capacity problems.old }
-    requires spare_room { vec_len problems.old + vec_len new ≤ vec_capacity spare.old }
-    requires empty { spare.old.items ≡ [] }
+    requires spare { IsRoomFor (vec_len problems.old + vec_len new) spare.old }
     ensures items { problems.new.items ≡ merged problems.old.items new.items }
     ensures len { vec_len problems.new ≤ vec_len problems.old + vec_len new }
     ensures room { vec_capacity problems.old ≤ vec_capacity problems.new }
-    ensures spare { spare.new.items ≡ [] }
-    ensures spare_room { vec_capacity spare.old ≤ vec_capacity spare.new }
+    ensures spare { (n : ℕ) → IsRoomFor n spare.old → IsRoomFor n spare.new }
 {
     take_behind(problems, &mut new, line, line, spare);
     push_back(problems, spare);

@@ -16,6 +16,6 @@ mod places;
 mod shifting;
 mod showing;
 
-pub use change::{Change, FoundProblems, LinesPatch};
+pub use change::{Change, FoundProblems, LinesPatch, Spare};
 pub use laws::{faults_come, faults_go, parts_follow, parts_stay_in_order, reports_are_in_order};
 pub use showing::{Showing, is_of_lines};

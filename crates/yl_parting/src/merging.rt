@@ -1,11 +1,12 @@
 //! What stands behind some lines in two lists, taken out and given back.
 ghost use Rattle.std.specs.Prelude.{◌≡◌, ◌+◌, ◌≤◌, not, [], ◌++◌, reverse, vec_len, vec_capacity};
-ghost use Rattle.std.specs.List.{AllByRecursion, filter};
+ghost use Rattle.std.specs.List.{filter};
 ghost use Rattle.yl_report.specs.Report.{ProblemValue};
 ghost use Rattle.yl_parting.specs.Later.{ends_later};
 ghost use Rattle.yl_parting.specs.Order.{IsInOrder};
-ghost use Rattle.yl_parting.specs.Parts.{IsLow, above, behind};
+ghost use Rattle.yl_parting.specs.Parts.{above, behind};
 ghost use Rattle.yl_parting.specs.Popped.{IsTaken, PopsBehind, PopsLast};
+ghost use Rattle.yl_parting.specs.Rooms.{AreOrdered, IsRoomFor};
 ghost use Rattle.yl_parting.specs.Showing.{is_shown_by};
 
 use crate::comparing::comes_before;
@@ -71,12 +72,8 @@ pub fn take_behind<A: Allocator>(
     new_end: u32,
     spare: &mut Vec<Problem<A>, A>,
 )
-    requires shown { IsInOrder shown.old.items }
-    requires suppressed { IsInOrder suppressed.old.items }
-    requires shown_low { AllByRecursion IsLow shown.old.items }
-    requires suppressed_low { AllByRecursion IsLow suppressed.old.items }
-    requires empty { spare.old.items ≡ [] }
-    requires room { vec_len shown.old + vec_len suppressed.old ≤ vec_capacity spare.old }
+    requires ordered { AreOrdered (record { shown = shown.old.items; suppressed = suppressed.old.items }) }
+    requires room { IsRoomFor (vec_len shown.old + vec_len suppressed.old) spare.old }
     ensures taken { IsTaken old_end new_end shown.old.items suppressed.old.items shown.new.items suppressed.new.items spare.new.items }
     ensures shown { behind old_end shown.new.items ≡ [] }
     ensures suppressed { behind old_end suppressed.new.items ≡ [] }

@@ -3,7 +3,7 @@ ghost use Rattle.std.specs.Prelude.{◌≡◌, ◌+◌, ◌≤◌, OnOk, vec_len
 ghost use Rattle.yl_parting.specs.Order.{put_in};
 ghost use Rattle.yl_parting.specs.Rooms.{count_anew, crossing, fault_count};
 
-use crate::change::{Change, FoundProblems, LinesPatch};
+use crate::change::{Change, FoundProblems, LinesPatch, Spare};
 use crate::judging::{drop_indentation, merge_indentation};
 use crate::merging::{give_back, keep_above, take_behind};
 use crate::places::{are_low, count_before, count_upto};
@@ -22,8 +22,8 @@ fn count_crossing<A: Allocator>(below: &Option<Showing<A>>, count: usize) -> usi
     }
 }
 
-/// Where there is room for more problems than these, a list moves into room that fits if most of its own would stay empty.
-const LEAST: usize = 64;
+/// A list of four times as many problems is no worth a move, however few of them are left.
+const LEAST: usize = 16;
 
 /// The text's fault, counted.
 fn count_fault<A: Allocator>(fault: &Option<Problem<A>>) -> usize
@@ -45,39 +45,40 @@ fn count_indentation<A: Allocator>(indentation: &Option<Vec<Problem<A>, A>>) -> 
     }
 }
 
-/// Makes room for so many more problems. Where most of it would stay empty, they move into room that fits.
-fn fit<A: Allocator + Copy>(
-    alloc: A,
-    problems: &mut Vec<Problem<A>, A>,
-    more: usize,
-) -> Result<(), AllocError>
-    ensures items { problems.new.items ≡ problems.old.items }
-    ensures len { vec_len problems.new ≡ vec_len problems.old }
-    ensures room { OnOk result (vec_len problems.old + more ≤ vec_capacity problems.new) }
-{
-    let Some(count) = problems.len().checked_add(more) else {
-        return Err(AllocError);
-    };
-    let room = problems.capacity();
-    if room > LEAST && count < room / 4 {
-        let mut fitting = Vec::with_capacity(alloc, count)?;
-        fitting.append(problems).unwrap();
-        *problems = fitting;
-        return Ok(());
-    }
-    problems.try_reserve(more)?;
-    Ok(())
+/// How many of these a patch leaves: those in the first `first` lines, and those behind `old_end`. It looks at few of them.
+fn count_left<A: Allocator>(problems: &[Problem<A>], first: u32, old_end: u32) -> usize {
+    let above = problems.partition_point(|problem| problem.line() <= u64::from(first));
+    let upto = problems.partition_point(|problem| problem.line() <= u64::from(old_end));
+    let behind = problems.len().saturating_sub(upto);
+    above.saturating_add(behind)
 }
 
-/// How many of these stand behind the first lines, up to `old_end`.
-fn count_between<A: Allocator>(problems: &[Problem<A>], first: u32, old_end: u32) -> usize {
-    let mut count: usize = 0;
-    for problem in problems {
-        if u64::from(first) < problem.line() && problem.line() <= u64::from(old_end) {
-            count = count.saturating_add(1);
-        }
+/// In place of a list with so much room, in which so many problems are left, one that has room for these; none where it is not far too large
+/// for them, or for a text of so many lines.
+fn fitting<A: Allocator>(
+    alloc: A,
+    room: usize,
+    count: usize,
+    lines: usize,
+) -> Result<Option<Vec<Problem<A>, A>>, AllocError> {
+    if room / 4 <= count.max(lines).max(LEAST) {
+        return Ok(None);
     }
-    count
+    let list = Vec::with_capacity(alloc, count)?;
+    Ok(Some(list))
+}
+
+/// Moves the problems into the list that fits them, if there is one. It takes no memory.
+fn settle<A: Allocator>(problems: &mut Vec<Problem<A>, A>, fitting: Option<Vec<Problem<A>, A>>)
+    ensures { problems.new.items ≡ problems.old.items }
+{
+    let Some(mut list) = fitting else {
+        return;
+    };
+    if list.is_empty() && problems.len() <= list.capacity() {
+        list.append(problems).unwrap();
+        *problems = list;
+    }
 }
 
 /// Puts a problem in its place, where there is room. It takes no memory.
@@ -90,13 +91,13 @@ fn put_in<A: Allocator>(problems: &mut Vec<Problem<A>, A>, problem: Problem<A>)
 }
 
 impl<A: Allocator + Copy> FoundProblems<A> {
-    ghost use Rattle.std.specs.Prelude.{◌≡◌, ◌+◌, ◌≤◌, [], true, IfOk, IfSome, IsSome, IsNone, OnErr, OnOk, vec_len, vec_capacity};
+    ghost use Rattle.std.specs.Prelude.{◌≡◌, ◌+◌, ◌≤◌, ℕ, true, IfOk, IfSome, IsSome, IsNone, OnErr, OnOk, vec_len, vec_capacity};
     ghost use Rattle.std.specs.List.{AllByRecursion};
     ghost use Rattle.std.specs.Option.{option_map};
     ghost use Rattle.yl_parting.specs.Changes.{parts_in, patch_in, patched, patched_lines, renewed};
     ghost use Rattle.yl_parting.specs.Order.{IsInOrder};
     ghost use Rattle.yl_parting.specs.Parts.{IsLow, judged_again, with_fault, without_fault};
-    ghost use Rattle.yl_parting.specs.Rooms.{AreOrdered, HasRoom, HasRoomFor, IsIndentation, IsReady, IsReadyFor, ToldFault, count_anew, fault_count};
+    ghost use Rattle.yl_parting.specs.Rooms.{AreOrdered, HasRoom, HasRoomFor, IsIndentation, IsReady, IsReadyFor, IsRoomFor, ToldFault, count_anew, crossing, fault_count};
 
     /// Takes the text's fault out of what is shown, if one may be there.
     fn take_fault(&mut self, had_fault: bool)
@@ -141,15 +142,13 @@ impl<A: Allocator + Copy> FoundProblems<A> {
         requires ordered { AreOrdered (parts_in self.old) }
         requires new { IfSome indentation (λ new. IsIndentation line new.items) }
         requires room { vec_len self.old.suppressed + count_anew indentation ≤ vec_capacity self.old.suppressed }
-        requires spare_room { IsSome indentation → vec_len self.old.suppressed + count_anew indentation ≤ vec_capacity spare.old }
-        requires empty { spare.old.items ≡ [] }
+        requires spare { IsRoomFor (crossing indentation (vec_len self.old.suppressed + count_anew indentation)) spare.old }
         ensures parts { parts_in self.new ≡ judged_again line (option_map (λ v. v.items) indentation) (parts_in self.old) }
         ensures shown { vec_len self.new.shown ≤ vec_len self.old.shown }
         ensures shown_room { vec_capacity self.new.shown ≡ vec_capacity self.old.shown }
         ensures suppressed { vec_len self.new.suppressed ≤ vec_len self.old.suppressed + count_anew indentation }
         ensures suppressed_room { vec_capacity self.old.suppressed ≤ vec_capacity self.new.suppressed }
-        ensures spare { spare.new.items ≡ [] }
-        ensures spare_room { vec_capacity spare.old ≤ vec_capacity spare.new }
+        ensures spare { (n : ℕ) → IsRoomFor n spare.old → IsRoomFor n spare.new }
     {
         let Some(new) = indentation else {
             return;
@@ -272,27 +271,6 @@ impl<A: Allocator + Copy> FoundProblems<A> {
         are_low(&self.shown) && are_low(&self.suppressed)
     }
 
-    /// Whether a patch would leave both lists with much more room than problems, more than a text of so many lines is worth: then all is better
-    /// found anew.
-    pub fn is_too_roomy_behind(&self, patch: &LinesPatch<A>, lines: usize) -> bool {
-        let room = self
-            .shown
-            .capacity()
-            .saturating_add(self.suppressed.capacity());
-        if room <= LEAST || lines >= room / 4 {
-            return false;
-        }
-        let (first, end) = (patch.first, patch.old_end);
-        let gone = count_between(&self.shown, first, end).saturating_add(count_between(
-            &self.suppressed,
-            first,
-            end,
-        ));
-        let come = patch.shown.len().saturating_add(patch.suppressed.len());
-        let all = self.shown.len().saturating_add(self.suppressed.len());
-        all.saturating_sub(gone).saturating_add(come) < room / 4
-    }
-
     /// Makes room in both lists for what the patch puts in, and a list for what it takes out meanwhile.
     fn make_room_for(
         &mut self,
@@ -324,37 +302,82 @@ impl<A: Allocator + Copy> FoundProblems<A> {
         let Some(and_anew) = more_suppressed.checked_add(anew) else {
             return Err(AllocError);
         };
-        fit(alloc, &mut self.shown, and_fault)?;
-        fit(alloc, &mut self.suppressed, and_anew)?;
+        self.shown.try_reserve(and_fault)?;
+        self.suppressed.try_reserve(and_anew)?;
         let spare = Vec::with_capacity(alloc, count)?;
         Ok(spare)
     }
 
-    /// Makes room for what the change puts in; what it hands out is needed by `renew`. Where there is no memory, all is as it was.
+    /// Lists that fit, in place of those that the patch would leave with far more room than problems, in a text of so many lines.
+    fn lists_that_fit(
+        &self,
+        alloc: A,
+        taken: Vec<Problem<A>, A>,
+        patch: &LinesPatch<A>,
+        lines: usize,
+    ) -> Result<Spare<A>, AllocError>
+        ensures { IfOk result (λ spare. spare.taken ≡ taken) }
+    {
+        let (first, end) = (patch.first, patch.old_end);
+        let anew = count_indentation(&patch.indentation);
+        let shown = count_left(&self.shown, first, end);
+        let suppressed = count_left(&self.suppressed, first, end).saturating_add(anew);
+        let most_shown = shown
+            .saturating_add(count_crossing(&patch.below, suppressed))
+            .saturating_add(patch.shown.len())
+            .saturating_add(count_fault(&patch.fault));
+        let most_suppressed = suppressed
+            .saturating_add(count_crossing(&patch.below, shown))
+            .saturating_add(patch.suppressed.len());
+        let shown = fitting(alloc, self.shown.capacity(), most_shown, lines)?;
+        let suppressed = fitting(alloc, self.suppressed.capacity(), most_suppressed, lines)?;
+        Ok(Spare {
+            taken,
+            shown,
+            suppressed,
+        })
+    }
+
+    /// Makes room for what the change puts in, where the text has so many lines then; what it hands out is needed by `renew`. Where there is no
+    /// memory, all is as it was.
     pub fn make_room(
         &mut self,
         alloc: A,
         change: &Change<A>,
-    ) -> Result<Vec<Problem<A>, A>, AllocError>
+        lines: usize,
+    ) -> Result<Spare<A>, AllocError>
         ensures parts { parts_in self.new ≡ parts_in self.old }
         ensures room { IfOk result (λ spare. HasRoom self.new change.now spare) }
     {
         match change {
-            Change::Patch(patch) => self.make_room_for(alloc, patch),
-            _ => Ok(Vec::new(alloc)),
+            Change::Patch(patch) => {
+                let taken = self.make_room_for(alloc, patch)?;
+                self.lists_that_fit(alloc, taken, patch, lines)
+            }
+            Change::Stay => Ok(Spare {
+                taken: Vec::new(alloc),
+                shown: None,
+                suppressed: None,
+            }),
         }
     }
 
     /// Makes the change, for which there is room. It takes no memory.
-    pub fn renew(&mut self, change: Change<A>, spare: Vec<Problem<A>, A>)
+    pub fn renew(&mut self, change: Change<A>, spare: Spare<A>)
         requires room { HasRoom self.old change spare }
         requires ready { IsReady change (parts_in self.old) }
         ensures { parts_in self.new ≡ renewed change (parts_in self.old) }
     {
-        match change {
-            Change::Stay => {}
-            Change::Patch(patch) => self.patch_lines(patch, spare),
-            Change::Anew(found) => *self = found,
-        }
+        let Change::Patch(patch) = change else {
+            return;
+        };
+        let Spare {
+            taken,
+            shown,
+            suppressed,
+        } = spare;
+        self.patch_lines(patch, taken);
+        settle(&mut self.shown, shown);
+        settle(&mut self.suppressed, suppressed);
     }
 }

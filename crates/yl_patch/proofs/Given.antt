@@ -1,14 +1,16 @@
 -- What is found there is the same by equal lines; and the touched lines lie in the new text.
-use Rattle.std.proofs.Common.{◌≡◌, ◌≤◌, ℕ, Bool, length, true, false, List, refl, ap, sym, arith}
+use Rattle.std.proofs.Common.{◌≡◌, ◌≤◌, ◌<◌, ◌+◌, ◌==◌, ◌∙◌, ℕ, zero, suc, Bool, length, true, false, List, inl, inr, refl, ap, sym, arith}
 use Rattle.std.proofs.Math.Bool.{beq}
+use Rattle.std.proofs.lemmas.Bool.{cases_lt, eq-eqb}
 use Rattle.std.specs.List.{splice}
-use Rattle.std.specs.Prelude.{not}
+use Rattle.std.specs.Prelude.{not, slice_get}
 use Rattle.yl_text.specs.Lines.{RowValue}
 use Rattle.yl_text.specs.Store.{IsRange}
 use Rattle.yl_indentation.specs.declared.measure.Measure.{Measure}
 use Rattle.yl_settings.specs.declared.options.RuleOptions.{RuleOptions}
 use Rattle.yl_sections.specs.Kept.{KeptValue}
-use Rattle.yl_patch.specs.Cut.{IsInside}
+use Rattle.yl_patch.specs.Cut.{IsApart, IsInside, is_filled}
+use Rattle.yl_patch.specs.Seen.{IsCut}
 use Rattle.yl_lint.specs.There.{found_there}
 use Rattle.yl_lint.specs.declared.there.Ends.{Ends}
 use Rattle.yl_patch.specs.declared.touched.Touched.{Touched}
@@ -32,3 +34,39 @@ window_fits rows ins edited a b t l m inside is =
       ordered = omega (arith, inside.new_some);
       within = omega (arith, inside.fits, inside.back, n, here);
     }
+
+-- ---- where the touched lines stand
+
+some_first : (n : ℕ) → (n == 0) ≡ false → 0 < n
+some_first zero h = never (sym h)
+some_first (suc n) h = omega arith
+
+some_behind : (n m : ℕ) → n ≤ m → (n == m) ≡ false → n < m
+some_behind n m l h = elim (cases_lt n m) [
+  | inl lower ↦ lower
+  | inr past ↦ never (sym (sym (eq-eqb n m (omega (arith, l, past))) ∙ h))
+]
+
+-- an edit of lines that stand apart, where they stand
+pub is_cut : (rows ins : List RowValue) (a b first old_end count lines : ℕ) (t : Touched) (e : Ends) → IsApart rows ins a b first old_end count → t.first ≡ first → t.old_end ≡ old_end → t.new_end ≡ t.first + count
+    → lines ≡ length rows → e.begins ≡ (t.first == 0) → e.ends ≡ (t.old_end == lines) → IsCut rows ins a b first old_end count t e
+is_cut rows ins a b first old_end count lines t e h f o n len begins ends = record {
+  inside = record {
+    begins = omega (arith, f, h.begins);
+    ends = omega (arith, o, h.ends);
+    back = omega (arith, o, h.back);
+    old_some = omega (arith, f, o, h.old_some);
+    new_some = omega (arith, n, h.new_some);
+    fits = omega (arith, f, o, n, h.fits);
+  };
+  first = f;
+  old_end = o;
+  new_end = n;
+  begins_text = begins;
+  ends_text = ends ∙ ap (λ k. t.old_end == k) len;
+  old_seam = λ x. ap (λ k. is_filled (slice_get rows k)) f ∙ h.old_seam (omega (arith, f, some_first t.first (sym begins ∙ x)));
+  new_seam = λ x. ap (λ k. is_filled (slice_get (splice rows a b ins) k)) f ∙ h.new_seam (omega (arith, f, some_first t.first (sym begins ∙ x)));
+  behind_seam = λ x.
+      let low : t.old_end ≤ lines = omega (arith, o, h.back, len) in
+      ap (λ k. is_filled (slice_get rows k)) o ∙ h.behind_seam (omega (arith, o, len, some_behind t.old_end lines low (sym ends ∙ x)));
+}

@@ -5,6 +5,7 @@ pub mod Given
 pub mod Later
 pub mod Parts
 pub mod PartsEdited
+pub mod PatchReady
 pub mod Renewed
 pub mod SeenPatch
 pub mod Shown

@@ -1,5 +1,6 @@
 -- Meaning: an edit within the lines of some sections, where the lines before them and behind them, if there are any, stay as they are.
-use Rattle.std.specs.Prelude.{◌≡◌, ◌<◌, ◌≤◌, ◌+◌, ◌==◌, ℕ, Bool, false, not, length, Option, Some, None}
+use Rattle.std.specs.Prelude.{◌≡◌, ◌<◌, ◌≤◌, ◌+◌, ◌==◌, ℕ, Bool, true, false, not, length, slice_get, List, Option, Some, None}
+use Rattle.std.specs.List.{splice}
 use Rattle.yl_text.specs.Lines.{RowValue}
 use Rattle.yl_patch.specs.declared.touched.Touched.{Touched}
 
@@ -7,6 +8,19 @@ use Rattle.yl_patch.specs.declared.touched.Touched.{Touched}
 abbrev pub is_filled : Option RowValue → Bool
 is_filled None = false
 is_filled (Some row) = not (length row.text == 0)
+
+-- the edit that puts these rows in place of the lines a to b lies in the lines behind the first `first`, up to `old_end`; in place of them come so
+-- many. They stand apart from those above and from those behind: each run begins with a line that is not empty, in the old text and in the new one
+pub record IsApart (rows ins : List RowValue) (a b first old_end count : ℕ) : Type 0 where
+  pub begins : first ≤ a
+  pub ends : b ≤ old_end
+  pub back : old_end ≤ length rows
+  pub old_some : first < old_end
+  pub new_some : 0 < count
+  pub fits : first + count + b ≡ old_end + a + length ins
+  pub old_seam : 0 < first → is_filled (slice_get rows first) ≡ true
+  pub new_seam : 0 < first → is_filled (slice_get (splice rows a b ins) first) ≡ true
+  pub behind_seam : old_end < length rows → is_filled (slice_get rows old_end) ≡ true
 
 -- the edit that puts so many lines in place of the lines a to b lies in the lines that the touched sections have, in the old text of so
 -- many lines and in the new one

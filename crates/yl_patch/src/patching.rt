@@ -1,20 +1,21 @@
 //! What an edit makes of what is found in a text.
-ghost use Rattle.std.specs.Prelude.{◌≡◌, ◌≤◌, ◌&&◌, true, false, is_none, IfOk, IfSome, MatchOption};
+ghost use Rattle.std.specs.Prelude.{◌≡◌, ◌&&◌, true, false, is_none, take, IfOk, MatchOption};
 ghost use Rattle.std.specs.List.{AllByRecursion, splice};
 ghost use Rattle.yl_config.specs.Config.{levels_of};
 ghost use Rattle.yl_report.specs.Heard.{nothing_silenced};
 ghost use Rattle.yl_report.specs.Report.{report_of};
 ghost use Rattle.yl_parting.specs.Changes.{parts_in, patch_in, patched};
-ghost use Rattle.yl_parting.specs.Order.{IsInOrder};
 ghost use Rattle.yl_parting.specs.Parts.{parted, with_fault, without_fault};
-ghost use Rattle.yl_parting.specs.Rooms.{IsJudgedReady, ToldFault};
+ghost use Rattle.yl_parting.specs.Rooms.{IsReadyFor};
 ghost use Rattle.yl_parting.specs.Showing.{is_shown_by};
+ghost use Rattle.yl_rejudge.specs.Places.{rows_kept};
 ghost use Rattle.yl_overview.specs.Edit.{IsSectionEdit};
 ghost use Rattle.yl_lint.specs.Edit.{IsTextEdit};
 ghost use Rattle.yl_found.specs.Faultless.{faultless};
 ghost use Rattle.yl_found.specs.Found.{all_parts, is_shown};
 ghost use Rattle.yl_found.specs.Plain.{IsPlain, IsSurveyed};
 ghost use Rattle.yl_found.specs.ShownUpto.{is_shown_upto};
+ghost use Rattle.yl_patch.specs.Cut.{IsApart};
 
 use crate::below::stays_shown;
 use crate::indentation::indentation_below;
@@ -73,30 +74,25 @@ fn showing_unless<L: Lines>(
     Ok(Some(showing))
 }
 
-/// What an edit makes of what is found in a text, whose sections are plain before and after it. None where the touched lines are not apart from
-/// the others. Where indentation below is judged otherwise then, it is found anew from the facts that are kept. The only error is out of memory.
+/// What an edit makes of what is found in a text, whose sections are plain before and after it; the touched ones hold its lines. Where indentation
+/// below is judged otherwise then, it is found anew from the facts that are kept. The only error is out of memory.
 pub fn patched_problems<S: LineStore>(
     alloc: S::Alloc,
     config: &Config,
     text: &TextEdit<'_, S>,
     edit: &SectionEdit<'_, S::Alloc>,
-) -> Result<Option<LinesPatch<S::Alloc>>, AllocError>
+) -> Result<LinesPatch<S::Alloc>, AllocError>
     requires text { IsTextEdit (S.rows text.now.store.now) text.now.a text.now.b text.now.rows.now }
     requires edit { IsSectionEdit edit.now }
+    requires apart { IsApart (S.rows text.now.store.now) text.now.rows.now text.now.a text.now.b (rows_kept (take edit.now.from edit.now.sections.now.items)) (rows_kept (take edit.now.end edit.now.sections.now.items)) (rows_kept edit.now.kept.now) }
     requires plain { AllByRecursion IsPlain (faultless edit.now.sections.now.items) }
     requires plain_then { AllByRecursion IsPlain (faultless (splice edit.now.sections.now.items edit.now.from edit.now.end edit.now.kept.now)) }
-    ensures lines { IfOk result (λ o. IfSome o (λ p. p.first ≤ p.old_end)) }
-    ensures judged { IfOk result (λ o. IfSome o (λ p. IsJudgedReady p)) }
-    ensures shown_order { IfOk result (λ o. IfSome o (λ _. IsInOrder (all_parts config.now (S.rows text.now.store.now) edit.now.sections.now.items).shown)) }
-    ensures suppressed_order { IfOk result (λ o. IfSome o (λ _. IsInOrder (all_parts config.now (S.rows text.now.store.now) edit.now.sections.now.items).suppressed)) }
-    ensures told { IfOk result (λ o. IfSome o (λ p. ToldFault p.had_fault (all_parts config.now (S.rows text.now.store.now) edit.now.sections.now.items).shown)) }
-    ensures parts { IfOk result (λ o. IfSome o (λ p. with_fault p.fault (patched (patch_in p) (without_fault (all_parts config.now (S.rows text.now.store.now) edit.now.sections.now.items)))
-        ≡ all_parts config.now (splice (S.rows text.now.store.now) text.now.a text.now.b text.now.rows.now) (splice edit.now.sections.now.items edit.now.from edit.now.end edit.now.kept.now))) }
+    ensures ready { IfOk result (λ p. IsReadyFor p (all_parts config.now (S.rows text.now.store.now) edit.now.sections.now.items)) }
+    ensures parts { IfOk result (λ p. with_fault p.fault (patched (patch_in p) (without_fault (all_parts config.now (S.rows text.now.store.now) edit.now.sections.now.items)))
+        ≡ all_parts config.now (splice (S.rows text.now.store.now) text.now.a text.now.b text.now.rows.now) (splice edit.now.sections.now.items edit.now.from edit.now.end edit.now.kept.now)) }
 {
     let seen = see_edit(alloc, config, text, edit)?;
-    let Some(SeenEdit { touched, found }) = seen else {
-        return Ok(None);
-    };
+    let SeenEdit { touched, found } = seen;
     let (before, after) = (edit.before(), edit.after());
     let edited = text.edited();
     let sections = edit.spliced();
@@ -108,7 +104,7 @@ pub fn patched_problems<S: LineStore>(
     let below = showing_unless(alloc, is_known, &edited, &sections, after)?;
     let fault = fault_of(alloc, config, &edited, &sections, after)?;
     let FoundProblems { shown, suppressed } = parts;
-    Ok(Some(LinesPatch {
+    Ok(LinesPatch {
         first: touched.first,
         old_end: touched.old_end,
         new_end: touched.new_end,
@@ -118,5 +114,5 @@ pub fn patched_problems<S: LineStore>(
         below,
         had_fault: before.has_fault(),
         fault,
-    }))
+    })
 }

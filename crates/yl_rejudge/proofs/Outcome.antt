@@ -7,7 +7,7 @@ use Rattle.yl_sections.specs.Sections.{sections}
 use Rattle.yl_sections.specs.Local.{is_start_at, row_total}
 use Rattle.yl_sections.specs.Kept.{KeptValue, documents_in}
 use Rattle.yl_sections.specs.Judge.{kept_of_section}
-use Rattle.yl_rejudge.specs.Places.{changed_sections, rows_kept}
+use Rattle.yl_rejudge.specs.Places.{AreAround, changed_sections, rows_kept}
 use Rattle.yl_rejudge.specs.Alike.{GoOnAlike}
 use Rattle.yl_rejudge.specs.Documents.{TakesNothing, AreFront, EndsAnew, documents_holding}
 use Rattle.yl_rejudge.proofs.KeptRows.{rows_front}
@@ -125,3 +125,11 @@ module _ (config : Config) (old new : List RecordValue) (kept : List KeptValue) 
       let front : AreFront old x from (rows_kept (take (p + 1) kept)) = subst (λ n. AreFront old n from (rows_kept (take (p + 1) kept))) (sym xe) e.front in
       let judged = kept_anew config old new p x (rows_kept (take (p + 1) kept)) from k kept ks (changed_sections (p + 1) from z new) is (omega (arith, e.section, count)) (xe ∙ at p) (at (p + 1)) few before e.after same front at_p put in
       kept_spliced config old new kept ks (drop x (take from new) ∷ changed_sections (p + 1) from z new) p q is judged (o.changed_anew e.start before)
+
+-- the sections that are judged again, from where the code finds them
+pub around : (new : List RecordValue) (kept : List KeptValue) (from old_end end p q here x y : ℕ) → x ≡ rows_kept (take p kept) → x ≤ here → here ≤ from → y ≡ rows_kept (take q kept)
+    → (q ≡ length kept) ⊎ ((old_end ≤ y) × (is_start_at new (y - old_end + end) ≡ true)) → AreAround kept new from old_end end p q
+around new kept from old_end end p q here x y xe l m ye last = record {
+  first = omega (arith, xe, l, m);
+  last = subst (λ n. (q ≡ length kept) ⊎ ((old_end ≤ n) × (is_start_at new (n - old_end + end) ≡ true))) ye last;
+}

@@ -1,11 +1,11 @@
 //! Judging the sections that an edit changed.
-ghost use Rattle.std.specs.Prelude.{◌≡◌, ◌↔◌, ◌+◌, ◌-◌, ◌<◌, ◌≤◌, ◌^◌, ◌∷◌, ℕ, IsTrue, List, length, map, take, drop, IfOk, OnOk};
+ghost use Rattle.std.specs.Prelude.{◌≡◌, ◌↔◌, ◌⊎◌, ◌+◌, ◌-◌, ◌<◌, ◌≤◌, ◌^◌, ◌∷◌, ℕ, IsTrue, List, length, map, take, drop, IfOk, OnOk};
 ghost use Rattle.std.specs.List.{splice};
 ghost use Rattle.yl_text.specs.Store.{IsRange};
 ghost use Rattle.yl_sections.specs.Sections.{sections};
 ghost use Rattle.yl_sections.specs.Judge.{kept_of_section};
 ghost use Rattle.yl_sections.specs.Kept.{documents_in};
-ghost use Rattle.yl_rejudge.specs.Places.{IsAt, changed_sections, rows_kept};
+ghost use Rattle.yl_rejudge.specs.Places.{AllStay, AreAround, IsAt, changed_sections, rows_kept};
 ghost use Rattle.yl_rejudge.specs.Alike.{GoOnAlike};
 ghost use Rattle.yl_record.specs.Records.{RecordValue};
 ghost use Rattle.yl_sections.specs.Front.{IsFront};
@@ -151,6 +151,7 @@ fn judge_edited<A: Allocator + Copy>(
     requires meter { meter.old.documents + length records.now < 2 ^ 32 - 1 }
     ensures range { IfOk result (λ r. IsRange r.from r.end (length kept.now.items)) }
     ensures kept { IfOk result (λ r. splice kept.now.items r.from r.end r.kept.items ≡ map (kept_of_section config.now) (sections records.now)) }
+    ensures around { IfOk result (λ r. AreAround kept.now.items records.now from old_end end r.from r.end) }
     ensures documents { OnOk result (TakesNothing old.now.items records.now from → (m : ℕ) → end ≤ m + 1
         → meter.new.documents ≤ meter.old.documents + documents_holding 0 from m (sections records.now)) }
     ensures lines { OnOk result (meter.new.lines ≡ meter.old.lines) }
@@ -235,6 +236,7 @@ pub fn rejudge<A: Allocator + Copy>(
     requires meter { meter.old.documents + length records.now < 2 ^ 32 - 1 }
     ensures range { IfOk result (λ r. IsRange r.from r.end (length kept.now.items)) }
     ensures kept { IfOk result (λ r. splice kept.now.items r.from r.end r.kept.items ≡ map (kept_of_section config.now) (sections records.now)) }
+    ensures around { IfOk result (λ r. AreAround kept.now.items records.now from old_end end r.from r.end ⊎ AllStay kept.now.items r.kept.items from old_end end r.from r.end) }
     ensures documents { OnOk result (TakesNothing old.now.items records.now from → (m : ℕ) → end ≤ m + 1
         → meter.new.documents ≤ meter.old.documents + documents_holding 0 from m (sections records.now)) }
     ensures lines { OnOk result (meter.new.lines ≡ meter.old.lines) }

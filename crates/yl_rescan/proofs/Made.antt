@@ -17,7 +17,7 @@ use Rattle.yl_rejudge.specs.Documents.{ReadsNothing, TakesNothing}
 use Rattle.yl_rejudge.proofs.SectionStarts.{not_first, same_before}
 use Rattle.yl_rescan.specs.Agree.{agree, agrees, counterpart, next_cut, read_beyond, state_of_row, BeginsBelow, EndsAt, GoesOn, MayKeep, StopsAt}
 use Rattle.yl_rescan.specs.Held.{AreHeld, IsCutAt}
-use Rattle.yl_rescan.specs.Made.{WasRescanned}
+use Rattle.yl_rescan.specs.Made.{HoldsEdit, WasRescanned}
 use Rattle.yl_rescan.specs.Rescan.{HasStoppedAt, HaveSameState, IsAgreement, IsRescan, IsRestart, IsStop}
 use Rattle.yl_rescan.proofs.Search.{LastAbove}
 use Rattle.yl_rescan.specs.declared.scanning.ScanEnd.{ScanEnd}
@@ -67,7 +67,7 @@ none_agrees ps ns a b o w (Some n) es held i j g s = elim (cases_lt i n) [
 
 -- ---- what is lost
 
-got_in_front : (xs ys : List RecordValue) (n i : ℕ) → take n xs ≡ take n ys → i < n → slice_get xs i ≡ slice_get ys i
+pub got_in_front : (xs ys : List RecordValue) (n i : ℕ) → take n xs ≡ take n ys → i < n → slice_get xs i ≡ slice_get ys i
 got_in_front xs ys n i e l = sym (got_taken xs n i l) ∙ (ap (λ (rs : List RecordValue). slice_get rs i) e ∙ got_taken ys n i l) where
   got_taken : (rs : List RecordValue) (n i : ℕ) → i < n → slice_get (take n rs) i ≡ slice_get rs i
   got_taken rs zero i l = absurd (omega (arith, l))
@@ -134,6 +134,14 @@ module _ (ps ns : List (List ℕ)) (a b : ℕ) (ordered : a ≤ b) (within : b �
 
   restart : IsRestart new a row
   restart = restarted ps ns a b ordered within row state begins (λ j l m. sym (true_state ps cut es j held (above cut a j bound m)) ∙ h.none j l m)
+
+  -- the records that are made anew hold the edited lines
+  holds_by : (old_end last : ℕ) → b ≤ old_end → stop ≤ last → HoldsEdit a b (length ns) row old_end last
+  holds_by old_end last o l = record {
+    above = elim restart.place [ inl z ↦ inr z | inr p ↦ inl p.0 ];
+    old_lines = o;
+    new_lines = l;
+  }
 
   none_before : (j : ℕ) → stop ≤ j → j < end → IsAgreement ps new stop b j → ⊥
   none_before j o l = none_agrees ps ns a b ordered within cut es held (j - stop + b) j (h.goes_on j o l)
@@ -203,6 +211,7 @@ module _ (ps ns : List (List ℕ)) (a b : ℕ) (ordered : a ≤ b) (within : b �
       alike = alike;
       taken = takes_by state begins made (held_length new next made is) same_start (omega (arith, h.low, before));
       below = low;
+      holds = holds_by at end (omega arith) from;
       work = worked end (inl refl);
     }
 
@@ -222,6 +231,7 @@ module _ (ps ns : List (List ℕ)) (a b : ℕ) (ordered : a ≤ b) (within : b �
           alike = nothing_left es (splice es row (length es) (items ++ more)) (length es) (length new) (omega (arith, len));
           taken = takes_by state begins (splice es row (length es) (items ++ more)) len (λ l. ap (λ (rs : List RecordValue). is_start_at rs row) whole) (omega (arith, h.low, before));
           below = tt;
+          holds = holds_by (length es) (length new) (omega (arith, within, count)) (omega (arith, many));
           work = worked (length new) (inr stopped);
         }
 
@@ -278,6 +288,7 @@ module _ (ps ns : List (List ℕ)) (a b : ℕ) (ordered : a ≤ b) (within : b �
         taken = takes_by state begins (splice es row (length es) items) (ap (λ (rs : List RecordValue). length rs) whole ∙ records_length new) (λ l. ap (λ (rs : List RecordValue). is_start_at rs row) whole)
             (row_there state begins last);
         below = tt;
+        holds = holds_by (length es) end (omega (arith, within, count)) (omega (arith, last, many));
         work = record {
           r = row;
           m = length new - 1;
@@ -418,5 +429,6 @@ module _ (ps ns : List (List ℕ)) (a b : ℕ) (ordered : a ≤ b) (within : b �
     alike = nothing_left es (splice es cut (length es) items) (length es) (length edited) (omega (arith, length_is));
     taken = record { within = omega (arith, length_is, many_rows, below); front = λ lost start. absurd (differ _ h.start lost) };
     below = tt;
+    holds = record { above = inl below; old_lines = omega (arith, within, count_rows); new_lines = omega (arith, many_rows) };
     work = work_below;
   }

@@ -1,5 +1,5 @@
 -- Bridge: what scanning an edited text again makes of the records that are kept.
-use Rattle.std.specs.Prelude.{◌≡◌, ◌≤◌, ◌+◌, ℕ, List, Option, IfSome, length, take, drop}
+use Rattle.std.specs.Prelude.{◌≡◌, ◌≤◌, ◌<◌, ◌+◌, ◌⊎◌, ℕ, List, Option, IfSome, length, take, drop}
 use Rattle.std.specs.List.{splice}
 use Rattle.yl_text.specs.Store.{IsRange}
 use Rattle.yl_record.specs.Records.{RecordValue}
@@ -7,6 +7,13 @@ use Rattle.yl_rejudge.specs.Alike.{GoOnAlike}
 use Rattle.yl_rejudge.specs.Documents.{TakesNothing}
 use Rattle.yl_rescan.specs.Held.{AreHeld}
 use Rattle.yl_rescan.specs.Rescan.{IsRescan}
+
+-- where k lines were put in place of those from a on, before b: the records from row `from` on that are made anew, before `old_end` in the old text
+-- and before `end` in the new one, are those of the edited lines and of one above them, if there is one
+pub record HoldsEdit (a b k from old_end end : ℕ) : Type 0 where
+  pub above : (from < a) ⊎ (from ≡ 0)
+  pub old_lines : b ≤ old_end
+  pub new_lines : a + k ≤ end
 
 -- these records, put in place of the old ones from one row on, before another, make those that are kept of the new text: see `rescan`
 pub record WasRescanned (old : List RecordValue) (ps qs : List (List ℕ)) (cut : Option ℕ) (a b k from old_end end n : ℕ) (items : List RecordValue) : Type 0 where
@@ -19,4 +26,5 @@ pub record WasRescanned (old : List RecordValue) (ps qs : List (List ℕ)) (cut 
   pub alike : GoOnAlike old (splice old from old_end items) old_end end
   pub taken : TakesNothing old (splice old from old_end items) from
   pub below : IfSome cut (λ c. end ≤ c)
+  pub holds : HoldsEdit a b k from old_end end
   pub work : IsRescan ps qs a b k from end n

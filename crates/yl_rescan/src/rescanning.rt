@@ -9,7 +9,7 @@ ghost use Rattle.yl_rejudge.specs.Alike.{GoOnAlike};
 ghost use Rattle.yl_rejudge.specs.Documents.{TakesNothing};
 ghost use Rattle.yl_rescan.specs.Agree.{counterpart, next_cut, MayKeep};
 ghost use Rattle.yl_rescan.specs.Held.{AreHeld, IsCutAt};
-ghost use Rattle.yl_rescan.specs.Made.{WasRescanned};
+ghost use Rattle.yl_rescan.specs.Made.{HoldsEdit, WasRescanned};
 ghost use Rattle.yl_rescan.specs.Rescan.{IsRescan};
 ghost use Rattle.yl_rescan.specs.declared.scanning.ScanEnd.TheVariants.{TextEnd};
 
@@ -204,6 +204,7 @@ pub fn rescan<S: LineStore>(
     ensures alike { IfOk result (λ r. GoOnAlike old.now.items (splice old.now.items r.from r.old_end r.records.items) r.old_end r.end) }
     ensures taken { IfOk result (λ r. TakesNothing old.now.items (splice old.now.items r.from r.old_end r.records.items) r.from) }
     ensures below { IfOk result (λ r. IfSome r.cut (λ n. r.end ≤ n)) }
+    ensures holds { IfOk result (λ r. HoldsEdit a b (length rows.now) r.from r.old_end r.end) }
     ensures work { IfOk result (λ r. IsRescan (characters_in (S.rows store.now)) (characters_in (splice (S.rows store.now) a b rows.now)) a b (length rows.now) r.from r.end meter.new.lines) }
     ensures documents { OnOk result (meter.new.documents ≡ meter.old.documents) }
 {

@@ -1,3 +1,4 @@
+mod Apart
 mod Bounds
 mod Changed
 mod HeldShown

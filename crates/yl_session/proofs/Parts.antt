@@ -1,7 +1,6 @@
 -- What a session keeps of what is found in a text stays where the lines are read alike; what is shown of it is the text's report.
-use Rattle.std.proofs.Common.{◌≡◌, ◌<◌, ◌≤◌, ◌^◌, ℕ, Bool, true, List, length, map, ap, sym, subst, ◌∙◌}
+use Rattle.std.proofs.Common.{◌≡◌, ℕ, Bool, true, List, map, ap, sym, subst, ◌∙◌}
 use Rattle.std.specs.Prelude.{Option, Some, None, Vec, MatchOption, slice_get}
-use Rattle.std.specs.List.{AllByRecursion}
 use Rattle.yl_text.specs.declared.position.Pos.{Pos}
 use Rattle.yl_text.specs.Finding.{FindingValue}
 use Rattle.yl_text.specs.Lines.{RowValue}
@@ -20,19 +19,14 @@ use Rattle.yl_lint.specs.TextReport.{comments_in_sections, end_of_lines, fault_i
 use Rattle.yl_lint.specs.Unsilenced.{unsilenced_of_kept}
 use Rattle.yl_overview.specs.Overview.{AreOverviews}
 use Rattle.yl_overview.specs.declared.overview.Overview.{Overview}
+use Rattle.yl_parting.specs.Parts.{PartsValue, parted, with_fault, without_fault}
 use Rattle.yl_parting.specs.Changes.{patch_in, patched}
-use Rattle.yl_parting.specs.Order.{IsInOrder}
-use Rattle.yl_parting.specs.Parts.{IsLow, PartsValue, is_no_fault, parted, with_fault, without_fault}
-use Rattle.yl_parting.specs.Rooms.{IsJudgedReady, IsReadyFor, ToldFault}
+use Rattle.yl_parting.specs.Rooms.{IsReadyFor}
 use Rattle.yl_parting.specs.declared.change.Change.TheVariants.{Patch, Stay}
 use Rattle.yl_parting.specs.declared.change.LinesPatch.{LinesPatch}
 use Rattle.yl_parting.specs.Showing.{shows}
 use Rattle.yl_found.specs.Faultless.{faultless}
-use Rattle.yl_found.specs.Found.{all_parts, parts_of}
-use Rattle.yl_found.specs.Plain.{IsPlain}
-use Rattle.yl_parting.proofs.Ordered.{order_filter}
-use Rattle.yl_found.proofs.EachFound.{parts_low}
-use Rattle.yl_found.proofs.Ready.{fault_apart}
+use Rattle.yl_found.specs.Found.{all_parts}
 use Rattle.yl_found.proofs.ReportShown.{report_shown}
 use Rattle.yl_found.proofs.SectionsPlain.{kept_plain}
 use Rattle.yl_lint.specs.Alike.{AreReadAlike}
@@ -56,35 +50,14 @@ parts_alike config old new ks h =
 pub stays : {A : Type 0} (config : Config) (old new : List RowValue) (ks ls : List KeptValue) → AreReadAlike config old new → ls ≡ ks → Makes {A = A} config old new ks ls Stay
 stays config old new ks ls alike same = record { ready = tt; parts = sym (ap (all_parts config new) same ∙ parts_alike config old new ks alike) }
 
+-- and a patch that is ready makes of both lists those of the edited text
+pub patches : {A : Type 0} (config : Config) (rows new : List RowValue) (ks ls : List KeptValue) (p : LinesPatch A) → IsReadyFor p (all_parts config rows ks)
+    → with_fault p.fault (patched (patch_in p) (without_fault (all_parts config rows ks))) ≡ all_parts config new ls → Makes config rows new ks ls (Patch p)
+patches config rows new ks ls p ready parts = record { ready = ready; parts = parts }
+
 -- where the lines and what is kept are the same
 pub parts_same : (config : Config) (ps qs : List RowValue) (ks ls : List KeptValue) (found : PartsValue) → ps ≡ qs → ls ≡ ks → found ≡ all_parts config ps ks → found ≡ all_parts config qs ls
 parts_same config ps qs ks ls found lines same h = h ∙ (ap (λ (xs : List RowValue). all_parts config xs ks) lines ∙ ap (all_parts config qs) (sym same))
-
--- ---- an edit of plain sections
-
--- both lists are ready for a patch
-ready_for : {A : Type 0} (config : Config) (rows : List RowValue) (ks : List KeptValue) (p : LinesPatch A) → AllByRecursion IsPlain (faultless ks) → length rows < 2 ^ 63 → rows_kept ks < 2 ^ 63
-    → p.first ≤ p.old_end → IsJudgedReady p → IsInOrder (all_parts config rows ks).shown → IsInOrder (all_parts config rows ks).suppressed → ToldFault p.had_fault (all_parts config rows ks).shown → IsReadyFor p (all_parts config rows ks)
-ready_for config rows ks p plain few few_rows lines judged shown suppressed told =
-    let all = all_parts config rows ks in
-    let apart : parts_of config rows ks ≡ without_fault all = sym (fault_apart config rows ks plain) in
-    let low = parts_low config rows ks plain few few_rows in record {
-      lines = lines;
-      judged = judged;
-      ordered = record {
-        shown_in_order = order_filter is_no_fault all.shown shown;
-        suppressed_in_order = suppressed;
-        shown_low = subst (λ (qs : PartsValue). AllByRecursion IsLow qs.shown) apart low.0;
-        suppressed_low = subst (λ (qs : PartsValue). AllByRecursion IsLow qs.suppressed) apart low.1;
-      };
-      fault = told;
-    }
-
--- and what a patch makes of them is that of the edited text
-pub makes_patched : {A : Type 0} (config : Config) (rows new : List RowValue) (ks ls : List KeptValue) (p : LinesPatch A) → AllByRecursion IsPlain (faultless ks) → length rows < 2 ^ 63 → rows_kept ks < 2 ^ 63
-    → p.first ≤ p.old_end → IsJudgedReady p → IsInOrder (all_parts config rows ks).shown → IsInOrder (all_parts config rows ks).suppressed → ToldFault p.had_fault (all_parts config rows ks).shown
-    → with_fault p.fault (patched (patch_in p) (without_fault (all_parts config rows ks))) ≡ all_parts config new ls → Makes config rows new ks ls (Patch p)
-makes_patched config rows new ks ls p plain few few_rows lines judged shown suppressed told parts = record { ready = ready_for config rows ks p plain few few_rows lines judged shown suppressed told; parts = parts }
 
 -- ---- what is shown
 

@@ -23,22 +23,22 @@ use yl_config::Config;
 use yl_lexeme::Meter;
 use yl_lint::TextEdit;
 use yl_overview::nearest;
-use yl_parting::FoundProblems;
+use yl_parting::{FoundProblems, Spare};
 use yl_record::Record;
 use yl_rejudge::{Rejudged, rejudge};
-use yl_report::Problem;
 use yl_rescan::{Rescanned, rescan};
 use yl_sections::Kept;
-use yl_text::LineStore;
+use yl_text::{LineStore, Lines};
 
 /// What an edit is to change: the records of some rows, what is kept of some sections, and what becomes of the overviews of all and of the
-/// problems.
+/// problems; and how many lines the text has then.
 #[derive(Drop)]
 pub struct Plan<A: Allocator> {
     pub rescan: Rescanned<A>,
     pub rejudged: Rejudged<A>,
     pub renewal: Renewal<A>,
     pub work: Work,
+    pub lines: usize,
 }
 
 /// Makes room for what the plan puts in, and hands out the room that the problems need beside. Where there is no memory, all is as it was.
@@ -48,7 +48,7 @@ pub fn make_room<A: Allocator + Copy>(
     kept: &mut Chunks<Kept<A>, A>,
     found: &mut FoundProblems<A>,
     plan: &Plan<A>,
-) -> Result<Vec<Problem<A>, A>, AllocError>
+) -> Result<Spare<A>, AllocError>
     requires range { IsRange plan.now.rescan.from plan.now.rescan.old_end (length records.old.items) }
     requires few { length records.old.items + vec_len plan.now.rescan.records < 2 ^ 64 }
     requires kept_range { IsRange plan.now.rejudged.from plan.now.rejudged.end (length kept.old.items) }
@@ -70,7 +70,7 @@ pub fn make_room<A: Allocator + Copy>(
         plan.rejudged.end,
         plan.rejudged.kept.len(),
     )?;
-    let spare = found.make_room(alloc, &plan.renewal.change)?;
+    let spare = found.make_room(alloc, &plan.renewal.change, plan.lines)?;
     Ok(spare)
 }
 
@@ -83,7 +83,6 @@ pub fn planned<S: LineStore>(
     records: &Chunks<Record<S::Alloc>, S::Alloc>,
     cut: Option<usize>,
     known: &KnownSections<S::Alloc>,
-    found: &FoundProblems<S::Alloc>,
 ) -> Result<Plan<S::Alloc>, AllocError>
     requires text { IsTextEdit (S.rows text.now.store.now) text.now.a text.now.b text.now.rows.now }
     requires held { AreHeld (characters_in (S.rows text.now.store.now)) cut records.now.items }
@@ -117,7 +116,7 @@ pub fn planned<S: LineStore>(
             &mut meter,
         )?
     };
-    let renewal = renewal_of(alloc, config, text, known, found, &rejudged)?;
+    let renewal = renewal_of(alloc, config, text, known, &rejudged)?;
     Ok(Plan {
         rescan,
         rejudged,
@@ -126,5 +125,6 @@ pub fn planned<S: LineStore>(
             scanned: meter.lines,
             documents: meter.documents,
         },
+        lines: text.edited().len(),
     })
 }

@@ -1,5 +1,5 @@
 //! What becomes of the problems of a text that is edited, and of what is known of its sections.
-ghost use Rattle.std.specs.Prelude.{◌≡◌, true, length, IfOk, MatchOption};
+ghost use Rattle.std.specs.Prelude.{◌≡◌, ◌<◌, true, [], length, IfOk, MatchOption};
 ghost use Rattle.std.specs.List.{AllByRecursion, splice};
 ghost use Rattle.yl_text.specs.Store.{IsRange};
 ghost use Rattle.yl_overview.specs.Edit.{IsSectionEdit};
@@ -9,17 +9,17 @@ ghost use Rattle.yl_found.specs.Faultless.{faultless};
 ghost use Rattle.yl_found.specs.Plain.{IsPlain};
 ghost use Rattle.yl_session.specs.Known.{AreOverviewsAfter};
 ghost use Rattle.yl_session.specs.Parts.{Makes};
+ghost use Rattle.yl_session.specs.Touched.{IsEditOf, IsTouching};
 
 use crate::sections::KnownSections;
 use std::alloc::{AllocError, Allocator};
 use yl_config::Config;
-use yl_found::found_problems;
 use yl_lint::{TextEdit, reads_alike};
 use yl_overview::{Overview, SectionEdit};
-use yl_parting::{Change, FoundProblems};
+use yl_parting::Change;
 use yl_patch::patched_problems;
 use yl_rejudge::Rejudged;
-use yl_text::{LineStore, Lines};
+use yl_text::LineStore;
 
 /// What becomes of the problems of a text, and overviews of its sections, if they are others then.
 #[derive(Drop)]
@@ -28,69 +28,24 @@ pub struct Renewal<A: Allocator> {
     pub overviews: Option<Vec<Overview, A>>,
 }
 
-/// All that is found once an edit is made, found anew.
-fn found_anew<S: LineStore>(
-    alloc: S::Alloc,
-    config: &Config,
-    text: &TextEdit<'_, S>,
-    edit: &SectionEdit<'_, S::Alloc>,
-) -> Result<Change<S::Alloc>, AllocError>
-    requires text { IsTextEdit (S.rows text.now.store.now) text.now.a text.now.b text.now.rows.now }
-    requires edit { IsSectionEdit edit.now }
-    requires plain_then { AllByRecursion IsPlain (faultless (splice edit.now.sections.now.items edit.now.from edit.now.end edit.now.kept.now)) }
-    ensures { IfOk result (λ change. Makes config.now (S.rows text.now.store.now) (splice (S.rows text.now.store.now) text.now.a text.now.b text.now.rows.now)
-        edit.now.sections.now.items (splice edit.now.sections.now.items edit.now.from edit.now.end edit.now.kept.now) change) }
-{
-    let edited = text.edited();
-    let sections = edit.spliced();
-    let overview = edit.after();
-    let anew = found_problems(alloc, config, &edited, &sections, overview)?;
-    Ok(Change::Anew(anew))
-}
-
-/// What becomes of the problems: those of the touched sections' lines become others, or all are found anew.
-fn change_of<S: LineStore>(
-    alloc: S::Alloc,
-    config: &Config,
-    text: &TextEdit<'_, S>,
-    edit: &SectionEdit<'_, S::Alloc>,
-    found: &FoundProblems<S::Alloc>,
-) -> Result<Change<S::Alloc>, AllocError>
-    requires text { IsTextEdit (S.rows text.now.store.now) text.now.a text.now.b text.now.rows.now }
-    requires edit { IsSectionEdit edit.now }
-    requires plain { AllByRecursion IsPlain (faultless edit.now.sections.now.items) }
-    requires plain_then { AllByRecursion IsPlain (faultless (splice edit.now.sections.now.items edit.now.from edit.now.end edit.now.kept.now)) }
-    ensures { IfOk result (λ change. Makes config.now (S.rows text.now.store.now) (splice (S.rows text.now.store.now) text.now.a text.now.b text.now.rows.now)
-        edit.now.sections.now.items (splice edit.now.sections.now.items edit.now.from edit.now.end edit.now.kept.now) change) }
-{
-    let patch = patched_problems(alloc, config, text, edit)?;
-    let lines = text.edited().len();
-    if let Some(patch) = patch
-        && !found.is_too_roomy_behind(&patch, lines)
-    {
-        return Ok(Change::Patch(patch));
-    }
-    let change = found_anew(alloc, config, text, edit)?;
-    Ok(change)
-}
-
-/// The edit of the sections that this makes. Where all of them stay, the one that was looked at takes its own place, so that what becomes of
-/// the problems is looked for in its lines.
+/// The edit of the sections that this makes. Where all of them stay, the one that has the lines takes its own place, so that what becomes of the
+/// problems is looked for in its lines.
 fn section_edit<'a, A: Allocator + Copy>(
     known: &'a KnownSections<A>,
     new: &'a Rejudged<A>,
 ) -> SectionEdit<'a, A>
     requires range { IsRange new.now.from new.now.end (length known.now.kept.items) }
+    requires stay { new.now.kept.items ≡ [] → (new.now.from ≡ new.now.end) × (new.now.from < length known.now.kept.items) }
     requires few { AreFew known.now.kept.items }
     requires few_then { AreFew (splice known.now.kept.items new.now.from new.now.end new.now.kept.items) }
     requires overviews { AreOverviews known.now.kept.items known.now.overviews.items }
     ensures edit { IsSectionEdit result }
-    ensures sections { result.sections.now.items ≡ known.now.kept.items }
+    ensures is { IsEditOf result known.now.kept.items new.now.from new.now.end new.now.kept.items }
     ensures same { splice known.now.kept.items result.from result.end result.kept.now ≡ splice known.now.kept.items new.now.from new.now.end new.now.kept.items }
 {
     let (kept, overviews) = (&known.kept, known.overviews.as_slice());
     let from = new.from;
-    if from == new.end && new.kept.is_empty() && from < kept.len() {
+    if new.kept.is_empty() {
         let (one, _) = kept.items_from(from).split_at(1);
         return SectionEdit::new(kept, overviews, from, from + 1, one);
     }
@@ -119,11 +74,11 @@ pub fn renewal_of<S: LineStore>(
     config: &Config,
     text: &TextEdit<'_, S>,
     known: &KnownSections<S::Alloc>,
-    found: &FoundProblems<S::Alloc>,
     new: &Rejudged<S::Alloc>,
 ) -> Result<Renewal<S::Alloc>, AllocError>
     requires text { IsTextEdit (S.rows text.now.store.now) text.now.a text.now.b text.now.rows.now }
     requires range { IsRange new.now.from new.now.end (length known.now.kept.items) }
+    requires touching { IsTouching (S.rows text.now.store.now) text.now.rows.now text.now.a text.now.b known.now.kept.items new.now.from new.now.end new.now.kept.items }
     requires few { AreFew known.now.kept.items }
     requires few_then { AreFew (splice known.now.kept.items new.now.from new.now.end new.now.kept.items) }
     requires overviews { AreOverviews known.now.kept.items known.now.overviews.items }
@@ -141,7 +96,10 @@ pub fn renewal_of<S: LineStore>(
         });
     }
     let edit = section_edit(known, new);
-    let change = change_of(alloc, config, text, &edit, found)?;
+    let patch = patched_problems(alloc, config, text, &edit)?;
     let overviews = overviews_by(alloc, stay, &edit)?;
-    Ok(Renewal { change, overviews })
+    Ok(Renewal {
+        change: Change::Patch(patch),
+        overviews,
+    })
 }

@@ -162,7 +162,6 @@ impl<S: LineStore> Session<S> {
                 &self.records,
                 self.cut,
                 &self.known,
-                &self.found,
             )?
         };
         let spare = make_room(

@@ -1,5 +1,5 @@
 use Rattle.std.proofs.Common.{◌+◌, ◌<◌, ◌^◌, false, List, length, take, drop, arith, ap, refl, sym, subst, ◌∙◌}
-use Rattle.std.specs.Prelude.{◌&&◌, is_none}
+use Rattle.std.specs.Prelude.{is_none}
 use Rattle.std.proofs.lemmas.Bool.{and_parts}
 use Rattle.std.specs.List.{splice}
 use Rattle.yl_text.specs.Lines.{RowValue}
@@ -14,8 +14,9 @@ use Rattle.yl_found.specs.Plain.{IsSurveyed}
 use Rattle.yl_found.specs.ShownUpto.{is_shown_upto}
 use Rattle.yl_found.proofs.FaultFound.{told_none}
 use Rattle.yl_overview.proofs.Whole.{none_first}
-use Rattle.yl_found.proofs.Given.{in_some, surveyed}
-use Rattle.yl_found.proofs.Ready.{shown_in_order, suppressed_in_order}
+use Rattle.yl_found.proofs.Given.{surveyed}
+use Rattle.yl_lint.proofs.FewLines.{few_lines}
+use Rattle.yl_patch.proofs.PatchReady.{ready_for}
 use Rattle.yl_patch.proofs.SeenPatch.{says_indentation, seen_patch}
 use Rattle.yl_patch.proofs.ShownBy.{below_says, told_in, told_where}
 use Rattle.yl_found.proofs.WithoutFaults.{all_below}
@@ -36,31 +37,36 @@ showing_unless-requires g c = subst (λ (ks : List KeptValue). IsSurveyed ks c.a
 pub fault_of-requires-clause-overview : goal.fault_of-requires-clause-overview
 fault_of-requires-clause-overview g c = subst (λ (ks : List KeptValue). IsSurveyed ks c.after-after.result) (sym c.spliced-sections.ensures) (surveyed _ c.after-after.result c.requires.plain_then c.after-after.ensures)
 
-pub returns-clause-told : goal.returns-clause-told
-returns-clause-told g c = λ h.
-    let ks = c.args.edit.now.sections.now.items in
-    let o = c.before-before.result in
-    let known = c.before-before.ensures in
-    told_none c.args.config.now (g.S.Lines.rows c.args.text.now.store.now) ks o.sound o.row c.requires.plain known.first (none_first ks o.sound o.row known.first (sym (c.has_fault.ensures ks known) ∙ h))
-
-pub returns-clause-shown_order : goal.returns-clause-shown_order
-returns-clause-shown_order g c = shown_in_order c.args.config.now (g.S.Lines.rows c.args.text.now.store.now) c.args.edit.now.sections.now.items c.requires.plain
-
-pub returns-clause-suppressed_order : goal.returns-clause-suppressed_order
-returns-clause-suppressed_order g c = suppressed_in_order c.args.config.now (g.S.Lines.rows c.args.text.now.store.now) c.args.edit.now.sections.now.items c.requires.plain
-
-pub returns-clause-judged : goal.returns-clause-judged
-returns-clause-judged g c =
+pub returns-clause-ready : goal.returns-clause-ready
+returns-clause-ready g c =
+    let config = c.args.config.now in
+    let text = c.args.text.now in
+    let rows = g.S.Lines.rows text.store.now in
     let edit = c.args.edit.now in
     let ks = edit.sections.now.items in
-    let t = c.in-Some.field-0.touched in
-    let seen = in_some _ c.in_ok-seen.seen c.in-Some.field-0 c.in-Some.is c.in_ok-seen.ensures in
+    let t = c.in_ok-seen.seen.touched in
+    let seen = c.in_ok-seen.ensures in
+    let o = c.before-before.result in
+    let known = c.before-before.ensures in
     let below = all_below ks edit.end c.requires.plain in
     let whole = part edit.end ks in
-    let few : t.old_end + rows_kept (drop edit.end ks) < 2 ^ 63 = omega (arith, seen.cut.old_end, rows_both (take edit.end ks) (drop edit.end ks), ap rows_kept whole, c.requires.edit.few.rows) in record {
-      indentation = judged_ready c.in_ok-indentation.indentation (AreFoundAlike (measure_upto edit.above.whole (sections_between edit.from edit.end ks)) (measure_upto edit.above.whole edit.kept.now) (drop edit.end ks)) t.old_end _ (indentation_told (levels_of c.args.config.now) (options_of c.args.config.now).indentation t.old_end (measure_upto edit.above.whole edit.kept.now) (drop edit.end ks) below few) c.in_ok-indentation.ensures;
+    let few : t.old_end + rows_kept (drop edit.end ks) < 2 ^ 63 = omega (arith, seen.cut.old_end, rows_both (take edit.end ks) (drop edit.end ks), ap rows_kept whole, c.requires.edit.few.rows) in
+    ready_for config rows ks (record {
+      first = t.first;
+      old_end = t.old_end;
+      new_end = t.new_end;
+      shown = c.in_ok-parts.parts.shown;
+      suppressed = c.in_ok-parts.parts.suppressed;
+      indentation = c.in_ok-indentation.indentation;
+      below = c.in_ok-below.below;
+      had_fault = c.has_fault.result;
+      fault = c.in_ok-fault.fault;
+    }) c.requires.plain (omega (arith, few_lines rows c.requires.text.old)) (omega (arith, c.requires.edit.few.rows)) (omega (arith, seen.cut.inside.old_some))
+    (record {
+      indentation = judged_ready c.in_ok-indentation.indentation (AreFoundAlike (measure_upto edit.above.whole (sections_between edit.from edit.end ks)) (measure_upto edit.above.whole edit.kept.now) (drop edit.end ks)) t.old_end _ (indentation_told (levels_of config) (options_of config).indentation t.old_end (measure_upto edit.above.whole edit.kept.now) (drop edit.end ks) below few) c.in_ok-indentation.ensures;
       below = told_where c.in_ok-indentation.indentation c.in_ok-below.below c.is_known_below-is_known.result c.in_ok-stays.stays c.edited-edited.result c.spliced-sections.result c.is_known_below-is_known.ensures c.in_ok-below.ensures;
-    }
+    })
+    (λ h. told_none config rows ks o.sound o.row c.requires.plain known.first (none_first ks o.sound o.row known.first (sym (c.has_fault.ensures ks known) ∙ h)))
 
 pub returns-clause-parts : goal.returns-clause-parts
 returns-clause-parts g c =
@@ -73,11 +79,11 @@ returns-clause-parts g c =
     let new = edit.kept.now in
     let after = splice rows text.a text.b ins in
     let kept = splice ks edit.from edit.end new in
-    let t = c.in-Some.field-0.touched in
-    let found = c.in-Some.field-0.found.items in
+    let t = c.in_ok-seen.seen.touched in
+    let found = c.in_ok-seen.seen.found.items in
     let n = edit.from + length new in
     let put = report_of (levels_of config) false nothing_silenced found in
-    let seen = in_some _ c.in_ok-seen.seen c.in-Some.field-0 c.in-Some.is c.in_ok-seen.ensures in
+    let seen = c.in_ok-seen.ensures in
     let edited = c.edited-edited.ensures in
     let sections = c.spliced-sections.ensures in
     let range = c.requires.text.range in

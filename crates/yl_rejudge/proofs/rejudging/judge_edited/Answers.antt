@@ -2,7 +2,7 @@ use Rattle.std.proofs.Common.{◌≡◌, ◌<◌, Bool, true, false, IsTrue, ◌
 use Rattle.yl_rejudge.specs.Places.{changed_sections}
 use Rattle.yl_rejudge.proofs.SectionsEdited.{few_sections, rows_of_kept, count_kept, kept_spliced}
 use Rattle.yl_rejudge.proofs.KeptRows.{got}
-use Rattle.yl_rejudge.proofs.Outcome.{outcome, row_few, kept_rows, anew_spliced, seen_anew}
+use Rattle.yl_rejudge.proofs.Outcome.{outcome, row_few, kept_rows, anew_spliced, seen_anew, around}
 use Rattle.yl_rejudge.proofs.rejudging.judge_edited.Goals as goal
 
 not_both : (b : Bool) → b ≡ false → IsTrue b → ⊥
@@ -101,3 +101,13 @@ returns-clause-documents g c = λ h m l.
     let few = seen_anew c.args.config.now c.args.old.now.items c.args.records.now c.args.kept.now.items c.args.from c.args.old_end c.args.end c.requires.kept c.front_of-first.result.section c.back_of-last.result.section c.front_of-first.result.row c.new_row-z.result
     c.front_of-first.ensures.at o h (λ e. not_both c.ends_anew.result c.if-ends_anew.false (c.ends_anew.ensures.1 e)) m l in
     omega (arith, few, c.in_ok-kept-2.ensures.documents)
+
+pub returns-then-ends_anew-clause-around : goal.returns-then-ends_anew-clause-around
+returns-then-ends_anew-clause-around g c =
+    around c.args.records.now c.args.kept.now.items c.args.from c.args.old_end c.args.end c.front_of-first.result.section c.back_of-last.result.section c.section_of-here.result.row c.front_of-first.result.row c.back_of-last.result.row
+    c.front_of-first.ensures.at c.front_of-first.ensures.row c.section_of-here.ensures.row c.back_of-last.ensures.at c.back_of-last.ensures.start
+
+pub returns-clause-around : goal.returns-clause-around
+returns-clause-around g c =
+    around c.args.records.now c.args.kept.now.items c.args.from c.args.old_end c.args.end c.front_of-first.result.section c.back_of-last.result.section c.section_of-here.result.row c.front_of-first.result.row c.back_of-last.result.row
+    c.front_of-first.ensures.at c.front_of-first.ensures.row c.section_of-here.ensures.row c.back_of-last.ensures.at c.back_of-last.ensures.start

@@ -1,4 +1,4 @@
-use Rattle.std.proofs.Common.{◌≡◌, ℕ, List, [], ap, ◌∙◌}
+use Rattle.std.proofs.Common.{◌≡◌, ℕ, inr, List, [], refl, ap, ◌∙◌, arith}
 use Rattle.std.specs.List.{splice}
 use Rattle.std.proofs.lemmas.List.{take-append-drop}
 use Rattle.yl_sections.specs.Kept.{KeptValue}
@@ -14,3 +14,13 @@ returns-then-branch-clause-kept g c =
 
 pub returns-then-branch-clause-documents : goal.returns-then-branch-clause-documents
 returns-then-branch-clause-documents g c = λ h m l. c.count_kept.ensures.documents m l
+
+pub returns-then-branch-clause-around : goal.returns-then-branch-clause-around
+returns-then-branch-clause-around g c =
+    let held = c.is_in_section.ensures.0 c.if-is_in_section.true in
+    inr (record {
+      none = c.new.ensures.items;
+      same = refl;
+      rows = omega arith;
+      holds = record { there = held.0; first = omega (arith, c.section_of-begin.ensures.at, c.section_of-begin.ensures.row); last = held.1 };
+    })

@@ -1,4 +1,4 @@
-use Rattle.std.proofs.Common.{◌≡◌, ◌+◌, ◌≤◌, ℕ, List, Option, length, map, take, drop, arith, ap, subst, sym, ◌∙◌}
+use Rattle.std.proofs.Common.{◌≡◌, ◌+◌, ◌≤◌, ℕ, inl, inr, List, Option, length, map, take, drop, arith, ap, subst, sym, ◌∙◌}
 use Rattle.std.proofs.lemmas.List.{length-map}
 use Rattle.std.specs.List.{splice}
 use Rattle.std.specs.Str.{chars}
@@ -9,11 +9,14 @@ use Rattle.yl_sections.specs.Judge.{kept_of_section}
 use Rattle.yl_sections.specs.Kept.{KeptValue}
 use Rattle.yl_sections.specs.Sections.{sections}
 use Rattle.yl_rejudge.specs.Alike.{GoOnAlike}
+use Rattle.yl_rejudge.specs.Places.{AreAround}
 use Rattle.yl_rejudge.specs.Documents.{TakesNothing}
 use Rattle.yl_rescan.specs.Held.{AreHeld}
+use Rattle.yl_rescan.proofs.Edits.{length-spliced}
 use Rattle.yl_config.specs.declared.config.Config.{Config}
 use Rattle.yl_lint.proofs.FewLines.{few_lines}
 use Rattle.yl_found.proofs.SectionsPlain.{kept_plain}
+use Rattle.yl_session.proofs.Apart.{others_touch, stay_touch}
 use Rattle.yl_session.proofs.Bounds.{are_few, count_records}
 use Rattle.yl_session.proofs.Renewed.{has_row, is_work}
 use Rattle.yl_session.proofs.planning.planned.Goals as goal
@@ -118,6 +121,30 @@ renewal_of-requires-clause-few_then g c =
     let us = splice olds r.from r.old_end r.records.items in
     let is = spliced_is olds r.records.items c.deref.result.now c.new-spliced.result r.from r.old_end c.deref.ensures.value c.new-spliced.ensures in
     are_few c.args.config.now new r.cut us (splice c.args.known.now.kept.items j.from j.end j.kept.items) c.requires.text.new c.in_ok-rescan.ensures.held (kept_is c.args.config.now (splice c.args.known.now.kept.items j.from j.end j.kept.items) c.new-spliced.result us c.in_ok-rejudged.ensures.kept is)
+
+pub renewal_of-requires-clause-touching : goal.renewal_of-requires-clause-touching
+renewal_of-requires-clause-touching g c =
+    let config = c.args.config.now in
+    let text = c.args.text.now in
+    let rows = g.S.Lines.rows text.store.now in
+    let ins = text.rows.now in
+    let r = c.in_ok-rescan.rescan in
+    let j = c.in_ok-rejudged.rejudged in
+    let ks = c.args.known.now.kept.items in
+    let olds = c.args.records.now.items in
+    let us = splice olds r.from r.old_end r.records.items in
+    let found = c.in_ok-rescan.ensures in
+    let judged = c.in_ok-rejudged.ensures in
+    let is = spliced_is olds r.records.items c.deref.result.now c.new-spliced.result r.from r.old_end c.deref.ensures.value c.new-spliced.ensures in
+    let kept = kept_is config (splice ks j.from j.end j.kept.items) c.new-spliced.result us judged.kept is in
+    elim judged.around [
+      | inl around ↦
+          others_touch config rows ins text.a text.b c.requires.text c.args.cut r.cut olds us c.requires.held found.held ks c.requires.kept j.from j.end j.kept.items judged.range kept r.from r.old_end r.end found.holds
+          (subst (λ (xs : List RecordValue). AreAround ks xs r.from r.old_end r.end j.from j.end) is around) found.alike
+          (omega (arith, length-spliced olds r.records.items r.from r.old_end found.range.ordered found.range.within, found.len, found.range.within))
+      | inr all ↦
+          stay_touch config rows ins text.a text.b c.requires.text c.args.cut r.cut olds us c.requires.held found.held ks c.requires.kept j.from j.end j.kept.items judged.range kept r.from r.old_end r.end found.holds all
+    ]
 
 pub renewal_of-requires-clause-plain : goal.renewal_of-requires-clause-plain
 renewal_of-requires-clause-plain g c = kept_plain c.args.config.now (sections c.args.records.now.items) c.args.known.now.kept.items c.requires.kept

@@ -6,6 +6,12 @@ use Rattle.yl_parting.specs.Rooms.{count_anew}
 use Rattle.yl_parting.proofs.Anew.{crossing_some, parted_anew}
 use Rattle.yl_parting.proofs.change.FoundProblems.part_anew.Goals as goal
 
+pub take_behind-requires-clause-room : goal.take_behind-requires-clause-room
+take_behind-requires-clause-room g c =
+    let f = c.args.self.now in
+    let all = crossing_some c.args.patch.below (vec_len f.shown + (vec_len f.suppressed + count_anew c.args.patch.indentation)) c.requires.anew in
+    record { empty = c.requires.room.spare.empty; enough = omega (arith, all, c.requires.room.spare.enough) }
+
 pub unwrap-requires : goal.unwrap-requires
 unwrap-requires g c =
     let others = crossing_some c.args.patch.below (vec_len c.args.self.now.suppressed + count_anew c.args.patch.indentation) c.requires.anew in

@@ -1,13 +1,21 @@
-use Rattle.std.proofs.Common.{◌+◌, ◌≤◌, List, refl, ap, arith, sym, subst, ◌∙◌}
-use Rattle.std.specs.Prelude.{IfSome, vec_capacity, vec_len}
+use Rattle.std.proofs.Common.{◌+◌, List, refl, ap, arith, sym, subst, ◌∙◌}
+use Rattle.std.specs.Prelude.{IfSome, IsSome, vec_capacity, vec_len}
 use Rattle.std.specs.Option.{option_map}
 use Rattle.yl_report.specs.Report.{ProblemValue}
 use Rattle.yl_parting.specs.Changes.{parts_in, patch_in, patched_lines}
 use Rattle.yl_parting.specs.Parts.{PartsValue, judged_again, with_fault}
 use Rattle.yl_parting.specs.Rooms.{AreOrdered, IsIndentation, count_anew}
-use Rattle.yl_parting.proofs.Anew.{less_room, lines_so}
+use Rattle.yl_parting.proofs.Anew.{less_room, lines_so, room_for_anew}
 use Rattle.yl_parting.proofs.Judged.{items_so, judged_ordered}
 use Rattle.yl_parting.proofs.change.FoundProblems.patch_lines.Goals as goal
+
+pub judge_again-requires-clause-spare : goal.judge_again-requires-clause-spare
+judge_again-requires-clause-spare g c =
+    let p = c.args.patch in
+    let f = c.args.self.now in
+    let value = c.take-indentation.ensures.value in
+    room_for_anew c.take-indentation.result p.below (vec_len c.take_fault.new.self.suppressed + count_anew c.take-indentation.result) (vec_len f.shown + (vec_len f.suppressed + count_anew p.indentation)) c.args.spare
+    (λ some. c.requires.ready.judged.below (subst (λ o. IsSome o) value some)) (omega (arith, ap vec_len c.take_fault.ensures.others, ap count_anew value)) c.requires.room.spare
 
 pub put_parts-fault-requires-clause-ordered : goal.put_parts-fault-requires-clause-ordered
 put_parts-fault-requires-clause-ordered g c =
@@ -35,7 +43,7 @@ put_parts-fault-requires-clause-room g c =
       fault = p.fault;
     })
     c.args.spare c.judge_again.new.spare c.requires.room (omega (arith, c.judge_again.ensures.shown, c.take_fault.ensures.len)) (c.judge_again.ensures.shown_room ∙ c.take_fault.ensures.room)
-    (omega (arith, c.judge_again.ensures.suppressed, ap vec_len c.take_fault.ensures.others, some, none)) (omega (arith, c.judge_again.ensures.suppressed_room, ap vec_capacity c.take_fault.ensures.others)) c.judge_again.ensures.spare c.judge_again.ensures.spare_room refl refl refl refl
+    (omega (arith, c.judge_again.ensures.suppressed, ap vec_len c.take_fault.ensures.others, some, none)) (omega (arith, c.judge_again.ensures.suppressed_room, ap vec_capacity c.take_fault.ensures.others)) c.judge_again.ensures.spare refl refl refl refl
 
 pub returns : goal.returns
 returns g c =
