@@ -4,6 +4,7 @@ use Rattle.std.specs.Prelude.{slice_get}
 use Rattle.std.specs.List.{splice}
 use Rattle.std.specs.Str.{chars}
 use Rattle.std.proofs.lemmas.Bool.{cases_lt}
+use Rattle.std.proofs.lemmas.Bool.Decides.{eqb_tells}
 use Rattle.yl_text.specs.Lines.{RowValue}
 use Rattle.yl_text.specs.Store.{IsRange}
 use Rattle.yl_record.specs.Records.{RecordValue, characters_in}
@@ -31,9 +32,19 @@ use Rattle.yl_session.proofs.Renewed.{has_row}
 
 -- ---- lines that are not empty
 
+none_in : chars [] ≡ []
+unfolding chars
+none_in = refl
+
+not_none : (n : ℕ) → (n ≡ 0 → ⊥) → not (n == 0) ≡ true
+not_none n some = elim (eqb_tells n 0) [
+  | inl e ↦ absurd (some e.1)
+  | inr e ↦ ap not e.0
+]
+
 some_text : (text : List ℕ) → (Some (chars text) ≡ Some [] → ⊥) → not (length text == 0) ≡ true
-some_text [] h = absurd (h refl)
-some_text (c ∷ cs) h = refl
+some_text [] h = absurd (h (ap (λ (t : List ℕ). Some t) none_in))
+some_text (c ∷ cs) h = not_none (length (c ∷ cs)) (λ e. omega (arith, e))
 
 filled : (ps : List RowValue) (i : ℕ) → i < length ps → (slice_get (characters_in ps) i ≡ Some [] → ⊥) → is_filled (slice_get ps i) ≡ true
 filled [] i l h = absurd (omega (arith, l))

@@ -57,9 +57,9 @@ ends_some from end (n ∷ ns) some = refl
 
 -- a list that is told not to be empty has some
 pub were_some : (new : List KeptValue) (n : ℕ) (b : Bool) → n ≡ length new → b ≡ (n == 0) → b ≡ false → length new ≡ 0 → ⊥
-were_some new n b len is no none =
+were_some new n b len is said none =
     let zero_is : n ≡ 0 = omega (arith, len, none) in
-    let e : true ≡ false = sym (is ∙ ap (λ k. k == 0) zero_is) ∙ no in
+    let e : true ≡ false = sym (is ∙ ap (λ k. k == 0) zero_is) ∙ said in
     absurd (cc)
 
 -- the lines of the sections that it touches stand apart

@@ -51,5 +51,5 @@ returns-clause-is g c =
       sections = c.new-2.ensures.sections;
       from_is = c.new-2.ensures.from;
       end_is = c.new-2.ensures.end ∙ ends_some new.from new.end new.kept.items some;
-      kept = c.new-2.ensures.kept ∙ (c.as_slice-2.ensures ∙ touches_some ks new.kept.items new.from some);
+      kept = c.new-2.ensures.kept ∙ (c.as_slice.ensures.value ∙ touches_some ks new.kept.items new.from some);
     }
