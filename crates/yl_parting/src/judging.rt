@@ -12,7 +12,7 @@ use yl_report::Problem;
 use yl_text::RuleId;
 
 /// Whether it is the rule that judges a line by the lines above it.
-fn is_indentation(rule: RuleId) -> bool
+pub fn is_indentation(rule: RuleId) -> bool
     ensures { result ≡ is_indentation rule }
 {
     matches!(rule, RuleId::Indentation)

@@ -4,9 +4,9 @@ ghost use Rattle.yl_parting.specs.Order.{put_in};
 ghost use Rattle.yl_parting.specs.Rooms.{count_anew, crossing, fault_count};
 
 use crate::change::{Change, FoundProblems, LinesPatch, Spare};
-use crate::judging::{drop_indentation, merge_indentation};
+use crate::judging::{drop_indentation, is_indentation, merge_indentation};
 use crate::merging::{give_back, keep_above, take_behind};
-use crate::places::{are_low, count_before, count_upto};
+use crate::places::{count_before, count_upto};
 use crate::shifting::put_lines;
 use crate::showing::{Showing, is_syntax};
 use std::alloc::{AllocError, Allocator};
@@ -22,7 +22,7 @@ fn count_crossing<A: Allocator>(below: &Option<Showing<A>>, count: usize) -> usi
     }
 }
 
-/// A list of four times as many problems is no worth a move, however few of them are left.
+/// A list with room for four times as many problems is not worth a move, however few of them are left.
 const LEAST: usize = 16;
 
 /// The text's fault, counted.
@@ -45,23 +45,36 @@ fn count_indentation<A: Allocator>(indentation: &Option<Vec<Problem<A>, A>>) -> 
     }
 }
 
-/// How many of these a patch leaves: those in the first `first` lines, and those behind `old_end`. It looks at few of them.
-fn count_left<A: Allocator>(problems: &[Problem<A>], first: u32, old_end: u32) -> usize {
-    let above = problems.partition_point(|problem| problem.line() <= u64::from(first));
-    let upto = problems.partition_point(|problem| problem.line() <= u64::from(old_end));
-    let behind = problems.len().saturating_sub(upto);
-    above.saturating_add(behind)
+/// How many of these stand behind the first lines and are no indentation.
+fn count_others<A: Allocator>(problems: &[Problem<A>], line: u64) -> usize {
+    let mut count: usize = 0;
+    for problem in problems {
+        if problem.line() > line && !is_indentation(problem.rule()) {
+            count = count.saturating_add(1);
+        }
+    }
+    count
 }
 
-/// In place of a list with so much room, in which so many problems are left, one that has room for these; none where it is not far too large
-/// for them, or for a text of so many lines.
+/// How many of these a patch leaves: those in the first `first` lines, and those behind `old_end`, but for indentation where that is judged
+/// anew. Where it is not, it looks at few of them.
+fn count_left<A: Allocator>(problems: &[Problem<A>], patch: &LinesPatch<A>) -> usize {
+    let (first, end) = (u64::from(patch.first), u64::from(patch.old_end));
+    let above = problems.partition_point(|problem| problem.line() <= first);
+    if patch.indentation.is_some() {
+        return above.saturating_add(count_others(problems, end));
+    }
+    let upto = problems.partition_point(|problem| problem.line() <= end);
+    above.saturating_add(problems.len().saturating_sub(upto))
+}
+
+/// In place of a list with so much room, in which so many problems are left, one that has room for these; none where it is not far too large.
 fn fitting<A: Allocator>(
     alloc: A,
     room: usize,
     count: usize,
-    lines: usize,
 ) -> Result<Option<Vec<Problem<A>, A>>, AllocError> {
-    if room / 4 <= count.max(lines).max(LEAST) {
+    if room / 4 <= count.max(LEAST) {
         return Ok(None);
     }
     let list = Vec::with_capacity(alloc, count)?;
@@ -261,16 +274,6 @@ impl<A: Allocator + Copy> FoundProblems<A> {
         self.put_fault(fault);
     }
 
-    /// Whether each problem stands in a line that can be counted on from. It looks at no more than two.
-    pub fn are_low(&self) -> bool
-        requires shown { IsInOrder self.now.shown.items }
-        requires suppressed { IsInOrder self.now.suppressed.items }
-        ensures shown { result ≡ true → AllByRecursion IsLow self.now.shown.items }
-        ensures suppressed { result ≡ true → AllByRecursion IsLow self.now.suppressed.items }
-    {
-        are_low(&self.shown) && are_low(&self.suppressed)
-    }
-
     /// Makes room in both lists for what the patch puts in, and a list for what it takes out meanwhile.
     fn make_room_for(
         &mut self,
@@ -308,20 +311,18 @@ impl<A: Allocator + Copy> FoundProblems<A> {
         Ok(spare)
     }
 
-    /// Lists that fit, in place of those that the patch would leave with far more room than problems, in a text of so many lines.
+    /// Lists that fit, in place of those that the patch would leave with far more room than problems.
     fn lists_that_fit(
         &self,
         alloc: A,
         taken: Vec<Problem<A>, A>,
         patch: &LinesPatch<A>,
-        lines: usize,
     ) -> Result<Spare<A>, AllocError>
         ensures { IfOk result (λ spare. spare.taken ≡ taken) }
     {
-        let (first, end) = (patch.first, patch.old_end);
         let anew = count_indentation(&patch.indentation);
-        let shown = count_left(&self.shown, first, end);
-        let suppressed = count_left(&self.suppressed, first, end).saturating_add(anew);
+        let shown = count_left(&self.shown, patch);
+        let suppressed = count_left(&self.suppressed, patch).saturating_add(anew);
         let most_shown = shown
             .saturating_add(count_crossing(&patch.below, suppressed))
             .saturating_add(patch.shown.len())
@@ -329,8 +330,8 @@ impl<A: Allocator + Copy> FoundProblems<A> {
         let most_suppressed = suppressed
             .saturating_add(count_crossing(&patch.below, shown))
             .saturating_add(patch.suppressed.len());
-        let shown = fitting(alloc, self.shown.capacity(), most_shown, lines)?;
-        let suppressed = fitting(alloc, self.suppressed.capacity(), most_suppressed, lines)?;
+        let shown = fitting(alloc, self.shown.capacity(), most_shown)?;
+        let suppressed = fitting(alloc, self.suppressed.capacity(), most_suppressed)?;
         Ok(Spare {
             taken,
             shown,
@@ -338,21 +339,15 @@ impl<A: Allocator + Copy> FoundProblems<A> {
         })
     }
 
-    /// Makes room for what the change puts in, where the text has so many lines then; what it hands out is needed by `renew`. Where there is no
-    /// memory, all is as it was.
-    pub fn make_room(
-        &mut self,
-        alloc: A,
-        change: &Change<A>,
-        lines: usize,
-    ) -> Result<Spare<A>, AllocError>
+    /// Makes room for what the change puts in; what it hands out is needed by `renew`. Where there is no memory, all is as it was.
+    pub fn make_room(&mut self, alloc: A, change: &Change<A>) -> Result<Spare<A>, AllocError>
         ensures parts { parts_in self.new ≡ parts_in self.old }
         ensures room { IfOk result (λ spare. HasRoom self.new change.now spare) }
     {
         match change {
             Change::Patch(patch) => {
                 let taken = self.make_room_for(alloc, patch)?;
-                self.lists_that_fit(alloc, taken, patch, lines)
+                self.lists_that_fit(alloc, taken, patch)
             }
             Change::Stay => Ok(Spare {
                 taken: Vec::new(alloc),

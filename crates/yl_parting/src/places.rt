@@ -1,9 +1,9 @@
 //! Where problems stand in a list that is in order.
-ghost use Rattle.std.specs.Prelude.{◌≡◌, ◌≤◌, true, length};
-ghost use Rattle.std.specs.List.{AllByRecursion, prefix_len};
+ghost use Rattle.std.specs.Prelude.{◌≡◌, ◌≤◌, length};
+ghost use Rattle.std.specs.List.{prefix_len};
 ghost use Rattle.yl_report.specs.Report.{ProblemValue};
 ghost use Rattle.yl_parting.specs.Order.{IsInOrder, comes_before};
-ghost use Rattle.yl_parting.specs.Parts.{IsLow, is_upto};
+ghost use Rattle.yl_parting.specs.Parts.{is_upto};
 
 use crate::comparing::comes_before;
 use std::alloc::Allocator;
@@ -16,17 +16,6 @@ pub fn count_upto<A: Allocator>(problems: &[Problem<A>], line: u64) -> usize
     ensures within { result ≤ length problems.now }
 {
     problems.partition_point(|problem| problem.line() <= line)
-}
-
-/// Whether each stands in a line that can be counted on from.
-pub fn are_low<A: Allocator>(problems: &[Problem<A>]) -> bool
-    requires { IsInOrder problems.now }
-    ensures { result ≡ true → AllByRecursion IsLow problems.now }
-{
-    match problems.last() {
-        Some(last) => last.line() < 1 << 63,
-        None => true,
-    }
 }
 
 /// How many problems stand before the first that doesn't come before this one.

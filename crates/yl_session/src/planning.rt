@@ -28,17 +28,16 @@ use yl_record::Record;
 use yl_rejudge::{Rejudged, rejudge};
 use yl_rescan::{Rescanned, rescan};
 use yl_sections::Kept;
-use yl_text::{LineStore, Lines};
+use yl_text::LineStore;
 
 /// What an edit is to change: the records of some rows, what is kept of some sections, and what becomes of the overviews of all and of the
-/// problems; and how many lines the text has then.
+/// problems.
 #[derive(Drop)]
 pub struct Plan<A: Allocator> {
     pub rescan: Rescanned<A>,
     pub rejudged: Rejudged<A>,
     pub renewal: Renewal<A>,
     pub work: Work,
-    pub lines: usize,
 }
 
 /// Makes room for what the plan puts in, and hands out the room that the problems need beside. Where there is no memory, all is as it was.
@@ -70,7 +69,7 @@ pub fn make_room<A: Allocator + Copy>(
         plan.rejudged.end,
         plan.rejudged.kept.len(),
     )?;
-    let spare = found.make_room(alloc, &plan.renewal.change, plan.lines)?;
+    let spare = found.make_room(alloc, &plan.renewal.change)?;
     Ok(spare)
 }
 
@@ -125,6 +124,5 @@ pub fn planned<S: LineStore>(
             scanned: meter.lines,
             documents: meter.documents,
         },
-        lines: text.edited().len(),
     })
 }
