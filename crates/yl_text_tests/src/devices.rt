@@ -2,7 +2,6 @@
 
 use std::io;
 use std::io::{ErrorKind, Read, Write};
-use std::test::Fail;
 use yl_text::Watched;
 
 // A reader or a writer that answers each call in turn: it fails, or takes or gives that many bytes.
@@ -46,19 +45,32 @@ const READ_FAILURES: [u64; 5] = [0, 0, 1, 1, 2];
 
 const WRITE_FAILURES: [u64; 5] = [0, 1, 2, 2, 3];
 
-#[test]
-fn counts_failed_reads(rt: HostRuntime) -> Result<(), Fail> {
-    let mut device = Watched::new(Scripted { answers: ANSWERS });
-    assert_eq!(rt; device.failures(), 0);
-    for (answer, failures) in ANSWERS.iter().zip(READ_FAILURES) {
-        let mut buf = [0u8; 4];
-        assert!(rt; device.failures() < 9);
-        let got = device.read(&mut buf);
-        assert!(rt; got.is_ok() == answer.is_some());
-        assert_eq!(rt; device.failures(), failures);
+// Whether bytes are read, and how often the device has failed then.
+fn after_a_read(device: &mut Watched<Scripted>) -> (bool, u64) {
+    if device.failures() > 9 {
+        return (false, 0);
     }
-    assert_eq!(rt; device.into_inner().answers.len(), 0);
-    Ok(())
+    let mut buf = [0u8; 4];
+    let is_read = device.read(&mut buf).is_ok();
+    (is_read, device.failures())
+}
+
+// The first answer behind which a read is not as it has to be.
+fn wrong_read(device: &mut Watched<Scripted>) -> Option<usize> {
+    for (i, (answer, failures)) in ANSWERS.iter().zip(READ_FAILURES).enumerate() {
+        if after_a_read(device) != (answer.is_some(), failures) {
+            return Some(i);
+        }
+    }
+    None
+}
+
+#[test]
+fn counts_failed_reads(rt: HostRuntime) {
+    let mut device = Watched::new(Scripted { answers: ANSWERS });
+    assert!(rt; device.failures() == 0);
+    assert_eq!(rt; wrong_read(&mut device), None);
+    assert!(rt; device.into_inner().answers.is_empty());
 }
 
 // Whether a piece is taken, and how often the device has failed then.
@@ -70,14 +82,20 @@ fn after_a_write(device: &mut Watched<Scripted>, piece: &[u8]) -> (bool, u64) {
     (is_taken, device.failures())
 }
 
-#[test]
-fn counts_failed_writes(rt: HostRuntime) -> Result<(), Fail> {
-    let mut device = Watched::new(Scripted { answers: ANSWERS });
-    for (answer, failures) in ANSWERS.iter().zip(WRITE_FAILURES) {
-        let seen = after_a_write(&mut device, b"abcd");
-        assert_eq!(rt; seen, (answer.is_some(), failures));
+// The first answer behind which a write is not as it has to be.
+fn wrong_write(device: &mut Watched<Scripted>) -> Option<usize> {
+    for (i, (answer, failures)) in ANSWERS.iter().zip(WRITE_FAILURES).enumerate() {
+        if after_a_write(device, b"abcd") != (answer.is_some(), failures) {
+            return Some(i);
+        }
     }
+    None
+}
+
+#[test]
+fn counts_failed_writes(rt: HostRuntime) {
+    let mut device = Watched::new(Scripted { answers: ANSWERS });
+    assert_eq!(rt; wrong_write(&mut device), None);
     let seen = after_a_write(&mut device, b"");
-    assert_eq!(rt; seen, (true, 3), "a piece that is empty");
-    Ok(())
+    assert!(rt; seen == (true, 3), "a piece that is empty");
 }

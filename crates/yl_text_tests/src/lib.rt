@@ -9,6 +9,8 @@ mod devices;
 #[cfg(test)]
 mod growths;
 #[cfg(test)]
+mod random;
+#[cfg(test)]
 mod random_edits;
 #[cfg(test)]
 mod scalars;

@@ -3,9 +3,9 @@
 use crate::stores::{Heap, edit, opened, place};
 use refusing::Refusing;
 use std::alloc::{AllocError, Global};
-use std::process::Abort;
 use std::test::Fail;
-use yl_text::{LineStore, Lines, PlainStore, Pos, Row, TextFault, split};
+use yl_chunks::ChunkStore;
+use yl_text::{LineStore, Lines, PlainStore, Pos, Row, TextFault, are_one_place, split};
 
 // All texts of at most two bytes out of a letter, CR and LF.
 const TEXTS: [&str; 13] = [
@@ -34,7 +34,7 @@ const OFFSETS: [&str; 13] = [
 const COLUMNS: usize = 4;
 
 // The text with these bytes in place of those from p to q.
-pub(crate) fn replaced(
+fn replaced(
     alloc: Global,
     text: &[u8],
     p: usize,
@@ -49,7 +49,7 @@ pub(crate) fn replaced(
 }
 
 // Whether these are the rows of the lines.
-pub(crate) fn shows<S: Lines>(lines: &S, rows: &[Row<Global>]) -> bool {
+fn shows<S: Lines>(lines: &S, rows: &[Row<Global>]) -> bool {
     if lines.len() != rows.len() {
         return false;
     }
@@ -61,22 +61,83 @@ pub(crate) fn shows<S: Lines>(lines: &S, rows: &[Row<Global>]) -> bool {
     true
 }
 
-// Makes an edit that can be made, of what stands between two bytes, and tells whether the text that is edited is shown then.
-fn is_edited(
-    rt: &impl Abort,
+// Whether a store of a text takes these places for one, or for two.
+fn are_told<'a, S: LineStore<Alloc = Heap<'a>>>(
+    heap: Heap<'a>,
+    text: &str,
+    places: (Pos, Pos),
+    are_one: bool,
+) -> Result<bool, TextFault> {
+    let (from, to) = places;
+    let store: S = opened(heap, text.as_bytes())?;
+    store.check(from, to, b"")?;
+    Ok(are_one_place(&store, from, to) == are_one)
+}
+
+// Whether a store has these rows, and so many bytes, behind an edit.
+fn has_rows<'a, S: LineStore<Alloc = Heap<'a>>>(
+    heap: Heap<'a>,
+    text: &str,
+    places: (Pos, Pos),
+    bytes: &str,
+    rows: &[Row<Global>],
+    size: usize,
+) -> Result<bool, TextFault> {
+    let (from, to) = places;
+    let mut store: S = opened(heap, text.as_bytes())?;
+    let is_made = edit(heap, 0, &mut store, from, to, bytes.as_bytes())?;
+    Ok(is_made && store.bytes() == size as u64 && shows(&store, rows))
+}
+
+// Whether both stores have them.
+fn have_rows(
+    heap: Heap<'_>,
+    text: &str,
+    places: (Pos, Pos),
+    bytes: &str,
+    rows: &[Row<Global>],
+    size: usize,
+) -> Result<bool, TextFault> {
+    let plain = has_rows::<PlainStore<Heap<'_>>>(heap, text, places, bytes, rows, size)?;
+    let chunks = has_rows::<ChunkStore<Heap<'_>>>(heap, text, places, bytes, rows, size)?;
+    Ok(plain && chunks)
+}
+
+// Makes an edit that can be made, of what stands between two bytes, by both stores, and tells whether the text that is
+// edited is shown then, and whether the places are taken for one where they are.
+pub(crate) fn is_edited(
     alloc: Global,
     heap: Heap<'_>,
     text: &str,
     range: (usize, usize),
     places: (Pos, Pos),
     bytes: &str,
-) -> Result<bool, Fail> {
-    let mut store: PlainStore<Heap<'_>> = opened(heap, text.as_bytes())?;
-    let (from, to) = places;
-    edit(rt, heap, 0, &mut store, from, to, bytes.as_bytes())?;
-    let whole = replaced(alloc, text.as_bytes(), range.0, range.1, bytes.as_bytes())?;
+) -> Result<bool, TextFault> {
+    let (p, q) = range;
+    let is_told = are_told::<PlainStore<Heap<'_>>>(heap, text, places, p == q)?;
+    let Ok(whole) = replaced(alloc, text.as_bytes(), p, q, bytes.as_bytes()) else {
+        return Err(TextFault::Memory);
+    };
     let rows = split(alloc, whole.as_slice())?;
-    Ok(shows(&store, rows.as_slice()) && store.bytes() == whole.len() as u64)
+    let is_made = have_rows(heap, text, places, bytes, rows.as_slice(), whole.len())?;
+    Ok(is_told && is_made)
+}
+
+// Whether an edit is refused for this, and the text stays.
+fn is_refused<'a, S: LineStore<Alloc = Heap<'a>>>(
+    alloc: Global,
+    heap: Heap<'a>,
+    text: &str,
+    places: (Pos, Pos),
+    bytes: &[u8],
+    fault: TextFault,
+) -> Result<bool, TextFault> {
+    let (from, to) = places;
+    let rows = split(alloc, text.as_bytes())?;
+    let mut store: S = opened(heap, text.as_bytes())?;
+    let is_told = store.check(from, to, bytes) == Err(fault);
+    let is_answered = edit(heap, 0, &mut store, from, to, bytes) == Err(fault);
+    Ok(is_told && is_answered && shows(&store, rows.as_slice()))
 }
 
 // The place of `OFFSETS` by its number.
@@ -84,63 +145,68 @@ fn nth_place(n: usize) -> Pos {
     place(n / COLUMNS, n % COLUMNS)
 }
 
-// Whether no edit between these places can be made.
-fn is_no_range(heap: Heap<'_>, text: &str, places: (Pos, Pos)) -> Result<bool, TextFault> {
-    let store: PlainStore<Heap<'_>> = opened(heap, text.as_bytes())?;
-    Ok(store.check(places.0, places.1, b"") == Err(TextFault::Range))
+// Whether no edit between these places can be made of a text.
+fn is_no_range(
+    alloc: Global,
+    heap: Heap<'_>,
+    text: &str,
+    places: (Pos, Pos),
+) -> Result<bool, TextFault> {
+    is_refused::<PlainStore<Heap<'_>>>(alloc, heap, text, places, b"", TextFault::Range)
 }
 
 // Whether all edits between two places are made rightly, or none can be where one is no place or the second stands before
 // the first. These say how many bytes stand before each.
 fn are_edited(
-    rt: &impl Abort,
     alloc: Global,
     heap: Heap<'_>,
     text: &str,
     places: (Pos, Pos),
     offsets: (u8, u8),
-) -> Result<bool, Fail> {
+) -> Result<bool, TextFault> {
     let (p, q) = offsets;
     if p == b'.' || q == b'.' || q < p {
-        return Ok(is_no_range(heap, text, places)?);
+        return is_no_range(alloc, heap, text, places);
     }
     let range = (
         p.saturating_sub(b'0') as usize,
         q.saturating_sub(b'0') as usize,
     );
     for bytes in TEXTS {
-        if !is_edited(rt, alloc, heap, text, range, places, bytes)? {
+        if !is_edited(alloc, heap, text, range, places, bytes)? {
             return Ok(false);
         }
     }
     Ok(true)
 }
 
-// Makes all edits of a text between two of its places, and sees that those between others are refused.
-fn all_edits(
-    rt: &impl Abort,
+// The first two places of a text between which an edit is not made rightly, or is not refused where it has to be.
+fn wrong_places(
     alloc: Global,
     heap: Heap<'_>,
     text: &str,
     offsets: &str,
-) -> Result<(), Fail> {
+) -> Result<Option<(Pos, Pos)>, TextFault> {
     for (i, p) in offsets.bytes().enumerate() {
         for (j, q) in offsets.bytes().enumerate() {
             let places = (nth_place(i), nth_place(j));
-            assert!(rt;
-                are_edited(rt, alloc, heap, text, places, (p, q))?,
-                "{text:?} {places:?}"
-            );
+            if !are_edited(alloc, heap, text, places, (p, q))? {
+                return Ok(Some(places));
+            }
         }
     }
-    Ok(())
+    Ok(None)
 }
 
 #[test]
 fn edits_at_every_seam(rt: HostRuntime) -> Result<(), Fail> {
     let heap = Refusing::new(rt.alloc());
     for (text, offsets) in TEXTS.iter().zip(OFFSETS.iter()) {
-        all_edits(&rt, rt.alloc(), &heap, text, offsets)?;
+        assert_eq!(rt;
+            wrong_places(rt.alloc(), &heap, text, offsets)?,
+            None,
+            "{text:?}"
+        );
     }
     Ok(())
 }
@@ -190,31 +256,13 @@ const REFUSED: [Refused; 9] = [
     ),
 ];
 
-// Whether an edit is refused for this, and the text stays.
-fn is_refused(
-    rt: &impl Abort,
-    alloc: Global,
-    heap: Heap<'_>,
-    text: &str,
-    places: (Pos, Pos),
-    bytes: &[u8],
-    fault: TextFault,
-) -> Result<bool, TextFault> {
-    let (from, to) = places;
-    let mut store: PlainStore<Heap<'_>> = opened(heap, text.as_bytes())?;
-    let is_told = store.check(from, to, bytes) == Err(fault);
-    let is_answered = edit(rt, heap, 0, &mut store, from, to, bytes) == Err(fault);
-    let rows = split(alloc, text.as_bytes())?;
-    Ok(is_told && is_answered && shows(&store, rows.as_slice()))
-}
-
 #[test]
 fn refused_edits(rt: HostRuntime) -> Result<(), Fail> {
     let heap = Refusing::new(rt.alloc());
     for (text, from, to, bytes, fault) in REFUSED {
         let places = (place(from.0, from.1), place(to.0, to.1));
         assert!(rt;
-            is_refused(&rt, rt.alloc(), &heap, text, places, bytes, fault)?,
+            is_refused::<PlainStore<Heap<'_>>>(rt.alloc(), &heap, text, places, bytes, fault)?,
             "{text:?} {bytes:?}"
         );
     }

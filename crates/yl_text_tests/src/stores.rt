@@ -6,7 +6,6 @@ ghost use Rattle.yl_text.specs.Store.{AreLines};
 
 use refusing::Refusing;
 use std::alloc::{Allocator, Global};
-use std::process::Abort;
 use yl_text::{LineStore, Lines, Pos, Row, TextFault, line_edit, one_answer_to_an_edit, split};
 
 pub(crate) type Heap<'a> = &'a Refusing<Global>;
@@ -23,6 +22,19 @@ pub(crate) fn opened<'a, S: LineStore<Alloc = Heap<'a>>>(
         return Err(TextFault::Memory);
     };
     Ok(store)
+}
+
+// Whether these are the texts of the rows.
+pub(crate) fn is_shown<S: Lines>(lines: &S, texts: &[&str]) -> bool {
+    if lines.len() != texts.len() {
+        return false;
+    }
+    for (i, text) in texts.iter().enumerate() {
+        if lines.row(i).as_str() != *text {
+            return false;
+        }
+    }
+    true
 }
 
 // The rows that an edit puts in, before a kept line or at the end.
@@ -47,6 +59,17 @@ fn are_equal<A: Allocator>(some: &[Row<A>], others: &[Row<A>]) -> bool {
             && one.end() == other.end())
 }
 
+// Whether these are still the rows that an edit puts in.
+fn are_incoming<A: Allocator + Copy>(
+    alloc: A,
+    before: bool,
+    bytes: &[u8],
+    rows: &[Row<A>],
+) -> Result<bool, TextFault> {
+    let again = incoming(alloc, before, bytes)?;
+    Ok(are_equal(rows, again.as_slice()))
+}
+
 // The place before a line, or behind the last one.
 pub(crate) fn before_line<S: Lines>(lines: &S, line: usize) -> Pos {
     if line < lines.len() {
@@ -67,17 +90,16 @@ pub(crate) fn place(line: usize, col: usize) -> Pos {
     }
 }
 
-// Makes an edit between two places. The nth growth of the piece and the store is refused; at 0 none is. The store takes
-// the rows that come in, or hands them back.
+// Makes an edit between two places. The nth growth of the piece and the store is refused; at 0 none is. Whether the
+// store takes the rows that come in, all of them; want of memory, where it hands them back as they were.
 pub(crate) fn edit<'a, S: LineStore<Alloc = Heap<'a>>>(
-    rt: &impl Abort,
     heap: Heap<'a>,
     nth: u64,
     store: &mut S,
     from: Pos,
     to: Pos,
     bytes: &[u8],
-) -> Result<(), TextFault>
+) -> Result<bool, TextFault>
     requires { AreLines (S.rows store.old) }
     ensures { AreLines (S.rows store.new) }
 {
@@ -96,28 +118,27 @@ pub(crate) fn edit<'a, S: LineStore<Alloc = Heap<'a>>>(
     let answer = store.splice(made.first, made.end, &mut rows);
     heap.refuse(0);
     if answer.is_ok() {
-        assert!(rt; rows.is_empty());
-        return Ok(());
+        return Ok(rows.is_empty());
     }
-    let again = incoming(heap, before, made.bytes.as_slice())?;
-    assert!(rt; are_equal(rows.as_slice(), again.as_slice()));
-    Err(TextFault::Memory)
+    if are_incoming(heap, before, made.bytes.as_slice(), rows.as_slice())? {
+        return Err(TextFault::Memory);
+    }
+    Ok(false)
 }
 
 // Makes an edit of the lines a to b, b not included.
 pub(crate) fn edit_lines<'a, S: LineStore<Alloc = Heap<'a>>>(
-    rt: &impl Abort,
     heap: Heap<'a>,
     nth: u64,
     store: &mut S,
     a: usize,
     b: usize,
     bytes: &[u8],
-) -> Result<(), TextFault>
+) -> Result<bool, TextFault>
     requires { AreLines (S.rows store.old) }
     ensures { AreLines (S.rows store.new) }
 {
     let from = before_line(store, a);
     let to = before_line(store, b);
-    edit(rt, heap, nth, store, from, to, bytes)
+    edit(heap, nth, store, from, to, bytes)
 }

@@ -1,92 +1,65 @@
-//! Each growth refused in turn, up to the first run that meets no refusal.
+//! Stores in chunks of which a growth is refused.
 
 ghost use Rattle.std.specs.Prelude.{◌≡◌, OnErr};
 ghost use Rattle.yl_text.specs.Store.{AreLines};
 
-use crate::chunks::{NEW, is_edited, numbered};
+use crate::chunks::{Edit, NEW, is_edited, numbered};
 use crate::stores::{Heap, edit_lines, opened};
-use refusing::Refusing;
 use std::alloc::{AllocError, Global};
-use std::process::Abort;
-use std::test::Fail;
 use yl_chunks::ChunkStore;
 use yl_text::{LineStore, Row, TextFault, split};
 
-// Edits of texts of that many rows: the first row that goes, the one behind the last that goes, how many
-// come in, and how often memory is asked for at least. The rows of 257 are in two chunks.
-const EDITS: [(usize, usize, usize, usize, u64); 6] = [
-    (10, 3, 4, 1, 0),
-    (10, 3, 3, 100, 1),
-    (257, 3, 3, 200, 4),
-    (257, 100, 150, 2, 3),
-    (257, 0, 128, 0, 3),
-    (257, 5, 250, 600, 5),
-];
-
-// Makes an edit of a text whose nth growth is refused. A refusal changes nothing, and the same edit
-// is made when it is asked again. Whether it was made at once; there is no answer where the rows are not as they have to be.
-fn is_made_at_once(
-    rt: &impl Abort,
-    heap: Heap<'_>,
+// Whether an edit of a store is made, with its nth growth refused; there is no answer where the rows are not as they
+// have to be then.
+fn is_made<'a, S: LineStore<Alloc = Heap<'a>>>(
+    heap: Heap<'a>,
     n: u64,
-    text: &str,
-    range: (usize, usize),
-    bytes: &str,
-    sizes: (usize, usize),
-) -> Result<Option<bool>, TextFault> {
-    let (a, b) = range;
-    let (size, count) = sizes;
-    let mut store: ChunkStore<Heap<'_>> = opened(heap, text.as_bytes())?;
-    let answer = edit_lines(rt, heap, n, &mut store, a, b, bytes.as_bytes());
-    if answer.is_ok() {
-        return Ok(is_edited(&store, size, a, b, count).then_some(true));
+    store: &mut S,
+    bytes: &[u8],
+    edit: Edit,
+) -> Option<bool>
+    requires { AreLines (S.rows store.old) }
+    ensures { AreLines (S.rows store.new) }
+{
+    let (size, a, b, _) = edit;
+    match edit_lines(heap, n, store, a, b, bytes) {
+        Ok(true) => is_edited(store, edit).then_some(true),
+        Err(TextFault::Memory) => is_edited(store, (size, 0, 0, 0)).then_some(false),
+        _ => None,
     }
-    if answer != Err(TextFault::Memory) || !is_edited(&store, size, 0, 0, 0) {
-        return Ok(None);
-    }
-    edit_lines(rt, heap, 0, &mut store, a, b, bytes.as_bytes())?;
-    Ok(is_edited(&store, size, a, b, count).then_some(false))
 }
 
-// How many growths there are where none is refused.
-fn refused_in_turn(
-    rt: &impl Abort,
-    alloc: Global,
-    heap: Heap<'_>,
-    size: usize,
-    range: (usize, usize),
-    count: usize,
-) -> Result<Option<u64>, Fail> {
-    let text = numbered(alloc, 0, size, true)?;
-    let bytes = numbered(alloc, NEW, count, false)?;
-    for n in 1..u64::MAX {
-        match is_made_at_once(rt, heap, n, &text, range, &bytes, (size, count))? {
-            Some(true) => return Ok(Some(n.saturating_sub(1))),
-            Some(false) => {}
-            None => break,
-        }
+// The same of a store of this text. A refusal changes nothing, and the same edit is made when it is asked again.
+fn is_text_edited<'a, S: LineStore<Alloc = Heap<'a>>>(
+    heap: Heap<'a>,
+    n: u64,
+    text: &[u8],
+    bytes: &[u8],
+    edit: Edit,
+) -> Option<bool> {
+    let Ok(mut store) = opened::<S>(heap, text) else {
+        return None;
+    };
+    let answer = is_made(heap, n, &mut store, bytes, edit);
+    if answer == Some(false) && is_made(heap, 0, &mut store, bytes, edit) != Some(true) {
+        return None;
     }
-    Ok(None)
+    answer
 }
 
-#[test]
-fn of_splice(rt: HostRuntime) -> Result<(), Fail> {
-    let heap = Refusing::new(rt.alloc());
-    for (size, a, b, count, least) in EDITS {
-        let growths = refused_in_turn(&rt, rt.alloc(), &heap, size, (a, b), count)?;
-        assert!(rt;
-            growths >= Some(least),
-            "{growths:?} growths at {a} to {b} of {size}"
-        );
-    }
-    Ok(())
+// The same of a store in chunks, of the text of the first numbers.
+pub(crate) fn is_made_at_once(alloc: Global, heap: Heap<'_>, n: u64, edit: Edit) -> Option<bool> {
+    let (size, _, b, count) = edit;
+    let text = numbered(alloc, 0, size, true).ok()?;
+    let bytes = numbered(alloc, NEW, count, b == size).ok()?;
+    is_text_edited::<ChunkStore<Heap<'_>>>(heap, n, text.as_bytes(), bytes.as_bytes(), edit)
 }
 
 // How many rows a store is made of, which are in two chunks.
 const SIZE: usize = 257;
 
 // Makes a store of rows, where the nth growth is refused, and tells whether it has them. A refusal leaves the rows.
-fn stored<'a>(
+fn stored<'a, S: LineStore<Alloc = Heap<'a>>>(
     heap: Heap<'a>,
     n: u64,
     rows: &mut Vec<Row<Heap<'a>>, Heap<'a>>,
@@ -95,34 +68,31 @@ fn stored<'a>(
     ensures { OnErr result (rows.new.items ≡ rows.old.items) }
 {
     heap.refuse(n);
-    let answer = ChunkStore::from_rows(rows);
+    let answer = S::from_rows(rows);
     heap.refuse(0);
     let store = answer?;
-    Ok(is_edited(&store, SIZE, 0, 0, 0) && rows.is_empty())
+    Ok(is_edited(&store, (SIZE, 0, 0, 0)) && rows.is_empty())
 }
 
 // The same of a text's rows. Where a growth was refused, a store is made of them when it is asked again. Whether it was made
 // at once; there is no answer where a store or the rows are not as they have to be.
-fn is_stored_at_once(heap: Heap<'_>, n: u64, text: &[u8]) -> Result<Option<bool>, TextFault> {
-    let mut rows = split(heap, text)?;
-    if let Ok(is_right) = stored(heap, n, &mut rows) {
-        return Ok(is_right.then_some(true));
+fn is_text_stored<'a, S: LineStore<Alloc = Heap<'a>>>(
+    heap: Heap<'a>,
+    n: u64,
+    text: &[u8],
+) -> Option<bool> {
+    let Ok(mut rows) = split(heap, text) else {
+        return None;
+    };
+    if let Ok(is_right) = stored::<S>(heap, n, &mut rows) {
+        return is_right.then_some(true);
     }
-    let is_right = rows.len() == SIZE && stored(heap, 0, &mut rows) == Ok(true);
-    Ok(is_right.then_some(false))
+    let is_right = rows.len() == SIZE && stored::<S>(heap, 0, &mut rows) == Ok(true);
+    is_right.then_some(false)
 }
 
-#[test]
-fn of_from_rows(rt: HostRuntime) -> Result<(), Fail> {
-    let heap = Refusing::new(rt.alloc());
-    let text = numbered(rt.alloc(), 0, SIZE, true)?;
-    for n in 1..u64::MAX {
-        let answer = is_stored_at_once(&heap, n, text.as_bytes())?;
-        assert!(rt; answer.is_some(), "the {n}th growth");
-        if answer == Some(true) {
-            assert!(rt; n > 4, "{n} growths");
-            return Ok(());
-        }
-    }
-    Ok(())
+// The same of a store in chunks, of the text of the first numbers.
+pub(crate) fn is_stored_at_once(alloc: Global, heap: Heap<'_>, n: u64) -> Option<bool> {
+    let text = numbered(alloc, 0, SIZE, true).ok()?;
+    is_text_stored::<ChunkStore<Heap<'_>>>(heap, n, text.as_bytes())
 }

@@ -3,30 +3,13 @@
 ghost use Rattle.yl_text.specs.Store.{AreLines};
 
 use crate::chunks::numbered;
+use crate::random::Random;
 use crate::stores::{Heap, edit_lines, opened};
 use refusing::Refusing;
 use std::alloc::{AllocError, Global};
-use std::process::Abort;
 use std::test::Fail;
 use yl_chunks::ChunkStore;
-use yl_text::{LineStore, Lines, PlainStore};
-
-// Numbers that look random, the same ones at each run.
-#[derive(Drop)]
-struct Random {
-    seed: u64,
-}
-
-impl Random {
-    // The next number, below a bound.
-    fn below(&mut self, bound: usize) -> usize {
-        self.seed = self
-            .seed
-            .wrapping_mul(6_364_136_223_846_793_005)
-            .wrapping_add(1_442_695_040_888_963_407);
-        ((self.seed >> 33) % (bound as u64).max(1)) as usize
-    }
-}
+use yl_text::{LineStore, Lines, PlainStore, TextFault};
 
 // What may be put in, but for many lines.
 const PIECES: [&str; 8] = [
@@ -75,7 +58,6 @@ fn have_equal_rows<S: Lines, T: Lines>(one: &S, other: &T) -> bool {
 
 // Makes the same edit of both, and tells whether they answer alike and have the same rows then.
 fn are_edited_alike<'a, S: LineStore<Alloc = Heap<'a>>, T: LineStore<Alloc = Heap<'a>>>(
-    rt: &impl Abort,
     heap: Heap<'a>,
     one: &mut S,
     other: &mut T,
@@ -88,26 +70,52 @@ fn are_edited_alike<'a, S: LineStore<Alloc = Heap<'a>>, T: LineStore<Alloc = Hea
     ensures other { AreLines (T.rows other.new) }
 {
     let (a, b) = range;
-    let answer = edit_lines(rt, heap, 0, one, a, b, bytes);
-    let same = edit_lines(rt, heap, 0, other, a, b, bytes);
-    answer == same && have_equal_rows(one, other)
+    let answer = edit_lines(heap, 0, one, a, b, bytes);
+    let same = edit_lines(heap, 0, other, a, b, bytes);
+    answer != Ok(false) && answer == same && have_equal_rows(one, other)
+}
+
+// Makes a random edit of both.
+fn is_edit_alike<'a, S: LineStore<Alloc = Heap<'a>>, T: LineStore<Alloc = Heap<'a>>>(
+    alloc: Global,
+    heap: Heap<'a>,
+    random: &mut Random,
+    one: &mut S,
+    other: &mut T,
+) -> bool
+    requires one { AreLines (S.rows one.old) }
+    requires other { AreLines (T.rows other.old) }
+    ensures one { AreLines (S.rows one.new) }
+    ensures other { AreLines (T.rows other.new) }
+{
+    let a = random.below(one.len());
+    let b = a.saturating_add(width(random));
+    let Ok(bytes) = piece(alloc, random) else {
+        return false;
+    };
+    are_edited_alike(heap, one, other, (a, b), bytes.as_bytes())
+}
+
+// The first of these edits that is not made alike.
+fn wrong_edit<'a, S: LineStore<Alloc = Heap<'a>>, T: LineStore<Alloc = Heap<'a>>>(
+    alloc: Global,
+    heap: Heap<'a>,
+) -> Result<Option<usize>, TextFault> {
+    let mut random = Random::new(1);
+    let mut one: S = opened(heap, b"first\nlast")?;
+    let mut other: T = opened(heap, b"first\nlast")?;
+    for n in 0..400 {
+        if !is_edit_alike(alloc, heap, &mut random, &mut one, &mut other) {
+            return Ok(Some(n));
+        }
+    }
+    Ok(None)
 }
 
 #[test]
 fn same_edits_of_both_stores(rt: HostRuntime) -> Result<(), Fail> {
     let heap = Refusing::new(rt.alloc());
-    let mut random = Random { seed: 1 };
-    let mut chunks: ChunkStore<Heap<'_>> = opened(&heap, b"first\nlast")?;
-    let mut plain: PlainStore<Heap<'_>> = opened(&heap, b"first\nlast")?;
-    for n in 0..400 {
-        let a = random.below(chunks.len());
-        let b = a.saturating_add(width(&mut random));
-        let bytes = piece(rt.alloc(), &mut random)?;
-        let bytes = bytes.as_bytes();
-        assert!(rt;
-            are_edited_alike(&rt, &heap, &mut chunks, &mut plain, (a, b), bytes),
-            "edit {n}"
-        );
-    }
+    let wrong = wrong_edit::<ChunkStore<Heap<'_>>, PlainStore<Heap<'_>>>(rt.alloc(), &heap)?;
+    assert_eq!(rt; wrong, None);
     Ok(())
 }
