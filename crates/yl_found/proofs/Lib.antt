@@ -1,5 +1,6 @@
 pub mod EachFound
 pub mod FaultFound
+pub mod Gathering
 pub mod Given
 pub mod Passing
 pub mod Pushed

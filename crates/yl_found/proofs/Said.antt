@@ -9,10 +9,8 @@ use Rattle.yl_sections.specs.Kept.{KeptValue, SectionFaultValue}
 use Rattle.yl_rejudge.specs.Places.{rows_kept}
 use Rattle.yl_rejudge.proofs.KeptRows.{got}
 use Rattle.yl_lint.specs.TextReport.{comments_in_sections, shown, unless_fault}
-use Rattle.yl_overview.specs.Overview.{IsFirstFault, IsSilencingOf, IsSound}
-use Rattle.yl_overview.specs.declared.overview.Silencing.{Silencing}
+use Rattle.yl_overview.specs.Overview.{IsFirstFault, IsSound}
 use Rattle.yl_lint.specs.Switches.{SpeaksWithin, may_switch, switch_texts}
-use Rattle.yl_found.proofs.SilencingSections.{comments_known}
 use Rattle.yl_overview.proofs.Walks.{one_more, rows_both}
 use Rattle.yl_lint.proofs.Pushed.{one_at}
 
@@ -66,12 +64,11 @@ rows_all ks n row first l = first.rows ∙ ap rows_kept (shown_all ks n row firs
 
 -- ---- what the comments of the first of them say
 
-pub said_upto : (ks : List KeptValue) (s : Silencing) (shown_count count upto stop : ℕ) → IsSilencingOf ks s → shown_count ≤ length ks → take shown_count ks ≡ shown ks
-    → count ≤ upto → count ≤ shown_count → (count < upto → count ≡ shown_count) → stop ≤ count → (stop < count → s.end ≤ stop)
-    → comments_in_sections s.row (take (stop - s.from) (drop s.from ks)) ≡ comments_in_sections 0 (take upto (shown ks))
-said_upto ks s shown_count count upto stop known within is l m o h e =
+pub said_upto : (ks : List KeptValue) (shown_count count upto : ℕ) → take shown_count ks ≡ shown ks → count ≤ upto → count ≤ shown_count → (count < upto → count ≡ shown_count)
+    → comments_in_sections 0 (take count ks) ≡ comments_in_sections 0 (take upto (shown ks))
+said_upto ks shown_count count upto is l m o =
     let same : take count ks ≡ take upto (take shown_count ks) = same_lists _ _ (search (rules, places)) (λ k d q. grind (arith, places)) in
-    comments_known ks s count stop known (omega (arith, m, within)) h e ∙ ap (comments_in_sections 0) (same ∙ ap (take upto) is)
+    ap (comments_in_sections 0) (same ∙ ap (take upto) is)
 
 -- ---- what comments say that are listed otherwise
 

@@ -42,8 +42,8 @@ silent_rest ks s from stop known m =
     ⊎_elim (λ l. all_take IsSilent (drop stop ks) (from - stop) (drop_more ks s.end stop (m l) known.behind)) (λ l. let none : 0 ≡ from - stop = omega (arith, l) in subst (λ n. Silent (take n (drop stop ks))) none tt)
     (cases_lt stop from)
 
-silent_front : (ks : List KeptValue) (s : Silencing) (from stop : ℕ) → IsSilencingOf ks s → from ≤ length ks → stop ≤ s.from → (stop < from → s.end ≤ stop) → Silent (take from ks)
-silent_front ks s from stop known l h m = ⊎_elim more less (cases_lt s.from from)
+silent_front : (ks : List KeptValue) (s : Silencing) (from stop : ℕ) → IsSilencingOf ks s → stop ≤ s.from → (stop < from → s.end ≤ stop) → Silent (take from ks)
+silent_front ks s from stop known h m = ⊎_elim more less (cases_lt s.from from)
   where
     more : s.from < from → Silent (take from ks)
     more o =
@@ -57,28 +57,28 @@ silent_front ks s from stop known l h m = ⊎_elim more less (cases_lt s.from fr
         let same : take from (take s.from ks) ≡ take from ks = same_lists _ _ (search (rules, places)) (λ k d q. grind (arith, places)) in
         subst (λ (xs : List KeptValue). Silent xs) same (all_take IsSilent (take s.from ks) from known.start.silent)
 
--- of all sections before one, those that may silence say all
-pub comments_known : (ks : List KeptValue) (s : Silencing) (from stop : ℕ) → IsSilencingOf ks s → from ≤ length ks → stop ≤ from → (stop < from → s.end ≤ stop)
-    → comments_in_sections s.row (take (stop - s.from) (drop s.from ks)) ≡ comments_in_sections 0 (take from ks)
-comments_known ks s from stop known l h m = ⊎_elim some none (cases_lt s.from stop)
+-- of all sections before one, those that may silence say all; the first of all begins at `row`, the first of those at `first`
+pub comments_known : (ks : List KeptValue) (s : Silencing) (from stop row first : ℕ) → IsSilencingOf ks s → stop ≤ from → (stop < from → s.end ≤ stop) → first ≡ row + s.row
+    → comments_in_sections first (take (stop - s.from) (drop s.from ks)) ≡ comments_in_sections row (take from ks)
+comments_known ks s from stop row first known h m e = ⊎_elim some none (cases_lt s.from stop)
   where
-    some : s.from < stop → comments_in_sections s.row (take (stop - s.from) (drop s.from ks)) ≡ comments_in_sections 0 (take from ks)
+    some : s.from < stop → comments_in_sections first (take (stop - s.from) (drop s.from ks)) ≡ comments_in_sections row (take from ks)
     some o =
         let x = take s.from ks in
         let y = take (stop - s.from) (drop s.from ks) in
         let z = take (from - stop) (drop stop ks) in
         let parts : take from ks ≡ x ++ (y ++ z) = same_lists _ _ (search (rules, places)) (λ k d q. grind (arith, places)) in
-        let below = s.row + rows_kept y in
-        sym (ap (λ (xs : List KeptValue). comments_in_sections 0 xs) parts
-        ∙ (comments_both 0 s.row x (y ++ z) (omega (arith, known.start.rows))
-        ∙ (ap (λ (cs : List PlacedCommentValue). cs ++ comments_in_sections s.row (y ++ z)) (no_comments 0 x known.start.silent)
-        ∙ (comments_both s.row below y z refl
-        ∙ (ap (λ (cs : List PlacedCommentValue). comments_in_sections s.row y ++ cs) (no_comments below z (silent_rest ks s from stop known m)) ∙ append-nil (comments_in_sections s.row y))))))
+        let below = first + rows_kept y in
+        sym (ap (λ (xs : List KeptValue). comments_in_sections row xs) parts
+        ∙ (comments_both row first x (y ++ z) (omega (arith, e, known.start.rows))
+        ∙ (ap (λ (cs : List PlacedCommentValue). cs ++ comments_in_sections first (y ++ z)) (no_comments row x known.start.silent)
+        ∙ (comments_both first below y z refl
+        ∙ (ap (λ (cs : List PlacedCommentValue). comments_in_sections first y ++ cs) (no_comments below z (silent_rest ks s from stop known m)) ∙ append-nil (comments_in_sections first y))))))
 
-    none : stop ≤ s.from → comments_in_sections s.row (take (stop - s.from) (drop s.from ks)) ≡ comments_in_sections 0 (take from ks)
+    none : stop ≤ s.from → comments_in_sections first (take (stop - s.from) (drop s.from ks)) ≡ comments_in_sections row (take from ks)
     none o =
         let n : stop - s.from ≡ 0 = omega (arith, o) in
-        ap (λ k. comments_in_sections s.row (take k (drop s.from ks))) n ∙ sym (no_comments 0 (take from ks) (silent_front ks s from stop known l o m))
+        ap (λ k. comments_in_sections first (take k (drop s.from ks))) n ∙ sym (no_comments row (take from ks) (silent_front ks s from stop known o m))
 
 -- at the end of a walk over some sections
 pub comments_end : (ks : List KeptValue) (end i line : ℕ) (cs all : List PlacedCommentValue) → end ≤ i → cs ++ comments_in_sections line (take (end - i) (drop i ks)) ≡ all → cs ≡ all

@@ -1,17 +1,12 @@
 -- Bridge: sections whose part in a report is theirs alone: what is found in them, and the comments that silence, stand in their own lines.
 -- Each section is such a one, its fault aside, whatever its rows are.
-use Rattle.std.specs.Prelude.{◌≡◌, ◌<◌, ◌≤◌, ℕ, Bool, true, not, ◌&&◌, List, None}
+use Rattle.std.specs.Prelude.{◌≡◌, ◌<◌, ◌≤◌, ℕ, Bool, true, not, ◌&&◌, None}
 use Rattle.std.specs.List.{AllByRecursion}
 use Rattle.yl_text.specs.declared.finding.RuleId.{RuleId}
 use Rattle.yl_text.specs.Finding.{FindingValue}
-use Rattle.yl_indentation.specs.Measures.{measure_of}
 use Rattle.yl_report.specs.Report.{is_syntax}
 use Rattle.yl_parting.specs.Showing.{is_indentation, is_of_lines}
 use Rattle.yl_sections.specs.Kept.{KeptValue}
-use Rattle.yl_lint.specs.TextReport.{facts_in_sections}
-use Rattle.yl_found.specs.Faultless.{faultless}
-use Rattle.yl_overview.specs.Overview.{IsFirstFault, IsSilencingOf}
-use Rattle.yl_overview.specs.declared.overview.Overview.{Overview}
 
 -- it stands in the first lines, counted from 1
 abbrev pub IsWithin : ℕ → FindingValue → Type 0
@@ -32,10 +27,3 @@ pub record IsPlain (k : KeptValue) : Type 0 where
   pub rules : AllByRecursion (λ f. is_kept_rule f.rule ≡ true) k.found
   pub facts : AllByRecursion (λ f. f.line < k.rows) k.facts
   pub comments : AllByRecursion (λ c. c.line < k.rows) k.comments
-
--- what an overview says of sections that are plain, their faults aside
-pub record IsSurveyed (ks : List KeptValue) (o : Overview) : Type 0 where
-  pub plain : AllByRecursion IsPlain (faultless ks)
-  pub first : IsFirstFault ks o.sound o.row
-  pub whole : o.whole ≡ measure_of (facts_in_sections ks)
-  pub silencing : IsSilencingOf ks o.silencing

@@ -2,11 +2,13 @@
 ghost use Rattle.std.specs.Prelude.{◌≡◌, ◌≤◌, ◌-◌, length, map, take, drop, IfOk};
 ghost use Rattle.yl_lexeme.specs.PlacedComments.{placed_comment_value};
 ghost use Rattle.yl_lint.specs.TextReport.{comments_in_sections};
+ghost use Rattle.yl_overview.specs.Survey.{IsSurvey};
 
+use crate::gathered::{Gathered, push_among};
 use std::alloc::{AllocError, Allocator};
 use yl_chunks::Spliced;
 use yl_lexeme::PlacedComment;
-use yl_lint::{line_below, push_comments};
+use yl_overview::Survey;
 use yl_sections::Kept;
 
 /// The comments of the sections from one on, before `end`; the first of these begins at `row`.
@@ -21,11 +23,32 @@ pub fn comments_among<'a, A: Allocator + Copy>(
     ensures { IfOk result (λ v. map placed_comment_value v.items ≡ comments_in_sections row (take (end - from) (drop from sections.now))) }
 {
     let mut comments = Vec::new(alloc);
-    let mut line = row;
-    for i in from..end {
-        let one = sections.get(i);
-        push_comments(line, one.comments(), &mut comments)?;
-        line = line_below(line, one.rows())?;
-    }
+    push_among(sections, from, end, row, &mut comments)?;
     Ok(comments)
+}
+
+/// The comments of the first `count` sections. Where an overview tells that none of its sections may silence a rule, it looks at none of them. It
+/// takes no memory where none may.
+pub fn comments_upto<'a, A: Allocator + Copy>(
+    alloc: A,
+    survey: &Survey<'a, A>,
+    count: usize,
+) -> Result<Vec<PlacedComment<'a>, A>, AllocError>
+    requires survey { IsSurvey survey.now }
+    requires within { count ≤ length survey.now.sections }
+    ensures { IfOk result (λ v. map placed_comment_value v.items ≡ comments_in_sections 0 (take count survey.now.sections)) }
+{
+    let mut gathered = Gathered::none(alloc);
+    if survey.all.is_silent() {
+        return Ok(gathered.comments);
+    }
+    let (above, below) = (survey.above, survey.below);
+    for upper in above {
+        gathered.go_on(&survey.sections, *upper, count)?;
+    }
+    gathered.go_on(&survey.sections, survey.near, count)?;
+    for lower in below {
+        gathered.go_on(&survey.sections, *lower, count)?;
+    }
+    Ok(gathered.comments)
 }

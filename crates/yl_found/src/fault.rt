@@ -5,14 +5,14 @@ ghost use Rattle.yl_sections.specs.Kept.{KeptValue};
 ghost use Rattle.yl_sections.specs.Owned.{section_fault_value};
 ghost use Rattle.yl_lint.specs.TextReport.{end_of_lines, fault_in_sections};
 ghost use Rattle.yl_found.specs.Found.{fault_told};
-ghost use Rattle.yl_found.specs.Plain.{IsSurveyed};
 ghost use Rattle.yl_overview.specs.Overview.{IsFirstFault};
+ghost use Rattle.yl_overview.specs.Survey.{IsSurvey};
 
 use std::alloc::{AllocError, Allocator};
 use yl_chunks::Spliced;
 use yl_config::Config;
 use yl_lint::{end_of, finding_of_fault, first_text};
-use yl_overview::Overview;
+use yl_overview::{Overview, Survey};
 use yl_report::{Problem, Silences, arrange, disables_file};
 use yl_sections::{Kept, SectionFault};
 use yl_text::{Finding, Lines, Pos};
@@ -68,17 +68,16 @@ pub fn fault_of<L: Lines>(
     alloc: L::Alloc,
     config: &Config,
     lines: &L,
-    sections: &Spliced<'_, Kept<L::Alloc>, L::Alloc>,
-    overview: Overview,
+    survey: &Survey<'_, L::Alloc>,
 ) -> Result<Option<Problem<L::Alloc>>, AllocError>
     requires lines { AreLines (L.rows lines.now) }
-    requires overview { IsSurveyed sections.now overview }
-    ensures { IfOk result (λ o. o ≡ fault_told config.now (L.rows lines.now) sections.now) }
+    requires survey { IsSurvey survey.now }
+    ensures { IfOk result (λ o. o ≡ fault_told config.now (L.rows lines.now) survey.now.sections) }
 {
     if disables_file(first_text(lines)) {
         return Ok(None);
     }
-    let found = find_fault(alloc, lines, sections, overview)?;
+    let found = find_fault(alloc, lines, &survey.sections, survey.all)?;
     let mut told = arrange(alloc, found, config.levels(), &Silences::none(alloc))?;
     Ok(told.pop())
 }

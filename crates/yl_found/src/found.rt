@@ -4,8 +4,8 @@ ghost use Rattle.yl_text.specs.Store.{AreLines};
 ghost use Rattle.yl_indentation.specs.Measures.{empty_measure, measure_of};
 ghost use Rattle.yl_parting.specs.Changes.{parts_in};
 ghost use Rattle.yl_lint.specs.TextReport.{facts_in_sections, findings_in_sections};
+ghost use Rattle.yl_overview.specs.Survey.{IsSurvey};
 ghost use Rattle.yl_found.specs.Found.{all_parts, found_by};
-ghost use Rattle.yl_found.specs.Plain.{IsSurveyed};
 
 use crate::fault::fault_of;
 use crate::showing::showing_of;
@@ -14,7 +14,7 @@ use yl_chunks::Spliced;
 use yl_config::Config;
 use yl_indentation::{IndentationOptions, Measure};
 use yl_lint::{find_in_lines, line_below, push_section};
-use yl_overview::Overview;
+use yl_overview::Survey;
 use yl_parting::FoundProblems;
 use yl_report::{Problem, Silences, arrange};
 use yl_sections::Kept;
@@ -64,17 +64,17 @@ pub fn found_problems<L: Lines>(
     alloc: L::Alloc,
     config: &Config,
     lines: &L,
-    sections: &Spliced<'_, Kept<L::Alloc>, L::Alloc>,
-    overview: Overview,
+    survey: &Survey<'_, L::Alloc>,
 ) -> Result<FoundProblems<L::Alloc>, AllocError>
     requires lines { AreLines (L.rows lines.now) }
-    requires overview { IsSurveyed sections.now overview }
-    ensures { IfOk result (λ f. parts_in f ≡ all_parts config.now (L.rows lines.now) sections.now) }
+    requires survey { IsSurvey survey.now }
+    ensures { IfOk result (λ f. parts_in f ≡ all_parts config.now (L.rows lines.now) survey.now.sections) }
 {
-    let found = find_all(alloc, config, lines, sections, overview.whole)?;
-    let showing = showing_of(alloc, lines, sections, overview, sections.len())?;
+    let sections = &survey.sections;
+    let found = find_all(alloc, config, lines, sections, survey.all.whole)?;
+    let showing = showing_of(alloc, lines, survey, sections.len())?;
     let mut parts = FoundProblems::part(alloc, &showing, found)?;
-    let fault = fault_of(alloc, config, lines, sections, overview)?;
+    let fault = fault_of(alloc, config, lines, survey)?;
     parts.add_fault(fault)?;
     Ok(parts)
 }

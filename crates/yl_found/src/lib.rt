@@ -8,6 +8,7 @@
 mod comments;
 mod fault;
 mod found;
+mod gathered;
 mod laws;
 mod showing;
 

@@ -3,15 +3,15 @@ ghost use Rattle.std.specs.Prelude.{◌≡◌, ◌≤◌, length, take, IfOk};
 ghost use Rattle.yl_parting.specs.Showing.{is_shown_by};
 ghost use Rattle.yl_rejudge.specs.Places.{rows_kept};
 ghost use Rattle.yl_lint.specs.TextReport.{shown};
-ghost use Rattle.yl_found.specs.Plain.{IsSurveyed};
 ghost use Rattle.yl_overview.specs.Overview.{IsFirstFault};
+ghost use Rattle.yl_overview.specs.Survey.{IsSurvey};
 ghost use Rattle.yl_found.specs.ShownUpto.{is_shown_upto};
 
-use crate::comments::comments_among;
+use crate::comments::comments_upto;
 use std::alloc::{AllocError, Allocator};
 use yl_chunks::Spliced;
 use yl_lint::first_text;
-use yl_overview::Overview;
+use yl_overview::{Overview, Survey};
 use yl_parting::Showing;
 use yl_report::Silences;
 use yl_sections::Kept;
@@ -44,23 +44,21 @@ fn rows_shown<A: Allocator + Copy>(sections: &Spliced<'_, Kept<A>, A>, overview:
 }
 
 /// Which of what is found in these lines is shown, by the comments of the first `upto` of their sections: what stands in these is shown by all
-/// comments too. It looks at the sections alone that may silence rules, and takes no memory where there are none. The only error is out of
+/// comments too. It looks at no section of which an overview tells that it
+/// silences nothing, and takes no memory where none may silence a rule. The only error is out of
 /// memory.
 pub fn showing_of<L: Lines>(
     alloc: L::Alloc,
     lines: &L,
-    sections: &Spliced<'_, Kept<L::Alloc>, L::Alloc>,
-    overview: Overview,
+    survey: &Survey<'_, L::Alloc>,
     upto: usize,
 ) -> Result<Showing<L::Alloc>, AllocError>
-    requires { IsSurveyed sections.now overview }
-    ensures { IfOk result (λ s. is_shown_by s ≡ is_shown_upto upto (L.rows lines.now) sections.now) }
+    requires { IsSurvey survey.now }
+    ensures { IfOk result (λ s. is_shown_by s ≡ is_shown_upto upto (L.rows lines.now) survey.now.sections) }
 {
-    let silencing = overview.silencing;
-    let count = upto.min(count_shown(sections, overview));
-    let stop = count.min(silencing.end);
-    let comments = comments_among(alloc, sections, silencing.from, stop, silencing.row)?;
+    let count = upto.min(count_shown(&survey.sections, survey.all));
+    let comments = comments_upto(alloc, survey, count)?;
     let silences = Silences::read(alloc, first_text(lines), &comments)?;
-    let last = rows_shown(sections, overview);
+    let last = rows_shown(&survey.sections, survey.all);
     Ok(Showing { silences, last })
 }

@@ -1,5 +1,5 @@
 -- Overviews of some sections each, one after another.
-use Rattle.std.proofs.Common.{◌≡◌, ℕ, suc, ◌+◌, ◌-◌, ◌<◌, ◌≤◌, ◌^◌, List, [], ◌∷◌, ◌++◌, length, take, drop, get_or, refl, ap, sym, subst, ◌∙◌, arith, rules, add-one, length-append}
+use Rattle.std.proofs.Common.{◌≡◌, ℕ, suc, ◌+◌, ◌-◌, ◌<◌, ◌≤◌, ◌^◌, List, [], ◌∷◌, ◌++◌, length, take, drop, get_or, refl, ap, sym, subst, ◌∙◌, arith, rules, add-one, append_assoc, length-append}
 use Rattle.std.specs.List.{splice}
 use Rattle.std.proofs.Math.Seq.{drop-cons}
 use Rattle.std.proofs.lemmas.List.{same_lists, places, get_or_default, take_more, length-take, length-drop, take_all, take-append-drop}
@@ -146,6 +146,15 @@ module _ (ks ns : List KeptValue) (os : List Overview) (from end : ℕ) (ordered
       subst (λ (xs : List Overview). AreOverviews all xs) (sym is)
       (subst (λ (xs : List KeptValue). AreOverviews xs (put ++ drop last os)) (ap (λ (xs : List KeptValue). take until all ++ xs) (sym back) ∙ whole)
       (overviews_both (take until all) (drop stop ks) put (drop last os) (made (subst (λ (xs : List KeptValue). AreOverviews xs (take first os)) (sym front) upto.above)) behind.below))
+
+  -- the overviews above the borders, one of what is between them, and those below
+  pub survey_put : (start first stop last until : ℕ) (near : Overview) (back : List Overview) → IsBorder ks os start first → IsBorder ks os stop last → start ≤ from → end ≤ stop → until + end ≡ stop + from + length ns
+      → IsOverviewOf (take (until - start) (drop start (splice ks from end ns))) near → back ≡ drop last os → AreOverviews (splice ks from end ns) (take first os ++ near ∷ back)
+  survey_put start first stop last until near back upto behind l h count here is =
+      let put = take first os ++ near ∷ [] in
+      let ordered' : start ≤ until = omega (arith, l, h, count) in
+      overviews_put start first stop last until put (take first os ++ near ∷ back) upto behind l h count (λ above. upto_next (splice ks from end ns) start until (take first os) put near ordered' above here refl)
+      (ap (λ (xs : List Overview). take first os ++ near ∷ xs) is ∙ sym (append_assoc (take first os) (near ∷ []) (drop last os)))
 
   -- the overviews above the edit
   pub front_put : (start first : ℕ) (put : List Overview) → IsBorder ks os start first → start ≤ from → put ≡ take first os → AreOverviews (take start (splice ks from end ns)) put

@@ -3,6 +3,7 @@ ghost use Rattle.std.specs.Prelude.{◌≡◌, ◌++◌, OnOk};
 
 use crate::overview::Overview;
 use crate::overviews::{Border, USUAL, all_of, border_behind, border_upto, push_overviews};
+use crate::survey::Survey;
 use crate::walking::{overview_of, overview_within};
 use std::alloc::{AllocError, Allocator};
 use yl_chunks::{Chunks, Spliced};
@@ -95,11 +96,12 @@ fn push_copies<A: Allocator>(
 }
 
 impl<'a, A: Allocator + Copy> SectionEdit<'a, A> {
-    ghost use Rattle.std.specs.Prelude.{◌≡◌, ◌+◌, ◌-◌, length, take, IfOk, OnOk};
+    ghost use Rattle.std.specs.Prelude.{◌≡◌, ◌+◌, ◌-◌, length, take, drop, IfOk, OnOk};
     ghost use Rattle.std.specs.List.{splice};
     ghost use Rattle.yl_text.specs.Store.{IsRange};
     ghost use Rattle.yl_overview.specs.Overview.{AreFew, AreOverviews, IsOverviewOf};
     ghost use Rattle.yl_overview.specs.Edit.{IsSectionEdit, sections_after, sections_upto};
+    ghost use Rattle.yl_overview.specs.Survey.{IsSurvey};
 
     /// The edit by which this is kept in place of the sections from one on, before `end`.
     pub fn new(
@@ -143,7 +145,7 @@ impl<'a, A: Allocator + Copy> SectionEdit<'a, A> {
     }
 
     /// What is known of all sections after it.
-    pub fn after(&self) -> Overview
+    fn after(&self) -> Overview
         requires { IsSectionEdit self.now }
         ensures { IsOverviewOf (splice self.now.sections.now.items self.now.from self.now.end self.now.kept.now) result }
     {
@@ -158,6 +160,31 @@ impl<'a, A: Allocator + Copy> SectionEdit<'a, A> {
         Spliced::new(self.sections, self.from, self.end, self.kept)
     }
 
+    /// What is known of the sections between the borders, as the edit leaves them.
+    fn between(&self) -> Overview
+        requires { IsSectionEdit self.now }
+        ensures { IsOverviewOf (take (sections_upto self.now - self.now.near.start.sections) (drop self.now.near.start.sections (sections_after self.now))) result }
+    {
+        let near = self.near;
+        near.above.and_later(self.come).and_later(near.below)
+    }
+
+    /// All sections after it, and what is known of them.
+    pub fn survey(&self) -> Survey<'a, A>
+        requires { IsSectionEdit self.now }
+        ensures survey { IsSurvey result }
+        ensures sections { result.sections ≡ splice self.now.sections.now.items self.now.from self.now.end self.now.kept.now }
+    {
+        let (start, stop) = (self.near.start, self.near.stop);
+        Survey {
+            sections: self.spliced(),
+            above: &self.overviews[..start.overviews],
+            near: self.between(),
+            below: &self.overviews[stop.overviews..],
+            all: self.after(),
+        }
+    }
+
     /// Puts overviews of the sections between the borders behind those of the sections above, as the edit leaves them.
     fn push_near(&self, after: &mut Vec<Overview, A>) -> Result<(), AllocError>
         requires edit { IsSectionEdit self.now }
@@ -165,7 +192,7 @@ impl<'a, A: Allocator + Copy> SectionEdit<'a, A> {
         ensures { OnOk result (AreOverviews (take (sections_upto self.now) (sections_after self.now)) after.new.items) }
     {
         let near = self.near;
-        let here = near.above.and_later(self.come).and_later(near.below);
+        let here = self.between();
         if 0 < here.sections && here.sections < 2 * USUAL {
             after.push(here)?;
             return Ok(());

@@ -8,8 +8,10 @@
 mod edit;
 mod overview;
 mod overviews;
+mod survey;
 mod walking;
 
 pub use edit::{Nearby, SectionEdit};
 pub use overview::{Overview, Silencing};
-pub use overviews::{Border, all_of, nearest, overviews_of};
+pub use overviews::{Border, nearest, overviews_of};
+pub use survey::Survey;

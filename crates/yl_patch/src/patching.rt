@@ -10,10 +10,11 @@ ghost use Rattle.yl_parting.specs.Rooms.{IsReadyFor};
 ghost use Rattle.yl_parting.specs.Showing.{is_shown_by};
 ghost use Rattle.yl_rejudge.specs.Places.{rows_kept};
 ghost use Rattle.yl_overview.specs.Edit.{IsSectionEdit};
+ghost use Rattle.yl_overview.specs.Survey.{IsSurvey};
 ghost use Rattle.yl_lint.specs.Edit.{IsTextEdit};
 ghost use Rattle.yl_found.specs.Faultless.{faultless};
 ghost use Rattle.yl_found.specs.Found.{all_parts, is_shown};
-ghost use Rattle.yl_found.specs.Plain.{IsPlain, IsSurveyed};
+ghost use Rattle.yl_found.specs.Plain.{IsPlain};
 ghost use Rattle.yl_found.specs.ShownUpto.{is_shown_upto};
 ghost use Rattle.yl_patch.specs.Cut.{IsApart};
 
@@ -21,14 +22,12 @@ use crate::below::stays_shown;
 use crate::indentation::indentation_below;
 use crate::seen::{SeenEdit, see_edit};
 use std::alloc::AllocError;
-use yl_chunks::Spliced;
 use yl_config::Config;
 use yl_found::{fault_of, showing_of};
 use yl_lint::TextEdit;
-use yl_overview::{Overview, SectionEdit};
+use yl_overview::{SectionEdit, Survey};
 use yl_parting::{FoundProblems, LinesPatch, Showing};
 use yl_report::{Silences, arrange};
-use yl_sections::Kept;
 use yl_text::{Finding, LineStore, Lines};
 
 /// What was found in some lines, parted by the comments of the first `upto` sections.
@@ -36,15 +35,14 @@ fn part_found<L: Lines>(
     alloc: L::Alloc,
     config: &Config,
     lines: &L,
-    sections: &Spliced<'_, Kept<L::Alloc>, L::Alloc>,
-    overview: Overview,
+    survey: &Survey<'_, L::Alloc>,
     upto: usize,
     found: Vec<Finding<L::Alloc>, L::Alloc>,
 ) -> Result<FoundProblems<L::Alloc>, AllocError>
-    requires { IsSurveyed sections.now overview }
-    ensures { IfOk result (λ f. parts_in f ≡ parted (is_shown_upto upto (L.rows lines.now) sections.now) (report_of (levels_of config.now) false nothing_silenced found.items)) }
+    requires { IsSurvey survey.now }
+    ensures { IfOk result (λ f. parts_in f ≡ parted (is_shown_upto upto (L.rows lines.now) survey.now.sections) (report_of (levels_of config.now) false nothing_silenced found.items)) }
 {
-    let showing = showing_of(alloc, lines, sections, overview, upto)?;
+    let showing = showing_of(alloc, lines, survey, upto)?;
     let there = arrange(alloc, found, config.levels(), &Silences::none(alloc))?;
     FoundProblems::part(alloc, &showing, there)
 }
@@ -61,16 +59,15 @@ fn showing_unless<L: Lines>(
     alloc: L::Alloc,
     is_known: bool,
     lines: &L,
-    sections: &Spliced<'_, Kept<L::Alloc>, L::Alloc>,
-    overview: Overview,
+    survey: &Survey<'_, L::Alloc>,
 ) -> Result<Option<Showing<L::Alloc>>, AllocError>
-    requires { IsSurveyed sections.now overview }
-    ensures { IfOk result (λ o. MatchOption o (is_known ≡ true) (λ s. is_shown_by s ≡ is_shown (L.rows lines.now) sections.now)) }
+    requires { IsSurvey survey.now }
+    ensures { IfOk result (λ o. MatchOption o (is_known ≡ true) (λ s. is_shown_by s ≡ is_shown (L.rows lines.now) survey.now.sections)) }
 {
     if is_known {
         return Ok(None);
     }
-    let showing = showing_of(alloc, lines, sections, overview, sections.len())?;
+    let showing = showing_of(alloc, lines, survey, survey.sections.len())?;
     Ok(Some(showing))
 }
 
@@ -93,16 +90,16 @@ pub fn patched_problems<S: LineStore>(
 {
     let seen = see_edit(alloc, config, text, edit)?;
     let SeenEdit { touched, found } = seen;
-    let (before, after) = (edit.before(), edit.after());
+    let before = edit.before();
     let edited = text.edited();
-    let sections = edit.spliced();
+    let survey = edit.survey();
     let upto = edit.from + edit.kept.len();
-    let parts = part_found(alloc, config, &edited, &sections, after, upto, found)?;
+    let parts = part_found(alloc, config, &edited, &survey, upto, found)?;
     let indentation = indentation_below(alloc, config, edit, touched.old_end)?;
     let stays = stays_shown(alloc, text.store, &edited, edit)?;
     let is_known = is_known_below(stays, &indentation);
-    let below = showing_unless(alloc, is_known, &edited, &sections, after)?;
-    let fault = fault_of(alloc, config, &edited, &sections, after)?;
+    let below = showing_unless(alloc, is_known, &edited, &survey)?;
+    let fault = fault_of(alloc, config, &edited, &survey)?;
     let FoundProblems { shown, suppressed } = parts;
     Ok(LinesPatch {
         first: touched.first,

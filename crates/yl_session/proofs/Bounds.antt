@@ -1,6 +1,5 @@
 -- How many lines and records there are, also after an edit.
-use Rattle.std.proofs.Common.{◌≡◌, ◌^◌, ◌<◌, ◌∙◌, ℕ, List, [], Option, length, map, arith}
-use Rattle.std.specs.List.{splice}
+use Rattle.std.proofs.Common.{◌≡◌, ◌^◌, ◌<◌, ◌∙◌, ℕ, List, Option, length, map, arith}
 use Rattle.std.proofs.lemmas.List.{length-map}
 use Rattle.std.specs.Str.{chars}
 use Rattle.yl_text.specs.Lines.{RowValue}
@@ -30,7 +29,3 @@ few_rows config ps cut rs ks lines held is = omega (arith, few_lines ps lines, c
 
 pub are_few : (config : Config) (ps : List RowValue) (cut : Option ℕ) (rs : List RecordValue) (ks : List KeptValue) → AreLines ps → AreHeld (characters_in ps) cut rs → ks ≡ map (kept_of_section config) (sections rs) → AreFew ks
 are_few config ps cut rs ks lines held is = record { sections = omega (arith, few_kept config ps cut rs ks lines held is); rows = omega (arith, few_rows config ps cut rs ks lines held is) }
-
--- a list in which nothing is replaced
-pub itself : (ks all : List KeptValue) → all ≡ splice ks 0 0 [] → all ≡ ks
-itself ks all is = is

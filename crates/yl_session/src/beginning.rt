@@ -9,10 +9,10 @@ ghost use Rattle.yl_found.specs.Found.{all_parts};
 use crate::reading::{in_chunks, read};
 use crate::sections::{KnownSections, known_of};
 use std::alloc::{AllocError, Allocator};
-use yl_chunks::{Chunks, Spliced};
+use yl_chunks::Chunks;
 use yl_config::Config;
 use yl_found::found_problems;
-use yl_overview::all_of;
+use yl_overview::Survey;
 use yl_parting::FoundProblems;
 use yl_record::Record;
 use yl_text::LineStore;
@@ -41,9 +41,8 @@ pub fn begin<S: LineStore>(
     let kept = in_chunks(alloc, &mut list)?;
     let known = known_of(alloc, kept)?;
     let found = {
-        let all = Spliced::new(&known.kept, 0, 0, &[]);
-        let overview = all_of(known.overviews.as_slice());
-        found_problems(alloc, config, store, &all, overview)?
+        let survey = Survey::new(&known.kept, known.overviews.as_slice());
+        found_problems(alloc, config, store, &survey)?
     };
     Ok(OpenedText {
         records,

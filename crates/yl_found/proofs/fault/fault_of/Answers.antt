@@ -13,7 +13,7 @@ use Rattle.yl_found.proofs.fault.fault_of.Goals as goal
 pub returns : goal.returns
 returns g c =
     let rows = g.L.Lines.rows c.args.lines.now in
-    let ks = c.args.sections.now in
+    let ks = c.args.survey.now.sections in
     let l = levels_of c.args.config.now in
     let fs = fault_in_sections 0 (end_of_lines rows) ks in
     let s = c.none.result in

@@ -9,7 +9,7 @@ use Rattle.yl_found.proofs.found.found_problems.Goals as goal
 pub returns : goal.returns
 returns g c =
     let rows = g.L.Lines.rows c.args.lines.now in
-    let ks = c.args.sections.now in
+    let ks = c.args.survey.now.sections in
     let config = c.args.config.now in
     let shows = c.in_ok-showing.ensures ∙ upto_all c.len.result rows ks (omega (arith, c.len.ensures)) in
     let parts =

@@ -7,13 +7,10 @@ use Rattle.yl_found.proofs.showing.showing_of.Goals as goal
 
 pub returns : goal.returns
 returns g c =
-    let o = c.args.overview in
-    let ks = c.args.sections.now in
-    let count = c.count_shown.result in
+    let ks = c.args.survey.now.sections in
     let said =
     c.in_ok-silences.ensures.lines
     ∙ ap is_silenced (ap (map placed_comment_value) c.deref.ensures.value
     ∙ (c.in_ok-comments.ensures
-    ∙ said_upto ks o.silencing count c.min-count.result c.args.upto c.min-stop.result c.requires.silencing c.count_shown.ensures.within c.count_shown.ensures.shown (omega (arith, c.min-count.ensures)) (omega (arith, c.min-count.ensures))
-    (λ l. omega (arith, l, c.min-count.ensures)) (omega (arith, c.min-stop.ensures)) (λ l. omega (arith, l, c.min-stop.ensures)))) in
+    ∙ said_upto ks c.count_shown.result c.min-count.result c.args.upto c.count_shown.ensures.shown (omega (arith, c.min-count.ensures)) (omega (arith, c.min-count.ensures)) (λ l. omega (arith, l, c.min-count.ensures)))) in
     shown_by c.in_ok-silences.silences c.rows_shown-last.result c.args.upto (g.L.Lines.rows c.args.lines.now) ks (c.in_ok-silences.ensures.file ∙ ap disables_file c.first_text.ensures) said c.rows_shown-last.ensures

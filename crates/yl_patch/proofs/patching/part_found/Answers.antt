@@ -13,7 +13,7 @@ use Rattle.yl_patch.proofs.patching.part_found.Goals as goal
 pub returns : goal.returns
 returns g c =
     let rows = g.L.Lines.rows c.args.lines.now in
-    let ks = c.args.sections.now in
+    let ks = c.args.survey.now.sections in
     let s = c.none.result in
     let there = c.in_ok-there.ensures ∙ told_as (level_of c.levels.result.now) (levels_of c.args.config.now) (is_file_silenced_by s) (is_silenced_at s) c.args.found.items c.args.found.items c.levels.ensures c.none.ensures.file c.none.ensures.lines refl in
     then_ok c.part.result c.part.ensures (λ f e.

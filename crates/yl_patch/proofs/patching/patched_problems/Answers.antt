@@ -1,4 +1,4 @@
-use Rattle.std.proofs.Common.{◌+◌, ◌<◌, ◌^◌, false, List, length, take, drop, arith, ap, refl, sym, subst, ◌∙◌}
+use Rattle.std.proofs.Common.{◌+◌, ◌<◌, ◌^◌, false, List, length, take, drop, arith, ap, refl, sym, ◌∙◌}
 use Rattle.std.specs.Prelude.{is_none}
 use Rattle.std.proofs.lemmas.Bool.{and_parts}
 use Rattle.std.specs.List.{splice}
@@ -10,11 +10,9 @@ use Rattle.yl_parting.specs.Changes.{patch_in}
 use Rattle.yl_parting.specs.Parts.{PartsValue, parted}
 use Rattle.yl_sections.specs.Kept.{KeptValue}
 use Rattle.yl_found.specs.Found.{fault_told}
-use Rattle.yl_found.specs.Plain.{IsSurveyed}
 use Rattle.yl_found.specs.ShownUpto.{is_shown_upto}
 use Rattle.yl_found.proofs.FaultFound.{told_none}
 use Rattle.yl_overview.proofs.Whole.{none_first}
-use Rattle.yl_found.proofs.Given.{surveyed}
 use Rattle.yl_lint.proofs.FewLines.{few_lines}
 use Rattle.yl_patch.proofs.PatchReady.{ready_for}
 use Rattle.yl_patch.proofs.SeenPatch.{says_indentation, seen_patch}
@@ -27,15 +25,6 @@ use Rattle.yl_rejudge.specs.Places.{rows_kept}
 use Rattle.yl_overview.proofs.Walks.{rows_both}
 use Rattle.yl_parting.proofs.Lines.{part}
 use Rattle.yl_patch.proofs.patching.patched_problems.Goals as goal
-
-pub part_found-requires : goal.part_found-requires
-part_found-requires g c = subst (λ (ks : List KeptValue). IsSurveyed ks c.after-after.result) (sym c.spliced-sections.ensures) (surveyed _ c.after-after.result c.requires.plain_then c.after-after.ensures)
-
-pub showing_unless-requires : goal.showing_unless-requires
-showing_unless-requires g c = subst (λ (ks : List KeptValue). IsSurveyed ks c.after-after.result) (sym c.spliced-sections.ensures) (surveyed _ c.after-after.result c.requires.plain_then c.after-after.ensures)
-
-pub fault_of-requires-clause-overview : goal.fault_of-requires-clause-overview
-fault_of-requires-clause-overview g c = subst (λ (ks : List KeptValue). IsSurveyed ks c.after-after.result) (sym c.spliced-sections.ensures) (surveyed _ c.after-after.result c.requires.plain_then c.after-after.ensures)
 
 pub returns-clause-ready : goal.returns-clause-ready
 returns-clause-ready g c =
@@ -64,7 +53,7 @@ returns-clause-ready g c =
     }) c.requires.plain (omega (arith, few_lines rows c.requires.text.old)) (omega (arith, c.requires.edit.few.rows)) (omega (arith, seen.cut.inside.old_some))
     (record {
       indentation = judged_ready c.in_ok-indentation.indentation (AreFoundAlike (measure_upto edit.above.whole (sections_between edit.from edit.end ks)) (measure_upto edit.above.whole edit.kept.now) (drop edit.end ks)) t.old_end _ (indentation_told (levels_of config) (options_of config).indentation t.old_end (measure_upto edit.above.whole edit.kept.now) (drop edit.end ks) below few) c.in_ok-indentation.ensures;
-      below = told_where c.in_ok-indentation.indentation c.in_ok-below.below c.is_known_below-is_known.result c.in_ok-stays.stays c.edited-edited.result c.spliced-sections.result c.is_known_below-is_known.ensures c.in_ok-below.ensures;
+      below = told_where c.in_ok-indentation.indentation c.in_ok-below.below c.is_known_below-is_known.result c.in_ok-stays.stays c.edited-edited.result c.survey-survey.result.sections c.is_known_below-is_known.ensures c.in_ok-below.ensures;
     })
     (λ h. told_none config rows ks o.sound o.row c.requires.plain known.first (none_first ks o.sound o.row known.first (sym (c.has_fault.ensures ks known) ∙ h)))
 
@@ -85,14 +74,14 @@ returns-clause-parts g c =
     let put = report_of (levels_of config) false nothing_silenced found in
     let seen = c.in_ok-seen.ensures in
     let edited = c.edited-edited.ensures in
-    let sections = c.spliced-sections.ensures in
+    let sections = c.survey-survey.ensures.sections in
     let range = c.requires.text.range in
     let there = c.requires.edit.range in
     let parts =
     c.in_ok-parts.ensures
-    ∙ (ap (λ (xs : List RowValue). parted (is_shown_upto n xs c.spliced-sections.result) put) edited ∙ ap (λ (ls : List KeptValue). parted (is_shown_upto n after ls) put) sections) in
+    ∙ (ap (λ (xs : List RowValue). parted (is_shown_upto n xs c.survey-survey.result.sections) put) edited ∙ ap (λ (ls : List KeptValue). parted (is_shown_upto n after ls) put) sections) in
     let fault =
-    c.in_ok-fault.ensures ∙ (ap (λ (xs : List RowValue). fault_told config xs c.spliced-sections.result) edited ∙ ap (λ (ls : List KeptValue). fault_told config after ls) sections) in
+    c.in_ok-fault.ensures ∙ (ap (λ (xs : List RowValue). fault_told config xs c.survey-survey.result.sections) edited ∙ ap (λ (ls : List KeptValue). fault_told config after ls) sections) in
     seen_patch config rows ins ks new text.a text.b edit.from edit.end t found seen range.ordered range.within there.ordered there.within c.requires.plain c.requires.plain_then n (is_shown_upto n after kept)
     (patch_in (record {
       first = t.first;
@@ -107,7 +96,7 @@ returns-clause-parts g c =
     }))
     (omega arith) (λ q. refl) refl refl refl
     (says_indentation config rows ins ks new text.a text.b edit.from edit.end t found seen range.ordered range.within there.ordered there.within c.requires.plain c.requires.plain_then c.in_ok-indentation.indentation edit.above.whole c.requires.edit.above.whole c.in_ok-indentation.ensures)
-    (told_in c.in_ok-indentation.indentation c.in_ok-below.below (λ s. is_shown_by s) (told_where c.in_ok-indentation.indentation c.in_ok-below.below c.is_known_below-is_known.result c.in_ok-stays.stays c.edited-edited.result c.spliced-sections.result c.is_known_below-is_known.ensures c.in_ok-below.ensures))
+    (told_in c.in_ok-indentation.indentation c.in_ok-below.below (λ s. is_shown_by s) (told_where c.in_ok-indentation.indentation c.in_ok-below.below c.is_known_below-is_known.result c.in_ok-stays.stays c.edited-edited.result c.survey-survey.result.sections c.is_known_below-is_known.ensures c.in_ok-below.ensures))
     (ap (λ (ps : PartsValue). ps.shown) parts) (ap (λ (ps : PartsValue). ps.suppressed) parts)
-    (below_says c.in_ok-below.below c.is_known_below-is_known.result rows after c.edited-edited.result ks new c.spliced-sections.result edit.from edit.end edited sections c.in_ok-below.ensures
+    (below_says c.in_ok-below.below c.is_known_below-is_known.result rows after c.edited-edited.result ks new c.survey-survey.result.sections edit.from edit.end edited sections c.in_ok-below.ensures
     (λ h. c.in_ok-stays.ensures (and_parts c.in_ok-stays.stays (is_none c.in_ok-indentation.indentation) (sym c.is_known_below-is_known.ensures ∙ h)).0)) fault
