@@ -44,9 +44,8 @@ fn rows_shown<A: Allocator + Copy>(sections: &Spliced<'_, Kept<A>, A>, overview:
 }
 
 /// Which of what is found in these lines is shown, by the comments of the first `upto` of their sections: what stands in these is shown by all
-/// comments too. It looks at no section of which an overview tells that it
-/// silences nothing, and takes no memory where none may silence a rule. The only error is out of
-/// memory.
+/// comments too. It looks at no section of which an overview tells that it silences nothing, and takes no memory where none may silence a rule.
+/// The only error is out of memory.
 pub fn showing_of<L: Lines>(
     alloc: L::Alloc,
     lines: &L,
