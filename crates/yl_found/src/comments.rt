@@ -11,7 +11,7 @@ use yl_lexeme::PlacedComment;
 use yl_overview::Survey;
 use yl_sections::Kept;
 
-/// The comments of the sections from one on, before `end`; the first of these begins at `row`.
+/// The comments of the sections from one on, before `end`, counted from 0; the first of these begins at `row`. The only error is out of memory.
 pub fn comments_among<'a, A: Allocator + Copy>(
     alloc: A,
     sections: &Spliced<'a, Kept<A>, A>,
@@ -28,7 +28,7 @@ pub fn comments_among<'a, A: Allocator + Copy>(
 }
 
 /// The comments of the first `count` sections. Where an overview tells that none of its sections may silence a rule, it looks at none of them. It
-/// takes no memory where none may.
+/// takes no memory where none may. The only error is out of memory.
 pub fn comments_upto<'a, A: Allocator + Copy>(
     alloc: A,
     survey: &Survey<'a, A>,
