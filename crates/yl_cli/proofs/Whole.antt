@@ -1,7 +1,7 @@
 -- A text that is short enough was read to the reader's end.
-use Rattle.std.proofs.Common.{◌≡◌, ℕ, ◌+◌, ◌<◌, ◌≤◌, Bool, true, false, cond, List, [], ◌++◌, Option, None, Some, IfSome, sym, ◌∙◌, ap, subst, length, drop, arith, length-drop, append-nil}
+use Rattle.std.proofs.Common.{◌≡◌, ℕ, ◌+◌, ◌<◌, ◌≤◌, Bool, true, false, cond, List, [], ◌∷◌, ◌++◌, Option, None, Some, IfSome, sym, ◌∙◌, ap, subst, length, drop, arith, length-drop, append-nil}
 use Rattle.std.specs.Io.KnownBytes.{Consumes, IsAtEnd}
-use Rattle.yl_devices.specs.Text.{without_mark, mark}
+use Rattle.yl_devices.specs.Text.{without_mark}
 use Rattle.std.specs.List.{starts_with}
 use Rattle.std.specs.Prelude.{nat_eq}
 
@@ -19,7 +19,7 @@ all_taken (Some all) (Some rest) bytes c e =
 
 pub whole_text : (given left : Option (List ℕ)) (bytes : List ℕ) → Consumes given left bytes → (length bytes < 67108868 → IsAtEnd left) → length (without_mark bytes) ≤ 67108864 → IfSome given (λ all. all ≡ bytes)
 whole_text given left bytes c end short =
-    let few : length bytes ≤ length (without_mark bytes) + 3 = few_less (starts_with nat_eq bytes mark) bytes in
+    let few : length bytes ≤ length (without_mark bytes) + 3 = few_less (starts_with nat_eq bytes (0xEF ∷ 0xBB ∷ 0xBF ∷ [])) bytes in
     all_taken given left bytes c (end (omega arith))
 
 -- what holds of these bytes holds of all that there are

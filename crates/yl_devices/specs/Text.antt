@@ -10,13 +10,9 @@ use Rattle.yl_devices.specs.declared.fault.BadText.TheVariants.{NotUtf8, TooLarg
 use Rattle.yl_devices.specs.declared.fault.RunFault.{RunFault}
 use Rattle.yl_devices.specs.declared.fault.RunFault.TheVariants.{Read, Text, Write, Command, Memory}
 
--- EF BB BF
-abbrev pub mark : List ℕ
-mark = 0xEF ∷ 0xBB ∷ 0xBF ∷ []
-
 -- the bytes without one leading byte-order mark
 abbrev pub without_mark : List ℕ → List ℕ
-without_mark bytes = if starts_with nat_eq bytes mark then drop 3 bytes else bytes
+without_mark bytes = if starts_with nat_eq bytes (0xEF ∷ 0xBB ∷ 0xBF ∷ []) then drop 3 bytes else bytes
 
 -- why the bytes are no text; that they are too many is looked for first
 abbrev pub IsBadText : List ℕ → BadText → Type 0

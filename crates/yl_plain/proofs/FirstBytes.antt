@@ -4,8 +4,8 @@ use Rattle.std.specs.Prelude.{◌==◌, bytes_eq, codes}
 use Rattle.std.specs.List.{list_all, list_any}
 use Rattle.std.proofs.lemmas.Bool.{eqb-true}
 use Rattle.std.proofs.lemmas.Slice.Eq.{bytes_eq-Decides}
-use Rattle.yl_text.specs.Char.{digit_zero, full_stop, hyphen, plus}
-use Rattle.yl_plain.specs.Strings.{is_based, is_digit, is_false_word, is_infinity, is_not_a_number, is_null, is_number, is_reserved_word, is_signed, is_string, is_true_word, is_word_of, unsigned_text}
+use Prim.Native.Char.{code}
+use Rattle.yl_plain.specs.Strings.{is_based, is_decimal, is_number, is_reserved_word, is_signed, is_string, is_word_of, unsigned_text}
 use Rattle.yl_plain.specs.FirstBytes.{begins_no_string, first_bytes, may_be_no_string}
 
 both_true : (a b : Bool) → (a && b) ≡ true → (a ≡ true) × (b ≡ true)
@@ -34,9 +34,6 @@ both_false : (a b : Bool) → (a || b) ≡ false → (a ≡ false) × (b ≡ fal
 both_false false b none = (refl, none)
 both_false true b none = cc
 
-abbrev tilde : ℕ
-tilde = 0x7E
-
 -- of a list none passes a test
 none_passes : (test : ℕ → Bool) (x : ℕ) (xs : List ℕ) → list_any test (x ∷ xs) ≡ false
     → (test x ≡ false) × (list_any test xs ≡ false)
@@ -50,12 +47,12 @@ not_true : (b : Bool) → (b ≡ true → ⊥) → b ≡ false
 not_true true other = absurd (other refl)
 not_true false other = refl
 
-not_zero : (c : ℕ) → is_digit c ≡ false → (c == digit_zero) ≡ false
+not_zero : (c : ℕ) → is_decimal c ≡ false → (c == code "0") ≡ false
 not_zero c none =
-    not_true (c == digit_zero)
-    (λ e. let wrong : true ≡ false = sym (ap is_digit (eqb-true c digit_zero e)) ∙ none in cc)
+    not_true (c == code "0")
+    (λ e. let wrong : true ≡ false = sym (ap is_decimal (eqb-true c (code "0") e)) ∙ none in cc)
 
-not_based : (c : ℕ) (cs : List ℕ) → is_digit c ≡ false → is_based (c ∷ cs) ≡ false
+not_based : (c : ℕ) (cs : List ℕ) → is_decimal c ≡ false → is_based (c ∷ cs) ≡ false
 not_based c [] none = refl
 not_based c (d ∷ cs) none = let z = not_zero c none in rw z
 
@@ -64,20 +61,20 @@ module _ (c : ℕ) (cs : List ℕ) (none : begins_no_string c ≡ false) where
       → is_word_of ws (c ∷ cs) ≡ false
   no_word ws all = not_among may_be_no_string ws (c ∷ cs) all none
 
-  parts : (list_any (λ b. c == b) first_bytes ≡ false) × (is_digit c ≡ false)
-  parts = both_false (list_any (λ b. c == b) first_bytes) (is_digit c) none
+  parts : (list_any (λ b. c == b) first_bytes ≡ false) × (is_decimal c ≡ false)
+  parts = both_false (list_any (λ b. c == b) first_bytes) (is_decimal c) none
 
   no_tilde : (list_any (λ b. c == b) (codes ".+-nNtTfF") ≡ false)
-  no_tilde = (none_passes (λ b. c == b) tilde (codes ".+-nNtTfF") parts.0).1
+  no_tilde = (none_passes (λ b. c == b) (code "~") (codes ".+-nNtTfF") parts.0).1
 
-  points : ((c == full_stop) ≡ false) × (list_any (λ b. c == b) (codes "+-nNtTfF") ≡ false)
-  points = none_passes (λ b. c == b) full_stop (codes "+-nNtTfF") no_tilde
+  points : ((c == code ".") ≡ false) × (list_any (λ b. c == b) (codes "+-nNtTfF") ≡ false)
+  points = none_passes (λ b. c == b) (code ".") (codes "+-nNtTfF") no_tilde
 
-  pluses : ((c == plus) ≡ false) × (list_any (λ b. c == b) (codes "-nNtTfF") ≡ false)
-  pluses = none_passes (λ b. c == b) plus (codes "-nNtTfF") points.1
+  pluses : ((c == code "+") ≡ false) × (list_any (λ b. c == b) (codes "-nNtTfF") ≡ false)
+  pluses = none_passes (λ b. c == b) (code "+") (codes "-nNtTfF") points.1
 
-  hyphens : ((c == hyphen) ≡ false) × (list_any (λ b. c == b) (codes "nNtTfF") ≡ false)
-  hyphens = none_passes (λ b. c == b) hyphen (codes "nNtTfF") pluses.1
+  hyphens : ((c == code "-") ≡ false) × (list_any (λ b. c == b) (codes "nNtTfF") ≡ false)
+  hyphens = none_passes (λ b. c == b) (code "-") (codes "nNtTfF") pluses.1
 
   same_text : unsigned_text (c ∷ cs) ≡ c ∷ cs
   same_text = let p = pluses.0 in let h = hyphens.0 in rw (p, h)
@@ -87,22 +84,13 @@ module _ (c : ℕ) (cs : List ℕ) (none : begins_no_string c ≡ false) where
 
   not_reserved : is_reserved_word (c ∷ cs) ≡ false
   not_reserved =
-      let text = c ∷ cs in
-      let tilde_alone = both_false (bytes_eq (codes "~") text) false (no_word (codes "~" ∷ []) refl) in
-      or_false (is_null text || is_true_word text || is_false_word text) (is_not_a_number text)
-      (or_false (is_null text || is_true_word text) (is_false_word text)
-      (or_false (is_null text) (is_true_word text)
-      (or_false (is_word_of (codes "null" ∷ codes "Null" ∷ codes "NULL" ∷ []) text)
-      (bytes_eq (codes "~") text)
-      (no_word (codes "null" ∷ codes "Null" ∷ codes "NULL" ∷ []) refl) tilde_alone.0)
-      (no_word (codes "true" ∷ codes "True" ∷ codes "TRUE" ∷ []) refl))
-      (no_word (codes "false" ∷ codes "False" ∷ codes "FALSE" ∷ []) refl))
-      (no_word (codes ".nan" ∷ codes ".NaN" ∷ codes ".NAN" ∷ []) refl)
+      no_word (codes "~" ∷ codes "null" ∷ codes "Null" ∷ codes "NULL" ∷ codes "true" ∷ codes "True" ∷ codes "TRUE"
+      ∷ codes "false" ∷ codes "False" ∷ codes "FALSE" ∷ codes ".nan" ∷ codes ".NaN" ∷ codes ".NAN" ∷ []) refl
 
   not_signed : is_signed (c ∷ cs) ≡ false
   not_signed =
-      or_false (is_number (c ∷ cs)) (is_infinity (c ∷ cs)) not_number
-      (no_word (codes ".inf" ∷ codes ".Inf" ∷ codes ".INF" ∷ []) refl)
+      let infinities = codes ".inf" ∷ codes ".Inf" ∷ codes ".INF" ∷ [] in
+      or_false (is_number (c ∷ cs)) (is_word_of infinities (c ∷ cs)) not_number (no_word infinities refl)
 
   begins_string : is_string (c ∷ cs) ≡ true
   begins_string =

@@ -1,14 +1,14 @@
 -- Bridge: what the first byte of a plain scalar says of it.
 use Rattle.std.specs.Prelude.{ℕ, Bool, false, ◌||◌, ◌==◌, List, [], ◌∷◌, codes}
 use Rattle.std.specs.List.{list_any}
-use Rattle.yl_plain.specs.Strings.{is_digit}
+use Rattle.yl_plain.specs.Strings.{is_decimal}
 
 -- those with which words and numbers begin
 abbrev pub first_bytes : List ℕ
 first_bytes = codes "~.+-nNtTfF"
 
 abbrev pub begins_no_string : ℕ → Bool
-begins_no_string c = list_any (λ b. c == b) first_bytes || is_digit c
+begins_no_string c = list_any (λ b. c == b) first_bytes || is_decimal c
 
 abbrev pub may_be_no_string : List ℕ → Bool
 may_be_no_string [] = false

@@ -1,25 +1,27 @@
 //! Which plain scalars are strings.
-ghost use Rattle.std.specs.Prelude.{◌≡◌, ◌≤◌, [], ◌∷◌, length, bytes_eq};
+ghost use Rattle.std.specs.Prelude.{◌≡◌, ◌≤◌, [], ◌∷◌, length, codes, bytes_eq};
 ghost use Rattle.std.specs.List.{list_all, prefix_len};
+ghost use Rattle.std.specs.Char.{is_digit};
+ghost use Rattle.yl_text.specs.Character.{starts_by};
 ghost use Rattle.yl_plain.specs.FirstBytes.{begins_no_string, may_be_no_string};
-ghost use Rattle.yl_plain.specs.Strings.{all_and_some, begins_with_digit, is_based, is_digit, is_exponent, is_false_word, is_hexadecimal, is_infinity, is_not_a_number, is_null, is_number, is_octal, is_reserved_word, is_signed, is_string, is_true_word, is_word_of, past_digits, past_fraction, unsigned_text};
+ghost use Rattle.yl_plain.specs.Strings.{all_and_some, is_based, is_decimal, is_exponent, is_number, is_reserved_word, is_signed, is_string, is_word_of, past_digits, past_fraction, unsigned_text};
 
 fn is_digit(byte: u8) -> bool
-    ensures { result ≡ is_digit byte }
+    ensures { result ≡ is_decimal byte }
 {
-    b'0' <= byte && byte <= b'9'
+    char::from(byte).is_digit(10)
 }
 
 fn is_octal(byte: u8) -> bool
-    ensures { result ≡ is_octal byte }
+    ensures { result ≡ is_digit byte 8 }
 {
-    b'0' <= byte && byte <= b'7'
+    char::from(byte).is_digit(8)
 }
 
 fn is_hexadecimal(byte: u8) -> bool
-    ensures { result ≡ is_hexadecimal byte }
+    ensures { result ≡ is_digit byte 16 }
 {
-    is_digit(byte) || (b'A' <= byte && byte <= b'F') || (b'a' <= byte && byte <= b'f')
+    char::from(byte).is_digit(16)
 }
 
 fn is_word(text: &[u8], word: &str) -> bool
@@ -34,75 +36,63 @@ fn is_one_of(text: &[u8], first: &str, second: &str, third: &str) -> bool
     is_word(text, first) || is_word(text, second) || is_word(text, third)
 }
 
-fn is_null(text: &[u8]) -> bool
-    ensures { result ≡ is_null text.now }
-{
-    is_one_of(text, "null", "Null", "NULL") || is_word(text, "~")
-}
-
-fn is_true_word(text: &[u8]) -> bool
-    ensures { result ≡ is_true_word text.now }
-{
-    is_one_of(text, "true", "True", "TRUE")
-}
-
-fn is_false_word(text: &[u8]) -> bool
-    ensures { result ≡ is_false_word text.now }
-{
-    is_one_of(text, "false", "False", "FALSE")
-}
-
-fn is_not_a_number(text: &[u8]) -> bool
-    ensures { result ≡ is_not_a_number text.now }
-{
-    is_one_of(text, ".nan", ".NaN", ".NAN")
-}
-
 /// Whether it is null, a truth value or the word for no number.
 fn is_reserved_word(text: &[u8]) -> bool
     ensures { result ≡ is_reserved_word text.now }
 {
-    is_null(text) || is_true_word(text) || is_false_word(text) || is_not_a_number(text)
+    is_word(text, "~")
+        || is_word(text, "null")
+        || is_word(text, "Null")
+        || is_word(text, "NULL")
+        || is_word(text, "true")
+        || is_word(text, "True")
+        || is_word(text, "TRUE")
+        || is_word(text, "false")
+        || is_word(text, "False")
+        || is_word(text, "FALSE")
+        || is_word(text, ".nan")
+        || is_word(text, ".NaN")
+        || is_word(text, ".NAN")
 }
 
 fn is_infinity(text: &[u8]) -> bool
-    ensures { result ≡ is_infinity text.now }
+    ensures { result ≡ is_word_of (codes ".inf" ∷ codes ".Inf" ∷ codes ".INF" ∷ []) text.now }
 {
     is_one_of(text, ".inf", ".Inf", ".INF")
 }
 
 fn all_digits(text: &[u8]) -> bool
-    ensures { result ≡ list_all is_digit text.now }
+    ensures { result ≡ list_all is_decimal text.now }
 {
     text.iter().all(|byte| is_digit(*byte))
 }
 
 fn are_digits(text: &[u8]) -> bool
-    ensures { result ≡ all_and_some is_digit text.now }
+    ensures { result ≡ all_and_some is_decimal text.now }
 {
     !text.is_empty() && all_digits(text)
 }
 
 fn all_octal(text: &[u8]) -> bool
-    ensures { result ≡ list_all is_octal text.now }
+    ensures { result ≡ list_all (λ c. is_digit c 8) text.now }
 {
     text.iter().all(|byte| is_octal(*byte))
 }
 
 fn are_octal(text: &[u8]) -> bool
-    ensures { result ≡ all_and_some is_octal text.now }
+    ensures { result ≡ all_and_some (λ c. is_digit c 8) text.now }
 {
     !text.is_empty() && all_octal(text)
 }
 
 fn all_hexadecimal(text: &[u8]) -> bool
-    ensures { result ≡ list_all is_hexadecimal text.now }
+    ensures { result ≡ list_all (λ c. is_digit c 16) text.now }
 {
     text.iter().all(|byte| is_hexadecimal(*byte))
 }
 
 fn are_hexadecimal(text: &[u8]) -> bool
-    ensures { result ≡ all_and_some is_hexadecimal text.now }
+    ensures { result ≡ all_and_some (λ c. is_digit c 16) text.now }
 {
     !text.is_empty() && all_hexadecimal(text)
 }
@@ -119,7 +109,7 @@ fn unsigned(text: &[u8]) -> &[u8]
 
 /// How many digits the text begins with.
 fn count_digits(text: &[u8]) -> usize
-    ensures count { result ≡ prefix_len is_digit text.now }
+    ensures count { result ≡ prefix_len is_decimal text.now }
     ensures most { result ≤ length text.now }
 {
     for (i, byte) in text.iter().enumerate() {
@@ -139,7 +129,7 @@ fn past_digits(text: &[u8]) -> &[u8]
 }
 
 fn begins_with_digit(text: &[u8]) -> bool
-    ensures { result ≡ begins_with_digit text.now }
+    ensures { result ≡ starts_by is_decimal text.now }
 {
     match text {
         [] => false,

@@ -1,17 +1,18 @@
 -- A scalar that is carried from row to row gives what reading it whole gives.
 use Rattle.std.proofs.Common.{◌≡◌, ℕ, suc, ◌+◌, ◌-◌, ◌≤◌, ◌⊎◌, inl, inr, Bool, true, false, cond, not, ◌&&◌, ◌||◌, List, [], ◌∷◌, ◌++◌, length, length-append, take, drop, Option, Some, None, refl, ap, sym, subst, ◌∙◌, eqb, ltb, leb, arith, zero-add}
 use Rattle.std.specs.List.{prefix_len}
-use Rattle.std.specs.Prelude.{option_map}
+use Rattle.std.specs.Prelude.{option_map, get_or}
+use Rattle.std.specs.Option.{option_map_or}
 use Rattle.std.proofs.lemmas.Bool.{eqb-true}
 use Rattle.std.proofs.Math.Seq.{take-length}
 use Rattle.yl_text.specs.Character.{is_white, is_blank, is_marker, indentation, without_front, without_end}
 use Rattle.yl_scalar.specs.declared.answer.ScalarFault.{ScalarFault}
-use Rattle.yl_scalar.specs.declared.answer.ScalarFault.TheVariants.{UnclosedQuote, MarkerInQuote}
+use Rattle.yl_scalar.specs.declared.answer.ScalarFault.TheVariants.{UnclosedQuote, MarkerInQuote, BadEscape}
 use Rattle.yl_scalar.specs.Reading.{ScalarOutcomeValue, Whole, Refused, ScalarStepValue, GoesOn, EndsIn, EndedAbove, Fails, outcome_of_lines, unless_bad}
 use Rattle.yl_scalar.specs.Allowed.{first_bad, is_quoted_character}
 use Rattle.yl_scalar.specs.Plain.{stop, part, reaches_end, continues}
 use Rattle.yl_scalar.specs.PlainSteps.{PlainReaderValue, plain_extent, plain_step, plain_finish, with_line, plain_step_behind}
-use Rattle.yl_scalar.specs.Quoted.{Stretch, Closes, Breaks, Faulty, stretch, with_escape, begins_with, quote}
+use Rattle.yl_scalar.specs.Quoted.{Stretch, Closes, Breaks, Faulty, stretch, quote}
 use Rattle.yl_scalar.specs.Escape.{escape}
 use Rattle.yl_scalar.specs.QuotedSteps.{QuotedReaderValue, quoted_step, quoted_finish, quoted_step_behind, with_break}
 use Rattle.yl_scalar.specs.Block.{BlockReaderValue, block_extent, block_step, block_finish, text_line, with_content, deeper, unless_too_deep, spaces_with}
@@ -114,19 +115,19 @@ not_open_if : (b : Bool) (x y : Stretch) → NotOpen x → NotOpen y → NotOpen
 not_open_if true x y p q = p
 not_open_if false x y p q = q
 
-escape_not_open : (place : ℕ) (e : Option (ℕ × ℕ)) (more : ℕ → ℕ → Stretch) → ((x skip : ℕ) → NotOpen (more x skip)) → NotOpen (with_escape e place more)
+escape_not_open : (place : ℕ) (e : Option (ℕ × ℕ)) (more : ℕ × ℕ → Stretch) → ((e : ℕ × ℕ) → NotOpen (more e)) → NotOpen (option_map_or more e (Faulty BadEscape place))
 escape_not_open place None more h = refl
-escape_not_open place (Some e) more h = h e.0 (e.1 + 1)
+escape_not_open place (Some e) more h = h e
 
 not_open : (double : Bool) (skip : ℕ) (text : List ℕ) (kept at : ℕ) (cs : List ℕ) → NotOpen (stretch double skip text kept at cs)
 not_open double skip text kept at [] = tt
 not_open double skip text kept at (c ∷ cs) =
     not_open_if (ltb 0 skip) _ _ (not_open double (skip - 1) text kept (at + 1) cs)
     (not_open_if (eqb c (quote double)) _ _
-    (not_open_if (not double && begins_with 0x27 cs) _ _ (not_open double 1 (text ++ c ∷ []) (length text + 1) (at + 1) cs) tt)
+    (not_open_if (not double && eqb (get_or cs 0 0) 0x27) _ _ (not_open double 1 (text ++ c ∷ []) (length text + 1) (at + 1) cs) tt)
     (not_open_if (double && eqb c 0x5C) _ _
     (not_open_if (eqb (length cs) 0) _ _ tt
-    (escape_not_open at (escape cs) _ (λ x skip. not_open double skip (text ++ x ∷ []) (length text + 1) (at + 1) cs)))
+    (escape_not_open at (escape cs) _ (λ e. not_open double (e.1 + 1) (text ++ e.0 ∷ []) (length text + 1) (at + 1) cs)))
     (not_open_if (is_quoted_character c) _ _ (not_open double 0 (text ++ c ∷ []) _ (at + 1) cs) refl)))
 
 module _ (s : QuotedReaderValue) (row : List ℕ) where

@@ -2,13 +2,13 @@
 use Rattle.std.proofs.Common.{◌≡◌, ℕ, ◌+◌, ◌≤◌, Bool, true, false, cond, List, [], ◌∷◌, length, Option, Some, None, refl, ap, arith, eqb, leb}
 use Rattle.std.specs.List.{prefix_len}
 use Rattle.yl_text.specs.Character.{is_white, is_blank, is_marker, indentation, without_front}
-use Rattle.yl_scalar.specs.declared.answer.ScalarFault.TheVariants.{UnclosedQuote, MarkerInQuote, BadEscape}
-use Rattle.yl_scalar.specs.Reading.{Extent, Whole, Refused, ScalarStepValue, GoesOn, EndedAbove, Fails, unless_bad}
+use Rattle.yl_scalar.specs.declared.answer.ScalarFault.TheVariants.{MarkerInQuote}
+use Rattle.yl_scalar.specs.Reading.{Extent, Whole, ScalarStepValue, GoesOn, EndedAbove, Fails, unless_bad}
 use Rattle.yl_scalar.specs.Allowed.{first_bad}
 use Rattle.yl_scalar.specs.Plain.{part, reaches_end, continues}
 use Rattle.yl_scalar.specs.PlainSteps.{PlainReaderValue, plain_extent, with_line, plain_step_behind}
 use Rattle.yl_scalar.specs.Quoted.{Stretch, Closes, Breaks, Faulty, stretch}
-use Rattle.yl_scalar.specs.QuotedSteps.{QuotedReaderValue, quoted_step_behind, with_break, unclosed_outcome}
+use Rattle.yl_scalar.specs.QuotedSteps.{QuotedReaderValue, quoted_step_behind, with_break}
 use Rattle.yl_scalar.specs.Block.{BlockReaderValue, block_extent, text_line, with_content, deeper, unless_too_deep, spaces_with}
 use Rattle.yl_row.specs.ScalarReader.{ScalarReaderValue, InPlain, InQuoted, InBlock, map_step, reader_step, ColumnBy, StepBy}
 use Rattle.yl_row.proofs.Modes.{part_len, ClosesBy, stretch_closes}
@@ -100,14 +100,6 @@ step_by n (InBlock s) row h le = block_by n s row (is_blank row) (is_marker row)
 
 extent_by : (n : ℕ) (a e : Extent) → a.column ≤ n → Whole a ≡ Whole e → e.column ≤ n
 extent_by n a e h is = let same : a ≡ e = cc in let columns : a.column ≡ e.column = ap (λ (x : Extent). x.column) same in omega arith
-
-cut_whole : (n : ℕ) (backslash : Option ℕ) (s : QuotedReaderValue) (e : Extent) → unclosed_outcome backslash s ≡ Whole e → e.column ≤ n
-cut_whole n None s e is = cc
-cut_whole n (Some column) s e is = by_case (eqb s.blanks 0) is
-  where
-    by_case : (b : Bool) → cond b (Refused BadEscape s.down column) (Refused UnclosedQuote 0 s.opening) ≡ Whole e → e.column ≤ n
-    by_case true is = cc
-    by_case false is = cc
 
 pub by_more : (a b : ℕ) (m : ScalarReaderValue) → a ≤ b → ColumnBy a m → ColumnBy b m
 by_more a b (InPlain s) le h = omega arith

@@ -1,7 +1,9 @@
 -- Scalars of all styles are read alike.
 use Rattle.std.proofs.Common.{◌≡◌, ℕ, ◌+◌, ◌-◌, ◌≤◌, ◌<◌, ◌^◌, Bool, true, false, not, ◌&&◌, cond, List, [], ◌∷◌, ◌++◌, length, take, length-take, Option, Some, None, refl, ap, sym, ◌∙◌, eqb, ltb, arith}
+use Rattle.std.specs.Prelude.{get_or}
+use Rattle.std.specs.Option.{option_map_or}
 use Rattle.yl_text.specs.Character.{is_blank, without_end}
-use Rattle.yl_scalar.specs.declared.answer.ScalarFault.TheVariants.{BadHeader}
+use Rattle.yl_scalar.specs.declared.answer.ScalarFault.TheVariants.{BadEscape, BadHeader}
 use Rattle.yl_scalar.specs.declared.answer.ScalarStep.{ScalarStep}
 use Rattle.yl_scalar.specs.declared.answer.ScalarStep.TheVariants as line
 use Rattle.yl_scalar.specs.Reading.{ScalarOutcomeValue, ScalarStepValue, GoesOn, EndsIn, EndedAbove, Fails, outcome_of_step, outcome_of_lines, unless_bad}
@@ -10,7 +12,7 @@ use Rattle.yl_scalar.specs.Allowed.{first_bad, is_quoted_character}
 use Rattle.yl_scalar.specs.Escape.{escape}
 use Rattle.yl_scalar.specs.Plain.{stop, part, reaches_end}
 use Rattle.yl_scalar.specs.PlainSteps.{PlainReaderValue, plain_begin, plain_step, plain_finish, plain, plain_step_behind}
-use Rattle.yl_scalar.specs.Quoted.{Stretch, Closes, Breaks, Faulty, stretch, with_escape, begins_with, quote}
+use Rattle.yl_scalar.specs.Quoted.{Stretch, Closes, Breaks, Faulty, stretch, quote}
 use Rattle.yl_scalar.specs.QuotedSteps.{QuotedReaderValue, quoted_begin, quoted_step, quoted_finish, quoted, quoted_step_behind, quoted_start}
 use Rattle.yl_scalar.specs.Header.{indicators, misfit}
 use Rattle.yl_scalar.specs.Block.{BlockReaderValue, block_begin, block_step, block_finish, block, header_end, header_read}
@@ -101,9 +103,9 @@ closes_later m n (Closes text place) e h = omega arith
 closes_later m n (Breaks text backslash) e h = tt
 closes_later m n (Faulty fault place) e h = tt
 
-escape_closes : (n place : ℕ) (e : Option (ℕ × ℕ)) (more : ℕ → ℕ → Stretch) → ((x skip : ℕ) → ClosesBy n (more x skip)) → ClosesBy n (with_escape e place more)
+escape_closes : (n place : ℕ) (e : Option (ℕ × ℕ)) (more : ℕ × ℕ → Stretch) → ((e : ℕ × ℕ) → ClosesBy n (more e)) → ClosesBy n (option_map_or more e (Faulty BadEscape place))
 escape_closes n place None more h = tt
-escape_closes n place (Some e) more h = h e.0 (e.1 + 1)
+escape_closes n place (Some e) more h = h e
 
 pub stretch_closes : (double : Bool) (skip : ℕ) (text : List ℕ) (kept at : ℕ) (cs : List ℕ) → ClosesBy (at + length cs) (stretch double skip text kept at cs)
 stretch_closes double skip text kept at [] = tt
@@ -114,10 +116,10 @@ stretch_closes double skip text kept at (c ∷ cs) =
     λ skip text kept. closes_later (at + 1 + length cs) (at + length (c ∷ cs)) (stretch double skip text kept (at + 1) cs) same (stretch_closes double skip text kept (at + 1) cs) in
     closes_if (at + length (c ∷ cs)) (ltb 0 skip) _ _ (next (skip - 1) text kept)
     (closes_if (at + length (c ∷ cs)) (eqb c (quote double)) _ _
-    (closes_if (at + length (c ∷ cs)) (not double && begins_with 0x27 cs) _ _ (next 1 (text ++ c ∷ []) (length text + 1)) (omega arith))
+    (closes_if (at + length (c ∷ cs)) (not double && eqb (get_or cs 0 0) 0x27) _ _ (next 1 (text ++ c ∷ []) (length text + 1)) (omega arith))
     (closes_if (at + length (c ∷ cs)) (double && eqb c 0x5C) _ _
     (closes_if (at + length (c ∷ cs)) (eqb (length cs) 0) _ _ tt
-    (escape_closes (at + length (c ∷ cs)) at (escape cs) _ (λ x skip. next skip (text ++ x ∷ []) (length text + 1))))
+    (escape_closes (at + length (c ∷ cs)) at (escape cs) _ (λ e. next (e.1 + 1) (text ++ e.0 ∷ []) (length text + 1))))
     (closes_if (at + length (c ∷ cs)) (is_quoted_character c) _ _ (next 0 (text ++ c ∷ []) _) tt)))
 
 took_ends : (s : QuotedReaderValue) (column n : ℕ) (t : Stretch) → s.down ≡ 0 → column + n < 2 ^ 32 → ClosesBy n t → EndsHere (quoted_step_behind s column t)

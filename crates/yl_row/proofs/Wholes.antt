@@ -1,6 +1,7 @@
 -- Where a scalar that goes on may end: no row below is taken back.
 use Rattle.std.proofs.Common.{◌≡◌, ℕ, ◌+◌, ◌≤◌, ◌<◌, ◌⊎◌, inl, inr, Bool, true, false, cond, List, [], ◌∷◌, length, Option, Some, None, refl, arith, eqb, leb}
 use Rattle.std.specs.Prelude.{option_map}
+use Rattle.std.specs.Option.{option_map_or}
 use Rattle.std.proofs.lemmas.Bool.{eqb-true}
 use Rattle.std.specs.List.{prefix_len}
 use Rattle.yl_text.specs.Character.{is_white, is_blank, is_marker, indentation, without_front}
@@ -10,7 +11,7 @@ use Rattle.yl_scalar.specs.Allowed.{first_bad}
 use Rattle.yl_scalar.specs.Plain.{part, reaches_end, continues}
 use Rattle.yl_scalar.specs.PlainSteps.{PlainReaderValue, plain_extent, plain_step, plain_finish, with_line, plain_step_behind}
 use Rattle.yl_scalar.specs.Quoted.{Stretch, Closes, Breaks, Faulty, stretch}
-use Rattle.yl_scalar.specs.QuotedSteps.{QuotedReaderValue, quoted_step, quoted_finish, quoted_step_behind, with_break, unclosed_outcome}
+use Rattle.yl_scalar.specs.QuotedSteps.{QuotedReaderValue, quoted_step, quoted_finish, quoted_step_behind, with_break}
 use Rattle.yl_scalar.specs.Block.{BlockReaderValue, block_extent, block_step, block_finish, text_line, deeper, unless_too_deep, spaces_with}
 
 -- ---- plain scalars
@@ -66,16 +67,15 @@ quoted_line s value backslash (Whole e) h = omega arith
 quoted_line s value backslash (Refused fault down column) (inl h) = inl h
 quoted_line s value backslash (Refused fault down column) (inr h) = inr (omega arith)
 
-cut_some : (s : QuotedReaderValue) (column : ℕ) (b : Bool) → (b ≡ true → s.blanks ≡ 0) → QuotedEnds s (cond b (Refused BadEscape s.down column) (Refused UnclosedQuote 0 s.opening))
-cut_some s column true h = let e = h refl in inr (omega arith)
-cut_some s column false h = inl refl
-
-cut_ends : (s : QuotedReaderValue) (backslash : Option ℕ) → QuotedEnds s (unclosed_outcome backslash s)
-cut_ends s None = inl refl
-cut_ends s (Some column) = cut_some s column (eqb s.blanks 0) (λ h. eqb-true s.blanks 0 h)
+cut_ends : (s : QuotedReaderValue) (backslash : Option ℕ) (b : Bool) → (b ≡ true → s.blanks ≡ 0)
+    → QuotedEnds s (option_map_or (λ column. Refused BadEscape s.down column) (cond b backslash None) (Refused UnclosedQuote 0 s.opening))
+cut_ends s None true h = inl refl
+cut_ends s None false h = inl refl
+cut_ends s (Some column) true h = let e = h refl in inr (omega arith)
+cut_ends s (Some column) false h = inl refl
 
 pub quoted_ends_at : (s : QuotedReaderValue) (rows : List (List ℕ)) → QuotedEnds s (outcome_of_lines quoted_step quoted_finish s rows)
-quoted_ends_at s [] = cut_ends s s.backslash
+quoted_ends_at s [] = cut_ends s s.backslash (eqb s.blanks 0) (λ h. eqb-true s.blanks 0 h)
 quoted_ends_at s (row ∷ rows) =
     by_case (is_marker row) (is_blank row) (stretch s.double 0 (with_break s).value (length (with_break s).value) 0 (without_front row))
     (quoted_blank s _ (quoted_ends_at (record s { blanks = s.blanks + 1 }) rows))

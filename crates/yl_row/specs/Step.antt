@@ -1,13 +1,11 @@
 -- Meaning: one lexeme: YAML 1.2.2, chapters 6 to 9, from its first character on, the rest of its
 -- line and the lines below.
-use Rattle.std.specs.Prelude.{ℕ, Bool, true, false, not, ◌&&◌, ◌||◌, ◌==◌, nat_lt, if◌then◌else◌, List, [], ◌∷◌, ◌+◌, take, drop, length, Option, Some, None, option_map}
+use Rattle.std.specs.Prelude.{ℕ, Bool, true, false, not, ◌&&◌, ◌||◌, ◌==◌, nat_lt, if◌then◌else◌, List, [], ◌∷◌, ◌+◌, take, drop, length, slice_index, Option, Some, None, option_map}
 use Rattle.std.specs.List.{prefix_len, position}
 use Rattle.std.specs.Str.{encode_utf8_all}
 use Rattle.yl_text.specs.Char as char
-use Rattle.yl_text.specs.Character.{is_white, is_non_space, is_flow_indicator, is_blank, is_marker_of, without_front, without_end}
+use Rattle.yl_text.specs.Character.{is_white, is_non_space, is_flow_indicator, is_plain_safe, starts_by, is_blank, is_marker_of, without_front, without_end}
 use Rattle.yl_scalar.specs.Allowed.{first_bad}
-use Rattle.yl_scalar.specs.Plain.{is_safe_next}
-use Rattle.yl_scalar.specs.Header.{next}
 use Rattle.yl_scalar.specs.Reading.{ScalarOutcomeValue, Whole, Refused}
 use Rattle.yl_scalar.specs.PlainSteps.{plain}
 use Rattle.yl_scalar.specs.QuotedSteps.{quoted}
@@ -74,14 +72,14 @@ closing_of = position (λ c. c == char.greater_than)
 
 -- a tag's length behind its `!`, or none if it is bad (c-ns-tag-property)
 abbrev pub tag_len : List ℕ → Option ℕ
-tag_len cs = if next cs == char.less_than then verbatim_len cs (closing_of cs) else Some (name_len cs)
+tag_len cs = if slice_index cs 0 == char.less_than then verbatim_len cs (closing_of cs) else Some (name_len cs)
 
 -- ---- places
 
 -- a plain scalar may begin so (ns-plain-first)
 abbrev pub is_plain_start : Bool → ℕ → List ℕ → Bool
 is_plain_start flow c cs =
-    if c == char.hyphen || c == char.question_mark || c == char.colon then is_safe_next flow cs
+    if c == char.hyphen || c == char.question_mark || c == char.colon then starts_by (is_plain_safe flow) cs
     else not (c == char.comma || c == char.left_bracket || c == char.right_bracket || c == char.left_brace || c == char.right_brace || c == char.hash || c == char.ampersand || c == char.asterisk || c == char.exclamation_mark
     || c == char.vertical_bar || c == char.greater_than || c == char.single_quote || c == char.double_quote || c == char.percent || c == char.at_sign || c == char.backtick || c == char.byte_order_mark)
 
@@ -123,7 +121,7 @@ in_block a f = if in_flow a then None else f
 -- something behind a document's end that is no comment
 abbrev pub behind_end : ℕ → List ℕ → Option PlacedScanFault
 behind_end column cs =
-    when (not (is_blank cs) && not (nat_lt 0 (prefix_len is_white cs) && next (without_front cs) == char.hash)) ContentAfterDocumentEnd (column + prefix_len is_white cs)
+    when (not (is_blank cs) && not (nat_lt 0 (prefix_len is_white cs) && slice_index (without_front cs) 0 == char.hash)) ContentAfterDocumentEnd (column + prefix_len is_white cs)
 
 -- ---- the lexeme at a place: the rows below, the row's first tab, whether the place is first in its row, its column, what
 -- surrounds it, its character, and the row behind that

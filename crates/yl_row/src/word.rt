@@ -1,9 +1,8 @@
 //! Words in a row: names, tags, directives, markers, and what may follow them.
 
-ghost use Rattle.std.specs.Prelude.{◌≡◌, ◌≤◌, ◌==◌, ◌&&◌, ◌+◌, ◌<◌, ◌^◌, IfSome, length, false};
+ghost use Rattle.std.specs.Prelude.{◌≡◌, ◌≤◌, ◌==◌, ◌&&◌, ◌+◌, ◌<◌, ◌^◌, IfSome, length, slice_index, false};
 ghost use Rattle.std.specs.List.{list_any, position};
 ghost use Rattle.std.specs.Option.{ForSome};
-ghost use Rattle.yl_scalar.specs.Header.{next};
 ghost use Rattle.yl_row.specs.Step.{is_name_character, name_len, is_space_next, is_flow_indicator_next, is_name_next, directive_len, directive, tag_len, closing_of, verbatim_len, is_plain_start, is_tab};
 
 use yl_scalar::{is_flow_indicator, is_safe_next, is_white, without_end};
@@ -52,7 +51,7 @@ fn is_name_next(text: &[char]) -> bool
 
 /// The character `#` comes next.
 pub fn is_comment_next(text: &[char]) -> bool
-    ensures { result ≡ (next text.now == 35) }
+    ensures { result ≡ (slice_index text.now 0 == 35) }
 {
     match text {
         [] => false,
@@ -68,7 +67,7 @@ pub fn begins_comment(c: char, behind_space: bool) -> bool
 }
 
 fn is_verbatim_next(text: &[char]) -> bool
-    ensures { result ≡ (next text.now == 60) }
+    ensures { result ≡ (slice_index text.now 0 == 60) }
 {
     match text {
         [] => false,

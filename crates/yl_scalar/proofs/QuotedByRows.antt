@@ -2,12 +2,13 @@
 use Rattle.std.proofs.Common.{◌≡◌, ℕ, suc, ◌+◌, Bool, true, false, cond, List, [], ◌∷◌, ◌++◌, take, drop, refl, ap, sym, ◌∙◌, append_assoc, arith, eqb, one-add, zero-add, ne_eqb}
 use Rattle.std.specs.Prelude.{Option, Some, None, option_map}
 use Rattle.std.specs.List.{prefix_len}
+use Rattle.std.specs.Option.{option_map_or}
 use Rattle.std.proofs.lemmas.Bool.{eqb-true}
 use Rattle.yl_text.specs.Character.{is_white, is_blank, is_marker, without_front}
 use Rattle.yl_scalar.specs.Reading.{ScalarOutcomeValue, Whole, Refused, outcome_of_step, outcome_of_lines}
 use Rattle.yl_scalar.specs.Folding.{joint}
-use Rattle.yl_scalar.specs.QuotedSteps.{QuotedReaderValue, unclosed_outcome, quoted_start, with_break, quoted_begin, quoted_step, quoted_finish}
-use Rattle.yl_scalar.specs.declared.answer.ScalarFault.TheVariants.{MarkerInQuote, BadEscape}
+use Rattle.yl_scalar.specs.QuotedSteps.{QuotedReaderValue, quoted_start, with_break, quoted_begin, quoted_step, quoted_finish}
+use Rattle.yl_scalar.specs.declared.answer.ScalarFault.TheVariants.{UnclosedQuote, MarkerInQuote, BadEscape}
 use Rattle.yl_scalar.specs.QuotedRows.{Stop, Closed, Faulted, Glyph, glyphs, row_glyphs, stop_in, row_stop, stops_in, rows_passed, text_before, row_text, backslash_in, row_backslash, folded, stopped, last_backslash, unclosed, stopped_below, below_first, of_rows, QuotedRowsLaw}
 use Rattle.yl_scalar.proofs.PlainRead.{blank_front}
 use Rattle.yl_scalar.proofs.QuotedGlyphs.{stepped, row_steps}
@@ -28,14 +29,15 @@ abbrev Agrees : QuotedReaderValue → List (List ℕ) → Type 0
 Agrees s rows = reading s rows ≡ left s (rows_passed s.double rows) rows
 
 -- at the text's end
-finished : (s : QuotedReaderValue) (b : Option ℕ) (x : Bool) → eqb s.blanks 0 ≡ x → unclosed_outcome b s ≡ unclosed s.opening (option_map (λ column. (s.down + s.blanks, column)) (cond x b None))
+finished : (s : QuotedReaderValue) (b : Option ℕ) (x : Bool) → eqb s.blanks 0 ≡ x
+    → option_map_or (λ column. Refused BadEscape s.down column) (cond x b None) (Refused UnclosedQuote 0 s.opening) ≡ unclosed s.opening (option_map (λ column. (s.down + s.blanks, column)) (cond x b None))
 finished s None true h = refl
 finished s None false h = refl
-finished s (Some column) false h = rw h refl
+finished s (Some column) false h = refl
 finished s (Some column) true h =
     let none : s.blanks ≡ 0 = eqb-true s.blanks 0 h in
     let place : s.down ≡ s.down + s.blanks = omega arith in
-    rw h (ap (λ down. Refused BadEscape down column) place)
+    ap (λ down. Refused BadEscape down column) place
 
 not_zero : (n : ℕ) → eqb (n + 1) 0 ≡ false
 not_zero n = ne_eqb (n + 1) 0 (λ e. omega arith)

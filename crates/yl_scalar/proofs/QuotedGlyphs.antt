@@ -1,14 +1,15 @@
 -- What a row makes of a quoted scalar, character by character, is what its glyphs make of it.
-use Rattle.std.proofs.Common.{◌≡◌, ℕ, zero, suc, ◌+◌, ◌-◌, ◌≤◌, Bool, true, false, not, ◌&&◌, cond, List, [], ◌∷◌, ◌++◌, length, take, refl, ap, subst, sym, ◌∙◌, append_assoc, arith, eqb, sub-one, length-append}
+use Rattle.std.proofs.Common.{◌≡◌, ℕ, zero, suc, ◌+◌, ◌-◌, ◌≤◌, Bool, true, false, not, ◌&&◌, cond, List, [], ◌∷◌, ◌++◌, length, take, get_or, refl, ap, subst, sym, ◌∙◌, append_assoc, arith, eqb, sub-one, length-append}
 use Rattle.std.specs.Prelude.{Option, Some, None}
 use Rattle.std.specs.List.{list_all}
+use Rattle.std.specs.Option.{option_map_or}
 use Rattle.std.proofs.lemmas.Bool.{eqb-true, lt-ltb}
 use Rattle.std.proofs.lemmas.List.{append-nil, take-append-le, take_all}
 use Rattle.yl_text.specs.Character.{is_white}
 use Rattle.yl_scalar.specs.Allowed.{is_quoted_character}
 use Rattle.yl_scalar.specs.Escape.{escape}
 use Rattle.yl_scalar.specs.Reading.{ScalarStepValue, GoesOn, EndsIn, Fails}
-use Rattle.yl_scalar.specs.Quoted.{Stretch, Closes, Breaks, Faulty, with_escape, begins_with, quote, stretch}
+use Rattle.yl_scalar.specs.Quoted.{Stretch, Closes, Breaks, Faulty, quote, stretch}
 use Rattle.yl_scalar.specs.QuotedSteps.{QuotedReaderValue, quoted_step_behind}
 use Rattle.yl_scalar.specs.declared.answer.ScalarFault.TheVariants.{NotAllowed, BadEscape}
 use Rattle.yl_scalar.specs.QuotedRows.{Stop, Closed, Faulted, Glyph, Content, White, RowEnd, Stops, escaped, width, glyphs, stop_in, text_before, is_white_glyph, row_text, backslash_in}
@@ -45,7 +46,7 @@ module _ (double : Bool) (c : ℕ) (cs : List ℕ) where
     start : at + 0 ≡ at
     start = omega arith
 
-    of_escape : (e : Option (ℕ × ℕ)) → with_escape e at (λ x skip. stretch double skip (text ++ x ∷ []) (length text + 1) (at + 1) cs) ≡ onward (escaped e)
+    of_escape : (e : Option (ℕ × ℕ)) → option_map_or (λ e. stretch double (e.1 + 1) (text ++ e.0 ∷ []) (length text + 1) (at + 1) cs) e (Faulty BadEscape at) ≡ onward (escaped e)
     of_escape None = ap (λ p. Faulty BadEscape p) (sym start)
     of_escape (Some e) =
         let n : e.1 + 2 - 1 ≡ e.1 + 1 = omega arith in
@@ -54,7 +55,7 @@ module _ (double : Bool) (c : ℕ) (cs : List ℕ) where
         ∙ ap (λ k. walk (text ++ e.0 ∷ []) (length text + 1) (at + 0 + k) (glyphs double (e.1 + 1) cs)) w
         ∙ ap (λ k. walk (text ++ e.0 ∷ []) (length text + 1) (at + 0 + (e.1 + 2)) (glyphs double k cs)) (sym n)
 
-    of_end : (b : Bool) → cond b (Breaks text (Some at)) (with_escape (escape cs) at (λ x skip. stretch double skip (text ++ x ∷ []) (length text + 1) (at + 1) cs)) ≡ onward (cond b RowEnd (escaped (escape cs)))
+    of_end : (b : Bool) → cond b (Breaks text (Some at)) (option_map_or (λ e. stretch double (e.1 + 1) (text ++ e.0 ∷ []) (length text + 1) (at + 1) cs) (escape cs) (Faulty BadEscape at)) ≡ onward (cond b RowEnd (escaped (escape cs)))
     of_end true = ap (λ p. Breaks text (Some p)) (sym start)
     of_end false = of_escape (escape cs)
 
@@ -69,7 +70,7 @@ module _ (double : Bool) (c : ℕ) (cs : List ℕ) where
     of_allowed false = ap (λ p. Faulty NotAllowed p) (sym start)
 
     of_backslash : (b : Bool) →
-        cond b (cond (eqb (length cs) 0) (Breaks text (Some at)) (with_escape (escape cs) at (λ x skip. stretch double skip (text ++ x ∷ []) (length text + 1) (at + 1) cs)))
+        cond b (cond (eqb (length cs) 0) (Breaks text (Some at)) (option_map_or (λ e. stretch double (e.1 + 1) (text ++ e.0 ∷ []) (length text + 1) (at + 1) cs) (escape cs) (Faulty BadEscape at)))
         (cond (is_quoted_character c) (stretch double 0 (text ++ c ∷ []) (cond (is_white c) kept (length text + 1)) (at + 1) cs) (Faulty NotAllowed at))
         ≡ onward (cond b (cond (eqb (length cs) 0) RowEnd (escaped (escape cs))) (cond (is_quoted_character c) (cond (is_white c) (White c) (Content c 1)) (Stops (Faulted NotAllowed))))
     of_backslash true = of_end (eqb (length cs) 0)
@@ -80,12 +81,12 @@ module _ (double : Bool) (c : ℕ) (cs : List ℕ) where
     of_second false = ap (λ p. Closes text (p + 1)) (sym start)
 
     of_quote : (b : Bool) →
-        cond b (cond (not double && begins_with 0x27 cs) (stretch double 1 (text ++ c ∷ []) (length text + 1) (at + 1) cs) (Closes text (at + 1)))
-        (cond (double && eqb c 0x5C) (cond (eqb (length cs) 0) (Breaks text (Some at)) (with_escape (escape cs) at (λ x skip. stretch double skip (text ++ x ∷ []) (length text + 1) (at + 1) cs)))
+        cond b (cond (not double && eqb (get_or cs 0 0) 0x27) (stretch double 1 (text ++ c ∷ []) (length text + 1) (at + 1) cs) (Closes text (at + 1)))
+        (cond (double && eqb c 0x5C) (cond (eqb (length cs) 0) (Breaks text (Some at)) (option_map_or (λ e. stretch double (e.1 + 1) (text ++ e.0 ∷ []) (length text + 1) (at + 1) cs) (escape cs) (Faulty BadEscape at)))
         (cond (is_quoted_character c) (stretch double 0 (text ++ c ∷ []) (cond (is_white c) kept (length text + 1)) (at + 1) cs) (Faulty NotAllowed at)))
-        ≡ onward (cond b (cond (not double && begins_with 0x27 cs) (Content c 2) (Stops Closed))
+        ≡ onward (cond b (cond (not double && eqb (get_or cs 0 0) 0x27) (Content c 2) (Stops Closed))
         (cond (double && eqb c 0x5C) (cond (eqb (length cs) 0) RowEnd (escaped (escape cs))) (cond (is_quoted_character c) (cond (is_white c) (White c) (Content c 1)) (Stops (Faulted NotAllowed)))))
-    of_quote true = of_second (not double && begins_with 0x27 cs)
+    of_quote true = of_second (not double && eqb (get_or cs 0 0) 0x27)
     of_quote false = of_backslash (double && eqb c 0x5C)
 
 pub walked : (double : Bool) (cs : List ℕ) (skip : ℕ) (text : List ℕ) (kept at : ℕ) → stretch double skip text kept at cs ≡ walk text kept (at + skip) (glyphs double skip cs)
@@ -129,9 +130,9 @@ module _ (double : Bool) (c : ℕ) (cs : List ℕ) (ih : (skip : ℕ) → IsWhol
   whole_second true = ih _
   whole_second false = ih _
 
-  whole_quote : (b : Bool) → Whole (cond b (cond (not double && begins_with 0x27 cs) (Content c 2) (Stops Closed))
+  whole_quote : (b : Bool) → Whole (cond b (cond (not double && eqb (get_or cs 0 0) 0x27) (Content c 2) (Stops Closed))
       (cond (double && eqb c 0x5C) (cond (eqb (length cs) 0) RowEnd (escaped (escape cs))) (cond (is_quoted_character c) (cond (is_white c) (White c) (Content c 1)) (Stops (Faulted NotAllowed)))))
-  whole_quote true = whole_second (not double && begins_with 0x27 cs)
+  whole_quote true = whole_second (not double && eqb (get_or cs 0 0) 0x27)
   whole_quote false = whole_backslash (double && eqb c 0x5C)
 
 pub glyphs_whole : (double : Bool) (cs : List ℕ) (skip : ℕ) → IsWhole (glyphs double skip cs)

@@ -1,11 +1,11 @@
 -- A text that is written in quotes is read back.
-use Rattle.std.proofs.Common.{◌≡◌, ℕ, suc, ◌+◌, Bool, true, false, ◌&&◌, cond, List, [], ◌∷◌, ◌++◌, length, refl, ap, sym, ◌∙◌, append_assoc, arith, eqb, zero-add, ne_eqb}
+use Rattle.std.proofs.Common.{◌≡◌, ℕ, suc, ◌+◌, Bool, true, false, ◌&&◌, cond, List, [], ◌∷◌, ◌++◌, length, get_or, refl, ap, sym, ◌∙◌, append_assoc, arith, eqb, zero-add, ne_eqb}
 use Rattle.std.specs.List.{list_all}
 use Rattle.std.proofs.lemmas.Bool.{eqb-true}
 use Rattle.std.proofs.lemmas.List.{append-nil}
 use Rattle.yl_scalar.specs.Allowed.{is_quoted_character}
 use Rattle.yl_scalar.specs.Reading.{Whole, outcome_of_step, outcome_of_lines}
-use Rattle.yl_scalar.specs.Quoted.{Closes, stretch, quote, begins_with}
+use Rattle.yl_scalar.specs.Quoted.{Closes, stretch, quote}
 use Rattle.yl_scalar.specs.QuotedSteps.{quoted_step_behind, quoted_start, quoted_step, quoted_finish}
 use Rattle.yl_scalar.specs.Written.{quoted_text, QuotedLaw}
 
@@ -60,7 +60,7 @@ module _ (after : List ℕ) (cs before : List ℕ) (kept at : ℕ) where
   single_one c ok false x_is ih =
       rw (x_is, ok) (ih (before ++ c ∷ []) _ (at + 1) ∙ joined false c c (length (quoted_text false cs)) refl refl)
 
-reads_back : (double : Bool) (after text before : List ℕ) (kept at : ℕ) → list_all is_quoted_character text ≡ true → begins_with 0x27 after ≡ false →
+reads_back : (double : Bool) (after text before : List ℕ) (kept at : ℕ) → list_all is_quoted_character text ≡ true → eqb (get_or after 0 0) 0x27 ≡ false →
     ReadsBack double after text before kept at
 reads_back true after [] before kept at ok free = ap (λ t. Closes t (at + 1)) (sym (append-nil before))
 reads_back false after [] before kept at ok free = rw free (ap (λ t. Closes t (at + 1)) (sym (append-nil before)))

@@ -4,7 +4,7 @@ use Rattle.std.specs.Prelude.{not}
 use Rattle.std.proofs.Math.Seq.{take-suc}
 use Rattle.yl_text.specs.Character.{is_white}
 use Rattle.yl_scalar.specs.Allowed.{is_quoted_character}
-use Rattle.yl_scalar.specs.Quoted.{Closes, stretch, quote, begins_with}
+use Rattle.yl_scalar.specs.Quoted.{Closes, stretch, quote}
 
 -- one more of them
 one_more : (double : Bool) (text : List ℕ) (i c : ℕ) (before : List ℕ) (kept : ℕ) → i < length text → get_or text i 0 ≡ c
@@ -31,9 +31,9 @@ simple_step double text i c value kept within at no_quote no_escape allowed so_f
 
 -- the closing quote behind them
 pub closing_step : (double : Bool) (text : List ℕ) (i : ℕ) (before : List ℕ) (kept : ℕ) → i < length text → get_or text i 0 ≡ quote double
-    → (not double && begins_with 0x27 (drop (i + 1) text)) ≡ false
+    → (not double && eqb (get_or (drop (i + 1) text) 0 0) 0x27) ≡ false
     → stretch double 0 before kept i (drop i text) ≡ Closes before (i + 1)
 closing_step true text i before kept within at not_doubled = rw (drop-cons text i 0, at) refl
 closing_step false text i before kept within at not_doubled =
-    let h : begins_with 0x27 (drop (suc i) text) ≡ false = rw (add-one i) at not_doubled in
+    let h : eqb (get_or (drop (suc i) text) 0 0) 0x27 ≡ false = rw (add-one i) at not_doubled in
     rw (drop-cons text i 0, at, h) refl

@@ -3,30 +3,26 @@ use Rattle.std.specs.Prelude.{ℕ, Bool, ◌&&◌, ◌||◌, ◌==◌, nat_lt, n
 use Rattle.std.specs.List.{list_all}
 use Rattle.std.specs.Char.{is_digit}
 use Rattle.std.specs.Str.Parse.{digits_value}
-use Rattle.yl_text.specs.Char as char
+use Prim.Native.Char.{code}
 
 -- what one character stands for behind a backslash (c-ns-esc-char)
 abbrev pub simple_escape : ℕ → Option ℕ
 simple_escape c =
-    if c == char.digit_zero then Some char.null else if c == char.lower_a then Some char.bell else if c == char.lower_b then Some char.backspace
-    else if c == char.lower_t || c == char.tab then Some char.tab else if c == char.lower_n then Some char.line_feed else if c == char.lower_v then Some char.vertical_tab
-    else if c == char.lower_f then Some char.form_feed else if c == char.lower_r then Some char.carriage_return else if c == char.lower_e then Some char.escape_control
-    else if c == char.space || c == char.double_quote || c == char.slash || c == char.backslash then Some c
-    else if c == char.upper_n then Some char.next_line else if c == char.underscore then Some char.no_break_space else if c == char.upper_l then Some char.line_separator
-    else if c == char.upper_p then Some char.paragraph_separator else None
+    if c == code "0" then Some 0x00 else if c == code "a" then Some 0x07 else if c == code "b" then Some 0x08
+    else if c == code "t" || c == code "\t" then Some 0x09 else if c == code "n" then Some 0x0A else if c == code "v" then Some 0x0B
+    else if c == code "f" then Some 0x0C else if c == code "r" then Some 0x0D else if c == code "e" then Some 0x1B
+    else if c == code " " || c == code "\"" || c == code "/" || c == code "\\" then Some c else if c == code "N" then Some 0x85
+    else if c == code "_" then Some 0xA0 else if c == code "L" then Some 0x2028 else if c == code "P" then Some 0x2029 else None
 
 -- how many hexadecimal digits follow it (ns-esc-8-bit, ns-esc-16-bit, ns-esc-32-bit)
 abbrev pub hex_len : ℕ → ℕ
-hex_len c = if c == char.lower_x then 2 else if c == char.lower_u then 4 else if c == char.upper_u then 8 else 0
+hex_len c = if c == code "x" then 2 else if c == code "u" then 4 else if c == code "U" then 8 else 0
 
--- a character's number: no surrogate, and not past the last one
-abbrev pub is_scalar_value : ℕ → Bool
-is_scalar_value c = nat_lt c 0xD800 || (nat_le 0xE000 c && nat_le c 0x10FFFF)
-
--- the character that these digits give
+-- the character that these digits give: no surrogate, and none past the last one
 abbrev pub hex_value : List ℕ → Option ℕ
 hex_value ds =
-    if list_all (λ c. is_digit c 16) ds && is_scalar_value (digits_value 16 ds) then Some (digits_value 16 ds) else None
+    let n = digits_value 16 ds in
+    if list_all (λ c. is_digit c 16) ds && (nat_lt n 0xD800 || (nat_le 0xE000 n && nat_le n 0x10FFFF)) then Some n else None
 
 -- what the escape behind a backslash stands for, and how many characters it has behind its first one
 abbrev pub escape : List ℕ → Option (ℕ × ℕ)

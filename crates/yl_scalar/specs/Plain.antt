@@ -1,12 +1,7 @@
 -- Meaning: plain scalars: YAML 1.2.2, 7.3.3.
-use Rattle.std.specs.Prelude.{ℕ, Bool, true, false, not, ◌&&◌, ◌||◌, ◌==◌, nat_lt, nat_le, if◌then◌else◌, List, [], ◌∷◌, ◌+◌, take, length}
-use Rattle.yl_text.specs.Char as char
-use Rattle.yl_text.specs.Character.{is_white, is_flow_indicator, is_plain_safe, indentation, is_marker, without_front, without_end}
-
--- a plain-safe character comes next
-abbrev pub is_safe_next : Bool → List ℕ → Bool
-is_safe_next flow [] = false
-is_safe_next flow (c ∷ cs) = is_plain_safe flow c
+use Rattle.std.specs.Prelude.{ℕ, Bool, true, not, ◌&&◌, ◌||◌, ◌==◌, nat_lt, nat_le, if◌then◌else◌, List, [], ◌∷◌, ◌+◌, take, length}
+use Prim.Native.Char.{code}
+use Rattle.yl_text.specs.Character.{is_white, is_flow_indicator, is_plain_safe, starts_by, indentation, is_marker, without_front, without_end}
 
 -- how much of a line a plain scalar takes at the most, where behind_space says whether white space or the line's start
 -- stands before it: up to a `:` that no plain-safe character follows, a `#` behind white space, and in flow a flow
@@ -14,7 +9,7 @@ is_safe_next flow (c ∷ cs) = is_plain_safe flow c
 abbrev pub stop : Bool → Bool → List ℕ → ℕ
 stop flow behind_space [] = 0
 stop flow behind_space (c ∷ cs) =
-    if (c == char.colon && not (is_safe_next flow cs)) || (c == char.hash && behind_space) || (flow && is_flow_indicator c)
+    if (c == code ":" && not (starts_by (is_plain_safe flow) cs)) || (c == code "#" && behind_space) || (flow && is_flow_indicator c)
     then 0 else 1 + stop flow (is_white c) cs
 
 -- the scalar goes up to the line's end, so that a later line may go on with it

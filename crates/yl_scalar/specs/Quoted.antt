@@ -1,6 +1,7 @@
 -- Meaning: quoted scalars in one line: YAML 1.2.2, 7.3.1 and 7.3.2.
-use Rattle.std.specs.Prelude.{ℕ, Bool, false, not, ◌&&◌, ◌==◌, nat_lt, if◌then◌else◌, List, [], ◌∷◌, ◌++◌, ◌+◌, ◌-◌, take, length, Option, Some, None}
-use Rattle.yl_text.specs.Char as char
+use Rattle.std.specs.Prelude.{ℕ, Bool, not, ◌&&◌, ◌==◌, nat_lt, if◌then◌else◌, List, [], ◌∷◌, ◌++◌, ◌+◌, ◌-◌, take, length, slice_index, Option, Some, None}
+use Rattle.std.specs.Option.{option_map_or}
+use Prim.Native.Char.{code}
 use Rattle.yl_text.specs.Character.{is_white}
 use Rattle.yl_scalar.specs.Allowed.{is_quoted_character}
 use Rattle.yl_scalar.specs.Escape.{escape}
@@ -14,17 +15,8 @@ pub data Stretch : Type 0 where
   Breaks : (text : List ℕ) (backslash : Option ℕ) → Stretch
   Faulty : (fault : ScalarFault) (place : ℕ) → Stretch
 
--- an escape and what follows it, or a fault at its backslash
-abbrev pub with_escape : Option (ℕ × ℕ) → ℕ → (ℕ → ℕ → Stretch) → Stretch
-with_escape None place more = Faulty BadEscape place
-with_escape (Some e) place more = more e.0 (e.1 + 1)
-
-abbrev pub begins_with : ℕ → List ℕ → Bool
-begins_with q [] = false
-begins_with q (c ∷ cs) = c == q
-
 abbrev pub quote : Bool → ℕ
-quote double = if double then char.double_quote else char.single_quote
+quote double = if double then code "\"" else code "'"
 
 -- skip: how many characters belong to an escape that was read. text: what came before, of which `kept` characters stand
 -- before the white space at its end that is not escaped. at: how many characters were read
@@ -33,9 +25,9 @@ stretch double skip text kept at [] = Breaks (take kept text) None
 stretch double skip text kept at (c ∷ cs) =
     if nat_lt 0 skip then stretch double (skip - 1) text kept (at + 1) cs
     else if c == quote double then
-    (if not double && begins_with char.single_quote cs then stretch double 1 (text ++ c ∷ []) (length text + 1) (at + 1) cs else Closes text (at + 1))
-    else if double && c == char.backslash then
+    (if not double && slice_index cs 0 == code "'" then stretch double 1 (text ++ c ∷ []) (length text + 1) (at + 1) cs else Closes text (at + 1))
+    else if double && c == code "\\" then
     (if length cs == 0 then Breaks text (Some at)
-    else with_escape (escape cs) at (λ x skip. stretch double skip (text ++ x ∷ []) (length text + 1) (at + 1) cs))
+    else option_map_or (λ e. stretch double (e.1 + 1) (text ++ e.0 ∷ []) (length text + 1) (at + 1) cs) (escape cs) (Faulty BadEscape at))
     else if is_quoted_character c then stretch double 0 (text ++ c ∷ []) (if is_white c then kept else length text + 1) (at + 1) cs
     else Faulty NotAllowed at

@@ -1,13 +1,13 @@
 -- Meaning: a quoted scalar as the rows that it takes: YAML 1.2.2, 7.3.1, 7.3.2, 6.5 and 5.7. Its first row is what stands
 -- behind the opening quote.
-use Rattle.std.specs.Prelude.{◌≡◌, ℕ, Bool, true, false, not, ◌&&◌, ◌||◌, ◌==◌, nat_lt, if◌then◌else◌, List, [], ◌∷◌, ◌++◌, ◌+◌, ◌-◌, length, take, drop, Option, Some, None, option_map, is_some}
+use Rattle.std.specs.Prelude.{◌≡◌, ℕ, Bool, true, false, not, ◌&&◌, ◌||◌, ◌==◌, nat_lt, if◌then◌else◌, List, [], ◌∷◌, ◌++◌, ◌+◌, ◌-◌, length, take, drop, slice_index, Option, Some, None, option_map, is_some}
 use Rattle.std.specs.List.{prefix_len, list_all}
-use Rattle.yl_text.specs.Char as char
+use Prim.Native.Char.{code}
 use Rattle.yl_text.specs.Character.{is_white, is_blank, is_marker, without_front}
 use Rattle.yl_scalar.specs.Allowed.{is_quoted_character}
 use Rattle.yl_scalar.specs.Escape.{escape}
 use Rattle.yl_scalar.specs.Folding.{joint}
-use Rattle.yl_scalar.specs.Quoted.{begins_with, quote}
+use Rattle.yl_scalar.specs.Quoted.{quote}
 use Rattle.yl_scalar.specs.QuotedSteps.{quoted}
 use Rattle.yl_scalar.specs.Reading.{ScalarOutcomeValue, Whole, Refused}
 use Rattle.yl_scalar.specs.declared.answer.ScalarFault.{ScalarFault}
@@ -36,8 +36,8 @@ escaped (Some e) = Content e.0 (e.1 + 2)
 -- double quotes
 abbrev pub glyph_at : Bool → ℕ → List ℕ → Glyph
 glyph_at double c cs =
-    if c == quote double then (if not double && begins_with char.single_quote cs then Content c 2 else Stops Closed)
-    else if double && c == char.backslash then (if length cs == 0 then RowEnd else escaped (escape cs))
+    if c == quote double then (if not double && slice_index cs 0 == code "'" then Content c 2 else Stops Closed)
+    else if double && c == code "\\" then (if length cs == 0 then RowEnd else escaped (escape cs))
     else if is_quoted_character c then (if is_white c then White c else Content c 1)
     else Stops (Faulted NotAllowed)
 

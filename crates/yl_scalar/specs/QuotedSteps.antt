@@ -1,6 +1,7 @@
 -- Meaning: quoted scalars line by line: YAML 1.2.2, 7.3.1, 7.3.2 and 6.5.
 use Rattle.std.specs.Prelude.{ℕ, Bool, ◌==◌, if◌then◌else◌, List, [], ◌++◌, ◌+◌, length, Option, Some, None, option_map}
 use Rattle.std.specs.List.{prefix_len}
+use Rattle.std.specs.Option.{option_map_or}
 use Rattle.yl_text.specs.Character.{is_white, is_blank, is_marker, without_front}
 use Rattle.yl_scalar.specs.Reading.{ScalarOutcomeValue, Refused, ScalarStepValue, GoesOn, EndsIn, Fails, outcome_of_step, outcome_of_lines}
 use Rattle.yl_scalar.specs.Folding.{joint}
@@ -43,13 +44,10 @@ quoted_step s line =
     else quoted_step_behind (with_break s) (prefix_len is_white line)
     (stretch s.double 0 (with_break s).value (length (with_break s).value) 0 (without_front line))
 
--- the text ends: behind a backslash, which is half an escape, or somewhere else
-abbrev pub unclosed_outcome : Option ℕ → QuotedReaderValue → ScalarOutcomeValue
-unclosed_outcome None s = Refused UnclosedQuote 0 s.opening
-unclosed_outcome (Some column) s = if s.blanks == 0 then Refused BadEscape s.down column else Refused UnclosedQuote 0 s.opening
-
+-- the text ends: directly behind a backslash, which is half an escape, or somewhere else
 abbrev pub quoted_finish : QuotedReaderValue → ScalarOutcomeValue
-quoted_finish s = unclosed_outcome s.backslash s
+quoted_finish s =
+    option_map_or (λ column. Refused BadEscape s.down column) (if s.blanks == 0 then s.backslash else None) (Refused UnclosedQuote 0 s.opening)
 
 -- the scalar whose quote opens at this column, from behind it on, with the lines below
 abbrev pub quoted : Bool → ℕ → List ℕ → List (List ℕ) → ScalarOutcomeValue

@@ -1,5 +1,6 @@
 -- Meaning: what a scalar's lines make of it, from its first line on: its extent, or a fault.
-use Rattle.std.specs.Prelude.{ℕ, ◌+◌, List, [], ◌∷◌, Option, Some, None}
+use Rattle.std.specs.Prelude.{ℕ, ◌+◌, List, [], ◌∷◌, Option}
+use Rattle.std.specs.Option.{option_map_or}
 use Rattle.yl_scalar.specs.declared.answer.ScalarFault.{ScalarFault}
 use Rattle.yl_scalar.specs.declared.answer.ScalarFault.TheVariants.{NotAllowed}
 
@@ -35,5 +36,4 @@ outcome_of_lines step finish s (line ∷ lines) = outcome_of_step (λ s. outcome
 
 -- a character that is not allowed, that many characters behind this column, is a fault; else it goes on so
 abbrev pub unless_bad : {S : Type 0} → Option ℕ → ℕ → ℕ → ScalarStepValue S → ScalarStepValue S
-unless_bad None down column more = more
-unless_bad (Some i) down column more = Fails NotAllowed down (column + i)
+unless_bad bad down column more = option_map_or (λ i. Fails NotAllowed down (column + i)) bad more

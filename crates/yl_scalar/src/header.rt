@@ -1,6 +1,6 @@
 //! Headers of block scalars: YAML 1.2.2, 8.1.1.
-ghost use Rattle.std.specs.Prelude.{◌≡◌, ◌≤◌, ◌<◌, ◌-◌, IfSome, length};
-ghost use Rattle.yl_scalar.specs.Header.{is_indicator_digit, is_chomping, next, indicators, misfit, misfit_behind};
+ghost use Rattle.std.specs.Prelude.{◌≡◌, ◌≤◌, ◌<◌, ◌-◌, IfSome, length, slice_index};
+ghost use Rattle.yl_scalar.specs.Header.{is_indicator_digit, is_chomping, indicators, misfit, misfit_behind};
 
 use crate::character::{is_blank, leading_white};
 
@@ -18,7 +18,7 @@ fn is_chomping(c: char) -> bool
 
 /// The character that comes next, or NUL.
 fn next(text: &[char]) -> char
-    ensures { result ≡ next text.now }
+    ensures { result ≡ slice_index text.now 0 }
 {
     match text {
         [] => '\0',

@@ -1,7 +1,8 @@
 //! Plain scalars: YAML 1.2.2, 7.3.3.
 ghost use Rattle.std.specs.Prelude.{◌≡◌, ◌≤◌, ◌<◌, ◌+◌, ◌^◌, IfOk, OnErr, OnOk, IsErr, IsTrue, true, false, length};
 ghost use Rattle.yl_scalar.specs.Reading.{Whole};
-ghost use Rattle.yl_scalar.specs.Plain.{is_safe_next, stop};
+ghost use Rattle.yl_text.specs.Character.{is_plain_safe, starts_by};
+ghost use Rattle.yl_scalar.specs.Plain.{stop};
 ghost use Rattle.yl_scalar.specs.PlainSteps.{plain_begin, plain_step, plain_finish};
 ghost use Rattle.yl_scalar.specs.Reader.{step_value, extent_at, plain_reader_value, plain_rows, is_plain_refused};
 
@@ -30,7 +31,7 @@ pub struct PlainReader<A: Allocator> {
 
 /// Whether a plain-safe character comes next.
 pub fn is_safe_next(flow: bool, text: &[char]) -> bool
-    ensures { result ≡ is_safe_next flow text.now }
+    ensures { result ≡ starts_by (is_plain_safe flow) text.now }
 {
     match text {
         [] => false,

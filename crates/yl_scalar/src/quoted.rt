@@ -1,7 +1,7 @@
 //! Quoted scalars: YAML 1.2.2, 7.3.1 and 7.3.2.
-ghost use Rattle.std.specs.Prelude.{◌≡◌, ◌≤◌, ◌<◌, ◌+◌, ◌^◌, ◌++◌, ◌&&◌, ◌==◌, not, ℕ, List, IfOk, IfSome, OnErr, OnOk, IsErr, true, false, length};
+ghost use Rattle.std.specs.Prelude.{◌≡◌, ◌≤◌, ◌<◌, ◌+◌, ◌^◌, ◌++◌, ◌&&◌, ◌==◌, not, ℕ, List, IfOk, IfSome, OnErr, OnOk, IsErr, true, false, length, slice_index};
 ghost use Rattle.yl_scalar.specs.Reading.{Refused};
-ghost use Rattle.yl_scalar.specs.Quoted.{Closes, stretch, quote, begins_with};
+ghost use Rattle.yl_scalar.specs.Quoted.{Closes, stretch, quote};
 ghost use Rattle.yl_scalar.specs.QuotedSteps.{quoted_begin, quoted_step, quoted_finish, quoted_step_behind};
 ghost use Rattle.yl_scalar.specs.Reader.{step_value, quoted_reader_value, quoted_rows, is_quoted_refused};
 ghost use Rattle.yl_scalar.specs.Part.{gives, IsWithin, FitsBehind};
@@ -42,20 +42,20 @@ fn quote(double: bool) -> char
     if double { '"' } else { '\'' }
 }
 
-fn begins_with(q: char, text: &[char]) -> bool
-    ensures { result ≡ begins_with q text.now }
+fn is_single_quote_next(text: &[char]) -> bool
+    ensures { result ≡ (slice_index text.now 0 == 0x27) }
 {
     match text {
         [] => false,
-        [c, ..] => *c == q,
+        [c, ..] => *c == '\'',
     }
 }
 
 /// Whether a quote with this behind it stands for itself.
 fn is_doubled(double: bool, after: &[char]) -> bool
-    ensures { result ≡ (not double && begins_with 0x27 after.now) }
+    ensures { result ≡ (not double && slice_index after.now 0 == 0x27) }
 {
-    !double && begins_with('\'', after)
+    !double && is_single_quote_next(after)
 }
 
 /// Whether an escape begins with this character.

@@ -13,9 +13,9 @@ use Rattle.yl_text.specs.declared.row.Break.{Break}
 use Rattle.yl_text.specs.declared.row.Break.TheVariants.{No, Lf, CrLf, Cr}
 use Rattle.yl_text.specs.Lines.{RowValue, break_bytes, row_bytes, text_of, HasNoBreak, AreEnded, AreWhole}
 use Rattle.yl_text.specs.Store.{AreLines}
-use Rattle.yl_text.specs.Edit.{first_byte, last_byte, line_bytes, line_start, begins_line, line_at}
-use Rattle.yl_text.specs.PutLines.{Joins, EndsInBreak, front_of, back_of}
-use Rattle.yl_text.specs.Places.{IsCut, IsBytePlace, BeginsBehind}
+use Rattle.yl_text.specs.Edit.{last_byte, begins_line, line_at}
+use Rattle.yl_text.specs.PutLines.{first_byte, Joins, EndsInBreak, front_of, back_of}
+use Rattle.yl_text.specs.Places.{line_bytes, line_start, IsCut, IsBytePlace, BeginsBehind}
 use Rattle.yl_text.proofs.Edited.{ended_back, has_last, last_of, some_byte}
 use Rattle.yl_text.proofs.Seams.{drop_here, back_starts, front_ends, ends_at, last_at}
 

@@ -14,8 +14,8 @@ use Rattle.std.proofs.lemmas.List.Elements.{All-cons, All-nil, All-drop, All-get
 use Rattle.std.proofs.lemmas.Bool.{cond-true, cond-false, lt-ltb, le-ltb}
 use Rattle.yl_text.specs.declared.TheConstants.{MAX_BYTES}
 use Rattle.yl_text.specs.Store.{AreLines}
-use Rattle.yl_text.specs.Edit.{first_byte, last_byte}
-use Rattle.yl_text.specs.PutLines.{CanPutLines, IsLineRange, LeavesOpenEnd, JoinsBreaks, front_of, back_of, put_text, inserted_rows, Joins, EndsInBreak, EditIsSplice}
+use Rattle.yl_text.specs.Edit.{last_byte}
+use Rattle.yl_text.specs.PutLines.{first_byte, CanPutLines, IsLineRange, LeavesOpenEnd, JoinsBreaks, front_of, back_of, put_text, inserted_rows, Joins, EndsInBreak, EditIsSplice}
 
 -- lines that all end in a break
 pub record AreClosed (cs : List RowValue) : Type 0 where

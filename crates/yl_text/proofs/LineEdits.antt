@@ -8,9 +8,9 @@ use Rattle.std.specs.Str.{IsUtf8}
 use Rattle.yl_text.specs.declared.position.Pos.{Pos}
 use Rattle.yl_text.specs.Lines.{RowValue, text_of}
 use Rattle.yl_text.specs.Store.{AreLines}
-use Rattle.yl_text.specs.Edit.{first_byte, last_byte, line_bytes, line_start, offset, front_at, back_at, begins_line, line_of, is_behind_cr, is_line_kept, first_line, end_line, edited_text, CanEdit}
-use Rattle.yl_text.specs.PutLines.{Joins, LeavesOpenEnd, IsLineEdit, front_of, back_of, put_text}
-use Rattle.yl_text.specs.Places.{IsCut, IsBytePlace, IsBehind, IsFrontCut, BeginsBehind}
+use Rattle.yl_text.specs.Edit.{last_byte, offset, front_at, back_at, begins_line, line_of, is_behind_cr, is_line_kept, first_line, end_line, edited_text, CanEdit}
+use Rattle.yl_text.specs.PutLines.{first_byte, Joins, LeavesOpenEnd, IsLineEdit, front_of, back_of, put_text}
+use Rattle.yl_text.specs.Places.{line_bytes, line_start, IsCut, IsBytePlace, IsBehind, IsFrontCut, BeginsBehind}
 use Rattle.yl_text.proofs.Edited.{first_of, has_last, last_of}
 use Rattle.yl_text.proofs.Seams.{ends_at, length-front}
 use Rattle.yl_text.proofs.ByBytes.{apart_at, back_parts, begins, begins_at, broken_at, cut_text, end_cut, found, front_parts, line_of-is, some_bytes, start_more, start_within}

@@ -11,8 +11,8 @@ use Rattle.yl_text.specs.declared.row.Break.{Break}
 use Rattle.yl_text.specs.declared.row.Break.TheVariants.{No, Lf, CrLf, Cr}
 use Rattle.yl_text.specs.Lines.{RowValue, break_bytes, row_bytes, text_of, HasNoBreak, AreEnded}
 use Rattle.yl_text.specs.Store.{AreLines}
-use Rattle.yl_text.specs.Edit.{first_byte, last_byte}
-use Rattle.yl_text.specs.PutLines.{EndsInBreak, front_of, back_of}
+use Rattle.yl_text.specs.Edit.{last_byte}
+use Rattle.yl_text.specs.PutLines.{first_byte, EndsInBreak, front_of, back_of}
 use Rattle.yl_text.proofs.Edited.{take_closed, ended_back, last_of, some_byte}
 
 pub drop_here : {X : Type 0} (xs : List X) (i : ℕ) (x : X) → slice_get xs i ≡ Some x → drop i xs ≡ x ∷ drop (i + 1) xs

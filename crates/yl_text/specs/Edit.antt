@@ -3,33 +3,26 @@
 -- break is, YAML 1.2.2, 5.4 says.
 use Rattle.std.specs.Prelude.{◌≡◌, ℕ, ◌+◌, ◌-◌, ◌≤◌, ◌<◌, ◌⊎◌, Bool, not, ◌&&◌, ◌||◌, ◌==◌, nat_lt, if◌then◌else◌, List, [], ◌∷◌, ◌++◌, length, take, drop, slice_index}
 use Rattle.std.specs.Str.{IsUtf8, IsValidUpTo, chars, encode_utf8_all}
-use Rattle.yl_text.specs.Char as char
+use Prim.Native.Char.{code}
 use Rattle.yl_text.specs.Lines.{RowValue, row_bytes, text_of}
 use Rattle.yl_text.specs.declared.TheConstants.{MAX_BYTES}
 use Rattle.yl_text.specs.declared.position.Pos.{Pos}
 use Rattle.yl_text.specs.declared.fault.TextFault.{TextFault}
 use Rattle.yl_text.specs.declared.fault.TextFault.TheVariants.{NotUtf8, Range, TooLarge, Memory}
 
--- a line with its break: its bytes, and its characters
-abbrev pub line_bytes : List RowValue → ℕ → List ℕ
-line_bytes ps i = text_of (take 1 (drop i ps))
-
+-- the characters of a line with its break
 abbrev pub line_chars : List RowValue → ℕ → List ℕ
-line_chars ps i = chars (line_bytes ps i)
+line_chars ps i = chars (text_of (take 1 (drop i ps)))
 
 -- a place is in the text: its line is, and its column is that of one of the line's characters, or the one past them
 pub record IsInText (ps : List RowValue) (p : Pos) : Type 0 where
   pub line : p.line < length ps
   pub column : p.col ≤ length (line_chars ps p.line)
 
--- how many bytes stand before line i
-abbrev pub line_start : List RowValue → ℕ → ℕ
-line_start ps i = length (text_of (take i ps))
-
 -- how many bytes stand before a place: those of the lines before its line, and of the characters before its column. So the column
 -- past a line's break and column 0 of the next line are one place
 abbrev pub offset : List RowValue → Pos → ℕ
-offset ps p = line_start ps p.line + length (encode_utf8_all (take p.col (line_chars ps p.line)))
+offset ps p = length (text_of (take p.line ps)) + length (encode_utf8_all (take p.col (line_chars ps p.line)))
 
 -- the text before a place, and from it on
 abbrev pub front_at : List RowValue → Pos → List ℕ
@@ -71,22 +64,18 @@ EditHasNoFaultBeside = (ps : List RowValue) (from to : Pos) (t : List ℕ) (f : 
 abbrev pub EditHasFaultOrNone : Type 0
 EditHasFaultOrNone = (ps : List RowValue) (from to : Pos) (t : List ℕ) → CanEdit ps from to t ⊎ ((f : TextFault) × IsEditFault ps from to t f)
 
--- the first and the last byte, or 0
-abbrev pub first_byte : List ℕ → ℕ
-first_byte t = slice_index t 0
-
+-- the last byte, or 0
 abbrev pub last_byte : List ℕ → ℕ
 last_byte t = slice_index t (length t - 1)
 
 -- a line begins between x and y: x is empty, or ends in a break. A CR before an LF is no break yet
 abbrev pub begins_line : List ℕ → List ℕ → Bool
-begins_line x y = length x == 0 || last_byte x == char.line_feed || (last_byte x == char.carriage_return && not (first_byte y == char.line_feed))
+begins_line x y = length x == 0 || last_byte x == code "\n" || (last_byte x == code "\r" && not (slice_index y 0 == code "\n"))
 
 -- the last line that begins at or before the place behind n bytes
 abbrev pub line_at : List RowValue → ℕ → ℕ
-line_at [] n = 0
-line_at (p ∷ []) n = 0
 line_at (p ∷ q ∷ ps) n = if nat_lt n (length (row_bytes p)) then 0 else 1 + line_at (q ∷ ps) (n - length (row_bytes p))
+line_at _ n = 0
 
 -- the line of a place: the last one that begins at or before it
 abbrev pub line_of : List RowValue → Pos → ℕ
@@ -94,7 +83,7 @@ line_of ps p = line_at ps (offset ps p)
 
 -- the place begins a line, and the line before that one ends in CR
 abbrev pub is_behind_cr : List RowValue → Pos → Bool
-is_behind_cr ps p = begins_line (front_at ps p) (back_at ps p) && last_byte (front_at ps p) == char.carriage_return
+is_behind_cr ps p = begins_line (front_at ps p) (back_at ps p) && last_byte (front_at ps p) == code "\r"
 
 -- the lines that an edit touches: from this one on, since an LF that comes in makes one break with a CR before it
 abbrev pub first_line : List RowValue → Pos → ℕ

@@ -1,4 +1,4 @@
--- Meaning: what a rule finds in a text. Lines and columns count from 1, columns in characters.
+-- Meaning: what a rule finds in a text. Lines and columns count from 1, columns in characters; a message is in UTF-8.
 use Rattle.std.specs.Prelude.{ℕ, List, [], ◌∷◌, ◌++◌, codes}
 use Rattle.yl_text.specs.declared.finding.RuleId.{RuleId}
 use Rattle.yl_text.specs.declared.finding.RuleId.TheVariants.{Anchors, Braces, Brackets, Colons, Commas, Comments, DocumentStart, EmptyLines, Hyphens, Indentation, KeyDuplicates, KeyOrdering, LineLength, NewLineAtEndOfFile, NewLines, QuotedStrings, Syntax, TrailingSpaces, Truthy}
@@ -7,7 +7,6 @@ pub record FindingValue : Type 0 where
   pub line : ℕ
   pub column : ℕ
   pub rule : RuleId
-  -- in UTF-8
   pub message : List ℕ
 
 -- the rules' names in yamllint's documentation ("Rules"); `syntax` is that of the text's fault

@@ -1,11 +1,19 @@
 -- Bridge: a place by bytes, and where the lines are cut that an edit between two places touches.
 use Rattle.std.specs.Prelude.{◌≡◌, ◌≢◌, ℕ, ◌+◌, ◌≤◌, ◌<◌, ◌⊎◌, List, [], ◌++◌, length, take, drop}
 use Rattle.std.specs.Str.{IsUtf8, chars, encode_utf8_all}
-use Rattle.yl_text.specs.Char as char
-use Rattle.yl_text.specs.Lines.{RowValue}
+use Prim.Native.Char.{code}
+use Rattle.yl_text.specs.Lines.{RowValue, text_of}
 use Rattle.yl_text.specs.declared.position.Pos.{Pos}
-use Rattle.yl_text.specs.Edit.{first_byte, last_byte, line_bytes, line_start, front_at, first_line}
-use Rattle.yl_text.specs.PutLines.{Joins, front_of}
+use Rattle.yl_text.specs.Edit.{last_byte, front_at, first_line}
+use Rattle.yl_text.specs.PutLines.{first_byte, Joins, front_of}
+
+-- the bytes of a line with its break
+abbrev pub line_bytes : List RowValue → ℕ → List ℕ
+line_bytes ps i = text_of (take 1 (drop i ps))
+
+-- how many bytes stand before line i
+abbrev pub line_start : List RowValue → ℕ → ℕ
+line_start ps i = length (front_of ps i)
 
 -- bytes may be cut behind so many of them: where they are characters, both parts are
 pub record IsCut (bs : List ℕ) (byte : ℕ) : Type 0 where
@@ -38,8 +46,8 @@ pub record IsFrontCut (ps : List RowValue) (p : Pos) (a byte : ℕ) : Type 0 whe
   pub front : front_at ps p ≡ front_of ps a ++ take byte (line_bytes ps a)
   pub cut : IsCut (line_bytes ps a) byte
   pub apart : (t : List ℕ) → ¬ (Joins (front_of ps a) (take byte (line_bytes ps a) ++ t))
-  pub begins : byte ≡ 0 → (front_of ps a ≡ []) ⊎ (last_byte (front_of ps a) ≡ char.line_feed)
+  pub begins : byte ≡ 0 → (front_of ps a ≡ []) ⊎ (last_byte (front_of ps a) ≡ code "\n")
 
 -- a line begins behind these bytes, if one begins before them where they are none
 abbrev pub BeginsBehind : List ℕ → List ℕ → Type 0
-BeginsBehind x y = (x ≡ []) ⊎ ((0 < length x) × ((last_byte x ≡ char.line_feed) ⊎ ((last_byte x ≡ char.carriage_return) × (first_byte y ≢ char.line_feed))))
+BeginsBehind x y = (x ≡ []) ⊎ ((0 < length x) × ((last_byte x ≡ code "\n") ⊎ ((last_byte x ≡ code "\r") × (first_byte y ≢ code "\n"))))

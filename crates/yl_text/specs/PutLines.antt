@@ -1,14 +1,14 @@
 -- Bridge: an edit between two places is made by lines: the lines a to b, b not included, counted from 0, are replaced by bytes that
 -- hold what is left of them too.
-use Rattle.std.specs.Prelude.{◌≡◌, ◌≢◌, ℕ, ◌-◌, ◌≤◌, ◌<◌, ◌⊎◌, Bool, nat_lt, if◌then◌else◌, List, [], ◌++◌, length, take, drop}
+use Rattle.std.specs.Prelude.{◌≡◌, ◌≢◌, ℕ, ◌-◌, ◌≤◌, ◌<◌, ◌⊎◌, Bool, nat_lt, if◌then◌else◌, List, [], ◌++◌, length, take, drop, slice_index}
 use Rattle.std.specs.List.{splice}
 use Rattle.std.specs.Str.{IsUtf8}
-use Rattle.yl_text.specs.Char as char
+use Prim.Native.Char.{code}
 use Rattle.yl_text.specs.Lines.{RowValue, text_of, lines_of, IsLines}
 use Rattle.yl_text.specs.Store.{AreLines}
 use Rattle.yl_text.specs.declared.TheConstants.{MAX_BYTES}
 use Rattle.yl_text.specs.declared.position.Pos.{Pos}
-use Rattle.yl_text.specs.Edit.{first_byte, last_byte, edited_text, first_line, end_line}
+use Rattle.yl_text.specs.Edit.{last_byte, edited_text, first_line, end_line}
 
 -- lines a to b can be replaced: a is a line, and b is none before it and at most one past the last
 pub record IsLineRange (ps : List RowValue) (a b : ℕ) : Type 0 where
@@ -18,15 +18,19 @@ pub record IsLineRange (ps : List RowValue) (a b : ℕ) : Type 0 where
 
 -- the bytes end in a break: in LF or CR
 abbrev pub EndsInBreak : List ℕ → Type 0
-EndsInBreak t = (last_byte t ≡ char.line_feed) ⊎ (last_byte t ≡ char.carriage_return)
+EndsInBreak t = (last_byte t ≡ code "\n") ⊎ (last_byte t ≡ code "\r")
 
 -- bytes that end in no break would stand before a kept line
 abbrev pub LeavesOpenEnd : List RowValue → ℕ → List ℕ → Type 0
 LeavesOpenEnd ps b t = (b < length ps) × (t ≢ []) × ¬ (EndsInBreak t)
 
+-- the first byte, or 0
+abbrev pub first_byte : List ℕ → ℕ
+first_byte t = slice_index t 0
+
 -- a CR at the end of x would stand before an LF at the start of y, and be one break with it
 abbrev pub Joins : List ℕ → List ℕ → Type 0
-Joins x y = (last_byte x ≡ char.carriage_return) × (first_byte y ≡ char.line_feed)
+Joins x y = (last_byte x ≡ code "\r") × (first_byte y ≡ code "\n")
 
 -- the text before line a, and from line b on
 abbrev pub front_of : List RowValue → ℕ → List ℕ

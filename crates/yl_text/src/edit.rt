@@ -2,8 +2,8 @@
 ghost use Rattle.std.specs.Prelude.{◌≡◌, ◌+◌, ◌^◌, ◌<◌, ◌≤◌, ◌↔◌, IsTrue, length, take, slice_get};
 ghost use Rattle.yl_text.specs.Lines.{text_of};
 ghost use Rattle.yl_text.specs.Store.{AreLines, IsRange};
-ghost use Rattle.yl_text.specs.Edit.{first_byte, last_byte};
-ghost use Rattle.yl_text.specs.PutLines.{front_of, back_of};
+ghost use Rattle.yl_text.specs.Edit.{last_byte};
+ghost use Rattle.yl_text.specs.PutLines.{first_byte, front_of, back_of};
 
 use crate::Break;
 use crate::store::Lines;

@@ -3,9 +3,9 @@ ghost use Rattle.std.specs.Prelude.{◌≡◌, ◌+◌, ◌-◌, ◌<◌, ◌≤
 ghost use Rattle.std.specs.Str.{chars, encode_utf8_all, IsAscii, IsUtf8};
 ghost use Rattle.yl_text.specs.Lines.{row_bytes, break_bytes};
 ghost use Rattle.yl_text.specs.Store.{AreLines};
-ghost use Rattle.yl_text.specs.Edit.{IsInText, CanEdit, offset, line_bytes, line_start, last_byte};
+ghost use Rattle.yl_text.specs.Edit.{IsInText, CanEdit, offset, last_byte};
 ghost use Rattle.yl_text.specs.PutLines.{IsLineEdit, back_of};
-ghost use Rattle.yl_text.specs.Places.{IsByteOf, IsCut, IsBytePlace, IsBehind, IsFrontCut, BeginsBehind};
+ghost use Rattle.yl_text.specs.Places.{line_bytes, line_start, IsByteOf, IsCut, IsBytePlace, IsBehind, IsFrontCut, BeginsBehind};
 
 use crate::decode::are_ascii;
 use crate::edit::{back_starts_with_lf, bytes_between, front_ends_in_cr};

@@ -1,7 +1,7 @@
-use Rattle.std.proofs.Common.{◌+◌, ◌-◌, ◌<◌, length-drop, ◌++◌, ◌&&◌, ap, sym, ◌∙◌, arith, take, length, drop, ne_eqb}
+use Rattle.std.proofs.Common.{◌+◌, ◌-◌, ◌<◌, length-drop, ◌++◌, ◌&&◌, ap, sym, ◌∙◌, arith, take, length, drop, get_or, eqb, ne_eqb}
 use Rattle.std.specs.Prelude.{not}
 use Rattle.std.proofs.lemmas.List.{append-nil, get_or_read, length-take-le, take_all}
-use Rattle.yl_scalar.specs.Quoted.{Closes, stretch, begins_with, quote}
+use Rattle.yl_scalar.specs.Quoted.{Closes, stretch, quote}
 use Rattle.yl_scalar.proofs.Simple.{simple_step, closing_step}
 use Rattle.yl_scalar.proofs.quoted.simple_part.Goals as goal
 
@@ -28,5 +28,5 @@ returns-then-c-quote-clause-part c = λ value.
     let within : i < length text = omega arith in
     so_far.1 ∙ closing_step c.args.double text i (value ++ take i text) so_far.0 within
     (sym (get_or_read text i c.index-text-i.result within c.index-text-i.is 0) ∙ c.if-c-quote.true ∙ c.quote.ensures)
-    (ap (λ cs. not c.args.double && begins_with 0x27 cs) (sym (take_all (length text - (i + 1)) (drop (i + 1) text) (omega (arith, length-drop (i + 1) text)))) ∙ sym c.is_doubled.ensures ∙ c.if-is_doubled.false)
+    (ap (λ cs. not c.args.double && eqb (get_or cs 0 0) 0x27) (sym (take_all (length text - (i + 1)) (drop (i + 1) text) (omega (arith, length-drop (i + 1) text)))) ∙ sym c.is_doubled.ensures ∙ c.if-is_doubled.false)
     ∙ ap (λ n. Closes (value ++ take i text) (n + 1)) (sym (length-take-le i text (omega arith)))

@@ -1,8 +1,8 @@
 use Rattle.std.proofs.Common.{◌≡◌, ◌+◌, ◌<◌, ℕ, List, length, arith, ap, subst, sym}
 use Rattle.std.specs.Str.{chars}
-use Rattle.yl_text.specs.Edit.{line_bytes, line_start, offset}
+use Rattle.yl_text.specs.Edit.{offset}
 use Rattle.yl_text.specs.Lines.{row_bytes}
-use Rattle.yl_text.specs.Places.{IsByteOf, IsBytePlace, IsCut}
+use Rattle.yl_text.specs.Places.{line_bytes, line_start, IsByteOf, IsBytePlace, IsCut}
 use Rattle.yl_text.proofs.ByBytes.{line_is, start_within}
 use Rattle.yl_text.proofs.places.byte_place.Goals as goal
 

@@ -1,8 +1,8 @@
 use Rattle.std.proofs.Common.{◌≡◌, ◌≢◌, ◌-◌, ◌∙◌, inl, inr, length, ap, sym, arith, rules, length-append}
 use Rattle.yl_text.specs.Lines.{break_bytes}
-use Rattle.yl_text.specs.Edit.{offset, last_byte, line_bytes}
+use Rattle.yl_text.specs.Edit.{offset, last_byte}
 use Rattle.yl_text.specs.PutLines.{front_of}
-use Rattle.yl_text.specs.Places.{IsBytePlace}
+use Rattle.yl_text.specs.Places.{line_bytes, IsBytePlace}
 use Rattle.yl_text.proofs.ByBytes.{line_is}
 use Rattle.yl_text.proofs.LineEdits.{behind_some, front_cut_here, front_cut_back}
 use Rattle.yl_text.proofs.places.front_cut.Goals as goal

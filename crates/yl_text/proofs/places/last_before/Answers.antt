@@ -1,6 +1,7 @@
 use Rattle.std.proofs.Common.{◌≡◌, ◌≢◌, ◌-◌, rules, ◌++◌, ◌<◌, ◌≤◌, ℕ, List, length, take, get_or, arith, ap, ◌∙◌, sym}
 use Rattle.std.proofs.lemmas.List.{append-nil, get_or-take, length-take-le, nil_from_length}
-use Rattle.yl_text.specs.Edit.{line_bytes, last_byte}
+use Rattle.yl_text.specs.Places.{line_bytes}
+use Rattle.yl_text.specs.Edit.{last_byte}
 use Rattle.yl_text.proofs.ByBytes.{line_is}
 use Rattle.yl_text.proofs.places.last_before.Goals as goal
 

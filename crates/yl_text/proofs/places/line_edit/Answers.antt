@@ -4,9 +4,9 @@ use Rattle.std.proofs.lemmas.Slice.{pushed}
 use Rattle.std.specs.Str.{IsUtf8}
 use Rattle.yl_text.specs.Lines.{RowValue, row_bytes, break_bytes}
 use Rattle.yl_text.specs.declared.position.Pos.{Pos}
-use Rattle.yl_text.specs.Edit.{CanEdit, offset, line_bytes, front_at, back_at}
+use Rattle.yl_text.specs.Edit.{CanEdit, offset, front_at, back_at}
 use Rattle.yl_text.specs.PutLines.{IsLineEdit}
-use Rattle.yl_text.specs.Places.{IsBytePlace}
+use Rattle.yl_text.specs.Places.{line_bytes, IsBytePlace}
 use Rattle.yl_text.proofs.ByBytes.{line_is, start_within}
 use Rattle.yl_text.proofs.Fitting.{lines_are_few}
 use Rattle.yl_text.proofs.LineEdits.{line_edit_is, put_together}

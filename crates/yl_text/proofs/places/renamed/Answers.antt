@@ -1,5 +1,5 @@
 use Rattle.std.proofs.Common.{◌≡◌, ◌+◌, length, arith, refl, ap, ◌∙◌, sym, length-append}
-use Rattle.yl_text.specs.Edit.{line_bytes}
+use Rattle.yl_text.specs.Places.{line_bytes}
 use Rattle.yl_text.proofs.ByBytes.{line_is, some_bytes, start_more, start_cut}
 use Rattle.yl_text.proofs.Fitting.{lines_are_few}
 use Rattle.yl_text.specs.Lines.{break_bytes}
