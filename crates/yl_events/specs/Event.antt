@@ -1,5 +1,6 @@
 -- Meaning: events: YAML 1.2.2, 3.1.2. Names and values in UTF-8.
-use Rattle.std.specs.Prelude.{ℕ, ◌≡◌, Bool, true, false, List, [], map, Option, Some, None, slice_get}
+use Rattle.std.specs.Prelude.{ℕ, ◌≡◌, Bool, true, false, List, [], map, Option, Some, None, option_map, slice_get}
+use Rattle.std.specs.Option.{option_map_or}
 use Rattle.yl_text.specs.declared.position.Pos.{Pos}
 use Rattle.yl_lexeme.specs.declared.lexeme.Style.{Style}
 use Rattle.yl_lexeme.specs.Lexeme.{LexemeValue}
@@ -68,12 +69,10 @@ event_value e = record {
 -- ---- names, values and places of a document's lexemes
 
 abbrev pub value_of : Option LexemeValue → List ℕ
-value_of None = []
-value_of (Some x) = x.value
+value_of x = option_map_or (λ y. y.value) x []
 
 abbrev pub start_of : Option LexemeValue → Pos
-start_of None = record { line = 0; col = 0 }
-start_of (Some x) = x.start
+start_of x = option_map_or (λ y. y.start) x (record { line = 0; col = 0 })
 
 abbrev pub value_at : List LexemeValue → ℕ → List ℕ
 value_at xs i = value_of (slice_get xs i)
@@ -83,8 +82,7 @@ start_at xs i = start_of (slice_get xs i)
 
 -- the value at a content's place, if it has one
 abbrev pub content_value : List LexemeValue → Option ℕ → List ℕ
-content_value xs None = []
-content_value xs (Some i) = value_at xs i
+content_value xs place = option_map_or (value_at xs) place []
 
 abbrev pub kind_of : List LexemeValue → Shape → Option ℕ → EventKindValue
 kind_of xs shape.DocumentStart place = DocumentStart
@@ -97,17 +95,14 @@ kind_of xs shape.Alias place = AliasOf (content_value xs place)
 kind_of xs (shape.Scalar style) place = ScalarOf style (content_value xs place)
 kind_of xs shape.Empty place = Empty
 
-abbrev pub place_of : List LexemeValue → Option ℕ → Option Pos
-place_of xs None = None
-place_of xs (Some i) = Some (start_at xs i)
-
 abbrev pub anchor_of : List LexemeValue → Option ℕ → Option EventAnchorValue
-anchor_of xs None = None
-anchor_of xs (Some i) = Some (record { name = value_at xs i; place = start_at xs i })
+anchor_of xs place = option_map (λ i. record { name = value_at xs i; place = start_at xs i }) place
 
 -- an event of the document of these lexemes
 abbrev pub event_of_outline : List LexemeValue → Outline → EventValue
-event_of_outline xs o = record { kind = kind_of xs o.kind o.place; place = place_of xs o.place; anchor = anchor_of xs o.anchor; is_tagged = o.is_tagged }
+event_of_outline xs o =
+    let place = option_map (start_at xs) o.place in
+    record { kind = kind_of xs o.kind o.place; place = place; anchor = anchor_of xs o.anchor; is_tagged = o.is_tagged }
 
 -- these are the events of the derivation of the document of these lexemes
 pub record AreEvents (xs : List LexemeValue) (es : List EventValue) : Type 0 where

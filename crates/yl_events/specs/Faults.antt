@@ -3,6 +3,7 @@
 -- 1.2.2, 9.1; 6.9 and 7.1; 7.4 and 8.2).
 use Rattle.std.specs.Prelude.{ℕ, Bool, true, false, not, ◌||◌, ◌==◌, ◌-◌, if◌then◌else◌, List, [], ◌∷◌, ◌+◌, reverse, take, drop, codes}
 use Rattle.yl_lexeme.specs.declared.lexeme.Kind.{Kind}
+use Rattle.yl_lexeme.specs.Lexeme.{is_opening, is_closing, is_entry, is_key, is_value}
 use Rattle.yl_marks.specs.declared.symbol.Symbol.{Symbol}
 use Rattle.yl_marks.specs.declared.symbol.Symbol.TheVariants.{OpenSequence, OpenMapping, BeginKey, Close, One}
 use Rattle.yl_events.specs.declared.symbol.OpenBlockCollection.{OpenBlockCollection}
@@ -35,25 +36,17 @@ blocks_behind blocks (OpenSequence i) = InSequence ∷ blocks
 blocks_behind blocks (OpenMapping i) = InMapping false ∷ blocks
 blocks_behind blocks (BeginKey i) = with_indentless false blocks
 blocks_behind blocks Close = drop 1 blocks
-blocks_behind blocks (One Kind.Entry i) = with_indentless true blocks
-blocks_behind blocks (One Kind.Key i) = with_indentless false blocks
-blocks_behind blocks (One Kind.Value i) = with_indentless false blocks
-blocks_behind blocks _ = blocks
+blocks_behind blocks (One kind i) =
+    if is_entry kind || is_key kind || is_value kind then with_indentless (is_entry kind) blocks else blocks
 
 abbrev pub depth_behind : ℕ → Symbol → ℕ
-depth_behind depth (One Kind.SeqOpen i) = depth + 1
-depth_behind depth (One Kind.MapOpen i) = depth + 1
-depth_behind depth (One Kind.SeqClose i) = depth - 1
-depth_behind depth (One Kind.MapClose i) = depth - 1
+depth_behind depth (One kind i) = if is_opening kind then depth + 1 else if is_closing kind then depth - 1 else depth
 depth_behind depth _ = depth
-
-abbrev pub is_close : Symbol → Bool
-is_close Close = true
-is_close _ = false
 
 -- in brackets nothing is said of blocks, but for the closings of a marker or the end
 abbrev pub open_behind : OpenCollections → Symbol → OpenCollections
-open_behind o w = record { depth = depth_behind o.depth w; blocks = if is_close w || o.depth == 0 then blocks_behind o.blocks w else o.blocks }
+open_behind o Close = record o { blocks = blocks_behind o.blocks Close }
+open_behind o w = record { depth = depth_behind o.depth w; blocks = if o.depth == 0 then blocks_behind o.blocks w else o.blocks }
 
 abbrev pub open_after : OpenCollections → List Symbol → OpenCollections
 open_after o [] = o

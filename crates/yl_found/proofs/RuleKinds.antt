@@ -17,7 +17,7 @@ use Rattle.yl_indentation.specs.declared.options.IndentationOptions.{Indentation
 use Rattle.yl_indentation.specs.declared.options.IndentSequences.{IndentSequences}
 use Rattle.yl_indentation.specs.Measures.{and_later, measure_at, measure_of, is_flush}
 use Rattle.yl_indentation.specs.Onward.{onward_problems}
-use Rattle.yl_indentation.specs.Problems.{finding_at, finding_by, finding_by_width, not_as_expected, indentation_width}
+use Rattle.yl_indentation.specs.Problems.{finding_at, finding_by, finding_by_width, is_indented, not_as_expected, width_by_spaces}
 use Rattle.yl_rules.specs.declared.empty_lines.EmptyLinesOptions.{EmptyLinesOptions}
 use Rattle.yl_rules.specs.declared.new_lines.NewLine.{NewLine}
 use Rattle.yl_rules.specs.declared.options.RowOptions.{RowOptions}
@@ -145,7 +145,7 @@ module _ (kind : RuleId → Bool) (on : kind Indentation ≡ true) where
   indented_of o before [] = tt
   indented_of o before (f ∷ fs) =
       let here = and_later before (measure_at f.column f.expectation) in
-      both_of kind (finding_at o here (is_flush here) f) (onward_problems o here fs) (by_of o.indent_sequences (is_flush here) (indentation_width o here (is_flush here)) f f.expectation) (indented_of o here fs)
+      both_of kind (finding_at o here (is_flush here) f) (onward_problems o here fs) (by_of o.indent_sequences (is_flush here) (width_by_spaces o.spaces (is_indented o.indent_sequences (is_flush here) false) here) f f.expectation) (indented_of o here fs)
 
 kept_of_section : (fs : List FindingValue) → AreOf is_kept_rule fs → AreOf is_of_section fs
 kept_of_section fs h = all_then (λ (f : FindingValue). is_kept_rule f.rule ≡ true) (λ f. is_of_section f.rule ≡ true) fs (λ f e. (and_parts (is_of_section f.rule) (not (is_indentation f.rule)) e).0) h

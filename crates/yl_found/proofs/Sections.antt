@@ -1,6 +1,7 @@
 -- What is found in sections one after another: each part by itself, behind the measure of the parts before it.
 use Rattle.std.proofs.Common.{◌≡◌, ℕ, ◌+◌, ◌<◌, ◌≤◌, Bool, true, false, List, [], ◌∷◌, ◌++◌, map, Option, Some, None, refl, ap, sym, ◌∙◌, arith, append_assoc, if◌then◌else◌}
 use Rattle.std.specs.List.{AllByRecursion}
+use Rattle.std.specs.Option.{option_or}
 use Rattle.std.proofs.lemmas.List.{map-append}
 use Rattle.yl_text.proofs.Every.{all_both}
 use Rattle.yl_text.specs.declared.position.Pos.{Pos}
@@ -13,9 +14,9 @@ use Rattle.yl_indentation.specs.declared.fact.Fact.{Fact}
 use Rattle.yl_indentation.specs.declared.measure.Measure.{Measure}
 use Rattle.yl_indentation.specs.declared.options.IndentationOptions.{IndentationOptions}
 use Rattle.yl_indentation.specs.declared.options.IndentSequences.{IndentSequences}
-use Rattle.yl_indentation.specs.Measures.{empty_measure, and_later, first, measure_at, measure_of, is_flush}
+use Rattle.yl_indentation.specs.Measures.{empty_measure, and_later, measure_at, measure_of, is_flush}
 use Rattle.yl_indentation.specs.Onward.{onward_problems}
-use Rattle.yl_indentation.specs.Problems.{finding_at, finding_by, finding_by_width, not_as_expected, indentation_width}
+use Rattle.yl_indentation.specs.Problems.{finding_at, finding_by, finding_by_width, is_indented, not_as_expected, width_by_spaces}
 use Rattle.yl_indentation.proofs.Measured.{and_later_assoc, measure_is_local}
 use Rattle.yl_sections.specs.Kept.{KeptValue, SectionFaultValue}
 use Rattle.yl_rejudge.specs.Places.{rows_kept}
@@ -99,7 +100,7 @@ comments_within line high (k ∷ ks) h l =
 pub and_later_none : (m : Measure) → and_later m empty_measure ≡ m
 and_later_none m = λ i. record { step = known m.step i; step_with_entries = known m.step_with_entries i; flush = known m.flush i }
   where
-    known : {X : Type 0} (o : Option X) → first o None ≡ o
+    known : {X : Type 0} (o : Option X) → option_or o None ≡ o
     known None = refl
     known (Some x) = refl
 
@@ -159,7 +160,7 @@ indented_there : (rows : ℕ) (o : IndentationOptions) (before : Measure) (fs : 
 indented_there rows o before [] h = tt
 indented_there rows o before (f ∷ fs) h =
     let here = and_later before (measure_at f.column f.expectation) in
-    between_both 0 rows (finding_at o here (is_flush here) f) (onward_problems o here fs) (by_there rows o.indent_sequences (is_flush here) (indentation_width o here (is_flush here)) f f.expectation h.0) (indented_there rows o here fs h.1)
+    between_both 0 rows (finding_at o here (is_flush here) f) (onward_problems o here fs) (by_there rows o.indent_sequences (is_flush here) (width_by_spaces o.spaces (is_indented o.indent_sequences (is_flush here) false) here) f f.expectation h.0) (indented_there rows o here fs h.1)
 
 pub sections_between : (o : IndentationOptions) (before : Measure) (line high : ℕ) (ks : List KeptValue) → AllByRecursion IsPlain ks → line + rows_kept ks ≤ high → Between line high (onward_in_sections o line before ks)
 sections_between o before line high [] h l = tt

@@ -1,6 +1,6 @@
 -- The facts of a document as its symbols come.
 use Rattle.std.proofs.Common.{◌≡◌, ◌≤◌, refl, sym, ◌∙◌, ap, arith, append_assoc, ℕ, Bool, true, false, List, [], ◌∷◌, ◌++◌, map, Option, Some, None}
-use Rattle.std.specs.Prelude.{◌+◌, nat_lt, ◌&&◌, if◌then◌else◌, slice_get, slice_index}
+use Rattle.std.specs.Prelude.{◌+◌, nat_lt, slice_get, slice_index}
 use Rattle.std.proofs.lemmas.Bool.Decides.{nat_tests}
 use Rattle.yl_lexeme.specs.Lexeme.{LexemeValue}
 use Rattle.yl_lexeme.specs.declared.lexeme.Kind.{Kind}
@@ -15,9 +15,8 @@ use Rattle.yl_indentation.specs.declared.element.Site.{Site}
 use Rattle.yl_indentation.specs.declared.element.Element.{Element}
 use Rattle.yl_indentation.specs.Elements.{element_at, lexeme_element, element_of}
 use Rattle.yl_indentation.specs.SlimElements.{slim_element}
-use Rattle.yl_indentation.specs.Expected.{begins_line, is_content}
-use Rattle.yl_indentation.specs.Facts.{fact_of, indent_facts}
-use Rattle.yl_indentation.specs.Context.{ContextValue, nothing_open, after, around, expectation_around, fact_here, fact_in, facts_in}
+use Rattle.yl_indentation.specs.Facts.{indent_facts}
+use Rattle.yl_indentation.specs.Context.{ContextValue, nothing_open, after, fact_here, fact_in, facts_in}
 use Rattle.yl_indentation.specs.SymbolFacts.{element_of_symbol, facts_if, after_if, behind_symbol, behind_symbols, facts_left}
 use Rattle.yl_indentation.proofs.LookBack.{facts_suffice}
 use Rattle.yl_indentation.proofs.SlimElements.{slim_facts}
@@ -100,12 +99,11 @@ module _ (tokens : List Token) (indentations : List ℕ) where
 -- ---- none that counts
 
 not_here : (c : ContextValue) (s : Site) → s.counts ≡ false → fact_here c s ≡ []
-not_here c s h =
-    ap (λ b. if b && is_content s.token.kind && begins_line s.token c.latest then fact_of s.token (expectation_around (around c.just_opened c.open_ones) c.latest s.token) else []) h
+not_here c s h = ap (λ b. fact_here c (site s.token s.next s.indentation b)) h
 
 none_at : (kind : Kind) (c : ContextValue) (s : Site) → s.counts ≡ false → fact_in c (slim_element (element_at kind s)) ≡ []
-none_at DocStart c s h = refl
-none_at DocEnd c s h = refl
+none_at DocStart c s h = not_here c (site s.token None 0 s.counts) h
+none_at DocEnd c s h = not_here c (site s.token None 0 s.counts) h
 none_at SeqOpen c s h = not_here c s h
 none_at MapOpen c s h = not_here c s h
 none_at SeqClose c s h = not_here c (site s.token None 0 s.counts) h

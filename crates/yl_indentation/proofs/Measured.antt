@@ -1,19 +1,20 @@
 -- Measures one after another.
 use Rattle.std.proofs.Common.{◌≡◌, refl, sym, ◌∙◌, ap, List, [], ◌∷◌, ◌++◌, append_assoc, Option, Some, None}
+use Rattle.std.specs.Option.{option_or}
 use Rattle.yl_text.specs.Finding.{FindingValue}
 use Rattle.yl_indentation.specs.declared.fact.Fact.{Fact}
 use Rattle.yl_indentation.specs.declared.measure.Measure.{Measure}
 use Rattle.yl_indentation.specs.declared.options.IndentationOptions.{IndentationOptions}
-use Rattle.yl_indentation.specs.Measures.{empty_measure, first, and_later, measure_at, measure_of}
+use Rattle.yl_indentation.specs.Measures.{empty_measure, and_later, measure_at, measure_of}
 use Rattle.yl_indentation.specs.Problems.{facts_of_all, finding_at, indent_problems, document_problems}
 use Rattle.yl_indentation.specs.Laws.{MeasureIsLocal, ProblemsAreByDocuments}
 use Rattle.yl_indentation.specs.Measures.{is_flush}
 
-first_assoc : {X : Type 0} (a b c : Option X) → first (first a b) c ≡ first a (first b c)
+first_assoc : {X : Type 0} (a b c : Option X) → option_or (option_or a b) c ≡ option_or a (option_or b c)
 first_assoc None b c = refl
 first_assoc (Some x) b c = refl
 
-first_none : {X : Type 0} (a : Option X) → first a None ≡ a
+first_none : {X : Type 0} (a : Option X) → option_or a None ≡ a
 first_none None = refl
 first_none (Some x) = refl
 

@@ -1,7 +1,8 @@
 -- The facts of lexemes of a text's first lines stand in these lines.
 use Rattle.std.proofs.Common.{◌<◌, ℕ, ◌+◌, List, [], ◌∷◌, map, Option, Some, None}
-use Rattle.std.specs.Prelude.{⊤, IfSome, slice_get, slice_index, nat_lt}
+use Rattle.std.specs.Prelude.{⊤, IfSome, slice_get, slice_index, nat_lt, option_map, option_to_list}
 use Rattle.std.specs.List.{AllByRecursion}
+use Rattle.std.specs.Option.{option_map_or}
 use Rattle.yl_text.proofs.Every.{all_both, all_got, all_if}
 use Rattle.yl_lexeme.specs.declared.lexeme.Kind.{Kind}
 use Rattle.yl_lexeme.specs.declared.lexeme.Kind.TheVariants.{Directive, DocStart, DocEnd, Entry, Key, Value, Comma, SeqOpen, SeqClose, MapOpen, MapClose, Alias, Anchor, Tag, Scalar}
@@ -14,7 +15,9 @@ use Rattle.yl_indentation.specs.declared.element.Element.TheVariants.{Opening, C
 use Rattle.yl_indentation.specs.declared.fact.Expectation.{Expectation}
 use Rattle.yl_indentation.specs.declared.fact.Fact.{Fact}
 use Rattle.yl_indentation.specs.Elements.{element_at, element_of, lexeme_element}
-use Rattle.yl_indentation.specs.Facts.{expectation_at, fact_at, fact_at_site, fact_of, facts_after, indent_facts, is_checked, latest_lexeme}
+use Rattle.yl_indentation.specs.declared.context.OpenCollection.{OpenCollection}
+use Rattle.yl_indentation.specs.Expected.{expectation_in}
+use Rattle.yl_indentation.specs.Facts.{fact_at, facts_after, indent_facts, latest_lexeme, open_around, site_of}
 
 module _ (rows : ℕ) where
   -- its lexeme, if it is one, begins in these lines
@@ -65,25 +68,26 @@ module _ (rows : ℕ) where
   elements_begin tokens counted indentations [] h = tt
   elements_begin tokens counted indentations (m ∷ ms) h = (element_begins tokens counted indentations m h, elements_begin tokens counted indentations ms h)
 
-  own_fact : (x : Token) (e : Option Expectation) → x.start.line < rows → AllByRecursion Within (fact_of x e)
+  own_fact : (x : Token) (e : Option Expectation) → x.start.line < rows
+      → AllByRecursion Within (option_to_list (option_map (λ o. record { line = x.start.line; column = x.start.col; expectation = o }) e))
   own_fact x None h = tt
   own_fact x (Some e) h = (h, tt)
 
-  own_at_site : (before : List Element) (site : Site) → site.token.start.line < rows → AllByRecursion Within (fact_at_site before site)
-  own_at_site before site h = all_if Within (is_checked site (latest_lexeme before)) _ (own_fact site.token (expectation_at before site.token) h)
+  own_site : (os : List OpenCollection) (latest : Option Token) (site : Site) → site.token.start.line < rows → AllByRecursion Within (fact_at os latest site)
+  own_site os latest site h = all_if Within _ _ (own_fact site.token (expectation_in os latest site.token) h)
 
-  own_at : (before : List Element) (e : Element) → Begins e → AllByRecursion Within (fact_at before e)
-  own_at before (Opening collection column) h = tt
-  own_at before Closing h = tt
-  own_at before (Marker site) h = tt
-  own_at before (OpeningBracket site) h = own_at_site before site h
-  own_at before (ClosingBracket site) h = own_at_site before site h
-  own_at before (Other site) h = own_at_site before site h
-  own_at before Nothing h = tt
+  own_at : (os : List OpenCollection) (latest : Option Token) (e : Element) → Begins e → AllByRecursion Within (option_map_or (fact_at os latest) (site_of e) [])
+  own_at os latest (Opening collection column) h = tt
+  own_at os latest Closing h = tt
+  own_at os latest (Marker site) h = own_site os latest site h
+  own_at os latest (OpeningBracket site) h = own_site os latest site h
+  own_at os latest (ClosingBracket site) h = own_site os latest site h
+  own_at os latest (Other site) h = own_site os latest site h
+  own_at os latest Nothing h = tt
 
   own_after : (before es : List Element) → AllByRecursion Begins es → AllByRecursion Within (facts_after before es)
   own_after before [] h = tt
-  own_after before (e ∷ es) h = all_both Within _ _ (own_at before e h.0) (own_after (e ∷ before) es h.1)
+  own_after before (e ∷ es) h = all_both Within _ _ (own_at (open_around before) (latest_lexeme before) e h.0) (own_after (e ∷ before) es h.1)
 
   pub own_facts : (tokens : List Token) (marks : List Marked) (counted : ℕ) (indentations : List ℕ)
       → AllByRecursion (λ t. t.start.line < rows) tokens → AllByRecursion (λ f. f.line < rows) (indent_facts tokens marks counted indentations)

@@ -1,6 +1,7 @@
 -- Bridge: what the code keeps of the elements before a place.
-use Rattle.std.specs.Prelude.{Bool, true, false, if◌then◌else◌, List, [], ◌∷◌, ◌++◌, Option, Some, None}
+use Rattle.std.specs.Prelude.{Bool, true, false, not, ◌&&◌, ◌||◌, if◌then◌else◌, List, [], ◌∷◌, ◌++◌, Option, Some, None, option_to_list}
 use Rattle.yl_lexeme.specs.Kept.{all_but_first, first_of}
+use Rattle.yl_lexeme.specs.Lexeme.{is_entry, is_key, is_value}
 use Rattle.yl_lexeme.specs.declared.lexeme.Kind.{Kind}
 use Rattle.yl_marks.specs.declared.token.Token.{Token}
 use Rattle.yl_indentation.specs.declared.element.Site.{Site}
@@ -8,11 +9,9 @@ use Rattle.yl_indentation.specs.declared.element.Element.{Element}
 use Rattle.yl_indentation.specs.declared.element.Element.TheVariants.{Opening, Closing, Marker, OpeningBracket, ClosingBracket, Other, Nothing}
 use Rattle.yl_indentation.specs.declared.context.OpenCollection.{OpenCollection}
 use Rattle.yl_indentation.specs.declared.context.OpenCollection.TheVariants.{Block, Brackets}
-use Rattle.yl_indentation.specs.declared.fact.Expectation.{Expectation}
-use Rattle.yl_indentation.specs.declared.fact.Expectation.TheVariants.{At}
 use Rattle.yl_indentation.specs.declared.fact.Fact.{Fact}
-use Rattle.yl_indentation.specs.Expected.{expectation_of_items, expectation_in_brackets, expectation_in_block}
-use Rattle.yl_indentation.specs.Facts.{is_entry_after, fact_of, is_checked}
+use Rattle.yl_indentation.specs.Expected.{expectation_of_items}
+use Rattle.yl_indentation.specs.Facts.{fact_at}
 
 -- the open collections, the innermost first; the latest lexeme; whether a collection opened
 -- directly before the place
@@ -25,9 +24,10 @@ abbrev pub nothing_open : ContextValue
 nothing_open = record { open_ones = []; latest = None; just_opened = false }
 
 abbrev pub brackets : Site → OpenCollection
-brackets site =
-    Brackets site.indentation
-    (expectation_of_items site.token.start.line site.indentation site.next)
+brackets site = Brackets site.indentation (expectation_of_items site)
+
+abbrev pub is_entry_after : Kind → Bool → Bool
+is_entry_after kind before = is_entry kind || (not (is_key kind || is_value kind) && before)
 
 abbrev pub with_lexeme_in : Kind → OpenCollection → OpenCollection
 with_lexeme_in kind (Block collection column in_entries) =
@@ -76,23 +76,13 @@ after e c = record {
 abbrev pub around : Bool → List OpenCollection → Option OpenCollection
 around just_opened os = if just_opened then first_of (all_but_first os) else first_of os
 
-abbrev pub expectation_around : Option OpenCollection → Option Token → Token → Option Expectation
-expectation_around None before x = Some (At 0)
-expectation_around (Some (Block collection column in_entries)) before x =
-    expectation_in_block collection column in_entries x
-expectation_around (Some (Brackets indentation items)) before x =
-    expectation_in_brackets indentation items before x
-
 abbrev pub fact_here : ContextValue → Site → List Fact
-fact_here c site =
-    if is_checked site c.latest
-    then fact_of site.token
-    (expectation_around (around c.just_opened c.open_ones) c.latest site.token) else []
+fact_here c site = fact_at (option_to_list (around c.just_opened c.open_ones)) c.latest site
 
 abbrev pub fact_in : ContextValue → Element → List Fact
 fact_in c (Opening collection column) = []
 fact_in c Closing = []
-fact_in c (Marker site) = []
+fact_in c (Marker site) = fact_here c site
 fact_in c (OpeningBracket site) = fact_here c site
 fact_in c (ClosingBracket site) = fact_here c site
 fact_in c (Other site) = fact_here c site

@@ -27,37 +27,27 @@ abbrev pub width_by_spaces : Spaces → Bool → Measure → Option ℕ
 width_by_spaces (Every n) with_entries here = Some n
 width_by_spaces _ with_entries here = if with_entries then here.step_with_entries else here.step
 
-abbrev pub indentation_width : IndentationOptions → Measure → Bool → Option ℕ
-indentation_width options here flush =
-    width_by_spaces options.spaces (is_indented options.indent_sequences flush false) here
-
 abbrev pub not_as_expected : ℕ → Fact → List FindingValue
-not_as_expected e f =
-    if e == f.column then []
-    else one_finding Indentation (f.line + 1) (f.column + 1) (codes "wrong indentation: expected "
-    ++ (decimal e ++ (codes " but found " ++ decimal f.column)))
-
-abbrev pub not_beyond : ℕ → Fact → List FindingValue
-not_beyond e f =
-    if nat_lt f.column e
-    then one_finding Indentation (f.line + 1) (f.column + 1)
-    (codes "wrong indentation: expected at least " ++ decimal e) else []
+not_as_expected e f = if e == f.column then [] else one_finding Indentation (f.line + 1) (f.column + 1)
+    (codes "wrong indentation: expected " ++ (decimal e ++ (codes " but found " ++ decimal f.column)))
 
 abbrev pub finding_by_width : Option ℕ → ℕ → Fact → List FindingValue
-finding_by_width None base f = not_beyond (base + 1) f
+finding_by_width None base f =
+    if nat_lt f.column (base + 1) then one_finding Indentation (f.line + 1) (f.column + 1)
+    (codes "wrong indentation: expected at least " ++ decimal (base + 1)) else []
 finding_by_width (Some w) base f = not_as_expected (base + w) f
 
 abbrev pub finding_by : IndentSequences → Bool → Option ℕ → Fact → Expectation → List FindingValue
 finding_by choice flush width f (At e) = not_as_expected e f
 finding_by choice flush width f (Beyond base) = finding_by_width width base f
 finding_by choice flush width f (EntryIn base) =
-    if is_indented choice flush (f.column == base) then finding_by_width width base f
-    else not_as_expected base f
+    if is_indented choice flush (f.column == base) then finding_by_width width base f else not_as_expected base f
 
 -- here: the measure of the text's facts up to this one
 abbrev pub finding_at : IndentationOptions → Measure → Bool → Fact → List FindingValue
 finding_at options here flush f =
-    finding_by options.indent_sequences flush (indentation_width options here flush) f f.expectation
+    let choice = options.indent_sequences in
+    finding_by choice flush (width_by_spaces options.spaces (is_indented choice flush false) here) f f.expectation
 
 -- the problems of a document's facts, by the measure of the facts before them and that of the whole
 -- text

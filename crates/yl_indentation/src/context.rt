@@ -1,9 +1,11 @@
 //! What is kept of the elements before a place.
-ghost use Rattle.std.specs.Prelude.{◌≡◌, ◌++◌, OnOk, reverse};
-ghost use Rattle.std.specs.Option.{option_to_list};
-ghost use Rattle.yl_indentation.specs.Facts.{is_entry_after, is_checked};
+ghost use Rattle.std.specs.Prelude.{◌≡◌, ◌++◌, ◌&&◌, ◌||◌, not, nat_lt, true, OnOk, reverse};
+ghost use Rattle.std.specs.Option.{option_map_or, option_to_list};
+ghost use Rattle.yl_lexeme.specs.Directives.{is_directive};
+ghost use Rattle.yl_lexeme.specs.Lexeme.{is_document_marker};
+ghost use Rattle.yl_indentation.specs.Expected.{expectation_in};
 ghost use Rattle.yl_indentation.specs.declared.element.Element.TheVariants.{Other};
-ghost use Rattle.yl_indentation.specs.Context.{nothing_open, with_lexeme_in, with_lexeme, open_after, after, around, expectation_around, fact_here, fact_in};
+ghost use Rattle.yl_indentation.specs.Context.{nothing_open, is_entry_after, with_lexeme_in, with_lexeme, open_after, after, around, fact_here, fact_in};
 
 use crate::element::{Element, Site};
 use crate::expected::{
@@ -77,7 +79,7 @@ fn pass_open<A: Allocator>(
             collections.push(OpenCollection::Block(collection, column, false))?;
         }
         Element::OpeningBracket(site) => {
-            let items = expectation_of_items(site.token.start.line, site.indentation, site.next);
+            let items = expectation_of_items(site);
             collections.push(OpenCollection::Brackets(site.indentation, items))?;
         }
         Element::Closing | Element::ClosingBracket(_) => {
@@ -105,7 +107,7 @@ fn expectation_around(
     latest: Option<Token>,
     token: Token,
 ) -> Option<Expectation>
-    ensures { result ≡ expectation_around around latest token }
+    ensures { result ≡ expectation_in (option_to_list around) latest token }
 {
     match around {
         None => Some(Expectation::At(0)),
@@ -119,7 +121,9 @@ fn expectation_around(
 }
 
 fn is_checked(site: Site, latest: Option<Token>) -> bool
-    ensures { result ≡ is_checked site latest }
+    ensures { result ≡ (site.counts
+        && not (is_document_marker site.token.kind || is_directive site.token.kind)
+        && option_map_or (λ l. nat_lt l.end_line site.token.start.line) latest true) }
 {
     site.counts && is_content(site.token.kind) && begins_line(site.token, latest)
 }
@@ -196,8 +200,10 @@ impl<A: Allocator> Context<A> {
         ensures { option_to_list result ≡ fact_in self.now element }
     {
         match element {
-            Element::OpeningBracket(site) | Element::ClosingBracket(site) | Element::Other(site) =>
-                { self.fact_here(site) }
+            Element::Marker(site)
+            | Element::OpeningBracket(site)
+            | Element::ClosingBracket(site)
+            | Element::Other(site) => self.fact_here(site),
             _ => None,
         }
     }

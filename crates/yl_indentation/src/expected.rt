@@ -1,14 +1,19 @@
 //! Where the first lexeme of a line is expected.
-ghost use Rattle.std.specs.Prelude.{◌≡◌};
-ghost use Rattle.yl_indentation.specs.Expected.{begins_line, is_content, is_after_freeing, expectation_of_items, expectation_in_brackets, expectation_in_block};
+ghost use Rattle.std.specs.Prelude.{◌≡◌, ◌||◌, not, nat_lt, true, false, [], ◌∷◌, None};
+ghost use Rattle.std.specs.Option.{option_map_or};
+ghost use Rattle.yl_lexeme.specs.Directives.{is_directive};
+ghost use Rattle.yl_lexeme.specs.Lexeme.{is_document_marker, is_key, is_value, is_property};
+ghost use Rattle.yl_indentation.specs.declared.context.OpenCollection.TheVariants.{Block, Brackets};
+ghost use Rattle.yl_indentation.specs.Expected.{expectation_of_items, expectation_in};
 
+use crate::element::Site;
 use crate::fact::Expectation;
 use yl_lexeme::Kind;
 use yl_marks::{Collection, Token};
 
 /// Whether the lexeme before it ends in an earlier line.
 pub fn begins_line(token: Token, latest: Option<Token>) -> bool
-    ensures { result ≡ begins_line token latest }
+    ensures { result ≡ option_map_or (λ l. nat_lt l.end_line token.start.line) latest true }
 {
     match latest {
         None => true,
@@ -16,14 +21,17 @@ pub fn begins_line(token: Token, latest: Option<Token>) -> bool
     }
 }
 
+/// Neither `---`, `...` nor a directive.
 pub fn is_content(kind: Kind) -> bool
-    ensures { result ≡ is_content kind }
+    ensures { result ≡ not (is_document_marker kind || is_directive kind) }
 {
     !matches!(kind, Kind::DocStart | Kind::DocEnd | Kind::Directive)
 }
 
+/// Whether a lexeme may stand anywhere after this one.
 fn is_after_freeing(latest: Option<Token>) -> bool
-    ensures { result ≡ is_after_freeing latest }
+    ensures { result
+        ≡ option_map_or (λ l. is_key l.kind || is_value l.kind || is_property l.kind) latest false }
 {
     match latest {
         None => false,
@@ -34,14 +42,13 @@ fn is_after_freeing(latest: Option<Token>) -> bool
     }
 }
 
-/// Where items are expected in brackets that open in this line, which begins with so many spaces.
-/// `next` follows the opening bracket.
-pub fn expectation_of_items(line: u32, indentation: u32, next: Option<Token>) -> Expectation
-    ensures { result ≡ expectation_of_items line indentation next }
+/// Where items are expected in the brackets that open here.
+pub fn expectation_of_items(site: Site) -> Expectation
+    ensures { result ≡ expectation_of_items site }
 {
-    match next {
-        Some(next) if next.start.line == line => Expectation::At(next.start.col),
-        _ => Expectation::Beyond(indentation),
+    match site.next {
+        Some(next) if next.start.line == site.token.start.line => Expectation::At(next.start.col),
+        _ => Expectation::Beyond(site.indentation),
     }
 }
 
@@ -51,7 +58,7 @@ pub fn expectation_in_brackets(
     latest: Option<Token>,
     token: Token,
 ) -> Option<Expectation>
-    ensures { result ≡ expectation_in_brackets indentation items latest token }
+    ensures { result ≡ expectation_in (Brackets indentation items ∷ []) latest token }
 {
     match token.kind {
         Kind::SeqClose | Kind::MapClose => Some(Expectation::At(indentation)),
@@ -69,7 +76,7 @@ pub fn expectation_in_block(
     in_entries: bool,
     token: Token,
 ) -> Option<Expectation>
-    ensures { result ≡ expectation_in_block collection column in_entries token }
+    ensures { result ≡ expectation_in (Block collection column in_entries ∷ []) None token }
 {
     let at = token.start.col;
     match (token.kind, collection) {

@@ -1,6 +1,7 @@
 //! What the facts of a text decide for all of it.
 ghost use Rattle.std.specs.Prelude.{◌≡◌, ◌-◌, true};
-ghost use Rattle.yl_indentation.specs.Measures.{empty_measure, first, and_later, positive_step, measure_at, measure_of, is_flush};
+ghost use Rattle.std.specs.Option.{option_or};
+ghost use Rattle.yl_indentation.specs.Measures.{empty_measure, and_later, positive_step, measure_at, measure_of, is_flush};
 
 use crate::fact::{Expectation, Fact};
 
@@ -19,7 +20,7 @@ pub struct Measure {
 
 /// The earlier one, if there is one.
 fn first<T: Copy>(earlier: Option<T>, later: Option<T>) -> Option<T>
-    ensures { result ≡ first earlier later }
+    ensures { result ≡ option_or earlier later }
 {
     match earlier {
         None => later,

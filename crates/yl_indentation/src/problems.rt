@@ -1,6 +1,8 @@
 //! The problems of the rule indentation.
-ghost use Rattle.std.specs.Prelude.{◌≡◌, ◌++◌, codes, decimal, IfOk, OnOk, string_bytes};
-ghost use Rattle.yl_indentation.specs.Problems.{is_indented, indentation_width, not_as_expected, not_beyond, finding_by_width, finding_by, finding_at, indent_problems};
+ghost use Rattle.std.specs.Prelude.{◌≡◌, ◌++◌, ◌+◌, [], codes, decimal, false, if◌then◌else◌, nat_lt, IfOk, OnOk, string_bytes};
+ghost use Rattle.yl_text.specs.declared.finding.RuleId.TheVariants.{Indentation};
+ghost use Rattle.yl_text.specs.Finding.{one_finding};
+ghost use Rattle.yl_indentation.specs.Problems.{is_indented, width_by_spaces, not_as_expected, finding_by_width, finding_by, finding_at, indent_problems};
 
 use crate::fact::{Expectation, Fact};
 use crate::measure::Measure;
@@ -23,7 +25,8 @@ fn is_indented(choice: IndentSequences, flush: bool, at_base: bool) -> bool
 
 /// The width at a place, where `here` is the measure of the facts up to it.
 fn width(options: &IndentationOptions, here: Measure, flush: bool) -> Option<u32>
-    ensures { result ≡ indentation_width options.now here flush }
+    ensures { result ≡ width_by_spaces options.now.spaces
+        (is_indented options.now.indent_sequences flush false) here }
 {
     match options.spaces {
         Spaces::Every(width) => Some(width),
@@ -92,7 +95,9 @@ fn push_not_beyond<A: Allocator + Copy>(
     fact: Fact,
     found: &mut Vec<Finding<A>, A>,
 ) -> Result<(), AllocError>
-    ensures { OnOk result (found.new.items ≡ found.old.items ++ not_beyond least fact) }
+    ensures { OnOk result (found.new.items ≡ found.old.items
+        ++ (if nat_lt fact.column least then one_finding Indentation (fact.line + 1) (fact.column + 1)
+        (codes "wrong indentation: expected at least " ++ decimal least) else [])) }
 {
     let Fact { line, column, .. } = fact;
     if least <= u64::from(column) {

@@ -29,10 +29,8 @@ is_value_next [] = false
 is_value_next (p ∷ ps) = is_some p.key
 
 abbrev pub facts_at : List Marking → Marking → List KeyedToken → KeyFacts
-facts_at before m after = record {
-  is_key = is_value_next after || end_in_key before;
-  has_tag = not m.begins_key && end_in_tag before;
-}
+facts_at before m after =
+    record { is_key = is_value_next after || end_in_key before; has_tag = not m.begins_key && end_in_tag before }
 
 -- the facts of the lexemes from this index on
 abbrev pub facts_from : List KeyedToken → List Marking → ℕ → List KeyedToken → List KeyFacts

@@ -1,6 +1,7 @@
 -- Meaning: keys, and where they may begin: YAML 1.2.2, 7.4.2 and 8.2.2. Earlier lexemes are listed
 -- with the latest first.
-use Rattle.std.specs.Prelude.{ℕ, Bool, true, false, ◌&&◌, ◌||◌, ◌==◌, nat_lt, if◌then◌else◌, List, [], ◌∷◌, ◌+◌, ◌-◌, length, Option, Some, None}
+use Rattle.std.specs.Prelude.{ℕ, Bool, true, false, ◌&&◌, ◌||◌, ◌==◌, nat_lt, if◌then◌else◌, List, [], ◌∷◌, ◌+◌, ◌-◌, length, Option, Some, None, option_map, option_and_then}
+use Rattle.std.specs.Option.{option_map_or}
 use Rattle.yl_lexeme.specs.declared.lexeme.Kind.{Kind}
 use Rattle.yl_lexeme.specs.Lexeme.{LexemeValue, is_document_marker, is_opening, is_closing, is_value}
 use Rattle.yl_lexeme.specs.Past.{opens_item, asks_behind, is_near}
@@ -29,21 +30,14 @@ depth (x ∷ xs) = depth_behind x.kind (depth xs)
 
 -- of the latest lexeme: neither it nor an earlier one ends in this line
 abbrev pub is_first : ℕ → Option KeyedToken → Bool
-is_first line None = true
-is_first line (Some x) = nat_lt x.end_line line
+is_first line latest = option_map_or (λ x. nat_lt x.end_line line) latest true
 
-abbrev pub is_behind_flow : Option KeyedToken → Bool
-is_behind_flow None = false
-is_behind_flow (Some x) = opens_item (Some x.kind)
-
--- of the latest lexeme: it is an Entry, a Key, or a Value without key in this line
-abbrev pub is_behind_indicator : ℕ → Option KeyedToken → Bool
-is_behind_indicator line None = false
-is_behind_indicator line (Some x) = x.start.line == line && asks_behind x.kind x.key
-
--- a key may begin in this line, in so many brackets, behind the latest lexeme
+-- a key may begin in this line, in so many brackets, behind the latest lexeme: in brackets as an item, else as the first of the
+-- line or behind an Entry, a Key, or a Value without key in this line
 abbrev pub may_begin : ℕ → ℕ → Option KeyedToken → Bool
-may_begin line depth latest = if nat_lt 0 depth then is_behind_flow latest else is_first line latest || is_behind_indicator line latest
+may_begin line depth latest =
+    if nat_lt 0 depth then opens_item (option_map (λ x. x.kind) latest)
+    else is_first line latest || option_map_or (λ x. x.start.line == line && asks_behind x.kind x.key) latest false
 
 -- the place of a lexeme with so many before it, if a key may begin at it
 abbrev pub place_of : ℕ → KeyedToken → Option KeyStart
@@ -56,8 +50,7 @@ tokens_of_line line (x ∷ xs) = if x.start.line == line then record { kind = x.
 
 -- of a Value in this column, how many lexemes stand before its key, which begins at most 1024 characters before it
 abbrev pub key_at : ℕ → Option KeyStart → Option ℕ
-key_at column None = None
-key_at column (Some key) = if is_near column key.column then Some key.index else None
+key_at column key = option_and_then (λ k. if is_near column k.column then Some k.index else None) key
 
 -- a lexeme in so many brackets, behind the latest lexeme, where such a key would begin
 abbrev pub keyed_token_at : Token → ℕ → Option KeyedToken → Option KeyStart → KeyedToken

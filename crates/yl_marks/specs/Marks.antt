@@ -2,6 +2,7 @@
 -- lexemes (YAML 1.2.2, 8.2).
 use Rattle.std.specs.Prelude.{ℕ, suc, ◌≡◌, ◌<◌, ◌+◌, Bool, true, false, not, ◌&&◌, ◌||◌, ◌==◌, nat_lt, if◌then◌else◌, List, [], ◌∷◌, ◌++◌, map, Option, Some, None, is_some, slice_get, slice_index_or, length}
 use Rattle.std.specs.List.{list_any}
+use Rattle.std.specs.Option.{option_map_or}
 use Rattle.yl_lexeme.specs.Lexeme.{LexemeValue, is_document_marker, is_entry, is_key, is_value}
 use Rattle.yl_marks.specs.declared.symbol.Symbol.{Symbol}
 use Rattle.yl_marks.specs.declared.symbol.Symbol.TheVariants.{OpenSequence, OpenMapping, BeginKey, Close, One}
@@ -25,8 +26,7 @@ continues m c = is_entry m.piece.kind || (c.is_mapping && is_in_mapping m)
 -- it closes the collection
 abbrev pub closes_collection : Marking → OpenBlock → Bool
 closes_collection m c =
-    is_document_marker m.piece.kind
-    || (m.piece.depth == 0 && m.piece.is_first
+    is_document_marker m.piece.kind || (m.piece.depth == 0 && m.piece.is_first
     && (nat_lt m.piece.start.col c.column || (c.column == m.piece.start.col && not (continues m c))))
 
 -- the collections that it leaves open, the innermost first, and a Close for each other
@@ -48,22 +48,18 @@ abbrev pub collection_to_open : Marking → List OpenBlock → Option Bool
 collection_to_open m cs =
     if nat_lt 0 m.piece.depth || is_document_marker m.piece.kind then None
     else if is_in_mapping m && not (is_in true m.piece.start.col cs) then Some true
-    else if is_entry m.piece.kind && not (is_in false m.piece.start.col cs) then Some false
-    else None
+    else if is_entry m.piece.kind && not (is_in false m.piece.start.col cs) then Some false else None
 
 abbrev pub with_collection : Option Bool → ℕ → List OpenBlock → List OpenBlock
 with_collection None column cs = cs
 with_collection (Some mapping) column cs = record { is_mapping = mapping; column = column } ∷ cs
 
 abbrev pub opening : Option Bool → ℕ → List Symbol
-opening None i = []
-opening (Some true) i = OpenMapping i ∷ []
-opening (Some false) i = OpenSequence i ∷ []
+opening new i = option_map_or (λ mapping. if mapping then OpenMapping i ∷ [] else OpenSequence i ∷ []) new []
 
 -- some Value's key begins at the lexeme of this index
 abbrev pub is_at : ℕ → Option ℕ → Bool
-is_at i None = false
-is_at i (Some k) = k == i
+is_at i key = option_map_or (λ k. k == i) key false
 
 abbrev pub begins_key : ℕ → List KeyedToken → Bool
 begins_key i xs = list_any (λ p. is_at i p.key) xs
@@ -74,12 +70,10 @@ pub record AreBegins (begins : List Bool) (first : ℕ) (xs : List KeyedToken) :
   pub each : (i : ℕ) → i < length xs → slice_index_or begins i false ≡ begins_key (first + i) xs
 
 abbrev pub key_mark : Bool → ℕ → List Symbol
-key_mark false i = []
-key_mark true i = BeginKey i ∷ []
+key_mark begins i = if begins then BeginKey i ∷ [] else []
 
 abbrev pub closings_of_all : List OpenBlock → List Symbol
-closings_of_all [] = []
-closings_of_all (c ∷ cs) = Close ∷ closings_of_all cs
+closings_of_all cs = map (λ c. Close) cs
 
 -- a lexeme of this index with the marks before it, and the collections that are open behind it
 abbrev pub marks_at : Marking → ℕ → List OpenBlock → List Symbol
@@ -111,13 +105,9 @@ symbols_of_lexemes xs = symbols_of_tokens (map token_of xs)
 
 -- ---- as callers see them
 
-abbrev pub column_of : Option Token → ℕ
-column_of None = 0
-column_of (Some x) = x.start.col
-
 -- a collection opens in the column of the lexeme before which it opens
 abbrev pub column_at : List Token → ℕ → ℕ
-column_at xs i = column_of (slice_get xs i)
+column_at xs i = option_map_or (λ x. x.start.col) (slice_get xs i) 0
 
 -- the same marks; whether a key unit begins at a lexeme stands with the lexeme
 abbrev pub as_marked : List Token → Bool → List Symbol → List Marked

@@ -1,10 +1,12 @@
 //! Keys, and where they may begin.
 
-ghost use Rattle.std.specs.Prelude.{◌≡◌, ◌<◌, ◌≤◌, ◌+◌, ◌-◌, ◌^◌, [], length, drop, false, OnOk, IfOk, if◌then◌else◌};
+ghost use Rattle.std.specs.Prelude.{◌≡◌, ◌<◌, ◌≤◌, ◌+◌, ◌-◌, ◌^◌, [], length, drop, false, OnOk, IfOk, if◌then◌else◌, ◌&&◌, ◌==◌, option_map};
 ghost use Rattle.std.specs.List.{list_any};
+ghost use Rattle.std.specs.Option.{option_map_or};
 ghost use Rattle.yl_lexeme.specs.Lexeme.{is_value};
 ghost use Rattle.yl_lexeme.specs.Kept.{key_unit_behind};
-ghost use Rattle.yl_marks.specs.Keys.{depth_behind, is_first, is_behind_flow, is_behind_indicator, may_begin, place_of, key_at, keyed_token_at};
+ghost use Rattle.yl_lexeme.specs.Past.{opens_item, asks_behind};
+ghost use Rattle.yl_marks.specs.Keys.{depth_behind, is_first, may_begin, place_of, key_at, keyed_token_at};
 ghost use Rattle.yl_marks.specs.ByLine.{line_pieces, IsBehind};
 
 use crate::symbol::{Earlier, KeyStart, KeyedToken};
@@ -39,7 +41,7 @@ fn is_first(line: u32, latest: Option<KeyedToken>) -> bool
 }
 
 fn is_behind_flow(latest: Option<KeyedToken>) -> bool
-    ensures { result ≡ is_behind_flow latest }
+    ensures { result ≡ opens_item (option_map (λ x. x.kind) latest) }
 {
     match latest {
         None => false,
@@ -48,7 +50,8 @@ fn is_behind_flow(latest: Option<KeyedToken>) -> bool
 }
 
 fn is_behind_indicator(line: u32, latest: Option<KeyedToken>) -> bool
-    ensures { result ≡ is_behind_indicator line latest }
+    ensures { result
+        ≡ option_map_or (λ x. x.start.line == line && asks_behind x.kind x.key) latest false }
 {
     match latest {
         None => false,

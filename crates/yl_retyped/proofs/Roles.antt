@@ -1,5 +1,5 @@
 -- The events of a document before and after a value is typed anew are alike: what stands behind an entry's or a value's indicator is no key.
-use Rattle.std.specs.Prelude.{ℕ, ◌≡◌, ◌<◌, refl, Bool, true, false, not, ◌&&◌, if◌then◌else◌, List, [], ◌∷◌, ◌++◌, map, Option, Some, None}
+use Rattle.std.specs.Prelude.{ℕ, ◌≡◌, ◌<◌, refl, Bool, true, false, not, ◌&&◌, if◌then◌else◌, List, [], ◌∷◌, ◌++◌, map, Option, Some, None, option_map}
 use Rattle.std.proofs.Common.{sym, ◌∙◌, ap, subst, append_assoc, arith, ⊎_elim}
 use Rattle.std.proofs.lemmas.Bool.{cases_order}
 use Rattle.yl_lexeme.specs.declared.lexeme.Kind.{Kind}
@@ -19,7 +19,7 @@ use Rattle.yl_events.specs.declared.symbol.Where.TheVariants.{InInline, InBlock}
 use Rattle.yl_events.specs.declared.symbol.Goal.{Goal}
 use Rattle.yl_events.specs.declared.symbol.Goal.TheVariants.{Prefix, Directives, Ending, Formed, Entries, Indentless, Pairs, ValueOf, Colon, Items, ItemEnd, PairEnd, NodeEnd}
 use Rattle.yl_events.specs.Outlines.{bare_event, node_event, end_event, ◌then◌}
-use Rattle.yl_events.specs.Event.{EventValue, value_of, start_of, value_at, start_at, kind_of, place_of, anchor_of, event_of_outline}
+use Rattle.yl_events.specs.Event.{EventValue, value_of, start_of, value_at, start_at, kind_of, anchor_of, event_of_outline}
 use Rattle.yl_events.specs.Machine as m
 use Rattle.yl_events.specs.Machine.{Turn, ParserState, node_turn, takes, leaves, step, finish, run, parse}
 use Rattle.yl_events.proofs.Answered.{complete}
@@ -138,7 +138,7 @@ same_start n xs ys d i = ⊎_elim
     (λ h. ⊎_elim (λ (g : i < n). ap start_of (d.others i (λ e. omega arith))) (λ (g : n < i). ap start_of (d.others i (λ e. omega arith))) h)
     (cases_order i n)
 
-same_place : (n : ℕ) (xs ys : List LexemeValue) → DifferAt n xs ys → (p : Option ℕ) → place_of xs p ≡ place_of ys p
+same_place : (n : ℕ) (xs ys : List LexemeValue) → DifferAt n xs ys → (p : Option ℕ) → option_map (start_at xs) p ≡ option_map (start_at ys) p
 same_place n xs ys d None = refl
 same_place n xs ys d (Some i) = ap Some (same_start n xs ys d i)
 

@@ -1,6 +1,6 @@
 -- What is kept of a section stands in its own lines: what is found in it, its facts and its comments.
 use Rattle.std.proofs.Common.{◌≡◌, ◌<◌, ◌≤◌, ℕ, ◌+◌, Bool, true, false, List, [], ◌∷◌, length, map, take, Option, Some, None, arith, refl}
-use Rattle.std.specs.Prelude.{IfSome, slice_get}
+use Rattle.std.specs.Prelude.{IfSome, option_map, slice_get}
 use Rattle.std.specs.List.{AllByRecursion, flat_map}
 use Rattle.std.specs.Str.{chars}
 use Rattle.std.proofs.lemmas.List.{length-take}
@@ -14,7 +14,7 @@ use Rattle.yl_marks.specs.Keys.{lexeme_at_line, token_of}
 use Rattle.yl_marks.specs.Marks.{marked_lexemes}
 use Rattle.yl_events.specs.declared.symbol.Outline.{Outline}
 use Rattle.yl_events.specs.DocumentOutcome.{DocumentOutcome, Events, Fails}
-use Rattle.yl_events.specs.Event.{EventValue, anchor_of, event_of_outline, place_of, start_at, start_of}
+use Rattle.yl_events.specs.Event.{EventValue, anchor_of, event_of_outline, start_at, start_of}
 use Rattle.yl_events.specs.Parsing.{parser_at_start, start_events, document_outcome_of_lines}
 use Rattle.yl_layout.proofs.Own.{OfLexemeRules, own_lexemes}
 use Rattle.yl_indentation.specs.declared.fact.Fact.{Fact}
@@ -69,7 +69,7 @@ module _ (high : ℕ) (xs : List LexemeValue) (z : 0 < high) (h : AllByRecursion
   lexeme_begins : (i : ℕ) → (start_at xs i).line < high
   lexeme_begins i = start_begins high (slice_get xs i) z (all_got (λ (x : LexemeValue). x.start.line < high) xs i h)
 
-  place_begins : (i : Option ℕ) → IfSome (place_of xs i) (λ p. p.line < high)
+  place_begins : (i : Option ℕ) → IfSome (option_map (start_at xs) i) (λ p. p.line < high)
   place_begins None = tt
   place_begins (Some i) = lexeme_begins i
 
