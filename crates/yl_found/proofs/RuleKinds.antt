@@ -5,6 +5,7 @@ use Rattle.std.specs.List.{AllByRecursion, prefix_len}
 use Rattle.std.specs.Str.{chars}
 use Rattle.std.proofs.lemmas.Bool.{and_parts}
 use Rattle.yl_text.proofs.Every.{all_both, all_then}
+use Rattle.yl_text.specs.Character.{starts_by}
 use Rattle.yl_text.specs.Finding.{FindingValue, one_finding, at_each}
 use Rattle.yl_text.specs.Lines.{RowValue}
 use Rattle.yl_text.specs.declared.finding.RuleId.{RuleId}
@@ -21,10 +22,10 @@ use Rattle.yl_indentation.specs.Problems.{finding_at, finding_by, finding_by_wid
 use Rattle.yl_rules.specs.declared.empty_lines.EmptyLinesOptions.{EmptyLinesOptions}
 use Rattle.yl_rules.specs.declared.new_lines.NewLine.{NewLine}
 use Rattle.yl_rules.specs.declared.options.RowOptions.{RowOptions}
-use Rattle.yl_rules.specs.EmptyLines.{is_break_only, goes_on, is_text_end, max_run, too_many_blank_lines, empty_lines_at, empty_lines, run_findings_of}
+use Rattle.yl_rules.specs.EmptyLines.{is_break_only, is_text_end, too_many_blank_lines, empty_lines_at, empty_lines, run_findings_of}
 use Rattle.yl_rules.specs.EndOfFile.{end_of_file_at, end_of_file}
 use Rattle.yl_rules.specs.LineLength.{line_length}
-use Rattle.yl_rules.specs.NewLines.{new_lines, new_lines_at}
+use Rattle.yl_rules.specs.NewLines.{new_lines}
 use Rattle.yl_rules.specs.Rows.{row_findings}
 use Rattle.yl_rules.specs.Runs.{run_findings}
 use Rattle.yl_rules.specs.TrailingSpaces.{trailing_spaces}
@@ -88,7 +89,7 @@ run_of : (o : EmptyLinesOptions) (run line : ℕ) (on at_end : Bool) → AreOf i
 run_of o run line true at_end = tt
 run_of o run line false at_end = judged (line == 1 && at_end)
   where
-    judged : (b : Bool) → AreOf is_of_lines (if b then [] else too_many_blank_lines run (max_run o (run == line) at_end) line)
+    judged : (b : Bool) → AreOf is_of_lines (if b then [] else too_many_blank_lines run (if at_end then o.max_end else if run == line then o.max_start else o.max) line)
     judged true = tt
     judged false = unless_of is_of_lines _ line _ _ _ refl
 
@@ -96,11 +97,11 @@ empty_lines_of : (o : EmptyLinesOptions) (before rows : List RowValue) → AreOf
 empty_lines_of o before [] = tt
 empty_lines_of o before (row ∷ rows) =
     both_of is_of_lines (empty_lines_at o before row rows) (at_each (empty_lines_at o) (row ∷ before) rows)
-    (run_of o (prefix_len is_break_only (row ∷ before)) (length before + 1) (prefix_len is_break_only (row ∷ before) == 0 || goes_on rows) (is_text_end rows)) (empty_lines_of o (row ∷ before) rows)
+    (run_of o (prefix_len is_break_only (row ∷ before)) (length before + 1) (prefix_len is_break_only (row ∷ before) == 0 || starts_by is_break_only rows) (is_text_end rows)) (empty_lines_of o (row ∷ before) rows)
 
-new_lines_of : (wanted : NewLine) (o : Option RowValue) → AreOf is_of_lines (new_lines_at wanted o)
-new_lines_of wanted None = tt
-new_lines_of wanted (Some row) = when_of is_of_lines _ 1 _ _ _ refl
+new_lines_of : (wanted : NewLine) (rows : List RowValue) → AreOf is_of_lines (new_lines wanted rows)
+new_lines_of wanted [] = tt
+new_lines_of wanted (row ∷ rows) = when_of is_of_lines _ 1 _ _ _ refl
 
 end_of : (line : ℕ) (o : Option RowValue) → AreOf is_of_lines (end_of_file_at line o)
 end_of line None = tt
@@ -109,7 +110,7 @@ end_of line (Some row) = unless_of is_of_lines _ line _ _ _ refl
 pub in_lines_of : (o : RuleOptions) (rows : List RowValue) → AreOf is_of_lines (findings_in_lines o rows)
 in_lines_of o rows =
     both_of is_of_lines (findings_from o.row 1 rows) (run_findings o.run rows) (rows_of o.row 1 rows)
-    (both_of is_of_lines (new_lines o.run.new_line rows) (empty_lines o.run.empty_lines rows ++ end_of_file rows) (new_lines_of o.run.new_line (slice_get rows 0))
+    (both_of is_of_lines (new_lines o.run.new_line rows) (empty_lines o.run.empty_lines rows ++ end_of_file rows) (new_lines_of o.run.new_line rows)
     (both_of is_of_lines (empty_lines o.run.empty_lines rows) (end_of_file rows) (empty_lines_of o.run.empty_lines [] rows) (end_of (length rows) (slice_get rows (length rows - 1)))))
 
 items_of : (b : Bool) (fs : List FindingValue) → AreOf is_of_lines fs → AreOf is_of_lines (items_if b fs)
@@ -122,7 +123,7 @@ lines_there_of o e rows =
     let n = new_lines o.run.new_line rows in
     let z = end_of_file rows in
     both_of is_of_lines (findings_from o.row 1 rows) (items_if e.begins n ++ (empty_lines o.run.empty_lines rows ++ items_if e.ends z)) (rows_of o.row 1 rows)
-    (both_of is_of_lines (items_if e.begins n) (empty_lines o.run.empty_lines rows ++ items_if e.ends z) (items_of e.begins n (new_lines_of o.run.new_line (slice_get rows 0)))
+    (both_of is_of_lines (items_if e.begins n) (empty_lines o.run.empty_lines rows ++ items_if e.ends z) (items_of e.begins n (new_lines_of o.run.new_line rows))
     (both_of is_of_lines (empty_lines o.run.empty_lines rows) (items_if e.ends z) (empty_lines_of o.run.empty_lines [] rows) (items_of e.ends z (end_of (length rows) (slice_get rows (length rows - 1))))))
 
 -- ---- sections

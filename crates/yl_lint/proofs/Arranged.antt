@@ -12,10 +12,10 @@ use Rattle.yl_text.specs.Finding.{FindingValue}
 use Rattle.yl_text.specs.declared.finding.RuleId.{RuleId}
 use Rattle.yl_rules.specs.declared.level.Level.{Level}
 use Rattle.yl_rules.specs.Levels.{LevelTable}
-use Rattle.yl_report.specs.Report.{ProblemValue, finding_order, order_in_line, insert_by, insert_once, sorted_once, is_reported, is_syntax, with_level, report_of}
+use Rattle.yl_report.specs.Report.{ProblemValue, finding_order, order_in_line, insert_once, sorted_once, is_reported, is_syntax, with_level, report_of}
 use Rattle.yl_report.proofs.Unique.{one_arrangement}
 use Rattle.yl_report.proofs.Filtered.{all_filter, filter_in, in_filter}
-use Rattle.yl_report.proofs.Inserted.{sorted_once_arranged}
+use Rattle.yl_report.proofs.Inserted.{insert_by, sorted_once_arranged}
 use Rattle.yl_report.proofs.Unique.{In, in_from, from_in}
 use Rattle.yl_lint.specs.TextReport.{moved}
 

@@ -5,14 +5,15 @@ use Rattle.std.specs.List.{AllByRecursion, filter, slice_get, prefix_len}
 use Rattle.std.specs.Str.{chars}
 use Rattle.std.proofs.lemmas.List.Elements.{filter-append}
 use Rattle.yl_text.specs.declared.finding.RuleId.{RuleId}
+use Rattle.yl_text.specs.Character.{starts_by}
 use Rattle.yl_text.specs.Finding.{FindingValue, one_finding, at_each}
 use Rattle.yl_text.specs.Lines.{RowValue}
 use Rattle.yl_rules.specs.declared.empty_lines.EmptyLinesOptions.{EmptyLinesOptions}
 use Rattle.yl_rules.specs.declared.new_lines.NewLine.{NewLine}
 use Rattle.yl_rules.specs.declared.options.RowOptions.{RowOptions}
-use Rattle.yl_rules.specs.EmptyLines.{empty_lines, empty_lines_at, goes_on, is_break_only, is_text_end, max_run, run_findings_of, too_many_blank_lines}
+use Rattle.yl_rules.specs.EmptyLines.{empty_lines, empty_lines_at, is_break_only, is_text_end, run_findings_of, too_many_blank_lines}
 use Rattle.yl_rules.specs.EndOfFile.{end_of_file, end_of_file_at}
-use Rattle.yl_rules.specs.NewLines.{new_lines, new_lines_at}
+use Rattle.yl_rules.specs.NewLines.{new_lines}
 use Rattle.yl_rules.specs.Rows.{row_findings}
 use Rattle.yl_rules.specs.TrailingSpaces.{trailing_spaces}
 use Rattle.yl_rules.specs.LineLength.{line_length}
@@ -52,7 +53,7 @@ module _ (e : Ends) where
   run_stays o run line true at_end = tt
   run_stays o run line false at_end = judged (line == 1 && at_end)
     where
-      judged : (b : Bool) → Each true (if b then [] else too_many_blank_lines run (max_run o (run == line) at_end) line)
+      judged : (b : Bool) → Each true (if b then [] else too_many_blank_lines run (if at_end then o.max_end else if run == line then o.max_start else o.max) line)
       judged true = tt
       judged false = unless_each true line _ _ _ _ refl
 
@@ -60,11 +61,11 @@ module _ (e : Ends) where
   runs_stay o before [] = tt
   runs_stay o before (row ∷ rows) =
       let run = prefix_len is_break_only (row ∷ before) in
-      each_both true (empty_lines_at o before row rows) (at_each (empty_lines_at o) (row ∷ before) rows) (run_stays o run (length before + 1) (run == 0 || goes_on rows) (is_text_end rows)) (runs_stay o (row ∷ before) rows)
+      each_both true (empty_lines_at o before row rows) (at_each (empty_lines_at o) (row ∷ before) rows) (run_stays o run (length before + 1) (run == 0 || starts_by is_break_only rows) (is_text_end rows)) (runs_stay o (row ∷ before) rows)
 
-  first_stays : (wanted : NewLine) (o : Option RowValue) → Each e.begins (new_lines_at wanted o)
-  first_stays wanted None = tt
-  first_stays wanted (Some row) = when_each e.begins 1 _ _ _ _ refl
+  first_stays : (wanted : NewLine) (rows : List RowValue) → Each e.begins (new_lines wanted rows)
+  first_stays wanted [] = tt
+  first_stays wanted (row ∷ rows) = when_each e.begins 1 _ _ _ _ refl
 
   last_stays : (line : ℕ) (o : Option RowValue) → Each e.ends (end_of_file_at line o)
   last_stays line None = tt
@@ -84,4 +85,4 @@ module _ (e : Ends) where
       let z = end_of_file rows in
       filter-append stays r (n ++ (l ++ z))
       ∙ (ap (λ (fs : List FindingValue). filter stays r ++ fs) (filter-append stays n (l ++ z) ∙ ap (λ (fs : List FindingValue). filter stays n ++ fs) (filter-append stays l z))
-      ∙ rw (stay_if true r (rows_stay o.row 1 rows), stay_if e.begins n (first_stays o.run.new_line (slice_get rows 0)), stay_if true l (runs_stay o.run.empty_lines [] rows), stay_if e.ends z (last_stays (length rows) (slice_get rows (length rows - 1)))) refl)
+      ∙ rw (stay_if true r (rows_stay o.row 1 rows), stay_if e.begins n (first_stays o.run.new_line rows), stay_if true l (runs_stay o.run.empty_lines [] rows), stay_if e.ends z (last_stays (length rows) (slice_get rows (length rows - 1)))) refl)

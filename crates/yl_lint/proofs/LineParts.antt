@@ -6,6 +6,7 @@ use Rattle.std.specs.Str.{chars}
 use Rattle.std.proofs.lemmas.List.{map-append, places}
 use Rattle.std.proofs.lemmas.Bool.{eq-eqb, ne_eqb}
 use Rattle.std.proofs.lemmas.Option.{slice_get-get_or}
+use Rattle.yl_text.specs.Character.{starts_by}
 use Rattle.yl_text.specs.Finding.{FindingValue, one_finding, at_each}
 use Rattle.yl_text.specs.Lines.{RowValue}
 use Rattle.yl_text.specs.declared.finding.RuleId.{RuleId}
@@ -13,7 +14,7 @@ use Rattle.yl_text.specs.declared.row.Break.TheVariants.{No}
 use Rattle.yl_rules.specs.declared.empty_lines.EmptyLinesOptions.{EmptyLinesOptions}
 use Rattle.yl_rules.specs.declared.new_lines.NewLine.{NewLine}
 use Rattle.yl_rules.specs.declared.options.RowOptions.{RowOptions}
-use Rattle.yl_rules.specs.EmptyLines.{is_break_only, goes_on, is_text_end, max_run, too_many_blank_lines, empty_lines_at, at_end_of_run, empty_lines, run_findings_of}
+use Rattle.yl_rules.specs.EmptyLines.{is_break_only, is_text_end, too_many_blank_lines, empty_lines_at, at_end_of_run, empty_lines, run_findings_of}
 use Rattle.yl_rules.specs.EndOfFile.{end_of_file_at, end_of_file}
 use Rattle.yl_rules.specs.NewLines.{new_lines}
 use Rattle.yl_rules.specs.Rows.{row_findings}
@@ -126,7 +127,7 @@ step_moved o base zs after row h =
     let line : length (zs ++ base) + 1 ≡ length base + (length zs + 1) = omega (arith, length-append zs base) in
     ap (λ k. at_end_of_run o k (length (zs ++ base) + 1) after) (stops (row ∷ zs) base shorter)
     ∙ (ap (λ k. at_end_of_run o (run_of (row ∷ zs)) k after) line
-    ∙ ended_moved o (length base) (run_of (row ∷ zs)) (length zs + 1) (run_of (row ∷ zs) == 0 || goes_on after) (is_text_end after) (omega (arith, shorter)) (omega (arith, h)))
+    ∙ ended_moved o (length base) (run_of (row ∷ zs)) (length zs + 1) (run_of (row ∷ zs) == 0 || starts_by is_break_only after) (is_text_end after) (omega (arith, shorter)) (omega (arith, h)))
 
 runs_moved : (o : EmptyLinesOptions) (base zs rows : List RowValue) → run_of zs < length zs → at_each (empty_lines_at o) (zs ++ base) rows ≡ map (moved (length base)) (at_each (empty_lines_at o) zs rows)
 runs_moved o base zs [] h = refl
@@ -157,7 +158,7 @@ run_between : (o : EmptyLinesOptions) (low high run line : ℕ) (on at_end : Boo
 run_between o low high run line true at_end l h = tt
 run_between o low high run line false at_end l h = judged (line == 1 && at_end)
   where
-    judged : (b : Bool) → Between low high (if b then [] else too_many_blank_lines run (max_run o (run == line) at_end) line)
+    judged : (b : Bool) → Between low high (if b then [] else too_many_blank_lines run (if at_end then o.max_end else if run == line then o.max_start else o.max) line)
     judged true = tt
     judged false = unless_between low high line _ _ _ _ l h
 
@@ -165,7 +166,7 @@ pub empty_lines_between : (o : EmptyLinesOptions) (low high : ℕ) (before rows 
 empty_lines_between o low high before [] l h = tt
 empty_lines_between o low high before (row ∷ rows) l h =
     between_both low high (empty_lines_at o before row rows) (at_each (empty_lines_at o) (row ∷ before) rows)
-    (run_between o low high (run_of (row ∷ before)) (length before + 1) (run_of (row ∷ before) == 0 || goes_on rows) (is_text_end rows) (omega (arith, l)) (omega (arith, h)))
+    (run_between o low high (run_of (row ∷ before)) (length before + 1) (run_of (row ∷ before) == 0 || starts_by is_break_only rows) (is_text_end rows) (omega (arith, l)) (omega (arith, h)))
     (empty_lines_between o low high (row ∷ before) rows (omega (arith, l)) (omega (arith, h)))
 
 -- ---- the first line and the last one

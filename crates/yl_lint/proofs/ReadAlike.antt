@@ -4,6 +4,7 @@ use Rattle.std.specs.List.{splice, slice_get, prefix_len}
 use Rattle.std.proofs.lemmas.List.{same_lists, places, map-append, length-map, take-append-drop, length-take}
 use Rattle.std.proofs.lemmas.Bool.{ne_eqb, eqb-true}
 use Rattle.std.proofs.lemmas.Option.{slice_get-get_or, slice_get_read}
+use Rattle.yl_text.specs.Character.{starts_by}
 use Rattle.yl_text.specs.Finding.{FindingValue, at_each}
 use Rattle.yl_text.specs.Lines.{RowValue}
 use Rattle.yl_text.specs.declared.position.Pos.{Pos}
@@ -12,9 +13,10 @@ use Rattle.yl_text.specs.declared.row.Break.TheVariants.{No}
 use Rattle.yl_rules.specs.declared.empty_lines.EmptyLinesOptions.{EmptyLinesOptions}
 use Rattle.yl_rules.specs.declared.options.RowOptions.{RowOptions}
 use Rattle.yl_rules.specs.declared.options.RunOptions.{RunOptions}
-use Rattle.yl_rules.specs.EmptyLines.{is_break_only, goes_on, is_text_end, empty_lines_at, empty_lines, run_findings_of}
+use Rattle.yl_rules.specs.EmptyLines.{is_break_only, is_text_end, empty_lines_at, empty_lines, run_findings_of}
 use Rattle.yl_rules.specs.EndOfFile.{end_of_file_at, end_of_file}
-use Rattle.yl_rules.specs.NewLines.{new_lines_at, new_lines}
+use Rattle.yl_rules.specs.declared.new_lines.NewLine.{NewLine}
+use Rattle.yl_rules.specs.NewLines.{new_lines}
 use Rattle.yl_rules.specs.Rows.{row_findings}
 use Rattle.yl_rules.specs.Runs.{run_findings}
 use Rattle.yl_config.specs.declared.config.Config.{Config}
@@ -59,7 +61,7 @@ shape_alike o line p q h =
 break_shape : (row : RowValue) → is_break_only (shape row) ≡ is_break_only row
 break_shape row = rw (empty_shape row.text) refl
 
-goes_shape : (rows : List RowValue) → goes_on (map shape rows) ≡ goes_on rows
+goes_shape : (rows : List RowValue) → starts_by is_break_only (map shape rows) ≡ starts_by is_break_only rows
 goes_shape [] = refl
 goes_shape (row ∷ rows) = break_shape row
 
@@ -77,10 +79,10 @@ run_at o run line on end = if run == 0 || on then [] else run_findings_of o run 
 step_shape : (o : EmptyLinesOptions) (before : List RowValue) (row : RowValue) (after : List RowValue)
     → empty_lines_at o (map shape before) (shape row) (map shape after) ≡ empty_lines_at o before row after
 step_shape o before row after =
-    ap (λ n. run_at o n (length (map shape before) + 1) (goes_on (map shape after)) (is_text_end (map shape after))) (prefix_shape (row ∷ before))
-    ∙ (ap (λ n. run_at o (prefix_len is_break_only (row ∷ before)) (n + 1) (goes_on (map shape after)) (is_text_end (map shape after))) (length-map before shape)
+    ap (λ n. run_at o n (length (map shape before) + 1) (starts_by is_break_only (map shape after)) (is_text_end (map shape after))) (prefix_shape (row ∷ before))
+    ∙ (ap (λ n. run_at o (prefix_len is_break_only (row ∷ before)) (n + 1) (starts_by is_break_only (map shape after)) (is_text_end (map shape after))) (length-map before shape)
     ∙ (ap (λ b. run_at o (prefix_len is_break_only (row ∷ before)) (length before + 1) b (is_text_end (map shape after))) (goes_shape after)
-    ∙ ap (λ b. run_at o (prefix_len is_break_only (row ∷ before)) (length before + 1) (goes_on after) b) (end_shape after)))
+    ∙ ap (λ b. run_at o (prefix_len is_break_only (row ∷ before)) (length before + 1) (starts_by is_break_only after) b) (end_shape after)))
 
 each_shape : (o : EmptyLinesOptions) (before rows : List RowValue) → at_each (empty_lines_at o) (map shape before) (map shape rows) ≡ at_each (empty_lines_at o) before rows
 each_shape o before [] = refl
@@ -169,9 +171,16 @@ are_same_texts config rows new a b z l e h =
       count = len;
     }
 
+-- the rule looks at the first line alone
+same_first : (wanted : NewLine) (old new : List RowValue) → slice_get new 0 ≡ slice_get old 0 → new_lines wanted new ≡ new_lines wanted old
+same_first wanted [] [] e = refl
+same_first wanted (x ∷ xs) [] e = cc
+same_first wanted [] (y ∷ ys) e = cc
+same_first wanted (x ∷ xs) (y ∷ ys) e = let same : y ≡ x = cc in ap (λ (row : RowValue). new_lines wanted (row ∷ [])) same
+
 runs_same : (config : Config) (o : RunOptions) (old new : List RowValue) → AreSame config old new → run_findings o new ≡ run_findings o old
 runs_same config o old new s =
-    ap (λ (r : Option RowValue). new_lines_at o.new_line r ++ (empty_lines o.empty_lines new ++ end_of_file new)) s.first
+    ap (λ (fs : List FindingValue). fs ++ (empty_lines o.empty_lines new ++ end_of_file new)) (same_first o.new_line old new s.first)
     ∙ (ap (λ (fs : List FindingValue). new_lines o.new_line old ++ (fs ++ end_of_file new)) (empty_same o.empty_lines new old s.shapes)
     ∙ (ap (λ (r : Option RowValue). new_lines o.new_line old ++ (empty_lines o.empty_lines old ++ end_of_file_at (length new) r)) s.last
     ∙ ap (λ n. new_lines o.new_line old ++ (empty_lines o.empty_lines old ++ end_of_file_at n (slice_get old (length old - 1)))) s.count))

@@ -8,7 +8,8 @@ use Rattle.yl_text.specs.Character.{is_blank, is_white, without_end}
 use Rattle.yl_text.specs.Finding.{rule_name}
 use Rattle.yl_text.specs.declared.finding.RuleId.{RuleId}
 use Rattle.yl_lexeme.specs.Lexeme.{PlacedCommentValue}
-use Rattle.yl_report.specs.Directive.{disables, disables_line, enables, is_disabled_by, is_silenced, is_switched_off, own_line, rest_speaks, says, speaks, switches}
+use Rattle.yl_report.specs.Directive.{disables, disables_line, is_silenced, is_switched_off, own_line, rest_speaks, says, speaks, switches}
+use Rattle.yl_report.proofs.Noted.{is_disabled_by}
 use Rattle.yl_lint.specs.TextReport.{moved_comment}
 use Rattle.yl_lint.specs.Switches.{SpeaksWithin, may_switch, switch_texts}
 
@@ -136,7 +137,7 @@ begins_line c h = begins_trimmed c.text (codes "# yamllint disable-lin") 101 ref
 
 -- it switches the rule somewhere
 abbrev switches_it : RuleId → PlacedCommentValue → Bool
-switches_it rule c = disables rule c || enables rule c
+switches_it rule c = disables rule c || says (codes "# yamllint enable") rule c
 
 speaks_not : (text words rule : List ℕ) → (begins text words ≡ true → rest_speaks (drop (length words) text) rule ≡ false) → speaks text words rule ≡ false
 speaks_not text words rule h = at (begins text words) h
@@ -149,7 +150,7 @@ switches_not : (rule : RuleId) (c : PlacedCommentValue) → may_switch c ≡ fal
 switches_not rule c h =
     let text = without_end c.text in
     let line = begins_line c h in
-    or_from (disables rule c) (enables rule c)
+    or_from (disables rule c) (says (codes "# yamllint enable") rule c)
     (speaks_not text (codes "# yamllint disable") (rule_name rule) (λ _. hyphen_says_nothing (drop 18 text) (rule_name rule) (begins_behind (codes "# yamllint disable") (codes "-line") text line)))
     (speaks_not text (codes "# yamllint enable") (rule_name rule) (λ e.
     let no = other_words (drop 11 text) (begins_behind (codes "# yamllint ") (codes "disable-line") text line) in

@@ -12,10 +12,10 @@ use Rattle.yl_text.specs.declared.finding.RuleId.{RuleId}
 use Rattle.yl_text.specs.Finding.{FindingValue}
 use Rattle.yl_rules.specs.declared.level.Level.{Level}
 use Rattle.yl_rules.specs.Levels.{LevelTable}
-use Rattle.yl_report.specs.Report.{ProblemValue, finding_order, insert_by, insert_once, is_reported, is_syntax, report_of, sorted_once, with_level}
+use Rattle.yl_report.specs.Report.{ProblemValue, finding_order, insert_once, is_reported, is_syntax, report_of, sorted_once, with_level}
 use Rattle.yl_report.specs.Told.{finding_told}
 use Rattle.yl_report.proofs.Filtered.{filter_in, in_filter}
-use Rattle.yl_report.proofs.Inserted.{sorted_once_arranged}
+use Rattle.yl_report.proofs.Inserted.{insert_by, sorted_once_arranged}
 use Rattle.yl_report.proofs.Order.{only_equal, order_total}
 use Rattle.yl_report.proofs.Unique.{In, from_in, in_from, one_arrangement}
 use Rattle.yl_parting.specs.Following.{AreRules}

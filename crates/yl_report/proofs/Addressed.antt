@@ -8,7 +8,8 @@ use Rattle.yl_text.specs.declared.finding.RuleId.{RuleId}
 use Rattle.yl_lexeme.specs.declared.placed.PlacedComment.{PlacedComment}
 use Rattle.yl_lexeme.specs.PlacedComments.{placed_comment_value}
 use Rattle.yl_report.specs.Addressed.{is_addressed_comment}
-use Rattle.yl_report.specs.Directive.{says, disables, enables, switches, is_disabled_by, disables_line, is_silenced}
+use Rattle.yl_report.specs.Directive.{says, disables, switches, disables_line, is_silenced}
+use Rattle.yl_report.proofs.Noted.{is_disabled_by}
 
 abbrev begins : List ℕ → List ℕ → Bool
 begins = starts_with (λ a b. a == b)
@@ -40,7 +41,7 @@ not_said words rule x e =
 
 not_switched : (rule : RuleId) (line : ℕ) (x : PlacedComment) → is_addressed_comment x ≡ false → switches rule line (placed_comment_value x) ≡ false
 not_switched rule line x e =
-    and_right (nat_le x.line line) _ (or_from (disables rule (placed_comment_value x)) (enables rule (placed_comment_value x)) (not_said (codes "disable") rule x e) (not_said (codes "enable") rule x e))
+    and_right (nat_le x.line line) _ (or_from (disables rule (placed_comment_value x)) (says (codes "# yamllint enable") rule (placed_comment_value x)) (not_said (codes "disable") rule x e) (not_said (codes "enable") rule x e))
 
 not_line : (rule : RuleId) (line : ℕ) (x : PlacedComment) → is_addressed_comment x ≡ false → disables_line rule line (placed_comment_value x) ≡ false
 not_line rule line x e = rw (not_said (codes "disable-line") rule x e) refl

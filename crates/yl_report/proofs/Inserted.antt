@@ -1,15 +1,19 @@
 -- The list that insertion makes is arranged.
-use Rattle.std.proofs.Common.{◌≡◌, List, [], ◌∷◌, refl, ◌∙◌, ap, ◌⊎◌, inl, inr}
+use Rattle.std.proofs.Common.{◌≡◌, List, [], ◌∷◌, refl, ◌∙◌, ap, ◌⊎◌, inl, inr, if◌then◌else◌}
 use Rattle.std.specs.List.{AllByRecursion}
 use Rattle.std.specs.List.Sorted.{IsStrictlySortedBy}
-use Rattle.std.specs.Ordering.{ordering_reverse}
+use Rattle.std.specs.Ordering.{ordering_reverse, is_lt, is_eq}
 use Rattle.std.specs.declared.cmp.Ordering.{Ordering}
 use Rattle.std.specs.declared.cmp.Ordering.TheVariants.{Less, Equal, Greater}
 use Rattle.yl_text.specs.Finding.{FindingValue}
-use Rattle.yl_report.specs.Report.{finding_order, insert_by, insert_once, sorted_once}
+use Rattle.yl_report.specs.Report.{finding_order, insert_once, sorted_once}
 use Rattle.yl_report.specs.Arranged.{IsArranged}
 use Rattle.yl_report.proofs.Order.{order_total, only_equal}
 use Rattle.yl_report.proofs.Unique.{In, in_from, from_in}
+
+-- x before y and ys, or, where it comes behind y, the list `behind` into which x went
+abbrev pub insert_by : Ordering → FindingValue → FindingValue → List FindingValue → List FindingValue → List FindingValue
+insert_by o x y ys behind = if is_lt o then x ∷ y ∷ ys else if is_eq o then y ∷ ys else y ∷ behind
 
 abbrev Above : FindingValue → List FindingValue → Type 0
 Above z = AllByRecursion (λ f. finding_order z f ≡ Less)

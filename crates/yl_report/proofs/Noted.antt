@@ -1,15 +1,20 @@
 -- One more comment, and what it marks.
 use Rattle.std.proofs.Common.{◌≡◌, ◌<◌, ◌+◌, ℕ, List, [], ◌∷◌, ◌++◌, Bool, true, false, ◌||◌, cond, if◌then◌else◌, refl, sym, ap, ◌∙◌, take, map, length, get_or, append-nil}
-use Rattle.std.specs.Prelude.{◌==◌, codes}
+use Rattle.std.specs.Prelude.{◌==◌, codes, Option}
 use Rattle.std.specs.List.{list_any}
+use Rattle.std.specs.Option.{option_map_or}
 use Rattle.std.proofs.lemmas.List.{map_more}
 use Rattle.std.proofs.lemmas.List.Folds.{list_any-append}
 use Rattle.yl_text.specs.declared.finding.RuleId.{RuleId}
 use Rattle.yl_lexeme.specs.declared.placed.PlacedComment.{PlacedComment}
 use Rattle.yl_lexeme.specs.PlacedComments.{placed_comment_value}
 use Rattle.yl_lexeme.specs.Lexeme.{PlacedCommentValue}
-use Rattle.yl_report.specs.Directive.{says, disables, switches, is_disabled_by, is_switched_off, own_line, disables_line}
+use Rattle.yl_report.specs.Directive.{says, disables, switches, is_switched_off, own_line, disables_line}
 use Rattle.yl_report.proofs.LastSwitch.{last_or-filter_push}
+
+-- the comment, if there is one, disables
+abbrev pub is_disabled_by : RuleId → Option PlacedCommentValue → Bool
+is_disabled_by rule o = option_map_or (disables rule) o false
 
 module _ (rule : RuleId) (at : ℕ) (cs : List PlacedCommentValue) (c : PlacedCommentValue) where
   switched_push : (b : Bool) → switches rule at c ≡ b → is_switched_off (cs ++ c ∷ []) rule at ≡ cond b (disables rule c) (is_switched_off cs rule at)

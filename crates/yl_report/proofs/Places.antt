@@ -2,7 +2,7 @@
 use Rattle.std.proofs.Common.{◌≡◌, ◌<◌, ◌≤◌, ◌+◌, ℕ, zero, suc, List, [], ◌∷◌, ◌++◌, refl, sym, ap, ◌∙◌, length, get_or, arith, Option, Some, ◌⊎◌, inl, inr}
 use Rattle.std.specs.Prelude.{slice_get}
 use Rattle.std.proofs.lemmas.Bool.{cases_lt}
-use Rattle.yl_rules.specs.Levels.{rule_number}
+use Rattle.yl_rules.specs.LevelOf.{rule_number}
 use Rattle.yl_report.specs.declared.marks.SilencedLines.{SilencedLines}
 use Rattle.yl_lexeme.specs.Lexeme.{PlacedCommentValue}
 use Rattle.yl_report.specs.Directive.{is_silenced}

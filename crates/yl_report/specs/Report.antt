@@ -1,10 +1,9 @@
--- Meaning: reports: their order, their printed lines, their status.
+-- Meaning: reports: their order, their printed lines, their status. A message is in UTF-8.
 use Rattle.std.specs.Prelude.{ℕ, Bool, true, false, not, ◌&&◌, ◌||◌, if◌then◌else◌, List, [], ◌∷◌, ◌++◌, ◌-◌, codes, decimal, Option, is_some}
 use Rattle.std.specs.List.{filter, filter_map, flat_map, list_any}
 use Rattle.std.specs.Option.{option_map}
-use Rattle.std.specs.Ordering.{then_cmp, on, nat_cmp}
+use Rattle.std.specs.Ordering.{then_cmp, on, nat_cmp, is_lt, is_eq}
 use Rattle.std.specs.declared.cmp.Ordering.{Ordering}
-use Rattle.std.specs.declared.cmp.Ordering.TheVariants.{Less, Equal, Greater}
 use Rattle.std.specs.Cmp.Lexicographic.{slice_cmp}
 use Rattle.yl_text.specs.declared.finding.RuleId.{RuleId}
 use Rattle.yl_text.specs.declared.finding.RuleId.TheVariants.{Syntax}
@@ -24,16 +23,11 @@ order_in_line = then_cmp (on (λ f. f.column) nat_cmp) order_in_place
 abbrev pub finding_order : FindingValue → FindingValue → Ordering
 finding_order = then_cmp (on (λ f. f.line) nat_cmp) order_in_line
 
--- x before y and ys, or, where it comes behind y, the list `behind` into which x went
-abbrev pub insert_by : Ordering → FindingValue → FindingValue → List FindingValue → List FindingValue → List FindingValue
-insert_by Less x y ys behind = x ∷ y ∷ ys
-insert_by Equal x y ys behind = y ∷ ys
-insert_by Greater x y ys behind = y ∷ behind
-
 -- x in its place, unless it is there
 abbrev pub insert_once : FindingValue → List FindingValue → List FindingValue
 insert_once x [] = x ∷ []
-insert_once x (y ∷ ys) = insert_by (finding_order x y) x y ys (insert_once x ys)
+insert_once x (y ∷ ys) =
+    let o = finding_order x y in if is_lt o then x ∷ y ∷ ys else if is_eq o then y ∷ ys else y ∷ insert_once x ys
 
 -- in order, each once
 abbrev pub sorted_once : List FindingValue → List FindingValue
@@ -48,7 +42,6 @@ pub record ProblemValue : Type 0 where
   pub column : ℕ
   pub level : Level
   pub rule : RuleId
-  -- in UTF-8
   pub message : List ℕ
 
 abbrev pub is_syntax : RuleId → Bool
@@ -87,10 +80,7 @@ printed_line name p =
     name ++ codes ":" ++ decimal p.line ++ codes ":" ++ decimal p.column ++ codes ": [" ++ level_name p.level ++ codes "] "
     ++ p.message ++ codes " (" ++ rule_name p.rule ++ codes ")\n"
 
--- what is printed of a problem, which is nothing of a warning if none is wanted
-abbrev pub problem_text : List ℕ → Bool → ProblemValue → List ℕ
-problem_text name no_warnings p = if no_warnings && not (is_error p.level) then [] else printed_line name p
-
 -- the printed lines of the problems, without the warnings if so asked
 abbrev pub report_text : List ℕ → List ProblemValue → Bool → List ℕ
-report_text name problems no_warnings = flat_map (problem_text name no_warnings) problems
+report_text name problems no_warnings =
+    flat_map (λ p. if no_warnings && not (is_error p.level) then [] else printed_line name p) problems

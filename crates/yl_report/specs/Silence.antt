@@ -2,7 +2,7 @@
 use Rattle.std.specs.Prelude.{ℕ, Bool, false, ◌||◌, ◌==◌, Option, Some, None, slice_get}
 use Rattle.std.specs.List.{list_any}
 use Rattle.yl_text.specs.declared.finding.RuleId.{RuleId}
-use Rattle.yl_rules.specs.Levels.{rule_number}
+use Rattle.yl_rules.specs.LevelOf.{rule_number}
 use Rattle.yl_report.specs.declared.silence.Silences.{Silences}
 use Rattle.yl_report.specs.declared.marks.SilencedLines.{SilencedLines}
 use Rattle.yl_report.specs.Switched.{is_off_at}

@@ -1,5 +1,5 @@
 //! Comments and what they say of a rule.
-ghost use Rattle.std.specs.Prelude.{◌≡◌};
+ghost use Rattle.std.specs.Prelude.{◌≡◌, codes};
 ghost use Rattle.yl_report.specs.Directive as spec;
 ghost use Rattle.yl_lexeme.specs.PlacedComments.{placed_comment_value};
 
@@ -22,7 +22,7 @@ pub fn disables(rule: RuleId, comment: &PlacedComment<'_>) -> bool
 }
 
 pub fn enables(rule: RuleId, comment: &PlacedComment<'_>) -> bool
-    ensures { result ≡ spec.enables rule (placed_comment_value comment.now) }
+    ensures { result ≡ spec.says (codes "# yamllint enable") rule (placed_comment_value comment.now) }
 {
     says(b"# yamllint enable", rule, comment)
 }

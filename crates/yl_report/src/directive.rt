@@ -1,5 +1,5 @@
 //! The words of comments that silence rules.
-ghost use Rattle.std.specs.Prelude.{◌≡◌, ◌==◌, ◌&&◌};
+ghost use Rattle.std.specs.Prelude.{◌≡◌, ◌==◌, ◌&&◌, drop, bytes_eq};
 ghost use Rattle.std.specs.List.{list_all, list_any, slice_split};
 ghost use Rattle.yl_text.specs.Character.{is_non_space, without_end};
 ghost use Rattle.yl_report.specs.Directive.{rest_speaks};
@@ -34,7 +34,7 @@ fn is_rule_word(word: &[u8]) -> bool
 
 // Whether a word of a rule names this one.
 fn is_name(word: &[u8], rule: &[u8]) -> bool
-    ensures { result ≡ spec.is_name rule.now word.now }
+    ensures { result ≡ bytes_eq (drop 5 word.now) rule.now }
 {
     if word.len() < 5 {
         return rule.is_empty();
@@ -50,14 +50,14 @@ fn are_rule_words(words: &[u8]) -> bool
 }
 
 fn has_name(words: &[u8], rule: &[u8]) -> bool
-    ensures { result ≡ list_any (spec.is_name rule.now) (slice_split (λ x. x == 0x20) words.now) }
+    ensures { result ≡ list_any (λ w. bytes_eq (drop 5 w) rule.now) (slice_split (λ x. x == 0x20) words.now) }
 {
     words.split(|c| *c == b' ').any(|word| is_name(word, rule))
 }
 
 fn names(words: &[u8], rule: &[u8]) -> bool
     ensures { result ≡ list_all spec.is_rule_word (slice_split (λ x. x == 0x20) words.now)
-        && list_any (spec.is_name rule.now) (slice_split (λ x. x == 0x20) words.now) }
+        && list_any (λ w. bytes_eq (drop 5 w) rule.now) (slice_split (λ x. x == 0x20) words.now) }
 {
     let all = are_rule_words(words);
     let any = has_name(words, rule);

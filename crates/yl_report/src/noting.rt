@@ -8,7 +8,7 @@ ghost use Rattle.yl_report.specs.Addressed.{is_addressed_comment};
 ghost use Rattle.yl_report.specs.Directive.{is_silenced};
 ghost use Rattle.yl_report.specs.Directive as spec;
 ghost use Rattle.yl_report.specs.Silence.{is_silenced_in};
-ghost use Rattle.yl_rules.specs.Levels.{rule_number};
+ghost use Rattle.yl_rules.specs.LevelOf.{rule_number};
 ghost use Rattle.yl_text.specs.declared.finding.RuleId.{RuleId};
 
 use crate::comment::{disables, enables, own_line, says};

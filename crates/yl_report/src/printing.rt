@@ -1,9 +1,9 @@
-ghost use Rattle.std.specs.Prelude.{◌≡◌, ◌-◌, ◌^◌, ◌<◌, ◌++◌, OnOk, OnErr, codes};
+ghost use Rattle.std.specs.Prelude.{◌≡◌, ◌-◌, ◌^◌, ◌<◌, ◌++◌, ◌&&◌, not, [], if◌then◌else◌, OnOk, OnErr, codes};
 ghost use Rattle.std.specs.List.{flat_map};
 ghost use Rattle.std.specs.Io.KnownBytes.{Appends};
 ghost use Rattle.yl_text.specs.Watched.{device_of, failures_of};
 ghost use Rattle.yl_devices.specs.Written.{AppendsFront, Passes};
-ghost use Rattle.yl_report.specs.Report.{printed_line, problem_text, report_text};
+ghost use Rattle.yl_report.specs.Report.{is_error, printed_line, report_text};
 
 use crate::problem::Problem;
 use itoa::Buffer;
@@ -85,10 +85,10 @@ fn put_problem<W: Write, A: Allocator>(
 ) -> Result<(), WriteFault>
     requires { failures_of out.old < 2 ^ 64 - 1 }
     ensures ok { OnOk result (Passes (W.contents (device_of out.old)) (W.contents (device_of out.new))
-        waiting.old.items (problem_text name.now no_warnings problem.now) waiting.new.items) }
+        waiting.old.items (if no_warnings && not (is_error (problem.now).level) then [] else printed_line name.now problem.now) waiting.new.items) }
     ensures quiet { OnOk result (failures_of out.new ≡ failures_of out.old) }
     ensures err { OnErr result (AppendsFront (W.contents (device_of out.old)) (W.contents (device_of out.new))
-        (waiting.old.items ++ problem_text name.now no_warnings problem.now)) }
+        (waiting.old.items ++ (if no_warnings && not (is_error (problem.now).level) then [] else printed_line name.now problem.now))) }
     ensures failed { OnErr result (failures_of out.old < failures_of out.new) }
 {
     let is_hidden = no_warnings && !problem.is_error();

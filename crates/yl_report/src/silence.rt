@@ -1,6 +1,6 @@
 //! What the silencing comments of a text say.
 ghost use Rattle.std.specs.Prelude.{◌≡◌};
-ghost use Rattle.yl_rules.specs.Levels.{rule_number};
+ghost use Rattle.yl_rules.specs.LevelOf.{rule_number};
 
 use crate::comment::disables_file;
 use crate::marks::SilencedLines;

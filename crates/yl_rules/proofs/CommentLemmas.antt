@@ -1,21 +1,28 @@
 -- What the bytes of a comment tell of its characters.
-use Rattle.std.proofs.Common.{◌≡◌, ◌<◌, ◌≤◌, ℕ, ◌+◌, ◌++◌, List, [], ◌∷◌, Bool, true, false, drop, refl, sym, ◌∙◌, ap, arith, ⊎_elim}
+use Rattle.std.proofs.Common.{◌≡◌, ◌<◌, ◌≤◌, ℕ, ◌+◌, ◌++◌, List, [], ◌∷◌, Bool, true, false, not, ◌==◌, drop, refl, sym, ◌∙◌, ap, arith, ⊎_elim}
 use Rattle.std.specs.Prelude.{◌&&◌, codes}
 use Rattle.std.specs.Str.{chars, IsUtf8}
 use Rattle.std.proofs.lemmas.Bool.{cases_lt, cond-true, cond-false}
 use Rattle.std.proofs.lemmas.Bool.Decides.{nat_tests}
 use Rattle.std.proofs.lemmas.Str.{encode_ascii, encodes-chars}
-use Rattle.yl_text.specs.Character.{is_non_space}
+use Rattle.yl_text.specs.Character.{is_non_space, starts_by}
 use Rattle.yl_text.specs.Finding.{FindingValue}
 use Rattle.yl_text.specs.declared.finding.RuleId.TheVariants.{Comments}
-use Rattle.yl_rules.specs.LineLength.{is_hash}
-use Rattle.yl_rules.specs.Comments.{starts_by, hash_count, after_hashes, is_no_space, is_exclamation, is_shebang, lacks_space, starting_space_in}
+use Rattle.yl_rules.specs.LineLength.{hash_count}
+use Rattle.yl_rules.specs.Comments.{is_shebang, lacks_space, starting_space_in}
 use Rattle.yl_rules.specs.declared.comments.CommentsOptions.{CommentsOptions}
-use Rattle.yl_rules.proofs.Encoded.{IsAsciiTest, IsSameTest, prefix_len-encodes, drop-encodes, starts_by-encodes}
+use Rattle.yl_rules.proofs.OneWord.{is_hash, hash_is_ascii}
+use Rattle.yl_rules.proofs.Encoded.{IsSameTest, prefix_len-encodes, drop-encodes, starts_by-encodes}
 use lib.Utf8.{encodes}
 
-hash_is_ascii : IsAsciiTest is_hash
-hash_is_ascii b h = grind (arith, nat_tests)
+abbrev is_no_space : ℕ → Bool
+is_no_space c = not (c == 0x20)
+
+abbrev is_exclamation : ℕ → Bool
+is_exclamation c = c == 0x21
+
+abbrev after_hashes : List ℕ → List ℕ
+after_hashes cs = drop (hash_count cs) cs
 
 no_space_same : IsSameTest is_no_space true
 no_space_same b h = grind (arith, nat_tests)

@@ -7,7 +7,7 @@ use Rattle.std.proofs.lemmas.Bool.Decides.{nat_tests}
 use Rattle.std.proofs.lemmas.List.{reverse-append, append-nil}
 use Rattle.std.proofs.lemmas.List.Sums.{sum_by-append}
 use Rattle.std.proofs.lemmas.Str.{encode_ascii}
-use Rattle.yl_rules.specs.Comments.{starts_by}
+use Rattle.yl_text.specs.Character.{starts_by}
 use lib.Utf8.{encodes, encode, next}
 
 -- no byte of a longer character passes

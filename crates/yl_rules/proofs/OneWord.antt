@@ -5,14 +5,20 @@ use Rattle.std.specs.List.{prefix_len, list_any}
 use Rattle.std.proofs.lemmas.Bool.{cases_lt, ne_eqb}
 use Rattle.std.proofs.lemmas.Bool.Decides.{nat_tests}
 use Rattle.std.proofs.lemmas.Str.{encode_ascii, length-encode, len_utf8_bounds}
-use Rattle.yl_rules.specs.LineLength.{is_space, is_hash, past_mark, is_one_word, is_non_breakable}
+use Rattle.yl_rules.specs.LineLength.{past_mark, is_one_word, is_non_breakable}
 use Rattle.yl_rules.proofs.Encoded.{IsAsciiTest, long, prefix_len-encodes, drop-encodes, list_any-encodes, list_any-past_one}
 use lib.Utf8.{encodes, encode}
+
+abbrev is_space : ℕ → Bool
+is_space c = c == 0x20
+
+abbrev pub is_hash : ℕ → Bool
+is_hash c = c == 0x23
 
 space_is_ascii : IsAsciiTest is_space
 space_is_ascii b h = grind (arith, nat_tests)
 
-hash_is_ascii : IsAsciiTest is_hash
+pub hash_is_ascii : IsAsciiTest is_hash
 hash_is_ascii b h = grind (arith, nat_tests)
 
 no_bytes : (cs : List ℕ) → (length (encodes cs) == 0) ≡ (length cs == 0)

@@ -1,6 +1,7 @@
 -- Meaning: yamllint's rule empty-lines: runs of lines that are nothing but a break.
 use Rattle.std.specs.Prelude.{ℕ, Bool, true, false, not, ◌&&◌, ◌||◌, ◌==◌, nat_le, if◌then◌else◌, List, [], ◌∷◌, ◌++◌, ◌+◌, length, codes, decimal}
 use Rattle.std.specs.List.{prefix_len}
+use Rattle.yl_text.specs.Character.{starts_by}
 use Rattle.yl_text.specs.Finding.{FindingValue, one_finding, at_each}
 use Rattle.yl_text.specs.Lines.{RowValue}
 use Rattle.yl_text.specs.declared.row.Break.{Break}
@@ -16,19 +17,9 @@ has_break _ = true
 abbrev pub is_break_only : RowValue → Bool
 is_break_only row = length row.text == 0 && has_break row.end
 
--- another such line comes next
-abbrev pub goes_on : List RowValue → Bool
-goes_on [] = false
-goes_on (row ∷ rows) = is_break_only row
-
 -- the last line comes next, and is empty
 abbrev pub is_text_end : List RowValue → Bool
-is_text_end [] = false
-is_text_end (row ∷ rows) = length row.text == 0 && not (has_break row.end)
-
--- how many such lines a run may have, where it begins the text or not, and stands at its end or not
-abbrev pub max_run : EmptyLinesOptions → Bool → Bool → ℕ
-max_run o at_start at_end = if at_end then o.max_end else if at_start then o.max_start else o.max
+is_text_end = starts_by (λ row. length row.text == 0 && not (has_break row.end))
 
 -- a run of so many lines, the last of which has this number
 abbrev pub too_many_blank_lines : ℕ → ℕ → ℕ → List FindingValue
@@ -36,13 +27,16 @@ too_many_blank_lines run bound line =
     if nat_le run bound then []
     else one_finding EmptyLines line 1 (codes "too many blank lines (" ++ (decimal run ++ (codes " > " ++ (decimal bound ++ codes ")"))))
 
--- a text that is one break alone is let be
+-- a run may be so long as its place says, at the text's end, at its start or elsewhere; a text that is one break alone is let be
 abbrev pub run_findings_of : EmptyLinesOptions → ℕ → ℕ → Bool → List FindingValue
-run_findings_of o run line at_end = if line == 1 && at_end then [] else too_many_blank_lines run (max_run o (run == line) at_end) line
+run_findings_of o run line at_end =
+    if line == 1 && at_end then []
+    else too_many_blank_lines run (if at_end then o.max_end else if run == line then o.max_start else o.max) line
 
 -- at a line with which so many such lines end: there the run is judged, if it goes no further
 abbrev pub at_end_of_run : EmptyLinesOptions → ℕ → ℕ → List RowValue → List FindingValue
-at_end_of_run o run line after = if run == 0 || goes_on after then [] else run_findings_of o run line (is_text_end after)
+at_end_of_run o run line after =
+    if run == 0 || starts_by is_break_only after then [] else run_findings_of o run line (is_text_end after)
 
 abbrev pub empty_lines_at : EmptyLinesOptions → List RowValue → RowValue → List RowValue → List FindingValue
 empty_lines_at o before row after = at_end_of_run o (prefix_len is_break_only (row ∷ before)) (length before + 1) after

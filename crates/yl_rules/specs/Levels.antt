@@ -1,8 +1,9 @@
 -- Meaning: which rules are on, and how grave what they find is: yamllint's option `level`, and its
 -- default configuration.
-use Rattle.std.specs.Prelude.{ℕ, Bool, ◌==◌, if◌then◌else◌, List, Option, Some, None, codes}
+use Rattle.std.specs.Prelude.{ℕ, if◌then◌else◌, List, Option, Some, None, codes, bytes_eq}
+use Rattle.yl_text.specs.Finding.{rule_name}
 use Rattle.yl_text.specs.declared.finding.RuleId.{RuleId}
-use Rattle.yl_text.specs.declared.finding.RuleId.TheVariants.{Anchors, Braces, Brackets, Colons, Commas, Comments, DocumentStart, EmptyLines, Hyphens, Indentation, KeyDuplicates, KeyOrdering, LineLength, NewLineAtEndOfFile, NewLines, QuotedStrings, Syntax, TrailingSpaces, Truthy}
+use Rattle.yl_text.specs.declared.finding.RuleId.TheVariants.{Comments, DocumentStart, KeyOrdering, QuotedStrings, Syntax, Truthy}
 use Rattle.yl_rules.specs.declared.level.Level.{Level}
 use Rattle.yl_rules.specs.declared.level.Level.TheVariants.{Error, Warning}
 
@@ -33,32 +34,6 @@ default_levels DocumentStart = Some Warning
 default_levels Truthy = Some Warning
 default_levels _ = Some Error
 
--- a place for each rule
-abbrev pub rule_number : RuleId → ℕ
-rule_number Anchors = 0
-rule_number Braces = 1
-rule_number Brackets = 2
-rule_number Colons = 3
-rule_number Commas = 4
-rule_number Comments = 5
-rule_number DocumentStart = 6
-rule_number EmptyLines = 7
-rule_number Hyphens = 8
-rule_number Indentation = 9
-rule_number KeyDuplicates = 10
-rule_number KeyOrdering = 11
-rule_number LineLength = 12
-rule_number NewLineAtEndOfFile = 13
-rule_number NewLines = 14
-rule_number QuotedStrings = 15
-rule_number Syntax = 16
-rule_number TrailingSpaces = 17
-rule_number Truthy = 18
-
--- the two are one rule
-abbrev pub is_same_rule : RuleId → RuleId → Bool
-is_same_rule x y = rule_number x == rule_number y
-
--- the table with one rule set
+-- the table with one rule set, which its name tells
 abbrev pub set_level : LevelTable → RuleId → Option Level → LevelTable
-set_level table rule level q = with_syntax q (if is_same_rule q rule then level else table q)
+set_level table rule level q = with_syntax q (if bytes_eq (rule_name q) (rule_name rule) then level else table q)

@@ -1,10 +1,10 @@
 -- Meaning: yamllint's rule new-lines: how the first line of a text ends.
-use Rattle.std.specs.Prelude.{ℕ, Bool, true, false, if◌then◌else◌, List, [], ◌+◌, length, codes, Option, Some, None, slice_get}
+use Rattle.std.specs.Prelude.{ℕ, Bool, true, false, if◌then◌else◌, List, [], ◌∷◌, ◌+◌, length, codes}
 use Rattle.std.specs.Str.{chars}
 use Rattle.yl_text.specs.Finding.{FindingValue, one_finding}
 use Rattle.yl_text.specs.Lines.{RowValue}
 use Rattle.yl_text.specs.declared.row.Break.{Break}
-use Rattle.yl_text.specs.declared.row.Break.TheVariants.{No, Lf, CrLf, Cr}
+use Rattle.yl_text.specs.declared.row.Break.TheVariants.{No, Lf, CrLf}
 use Rattle.yl_text.specs.declared.finding.RuleId.TheVariants.{NewLines}
 use Rattle.yl_rules.specs.declared.new_lines.NewLine.{NewLine}
 use Rattle.yl_rules.specs.declared.new_lines.NewLine.TheVariants.{Unix, Dos}
@@ -13,11 +13,8 @@ use Rattle.yl_rules.specs.declared.new_lines.NewLine.TheVariants.{Unix, Dos}
 abbrev pub is_wrong_break : NewLine → Break → Bool
 is_wrong_break wanted No = false
 is_wrong_break Unix Lf = false
-is_wrong_break Unix CrLf = true
-is_wrong_break Unix Cr = true
-is_wrong_break Dos Lf = true
 is_wrong_break Dos CrLf = false
-is_wrong_break Dos Cr = true
+is_wrong_break _ _ = true
 
 -- the break that is wanted stands in backslash letters
 abbrev pub wrong_break : NewLine → List ℕ
@@ -25,12 +22,7 @@ wrong_break Unix = codes "wrong new line character: expected \\n"
 wrong_break Dos = codes "wrong new line character: expected \\r\\n"
 
 -- behind the last character of the first line
-abbrev pub new_lines_at : NewLine → Option RowValue → List FindingValue
-new_lines_at wanted None = []
-new_lines_at wanted (Some row) =
-    if is_wrong_break wanted row.end
-    then one_finding NewLines 1 (length (chars row.text) + 1) (wrong_break wanted)
-    else []
-
 abbrev pub new_lines : NewLine → List RowValue → List FindingValue
-new_lines wanted rows = new_lines_at wanted (slice_get rows 0)
+new_lines wanted [] = []
+new_lines wanted (row ∷ rows) =
+    if is_wrong_break wanted row.end then one_finding NewLines 1 (length (chars row.text) + 1) (wrong_break wanted) else []

@@ -1,10 +1,10 @@
 //! The rule comments.
-ghost use Rattle.std.specs.Prelude.{◌≡◌, ◌+◌, ◌==◌, ◌<◌, ◌≤◌, ◌++◌, [], length, drop, true, Some, if◌then◌else◌, IfOk, OnOk, OnErr};
+ghost use Rattle.std.specs.Prelude.{◌≡◌, ◌+◌, ◌==◌, not, ◌<◌, ◌≤◌, ◌++◌, [], length, drop, true, Some, if◌then◌else◌, IfOk, OnOk, OnErr};
 ghost use Rattle.std.specs.List.{flat_map, prefix_len};
 ghost use Rattle.std.specs.Option.{option_to_list};
 ghost use Rattle.std.specs.Str.{chars};
-ghost use Rattle.yl_text.specs.Character.{is_non_space};
-ghost use Rattle.yl_rules.specs.Comments.{comment_findings, hash_count, is_exclamation, is_no_space, is_shebang, is_spared, is_too_near, lacks_space, near_findings, after_hashes, starting_space_in, starts_by};
+ghost use Rattle.yl_text.specs.Character.{is_non_space, starts_by};
+ghost use Rattle.yl_rules.specs.Comments.{comment_findings, is_shebang, is_too_near, lacks_space, near_findings, starting_space_in};
 ghost use Rattle.yl_lexeme.specs.PlacedComments.{placed_comment_value};
 
 use crate::bytes::{count_front, past};
@@ -39,7 +39,7 @@ impl CommentsOptions {
 }
 
 fn starts_with_no_space(bytes: &[u8]) -> bool
-    ensures { result ≡ starts_by is_no_space bytes.now }
+    ensures { result ≡ starts_by (λ c. not (c == 32)) bytes.now }
 {
     match bytes {
         [] => false,

@@ -1,7 +1,7 @@
 //! The rule empty-lines.
-ghost use Rattle.std.specs.Prelude.{◌≡◌, ◌+◌, ◌<◌, ◌≤◌, ◌^◌, ◌++◌, ◌∷◌, [], IfOk, OnErr, OnOk};
+ghost use Rattle.std.specs.Prelude.{◌≡◌, ◌+◌, ◌<◌, ◌≤◌, ◌^◌, ◌++◌, ◌∷◌, [], if◌then◌else◌, IfOk, OnErr, OnOk};
 ghost use Rattle.std.specs.Option.{option_to_list};
-ghost use Rattle.yl_rules.specs.EmptyLines.{at_end_of_run, is_break_only, is_text_end, run_findings_of, max_run, too_many_blank_lines};
+ghost use Rattle.yl_rules.specs.EmptyLines.{at_end_of_run, is_break_only, is_text_end, run_findings_of, too_many_blank_lines};
 ghost use Rattle.yl_rules.specs.RunsLeft.{next_run};
 
 use crate::pushes::push_found;
@@ -33,7 +33,7 @@ fn is_end(text: &str, end: Break) -> bool
 }
 
 fn most(options: &EmptyLinesOptions, at_start: bool, at_end: bool) -> u32
-    ensures { result ≡ max_run options.now at_start at_end }
+    ensures { result ≡ (if at_end then (options.now).max_end else if at_start then (options.now).max_start else (options.now).max) }
 {
     if at_end {
         options.max_end

@@ -9,10 +9,11 @@ use Prim.Native.Char.{code}
 abbrev pub simple_escape : ℕ → Option ℕ
 simple_escape c =
     if c == code "0" then Some 0x00 else if c == code "a" then Some 0x07 else if c == code "b" then Some 0x08
-    else if c == code "t" || c == code "\t" then Some 0x09 else if c == code "n" then Some 0x0A else if c == code "v" then Some 0x0B
-    else if c == code "f" then Some 0x0C else if c == code "r" then Some 0x0D else if c == code "e" then Some 0x1B
-    else if c == code " " || c == code "\"" || c == code "/" || c == code "\\" then Some c else if c == code "N" then Some 0x85
-    else if c == code "_" then Some 0xA0 else if c == code "L" then Some 0x2028 else if c == code "P" then Some 0x2029 else None
+    else if c == code "t" || c == code "\t" then Some 0x09 else if c == code "n" then Some 0x0A
+    else if c == code "v" then Some 0x0B else if c == code "f" then Some 0x0C else if c == code "r" then Some 0x0D
+    else if c == code "e" then Some 0x1B else if c == code " " || c == code "\"" || c == code "/" || c == code "\\" then Some c
+    else if c == code "N" then Some 0x85 else if c == code "_" then Some 0xA0
+    else if c == code "L" then Some 0x2028 else if c == code "P" then Some 0x2029 else None
 
 -- how many hexadecimal digits follow it (ns-esc-8-bit, ns-esc-16-bit, ns-esc-32-bit)
 abbrev pub hex_len : ℕ → ℕ

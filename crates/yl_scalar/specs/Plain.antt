@@ -9,8 +9,8 @@ use Rattle.yl_text.specs.Character.{is_white, is_flow_indicator, is_plain_safe, 
 abbrev pub stop : Bool → Bool → List ℕ → ℕ
 stop flow behind_space [] = 0
 stop flow behind_space (c ∷ cs) =
-    if (c == code ":" && not (starts_by (is_plain_safe flow) cs)) || (c == code "#" && behind_space) || (flow && is_flow_indicator c)
-    then 0 else 1 + stop flow (is_white c) cs
+    if (c == code ":" && not (starts_by (is_plain_safe flow) cs)) || (c == code "#" && behind_space)
+    || (flow && is_flow_indicator c) then 0 else 1 + stop flow (is_white c) cs
 
 -- the scalar goes up to the line's end, so that a later line may go on with it
 abbrev pub reaches_end : Bool → Bool → List ℕ → Bool

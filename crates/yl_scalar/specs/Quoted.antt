@@ -28,6 +28,7 @@ stretch double skip text kept at (c ∷ cs) =
     (if not double && slice_index cs 0 == code "'" then stretch double 1 (text ++ c ∷ []) (length text + 1) (at + 1) cs else Closes text (at + 1))
     else if double && c == code "\\" then
     (if length cs == 0 then Breaks text (Some at)
-    else option_map_or (λ e. stretch double (e.1 + 1) (text ++ e.0 ∷ []) (length text + 1) (at + 1) cs) (escape cs) (Faulty BadEscape at))
+    else option_map_or (λ e. stretch double (e.1 + 1) (text ++ e.0 ∷ []) (length text + 1) (at + 1) cs) (escape cs)
+    (Faulty BadEscape at))
     else if is_quoted_character c then stretch double 0 (text ++ c ∷ []) (if is_white c then kept else length text + 1) (at + 1) cs
     else Faulty NotAllowed at

@@ -47,7 +47,8 @@ quoted_step s line =
 -- the text ends: directly behind a backslash, which is half an escape, or somewhere else
 abbrev pub quoted_finish : QuotedReaderValue → ScalarOutcomeValue
 quoted_finish s =
-    option_map_or (λ column. Refused BadEscape s.down column) (if s.blanks == 0 then s.backslash else None) (Refused UnclosedQuote 0 s.opening)
+    option_map_or (λ column. Refused BadEscape s.down column) (if s.blanks == 0 then s.backslash else None)
+    (Refused UnclosedQuote 0 s.opening)
 
 -- the scalar whose quote opens at this column, from behind it on, with the lines below
 abbrev pub quoted : Bool → ℕ → List ℕ → List (List ℕ) → ScalarOutcomeValue

@@ -1,5 +1,5 @@
 -- What is kept of a section stands in its own lines: what is found in it, its facts and its comments.
-use Rattle.std.proofs.Common.{◌≡◌, ◌<◌, ◌≤◌, ℕ, ◌+◌, Bool, true, false, List, [], ◌∷◌, length, map, take, Option, Some, None, arith, refl}
+use Rattle.std.proofs.Common.{◌≡◌, ◌<◌, ◌≤◌, ℕ, ◌+◌, Bool, true, false, List, [], ◌∷◌, length, map, take, Option, Some, None, arith, refl, drop}
 use Rattle.std.specs.Prelude.{IfSome, option_map, slice_get}
 use Rattle.std.specs.List.{AllByRecursion, flat_map}
 use Rattle.std.specs.Str.{chars}
@@ -21,7 +21,7 @@ use Rattle.yl_indentation.specs.declared.fact.Fact.{Fact}
 use Rattle.yl_indentation.proofs.Own.{own_facts}
 use Rattle.yl_tree.proofs.Own.{Begins, OfEventRules, own_events}
 use Rattle.yl_rules.specs.Addressed.{is_addressed}
-use Rattle.yl_rules.specs.Comments.{after_hashes, comment_findings, hash_count, is_too_near, lacks_space, near_findings, starting_space_in}
+use Rattle.yl_rules.specs.Comments.{comment_findings, is_too_near, lacks_space, near_findings, starting_space_in}
 use Rattle.yl_rules.specs.declared.comments.CommentsOptions.{CommentsOptions}
 use Rattle.yl_config.specs.declared.config.Config.{Config}
 use Rattle.yl_config.specs.Config.{options_of}
@@ -112,7 +112,7 @@ module _ (K : RuleId → Type 0) (k : OfSectionRules K) (config : Config) (rs : 
   own_near o c h = all_if P (is_too_near o.min_spaces_from_content c.behind c.column) _ (own Comments c.line (c.column + 1) _ k.comments h, tt)
 
   own_starting : (o : CommentsOptions) (line column : ℕ) (cs : List ℕ) → line < length rs → AllByRecursion P (starting_space_in o line column cs)
-  own_starting o line column cs h = all_if P (lacks_space o line column (after_hashes cs)) _ (own Comments line (column + hash_count cs + 1) _ k.comments h, tt)
+  own_starting o line column cs h = all_if P (lacks_space o line column (drop (hash_count cs) cs)) _ (own Comments line (column + hash_count cs + 1) _ k.comments h, tt)
 
   own_comments : (cs : List PlacedCommentValue) → AllByRecursion (λ c. c.line < length rs) cs → AllByRecursion P (shown_comment_findings config cs)
   own_comments cs h =

@@ -50,4 +50,5 @@ pub record IsFrontCut (ps : List RowValue) (p : Pos) (a byte : ℕ) : Type 0 whe
 
 -- a line begins behind these bytes, if one begins before them where they are none
 abbrev pub BeginsBehind : List ℕ → List ℕ → Type 0
-BeginsBehind x y = (x ≡ []) ⊎ ((0 < length x) × ((last_byte x ≡ code "\n") ⊎ ((last_byte x ≡ code "\r") × (first_byte y ≢ code "\n"))))
+BeginsBehind x y =
+    (x ≡ []) ⊎ ((0 < length x) × ((last_byte x ≡ code "\n") ⊎ ((last_byte x ≡ code "\r") × (first_byte y ≢ code "\n"))))

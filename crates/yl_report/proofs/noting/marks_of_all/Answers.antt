@@ -1,7 +1,7 @@
 use Rattle.std.proofs.Common.{◌<◌, ◌+◌, ◌∙◌, ap, arith, length, map}
 use Rattle.std.specs.Prelude.{slice_get}
 use Rattle.std.proofs.lemmas.List.{length_push}
-use Rattle.yl_rules.specs.Levels.{rule_number}
+use Rattle.yl_rules.specs.LevelOf.{rule_number}
 use Rattle.yl_lexeme.specs.PlacedComments.{placed_comment_value}
 use Rattle.yl_report.specs.Silence.{is_silenced_in}
 use Rattle.yl_report.proofs.Places.{marked_more, slot_below}

@@ -1,6 +1,6 @@
 use Rattle.std.proofs.Common.{◌≡◌, ◌<◌, ℕ, length, map}
 use Rattle.std.specs.Prelude.{slice_get}
-use Rattle.yl_rules.specs.Levels.{rule_number}
+use Rattle.yl_rules.specs.LevelOf.{rule_number}
 use Rattle.yl_text.specs.declared.finding.RuleId.{RuleId}
 use Rattle.yl_lexeme.specs.PlacedComments.{placed_comment_value}
 use Rattle.yl_report.specs.Directive.{is_silenced}

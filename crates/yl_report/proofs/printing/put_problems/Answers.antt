@@ -1,7 +1,12 @@
 use Rattle.std.proofs.Common.{arith, rules}
-use Rattle.yl_report.specs.Report.{problem_text}
+use Rattle.std.specs.Prelude.{ℕ, Bool, ◌&&◌, not, List, [], if◌then◌else◌}
+use Rattle.yl_report.specs.Report.{ProblemValue, is_error, printed_line}
 use Rattle.yl_devices.proofs.Pieces.{items_break, items_go_on, on_err}
 use Rattle.yl_report.proofs.printing.put_problems.Goals as goal
+
+-- what is printed of a problem
+abbrev problem_text : List ℕ → Bool → ProblemValue → List ℕ
+problem_text name no_warnings p = if no_warnings && not (is_error p.level) then [] else printed_line name p
 
 pub returns-in_err-put_problem-clause-err : goal.returns-in_err-put_problem-clause-err
 returns-in_err-put_problem-clause-err g c =

@@ -2,7 +2,7 @@ use Rattle.std.proofs.Common.{◌≡◌, ◌<◌, ◌≤◌, sym, ap, ◌∙◌,
 use Rattle.std.specs.Prelude.{slice_get}
 use Rattle.std.proofs.lemmas.Bool.{ltb-true, ltb-false}
 use Rattle.std.proofs.lemmas.Option.{slice_get_read, slice_get_past}
-use Rattle.yl_rules.specs.Levels.{rule_number}
+use Rattle.yl_rules.specs.LevelOf.{rule_number}
 use Rattle.yl_report.specs.declared.marks.SilencedLines.{SilencedLines}
 use Rattle.yl_report.specs.Silence.{is_silenced_at, is_silenced_in}
 use Rattle.yl_report.proofs.silence.Silences.is_silenced.Goals as goal
