@@ -1,6 +1,6 @@
 -- Meaning: where the first lexeme of a line is expected, by what is open around it (yamllint's rule
 -- indentation).
-use Rattle.std.specs.Prelude.{ℕ, Bool, true, false, ◌&&◌, ◌||◌, ◌==◌, if◌then◌else◌, List, [], ◌∷◌, Option, Some, None}
+use Rattle.std.specs.Prelude.{Bool, true, false, ◌&&◌, ◌||◌, ◌==◌, if◌then◌else◌, List, [], ◌∷◌, Option, Some, None}
 use Rattle.std.specs.Option.{option_map_or}
 use Rattle.yl_lexeme.specs.Lexeme.{is_closing, is_property, is_entry, is_key, is_value, is_comma}
 use Rattle.yl_marks.specs.declared.token.Token.{Token}

@@ -1,6 +1,6 @@
 -- Meaning: the checked places of a document (yamllint's rule indentation). Elements before a place
 -- are listed with the latest first, open collections with the innermost first.
-use Rattle.std.specs.Prelude.{ℕ, Bool, true, false, not, ◌&&◌, ◌||◌, nat_lt, if◌then◌else◌, List, [], ◌∷◌, ◌++◌, map, drop, Option, Some, None, option_map, option_to_list}
+use Rattle.std.specs.Prelude.{ℕ, true, false, not, ◌&&◌, ◌||◌, nat_lt, if◌then◌else◌, List, [], ◌∷◌, ◌++◌, map, drop, Option, Some, None, option_map, option_to_list}
 use Rattle.std.specs.Option.{option_or, option_map_or}
 use Rattle.yl_lexeme.specs.declared.lexeme.Kind.{Kind}
 use Rattle.yl_lexeme.specs.Directives.{is_directive}
@@ -9,10 +9,9 @@ use Rattle.yl_marks.specs.declared.token.Token.{Token}
 use Rattle.yl_marks.specs.declared.symbol.Marked.{Marked}
 use Rattle.yl_indentation.specs.declared.element.Site.{Site}
 use Rattle.yl_indentation.specs.declared.element.Element.{Element}
-use Rattle.yl_indentation.specs.declared.element.Element.TheVariants.{Opening, Closing, Marker, OpeningBracket, ClosingBracket, Other, Nothing}
+use Rattle.yl_indentation.specs.declared.element.Element.TheVariants.{Opening, Marker, OpeningBracket, ClosingBracket, Other, Nothing}
 use Rattle.yl_indentation.specs.declared.context.OpenCollection.{OpenCollection}
 use Rattle.yl_indentation.specs.declared.context.OpenCollection.TheVariants.{Block, Brackets}
-use Rattle.yl_indentation.specs.declared.fact.Expectation.{Expectation}
 use Rattle.yl_indentation.specs.declared.fact.Fact.{Fact}
 use Rattle.yl_indentation.specs.Elements.{element_of}
 use Rattle.yl_indentation.specs.Expected.{expectation_of_items, expectation_in}
@@ -58,8 +57,7 @@ fact_at os latest site =
     if site.counts && not (is_document_marker x.kind || is_directive x.kind)
     && option_map_or (λ l. nat_lt l.end_line x.start.line) latest true
     then option_to_list (option_map (λ e. record { line = x.start.line; column = x.start.col; expectation = e })
-    (expectation_in os latest x))
-    else []
+    (expectation_in os latest x)) else []
 
 abbrev pub facts_after : List Element → List Element → List Fact
 facts_after before [] = []
