@@ -1,12 +1,12 @@
 -- The columns that are kept are those that are open.
 use Rattle.std.proofs.Common.{◌≡◌, ℕ, ◌+◌, ◌-◌, ◌<◌, ◌≤◌, ◌⊎◌, Bool, true, false, not, ◌&&◌, ◌||◌, cond, List, [], ◌∷◌, refl, ap, sym, ◌∙◌, arith, eqb, ltb, leb, ⊎_elim}
-use Rattle.std.specs.Prelude.{Option, Some, None}
+use Rattle.std.specs.Prelude.{Option, Some, None, unwrap_or}
 use Rattle.std.specs.List.{list_any}
 use Rattle.std.proofs.lemmas.Bool.{eqb-true, ltb-true, ltb-false, leb-true, leb-false, lt-ltb, le-ltb, le-leb, eq-eqb, ne_eqb, cases_eq, and_parts, and_right, and_from, or_cases, or_left, not-true}
 use Rattle.yl_lexeme.specs.declared.lexeme.Kind.{Kind}
 use Rattle.yl_lexeme.specs.declared.lexeme.Kind.TheVariants.{DocStart, DocEnd}
 use Rattle.yl_lexeme.specs.Lexeme.{is_document_marker, is_entry, is_key, is_value}
-use Rattle.yl_lexeme.specs.Past.{PastLexeme, with_column, up_to, cut, or_own, levels}
+use Rattle.yl_lexeme.specs.Past.{PastLexeme, with_column, up_to, cut, levels}
 use Rattle.yl_lexeme.specs.Columns.{is_column, is_open, is_falling, ColumnsAreOpen, ColumnsFall}
 
 -- this column is among these
@@ -167,10 +167,10 @@ falling false false false false first column own ls h = cut_falls first column l
 
 pub columns_fall : ColumnsFall
 columns_fall [] = refl
-columns_fall (x ∷ xs) = falling (is_document_marker x.kind) x.flow (is_entry x.kind || is_key x.kind) (is_value x.kind) x.first x.column (or_own x.column x.key) (levels xs) (columns_fall xs)
+columns_fall (x ∷ xs) = falling (is_document_marker x.kind) x.flow (is_entry x.kind || is_key x.kind) (is_value x.kind) x.first x.column (unwrap_or x.key x.column) (levels xs) (columns_fall xs)
 
 pub columns_are_open : ColumnsAreOpen
 columns_are_open [] right column = refl
 columns_are_open (x ∷ xs) right column =
-    more x.column (or_own x.column x.key) xs (levels xs) (columns_fall xs) (columns_are_open xs right.0) column
+    more x.column (unwrap_or x.key x.column) xs (levels xs) (columns_fall xs) (columns_are_open xs right.0) column
     (is_document_marker x.kind) x.flow (is_entry x.kind || is_key x.kind) (is_value x.kind) x.first (marker_gives_none x.kind) right.1

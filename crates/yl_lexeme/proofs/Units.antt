@@ -4,7 +4,7 @@ use Rattle.std.proofs.Math.Dec.{eqb-suc-zero, eqb-suc-suc}
 use Rattle.yl_lexeme.specs.declared.lexeme.Kind.{Kind}
 use Rattle.yl_lexeme.specs.declared.lexeme.Kind.TheVariants.{Anchor, Tag}
 use Rattle.yl_lexeme.specs.Lexeme.{is_opening, is_closing, is_property, is_anchor, is_leaf}
-use Rattle.yl_lexeme.specs.Keys.{Spot, from_partner, from_properties, unit_from, or_from, are_both, start_of, key_start}
+use Rattle.yl_lexeme.specs.Keys.{Spot, from_partner, from_properties, unit_from, or_from, start_of, key_start}
 use Rattle.yl_lexeme.specs.Kept.{KeyUnitValue, all_but_first, first_of, flattened_option, content_start, property_start, key_unit_behind, key_unit_of}
 
 -- without so many
@@ -32,6 +32,10 @@ property_if b x = cond b (Some (is_anchor x.kind, x.start)) None
 abbrev property_of : {T : Type 0} → List (Spot T) → Option (Bool × Option T)
 property_of [] = None
 property_of (x ∷ xs) = property_if (is_property x.kind) x
+
+-- two properties of one node
+abbrev are_both : Kind → Kind → Bool
+are_both k other = is_property other && cond (is_anchor k) (not (is_anchor other)) (is_anchor other)
 
 -- where a content and its properties begin, if a list begins with the content's first lexeme
 abbrev whole_start : {T : Type 0} → List (Spot T) → Option T

@@ -1,15 +1,15 @@
 -- Meaning: which columns are those of open block collections: YAML 1.2.2, 6.1 and 8.2. Lexemes are listed with the latest first.
-use Rattle.std.specs.Prelude.{◌≡◌, ℕ, ◌≤◌, Bool, true, false, not, ◌&&◌, ◌||◌, ◌==◌, nat_lt, if◌then◌else◌, List, [], ◌∷◌, ◌+◌, Option, Some, None}
+use Rattle.std.specs.Prelude.{◌≡◌, ℕ, ◌≤◌, Bool, true, false, not, ◌&&◌, ◌||◌, ◌==◌, nat_lt, if◌then◌else◌, List, [], ◌∷◌, ◌+◌, Option, Some, None, unwrap_or}
 use Rattle.std.specs.List.{list_any}
 use Rattle.yl_lexeme.specs.Lexeme.{is_document_marker, is_entry, is_key, is_value}
-use Rattle.yl_lexeme.specs.Past.{PastLexeme, or_own, levels}
+use Rattle.yl_lexeme.specs.Past.{PastLexeme, levels}
 
 -- the column that a lexeme gives, out of brackets alone: an Entry and a Key their own, a Value that of its key, or its own
 abbrev pub column_given : PastLexeme → Option ℕ
 column_given x =
     if x.flow then None
     else if is_entry x.kind || is_key x.kind then Some x.column
-    else if is_value x.kind then Some (or_own x.column x.key)
+    else if is_value x.kind then Some (unwrap_or x.key x.column)
     else None
 
 abbrev pub is_column : ℕ → Option ℕ → Bool

@@ -22,28 +22,22 @@ abbrev pub from_content : {T : Type 0} → List (Spot T) → List (Spot T)
 from_content [] = []
 from_content (x ∷ xs) = if is_closing x.kind then from_partner 1 xs else if is_leaf x.kind then x ∷ xs else []
 
--- two properties of one node: an anchor and a tag
-abbrev pub are_both : Kind → Kind → Bool
-are_both k other = is_property other && (if is_anchor k then not (is_anchor other) else is_anchor other)
-
 -- the first lexeme of the properties that the list begins with, and all before it: at most one anchor and one tag
 abbrev pub from_properties : {T : Type 0} → List (Spot T) → List (Spot T)
 from_properties [] = []
 from_properties (x ∷ []) = if is_property x.kind then x ∷ [] else []
 from_properties (x ∷ y ∷ xs) =
-    if not (is_property x.kind) then [] else if are_both x.kind y.kind then y ∷ xs else x ∷ y ∷ xs
+    let is_other = if is_anchor x.kind then not (is_anchor y.kind) else is_anchor y.kind in
+    if not (is_property x.kind) then [] else if is_property y.kind && is_other then y ∷ xs else x ∷ y ∷ xs
 
 abbrev pub or_from : {T : Type 0} → List (Spot T) → List (Spot T) → List (Spot T)
 or_from [] ys = ys
 or_from (x ∷ xs) ys = x ∷ xs
 
+-- the latest lexemes that are one unit (a content with its properties, or properties alone), from its first lexeme on
 abbrev pub unit_from : {T : Type 0} → List (Spot T) → List (Spot T) → List (Spot T)
 unit_from [] properties = properties
 unit_from (x ∷ xs) properties = or_from (from_properties xs) (x ∷ xs)
-
--- the latest lexemes that are one unit (a content with its properties, or properties alone), from its first lexeme on
-abbrev pub from_unit : {T : Type 0} → List (Spot T) → List (Spot T)
-from_unit xs = unit_from (from_content xs) (from_properties xs)
 
 -- where a list's first lexeme begins, if a key may begin there
 abbrev pub start_of : {T : Type 0} → List (Spot T) → Option T
@@ -52,4 +46,4 @@ start_of (x ∷ xs) = x.start
 
 -- where a key of which the latest lexeme is the last begins: the unit before a Value, all of it in the Value's line
 abbrev pub key_start : {T : Type 0} → List (Spot T) → Option T
-key_start xs = start_of (from_unit xs)
+key_start xs = start_of (unit_from (from_content xs) (from_properties xs))

@@ -4,7 +4,7 @@ use Rattle.std.specs.Prelude.{ℕ, Bool, false, not, ◌&&◌, if◌then◌else�
 use Rattle.yl_lexeme.specs.declared.lexeme.Kind.{Kind}
 use Rattle.yl_lexeme.specs.Lexeme.{is_document_marker, is_opening, is_closing}
 use Rattle.yl_lexeme.specs.Kept.{KeyUnitValue, all_but_first, key_unit_behind}
-use Rattle.yl_lexeme.specs.Past.{PastLexeme, Context, spot, open_brackets, levels, last_kind, is_flow, opens_item, is_asking, cut, levels_with}
+use Rattle.yl_lexeme.specs.Past.{PastLexeme, Context, spot, open_brackets, levels, last_kind, is_flow, opens_item, asks_behind, cut, levels_with}
 
 -- levels: one more than each column, the greatest first. brackets: the open ones, the innermost first. asks: the latest lexeme is
 -- an Entry, a Key or a Value without key. unit: where the unit that the latest lexemes make begins, if a key may begin there.
@@ -38,15 +38,7 @@ new_row k = row_start k.levels k.brackets k.last
 
 -- at a place, which removes the columns that are greater if it is first in its row, out of brackets
 abbrev pub surroundings_at : Bool → ℕ → SurroundingsValue → SurroundingsValue
-surroundings_at first column k = record {
-  levels = cut (first && not (is_flow k.brackets)) column k.levels;
-  brackets = k.brackets;
-  last = k.last;
-  asks = k.asks;
-  unit = k.unit;
-  outer = k.outer;
-  property = k.property;
-}
+surroundings_at first column k = record k { levels = cut (first && not (is_flow k.brackets)) column k.levels }
 
 -- before any lexeme
 abbrev pub no_surroundings : SurroundingsValue
@@ -77,7 +69,7 @@ surroundings_behind x k = record {
   levels = levels_with x k.levels;
   brackets = brackets_with x.kind k.brackets;
   last = Some x.kind;
-  asks = is_asking x;
+  asks = asks_behind x.kind x.key;
   unit = unit_with x k;
   outer = outer_with x k;
   property = (key_unit_behind x.kind (own_column x) (row_unit k)).property;

@@ -1,8 +1,6 @@
 -- Meaning: what clauses see of lexemes and comments.
 use Rattle.std.specs.Prelude.{ℕ, Bool, true, false, List, Option}
 use Rattle.yl_text.specs.declared.position.Pos.{Pos}
-use Rattle.yl_lexeme.specs.declared.lexeme.Style.{Style}
-use Rattle.yl_lexeme.specs.declared.lexeme.Style.TheVariants.{Single, Double}
 use Rattle.yl_lexeme.specs.declared.lexeme.Kind.{Kind}
 use Rattle.yl_lexeme.specs.declared.lexeme.Kind.TheVariants.{DocStart, DocEnd, Entry, Key, Value, Comma, SeqOpen, SeqClose, MapOpen, MapClose, Alias, Anchor, Tag, Scalar}
 
@@ -18,12 +16,10 @@ pub record CommentValue : Type 0 where
   pub column : ℕ
   pub text : List ℕ
 
--- a comment at a place in a text, both numbers from 0; and where in its line the lexeme before it
--- ends, if one does
+-- a comment in a text: its place, from 0; its text, `#` up to the break, in UTF-8; where the lexeme before it in its line ends
 pub record PlacedCommentValue : Type 0 where
   pub line : ℕ
   pub column : ℕ
-  -- from its `#` to before the break, in UTF-8
   pub text : List ℕ
   pub behind : Option ℕ
 
@@ -67,21 +63,8 @@ abbrev pub is_comma : Kind → Bool
 is_comma Comma = true
 is_comma _ = false
 
-abbrev pub is_quoted_style : Style → Bool
-is_quoted_style Single = true
-is_quoted_style Double = true
-is_quoted_style _ = false
-
-abbrev pub is_quoted : Kind → Bool
-is_quoted (Scalar s) = is_quoted_style s
-is_quoted _ = false
-
 -- an alias or a scalar
 abbrev pub is_leaf : Kind → Bool
 is_leaf (Scalar s) = true
 is_leaf Alias = true
 is_leaf _ = false
-
-abbrev pub opens_sequence : Kind → Bool
-opens_sequence SeqOpen = true
-opens_sequence _ = false

@@ -1,6 +1,7 @@
 -- Meaning: what the earlier lexemes say of a place: YAML 1.2.2, chapters 6 to 8. They are listed
 -- with the latest first: here, those that begin in this line, and older, those before.
-use Rattle.std.specs.Prelude.{ℕ, Bool, true, false, not, ◌&&◌, ◌||◌, ◌==◌, nat_lt, nat_le, if◌then◌else◌, List, [], ◌∷◌, ◌++◌, map, ◌+◌, ◌-◌, Option, Some, None, is_some}
+use Rattle.std.specs.Prelude.{ℕ, Bool, true, false, not, ◌&&◌, ◌||◌, ◌==◌, nat_lt, nat_le, if◌then◌else◌, List, [], ◌∷◌, ◌++◌, map, ◌+◌, ◌-◌, Option, Some, None, is_some, option_and_then, unwrap_or}
+use Rattle.std.specs.Bool.{then_some}
 use Rattle.yl_lexeme.specs.declared.lexeme.Kind.{Kind}
 use Rattle.yl_lexeme.specs.Lexeme.{is_document_marker, is_opening, is_closing, is_entry, is_key, is_value, is_comma}
 use Rattle.yl_lexeme.specs.Keys.{Spot, key_start}
@@ -30,7 +31,7 @@ open_brackets skip (x ∷ xs) =
 
 -- a lexeme with its column, if a key may begin at it
 abbrev pub spot : PastLexeme → Spot ℕ
-spot x = record { kind = x.kind; start = if x.begins then Some x.column else None }
+spot x = record { kind = x.kind; start = then_some x.begins x.column }
 
 -- no more than 1024 characters before this column
 abbrev pub is_near : ℕ → ℕ → Bool
@@ -38,8 +39,7 @@ is_near column start = nat_le column (start + 1024)
 
 -- the column of the key of a Value at this column, by where the unit directly before it begins
 abbrev pub near : ℕ → Option ℕ → Option ℕ
-near column None = None
-near column (Some start) = if nat_le start column && is_near column start then Some start else None
+near column start = option_and_then (λ start. then_some (nat_le start column && is_near column start) start) start
 
 abbrev pub opens_item : Option Kind → Bool
 opens_item None = false
@@ -49,12 +49,9 @@ opens_item (Some k) = is_opening k || is_comma k
 abbrev pub asks_behind : Kind → Option ℕ → Bool
 asks_behind kind key = is_entry kind || is_key kind || (is_value kind && not (is_some key))
 
-abbrev pub is_asking : PastLexeme → Bool
-is_asking x = asks_behind x.kind x.key
-
 abbrev pub asks_for_node : List PastLexeme → Bool
 asks_for_node [] = false
-asks_for_node (x ∷ xs) = is_asking x
+asks_for_node (x ∷ xs) = asks_behind x.kind x.key
 
 -- ---- columns (indentation: 6.1, 8.2)
 
@@ -75,21 +72,14 @@ up_to column (l ∷ ls) = if nat_lt (column + 1) l then up_to column ls else l �
 abbrev pub cut : Bool → ℕ → List ℕ → List ℕ
 cut removes column levels = if removes then up_to column levels else levels
 
-abbrev pub or_own : ℕ → Option ℕ → ℕ
-or_own own None = own
-or_own own (Some key) = key
-
--- behind a lexeme of this kind, in brackets or not, first or not, at this column, with this key, where these are the columns before it
-abbrev pub levels_behind : Kind → Bool → Bool → ℕ → Option ℕ → List ℕ → List ℕ
-levels_behind kind flow first column key levels =
-    if is_document_marker kind then []
-    else if flow then levels
-    else if is_entry kind || is_key kind then with_column column (cut first column levels)
-    else if is_value kind then with_column (or_own column key) (cut first column levels)
-    else cut first column levels
-
+-- behind a lexeme, where these are the columns before it
 abbrev pub levels_with : PastLexeme → List ℕ → List ℕ
-levels_with x levels = levels_behind x.kind x.flow x.first x.column x.key levels
+levels_with x levels =
+    if is_document_marker x.kind then []
+    else if x.flow then levels
+    else if is_entry x.kind || is_key x.kind then with_column x.column (cut x.first x.column levels)
+    else if is_value x.kind then with_column (unwrap_or x.key x.column) (cut x.first x.column levels)
+    else cut x.first x.column levels
 
 abbrev pub levels : List PastLexeme → List ℕ
 levels [] = []
@@ -101,14 +91,12 @@ abbrev pub last_kind : List PastLexeme → Option Kind
 last_kind [] = None
 last_kind (x ∷ xs) = Some x.kind
 
--- what surrounds a place
+-- what surrounds a place. behind: a key may begin behind the last lexeme. start: where a Value's key would begin, if not too far
 pub record Context : Type 0 where
   pub levels : List ℕ
   pub brackets : List Kind
   pub last : Option Kind
-  -- a key may begin behind the latest lexeme
   pub behind : Bool
-  -- where a Value's key would begin, if it is not too far
   pub start : Option ℕ
 
 abbrev pub is_flow : List Kind → Bool
@@ -120,27 +108,17 @@ in_flow a = is_flow a.brackets
 
 abbrev pub context_from : List PastLexeme → List PastLexeme → Context
 context_from here older =
-    let brackets = open_brackets 0 (here ++ older) in
-    record {
-      levels = levels (here ++ older);
-      brackets = brackets;
-      last = last_kind (here ++ older);
-      behind = if is_flow brackets then opens_item (last_kind (here ++ older)) else asks_for_node here;
-      start = key_start (map spot here);
-    }
+    let xs = here ++ older in
+    let brackets = open_brackets 0 xs in
+    let behind = if is_flow brackets then opens_item (last_kind xs) else asks_for_node here in
+    record { levels = levels xs; brackets = brackets; last = last_kind xs; behind = behind; start = key_start (map spot here) }
 
 abbrev pub may_begin : Bool → Context → Bool
 may_begin first a = if in_flow a then a.behind else first || a.behind
 
 -- at a place, which removes the columns that are greater if it is first in its row, out of brackets
 abbrev pub at_place : Bool → ℕ → Context → Context
-at_place first column a = record {
-  levels = cut (first && not (is_flow a.brackets)) column a.levels;
-  brackets = a.brackets;
-  last = a.last;
-  behind = a.behind;
-  start = a.start;
-}
+at_place first column a = record a { levels = cut (first && not (in_flow a)) column a.levels }
 
 -- what is remembered of a lexeme at a column
 abbrev pub past_lexeme : ℕ → Bool → Context → Kind → PastLexeme

@@ -1,8 +1,8 @@
 //! What the earlier lexemes say of a place.
 
-ghost use Rattle.std.specs.Prelude.{◌≡◌, ◌≤◌, ◌<◌, ◌+◌, ◌^◌, [], IfOk, None};
+ghost use Rattle.std.specs.Prelude.{◌≡◌, ◌≤◌, ◌<◌, ◌+◌, ◌^◌, [], IfOk, None, false};
 ghost use Rattle.std.specs.Option.{ForSome};
-ghost use Rattle.yl_lexeme.specs.Past.{up_to, with_column, is_near, near, level, in_flow, may_begin, levels_behind, asks_behind};
+ghost use Rattle.yl_lexeme.specs.Past.{up_to, with_column, is_near, near, level, in_flow, may_begin, levels_with, asks_behind};
 ghost use Rattle.yl_lexeme.specs.Known.{context_of, new_row, surroundings_at, surroundings_behind, row_start, brackets_with};
 ghost use Rattle.yl_lexeme.specs.Past.{past_lexeme};
 ghost use Rattle.yl_lexeme.specs.Surroundings.{surroundings_value};
@@ -202,7 +202,7 @@ fn pass_levels<A: Allocator + Copy>(
     start: Option<usize>,
 ) -> Result<(), AllocError>
     requires { at < 2 ^ 31 }
-    ensures { IfOk result (λ _. levels.new ≡ levels_behind kind flow first at (near at start) levels.old) }
+    ensures { IfOk result (λ _. levels.new ≡ levels_with (record { kind = kind; column = at; first = first; flow = flow; begins = false; key = near at start }) levels.old) }
 {
     if kind.is_document_marker() {
         levels.clear();

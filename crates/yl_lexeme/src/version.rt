@@ -1,7 +1,7 @@
 //! The directive that says that a document is one of YAML 1.2: YAML 1.2.2, 6.8.1.
-ghost use Rattle.std.specs.Prelude.{◌≡◌, codes};
+ghost use Rattle.std.specs.Prelude.{◌≡◌, ◌&&◌, bytes_eq, codes, drop, take};
 ghost use Rattle.yl_text.specs.Character.{is_white};
-ghost use Rattle.yl_lexeme.specs.Version.{is_behind_white, is_version_1_2};
+ghost use Rattle.yl_lexeme.specs.Version.{is_behind_white};
 
 fn is_white(c: u8) -> bool
     ensures { result ≡ is_white c }
@@ -27,7 +27,7 @@ fn is_behind_white(text: &[u8]) -> bool
 
 /// Whether a text consists of the words `%YAML` and `1.2` with white space between.
 pub(crate) fn is_version_1_2(text: &[u8]) -> bool
-    ensures { result ≡ is_version_1_2 text.now }
+    ensures { result ≡ (bytes_eq (take 5 text.now) (codes "%YAML") && is_behind_white (codes "1.2") (drop 5 text.now)) }
 {
     match text.strip_prefix(b"%YAML") {
         None => false,

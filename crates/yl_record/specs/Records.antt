@@ -16,9 +16,8 @@ pub record RecordValue : Type 0 where
 
 -- entries, each with how many spaces its row begins with
 abbrev pub records_with : List ℕ → List RowEntry → List RecordValue
-records_with [] es = []
-records_with (n ∷ ns) [] = []
 records_with (n ∷ ns) (e ∷ es) = record { indentation = n; entry = e } ∷ records_with ns es
+records_with _ _ = []
 
 -- the records of a text of these rows, each given as its characters
 abbrev pub records : List (List ℕ) → List RecordValue

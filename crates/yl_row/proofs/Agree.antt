@@ -1,13 +1,14 @@
 -- The rows of a text, read by looking back and from what is kept, are the same.
 use Rattle.std.proofs.Common.{◌≡◌, ℕ, zero, suc, ◌+◌, ◌-◌, Bool, true, false, cond, not, ◌&&◌, List, [], ◌∷◌, ◌++◌, Option, Some, None, refl, ap, sym, ◌∙◌, eqb, ltb}
+use Rattle.std.specs.Option.{option_or}
 use Rattle.yl_text.specs.Character.{is_white}
 use Rattle.yl_row.specs.declared.fault.PlacedScanFault.{PlacedScanFault}
 use Rattle.yl_lexeme.specs.Lexeme.{LexemeValue, CommentValue, is_property, is_anchor}
 use Rattle.yl_lexeme.specs.declared.lexeme.Kind.{Kind}
-use Rattle.yl_lexeme.specs.Past.{past_lexeme, PastLexeme, Context, context_from, at_place, is_flow, is_asking, up_to, cut, levels_behind, levels_with}
-use Rattle.yl_row.specs.Step.{FoundLexemeValue, found_at, step_fault, bad_in, first_tab}
+use Rattle.yl_lexeme.specs.Past.{past_lexeme, PastLexeme, Context, context_from, at_place, is_flow, asks_behind, up_to, cut, levels_with}
+use Rattle.yl_row.specs.Step.{FoundLexemeValue, found_at, place_fault, bad_in, first_tab}
 use Rattle.yl_lexeme.specs.Known.{SurroundingsValue, context_of, new_row, surroundings_at, no_surroundings, own_column, brackets_with, unit_with, outer_with, surroundings_behind, surroundings_of}
-use Rattle.yl_row.specs.Entries.{RowEntry, RowReading, reading_below, comment_reading, fault_reading, with_lexeme, reading_or_fault, comment_or, comment_of, lexeme_of, after_lexeme, entries_below, entry_of, sound_state, row_reading, entries_from, entries}
+use Rattle.yl_row.specs.Entries.{RowEntry, RowReading, reading_below, fault_reading, with_lexeme, reading_or_fault, comment_or, comment_of, lexeme_of, after_lexeme, entries_below, entry_of, sound_state, row_reading, entries_from, entries}
 use Rattle.yl_row.specs.Run.{row_reading_by, entries_by}
 use Rattle.yl_lexeme.proofs.Looks.{looks, next_row}
 
@@ -37,7 +38,7 @@ module _ (k : SurroundingsValue) (older : List PastLexeme) (e : k ≡ surroundin
 
   comment_same : (c : CommentValue) (f : Option PlacedScanFault) → comment_or c k no_surroundings f ≡ on (comment_or c older [] f)
   unfolding on
-  comment_same c None = ap (comment_reading c) e
+  comment_same c None = ap (λ k. record (reading_below 0 0 k) { comment = Some c }) e
   comment_same c (Some f) = refl
 
   after_same : (at : ℕ) (found : FoundLexemeValue) (more : ℕ → RowReading SurroundingsValue) (more' : ℕ → RowReading (List PastLexeme)) (down : ℕ) → ((skip : ℕ) → more skip ≡ on (more' skip))
@@ -60,6 +61,10 @@ cut-twice : (b : Bool) (column : ℕ) (ls : List ℕ) → cut b column (cut b co
 cut-twice true column ls = up_to-twice column ls
 cut-twice false column ls = refl
 
+-- behind a lexeme
+abbrev levels_behind : Kind → Bool → Bool → ℕ → Option ℕ → List ℕ → List ℕ
+levels_behind kind flow first column key ls = levels_with (record { kind = kind; column = column; first = first; flow = flow; begins = false; key = key }) ls
+
 levels_reached : (kind : Kind) (flow first : Bool) (column : ℕ) (key : Option ℕ) (ls : List ℕ) →
     levels_behind kind flow first column key (cut (first && not flow) column ls) ≡ levels_behind kind flow first column key ls
 levels_reached kind true true column key ls = refl
@@ -69,7 +74,7 @@ levels_reached kind false false column key ls = refl
 
 pass_reached : (x : PastLexeme) (k : SurroundingsValue) → x.flow ≡ is_flow k.brackets → surroundings_behind x (surroundings_at x.first x.column k) ≡ surroundings_behind x k
 pass_reached x k e =
-    ap (λ ls. record { levels = ls; brackets = brackets_with x.kind k.brackets; last = Some x.kind; asks = is_asking x; unit = unit_with x k; outer = outer_with x k; property = cond (is_property x.kind) (Some (is_anchor x.kind, own_column x)) None })
+    ap (λ ls. record { levels = ls; brackets = brackets_with x.kind k.brackets; last = Some x.kind; asks = asks_behind x.kind x.key; unit = unit_with x k; outer = outer_with x k; property = cond (is_property x.kind) (Some (is_anchor x.kind, own_column x)) None })
     (ap (λ flow. levels_with x (cut (x.first && not flow) x.column k.levels)) (sym e) ∙ levels_reached x.kind x.flow x.first x.column x.key k.levels)
 
 read_same : (rows : List (List ℕ)) (tab : Option ℕ) (skip : ℕ) (bs first : Bool) (at : ℕ) (here older : List PastLexeme) (cs : List ℕ)
@@ -86,11 +91,11 @@ read_same rows tab skip bs first at here older (c ∷ cs) =
     (ap (λ a. let k' = surroundings_behind (past_lexeme at first (at_place first at a) (found_at rows tab first at (at_place first at a) c cs).kind) (surroundings_at first at k) in
     reading_or_fault (lexeme_of at (found_at rows tab first at (at_place first at a) c cs)) no_surroundings
     (after_lexeme at (found_at rows tab first at (at_place first at a) c cs) (new_row k') (λ skip. row_reading_by rows tab skip false false (at + 1) k' cs) (found_at rows tab first at (at_place first at a) c cs).down)
-    (step_fault tab first at (at_place first at a) (found_at rows tab first at (at_place first at a) c cs))) (looks here older)
+    (option_or (place_fault tab first at (at_place first at a)) (found_at rows tab first at (at_place first at a) c cs).fault)) (looks here older)
     ∙ ap (λ k'. reading_or_fault (lexeme_of at found) no_surroundings
     (after_lexeme at found (new_row k') (λ skip. row_reading_by rows tab skip false false (at + 1) k' cs) found.down)
-    (step_fault tab first at a found)) (pass_reached x k (ap (λ (a : Context). is_flow a.brackets) (sym (looks here older))))
-    ∙ chosen_same (lexeme_of at found) _ _ (step_fault tab first at a found)
+    (option_or (place_fault tab first at a) found.fault)) (pass_reached x k (ap (λ (a : Context). is_flow a.brackets) (sym (looks here older))))
+    ∙ chosen_same (lexeme_of at found) _ _ (option_or (place_fault tab first at a) found.fault)
     (after_same (new_row (surroundings_of (x ∷ here) older)) ((x ∷ here) ++ older) (next_row (x ∷ here) older) at found _ _ found.down
     (λ skip. read_same rows tab skip false false (at + 1) (x ∷ here) older cs)))))
 

@@ -1,6 +1,8 @@
 -- The directives of a text stand in their places.
 use Rattle.std.proofs.Common.{◌≡◌, ℕ, zero, suc, ◌+◌, ◌-◌, Bool, true, false, cond, not, ◌&&◌, ◌||◌, List, [], ◌∷◌, ◌++◌, map, Option, Some, None, refl, ap, subst, ◌∙◌, eqb, ltb, arith}
+use Rattle.std.specs.Prelude.{◌==◌, nat_le, unwrap_or}
 use Rattle.std.specs.List.{filter}
+use Rattle.std.specs.Option.{option_or}
 use Rattle.std.proofs.lemmas.List.{append-nil}
 use Rattle.std.proofs.lemmas.Bool.{and_parts, and_from, or_right, ne_eqb}
 use Rattle.yl_text.specs.Character.{is_white, is_marker_of}
@@ -12,8 +14,8 @@ use Rattle.yl_lexeme.specs.Directives.{is_directive, is_directive_place, directi
 use Rattle.yl_lexeme.specs.Past.{past_lexeme, PastLexeme, Context, context_from, at_place, last_kind, in_flow}
 use Rattle.yl_row.specs.declared.fault.PlacedScanFault.{PlacedScanFault}
 use Rattle.yl_row.specs.Fault.{is_tab, is_unclosed}
-use Rattle.yl_row.specs.Step.{FoundLexemeValue, found_at, document_at, block_at, flow_at, word_at, scalar_at, value_found, tag_found, scalar_found, found_or, step_fault, bad_in, first_tab, is_plain_start, is_space_next, is_value_at}
-use Rattle.yl_row.specs.Entries.{RowEntry, RowReading, ends_by as ends_by_column, ends_document, fault_reading, with_lexeme, reading_or_fault, comment_or, comment_of, lexeme_of, after_lexeme, lexemes_up_to_fault, stopped_rows, entries_below, row_reading, entries_from}
+use Rattle.yl_row.specs.Step.{FoundLexemeValue, found_at, document_at, block_at, word_at, tag_found, scalar_found, place_fault, bad_in, first_tab, is_plain_start, is_space_next, is_value_at}
+use Rattle.yl_row.specs.Entries.{RowEntry, RowReading, ends_document, fault_reading, with_lexeme, reading_or_fault, comment_or, comment_of, lexeme_of, after_lexeme, lexemes_up_to_fault, stopped_rows, entries_below, row_reading, entries_from}
 use Rattle.yl_row.specs.Directives.{kinds_of, DirectivesStandInPlace}
 
 abbrev kinds : List LexemeValue → List Kind
@@ -93,32 +95,22 @@ scalar_other : (style : Style) (at : ℕ) (r : ScalarOutcomeValue) → IsOther (
 scalar_other style at (Whole e) = by refl
 scalar_other style at (Refused fault down column) = by refl
 
-value_other : (tab : Option ℕ) (first : Bool) (at : ℕ) (a : Context) (key : Option ℕ) → IsOther (value_found tab first at a key)
-value_other tab first at a (Some key) = by refl
-value_other tab first at a None = by refl
-
 tag_other : (at : ℕ) (cs : List ℕ) (len : Option ℕ) → IsOther (tag_found at cs len)
 tag_other at cs None = by refl
 tag_other at cs (Some len) = by refl
 
 module _ (rows : List (List ℕ)) (at : ℕ) (a : Context) (c : ℕ) (cs : List ℕ) where
-  scalar_at_other : IsOther (scalar_at rows at a c cs)
-  scalar_at_other =
-      either (eqb c 0x27) _ _ (scalar_other _ _ _) (either (eqb c 0x22) _ _ (scalar_other _ _ _) (either (eqb c 0x7C && not (in_flow a)) _ _ (scalar_other _ _ _)
-      (either (eqb c 0x3E && not (in_flow a)) _ _ (scalar_other _ _ _) (either (is_plain_start (in_flow a) c cs) _ _ (scalar_other _ _ _) (by refl)))))
-
   word_at_other : IsOther (word_at rows at a c cs)
-  word_at_other = either (eqb c 0x26) _ _ (by refl) (either (eqb c 0x2A) _ _ (by refl) (either (eqb c 0x21) _ _ (tag_other at cs _) scalar_at_other))
-
-  flow_at_other : IsOther (flow_at rows at a c cs)
-  flow_at_other =
-      either (eqb c 0x5B) _ _ (by refl) (either (eqb c 0x7B) _ _ (by refl) (either (eqb c 0x5D) _ _ (by refl) (either (eqb c 0x7D) _ _ (by refl)
-      (either (eqb c 0x2C) _ _ (by refl) word_at_other))))
+  word_at_other =
+      either (eqb c 0x26) _ _ (by refl) (either (eqb c 0x2A) _ _ (by refl) (either (eqb c 0x21) _ _ (tag_other at cs _) (either (eqb c 0x27) _ _ (scalar_other _ _ _) (either (eqb c 0x22) _ _ (scalar_other _ _ _) (either (eqb c 0x7C && not (in_flow a)) _ _ (scalar_other _ _ _)
+      (either (eqb c 0x3E && not (in_flow a)) _ _ (scalar_other _ _ _) (either (is_plain_start (in_flow a) c cs) _ _ (scalar_other _ _ _) (by refl))))))))
 
   block_at_other : (tab : Option ℕ) (first : Bool) → IsOther (block_at rows tab first at a c cs)
   block_at_other tab first =
       either (eqb c 0x2D && is_space_next cs) _ _ (by refl) (either (eqb c 0x3F && is_space_next cs) _ _ (by refl)
-      (either (eqb c 0x3A && is_value_at (in_flow a) a.last cs) _ _ (value_other tab first at a _) flow_at_other))
+      (either (eqb c 0x3A && is_value_at (in_flow a) a.last cs) _ _ (by refl)
+      (either (eqb c 0x5B) _ _ (by refl) (either (eqb c 0x7B) _ _ (by refl) (either (eqb c 0x5D) _ _ (by refl) (either (eqb c 0x7D) _ _ (by refl)
+      (either (eqb c 0x2C) _ _ (by refl) word_at_other)))))))
 
   -- a directive stands in the first column alone
   other_behind : (tab : Option ℕ) (first : Bool) → eqb at 0 ≡ false → IsOther (found_at rows tab first at a c cs)
@@ -132,15 +124,15 @@ module _ (rows : List (List ℕ)) (at : ℕ) (a : Context) (c : ℕ) (cs : List 
   other_in_place : (f : FoundLexemeValue) → IsOther f → InPlace f
   other_in_place f h = let e = h.other in rw e refl
 
-  by_directive : (b : Bool) (x y : FoundLexemeValue) → (eqb c 0x25 && is_directive_place a.last) ≡ b → IsOther y → InPlace (found_or (cond b (Some x) None) y)
+  by_directive : (b : Bool) (x y : FoundLexemeValue) → (eqb c 0x25 && is_directive_place a.last) ≡ b → IsOther y → InPlace (unwrap_or (cond b (Some x) None) y)
   by_directive true x y e h = or_right (not (is_directive x.kind)) (is_directive_place a.last) (and_parts (eqb c 0x25) (is_directive_place a.last) e).1
   by_directive false x y e h = other_in_place y h
 
-  by_end : (b : Bool) (x y : FoundLexemeValue) (o : Option FoundLexemeValue) → IsOther x → InPlace (found_or o y) → InPlace (found_or (cond b (Some x) o) y)
+  by_end : (b : Bool) (x y : FoundLexemeValue) (o : Option FoundLexemeValue) → IsOther x → InPlace (unwrap_or o y) → InPlace (unwrap_or (cond b (Some x) o) y)
   by_end true x y o h g = other_in_place x h
   by_end false x y o h g = g
 
-  by_column : (b : Bool) (y : FoundLexemeValue) (o : Option FoundLexemeValue) → IsOther y → InPlace (found_or o y) → InPlace (found_or (cond b o None) y)
+  by_column : (b : Bool) (y : FoundLexemeValue) (o : Option FoundLexemeValue) → IsOther y → InPlace (unwrap_or o y) → InPlace (unwrap_or (cond b o None) y)
   by_column true y o h g = g
   by_column false y o h g = other_in_place y h
 
@@ -193,7 +185,7 @@ others rows tab skip bs first at here older (c ∷ cs) h =
     one_of (ltb 0 skip) _ _ (others rows tab (skip - 1) false first (at + 1) here older cs (further at))
     (one_of (is_white c) _ _ (others rows tab 0 true first (at + 1) here older cs (further at))
     (one_of (eqb c 0x23 && bs) _ _ (comment_other (comment_of at (c ∷ cs)) (here ++ older) (bad_in at (c ∷ cs)))
-    (chosen_other (lexeme_of at found) _ (step_fault tab first at a found) (other_behind rows at a c cs tab first h).other
+    (chosen_other (lexeme_of at found) _ (option_or (place_fault tab first at a) found.fault) (other_behind rows at a c cs tab first h).other
     (after_other at found ((past_lexeme at first a found.kind ∷ here) ++ older) (λ skip. row_reading rows tab skip false false (at + 1) (past_lexeme at first a found.kind ∷ here) older cs) found.down (λ skip. others rows tab skip false false (at + 1) (past_lexeme at first a found.kind ∷ here) older cs (further at))))))
 
 record Leads (last : Option Kind) (r : RowReading (List PastLexeme)) : Type 0 where
@@ -231,7 +223,7 @@ leads rows tab skip bs first at here older (c ∷ cs) =
     lead_of last (ltb 0 skip) _ _ (other_leads last _ (others rows tab (skip - 1) false first (at + 1) here older cs (further at)))
     (lead_of last (is_white c) _ _ (other_leads last _ (others rows tab 0 true first (at + 1) here older cs (further at)))
     (lead_of last (eqb c 0x23 && bs) _ _ (comment_leads last (comment_of at (c ∷ cs)) (here ++ older) (bad_in at (c ∷ cs)))
-    (chosen_leads last (lexeme_of at found) _ (step_fault tab first at a found) (found_in_place rows at a c cs tab first)
+    (chosen_leads last (lexeme_of at found) _ (option_or (place_fault tab first at a) found.fault) (found_in_place rows at a c cs tab first)
     (after_other at found ((past_lexeme at first a found.kind ∷ here) ++ older) (λ skip. row_reading rows tab skip false false (at + 1) (past_lexeme at first a found.kind ∷ here) older cs) found.down (λ skip. others rows tab skip false false (at + 1) (past_lexeme at first a found.kind ∷ here) older cs (further at))))))
 
 -- ---- what is known behind a row without fault
@@ -272,7 +264,7 @@ ends rows tab skip bs first at here older (c ∷ cs) =
     end_of last (ltb 0 skip) _ _ (ends rows tab (skip - 1) false first (at + 1) here older cs)
     (end_of last (is_white c) _ _ (ends rows tab 0 true first (at + 1) here older cs)
     (end_of last (eqb c 0x23 && bs) _ _ (comment_ends (comment_of at (c ∷ cs)) (here ++ older) (bad_in at (c ∷ cs)))
-    (chosen_ends last (lexeme_of at found) _ (step_fault tab first at a found)
+    (chosen_ends last (lexeme_of at found) _ (option_or (place_fault tab first at a) found.fault)
     (after_ends (Some found.kind) at found ((past_lexeme at first a found.kind ∷ here) ++ older) (λ skip. row_reading rows tab skip false false (at + 1) (past_lexeme at first a found.kind ∷ here) older cs) found.down refl (λ skip. ends rows tab skip false false (at + 1) (past_lexeme at first a found.kind ∷ here) older cs)))))
 
 -- ---- all rows
@@ -281,6 +273,9 @@ none_behind : (to_end : Bool) (down : ℕ) (rows : List (List ℕ)) → kinds_of
 none_behind to_end down [] = refl
 none_behind to_end zero (row ∷ rows) = none_behind to_end 0 rows
 none_behind to_end (suc down) (row ∷ rows) = none_behind to_end down rows
+
+abbrev ends_by_column : ℕ → LexemeValue → Bool
+ends_by_column column x = x.end.line == 0 && nat_le x.end.col column
 
 kept_leads : (last : Option Kind) (f : PlacedScanFault) (xs : List LexemeValue) → leading last (kinds xs) ≡ true → leading last (kinds (lexemes_up_to_fault (Some f) xs)) ≡ true
 kept_leads last f xs h = by_test (is_tab f.fault)

@@ -1,21 +1,17 @@
 -- A lexeme of one character is what the definition finds there, and where none stands, it finds a word.
 use Rattle.std.proofs.Common.{◌≡◌, ℕ, Bool, true, false, ◌&&◌, cond, List, [], ◌∷◌, take, Option, Some, None, refl, ap, sym, ◌∙◌, eqb, eqb-true}
+use Rattle.std.specs.Prelude.{unwrap_or}
 use Rattle.yl_text.specs.Character.{is_white, is_blank, is_marker_of}
 use Rattle.yl_lexeme.specs.declared.lexeme.Kind.{Kind}
 use Rattle.yl_lexeme.specs.declared.lexeme.Kind.TheVariants.{Entry, Key, Value, Comma, SeqOpen, SeqClose, MapOpen, MapClose}
-use Rattle.yl_lexeme.specs.Past.{Context, in_flow, near}
-use Rattle.yl_row.specs.Step.{FoundLexemeValue, is_space_next, is_value_at, value_found, document_at, block_at, word_at, found_or, found_at}
+use Rattle.yl_lexeme.specs.Past.{Context, in_flow}
+use Rattle.yl_row.specs.Step.{FoundLexemeValue, is_space_next, is_value_at, document_at, block_at, word_at, found_at}
 use Rattle.yl_row.specs.Sign.{sign_at, sign_found}
 
 -- of a kind, or else a word
 abbrev sign_or : Option ℕ → Bool → ℕ → Context → FoundLexemeValue → Option Kind → FoundLexemeValue
 sign_or tab first at a word None = word
 sign_or tab first at a word (Some kind) = sign_found tab first at a kind
-
-value_same : (tab : Option ℕ) (first : Bool) (at : ℕ) (a : Context) (key : Option ℕ) → near at a.start ≡ key
-    → value_found tab first at a (near at a.start) ≡ sign_found tab first at a Value
-value_same tab first at a (Some key) h = rw h refl
-value_same tab first at a None h = rw h refl
 
 module _ (rows : List (List ℕ)) (tab : Option ℕ) (first : Bool) (at : ℕ) (a : Context) (c : ℕ) (cs : List ℕ) where
   pub block_signs : block_at rows tab first at a c cs ≡ sign_or tab first at a (word_at rows at a c cs) (sign_at a c cs)
@@ -24,14 +20,14 @@ module _ (rows : List (List ℕ)) (tab : Option ℕ) (first : Bool) (at : ℕ) (
       (eqb c 91) (eqb c 123) (eqb c 93) (eqb c 125) (eqb c 44) (word_at rows at a c cs)
     where
       by_case : (entry key value seq map seq_close map_close comma : Bool) (word : FoundLexemeValue)
-          → cond entry (sign_found tab first at a Entry) (cond key (sign_found tab first at a Key) (cond value (value_found tab first at a (near at a.start))
+          → cond entry (sign_found tab first at a Entry) (cond key (sign_found tab first at a Key) (cond value (sign_found tab first at a Value)
           (cond seq (sign_found tab first at a SeqOpen) (cond map (sign_found tab first at a MapOpen) (cond seq_close (sign_found tab first at a SeqClose)
           (cond map_close (sign_found tab first at a MapClose) (cond comma (sign_found tab first at a Comma) word)))))))
           ≡ sign_or tab first at a word (cond entry (Some Entry) (cond key (Some Key) (cond value (Some Value)
           (cond seq (Some SeqOpen) (cond map (Some MapOpen) (cond seq_close (Some SeqClose) (cond map_close (Some MapClose) (cond comma (Some Comma) None))))))))
       by_case true key value seq map seq_close map_close comma word = refl
       by_case false true value seq map seq_close map_close comma word = refl
-      by_case false false true seq map seq_close map_close comma word = value_same tab first at a (near at a.start) refl
+      by_case false false true seq map seq_close map_close comma word = refl
       by_case false false false true map seq_close map_close comma word = refl
       by_case false false false false true seq_close map_close comma word = refl
       by_case false false false false false true map_close comma word = refl
@@ -110,14 +106,14 @@ module _ (rows : List (List ℕ)) (tab : Option ℕ) (first : Bool) (at : ℕ) (
       by_case (eqb at 0) (document_at c cs a) (sign_alone c cs a kind h)
       ∙ block_signs rows tab first at a c cs ∙ ap (sign_or tab first at a (word_at rows at a c cs)) h
     where
-      by_case : (b : Bool) (d : Option FoundLexemeValue) → d ≡ None → found_or (cond b d None) (block_at rows tab first at a c cs) ≡ block_at rows tab first at a c cs
+      by_case : (b : Bool) (d : Option FoundLexemeValue) → d ≡ None → unwrap_or (cond b d None) (block_at rows tab first at a c cs) ≡ block_at rows tab first at a c cs
       by_case true d e = rw e refl
       by_case false d e = refl
 
   pub found_word : sign_at a c cs ≡ None → cond (eqb at 0) (document_at c cs a) None ≡ None → found_at rows tab first at a c cs ≡ word_at rows at a c cs
   unfolding found_at
   found_word h none =
-      ap (λ d. found_or d (block_at rows tab first at a c cs)) none
+      ap (λ d. unwrap_or d (block_at rows tab first at a c cs)) none
       ∙ block_signs rows tab first at a c cs ∙ ap (sign_or tab first at a (word_at rows at a c cs)) h
 
 -- no document marker and no directive stands at a later place of a row

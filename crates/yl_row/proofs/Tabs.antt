@@ -1,8 +1,10 @@
 -- A row without tabs.
-use Rattle.std.proofs.Common.{◌≡◌, ℕ, List, [], ◌∷◌, length, None, false, arith, refl}
+use Rattle.std.proofs.Common.{◌≡◌, ℕ, Bool, List, [], ◌∷◌, length, None, false, eqb, arith, refl}
 use Rattle.std.proofs.lemmas.Grind.{common_steps}
 use Rattle.std.specs.List.{list_any, position, position_or_len}
-use Rattle.yl_row.specs.Step.{is_tab}
+
+abbrev pub is_tab : ℕ → Bool
+is_tab c = eqb c 9
 
 to_the_end : (cs : List ℕ) → list_any is_tab cs ≡ false → position_or_len is_tab cs ≡ length cs
 to_the_end [] h = refl

@@ -6,7 +6,7 @@ use Rattle.yl_lexeme.specs.declared.lexeme.Kind.{Kind}
 use Rattle.yl_lexeme.specs.declared.lexeme.Kind.TheVariants.{Scalar}
 use Rattle.yl_row.specs.declared.fault.PlacedScanFault.{PlacedScanFault}
 use Rattle.yl_lexeme.specs.Lexeme.{LexemeValue}
-use Rattle.yl_row.specs.Fault.{or_else}
+use Rattle.std.specs.Option.{option_or}
 use Rattle.yl_row.specs.Step.{FoundLexemeValue, found_in_row, scalar_found, place_fault}
 use Rattle.yl_lexeme.specs.Known.{SurroundingsValue, context_of, new_row, no_surroundings, surroundings_behind}
 use Rattle.yl_lexeme.specs.Past.{past_lexeme}
@@ -17,7 +17,7 @@ use Rattle.yl_row.specs.Rows.{reading_with_lexemes, open_scalar_reading}
 
 -- what is read behind a lexeme, with this fault before it
 abbrev taken : ℕ → SurroundingsValue → (ℕ → SurroundingsValue → RowReading SurroundingsValue) → FoundLexemeValue → Option PlacedScanFault → RowReading SurroundingsValue
-taken at k' more found before = reading_or_fault (lexeme_of at found) no_surroundings (after_lexeme at found (new_row k') (λ skip. more skip k') found.down) (or_else before found.fault)
+taken at k' more found before = reading_or_fault (lexeme_of at found) no_surroundings (after_lexeme at found (new_row k') (λ skip. more skip k') found.down) (option_or before found.fault)
 
 with_one : (xs : List LexemeValue) (x : LexemeValue) (r : RowReading SurroundingsValue) → reading_with_lexemes xs (with_lexeme x r) ≡ reading_with_lexemes (xs ++ x ∷ []) r
 with_one xs x r = ap (λ ys. record { lexemes = ys; comment = r.comment; fault = r.fault; down = r.down; column = r.column; behind = r.behind }) (sym (append_assoc xs (x ∷ []) r.lexemes))
@@ -47,7 +47,7 @@ module _ (tab : Option ℕ) (first : Bool) (at : ℕ) (k : SurroundingsValue) (m
   open_stops rows style m f h = scalar_stops style (outcome_of_lines reader_step reader_finish m rows) f h
 
   pub ended_goes : (xs : List LexemeValue) (kind : Kind) (column : ℕ) (value : List ℕ) (fault : Option PlacedScanFault) (k' : SurroundingsValue) (skip : ℕ)
-      → k' ≡ surroundings_behind (past_lexeme at first (context_of k) kind) k → or_else before fault ≡ None → skip ≡ column - at - 1
+      → k' ≡ surroundings_behind (past_lexeme at first (context_of k) kind) k → option_or before fault ≡ None → skip ≡ column - at - 1
       → reading_with_lexemes xs (lexeme_reading_by tab first at k more (found_in_row kind column value fault)) ≡ reading_with_lexemes (xs ++ lexeme_of at (found_in_row kind column value fault) ∷ []) (more skip k')
   ended_goes xs kind column value fault k' skip h none s =
       ap (reading_with_lexemes xs) (took_taken (found_in_row kind column value fault) k' h
@@ -56,7 +56,7 @@ module _ (tab : Option ℕ) (first : Bool) (at : ℕ) (k : SurroundingsValue) (m
       ∙ with_one xs (lexeme_of at (found_in_row kind column value fault)) (more skip k')
 
   pub ended_stops : (xs : List LexemeValue) (kind : Kind) (column : ℕ) (value : List ℕ) (fault : Option PlacedScanFault) (f : PlacedScanFault)
-      → or_else before fault ≡ Some f → ends_document kind ≡ false
+      → option_or before fault ≡ Some f → ends_document kind ≡ false
       → reading_with_lexemes xs (lexeme_reading_by tab first at k more (found_in_row kind column value fault)) ≡ reading_with_lexemes xs (fault_reading f no_surroundings)
   ended_stops xs kind column value fault f h e =
       ap (reading_with_lexemes xs) (took_taken (found_in_row kind column value fault) _ refl
@@ -64,7 +64,7 @@ module _ (tab : Option ℕ) (first : Bool) (at : ℕ) (k : SurroundingsValue) (m
       ∙ ap (λ b. cond b (with_lexeme (lexeme_of at (found_in_row kind column value fault)) (fault_reading f no_surroundings)) (fault_reading f no_surroundings)) e)
 
   pub ended_document : (xs : List LexemeValue) (kind : Kind) (column : ℕ) (value : List ℕ) (fault : Option PlacedScanFault) (f : PlacedScanFault)
-      → or_else before fault ≡ Some f → ends_document kind ≡ true
+      → option_or before fault ≡ Some f → ends_document kind ≡ true
       → reading_with_lexemes xs (lexeme_reading_by tab first at k more (found_in_row kind column value fault)) ≡ reading_with_lexemes (xs ++ lexeme_of at (found_in_row kind column value fault) ∷ []) (fault_reading f no_surroundings)
   ended_document xs kind column value fault f h e =
       ap (reading_with_lexemes xs) (took_taken (found_in_row kind column value fault) _ refl

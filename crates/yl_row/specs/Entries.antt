@@ -2,9 +2,10 @@
 -- and the comment that begin in it, with places relative to it, and the scan fault of the lexeme
 -- that begins in it. YAML 1.2.2, chapters 5 to 9.
 use Rattle.std.specs.Prelude.{ℕ, zero, suc, Bool, true, false, not, ◌&&◌, ◌||◌, ◌==◌, nat_lt, nat_le, if◌then◌else◌, List, [], ◌∷◌, ◌++◌, ◌+◌, ◌-◌, Option, Some, None}
+use Rattle.std.specs.Option.{option_or}
 use Rattle.std.specs.List.{filter}
 use Rattle.std.specs.Str.{encode_utf8_all}
-use Rattle.yl_text.specs.Char as char
+use Prim.Native.Char.{code}
 use Rattle.yl_text.specs.declared.position.Pos.{Pos}
 use Rattle.yl_text.specs.Character.{is_white, is_blank}
 use Rattle.yl_lexeme.specs.declared.lexeme.Kind.{Kind}
@@ -13,7 +14,7 @@ use Rattle.yl_lexeme.specs.Lexeme.{LexemeValue, CommentValue}
 use Rattle.yl_row.specs.declared.fault.PlacedScanFault.{PlacedScanFault}
 use Rattle.yl_row.specs.Fault.{is_unclosed, is_tab}
 use Rattle.yl_lexeme.specs.Past.{PastLexeme, Context, context_from, at_place, past_lexeme}
-use Rattle.yl_row.specs.Step.{FoundLexemeValue, found_at, step_fault, bad_in, first_tab}
+use Rattle.yl_row.specs.Step.{FoundLexemeValue, found_at, place_fault, bad_in, first_tab}
 
 -- what must be known at a sound row: each open column one more (the greatest first), the open brackets (the innermost first), and
 -- the last lexeme's kind; or that a fault has come before
@@ -27,8 +28,7 @@ pub record RowEntry : Type 0 where
   pub comment : Option CommentValue
   pub fault : Option PlacedScanFault
 
--- what a row holds from a place on, and where the next lexeme may stand: so many rows further down, behind a column, with this
--- known of all that came before
+-- what a row holds from a place on; where the next lexeme may stand, so many rows down, behind a column; and what is known there
 pub record RowReading (S : Type 0) : Type 0 where
   pub lexemes : List LexemeValue
   pub comment : Option CommentValue
@@ -40,14 +40,11 @@ pub record RowReading (S : Type 0) : Type 0 where
 abbrev pub reading_below : {S : Type 0} → ℕ → ℕ → S → RowReading S
 reading_below down column behind = record { lexemes = []; comment = None; fault = None; down = down; column = column; behind = behind }
 
-abbrev pub comment_reading : {S : Type 0} → CommentValue → S → RowReading S
-comment_reading c behind = record { lexemes = []; comment = Some c; fault = None; down = 0; column = 0; behind = behind }
-
 abbrev pub with_lexeme : {S : Type 0} → LexemeValue → RowReading S → RowReading S
-with_lexeme x r = record { lexemes = x ∷ r.lexemes; comment = r.comment; fault = r.fault; down = r.down; column = r.column; behind = r.behind }
+with_lexeme x r = record r { lexemes = x ∷ r.lexemes }
 
 abbrev pub fault_reading : {S : Type 0} → PlacedScanFault → S → RowReading S
-fault_reading f behind = record { lexemes = []; comment = None; fault = Some f; down = 0; column = 0; behind = behind }
+fault_reading f behind = record (reading_below 0 0 behind) { fault = Some f }
 
 abbrev pub ends_document : Kind → Bool
 ends_document DocEnd = true
@@ -74,46 +71,40 @@ reading_or_fault x nothing more None = with_lexeme x more
 reading_or_fault x nothing more (Some f) = if ends_document x.kind then with_lexeme x (fault_reading f nothing) else fault_reading f nothing
 
 abbrev pub comment_or : {S : Type 0} → CommentValue → S → S → Option PlacedScanFault → RowReading S
-comment_or c behind nothing None = comment_reading c behind
+comment_or c behind nothing None = record (reading_below 0 0 behind) { comment = Some c }
 comment_or c behind nothing (Some f) = fault_reading f nothing
-
-abbrev pub lexeme_reading : Option ℕ → Bool → ℕ → Context → List PastLexeme → List PastLexeme → (ℕ → List PastLexeme → RowReading (List PastLexeme)) → FoundLexemeValue → RowReading (List PastLexeme)
-lexeme_reading tab first at a here older more found =
-    let here' = past_lexeme at first a found.kind ∷ here in
-    reading_or_fault (lexeme_of at found) [] (after_lexeme at found (here' ++ older) (λ skip. more skip here') found.down)
-    (step_fault tab first at a found)
 
 -- the row from a column on; rows are those below. tab: the row's first tab. skip: how many characters belong to the lexeme
 -- before. behind_space: white space or the row's start stands before the place. first: nothing but white space does
 abbrev pub row_reading : List (List ℕ) → Option ℕ → ℕ → Bool → Bool → ℕ → List PastLexeme → List PastLexeme → List ℕ → RowReading (List PastLexeme)
 row_reading rows tab skip behind_space first at here older [] = reading_below 0 0 (here ++ older)
 row_reading rows tab skip behind_space first at here older (c ∷ cs) =
+    let a = at_place first at (context_from here older) in
+    let found = found_at rows tab first at a c cs in
+    let here' = past_lexeme at first a found.kind ∷ here in
+    let more = λ (skip : ℕ). row_reading rows tab skip false false (at + 1) here' older cs in
     if nat_lt 0 skip then row_reading rows tab (skip - 1) false first (at + 1) here older cs
     else if is_white c then row_reading rows tab 0 true first (at + 1) here older cs
-    else if c == char.hash && behind_space then comment_or (comment_of at (c ∷ cs)) (here ++ older) [] (bad_in at (c ∷ cs))
-    else lexeme_reading tab first at (at_place first at (context_from here older)) here older
-    (λ skip here. row_reading rows tab skip false false (at + 1) here older cs)
-    (found_at rows tab first at (at_place first at (context_from here older)) c cs)
+    else if c == code "#" && behind_space then comment_or (comment_of at (c ∷ cs)) (here ++ older) [] (bad_in at (c ∷ cs))
+    else reading_or_fault (lexeme_of at found) [] (after_lexeme at found (here' ++ older) more found.down)
+    (option_or (place_fault tab first at a) found.fault)
 
 abbrev pub state_of : Context → LineStateValue
 state_of a = Stands a.levels a.brackets a.last
 
-abbrev pub ends_by : ℕ → LexemeValue → Bool
-ends_by column x = x.end.line == 0 && nat_le x.end.col column
-
--- a fault takes the lexemes back that end past its place: only a tab can stand before some that were read, for it may be a fault
--- because of a key's colon
+-- a tab may be a fault because of a key's colon behind it: it takes the lexemes back that end past it
 abbrev pub lexemes_up_to_fault : Option PlacedScanFault → List LexemeValue → List LexemeValue
 lexemes_up_to_fault None xs = xs
-lexemes_up_to_fault (Some f) xs = if is_tab f.fault then filter (ends_by f.column) xs else xs
+lexemes_up_to_fault (Some f) xs = if is_tab f.fault then filter (λ x. x.end.line == 0 && nat_le x.end.col f.column) xs else xs
+
+abbrev pub quiet : Option LineStateValue → RowEntry
+quiet state = record { state = state; lexemes = []; comment = None; fault = None }
 
 -- behind a fault: rows in its reach, then rows at which reading has stopped; an open quote reaches to the end
 abbrev pub stopped_rows : Bool → ℕ → List (List ℕ) → List RowEntry
 stopped_rows to_end down [] = []
-stopped_rows to_end zero (row ∷ rows) =
-    record { state = if is_blank row || to_end then None else Some Stopped; lexemes = []; comment = None; fault = None } ∷ stopped_rows to_end 0 rows
-stopped_rows to_end (suc down) (row ∷ rows) =
-    record { state = None; lexemes = []; comment = None; fault = None } ∷ stopped_rows to_end down rows
+stopped_rows to_end zero (row ∷ rows) = quiet (if is_blank row || to_end then None else Some Stopped) ∷ stopped_rows to_end 0 rows
+stopped_rows to_end (suc down) (row ∷ rows) = quiet None ∷ stopped_rows to_end down rows
 
 abbrev pub entries_below : {S : Type 0} → (ℕ → ℕ → S → List RowEntry) → List (List ℕ) → RowReading S → Option PlacedScanFault → List RowEntry
 entries_below more rows r None = more r.down r.column r.behind
@@ -128,15 +119,14 @@ sound_state is_text_start row a = if is_text_start || not (is_blank row) then So
 
 -- the rows from the one on that lies so many rows further down, behind a column if that is not the next one's start
 abbrev pub entries_from : Bool → ℕ → ℕ → List PastLexeme → List (List ℕ) → List RowEntry
-entries_from is_text_start down column older [] = []
-entries_from is_text_start (suc zero) column older (row ∷ rows) =
+entries_from is_start down column older [] = []
+entries_from is_start (suc zero) column older (row ∷ rows) =
     let r = row_reading rows (first_tab true row) column false false 0 [] older row in
     entry_of None r ∷ entries_below (λ down column older. entries_from false down column older rows) rows r r.fault
-entries_from is_text_start (suc (suc down)) column older (row ∷ rows) =
-    record { state = None; lexemes = []; comment = None; fault = None } ∷ entries_from false (suc down) column older rows
-entries_from is_text_start zero column older (row ∷ rows) =
+entries_from is_start (suc (suc down)) column older (row ∷ rows) = quiet None ∷ entries_from false (suc down) column older rows
+entries_from is_start zero column older (row ∷ rows) =
     let r = row_reading rows (first_tab false row) 0 true true 0 [] older row in
-    entry_of (sound_state is_text_start row (context_from [] older)) r ∷ entries_below (λ down column older. entries_from false down column older rows) rows r r.fault
+    entry_of (sound_state is_start row (context_from [] older)) r ∷ entries_below (λ down column older. entries_from false down column older rows) rows r r.fault
 
 abbrev pub entries : List (List ℕ) → List RowEntry
 entries text = entries_from true 0 0 [] text

@@ -1,5 +1,5 @@
 -- Meaning: scan faults and their places.
-use Rattle.std.specs.Prelude.{ℕ, Bool, true, false, List, Option, Some, None, codes}
+use Rattle.std.specs.Prelude.{ℕ, Bool, true, false, List, codes}
 use Rattle.yl_scalar.specs.declared.answer.ScalarFault.{ScalarFault}
 use Rattle.yl_scalar.specs.declared.answer.ScalarFault.TheVariants as scalar
 use Rattle.yl_row.specs.declared.fault.ScanFault.{ScanFault}
@@ -32,16 +32,6 @@ of_scalar scalar.MarkerInQuote = MarkerInQuote
 of_scalar scalar.BadEscape = BadEscape
 of_scalar scalar.BadHeader = BadHeader
 of_scalar scalar.BadIndentation = BadIndentation
-
--- a fault, if it is so
-abbrev pub when : Bool → ScanFault → ℕ → Option PlacedScanFault
-when true fault column = Some (fault_at fault column)
-when false fault column = None
-
--- the first fault that there is
-abbrev pub or_else : Option PlacedScanFault → Option PlacedScanFault → Option PlacedScanFault
-or_else None g = g
-or_else (Some f) g = Some f
 
 abbrev pub is_unclosed : ScanFault → Bool
 is_unclosed UnclosedQuote = true

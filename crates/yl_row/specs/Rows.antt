@@ -12,12 +12,12 @@ use Rattle.yl_row.specs.ScalarReader.{ScalarReaderValue, open_found}
 use Rattle.yl_row.specs.Reader.{scalar_reader_value}
 use Rattle.yl_row.specs.Begins.{Rests}
 use Rattle.yl_lexeme.specs.Known.{SurroundingsValue, new_row, no_surroundings}
-use Rattle.yl_row.specs.Entries.{RowReading, reading_below, comment_reading, fault_reading, reading_or_fault, after_lexeme, lexeme_of, comment_of, comment_or}
+use Rattle.yl_row.specs.Entries.{RowReading, reading_below, fault_reading, reading_or_fault, after_lexeme, lexeme_of, comment_of, comment_or}
 use Rattle.yl_row.specs.Run.{row_reading_by}
 
 -- these lexemes, and then what is read
 abbrev pub reading_with_lexemes : List LexemeValue → RowReading SurroundingsValue → RowReading SurroundingsValue
-reading_with_lexemes xs r = record { lexemes = xs ++ r.lexemes; comment = r.comment; fault = r.fault; down = r.down; column = r.column; behind = r.behind }
+reading_with_lexemes xs r = record r { lexemes = xs ++ r.lexemes }
 
 -- a scalar that stands so, with these rows below; more: what its row holds behind it
 abbrev pub open_scalar_reading : List (List ℕ) → Style → ℕ → ScalarReaderValue → SurroundingsValue → (ℕ → RowReading SurroundingsValue) → RowReading SurroundingsValue
@@ -38,7 +38,7 @@ behind_sign k more (Some f) = fault_reading f no_surroundings
 -- what comes behind a comment, or none
 abbrev pub comment_end : SurroundingsValue → Option CommentValue → RowReading SurroundingsValue
 comment_end k None = reading_below 0 0 (new_row k)
-comment_end k (Some c) = comment_reading c (new_row k)
+comment_end k (Some c) = record (reading_below 0 0 (new_row k)) { comment = Some c }
 
 abbrev pub row_end_reading : {A : Type 0} → List (List ℕ) → Option ℕ → List ℕ → SurroundingsValue → RowEnd A → RowReading SurroundingsValue
 row_end_reading rows tab row k (Read c) = comment_end k c

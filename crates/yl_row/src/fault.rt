@@ -1,7 +1,9 @@
 //! Scan faults: why a text is cut into lexemes no further.
 
 ghost use Rattle.std.specs.Prelude.{◌≡◌};
-ghost use Rattle.yl_row.specs.Fault.{fault_text, of_scalar, or_else, when};
+ghost use Rattle.std.specs.Bool.{then_some};
+ghost use Rattle.std.specs.Option.{option_or};
+ghost use Rattle.yl_row.specs.Fault.{fault_at, fault_text, of_scalar};
 
 use yl_scalar::ScalarFault;
 
@@ -87,7 +89,7 @@ pub struct PlacedScanFault {
 
 /// A fault of the row in which the lexeme begins, if it is so.
 pub fn when(holds: bool, fault: ScanFault, column: usize) -> Option<PlacedScanFault>
-    ensures { result ≡ when holds fault column }
+    ensures { result ≡ then_some holds (fault_at fault column) }
 {
     if holds {
         Some(PlacedScanFault {
@@ -105,7 +107,7 @@ pub fn or_else(
     fault: Option<PlacedScanFault>,
     other: Option<PlacedScanFault>,
 ) -> Option<PlacedScanFault>
-    ensures { result ≡ or_else fault other }
+    ensures { result ≡ option_or fault other }
 {
     match fault {
         None => other,

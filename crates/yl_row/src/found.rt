@@ -1,20 +1,22 @@
 //! The lexeme that stands at a place of a row.
 
-ghost use Rattle.std.specs.Prelude.{◌≡◌, ◌≤◌, ◌<◌, ◌+◌, ◌-◌, ◌^◌, ◌∷◌, [], IfOk, Some, None, Option, Bool, List, ℕ, length, drop, string_bytes};
+ghost use Rattle.std.specs.Prelude.{◌≡◌, ◌≤◌, ◌<◌, ◌+◌, ◌-◌, ◌^◌, ◌∷◌, [], if◌then◌else◌, IfOk, Some, None, Option, option_map, Bool, List, ℕ, length, drop, string_bytes};
 ghost use Rattle.std.specs.Str.{encode_utf8_all};
+ghost use Rattle.yl_scalar.specs.Header.{misfit_behind};
 ghost use Rattle.yl_scalar.specs.Reading.{outcome_of_lines, outcome_of_step};
 ghost use Rattle.yl_scalar.specs.PlainSteps.{plain};
 ghost use Rattle.yl_scalar.specs.QuotedSteps.{quoted};
 ghost use Rattle.yl_scalar.specs.Block.{block};
 ghost use Rattle.yl_row.specs.Begins.{BeginsAt};
-ghost use Rattle.yl_row.specs.declared.fault.ScanFault.TheVariants.{BracketWithoutPartner};
-ghost use Rattle.yl_row.specs.Fault.{fault_at, when, or_else};
+ghost use Rattle.yl_lexeme.specs.declared.lexeme.Style.TheVariants.{Plain};
+ghost use Rattle.yl_lexeme.specs.declared.lexeme.Kind.TheVariants.{Scalar};
+ghost use Rattle.yl_row.specs.declared.fault.ScanFault.TheVariants.{NotAllowed, ContentAfterDocumentEnd};
+ghost use Rattle.yl_row.specs.Fault.{fault_at};
 ghost use Rattle.yl_lexeme.specs.Known.{context_of};
-ghost use Rattle.yl_lexeme.specs.Past.{near};
 ghost use Rattle.yl_lexeme.specs.Surroundings.{surroundings_value};
 ghost use Rattle.yl_row.specs.ScalarReader.{reader_step, reader_finish};
 ghost use Rattle.yl_row.specs.Reader.{reader_step_value};
-ghost use Rattle.yl_row.specs.Step.{found_in_row, bad_in, tab_before, in_block, place_fault, behind_end, closes_bracket, is_value_at, is_directive_place, is_quoted_or_closing, scalar_found, plain_found, value_found, name_found, tag_found, tag_len, document_at, block_at, flow_at, word_at, scalar_at, found_at};
+ghost use Rattle.yl_row.specs.Step.{found_in_row, bad_in, is_directive_place, is_plain_start, scalar_found, name_found, tag_found, tag_len, document_at, word_at, found_at};
 ghost use Rattle.yl_row.specs.Sign.{named_at, sign_at};
 ghost use Rattle.yl_row.specs.Beginning.{found_lexeme_value, beginning_value, found_option, EndsHere, BeginningRests};
 
@@ -65,7 +67,7 @@ pub fn bad_in(column: usize, text: &[char]) -> Option<PlacedScanFault>
 /// Something behind a document's end that is no comment.
 fn behind_end(column: usize, text: &[char]) -> Option<PlacedScanFault>
     requires { column + length text.now < 2 ^ 63 }
-    ensures { result ≡ behind_end column text.now }
+    ensures { result ≡ option_map (λ i. fault_at ContentAfterDocumentEnd (column + i)) (misfit_behind text.now) }
 {
     let white = leading_white(text);
     let is_content = !is_blank(text) && !(white > 0 && is_comment_next(&text[white..]));
@@ -276,7 +278,8 @@ fn plain_found<A: Allocator + Copy>(
 ) -> Result<Beginning<A>, AllocError>
     requires fits { at + length text.now < 2 ^ 31 }
     requires text { text.now ≡ c ∷ rest.now }
-    ensures found { IfOk result (λ s. (rows : List (List ℕ)) → plain_found flow least at c rest.now rows ≡ beginning_value at rows s) }
+    ensures found { IfOk result (λ s. (rows : List (List ℕ)) →
+        (if is_plain_start flow c rest.now then scalar_found Plain at (plain flow least at (c ∷ rest.now) rows) else found_in_row (Scalar Plain) at [] (Some (fault_at NotAllowed at))) ≡ beginning_value at rows s) }
     ensures rests { IfOk result (λ s. BeginningRests at text.now s) }
 {
     if !is_plain_start(flow, c, rest) {
@@ -285,39 +288,6 @@ fn plain_found<A: Allocator + Copy>(
     }
     let (reader, line) = PlainReader::begin(alloc, flow, least, at, text)?;
     begun(alloc, Style::Plain, at, ScalarReader::Plain(reader), line)
-}
-
-/// A scalar.
-#[inline(always)]
-fn scalar_at<A: Allocator + Copy>(
-    alloc: A,
-    at: usize,
-    surroundings: &Surroundings<'_, A>,
-    c: char,
-    rest: &[char],
-    text: &[char],
-) -> Result<Beginning<A>, AllocError>
-    requires fits { at + length text.now < 2 ^ 31 }
-    requires text { text.now ≡ c ∷ rest.now }
-    ensures found { IfOk result (λ s. (rows : List (List ℕ)) →
-        scalar_at rows at (context_of (surroundings_value surroundings.now)) c rest.now ≡ beginning_value at rows s) }
-    ensures rests { IfOk result (λ s. BeginningRests at text.now s) }
-{
-    if c == '\'' {
-        return quoted_found(alloc, Style::Single, false, at, rest);
-    }
-    if c == '"' {
-        return quoted_found(alloc, Style::Double, true, at, rest);
-    }
-    let flow = surroundings.in_flow();
-    let least = surroundings.level();
-    if c == '|' && !flow {
-        return block_found(alloc, Style::Literal, least, at, rest);
-    }
-    if c == '>' && !flow {
-        return block_found(alloc, Style::Folded, least, at, rest);
-    }
-    plain_found(alloc, flow, least, at, c, rest, text)
 }
 
 /// An anchor, an alias, a tag or a scalar.
@@ -339,7 +309,21 @@ fn word_at<A: Allocator + Copy>(
     if matches!(c, '&' | '*' | '!') {
         return Ok(Beginning::Ended(named_at(alloc, at, c, rest)?));
     }
-    scalar_at(alloc, at, surroundings, c, rest, text)
+    if c == '\'' {
+        return quoted_found(alloc, Style::Single, false, at, rest);
+    }
+    if c == '"' {
+        return quoted_found(alloc, Style::Double, true, at, rest);
+    }
+    let flow = surroundings.in_flow();
+    let least = surroundings.level();
+    if c == '|' && !flow {
+        return block_found(alloc, Style::Literal, least, at, rest);
+    }
+    if c == '>' && !flow {
+        return block_found(alloc, Style::Folded, least, at, rest);
+    }
+    plain_found(alloc, flow, least, at, c, rest, text)
 }
 
 /// The lexeme at a column of a row that is no indicator of a collection. It is the character `c` with `rest` behind it, `text`

@@ -1,14 +1,16 @@
 //! Lexemes of one character: the indicators of block collections (YAML 1.2.2, 8.2) and of flow collections (7.4).
 
-ghost use Rattle.std.specs.Prelude.{◌≡◌, not, IfSome, Some, None, false};
-ghost use Rattle.yl_row.specs.declared.fault.ScanFault.TheVariants.{BracketWithoutPartner};
+ghost use Rattle.std.specs.Prelude.{◌≡◌, not, if◌then◌else◌, IfSome, Some, None, false};
+ghost use Rattle.std.specs.Bool.{then_some};
+ghost use Rattle.std.specs.Option.{option_map_or};
+ghost use Rattle.yl_row.specs.declared.fault.ScanFault.TheVariants.{BracketWithoutPartner, ValueNotAllowed};
 ghost use Rattle.yl_row.specs.Entries.{ends_document};
-ghost use Rattle.yl_row.specs.Fault.{when};
+ghost use Rattle.yl_row.specs.Fault.{fault_at};
 ghost use Rattle.yl_lexeme.specs.Known.{context_of};
-ghost use Rattle.yl_lexeme.specs.Past.{near};
+ghost use Rattle.yl_lexeme.specs.Past.{in_flow, near};
 ghost use Rattle.yl_lexeme.specs.Surroundings.{surroundings_value};
-ghost use Rattle.yl_row.specs.Sign.{sign_at, sign_fault, value_fault};
-ghost use Rattle.yl_row.specs.Step.{tab_before, in_block, place_fault, closes_bracket, is_value_at, is_quoted_or_closing};
+ghost use Rattle.yl_row.specs.Sign.{refused, sign_at, sign_fault};
+ghost use Rattle.yl_row.specs.Step.{tab_before, place_fault, closes, is_value_at, is_quoted_or_closing};
 
 use crate::fault::{PlacedScanFault, ScanFault, or_else, when};
 use crate::word::{is_flow_indicator_next, is_space_next};
@@ -29,7 +31,7 @@ fn in_block<A: Allocator + Copy>(
     surroundings: &Surroundings<'_, A>,
     fault: Option<PlacedScanFault>,
 ) -> Option<PlacedScanFault>
-    ensures { result ≡ in_block (context_of (surroundings_value surroundings.now)) fault }
+    ensures { result ≡ (if in_flow (context_of (surroundings_value surroundings.now)) then None else fault) }
 {
     if surroundings.in_flow() { None } else { fault }
 }
@@ -52,7 +54,7 @@ pub fn place_fault<A: Allocator + Copy>(
 
 /// Whether the innermost bracket is of this kind.
 fn closes<A: Allocator + Copy>(sequence: bool, surroundings: &Surroundings<'_, A>) -> bool
-    ensures { result ≡ closes_bracket sequence (context_of (surroundings_value surroundings.now)).brackets }
+    ensures { result ≡ closes sequence (context_of (surroundings_value surroundings.now)).brackets }
 {
     match surroundings.brackets.top() {
         None => false,
@@ -67,7 +69,7 @@ fn unpaired<A: Allocator + Copy>(
     at: usize,
     surroundings: &Surroundings<'_, A>,
 ) -> Option<PlacedScanFault>
-    ensures { result ≡ when (not (closes_bracket sequence (context_of (surroundings_value surroundings.now)).brackets)) BracketWithoutPartner at }
+    ensures { result ≡ then_some (not (closes sequence (context_of (surroundings_value surroundings.now)).brackets)) (fault_at BracketWithoutPartner at) }
 {
     when(
         !closes(sequence, surroundings),
@@ -121,7 +123,7 @@ fn value_fault<A: Allocator + Copy>(
     first: bool,
     at: usize,
 ) -> Option<PlacedScanFault>
-    ensures { result ≡ value_fault tab first at (context_of (surroundings_value surroundings.now)) (near at (context_of (surroundings_value surroundings.now)).start) }
+    ensures { result ≡ option_map_or (tab_before tab) (near at (context_of (surroundings_value surroundings.now)).start) (refused tab first at (context_of (surroundings_value surroundings.now)) ValueNotAllowed) }
 {
     match near(at, surroundings.unit.start()) {
         Some(key) => tab_before(tab, key),

@@ -1,9 +1,11 @@
 //! Words in a row: names, tags, directives, markers, and what may follow them.
 
-ghost use Rattle.std.specs.Prelude.{◌≡◌, ◌≤◌, ◌==◌, ◌&&◌, ◌+◌, ◌<◌, ◌^◌, IfSome, length, slice_index, false};
+ghost use Rattle.std.specs.Prelude.{◌≡◌, ◌≤◌, ◌==◌, ◌&&◌, ◌+◌, ◌<◌, ◌^◌, IfSome, length, slice_index, false, drop, option_and_then, take};
+ghost use Rattle.std.specs.Bool.{then_some};
 ghost use Rattle.std.specs.List.{list_any, position};
 ghost use Rattle.std.specs.Option.{ForSome};
-ghost use Rattle.yl_row.specs.Step.{is_name_character, name_len, is_space_next, is_flow_indicator_next, is_name_next, directive_len, directive, tag_len, closing_of, verbatim_len, is_plain_start, is_tab};
+ghost use Rattle.yl_row.specs.Step.{is_name_character, name_len, is_space_next, directive_len, tag_len, is_plain_start};
+ghost use Rattle.yl_text.specs.Character.{is_flow_indicator, without_end};
 
 use yl_scalar::{is_flow_indicator, is_safe_next, is_white, without_end};
 
@@ -32,20 +34,11 @@ pub fn is_space_next(text: &[char]) -> bool
 }
 
 pub fn is_flow_indicator_next(text: &[char]) -> bool
-    ensures { result ≡ is_flow_indicator_next text.now }
+    ensures { result ≡ is_flow_indicator (next text.now) }
 {
     match text {
         [] => false,
         [c, ..] => is_flow_indicator(*c),
-    }
-}
-
-fn is_name_next(text: &[char]) -> bool
-    ensures { result ≡ is_name_next text.now }
-{
-    match text {
-        [] => false,
-        [c, ..] => is_name_character(*c),
     }
 }
 
@@ -92,7 +85,7 @@ fn directive_len(text: &[char]) -> usize
 
 /// The directive that the text begins with.
 pub fn directive(text: &[char]) -> &[char]
-    ensures directive { result.now ≡ directive text.now }
+    ensures directive { result.now ≡ without_end (take (directive_len false text.now) text.now) }
     ensures within { length result.now ≤ length text.now }
 {
     without_end(&text[..directive_len(text)])
@@ -100,7 +93,7 @@ pub fn directive(text: &[char]) -> &[char]
 
 /// The place of the first `>`.
 fn closing_of(text: &[char]) -> Option<usize>
-    ensures place { result ≡ closing_of text.now }
+    ensures place { result ≡ position (λ c. c == 62) text.now }
     ensures within { IfSome result (λ place. place < length text.now) }
 {
     text.iter().position(|c| *c == '>')
@@ -109,16 +102,16 @@ fn closing_of(text: &[char]) -> Option<usize>
 /// How many characters a verbatim tag has behind its `!`, if it is not bad, by the place of its `>`.
 fn verbatim_len(text: &[char], close: Option<usize>) -> Option<usize>
     requires { ForSome close (λ place. place < length text.now) }
-    ensures count { result ≡ verbatim_len text.now close }
+    ensures count { result ≡ option_and_then (λ end. then_some (name_len (drop (end + 1) text.now) == 0) (end + 1)) close }
     ensures within { IfSome result (λ len. len ≤ length text.now) }
 {
     match close {
         None => None,
         Some(close) => {
-            if is_name_next(&text[close + 1..]) {
-                None
-            } else {
+            if name_len(&text[close + 1..]) == 0 {
                 Some(close + 1)
+            } else {
+                None
             }
         }
     }
@@ -166,7 +159,7 @@ pub fn is_plain_start(flow: bool, c: char, text: &[char]) -> bool
 /// The place of the first tab.
 #[tactic(auto, using(crate::proofs::Tabs::no_tab))]
 pub fn first_tab(row: &[char]) -> Option<usize>
-    ensures { result ≡ position is_tab row.now }
+    ensures { result ≡ position (λ c. c == 9) row.now }
 {
     if has_tab(row) {
         return row.iter().position(|c| *c == '\t');
@@ -176,7 +169,7 @@ pub fn first_tab(row: &[char]) -> Option<usize>
 
 /// Whether the row has a tab. All of it is looked at, several characters at once.
 fn has_tab(row: &[char]) -> bool
-    ensures { result ≡ list_any is_tab row.now }
+    ensures { result ≡ list_any (λ c. c == 9) row.now }
 {
     let mut found = false;
     for c in row {

@@ -1,5 +1,7 @@
 -- What a row consists of, with other rows below it from some row on: the same, or its last lexeme goes past that row's start.
 use Rattle.std.proofs.Common.{◌≡◌, ℕ, zero, suc, ◌+◌, ◌-◌, ◌≤◌, ◌⊎◌, inl, inr, Bool, true, false, cond, not, ◌&&◌, ◌||◌, List, [], ◌∷◌, ◌++◌, length, Option, Some, None, refl, ap, sym, subst, ◌∙◌, eqb, ltb, arith}
+use Rattle.std.specs.Prelude.{unwrap_or}
+use Rattle.std.specs.Option.{option_or}
 use Rattle.yl_text.specs.Character.{is_white, is_blank}
 use Rattle.yl_scalar.specs.Reading.{ScalarOutcomeValue, Whole, Refused, ScalarStepValue, GoesOn, EndsIn, EndedAbove, Fails, outcome_of_step, outcome_of_lines}
 use Rattle.yl_scalar.specs.PlainSteps.{plain_begin, plain}
@@ -12,10 +14,10 @@ use Rattle.yl_lexeme.specs.Lexeme.{LexemeValue}
 use Rattle.yl_lexeme.specs.Past.{Context, in_flow, level, past_lexeme}
 use Rattle.yl_lexeme.specs.Known.{SurroundingsValue, context_of, new_row, surroundings_at, surroundings_behind, no_surroundings}
 use Rattle.yl_row.specs.declared.fault.PlacedScanFault.{PlacedScanFault}
-use Rattle.yl_row.specs.Fault.{of_scalar, is_unclosed, or_else}
+use Rattle.yl_row.specs.Fault.{of_scalar, is_unclosed}
 use Rattle.yl_row.specs.ScalarReader.{ScalarReaderValue, InPlain, InQuoted, InBlock, map_step, reader_step, reader_finish, rows_in, KeepsSpaces}
 use Rattle.yl_row.specs.Begins.{BeginsAt}
-use Rattle.yl_row.specs.Step.{FoundLexemeValue, found_at, found_or, document_at, block_at, flow_at, word_at, plain_found, scalar_found, is_plain_start, is_space_next, is_value_at, step_fault, place_fault}
+use Rattle.yl_row.specs.Step.{FoundLexemeValue, found_at, document_at, block_at, word_at, scalar_found, is_plain_start, is_space_next, is_value_at, place_fault}
 use Rattle.yl_row.specs.Entries.{RowReading, fault_reading, with_lexeme, reading_or_fault, lexeme_of, after_lexeme}
 use Rattle.yl_row.specs.Run.{lexeme_reading_by, row_reading_by}
 use Rattle.yl_row.proofs.Carry.{Carries, Facts, mode_ends_at, facts}
@@ -92,11 +94,8 @@ module _ (P : FoundLexemeValue → FoundLexemeValue → Type 0) (n at : ℕ) (sa
       (subst (λ r. P (scalar_found style at (read_from (above ++ row ∷ below))) (scalar_found style at r)) (sym (is (above ++ row ∷ below')))
       (begun_alike (λ r r'. P (scalar_found style at r) (scalar_found style at r')) n (λ r. same (scalar_found style at r)) (λ r r'. both style r r') row below below' text above here at begin t rests))
 
-  plain_same : (flow : Bool) (least c : ℕ) (cs : List ℕ) → P (plain_found flow least at c cs (above ++ row ∷ below)) (plain_found flow least at c cs (above ++ row ∷ below'))
-  plain_same flow least c cs =
-      pair_if P (is_plain_start flow c cs) _ _ _ _
-      (scalar_alike Plain (c ∷ cs) (map_step InPlain (plain_begin flow least at (c ∷ cs))) (plain_begins flow least at (c ∷ cs)) (plain flow least at (c ∷ cs)) (plain_alike flow least at (c ∷ cs)))
-      (same _)
+  plain_same : (flow : Bool) (least : ℕ) (cs : List ℕ) → P (scalar_found Plain at (plain flow least at cs (above ++ row ∷ below))) (scalar_found Plain at (plain flow least at cs (above ++ row ∷ below')))
+  plain_same flow least cs = scalar_alike Plain cs (map_step InPlain (plain_begin flow least at cs)) (plain_begins flow least at cs) (plain flow least at cs) (plain_alike flow least at cs)
 
   quoted_same : (style : Style) (double : Bool) (cs : List ℕ) → P (scalar_found style at (quoted double at cs (above ++ row ∷ below))) (scalar_found style at (quoted double at cs (above ++ row ∷ below')))
   quoted_same style double cs = scalar_alike style [] (map_step InQuoted (quoted_begin double at cs)) (quoted_begins double at cs []) (quoted double at cs) (quoted_alike double at cs)
@@ -113,16 +112,8 @@ module _ (P : FoundLexemeValue → FoundLexemeValue → Type 0) (n at : ℕ) (sa
       (pair_if P (eqb c 0x22) _ _ _ _ (quoted_same Double true cs)
       (pair_if P (eqb c 0x7C && not (in_flow a)) _ _ _ _ (block_same Literal (level a.levels) cs)
       (pair_if P (eqb c 0x3E && not (in_flow a)) _ _ _ _ (block_same Folded (level a.levels) cs)
-      (plain_same (in_flow a) (level a.levels) c cs)))))))
-
-  flow_same : (a : Context) (c : ℕ) (cs : List ℕ) → P (flow_at (above ++ row ∷ below) at a c cs) (flow_at (above ++ row ∷ below') at a c cs)
-  flow_same a c cs =
-      pair_if P (eqb c 0x5B) _ _ _ _ (same _)
-      (pair_if P (eqb c 0x7B) _ _ _ _ (same _)
-      (pair_if P (eqb c 0x5D) _ _ _ _ (same _)
-      (pair_if P (eqb c 0x7D) _ _ _ _ (same _)
-      (pair_if P (eqb c 0x2C) _ _ _ _ (same _)
-      (word_same a c cs)))))
+      (pair_if P (is_plain_start (in_flow a) c cs) _ _ _ _ (plain_same (in_flow a) (level a.levels) (c ∷ cs))
+      (same _))))))))
 
   found_same : (tab : Option ℕ) (first : Bool) (a : Context) (c : ℕ) (cs : List ℕ)
       → P (found_at (above ++ row ∷ below) tab first at a c cs) (found_at (above ++ row ∷ below') tab first at a c cs)
@@ -132,10 +123,15 @@ module _ (P : FoundLexemeValue → FoundLexemeValue → Type 0) (n at : ℕ) (sa
       (pair_if P (eqb c 0x2D && is_space_next cs) _ _ _ _ (same _)
       (pair_if P (eqb c 0x3F && is_space_next cs) _ _ _ _ (same _)
       (pair_if P (eqb c 0x3A && is_value_at (in_flow a) a.last cs) _ _ _ _ (same _)
-      (flow_same a c cs))))
+      (pair_if P (eqb c 0x5B) _ _ _ _ (same _)
+      (pair_if P (eqb c 0x7B) _ _ _ _ (same _)
+      (pair_if P (eqb c 0x5D) _ _ _ _ (same _)
+      (pair_if P (eqb c 0x7D) _ _ _ _ (same _)
+      (pair_if P (eqb c 0x2C) _ _ _ _ (same _)
+      (word_same a c cs)))))))))
     where
       by_document : (o : Option FoundLexemeValue) → P (block_at (above ++ row ∷ below) tab first at a c cs) (block_at (above ++ row ∷ below') tab first at a c cs)
-          → P (found_or o (block_at (above ++ row ∷ below) tab first at a c cs)) (found_or o (block_at (above ++ row ∷ below') tab first at a c cs))
+          → P (unwrap_or o (block_at (above ++ row ∷ below) tab first at a c cs)) (unwrap_or o (block_at (above ++ row ∷ below') tab first at a c cs))
       by_document None h = h
       by_document (Some f) h = same f
 
@@ -174,7 +170,7 @@ after_covers n at found k x more (suc down) one h = h
 abbrev behind_scalar : ℕ → SurroundingsValue → (ℕ → RowReading SurroundingsValue) → Style → ScalarOutcomeValue → Option PlacedScanFault → RowReading SurroundingsValue
 behind_scalar at k more style r before =
     let f = scalar_found style at r in
-    reading_or_fault (lexeme_of at f) no_surroundings (after_lexeme at f k more f.down) (or_else before f.fault)
+    reading_or_fault (lexeme_of at f) no_surroundings (after_lexeme at f k more f.down) (option_or before f.fault)
 
 scalar_covers : (n at : ℕ) (k : SurroundingsValue) (more : ℕ → RowReading SurroundingsValue) (style : Style) (r : ScalarOutcomeValue) → 1 ≤ n → Covers n r → RowCovers n (behind_scalar at k more style r None)
 scalar_covers n at k more style (Whole e) one h = after_covers n at (scalar_found style at (Whole e)) k (lexeme_of at (scalar_found style at (Whole e))) more e.down one h
@@ -203,7 +199,7 @@ module _ (above : List (List ℕ)) (row : List ℕ) (below below' : List (List �
   took_same tab first at k more more' a c cs h =
       found_same (λ f f'. SameOrCovers n (lexeme_reading_by tab first at k more f) (lexeme_reading_by tab first at k more' f')) n at
       (λ f. let k' = surroundings_behind (past_lexeme at first (context_of k) f.kind) k in
-      chosen_same n (lexeme_of at f) _ _ (step_fault tab first at (context_of k) f) (after_same n at f (new_row k') (λ skip. more skip k') (λ skip. more' skip k') f.down (λ skip. h skip k')))
+      chosen_same n (lexeme_of at f) _ _ (option_or (place_fault tab first at (context_of k)) f.fault) (after_same n at f (new_row k') (λ skip. more skip k') (λ skip. more' skip k') f.down (λ skip. h skip k')))
       both
       above row below below' text here tab first a c cs
     where

@@ -1,5 +1,6 @@
 -- What a row tells where a scalar is carried into it.
 use Rattle.std.proofs.Common.{◌≡◌, ℕ, zero, suc, ◌+◌, ◌-◌, ◌≤◌, ◌<◌, ◌⊎◌, inl, inr, true, false, cond, ◌||◌, List, [], ◌∷◌, ◌++◌, drop, map, Option, Some, None, refl, ap, sym, subst, ◌∙◌, arith}
+use Rattle.std.specs.Prelude.{Bool, ◌&&◌, ◌==◌, nat_le}
 use Rattle.std.specs.List.{filter}
 use Rattle.std.proofs.lemmas.List.{append-nil}
 use Rattle.yl_text.specs.Character.{is_blank}
@@ -14,7 +15,7 @@ use Rattle.yl_row.specs.Step.{scalar_found}
 use Rattle.yl_row.specs.ScalarReader.{ScalarReaderValue, reader_step, reader_finish, rows_in, KeepsSpaces}
 use Rattle.yl_lexeme.specs.Known.{SurroundingsValue, new_row}
 use Rattle.yl_lexeme.specs.Known.{no_surroundings}
-use Rattle.yl_row.specs.Entries.{LineStateValue, RowReading, lexeme_of, stopped_rows, lexemes_up_to_fault, ends_by, reading_below, fault_reading, with_lexeme, reading_or_fault, after_lexeme}
+use Rattle.yl_row.specs.Entries.{LineStateValue, RowReading, lexeme_of, stopped_rows, lexemes_up_to_fault, reading_below, fault_reading, with_lexeme, reading_or_fault, after_lexeme}
 use Rattle.yl_row.specs.Rows.{reading_with_lexemes, comment_end}
 use Rattle.yl_row.specs.Run.{entries_by}
 use Rattle.yl_scan.specs.Output.{ScanOutput, StepValue, silent_step, output_with_step, output_of_entries, at_line, fault_in, output_of_row, Fresh, Within, Halted, output_with_lexeme_above, output_with_fault_above, rows_to, output_of_scalar, remaining_output}
@@ -75,6 +76,10 @@ module _ (line begun : ℕ) (style : Style) (at : ℕ) (k : SurroundingsValue) (
       ∙ ap (λ n. output_with_lexeme_above line begun (lexeme_of at (scalar_found style at (Whole x))) (output_of_entries line (entries_by false n x.column k (row ∷ rows)))) none
 
 -- ---- a row that is read
+
+-- a lexeme ends in its row before a column or at it
+abbrev pub ends_by : ℕ → LexemeValue → Bool
+ends_by column x = x.end.line == 0 && nat_le x.end.col column
 
 not_tab : (fault : ScalarFault) → is_tab (of_scalar fault) ≡ false
 not_tab NotAllowed = refl

@@ -1,11 +1,12 @@
 -- What the rows from a sound row on consist of depends on its state alone.
 use Rattle.std.proofs.Common.{◌≡◌, ℕ, zero, suc, ◌+◌, ◌-◌, Bool, true, false, cond, ◌&&◌, ◌||◌, not, List, [], ◌∷◌, drop, Option, Some, None, refl, ap, sym, subst, ◌∙◌, eqb, ltb}
 use Rattle.std.specs.List.{AllByRecursion}
+use Rattle.std.specs.Option.{option_or}
 use Rattle.yl_text.specs.Character.{is_white, is_blank}
 use Rattle.yl_row.specs.declared.fault.PlacedScanFault.{PlacedScanFault}
 use Rattle.yl_row.specs.Fault.{is_unclosed}
 use Rattle.yl_lexeme.specs.Lexeme.{LexemeValue, CommentValue}
-use Rattle.yl_row.specs.Step.{FoundLexemeValue, found_at, step_fault, bad_in, first_tab}
+use Rattle.yl_row.specs.Step.{FoundLexemeValue, found_at, place_fault, bad_in, first_tab}
 use Rattle.yl_lexeme.specs.Past.{Context, past_lexeme}
 use Rattle.yl_lexeme.specs.Known.{SurroundingsValue, context_of, new_row, surroundings_at, surroundings_behind, no_surroundings}
 use Rattle.yl_row.specs.Entries.{RowEntry, LineStateValue, Stopped, RowReading, state_of, entry_of, entries_below, fault_reading, with_lexeme, reading_or_fault, comment_or, comment_of, lexeme_of, after_lexeme, ends_document, stopped_rows, entries}
@@ -43,7 +44,7 @@ read_fresh rows tab skip bs first at k (c ∷ cs) =
     fresh_if (ltb 0 skip) _ _ (read_fresh rows tab (skip - 1) false first (at + 1) k cs)
     (fresh_if (is_white c) _ _ (read_fresh rows tab 0 true first (at + 1) k cs)
     (fresh_if (eqb c 35 && bs) _ _ (fresh_comment (comment_of at (c ∷ cs)) k (bad_in at (c ∷ cs)))
-    (fresh_chosen (lexeme_of at found) _ (step_fault tab first at (context_of k0) found)
+    (fresh_chosen (lexeme_of at found) _ (option_or (place_fault tab first at (context_of k0)) found.fault)
     (fresh_after at found k' (λ skip. row_reading_by rows tab skip false false (at + 1) k' cs) found.down (λ skip. read_fresh rows tab skip false false (at + 1) k' cs)))))
 
 -- ---- behind a fault

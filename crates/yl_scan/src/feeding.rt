@@ -1,6 +1,6 @@
 //! What a row tells, by where the scanner stands before it.
 
-ghost use Rattle.std.specs.Prelude.{◌≡◌, ◌≤◌, ◌<◌, ◌+◌, ◌-◌, ◌^◌, ◌==◌, ◌∷◌, [], not, ◌&&◌, ◌||◌, true, false, if◌then◌else◌, IfOk, OnErr, OnOk, List, ℕ, Bool, Option, IsSome, is_some, length};
+ghost use Rattle.std.specs.Prelude.{◌≡◌, ◌≤◌, ◌<◌, ◌+◌, ◌-◌, ◌^◌, ◌==◌, ◌∷◌, [], not, ◌&&◌, ◌||◌, true, false, if◌then◌else◌, IfOk, OnErr, OnOk, List, ℕ, nat_le, Bool, Option, IsSome, is_some, length};
 ghost use Rattle.yl_lexeme.specs.Lexeme.{LexemeValue};
 ghost use Rattle.yl_lexeme.specs.Known.{SurroundingsValue, context_of, new_row};
 ghost use Rattle.yl_lexeme.specs.Surroundings.{surroundings_value};
@@ -8,7 +8,7 @@ ghost use Rattle.yl_scalar.specs.Reading.{GoesOn, Fails};
 ghost use Rattle.yl_text.specs.Character.{is_blank};
 ghost use Rattle.yl_row.specs.Fault.{is_tab, is_unclosed, of_scalar};
 ghost use Rattle.yl_row.specs.Step.{first_tab};
-ghost use Rattle.yl_row.specs.Entries.{LineStateValue, Stopped, ends_by, lexemes_up_to_fault, sound_state, state_of, stopped_rows};
+ghost use Rattle.yl_row.specs.Entries.{LineStateValue, Stopped, lexemes_up_to_fault, sound_state, state_of, stopped_rows};
 ghost use Rattle.yl_row.specs.ScalarReader.{reader_finish};
 ghost use Rattle.yl_row.specs.Reader.{scalar_reader_value, value_of};
 ghost use Rattle.yl_row.specs.Run.{row_reading_by, entries_by};
@@ -33,7 +33,7 @@ use yl_text::Pos;
 
 /// Whether a lexeme ends in its row before a column or at it.
 fn ends_by<A: Allocator>(column: usize, lexeme: &Lexeme<A>) -> bool
-    ensures { result ≡ ends_by column lexeme.now }
+    ensures { result ≡ (lexeme.now.end.line == 0 && nat_le lexeme.now.end.col column) }
 {
     let end = lexeme.end();
     end.line == 0 && end.col as usize <= column

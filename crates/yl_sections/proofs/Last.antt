@@ -1,13 +1,14 @@
 -- The state of a sound row holds the kind of the last lexeme above it; behind a fault there is no lexeme.
 use Rattle.std.proofs.Common.{◌≡◌, ◌≤◌, ℕ, zero, suc, ◌+◌, ◌-◌, Bool, true, false, cond, ◌&&◌, ◌||◌, not, List, [], ◌∷◌, length, map, take, drop, Option, Some, None, refl, ap, sym, subst, ◌∙◌, eqb, ltb, arith}
 use Rattle.std.specs.List.{AllByRecursion}
+use Rattle.std.specs.Option.{option_or}
 use Rattle.std.proofs.lemmas.List.{length-map}
 use Rattle.yl_text.specs.Character.{is_white, is_blank, indentation}
 use Rattle.yl_row.specs.declared.fault.PlacedScanFault.{PlacedScanFault}
 use Rattle.yl_row.specs.Fault.{is_unclosed}
 use Rattle.yl_lexeme.specs.declared.lexeme.Kind.{Kind}
 use Rattle.yl_lexeme.specs.Lexeme.{LexemeValue, CommentValue}
-use Rattle.yl_row.specs.Step.{FoundLexemeValue, found_at, step_fault, bad_in, first_tab}
+use Rattle.yl_row.specs.Step.{FoundLexemeValue, found_at, place_fault, bad_in, first_tab}
 use Rattle.yl_lexeme.specs.Past.{Context, past_lexeme}
 use Rattle.yl_lexeme.specs.Known.{SurroundingsValue, context_of, new_row, surroundings_at, surroundings_behind, no_surroundings}
 use Rattle.yl_row.specs.Entries.{RowEntry, LineStateValue, Stopped, Stands, RowReading, state_of, entry_of, entries_below, fault_reading, with_lexeme, reading_or_fault, comment_or, comment_of, lexeme_of, after_lexeme, ends_document, lexemes_up_to_fault, stopped_rows, entries}
@@ -55,7 +56,7 @@ read_holds rows tab skip bs first at k (c ∷ cs) =
     holds_if k.last (ltb 0 skip) _ _ (read_holds rows tab (skip - 1) false first (at + 1) k cs)
     (holds_if k.last (is_white c) _ _ (read_holds rows tab 0 true first (at + 1) k cs)
     (holds_if k.last (eqb c 35 && bs) _ _ (holds_comment (comment_of at (c ∷ cs)) k (bad_in at (c ∷ cs)))
-    (holds_chosen k.last (lexeme_of at found) _ (step_fault tab first at (context_of k0) found)
+    (holds_chosen k.last (lexeme_of at found) _ (option_or (place_fault tab first at (context_of k0)) found.fault)
     (holds_after at found k' (λ skip. row_reading_by rows tab skip false false (at + 1) k' cs) found.down (λ skip. read_holds rows tab skip false false (at + 1) k' cs)))))
 
 -- ---- rows

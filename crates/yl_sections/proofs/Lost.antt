@@ -1,10 +1,12 @@
 -- Where a section begins at a row after an edit below it, and did not before, a scan fault stood in that row.
 use Rattle.std.proofs.Common.{◌≡◌, ◌≤◌, ◌<◌, ℕ, zero, suc, ◌+◌, ◌-◌, Bool, true, false, cond, ◌&&◌, ◌||◌, not, List, [], ◌∷◌, length, map, take, drop, Option, Some, None, refl, ap, sym, subst, ◌∙◌, eqb, ltb, arith, inl, inr, add-one}
-use Rattle.std.specs.Prelude.{IsSome, slice_get, option_map}
+use Rattle.std.specs.Prelude.{◌==◌, nat_le, IsSome, slice_get, option_map, unwrap_or}
+use Rattle.std.specs.Bool.{then_some}
+use Rattle.std.specs.Option.{option_or, option_map_or}
 use Rattle.std.specs.List.{AllByRecursion, filter, position, position_or_len}
 use Rattle.std.proofs.lemmas.Bool.{and_parts, eqb-true, ltb-true, le-leb}
 use Rattle.std.proofs.lemmas.List.{length-map}
-use Rattle.yl_text.specs.Character.{is_white, is_blank, is_marker_of, indentation}
+use Rattle.yl_text.specs.Character.{is_white, is_blank, is_marker_of, indentation, without_end}
 use Rattle.yl_scalar.specs.declared.answer.ScalarFault.{ScalarFault}
 use Rattle.yl_scalar.specs.declared.answer.ScalarFault.TheVariants as scalar
 use Rattle.yl_scalar.specs.Reading.{ScalarOutcomeValue, Whole, Refused}
@@ -13,14 +15,14 @@ use Rattle.yl_lexeme.specs.declared.lexeme.Style.{Style}
 use Rattle.yl_lexeme.specs.declared.lexeme.Kind.{Kind}
 use Rattle.yl_lexeme.specs.declared.lexeme.Kind.TheVariants.{DocStart, Anchor, Alias}
 use Rattle.yl_lexeme.specs.Lexeme.{LexemeValue, CommentValue}
-use Rattle.yl_lexeme.specs.Past.{Context, in_flow, may_begin, past_lexeme}
+use Rattle.yl_lexeme.specs.Past.{Context, in_flow, may_begin, near, past_lexeme}
 use Rattle.yl_lexeme.specs.Known.{SurroundingsValue, context_of, new_row, row_start, surroundings_at, surroundings_behind, no_surroundings}
 use Rattle.yl_row.specs.declared.fault.ScanFault.{ScanFault}
-use Rattle.yl_row.specs.declared.fault.ScanFault.TheVariants.{NotAllowed, TabInIndentation}
+use Rattle.yl_row.specs.declared.fault.ScanFault.TheVariants.{NotAllowed, TabInIndentation, EntryNotAllowed, KeyNotAllowed, ValueNotAllowed, ContentAfterDocumentEnd}
 use Rattle.yl_row.specs.declared.fault.PlacedScanFault.{PlacedScanFault}
-use Rattle.yl_row.specs.Fault.{fault_at, is_tab, is_unclosed, of_scalar, or_else, when}
-use Rattle.yl_row.specs.Step.{FoundLexemeValue, found_at, found_in_row, document_at, block_at, flow_at, word_at, scalar_at, value_found, tag_found, name_found, name_len, directive, scalar_found, found_or, step_fault, place_fault, tab_before, in_block, bad_in, first_tab, is_plain_start, is_space_next, is_value_at, is_tab as is_tab_character}
-use Rattle.yl_row.specs.Entries.{RowEntry, LineStateValue, Stopped, Stands, RowReading, ends_by, ends_document, entry_of, entries, entries_below, with_lexeme, reading_or_fault, comment_or, comment_of, lexeme_of, after_lexeme, lexemes_up_to_fault, sound_state, stopped_rows}
+use Rattle.yl_row.specs.Fault.{fault_at, is_tab, is_unclosed, of_scalar}
+use Rattle.yl_row.specs.Step.{FoundLexemeValue, found_at, found_in_row, document_at, block_at, word_at, tag_found, name_found, name_len, directive_len, scalar_found, place_fault, tab_before, bad_in, first_tab, is_plain_start, is_space_next, is_value_at}
+use Rattle.yl_row.specs.Entries.{RowEntry, LineStateValue, Stopped, Stands, RowReading, ends_document, entry_of, entries, entries_below, with_lexeme, reading_or_fault, comment_or, comment_of, lexeme_of, after_lexeme, lexemes_up_to_fault, sound_state, stopped_rows}
 use Rattle.yl_row.specs.Run.{lexeme_reading_by, row_reading_by, entries_by}
 use Rattle.yl_row.proofs.Agree.{run-entries}
 use Rattle.yl_scan.specs.Restart.{state_at, from_state}
@@ -46,19 +48,23 @@ only_none tab f e h = cc
 only_other : (tab : Option ℕ) (g : PlacedScanFault) → is_tab g.fault ≡ false → OnlyTab tab (Some g)
 only_other tab g n f e h = let same : g ≡ f = cc in let k : false ≡ true = sym n ∙ (ap (λ (x : PlacedScanFault). is_tab x.fault) same ∙ h) in cc
 
-only_when : (tab : Option ℕ) (b : Bool) (fault : ScanFault) (column : ℕ) → is_tab fault ≡ false → OnlyTab tab (when b fault column)
+only_when : (tab : Option ℕ) (b : Bool) (fault : ScanFault) (column : ℕ) → is_tab fault ≡ false → OnlyTab tab (then_some b (fault_at fault column))
 only_when tab true fault column n = only_other tab (fault_at fault column) n
 only_when tab false fault column n = only_none tab
 
-only_or : (tab : Option ℕ) (o p : Option PlacedScanFault) → OnlyTab tab o → OnlyTab tab p → OnlyTab tab (or_else o p)
+only_or : (tab : Option ℕ) (o p : Option PlacedScanFault) → OnlyTab tab o → OnlyTab tab p → OnlyTab tab (option_or o p)
 only_or tab None p a b = b
 only_or tab (Some f) p a b = a
+
+only_either : (tab : Option ℕ) (b : Bool) (o p : Option PlacedScanFault) → OnlyTab tab o → OnlyTab tab p → OnlyTab tab (cond b o p)
+only_either tab true o p c d = c
+only_either tab false o p c d = d
 
 only_if : (tab : Option ℕ) (b : Bool) (o : Option PlacedScanFault) → OnlyTab tab o → OnlyTab tab (cond b None o)
 only_if tab true o a = only_none tab
 only_if tab false o a = a
 
-only_at : (tab : ℕ) (b : Bool) → OnlyTab (Some tab) (when b TabInIndentation tab)
+only_at : (tab : ℕ) (b : Bool) → OnlyTab (Some tab) (then_some b (fault_at TabInIndentation tab))
 only_at tab true f e h = let same : fault_at TabInIndentation tab ≡ f = cc in ap (λ (x : PlacedScanFault). Some x.column) same
 only_at tab false f e h = cc
 
@@ -66,12 +72,12 @@ only_before : (tab : Option ℕ) (column : ℕ) → OnlyTab tab (tab_before tab 
 only_before None column = only_none None
 only_before (Some tab) column = only_at tab (ltb tab column)
 
+only_placed : (tab : Option ℕ) (fault : ScanFault) (column : ℕ) (o : Option ℕ) → is_tab fault ≡ false → OnlyTab tab (option_map (λ (i : ℕ). fault_at fault (column + i)) o)
+only_placed tab fault column None n = only_none tab
+only_placed tab fault column (Some i) n = only_other tab (fault_at fault (column + i)) n
+
 only_bad : (tab : Option ℕ) (column : ℕ) (cs : List ℕ) → OnlyTab tab (bad_in column cs)
-only_bad tab column cs = by_place (first_bad cs)
-  where
-    by_place : (o : Option ℕ) → OnlyTab tab (option_map (λ (i : ℕ). fault_at NotAllowed (column + i)) o)
-    by_place None = only_none tab
-    by_place (Some i) = only_other tab (fault_at NotAllowed (column + i)) refl
+only_bad tab column cs = only_placed tab NotAllowed column (first_bad cs) refl
 
 scalar_no_tab : (fault : ScalarFault) → is_tab (of_scalar fault) ≡ false
 scalar_no_tab scalar.NotAllowed = refl
@@ -97,9 +103,9 @@ scalar_fits : (tab : Option ℕ) (style : Style) (at : ℕ) (r : ScalarOutcomeVa
 scalar_fits tab style at (Whole e) = fits refl (only_none tab)
 scalar_fits tab style at (Refused fault down column) = fits refl (only_other tab _ (scalar_no_tab fault))
 
-value_fits : (tab : Option ℕ) (first : Bool) (at : ℕ) (a : Context) (key : Option ℕ) → Fits tab (value_found tab first at a key)
-value_fits tab first at a (Some key) = fits refl (only_if tab (in_flow a) _ (only_before tab key))
-value_fits tab first at a None = fits refl (only_if tab (in_flow a) _ (only_or tab _ _ (only_before tab at) (only_when tab (not (may_begin first a)) _ at refl)))
+only_key : (tab : Option ℕ) (key : Option ℕ) (o : Option PlacedScanFault) → OnlyTab tab o → OnlyTab tab (option_map_or (tab_before tab) key o)
+only_key tab None o h = h
+only_key tab (Some key) o h = only_before tab key
 
 tag_fits : (tab : Option ℕ) (at : ℕ) (cs : List ℕ) (len : Option ℕ) → Fits tab (tag_found at cs len)
 tag_fits tab at cs None = fits refl (only_other tab _ refl)
@@ -110,7 +116,7 @@ name_tabs tab kind at cs = only_or tab _ _ (only_when tab (eqb (name_len cs) 0) 
 
 -- of the lexeme at a place, or another
 record TabsOr (tab : Option ℕ) (o : Option FoundLexemeValue) : Type 0 where
-  pub or : (y : FoundLexemeValue) → OnlyTab tab y.fault → OnlyTab tab (found_or o y).fault
+  pub or : (y : FoundLexemeValue) → OnlyTab tab y.fault → OnlyTab tab (unwrap_or o y).fault
 
 tabs_none : (tab : Option ℕ) → TabsOr tab None
 tabs_none tab = record { or = λ y h. h }
@@ -123,7 +129,7 @@ tabs_either tab true o p a b = a
 tabs_either tab false o p a b = b
 
 record OtherOr (o : Option FoundLexemeValue) : Type 0 where
-  pub or : (y : FoundLexemeValue) → is_document_start y.kind ≡ false → is_document_start (found_or o y).kind ≡ false
+  pub or : (y : FoundLexemeValue) → is_document_start y.kind ≡ false → is_document_start (unwrap_or o y).kind ≡ false
 
 other_none : OtherOr None
 other_none = record { or = λ y h. h }
@@ -140,42 +146,38 @@ other_marker true o p e h = absurd (cc)
 other_marker false o p e h = h
 
 module _ (rows : List (List ℕ)) (tab : Option ℕ) (at : ℕ) (a : Context) (c : ℕ) (cs : List ℕ) where
-  scalar_at_fits : Fits tab (scalar_at rows at a c cs)
-  scalar_at_fits =
-      either tab (eqb c 0x27) _ _ (scalar_fits tab _ _ _) (either tab (eqb c 0x22) _ _ (scalar_fits tab _ _ _) (either tab (eqb c 0x7C && not (in_flow a)) _ _ (scalar_fits tab _ _ _)
-      (either tab (eqb c 0x3E && not (in_flow a)) _ _ (scalar_fits tab _ _ _) (either tab (is_plain_start (in_flow a) c cs) _ _ (scalar_fits tab _ _ _) (fits refl (only_other tab _ refl))))))
-
   word_at_fits : Fits tab (word_at rows at a c cs)
   word_at_fits =
-      either tab (eqb c 0x26) _ _ (fits refl (name_tabs tab Anchor at cs)) (either tab (eqb c 0x2A) _ _ (fits refl (name_tabs tab Alias at cs)) (either tab (eqb c 0x21) _ _ (tag_fits tab at cs _) scalar_at_fits))
-
-  flow_at_fits : Fits tab (flow_at rows at a c cs)
-  flow_at_fits =
-      either tab (eqb c 0x5B) _ _ (fits refl (only_none tab)) (either tab (eqb c 0x7B) _ _ (fits refl (only_none tab))
-      (either tab (eqb c 0x5D) _ _ (fits refl (only_when tab _ _ at refl)) (either tab (eqb c 0x7D) _ _ (fits refl (only_when tab _ _ at refl))
-      (either tab (eqb c 0x2C) _ _ (fits refl (only_when tab _ _ at refl)) word_at_fits))))
+      either tab (eqb c 0x26) _ _ (fits refl (name_tabs tab Anchor at cs)) (either tab (eqb c 0x2A) _ _ (fits refl (name_tabs tab Alias at cs)) (either tab (eqb c 0x21) _ _ (tag_fits tab at cs _)
+      (either tab (eqb c 0x27) _ _ (scalar_fits tab _ _ _) (either tab (eqb c 0x22) _ _ (scalar_fits tab _ _ _) (either tab (eqb c 0x7C && not (in_flow a)) _ _ (scalar_fits tab _ _ _)
+      (either tab (eqb c 0x3E && not (in_flow a)) _ _ (scalar_fits tab _ _ _) (either tab (is_plain_start (in_flow a) c cs) _ _ (scalar_fits tab _ _ _) (fits refl (only_other tab _ refl)))))))))
 
   block_at_fits : (first : Bool) → Fits tab (block_at rows tab first at a c cs)
   block_at_fits first =
-      either tab (eqb c 0x2D && is_space_next cs) _ _ (fits refl (only_or tab _ _ (only_if tab (in_flow a) _ (only_before tab at)) (only_when tab _ _ at refl)))
-      (either tab (eqb c 0x3F && is_space_next cs) _ _ (fits refl (only_if tab (in_flow a) _ (only_or tab _ _ (only_before tab at) (only_when tab _ _ at refl))))
-      (either tab (eqb c 0x3A && is_value_at (in_flow a) a.last cs) _ _ (value_fits tab first at a _) flow_at_fits))
+      let refused : (fault : ScanFault) → is_tab fault ≡ false → OnlyTab tab (option_or (tab_before tab at) (then_some (not (may_begin first a)) (fault_at fault at))) =
+      λ fault n. only_or tab _ _ (only_before tab at) (only_when tab (not (may_begin first a)) fault at n) in
+      either tab (eqb c 0x2D && is_space_next cs) _ _ (fits refl (only_either tab (in_flow a) _ _ (only_other tab _ refl) (refused EntryNotAllowed refl)))
+      (either tab (eqb c 0x3F && is_space_next cs) _ _ (fits refl (only_if tab (in_flow a) _ (refused KeyNotAllowed refl)))
+      (either tab (eqb c 0x3A && is_value_at (in_flow a) a.last cs) _ _ (fits refl (only_if tab (in_flow a) _ (only_key tab (near at a.start) _ (refused ValueNotAllowed refl))))
+      (either tab (eqb c 0x5B) _ _ (fits refl (only_none tab)) (either tab (eqb c 0x7B) _ _ (fits refl (only_none tab))
+      (either tab (eqb c 0x5D) _ _ (fits refl (only_when tab _ _ at refl)) (either tab (eqb c 0x7D) _ _ (fits refl (only_when tab _ _ at refl))
+      (either tab (eqb c 0x2C) _ _ (fits refl (only_when tab _ _ at refl)) word_at_fits)))))))
 
   document_tabs : TabsOr tab (document_at c cs a)
   document_tabs =
       tabs_either tab (is_marker_of 0x2D (c ∷ cs)) _ _ (tabs_some tab _ (only_none tab))
-      (tabs_either tab (is_marker_of 0x2E (c ∷ cs)) _ _ (tabs_some tab _ (only_when tab _ _ _ refl))
-      (tabs_either tab _ _ _ (tabs_some tab _ (only_bad tab 0 (directive (c ∷ cs)))) (tabs_none tab)))
+      (tabs_either tab (is_marker_of 0x2E (c ∷ cs)) _ _ (tabs_some tab _ (only_placed tab ContentAfterDocumentEnd 3 _ refl))
+      (tabs_either tab _ _ _ (tabs_some tab _ (only_bad tab 0 (without_end (take (directive_len false (c ∷ cs)) (c ∷ cs))))) (tabs_none tab)))
 
   found_tabs : (first : Bool) → OnlyTab tab (found_at rows tab first at a c cs).fault
   unfolding found_at
   found_tabs first = (tabs_either tab (eqb at 0) _ _ document_tabs (tabs_none tab)).or (block_at rows tab first at a c cs) (block_at_fits first).tabs
 
-  step_tabs : (first : Bool) → OnlyTab tab (step_fault tab first at a (found_at rows tab first at a c cs))
-  step_tabs first = only_or tab (place_fault tab first at a) _ (by_first first) (found_tabs first)
+  step_tabs : (first : Bool) → OnlyTab tab (option_or (place_fault tab first at a) (found_at rows tab first at a c cs).fault)
+  step_tabs first = only_or tab (place_fault tab first at a) _ (by_first (first && not (in_flow a))) (found_tabs first)
     where
-      by_first : (b : Bool) → OnlyTab tab (cond b (in_block a (tab_before tab at)) None)
-      by_first true = only_if tab (in_flow a) _ (only_before tab at)
+      by_first : (b : Bool) → OnlyTab tab (cond b (tab_before tab at) None)
+      by_first true = only_before tab at
       by_first false = only_none tab
 
   document_other : is_marker_of 0x2D (c ∷ cs) ≡ false → OtherOr (document_at c cs a)
@@ -223,7 +225,7 @@ read_tabs rows tab skip bs first at k (c ∷ cs) =
     one_of (HasTabs tab) (ltb 0 skip) _ _ (read_tabs rows tab (skip - 1) false first (at + 1) k cs)
     (one_of (HasTabs tab) (is_white c) _ _ (read_tabs rows tab 0 true first (at + 1) k cs)
     (one_of (HasTabs tab) (eqb c 35 && bs) _ _ (tabs_comment tab (comment_of at (c ∷ cs)) (new_row k) (bad_in at (c ∷ cs)) (only_bad tab at (c ∷ cs)))
-    (tabs_chosen tab (lexeme_of at found) _ (step_fault tab first at (context_of k0) found) (step_tabs rows tab at (context_of k0) c cs first)
+    (tabs_chosen tab (lexeme_of at found) _ (option_or (place_fault tab first at (context_of k0)) found.fault) (step_tabs rows tab at (context_of k0) c cs first)
     (tabs_after tab at found (new_row k') (λ skip. row_reading_by rows tab skip false false (at + 1) k' cs) found.down (λ skip. read_tabs rows tab skip false false (at + 1) k' cs)))))
 
 -- no lexeme starts a document
@@ -258,7 +260,7 @@ read_other rows tab skip bs first at k (c ∷ cs) n =
     one_of AreOther (ltb 0 skip) _ _ (read_other rows tab (skip - 1) false first (at + 1) k cs (further cs at))
     (one_of AreOther (is_white c) _ _ (read_other rows tab 0 true first (at + 1) k cs (further cs at))
     (one_of AreOther (eqb c 35 && bs) _ _ (other_comment (comment_of at (c ∷ cs)) (new_row k) (bad_in at (c ∷ cs)))
-    (other_chosen (lexeme_of at found) _ (step_fault tab first at (context_of k0) found) (found_other rows tab at (context_of k0) c cs first n)
+    (other_chosen (lexeme_of at found) _ (option_or (place_fault tab first at (context_of k0)) found.fault) (found_other rows tab at (context_of k0) c cs first n)
     (other_after at found (new_row k') (λ skip. row_reading_by rows tab skip false false (at + 1) k' cs) found.down (λ skip. read_other rows tab skip false false (at + 1) k' cs (further cs at))))))
 
 -- behind a fault stands no comment
@@ -286,7 +288,7 @@ read_silent rows tab skip bs first at k (c ∷ cs) =
     one_of HasNoComment (ltb 0 skip) _ _ (read_silent rows tab (skip - 1) false first (at + 1) k cs)
     (one_of HasNoComment (is_white c) _ _ (read_silent rows tab 0 true first (at + 1) k cs)
     (one_of HasNoComment (eqb c 35 && bs) _ _ (silent_comment (comment_of at (c ∷ cs)) (new_row k) (bad_in at (c ∷ cs)))
-    (silent_chosen (lexeme_of at found) _ (step_fault tab first at (context_of k0) found)
+    (silent_chosen (lexeme_of at found) _ (option_or (place_fault tab first at (context_of k0)) found.fault)
     (silent_after at found (new_row k') (λ skip. row_reading_by rows tab skip false false (at + 1) k' cs) found.down (λ skip. read_silent rows tab skip false false (at + 1) k' cs)))))
 
 -- whatever stands below, a row has lexemes or a fault in both texts, or no lexemes in both
@@ -318,9 +320,12 @@ read_alike rows rows' tab skip bs first at k (c ∷ cs) =
     alike_if (ltb 0 skip) _ _ _ _ (read_alike rows rows' tab (skip - 1) false first (at + 1) k cs)
     (alike_if (is_white c) _ _ _ _ (read_alike rows rows' tab 0 true first (at + 1) k cs)
     (alike_if (eqb c 35 && bs) _ _ _ _ (λ e f. comment_empty (comment_of at (c ∷ cs)) (new_row k) (bad_in at (c ∷ cs)))
-    (λ e f. absurd (not_empty (lexeme_of at found) (after_lexeme at found (new_row k') (λ skip. row_reading_by rows tab skip false false (at + 1) k' cs) found.down) (step_fault tab first at (context_of k0) found) (e, f)))))
+    (λ e f. absurd (not_empty (lexeme_of at found) (after_lexeme at found (new_row k') (λ skip. row_reading_by rows tab skip false false (at + 1) k' cs) found.down) (option_or (place_fault tab first at (context_of k0)) found.fault) (e, f)))))
 
 -- ---- a row that starts a document
+
+abbrev is_tab_character : ℕ → Bool
+is_tab_character c = eqb c 9
 
 three_tabs : (t : ℕ) (rest : List ℕ) → position is_tab_character (0x2D ∷ 0x2D ∷ 0x2D ∷ rest) ≡ Some t → 3 ≤ t
 three_tabs t rest h = by_len (position_or_len is_tab_character rest) h
@@ -338,17 +343,20 @@ below_zero t false e = refl
 
 none_before : (tab : Option ℕ) → tab_before tab 0 ≡ None
 none_before None = refl
-none_before (Some t) = ap (λ b. when b TabInIndentation t) (below_zero t (ltb t 0) refl)
+none_before (Some t) = ap (λ b. then_some b (fault_at TabInIndentation t)) (below_zero t (ltb t 0) refl)
 
-none_if : (b : Bool) (o : Option PlacedScanFault) → o ≡ None → cond b None o ≡ None
-none_if true o e = refl
-none_if false o e = e
+none_if : (b : Bool) (o : Option PlacedScanFault) → o ≡ None → cond b o None ≡ None
+none_if true o e = e
+none_if false o e = refl
 
 abbrev start_found : FoundLexemeValue
 start_found = found_in_row DocStart 3 [] None
 
-no_step_fault : (tab : Option ℕ) (a : Context) → step_fault tab true 0 a start_found ≡ None
-no_step_fault tab a = ap (λ (o : Option PlacedScanFault). or_else o None) (none_if (in_flow a) (tab_before tab 0) (none_before tab))
+no_step_fault : (tab : Option ℕ) (a : Context) → option_or (place_fault tab true 0 a) start_found.fault ≡ None
+no_step_fault tab a = ap (λ (o : Option PlacedScanFault). option_or o None) (none_if (not (in_flow a)) (tab_before tab 0) (none_before tab))
+
+abbrev ends_by : ℕ → LexemeValue → Bool
+ends_by column x = x.end.line == 0 && nat_le x.end.col column
 
 -- what is left of a row's lexemes begins a section as they do
 start_left : (tab : Option ℕ) (last : Option Kind) (xs : List LexemeValue) (o : Option PlacedScanFault) → OnlyTab tab o → ((t : ℕ) → tab ≡ Some t → 3 ≤ t)
@@ -385,8 +393,8 @@ module _ (rows : List (List ℕ)) (tab : Option ℕ) (k : SurroundingsValue) (cs
   read_first : row_reading_by rows tab 0 true true 0 k (0x2D ∷ cs) ≡ lexeme_reading_by tab true 0 k0 more (found_at rows tab true 0 (context_of k0) 0x2D cs)
   read_first = refl {a = lexeme_reading_by tab true 0 k0 more (found_at rows tab true 0 (context_of k0) 0x2D cs)}
 
-  read_start : lexeme_reading_by tab true 0 k0 more start_found ≡ reading_or_fault (lexeme_of 0 start_found) no_surroundings (more 2 k1) (step_fault tab true 0 (context_of k0) start_found)
-  read_start = refl {a = reading_or_fault (lexeme_of 0 start_found) no_surroundings (more 2 k1) (step_fault tab true 0 (context_of k0) start_found)}
+  read_start : lexeme_reading_by tab true 0 k0 more start_found ≡ reading_or_fault (lexeme_of 0 start_found) no_surroundings (more 2 k1) (option_or (place_fault tab true 0 (context_of k0)) start_found.fault)
+  read_start = refl {a = reading_or_fault (lexeme_of 0 start_found) no_surroundings (more 2 k1) (option_or (place_fault tab true 0 (context_of k0)) start_found.fault)}
 
   marker_read : row_reading_by rows tab 0 true true 0 k (0x2D ∷ cs) ≡ with_lexeme (lexeme_of 0 start_found) (more 2 k1)
   marker_read =

@@ -1,7 +1,7 @@
 use Rattle.std.proofs.Common.{rules, cond, sym, ap, ◌∙◌}
 use Rattle.std.specs.List.{filter}
 use Rattle.std.proofs.lemmas.Fn.{filter_same}
-use Rattle.yl_row.specs.Entries.{ends_by}
+use Rattle.yl_scan.proofs.Feed.{ends_by}
 use Rattle.yl_scan.proofs.feeding.keep.Goals as goal
 
 pub returns-then-is_tab : goal.returns-then-is_tab
