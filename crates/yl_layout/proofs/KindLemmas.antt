@@ -19,8 +19,8 @@ use Rattle.yl_layout.specs.Colons.{colons}
 use Rattle.yl_layout.specs.Commas.{commas}
 use Rattle.yl_layout.specs.DocumentStart.{document_start}
 use Rattle.yl_layout.specs.Hyphens.{hyphens}
-use Rattle.yl_layout.specs.Kinds.{findings_of, indicator_findings}
-use Rattle.yl_layout.specs.Lexemes.{flow_findings, value_findings}
+use Rattle.yl_layout.specs.Kinds.{flow_findings, indicator_findings}
+use Rattle.yl_layout.specs.Lexemes.{findings_at, value_findings}
 
 no_brackets : (flow : Flow) (o : Option BracketsOptions) (before : Option Span) (x : Span)
     (after : Option Span) → opens flow x.kind ≡ false → closes flow x.kind ≡ false
@@ -189,7 +189,7 @@ pub found_at : (is_1_2 : Bool) (o : LexemeOptions) (before : Option Span) (x : S
     → a ≡ found ++ indicator_findings x.kind o before x after
     → b ≡ a ++ document_start o.document_start before x
     → c ≡ b ++ value_findings is_1_2 o x value key
-    → c ≡ found ++ findings_of is_1_2 o before x value key after
+    → c ≡ found ++ findings_at is_1_2 o before x value key after
 found_at is_1_2 o before x value key after found a b c p q r =
     parts_joined found (flow_findings o before x after) (colons o.colons before x after)
     (hyphens o.hyphens x after) (document_start o.document_start before x)

@@ -1,6 +1,7 @@
 -- What the rules on lexemes find in lexemes of a text's first lines stands in these lines.
 use Rattle.std.proofs.Common.{◌≡◌, ◌<◌, ℕ, ◌+◌, Bool, List, [], ◌∷◌, Option, Some, None, refl, take}
-use Rattle.std.specs.Prelude.{IfSome, is_some, not, ◌&&◌, nat_lt, max, codes}
+use Rattle.std.specs.Prelude.{IfSome, is_some, not, ◌&&◌, ◌==◌, false, nat_lt, max, codes}
+use Rattle.std.specs.Option.{option_map_or}
 use Rattle.std.specs.List.{AllByRecursion}
 use Rattle.yl_text.specs.declared.finding.RuleId.{RuleId}
 use Rattle.yl_text.specs.declared.finding.RuleId.TheVariants.{Braces, Brackets, Colons, Commas, DocumentStart, Hyphens, QuotedStrings, Truthy}
@@ -22,9 +23,9 @@ use Rattle.yl_layout.specs.declared.hyphens.HyphensOptions.{HyphensOptions}
 use Rattle.yl_layout.specs.declared.options.LexemeOptions.{LexemeOptions}
 use Rattle.yl_layout.specs.declared.quoted_strings.QuotedStringsOptions.{QuotedStringsOptions}
 use Rattle.yl_layout.specs.declared.truthy.TruthyOptions.{TruthyOptions}
-use Rattle.yl_layout.specs.Spans.{distance, is_above, is_below, span_of, too_few, too_many, too_many_behind}
+use Rattle.yl_layout.specs.Spans.{distance, is_less, span_of, too_few, too_many, too_many_behind}
 use Rattle.yl_layout.specs.Brackets.{before_closing, behind_opening_at, brackets, closes, forbidden_finding, forbidden_text, inside, inside_empty, opens, rule_of}
-use Rattle.yl_layout.specs.Colons.{before_colon, colons, is_alias, is_one}
+use Rattle.yl_layout.specs.Colons.{before_colon, colons, is_alias}
 use Rattle.yl_layout.specs.Commas.{before_comma, behind_comma, commas, first_comma}
 use Rattle.yl_layout.specs.DocumentStart.{document_start, is_bare, is_start_marker}
 use Rattle.yl_layout.specs.Hyphens.{hyphens}
@@ -64,10 +65,10 @@ module _ (K : RuleId → Type 0) (k : OfLexemeRules K) (rows : ℕ) (P : Finding
   -- ---- distances
 
   many : (rule : RuleId) (most : Option ℕ) (x y : Span) (text : List ℕ) → K rule → Begins y → Every (too_many rule most x y text)
-  many rule most x y text r h = all_if P (is_above (distance x y) most) _ (one rule y.start.line y.start.col text r h)
+  many rule most x y text r h = all_if P (is_less most (distance x y)) _ (one rule y.start.line y.start.col text r h)
 
   few : (rule : RuleId) (least : Option ℕ) (x y : Span) (text : List ℕ) → K rule → Begins y → Every (too_few rule least x y text)
-  few rule least x y text r h = all_if P (is_below (distance x y) least) _ (one rule y.start.line (y.start.col + 1) text r h)
+  few rule least x y text r h = all_if P (is_less (distance x y) least) _ (one rule y.start.line (y.start.col + 1) text r h)
 
   many_behind : (rule : RuleId) (most : Option ℕ) (x : Span) (after : Option Span) (text : List ℕ) → K rule → IfSome after Begins → Every (too_many_behind rule most x after text)
   many_behind rule most x None text r h = tt
@@ -104,7 +105,7 @@ module _ (K : RuleId → Type 0) (k : OfLexemeRules K) (rows : ℕ) (P : Finding
 
   own_before_colon : (o : ColonsOptions) (before : Option Span) (y : Span) → Begins y → Every (before_colon o before y)
   own_before_colon o None y h = tt
-  own_before_colon o (Some x) y h = all_either P (is_alias x.kind && is_one (distance x y)) [] _ tt (many Colons o.max_spaces_before x y _ k.colons h)
+  own_before_colon o (Some x) y h = all_either P (is_alias x.kind && option_map_or (λ n. n == 1) (distance x y) false) [] _ tt (many Colons o.max_spaces_before x y _ k.colons h)
 
   own_colons : (o : Option ColonsOptions) (before : Option Span) (x : Span) (after : Option Span) → Begins x → IfSome after Begins → Every (colons o before x after)
   own_colons None before x after h g = tt
@@ -134,8 +135,8 @@ module _ (K : RuleId → Type 0) (k : OfLexemeRules K) (rows : ℕ) (P : Finding
   own_document_start : (o : Option DocumentStartOptions) (before : Option Span) (x : Span) → Begins x → Every (document_start o before x)
   own_document_start None before x h = tt
   own_document_start (Some o) before x h =
-      all_either P o.present _ _ (all_if P (is_bare before x) _ (one DocumentStart x.start.line 1 _ k.document_start h))
-      (all_if P (is_start_marker x.kind) _ (one DocumentStart x.start.line (x.start.col + 1) _ k.document_start h))
+      all_either P (o.present && is_bare before x) _ _ (one DocumentStart x.start.line 1 _ k.document_start h)
+      (all_if P (not o.present && is_start_marker x.kind) _ (one DocumentStart x.start.line (x.start.col + 1) _ k.document_start h))
 
   own_truthy : (is_1_2 : Bool) (o : Option TruthyOptions) (x : Span) (value : List ℕ) (key : KeyFacts) → Begins x → Every (truthy is_1_2 o x value key)
   own_truthy is_1_2 None x value key h = tt
@@ -144,19 +145,18 @@ module _ (K : RuleId → Type 0) (k : OfLexemeRules K) (rows : ℕ) (P : Finding
   own_quoted_strings : (o : Option QuotedStringsOptions) (x : Span) (value : List ℕ) (key : KeyFacts) → Begins x → Every (quoted_strings o x value key)
   own_quoted_strings None x value key h = tt
   own_quoted_strings (Some o) x value key h =
-      all_if P (not key.has_tag && not key.is_key && is_misquoted o x.kind value) _ (one QuotedStrings x.start.line (x.start.col + 1) _ k.quoted_strings h)
+      all_if P (not key.has_tag && not key.is_key && is_misquoted o.required o.quote_type x.kind value) _ (one QuotedStrings x.start.line (x.start.col + 1) _ k.quoted_strings h)
 
   -- ---- lexemes one after another
 
-  own_at : (is_1_2 : Bool) (o : LexemeOptions) (before : Option Span) (x : LexemeValue) (key : KeyFacts) (after : Option Span)
-      → x.start.line < rows → IfSome after Begins → Every (findings_at is_1_2 o before x key after)
-  own_at is_1_2 o before x key after h g =
-      let s = span_of x in
+  own_at : (is_1_2 : Bool) (o : LexemeOptions) (before : Option Span) (s : Span) (value : List ℕ) (key : KeyFacts) (after : Option Span)
+      → Begins s → IfSome after Begins → Every (findings_at is_1_2 o before s value key after)
+  own_at is_1_2 o before s value key after h g =
       all_both P _ _
       (all_both P _ _ (own_brackets Mapping o.braces before s after h g) (all_both P _ _ (own_brackets Sequence o.brackets before s after h g) (own_commas o.commas before s after h g)))
       (all_both P _ _
       (all_both P _ _ (own_colons o.colons before s after h g) (all_both P _ _ (own_hyphens o.hyphens s after g) (own_document_start o.document_start before s h)))
-      (all_both P _ _ (own_truthy is_1_2 o.truthy s x.value key h) (own_quoted_strings o.quoted_strings s x.value key h)))
+      (all_both P _ _ (own_truthy is_1_2 o.truthy s value key h) (own_quoted_strings o.quoted_strings s value key h)))
 
   first_begins : (xs : List LexemeValue) → AllByRecursion (λ x. x.start.line < rows) xs → IfSome (first_span xs) Begins
   first_begins [] h = tt
@@ -167,7 +167,7 @@ module _ (K : RuleId → Type 0) (k : OfLexemeRules K) (rows : ℕ) (P : Finding
   own_behind is_1_2 o before [] keys h = tt
   own_behind is_1_2 o before (x ∷ xs) [] h = tt
   own_behind is_1_2 o before (x ∷ xs) (key ∷ keys) h =
-      all_both P _ _ (own_at is_1_2 o before x key (first_span xs) h.0 (first_begins xs h.1)) (own_behind is_1_2 o (Some (span_of x)) xs keys h.1)
+      all_both P _ _ (own_at is_1_2 o before (span_of x) x.value key (first_span xs) h.0 (first_begins xs h.1)) (own_behind is_1_2 o (Some (span_of x)) xs keys h.1)
 
   pub own_lexemes : (o : LexemeOptions) (counted : ℕ) (xs : List LexemeValue) → AllByRecursion (λ x. x.start.line < rows) xs → AllByRecursion P (lexeme_findings o counted xs)
   own_lexemes o counted xs h = own_behind (is_1_2_document xs) o None (take counted xs) (key_facts xs) (all_take (λ (x : LexemeValue). x.start.line < rows) xs counted h)

@@ -12,7 +12,6 @@ use Rattle.yl_layout.specs.declared.span.Span.{Span}
 use Rattle.yl_layout.specs.declared.options.LexemeOptions.{LexemeOptions}
 use Rattle.yl_layout.specs.Spans.{span_of}
 use Rattle.yl_layout.specs.Lexemes.{findings_at, findings_behind, first_span}
-use Rattle.yl_layout.specs.Kinds.{findings_of}
 
 -- what begins at a place
 pub drop_here : {X : Type 0} (xs : List X) (i : ℕ) (x : X) → slice_get xs i ≡ Some x → drop i xs ≡ x ∷ drop (i + 1) xs
@@ -23,7 +22,7 @@ drop_here xs i x e =
 findings_here : {X : Type 0} (f : X → LexemeValue) (is_1_2 : Bool) (o : LexemeOptions) (before : Option Span) (xs : List X) (keys : List KeyFacts) (i : ℕ) (d : X) (e : KeyFacts)
     → i < length xs → i < length keys
     → findings_behind is_1_2 o before (map f (drop i xs)) (drop i keys)
-    ≡ findings_at is_1_2 o before (f (get_or xs i d)) (get_or keys i e) (first_span (map f (drop (i + 1) xs)))
+    ≡ findings_at is_1_2 o before (span_of (f (get_or xs i d))) (f (get_or xs i d)).value (get_or keys i e) (first_span (map f (drop (i + 1) xs)))
     ++ findings_behind is_1_2 o (Some (span_of (f (get_or xs i d)))) (map f (drop (i + 1) xs)) (drop (i + 1) keys)
 findings_here f is_1_2 o before xs keys i d e h g =
     ap (λ l. findings_behind is_1_2 o before (map f l) (drop i keys)) (drop-cons xs i d h ∙ ap (λ n. get_or xs i d ∷ drop n xs) (sym (add-one i)))
@@ -35,21 +34,21 @@ pub findings_more : {X : Type 0} (f : X → LexemeValue) (is_1_2 : Bool) (o : Le
     → i < length xs → i < length keys
     → x ≡ get_or xs i d → behind ≡ drop (i + 1) xs → after ≡ first_span (map f behind)
     → next ≡ span_of (f x) → value ≡ (f x).value
-    → new ≡ found ++ findings_of is_1_2 o before next value key after → key ≡ get_or keys i e
+    → new ≡ found ++ findings_at is_1_2 o before next value key after → key ≡ get_or keys i e
     → found ++ findings_behind is_1_2 o before (map f (drop i xs)) (drop i keys) ≡ all
     → new ++ findings_behind is_1_2 o (Some next) (map f (drop (i + 1) xs)) (drop (i + 1) keys) ≡ all
 findings_more f is_1_2 o before xs behind keys i x d e key after next value found new all h g
     x_is behind_is after_is next_is value_is found_is key_is all_is =
     let rest = drop (i + 1) xs in
     let y = get_or xs i d in
-    let new_is : new ≡ found ++ findings_at is_1_2 o before (f x) key after =
-    found_is ∙ ap (λ s. found ++ findings_of is_1_2 o before s value key after) next_is
-    ∙ ap (λ v. found ++ findings_of is_1_2 o before (span_of (f x)) v key after) value_is in
+    let new_is : new ≡ found ++ findings_at is_1_2 o before (span_of (f x)) (f x).value key after =
+    found_is ∙ ap (λ s. found ++ findings_at is_1_2 o before s value key after) next_is
+    ∙ ap (λ v. found ++ findings_at is_1_2 o before (span_of (f x)) v key after) value_is in
     ap (λ s. new ++ findings_behind is_1_2 o (Some s) (map f rest) (drop (i + 1) keys)) (next_is ∙ ap (λ z. span_of (f z)) x_is)
-    ∙ ap (λ l. l ++ findings_behind is_1_2 o (Some (span_of (f y))) (map f rest) (drop (i + 1) keys)) (new_is ∙ ap (λ z. found ++ findings_at is_1_2 o before (f z) key after) x_is)
+    ∙ ap (λ l. l ++ findings_behind is_1_2 o (Some (span_of (f y))) (map f rest) (drop (i + 1) keys)) (new_is ∙ ap (λ z. found ++ findings_at is_1_2 o before (span_of (f z)) (f z).value key after) x_is)
     ∙ append_assoc found _ _
-    ∙ ap (λ k. found ++ (findings_at is_1_2 o before (f y) k after ++ findings_behind is_1_2 o (Some (span_of (f y))) (map f rest) (drop (i + 1) keys))) key_is
-    ∙ ap (λ s. found ++ (findings_at is_1_2 o before (f y) (get_or keys i e) s ++ findings_behind is_1_2 o (Some (span_of (f y))) (map f rest) (drop (i + 1) keys)))
+    ∙ ap (λ k. found ++ (findings_at is_1_2 o before (span_of (f y)) (f y).value k after ++ findings_behind is_1_2 o (Some (span_of (f y))) (map f rest) (drop (i + 1) keys))) key_is
+    ∙ ap (λ s. found ++ (findings_at is_1_2 o before (span_of (f y)) (f y).value (get_or keys i e) s ++ findings_behind is_1_2 o (Some (span_of (f y))) (map f rest) (drop (i + 1) keys)))
     (after_is ∙ ap (λ l. first_span (map f l)) behind_is)
     ∙ ap (λ l. found ++ l) (sym (findings_here f is_1_2 o before xs keys i d e h g))
     ∙ all_is

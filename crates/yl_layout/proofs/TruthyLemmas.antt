@@ -1,17 +1,17 @@
 -- Lists of truthy words.
-use Rattle.std.proofs.Common.{◌≡◌, ◌<◌, ℕ, ◌+◌, Bool, true, false, cond, ◌&&◌, length, List, [], ◌∷◌, drop, get_or, Option, Some, None, refl, sym, ◌∙◌, ap, add-one, drop-cons}
-use Rattle.std.specs.Prelude.{bytes_eq}
-use Rattle.std.specs.List.{slice_get}
-use Rattle.std.specs.List.{list_all}
+use Rattle.std.proofs.Common.{◌≡◌, ◌<◌, ℕ, ◌+◌, Bool, true, false, cond, ◌&&◌, length, List, [], ◌∷◌, ◌++◌, drop, get_or, Option, Some, None, refl, sym, ◌∙◌, ap, add-one, drop-cons}
+use Rattle.std.specs.Prelude.{bytes_eq, codes}
+use Rattle.std.specs.List.{flat_map, items_where_true, join_by, list_all, position_from, slice_get}
 use Rattle.std.proofs.lemmas.Slice.Eq.{bytes_eq-Decides}
-use Rattle.yl_layout.specs.Truthy.{chosen_words, index_from}
+use Rattle.yl_layout.specs.WordList.{word_list}
 use Rattle.yl_layout.proofs.Steps.{drop_here}
 
 -- a word that is not the one looked for
 pub index_more : (ws : List (List ℕ)) (i : ℕ) (w word : List ℕ) (n : Option ℕ) → slice_get ws i ≡ Some w → bytes_eq w word ≡ false →
-    index_from i (drop i ws) word ≡ n → index_from (i + 1) (drop (i + 1) ws) word ≡ n
+    position_from (λ v. bytes_eq v word) i (drop i ws) ≡ n → position_from (λ v. bytes_eq v word) (i + 1) (drop (i + 1) ws) ≡ n
 index_more ws i w word n e other all =
-    sym (ap (λ b. cond b (Some i) (index_from (i + 1) (drop (i + 1) ws) word)) other) ∙ sym (ap (λ l. index_from i l word) (drop_here ws i w e)) ∙ all
+    let is_it : List ℕ → Bool = λ v. bytes_eq v word in
+    sym (ap (λ b. cond b (Some i) (position_from is_it (i + 1) (drop (i + 1) ws))) other) ∙ sym (ap (position_from is_it i) (drop_here ws i w e)) ∙ all
 
 both_true : (a b : Bool) → (a && b) ≡ true → (a ≡ true) × (b ≡ true)
 both_true true b all = (refl, all)
@@ -28,17 +28,36 @@ differ test v w passed failed same =
 
 -- a word of which a test says no is not among words of which it says yes
 pub not_among : (test : List ℕ → Bool) (ws : List (List ℕ)) (i : ℕ) (word : List ℕ)
-    → list_all test ws ≡ true → test word ≡ false → index_from i ws word ≡ None
+    → list_all test ws ≡ true → test word ≡ false → position_from (λ v. bytes_eq v word) i ws ≡ None
 not_among test [] i word all failed = refl
 not_among test (w ∷ ws) i word all failed =
     let tested = both_true (test w) (list_all test ws) all in
-    not_here (bytes_eq w word) i (index_from (i + 1) ws word)
+    not_here (bytes_eq w word) i (position_from (λ v. bytes_eq v word) (i + 1) ws)
     (λ same. differ test w word tested.0 failed ((bytes_eq-Decides w word).0 same))
     (not_among test ws (i + 1) word tested.1 failed)
 
+chosen_one : (b : Bool) (bs : List Bool) (w : List ℕ) (ws : List (List ℕ))
+    → items_where_true (b ∷ bs) (w ∷ ws) ≡ cond b (w ∷ items_where_true bs ws) (items_where_true bs ws)
+chosen_one true bs w ws = refl
+chosen_one false bs w ws = refl
+
 -- the words chosen from a place on
 pub chosen_here : (ws : List (List ℕ)) (flags : List Bool) (i : ℕ) (w : List ℕ) → slice_get ws i ≡ Some w → i < length flags →
-    chosen_words (drop i ws) (drop i flags) ≡ cond (get_or flags i false) (w ∷ chosen_words (drop (i + 1) ws) (drop (i + 1) flags)) (chosen_words (drop (i + 1) ws) (drop (i + 1) flags))
+    items_where_true (drop i flags) (drop i ws)
+    ≡ cond (get_or flags i false) (w ∷ items_where_true (drop (i + 1) flags) (drop (i + 1) ws)) (items_where_true (drop (i + 1) flags) (drop (i + 1) ws))
 chosen_here ws flags i w e h =
-    ap (λ l. chosen_words l (drop i flags)) (drop_here ws i w e)
-    ∙ ap (chosen_words (w ∷ drop (i + 1) ws)) (drop-cons flags i false h ∙ ap (λ n. get_or flags i false ∷ drop n flags) (sym (add-one i)))
+    ap (items_where_true (drop i flags)) (drop_here ws i w e)
+    ∙ ap (λ bs. items_where_true bs (w ∷ drop (i + 1) ws)) (drop-cons flags i false h ∙ ap (λ n. get_or flags i false ∷ drop n flags) (sym (add-one i)))
+    ∙ chosen_one (get_or flags i false) (drop (i + 1) flags) w (drop (i + 1) ws)
+
+-- a list of words from its second word on, and from the first
+words_later : (ws : List (List ℕ)) → word_list false ws ≡ flat_map (λ w. codes ", " ++ w) ws
+words_later [] = refl
+words_later (w ∷ ws) = ap (λ l. (codes ", " ++ w) ++ l) (words_later ws)
+
+words_joined : (ws : List (List ℕ)) → word_list true ws ≡ join_by (λ w. w) (codes ", ") ws
+words_joined [] = refl
+words_joined (w ∷ ws) = ap (λ l. w ++ l) (words_later ws)
+
+pub words_begun : (text front : List ℕ) (ws : List (List ℕ)) → text ≡ front → text ++ word_list true ws ≡ front ++ join_by (λ w. w) (codes ", ") ws
+words_begun text front ws e = ap (λ l. l ++ word_list true ws) e ∙ ap (λ l. front ++ l) (words_joined ws)

@@ -6,7 +6,7 @@ use Rattle.yl_lexeme.specs.declared.lexeme.Kind.{Kind}
 use Rattle.yl_lexeme.specs.declared.lexeme.Kind.TheVariants.{SeqOpen, SeqClose, MapOpen, MapClose}
 use Rattle.yl_text.specs.declared.finding.RuleId.{RuleId}
 use Rattle.yl_text.specs.declared.finding.RuleId.TheVariants.{Braces, Brackets}
-use Rattle.yl_text.specs.Finding.{FindingValue, one_finding}
+use Rattle.yl_text.specs.Finding.{FindingValue, one_finding, rule_name}
 use Rattle.yl_layout.specs.declared.span.Span.{Span}
 use Rattle.yl_layout.specs.declared.brackets.Flow.{Flow}
 use Rattle.yl_layout.specs.declared.brackets.Flow.TheVariants.{Mapping, Sequence}
@@ -23,35 +23,17 @@ rule_of Sequence = Brackets
 
 abbrev pub opens : Flow → Kind → Bool
 opens Mapping MapOpen = true
-opens Mapping _ = false
 opens Sequence SeqOpen = true
-opens Sequence _ = false
+opens _ _ = false
 
 abbrev pub closes : Flow → Kind → Bool
 closes Mapping MapClose = true
-closes Mapping _ = false
 closes Sequence SeqClose = true
-closes Sequence _ = false
+closes _ _ = false
 
 abbrev pub forbidden_text : Flow → List ℕ
 forbidden_text Mapping = codes "forbidden flow mapping"
 forbidden_text Sequence = codes "forbidden flow sequence"
-
-abbrev pub too_few_text : Flow → List ℕ
-too_few_text Mapping = codes "too few spaces inside braces"
-too_few_text Sequence = codes "too few spaces inside brackets"
-
-abbrev pub too_many_text : Flow → List ℕ
-too_many_text Mapping = codes "too many spaces inside braces"
-too_many_text Sequence = codes "too many spaces inside brackets"
-
-abbrev pub too_few_empty_text : Flow → List ℕ
-too_few_empty_text Mapping = codes "too few spaces inside empty braces"
-too_few_empty_text Sequence = codes "too few spaces inside empty brackets"
-
-abbrev pub too_many_empty_text : Flow → List ℕ
-too_many_empty_text Mapping = codes "too many spaces inside empty braces"
-too_many_empty_text Sequence = codes "too many spaces inside empty brackets"
 
 -- ---- the rule
 
@@ -59,46 +41,35 @@ too_many_empty_text Sequence = codes "too many spaces inside empty brackets"
 -- with nothing between
 abbrev pub inside : Flow → BracketsOptions → Span → Span → List FindingValue
 inside flow o x y =
-    too_few (rule_of flow) o.min_spaces_inside x y (too_few_text flow)
-    ++ too_many (rule_of flow) o.max_spaces_inside x y (too_many_text flow)
+    too_few (rule_of flow) o.min_spaces_inside x y (codes "too few spaces inside " ++ rule_name (rule_of flow))
+    ++ too_many (rule_of flow) o.max_spaces_inside x y (codes "too many spaces inside " ++ rule_name (rule_of flow))
 
 abbrev pub inside_empty : Flow → BracketsOptions → Span → Span → List FindingValue
 inside_empty flow o x y =
     too_few (rule_of flow) (option_or o.min_spaces_inside_empty o.min_spaces_inside) x y
-    (too_few_empty_text flow)
+    (codes "too few spaces inside empty " ++ rule_name (rule_of flow))
     ++ too_many (rule_of flow) (option_or o.max_spaces_inside_empty o.max_spaces_inside) x y
-    (too_many_empty_text flow)
+    (codes "too many spaces inside empty " ++ rule_name (rule_of flow))
 
 -- told of the character behind the bracket
 abbrev pub forbidden_finding : Flow → Span → List FindingValue
-forbidden_finding flow x =
-    one_finding (rule_of flow) (x.start.line + 1) (x.start.col + 2) (forbidden_text flow)
+forbidden_finding flow x = one_finding (rule_of flow) (x.start.line + 1) (x.start.col + 2) (forbidden_text flow)
 
 -- at an opening bracket and the lexeme behind it
-abbrev pub behind_opening_at : Flow → BracketsOptions → Forbid → Span → Option Span
-    → List FindingValue
+abbrev pub behind_opening_at : Flow → BracketsOptions → Forbid → Span → Option Span → List FindingValue
 behind_opening_at flow o Everything x after = forbidden_finding flow x
-behind_opening_at flow o NonEmpty x None = []
-behind_opening_at flow o NonEmpty x (Some y) =
-    if closes flow y.kind then inside_empty flow o x y else forbidden_finding flow x
-behind_opening_at flow o Nothing x None = []
-behind_opening_at flow o Nothing x (Some y) =
-    if closes flow y.kind then inside_empty flow o x y else inside flow o x y
+behind_opening_at flow o _ x None = []
+behind_opening_at flow o NonEmpty x (Some y) = if closes flow y.kind then inside_empty flow o x y else forbidden_finding flow x
+behind_opening_at flow o Nothing x (Some y) = if closes flow y.kind then inside_empty flow o x y else inside flow o x y
 
 -- at a closing bracket and the lexeme before it
 abbrev pub before_closing : Flow → BracketsOptions → Option Span → Span → List FindingValue
 before_closing flow o None y = []
 before_closing flow o (Some x) y = if opens flow x.kind then [] else inside flow o x y
 
-abbrev pub brackets_by : Flow → BracketsOptions → Option Span → Span → Option Span
-    → List FindingValue
-brackets_by flow o before x after =
-    if opens flow x.kind then behind_opening_at flow o o.forbid x after
-    else if closes flow x.kind then before_closing flow o before x
-    else []
-
 -- at a lexeme between its neighbours, if the rule is on
-abbrev pub brackets : Flow → Option BracketsOptions → Option Span → Span → Option Span
-    → List FindingValue
+abbrev pub brackets : Flow → Option BracketsOptions → Option Span → Span → Option Span → List FindingValue
 brackets flow None before x after = []
-brackets flow (Some o) before x after = brackets_by flow o before x after
+brackets flow (Some o) before x after =
+    if opens flow x.kind then behind_opening_at flow o o.forbid x after
+    else if closes flow x.kind then before_closing flow o before x else []

@@ -1,5 +1,6 @@
 -- Meaning: yamllint's rule colons.
-use Rattle.std.specs.Prelude.{ℕ, Bool, true, false, ◌&&◌, ◌==◌, if◌then◌else◌, List, [], ◌++◌, codes, Option, Some, None}
+use Rattle.std.specs.Prelude.{Bool, true, false, ◌&&◌, ◌==◌, if◌then◌else◌, List, [], ◌++◌, codes, Option, Some, None}
+use Rattle.std.specs.Option.{option_map_or}
 use Rattle.yl_lexeme.specs.declared.lexeme.Kind.{Kind}
 use Rattle.yl_lexeme.specs.declared.lexeme.Kind.TheVariants.{Alias}
 use Rattle.yl_lexeme.specs.Lexeme.{is_key, is_value}
@@ -13,35 +14,18 @@ abbrev pub is_alias : Kind → Bool
 is_alias Alias = true
 is_alias _ = false
 
-abbrev pub is_one : Option ℕ → Bool
-is_one None = false
-is_one (Some n) = n == 1
-
 -- an alias needs the space: its name may hold a colon
 abbrev pub before_colon : ColonsOptions → Option Span → Span → List FindingValue
 before_colon o None y = []
 before_colon o (Some x) y =
-    if is_alias x.kind && is_one (distance x y) then []
+    if is_alias x.kind && option_map_or (λ n. n == 1) (distance x y) false then []
     else too_many Colons o.max_spaces_before x y (codes "too many spaces before colon")
-
-abbrev pub behind_colon : ColonsOptions → Span → Option Span → List FindingValue
-behind_colon o x after =
-    too_many_behind Colons o.max_spaces_after x after (codes "too many spaces after colon")
-
-abbrev pub behind_question_mark : ColonsOptions → Span → Option Span → List FindingValue
-behind_question_mark o x after =
-    too_many_behind Colons o.max_spaces_after x after (codes "too many spaces after question mark")
-
-abbrev pub round_colon : ColonsOptions → Option Span → Span → Option Span → List FindingValue
-round_colon o before x after = before_colon o before x ++ behind_colon o x after
-
-abbrev pub colons_by : ColonsOptions → Option Span → Span → Option Span → List FindingValue
-colons_by o before x after =
-    if is_value x.kind then round_colon o before x after
-    else if is_key x.kind then behind_question_mark o x after
-    else []
 
 -- at a lexeme between its neighbours, if the rule is on
 abbrev pub colons : Option ColonsOptions → Option Span → Span → Option Span → List FindingValue
 colons None before x after = []
-colons (Some o) before x after = colons_by o before x after
+colons (Some o) before x after =
+    if is_value x.kind
+    then before_colon o before x ++ too_many_behind Colons o.max_spaces_after x after (codes "too many spaces after colon")
+    else if is_key x.kind
+    then too_many_behind Colons o.max_spaces_after x after (codes "too many spaces after question mark") else []

@@ -12,8 +12,7 @@ use Rattle.yl_layout.specs.Spans.{too_many, too_few}
 abbrev pub first_comma : CommasOptions → Span → List FindingValue
 first_comma o y =
     if is_some o.max_spaces_before
-    then one_finding Commas (y.start.line + 1) (max 1 y.start.col)
-    (codes "too many spaces before comma") else []
+    then one_finding Commas (y.start.line + 1) (max 1 y.start.col) (codes "too many spaces before comma") else []
 
 abbrev pub before_comma : CommasOptions → Option Span → Span → List FindingValue
 before_comma o None y = []
@@ -21,22 +20,14 @@ before_comma o (Some x) y =
     if nat_lt x.end_line y.start.line then first_comma o y
     else too_many Commas o.max_spaces_before x y (codes "too many spaces before comma")
 
-abbrev pub few_behind_comma : CommasOptions → Span → Span → List FindingValue
-few_behind_comma o x y = too_few Commas o.min_spaces_after x y (codes "too few spaces after comma")
-
-abbrev pub many_behind_comma : CommasOptions → Span → Span → List FindingValue
-many_behind_comma o x y =
-    too_many Commas o.max_spaces_after x y (codes "too many spaces after comma")
-
 abbrev pub behind_comma : CommasOptions → Span → Option Span → List FindingValue
 behind_comma o x None = []
-behind_comma o x (Some y) = few_behind_comma o x y ++ many_behind_comma o x y
-
-abbrev pub commas_by : CommasOptions → Option Span → Span → Option Span → List FindingValue
-commas_by o before x after =
-    if is_comma x.kind then before_comma o before x ++ behind_comma o x after else []
+behind_comma o x (Some y) =
+    too_few Commas o.min_spaces_after x y (codes "too few spaces after comma")
+    ++ too_many Commas o.max_spaces_after x y (codes "too many spaces after comma")
 
 -- at a lexeme between its neighbours, if the rule is on
 abbrev pub commas : Option CommasOptions → Option Span → Span → Option Span → List FindingValue
 commas None before x after = []
-commas (Some o) before x after = commas_by o before x after
+commas (Some o) before x after =
+    if is_comma x.kind then before_comma o before x ++ behind_comma o x after else []

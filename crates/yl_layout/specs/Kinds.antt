@@ -1,8 +1,7 @@
 -- Bridge: what the rules on lexemes find at a lexeme, by its kind.
-use Rattle.std.specs.Prelude.{ℕ, Bool, List, [], ◌++◌, Option}
+use Rattle.std.specs.Prelude.{List, [], ◌++◌, Option}
 use Rattle.yl_lexeme.specs.declared.lexeme.Kind.{Kind}
 use Rattle.yl_lexeme.specs.declared.lexeme.Kind.TheVariants.{Directive, DocStart, DocEnd, Entry, Key, Value, Comma, SeqOpen, SeqClose, MapOpen, MapClose, Alias, Anchor, Tag, Scalar}
-use Rattle.yl_marks.specs.declared.facts.KeyFacts.{KeyFacts}
 use Rattle.yl_text.specs.Finding.{FindingValue}
 use Rattle.yl_layout.specs.declared.span.Span.{Span}
 use Rattle.yl_layout.specs.declared.brackets.Flow.TheVariants.{Mapping, Sequence}
@@ -10,8 +9,8 @@ use Rattle.yl_layout.specs.declared.options.LexemeOptions.{LexemeOptions}
 use Rattle.yl_layout.specs.Brackets.{brackets}
 use Rattle.yl_layout.specs.Colons.{colons}
 use Rattle.yl_layout.specs.Commas.{commas}
+use Rattle.yl_layout.specs.DocumentStart.{document_start}
 use Rattle.yl_layout.specs.Hyphens.{hyphens}
-use Rattle.yl_layout.specs.Lexemes.{block_findings, flow_findings, value_findings}
 
 -- at a lexeme of this kind: one rule at most finds something but for the rules on documents and
 -- values
@@ -33,9 +32,14 @@ indicator_findings Anchor o before x after = []
 indicator_findings Tag o before x after = []
 indicator_findings (Scalar style) o before x after = []
 
--- at a lexeme between its neighbours, by its span and its value
-abbrev pub findings_of :
-    Bool → LexemeOptions → Option Span → Span → List ℕ → KeyFacts → Option Span → List FindingValue
-findings_of is_1_2 o before x value key after =
-    flow_findings o before x after
-    ++ (block_findings o before x after ++ value_findings is_1_2 o x value key)
+-- the rules on flow collections, at a lexeme between its neighbours
+abbrev pub flow_findings : LexemeOptions → Option Span → Span → Option Span → List FindingValue
+flow_findings o before x after =
+    brackets Mapping o.braces before x after ++ (brackets Sequence o.brackets before x after
+    ++ commas o.commas before x after)
+
+-- those on block collections and documents
+abbrev pub block_findings : LexemeOptions → Option Span → Span → Option Span → List FindingValue
+block_findings o before x after =
+    colons o.colons before x after ++ (hyphens o.hyphens x after
+    ++ document_start o.document_start before x)

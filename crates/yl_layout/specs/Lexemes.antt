@@ -17,28 +17,20 @@ use Rattle.yl_layout.specs.QuotedStrings.{quoted_strings}
 use Rattle.yl_layout.specs.Truthy.{truthy}
 use Rattle.yl_layout.specs.Version.{is_1_2_document}
 
--- the rules on flow collections, at a lexeme between its neighbours
-abbrev pub flow_findings : LexemeOptions → Option Span → Span → Option Span → List FindingValue
-flow_findings o before x after =
-    brackets Mapping o.braces before x after ++ (brackets Sequence o.brackets before x after
-    ++ commas o.commas before x after)
-
--- those on block collections and documents
-abbrev pub block_findings : LexemeOptions → Option Span → Span → Option Span → List FindingValue
-block_findings o before x after =
-    colons o.colons before x after ++ (hyphens o.hyphens x after
-    ++ document_start o.document_start before x)
-
--- those on values, by whether the document says that it is one of YAML 1.2
+-- the rules on values, by whether the document says that it is one of YAML 1.2
 abbrev pub value_findings : Bool → LexemeOptions → Span → List ℕ → KeyFacts → List FindingValue
 value_findings is_1_2 o x value key =
     truthy is_1_2 o.truthy x value key ++ quoted_strings o.quoted_strings x value key
 
-abbrev pub findings_at : Bool → LexemeOptions → Option Span → LexemeValue → KeyFacts → Option Span
-    → List FindingValue
-findings_at is_1_2 o before x key after =
-    flow_findings o before (span_of x) after ++ (block_findings o before (span_of x) after
-    ++ value_findings is_1_2 o (span_of x) x.value key)
+-- all the rules, at a lexeme between its neighbours
+abbrev pub findings_at :
+    Bool → LexemeOptions → Option Span → Span → List ℕ → KeyFacts → Option Span → List FindingValue
+findings_at is_1_2 o before x value key after =
+    (brackets Mapping o.braces before x after
+    ++ (brackets Sequence o.brackets before x after ++ commas o.commas before x after))
+    ++ ((colons o.colons before x after
+    ++ (hyphens o.hyphens x after ++ document_start o.document_start before x))
+    ++ value_findings is_1_2 o x value key)
 
 abbrev pub first_span : List LexemeValue → Option Span
 first_span [] = None
@@ -46,13 +38,11 @@ first_span (x ∷ xs) = Some (span_of x)
 
 -- at each of these lexemes, which follow one more; beside each stands what the document's keys say
 -- of it
-abbrev pub findings_behind : Bool → LexemeOptions → Option Span → List LexemeValue
-    → List KeyFacts → List FindingValue
-findings_behind is_1_2 o before [] keys = []
-findings_behind is_1_2 o before (x ∷ xs) [] = []
+abbrev pub findings_behind : Bool → LexemeOptions → Option Span → List LexemeValue → List KeyFacts → List FindingValue
 findings_behind is_1_2 o before (x ∷ xs) (key ∷ keys) =
-    findings_at is_1_2 o before x key (first_span xs)
+    findings_at is_1_2 o before (span_of x) x.value key (first_span xs)
     ++ findings_behind is_1_2 o (Some (span_of x)) xs keys
+findings_behind is_1_2 o before _ _ = []
 
 -- in a document of which so many lexemes count; whether one is a key may show behind them
 abbrev pub lexeme_findings : LexemeOptions → ℕ → List LexemeValue → List FindingValue

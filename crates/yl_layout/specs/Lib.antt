@@ -7,6 +7,7 @@ pub mod DocumentStart
 pub mod Version
 pub mod Truthy
 pub mod TruthyLetters
+pub mod WordList
 pub mod QuotedStrings
 pub mod Lexemes
 pub mod Kinds

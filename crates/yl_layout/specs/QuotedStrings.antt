@@ -1,6 +1,5 @@
 -- Meaning: yamllint's rule quoted-strings.
 use Rattle.std.specs.Prelude.{ℕ, Bool, true, false, not, ◌&&◌, if◌then◌else◌, List, [], ◌+◌, codes, Option, Some, None}
-use Rattle.yl_lexeme.specs.declared.lexeme.Style.{Style}
 use Rattle.yl_lexeme.specs.declared.lexeme.Style.TheVariants as style
 use Rattle.yl_lexeme.specs.declared.lexeme.Kind.{Kind}
 use Rattle.yl_lexeme.specs.declared.lexeme.Kind.TheVariants.{Scalar}
@@ -13,39 +12,21 @@ use Rattle.yl_layout.specs.declared.quoted_strings.QuoteType.TheVariants.{Any, S
 use Rattle.yl_layout.specs.declared.quoted_strings.QuotedStringsOptions.{QuotedStringsOptions}
 use Rattle.yl_plain.specs.Strings.{is_string}
 
-abbrev pub is_single : QuoteType → Bool
-is_single Single = true
-is_single _ = false
-
-abbrev pub is_double : QuoteType → Bool
-is_double Double = true
-is_double _ = false
-
--- a scalar written so is quoted otherwise than the options ask
-abbrev pub is_misquoted_style : QuotedStringsOptions → Style → List ℕ → Bool
-is_misquoted_style o style.Plain value = o.required && is_string value
-is_misquoted_style o style.Single value = is_double o.quote_type
-is_misquoted_style o style.Double value = is_single o.quote_type
-is_misquoted_style o style.Literal value = false
-is_misquoted_style o style.Folded value = false
-
-abbrev pub is_misquoted : QuotedStringsOptions → Kind → List ℕ → Bool
-is_misquoted o (Scalar s) value = is_misquoted_style o s value
-is_misquoted o _ value = false
+-- a scalar quoted otherwise than is asked
+abbrev pub is_misquoted : Bool → QuoteType → Kind → List ℕ → Bool
+is_misquoted required quotes (Scalar style.Plain) value = required && is_string value
+is_misquoted required Double (Scalar style.Single) value = true
+is_misquoted required Single (Scalar style.Double) value = true
+is_misquoted required quotes _ value = false
 
 abbrev pub misquoted_text : QuoteType → List ℕ
 misquoted_text Any = codes "string value is not quoted with any quotes"
 misquoted_text Single = codes "string value is not quoted with single quotes"
 misquoted_text Double = codes "string value is not quoted with double quotes"
 
-abbrev pub quoted_strings_by : QuotedStringsOptions → Span → List ℕ → KeyFacts → List FindingValue
-quoted_strings_by o x value key =
-    if not key.has_tag && not key.is_key && is_misquoted o x.kind value
-    then one_finding QuotedStrings (x.start.line + 1) (x.start.col + 1) (misquoted_text o.quote_type)
-    else []
-
 -- at a lexeme and its value, if the rule is on
-abbrev pub quoted_strings : Option QuotedStringsOptions → Span → List ℕ → KeyFacts
-    → List FindingValue
+abbrev pub quoted_strings : Option QuotedStringsOptions → Span → List ℕ → KeyFacts → List FindingValue
 quoted_strings None x value key = []
-quoted_strings (Some o) x value key = quoted_strings_by o x value key
+quoted_strings (Some o) x value key =
+    if not key.has_tag && not key.is_key && is_misquoted o.required o.quote_type x.kind value
+    then one_finding QuotedStrings (x.start.line + 1) (x.start.col + 1) (misquoted_text o.quote_type) else []

@@ -1,5 +1,6 @@
 -- Meaning: lexemes by their kinds and places, and the distances between them.
 use Rattle.std.specs.Prelude.{ℕ, Bool, false, ◌==◌, nat_lt, if◌then◌else◌, List, [], ◌+◌, ◌-◌, Option, Some, None}
+use Rattle.std.specs.Option.{option_map_or}
 use Rattle.yl_lexeme.specs.Lexeme.{LexemeValue}
 use Rattle.yl_text.specs.declared.finding.RuleId.{RuleId}
 use Rattle.yl_text.specs.Finding.{FindingValue, one_finding}
@@ -13,30 +14,21 @@ span_of x = record { kind = x.kind; start = x.start; end_line = x.end.line; end_
 abbrev pub distance : Span → Span → Option ℕ
 distance x y = if x.end_line == y.start.line then Some (y.start.col - x.end_col) else None
 
--- more than a bound, where there are both; and less
-abbrev pub is_above : Option ℕ → Option ℕ → Bool
-is_above None most = false
-is_above (Some n) None = false
-is_above (Some n) (Some most) = nat_lt most n
+-- the first number is less, where there are both
+abbrev pub is_less : Option ℕ → Option ℕ → Bool
+is_less (Some m) (Some n) = nat_lt m n
+is_less _ _ = false
 
-abbrev pub is_below : Option ℕ → Option ℕ → Bool
-is_below None least = false
-is_below (Some n) None = false
-is_below (Some n) (Some least) = nat_lt n least
-
--- told of the character directly before the second lexeme
+-- more characters than may: told of the one directly before the second lexeme
 abbrev pub too_many : RuleId → Option ℕ → Span → Span → List ℕ → List FindingValue
 too_many rule most x y message =
-    if is_above (distance x y) most then one_finding rule (y.start.line + 1) y.start.col message
-    else []
+    if is_less most (distance x y) then one_finding rule (y.start.line + 1) y.start.col message else []
 
--- told of the second lexeme
+-- fewer than must: told of the second lexeme
 abbrev pub too_few : RuleId → Option ℕ → Span → Span → List ℕ → List FindingValue
 too_few rule least x y message =
-    if is_below (distance x y) least
-    then one_finding rule (y.start.line + 1) (y.start.col + 1) message else []
+    if is_less (distance x y) least then one_finding rule (y.start.line + 1) (y.start.col + 1) message else []
 
 -- the same behind a lexeme, if another follows it
 abbrev pub too_many_behind : RuleId → Option ℕ → Span → Option Span → List ℕ → List FindingValue
-too_many_behind rule most x None message = []
-too_many_behind rule most x (Some y) message = too_many rule most x y message
+too_many_behind rule most x after message = option_map_or (λ y. too_many rule most x y message) after []

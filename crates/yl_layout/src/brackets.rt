@@ -1,6 +1,6 @@
 //! The rules braces and brackets: one rule over two kinds of flow collections.
-ghost use Rattle.std.specs.Prelude.{◌≡◌, ◌++◌, ◌+◌, ◌<◌, ◌^◌, OnOk};
-ghost use Rattle.yl_layout.specs.Brackets.{before_closing, behind_opening_at, brackets, brackets_by, forbidden_finding, inside, inside_empty};
+ghost use Rattle.std.specs.Prelude.{◌≡◌, ◌++◌, ◌+◌, ◌<◌, ◌^◌, Some, OnOk};
+ghost use Rattle.yl_layout.specs.Brackets.{before_closing, behind_opening_at, brackets, forbidden_finding, inside, inside_empty};
 
 use crate::report::{report, report_too_few, report_too_many};
 use crate::span::{Place, Span};
@@ -54,8 +54,9 @@ pub(crate) enum Flow {
 }
 
 impl Flow {
-    ghost use Rattle.std.specs.Prelude.{◌≡◌};
-    ghost use Rattle.yl_layout.specs.Brackets.{closes, forbidden_text, opens, rule_of, too_few_empty_text, too_few_text, too_many_empty_text, too_many_text};
+    ghost use Rattle.std.specs.Prelude.{◌≡◌, ◌++◌, codes};
+    ghost use Rattle.yl_text.specs.Finding.{rule_name};
+    ghost use Rattle.yl_layout.specs.Brackets.{closes, forbidden_text, opens, rule_of};
 
     fn rule(self) -> RuleId
         ensures { result ≡ rule_of self }
@@ -94,7 +95,7 @@ impl Flow {
     }
 
     fn too_few_text(self) -> &'static str
-        ensures { result.now ≡ too_few_text self }
+        ensures { result.now ≡ codes "too few spaces inside " ++ rule_name (rule_of self) }
     {
         match self {
             Flow::Mapping => "too few spaces inside braces",
@@ -103,7 +104,7 @@ impl Flow {
     }
 
     fn too_many_text(self) -> &'static str
-        ensures { result.now ≡ too_many_text self }
+        ensures { result.now ≡ codes "too many spaces inside " ++ rule_name (rule_of self) }
     {
         match self {
             Flow::Mapping => "too many spaces inside braces",
@@ -112,7 +113,7 @@ impl Flow {
     }
 
     fn too_few_empty_text(self) -> &'static str
-        ensures { result.now ≡ too_few_empty_text self }
+        ensures { result.now ≡ codes "too few spaces inside empty " ++ rule_name (rule_of self) }
     {
         match self {
             Flow::Mapping => "too few spaces inside empty braces",
@@ -121,7 +122,7 @@ impl Flow {
     }
 
     fn too_many_empty_text(self) -> &'static str
-        ensures { result.now ≡ too_many_empty_text self }
+        ensures { result.now ≡ codes "too many spaces inside empty " ++ rule_name (rule_of self) }
     {
         match self {
             Flow::Mapping => "too many spaces inside empty braces",
@@ -253,7 +254,7 @@ fn push_brackets_by<A: Allocator>(
     place: &Place,
 ) -> Result<(), AllocError>
     ensures { OnOk result (problems.new.items ≡ problems.old.items
-        ++ brackets_by flow options.now place.now.before place.now.here place.now.after) }
+        ++ brackets flow (Some options.now) place.now.before place.now.here place.now.after) }
 {
     let kind = place.here.kind;
     if flow.opens(kind) {

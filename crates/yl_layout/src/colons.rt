@@ -1,6 +1,7 @@
 //! The rule colons.
-ghost use Rattle.std.specs.Prelude.{◌≡◌, ◌++◌, Some, OnOk};
-ghost use Rattle.yl_layout.specs.Colons.{before_colon, behind_colon, behind_question_mark, colons, colons_by, round_colon};
+ghost use Rattle.std.specs.Prelude.{◌≡◌, ◌++◌, codes, Some, OnOk};
+ghost use Rattle.yl_layout.specs.Colons.{before_colon, colons};
+ghost use Rattle.yl_layout.specs.Spans.{too_many_behind};
 
 use crate::report::{report_too_many, report_too_many_behind};
 use crate::span::{Place, distance};
@@ -55,42 +56,20 @@ fn push_before_colon<A: Allocator>(
     )
 }
 
-fn push_behind_colon<A: Allocator>(
-    problems: &mut Vec<Finding<A>, A>,
-    options: &ColonsOptions,
-    place: &Place,
-) -> Result<(), AllocError>
-    ensures { OnOk result (problems.new.items ≡ problems.old.items
-        ++ behind_colon options.now place.now.here place.now.after) }
-{
-    let most = options.max_spaces_after;
-    let message = "too many spaces after colon";
-    report_too_many_behind(problems, RuleId::Colons, most, place, message)
-}
-
-fn push_behind_question_mark<A: Allocator>(
-    problems: &mut Vec<Finding<A>, A>,
-    options: &ColonsOptions,
-    place: &Place,
-) -> Result<(), AllocError>
-    ensures { OnOk result (problems.new.items ≡ problems.old.items
-        ++ behind_question_mark options.now place.now.here place.now.after) }
-{
-    let most = options.max_spaces_after;
-    let message = "too many spaces after question mark";
-    report_too_many_behind(problems, RuleId::Colons, most, place, message)
-}
-
 fn push_round_colon<A: Allocator>(
     problems: &mut Vec<Finding<A>, A>,
     options: &ColonsOptions,
     place: &Place,
 ) -> Result<(), AllocError>
     ensures { OnOk result (problems.new.items ≡ problems.old.items
-        ++ round_colon options.now place.now.before place.now.here place.now.after) }
+        ++ (before_colon options.now place.now.before place.now.here
+        ++ too_many_behind RuleId.Colons options.now.max_spaces_after place.now.here place.now.after
+        (codes "too many spaces after colon"))) }
 {
     push_before_colon(problems, options, place)?;
-    push_behind_colon(problems, options, place)?;
+    let most = options.max_spaces_after;
+    let message = "too many spaces after colon";
+    report_too_many_behind(problems, RuleId::Colons, most, place, message)?;
     Ok(())
 }
 
@@ -100,11 +79,13 @@ fn push_colons_by<A: Allocator>(
     place: &Place,
 ) -> Result<(), AllocError>
     ensures { OnOk result (problems.new.items ≡ problems.old.items
-        ++ colons_by options.now place.now.before place.now.here place.now.after) }
+        ++ colons (Some options.now) place.now.before place.now.here place.now.after) }
 {
+    let most = options.max_spaces_after;
+    let message = "too many spaces after question mark";
     match place.here.kind {
         Kind::Value => push_round_colon(problems, options, place),
-        Kind::Key => push_behind_question_mark(problems, options, place),
+        Kind::Key => report_too_many_behind(problems, RuleId::Colons, most, place, message),
         _ => Ok(()),
     }
 }

@@ -1,6 +1,6 @@
 //! The rule commas.
 ghost use Rattle.std.specs.Prelude.{◌≡◌, ◌++◌, ◌+◌, ◌<◌, ◌^◌, Some, OnOk};
-ghost use Rattle.yl_layout.specs.Commas.{before_comma, behind_comma, commas, commas_by, few_behind_comma, first_comma, many_behind_comma};
+ghost use Rattle.yl_layout.specs.Commas.{before_comma, behind_comma, commas, first_comma};
 
 use crate::report::{report, report_too_few, report_too_many};
 use crate::span::{Place, Span};
@@ -82,14 +82,14 @@ fn push_before_comma<A: Allocator>(
     )
 }
 
-fn push_few_behind_comma<A: Allocator>(
+fn push_between<A: Allocator>(
     problems: &mut Vec<Finding<A>, A>,
     options: &CommasOptions,
     x: &Span,
     y: &Span,
 ) -> Result<(), AllocError>
     ensures { OnOk result (problems.new.items ≡ problems.old.items
-        ++ few_behind_comma options.now x.now y.now) }
+        ++ behind_comma options.now x.now (Some y.now)) }
 {
     let least = options.min_spaces_after;
     report_too_few(
@@ -99,18 +99,7 @@ fn push_few_behind_comma<A: Allocator>(
         x,
         y,
         "too few spaces after comma",
-    )
-}
-
-fn push_many_behind_comma<A: Allocator>(
-    problems: &mut Vec<Finding<A>, A>,
-    options: &CommasOptions,
-    x: &Span,
-    y: &Span,
-) -> Result<(), AllocError>
-    ensures { OnOk result (problems.new.items ≡ problems.old.items
-        ++ many_behind_comma options.now x.now y.now) }
-{
+    )?;
     let most = options.max_spaces_after;
     report_too_many(
         problems,
@@ -119,7 +108,8 @@ fn push_many_behind_comma<A: Allocator>(
         x,
         y,
         "too many spaces after comma",
-    )
+    )?;
+    Ok(())
 }
 
 fn push_behind_comma<A: Allocator>(
@@ -130,13 +120,10 @@ fn push_behind_comma<A: Allocator>(
     ensures { OnOk result (problems.new.items ≡ problems.old.items
         ++ behind_comma options.now place.now.here place.now.after) }
 {
-    let Some(y) = &place.after else {
-        return Ok(());
-    };
-    let x = &place.here;
-    push_few_behind_comma(problems, options, x, y)?;
-    push_many_behind_comma(problems, options, x, y)?;
-    Ok(())
+    match &place.after {
+        None => Ok(()),
+        Some(y) => push_between(problems, options, &place.here, y),
+    }
 }
 
 fn push_commas_by<A: Allocator>(
@@ -145,7 +132,7 @@ fn push_commas_by<A: Allocator>(
     place: &Place,
 ) -> Result<(), AllocError>
     ensures { OnOk result (problems.new.items ≡ problems.old.items
-        ++ commas_by options.now place.now.before place.now.here place.now.after) }
+        ++ commas (Some options.now) place.now.before place.now.here place.now.after) }
 {
     if !matches!(place.here.kind, Kind::Comma) {
         return Ok(());

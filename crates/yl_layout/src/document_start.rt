@@ -1,8 +1,10 @@
 //! The rule document-start.
-ghost use Rattle.std.specs.Prelude.{◌≡◌, not, ◌&&◌, ◌++◌, ◌+◌, ◌<◌, ◌^◌, true, OnOk};
+ghost use Rattle.std.specs.Prelude.{◌≡◌, not, ◌&&◌, ◌++◌, ◌+◌, ◌<◌, ◌^◌, true, false, codes, Some, OnOk};
+ghost use Rattle.std.specs.Option.{option_map_or};
 ghost use Rattle.yl_lexeme.specs.Directives.{is_directive};
 ghost use Rattle.yl_lexeme.specs.Lexeme.{is_document_marker};
-ghost use Rattle.yl_layout.specs.DocumentStart.{document_start, forbidden_finding, forbidden_start, is_bare, is_document_before, is_start_marker, forbidden_text, missing_finding, missing_start, missing_text};
+ghost use Rattle.yl_text.specs.Finding.{one_finding};
+ghost use Rattle.yl_layout.specs.DocumentStart.{document_start, is_bare, is_end_marker, is_start_marker};
 
 use crate::report::report;
 use crate::span::Span;
@@ -32,13 +34,13 @@ fn is_content(kind: Kind) -> bool
     !matches!(kind, Kind::Directive | Kind::DocStart | Kind::DocEnd)
 }
 
-/// Whether something of the document stands before.
-fn is_document_before(before: &Option<Span>) -> bool
-    ensures { result ≡ is_document_before before.now }
+/// Whether nothing stands before, or the end of another document.
+fn is_behind_end(before: &Option<Span>) -> bool
+    ensures { result ≡ option_map_or (λ y. is_end_marker y.kind) before.now true }
 {
     match before {
-        None => false,
-        Some(x) => !matches!(x.kind, Kind::DocEnd),
+        None => true,
+        Some(x) => matches!(x.kind, Kind::DocEnd),
     }
 }
 
@@ -46,7 +48,7 @@ fn is_document_before(before: &Option<Span>) -> bool
 fn is_bare(before: &Option<Span>, x: &Span) -> bool
     ensures { result ≡ is_bare before.now x.now }
 {
-    is_content(x.kind) && !is_document_before(before)
+    is_content(x.kind) && is_behind_end(before)
 }
 
 fn is_start(kind: Kind) -> bool
@@ -56,13 +58,13 @@ fn is_start(kind: Kind) -> bool
 }
 
 fn missing_text() -> &'static str
-    ensures { result.now ≡ missing_text }
+    ensures { result.now ≡ codes "missing document start \"---\"" }
 {
     "missing document start \"---\""
 }
 
 fn forbidden_text() -> &'static str
-    ensures { result.now ≡ forbidden_text }
+    ensures { result.now ≡ codes "found forbidden document start \"---\"" }
 {
     "found forbidden document start \"---\""
 }
@@ -71,7 +73,9 @@ fn report_missing<A: Allocator>(
     problems: &mut Vec<Finding<A>, A>,
     x: &Span,
 ) -> Result<(), AllocError>
-    ensures { OnOk result (problems.new.items ≡ problems.old.items ++ missing_finding x.now) }
+    ensures { OnOk result (problems.new.items ≡ problems.old.items
+        ++ one_finding RuleId.DocumentStart (x.now.start.line + 1) 1
+        (codes "missing document start \"---\"")) }
 {
     let line = u64::from(x.start.line) + 1;
     report(problems, RuleId::DocumentStart, line, 1, missing_text())
@@ -81,7 +85,9 @@ fn report_forbidden<A: Allocator>(
     problems: &mut Vec<Finding<A>, A>,
     x: &Span,
 ) -> Result<(), AllocError>
-    ensures { OnOk result (problems.new.items ≡ problems.old.items ++ forbidden_finding x.now) }
+    ensures { OnOk result (problems.new.items ≡ problems.old.items
+        ++ one_finding RuleId.DocumentStart (x.now.start.line + 1) (x.now.start.col + 1)
+        (codes "found forbidden document start \"---\"")) }
 {
     let Pos { line, col } = x.start;
     let line = u64::from(line) + 1;
@@ -101,7 +107,7 @@ fn push_missing_start<A: Allocator>(
     x: &Span,
 ) -> Result<(), AllocError>
     ensures { OnOk result (problems.new.items ≡ problems.old.items
-        ++ missing_start before.now x.now) }
+        ++ document_start (Some (record { present = true })) before.now x.now) }
 {
     if is_bare(before, x) {
         report_missing(problems, x)
@@ -112,9 +118,11 @@ fn push_missing_start<A: Allocator>(
 
 fn push_forbidden_start<A: Allocator>(
     problems: &mut Vec<Finding<A>, A>,
+    before: &Option<Span>,
     x: &Span,
 ) -> Result<(), AllocError>
-    ensures { OnOk result (problems.new.items ≡ problems.old.items ++ forbidden_start x.now) }
+    ensures { OnOk result (problems.new.items ≡ problems.old.items
+        ++ document_start (Some (record { present = false })) before.now x.now) }
 {
     if is_start(x.kind) {
         report_forbidden(problems, x)
@@ -139,6 +147,6 @@ pub(crate) fn push_document_start<A: Allocator>(
     if options.present {
         push_missing_start(problems, before, x)
     } else {
-        push_forbidden_start(problems, x)
+        push_forbidden_start(problems, before, x)
     }
 }

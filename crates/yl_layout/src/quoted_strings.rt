@@ -1,6 +1,6 @@
 //! The rule quoted-strings.
-ghost use Rattle.std.specs.Prelude.{◌≡◌, ◌++◌, ◌+◌, ◌<◌, ◌^◌, true, OnOk};
-ghost use Rattle.yl_layout.specs.QuotedStrings.{is_misquoted, is_misquoted_style, quoted_strings, quoted_strings_by};
+ghost use Rattle.std.specs.Prelude.{◌≡◌, ◌++◌, ◌+◌, ◌<◌, ◌^◌, true, Some, OnOk};
+ghost use Rattle.yl_layout.specs.QuotedStrings.{is_misquoted, quoted_strings};
 
 use crate::report::report;
 use crate::span::Span;
@@ -55,7 +55,7 @@ impl QuotedStringsOptions {
 
 /// Whether a scalar written so is quoted otherwise than the options ask.
 fn is_misquoted_style(options: &QuotedStringsOptions, style: Style, value: &[u8]) -> bool
-    ensures { result ≡ is_misquoted_style options.now style value.now }
+    ensures { result ≡ is_misquoted options.now.required options.now.quote_type (Kind.Scalar style) value.now }
 {
     match style {
         Style::Plain => options.required && is_string(value),
@@ -66,7 +66,7 @@ fn is_misquoted_style(options: &QuotedStringsOptions, style: Style, value: &[u8]
 }
 
 fn is_misquoted(options: &QuotedStringsOptions, kind: Kind, value: &[u8]) -> bool
-    ensures { result ≡ is_misquoted options.now kind value.now }
+    ensures { result ≡ is_misquoted options.now.required options.now.quote_type kind value.now }
 {
     match kind {
         Kind::Scalar(style) => is_misquoted_style(options, style, value),
@@ -82,7 +82,7 @@ fn push_quoted_strings_by<A: Allocator>(
     key: KeyFacts,
 ) -> Result<(), AllocError>
     ensures { OnOk result (problems.new.items ≡ problems.old.items
-        ++ quoted_strings_by options.now x.now value.now key) }
+        ++ quoted_strings (Some options.now) x.now value.now key) }
 {
     if key.has_tag || key.is_key || !is_misquoted(options, x.kind, value.as_bytes()) {
         return Ok(());

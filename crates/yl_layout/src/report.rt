@@ -3,7 +3,7 @@ ghost use Rattle.std.specs.Prelude.{◌≡◌, ◌++◌, ◌+◌, ◌<◌, ◌^�
 ghost use Rattle.yl_text.specs.Finding.{one_finding};
 ghost use Rattle.yl_layout.specs.Spans.{too_few, too_many, too_many_behind};
 
-use crate::span::{Place, Span, distance, is_above, is_below};
+use crate::span::{Place, Span, distance, is_less};
 use std::alloc::{AllocError, Allocator};
 use yl_text::{Finding, RuleId};
 
@@ -35,7 +35,7 @@ pub(crate) fn report_too_many<A: Allocator>(
     ensures { OnOk result (problems.new.items ≡ problems.old.items
         ++ too_many rule most x.now y.now message.now) }
 {
-    if !is_above(distance(x, y), most) {
+    if !is_less(most, distance(x, y)) {
         return Ok(());
     }
     let line = u64::from(y.start.line) + 1;
@@ -54,7 +54,7 @@ pub(crate) fn report_too_few<A: Allocator>(
     ensures { OnOk result (problems.new.items ≡ problems.old.items
         ++ too_few rule least x.now y.now message.now) }
 {
-    if !is_below(distance(x, y), least) {
+    if !is_less(distance(x, y), least) {
         return Ok(());
     }
     let line = u64::from(y.start.line) + 1;

@@ -1,7 +1,7 @@
 //! Lexemes by their kinds and places, and the distances between them.
 ghost use Rattle.std.specs.Prelude.{◌≡◌};
 ghost use Rattle.yl_marks.specs.Keys.{lexeme_at_line};
-ghost use Rattle.yl_layout.specs.Spans.{distance, is_above, is_below, span_of};
+ghost use Rattle.yl_layout.specs.Spans.{distance, is_less, span_of};
 
 use std::alloc::Allocator;
 use yl_lexeme::{Kind, LexemeAtLine};
@@ -51,22 +51,12 @@ pub(crate) fn distance(x: &Span, y: &Span) -> Option<u32>
     }
 }
 
-/// Whether there is a distance above a bound that is there.
-pub(crate) fn is_above(distance: Option<u32>, most: Option<u32>) -> bool
-    ensures { result ≡ is_above distance most }
+/// Whether the first number is less, where there are both.
+pub(crate) fn is_less(m: Option<u32>, n: Option<u32>) -> bool
+    ensures { result ≡ is_less m n }
 {
-    match (distance, most) {
-        (Some(distance), Some(most)) => most < distance,
-        _ => false,
-    }
-}
-
-/// Whether there is a distance below a bound that is there.
-pub(crate) fn is_below(distance: Option<u32>, least: Option<u32>) -> bool
-    ensures { result ≡ is_below distance least }
-{
-    match (distance, least) {
-        (Some(distance), Some(least)) => distance < least,
+    match (m, n) {
+        (Some(m), Some(n)) => m < n,
         _ => false,
     }
 }

@@ -1,6 +1,9 @@
 //! The rule truthy.
-ghost use Rattle.std.specs.Prelude.{◌≡◌, ◌++◌, ◌+◌, ◌<◌, ◌^◌, OnOk};
-ghost use Rattle.yl_layout.specs.Truthy.{is_asked, is_core_word, is_plain, is_truthy, is_word_there, is_wrong, truthy, truthy_by, truthy_found};
+ghost use Rattle.std.specs.Prelude.{◌≡◌, not, ◌||◌, ◌++◌, ◌+◌, ◌<◌, ◌^◌, false, Some, OnOk, bytes_eq, slice_index_or};
+ghost use Rattle.std.specs.List.{list_any};
+ghost use Rattle.std.specs.Option.{option_map_or};
+ghost use Rattle.yl_text.specs.Finding.{one_finding};
+ghost use Rattle.yl_layout.specs.Truthy.{core_words, is_plain, is_truthy, truthy, truthy_text};
 
 use crate::span::Span;
 use crate::words::{is_word, truthy_text, word_index};
@@ -17,8 +20,8 @@ pub struct TruthyWords {
 }
 
 impl TruthyWords {
-    ghost use Rattle.std.specs.Prelude.{◌≡◌, ◌<◌, false, true, replicate, slice_set};
-    ghost use Rattle.yl_layout.specs.Truthy.{is_allowed_word, truthy_index};
+    ghost use Rattle.std.specs.Prelude.{◌≡◌, ◌<◌, false, true, replicate, slice_index_or, slice_set};
+    ghost use Rattle.yl_layout.specs.Truthy.{truthy_index};
 
     /// None of them.
     pub fn none() -> TruthyWords
@@ -49,7 +52,7 @@ impl TruthyWords {
     /// Whether the word of this index is in the set.
     pub fn has(&self, index: usize) -> bool
         requires { index < 18 }
-        ensures { result ≡ is_allowed_word self.now index }
+        ensures { result ≡ slice_index_or self.now.allowed index false }
     {
         self.allowed[index]
     }
@@ -85,14 +88,14 @@ fn is_plain(kind: Kind) -> bool
 
 /// Whether the options ask for this lexeme to be looked at.
 fn is_asked(options: &TruthyOptions, key: KeyFacts) -> bool
-    ensures { result ≡ is_asked options.now key }
+    ensures { result ≡ options.now.check_keys || not key.is_key }
 {
     options.check_keys || !key.is_key
 }
 
 /// Whether there is such a word, and it is not allowed.
 fn is_wrong(words: &TruthyWords, index: Option<usize>) -> bool
-    ensures { result ≡ is_wrong words.now index }
+    ensures { result ≡ option_map_or (λ i. not (slice_index_or words.now.allowed i false)) index false }
 {
     match index {
         None => false,
@@ -102,7 +105,7 @@ fn is_wrong(words: &TruthyWords, index: Option<usize>) -> bool
 
 /// Whether a word is a truthy one of the core schema of YAML 1.2.
 fn is_core_word(word: &[u8]) -> bool
-    ensures { result ≡ is_core_word word.now }
+    ensures { result ≡ list_any (λ w. bytes_eq w word.now) core_words }
 {
     is_word("FALSE", word)
         || is_word("False", word)
@@ -114,7 +117,7 @@ fn is_core_word(word: &[u8]) -> bool
 
 /// Whether a truthy word is one in its document: one of YAML 1.2 has those of the core schema alone.
 fn is_word_there(is_1_2: bool, word: &[u8]) -> bool
-    ensures { result ≡ is_word_there is_1_2 word.now }
+    ensures { result ≡ not is_1_2 || list_any (λ w. bytes_eq w word.now) core_words }
 {
     !is_1_2 || is_core_word(word)
 }
@@ -141,7 +144,8 @@ fn report_truthy<A: Allocator + Copy>(
     x: &Span,
 ) -> Result<(), AllocError>
     ensures { OnOk result (problems.new.items ≡ problems.old.items
-        ++ truthy_found options.now x.now) }
+        ++ one_finding RuleId.Truthy (x.now.start.line + 1) (x.now.start.col + 1)
+        (truthy_text options.now.allowed_values)) }
 {
     let message = truthy_text(*problems.allocator(), &options.allowed_values)?;
     let Pos { line, col } = x.start;
@@ -160,7 +164,7 @@ fn push_truthy_by<A: Allocator + Copy>(
     key: KeyFacts,
 ) -> Result<(), AllocError>
     ensures { OnOk result (problems.new.items ≡ problems.old.items
-        ++ truthy_by is_1_2 options.now x.now value.now key) }
+        ++ truthy is_1_2 (Some options.now) x.now value.now key) }
 {
     if is_truthy(is_1_2, options, x.kind, value, key) {
         report_truthy(problems, options, x)

@@ -1,7 +1,8 @@
 //! The truthy words and the text that lists them.
 ghost use Rattle.std.specs.Prelude.{◌≡◌, ◌++◌, ◌<◌, ◌∷◌, ℕ, List, bytes_eq, codes, Some, IfOk, OnOk, string_bytes, if◌then◌else◌};
 ghost use Rattle.std.specs.List.{slice_get};
-ghost use Rattle.yl_layout.specs.Truthy.{word_list, truthy_index, truthy_text, truthy_words};
+ghost use Rattle.yl_layout.specs.Truthy.{truthy_index, truthy_text, truthy_words};
+ghost use Rattle.yl_layout.specs.WordList.{word_list};
 ghost use Rattle.yl_layout.specs.TruthyLetters.{is_first_letter, may_be_truthy};
 
 use crate::truthy::TruthyWords;

@@ -25,8 +25,8 @@ use Rattle.yl_layout.specs.Colons.{colons}
 use Rattle.yl_layout.specs.Commas.{commas}
 use Rattle.yl_layout.specs.DocumentStart.{document_start}
 use Rattle.yl_layout.specs.Hyphens.{hyphens}
-use Rattle.yl_layout.specs.Kinds.{indicator_findings}
-use Rattle.yl_layout.specs.Lexemes.{block_findings, findings_at, findings_behind, first_span, flow_findings, lexeme_findings, value_findings}
+use Rattle.yl_layout.specs.Kinds.{block_findings, flow_findings, indicator_findings}
+use Rattle.yl_layout.specs.Lexemes.{findings_at, findings_behind, first_span, lexeme_findings, value_findings}
 use Rattle.yl_layout.specs.declared.truthy.TruthyOptions.{TruthyOptions}
 use Rattle.yl_layout.specs.QuotedStrings.{quoted_strings}
 use Rattle.yl_layout.specs.Spans.{span_of}
@@ -84,7 +84,7 @@ module _ (k : Kind) (s : Pos) (l c d : ℕ) where
   block_ahead o before x = rw (colons_ahead o.colons before x, hyphens_ahead o.hyphens x) refl
 
   at_front : (is_1_2 : Bool) (o : LexemeOptions) (before : _) (x : LexemeValue) (key : KeyFacts)
-      → findings_at is_1_2 o before x key (Some (span_of (lexeme k s l c))) ≡ findings_at is_1_2 o before x key (Some (span_of (lexeme k s l d)))
+      → findings_at is_1_2 o before (span_of x) x.value key (Some (span_of (lexeme k s l c))) ≡ findings_at is_1_2 o before (span_of x) x.value key (Some (span_of (lexeme k s l d)))
   at_front is_1_2 o before x key = rw (flow_ahead o before (span_of x), block_ahead o before (span_of x)) refl
 
   -- ---- at the lexeme behind it, which begins below
@@ -119,7 +119,7 @@ module _ (k : Kind) (s : Pos) (l c d : ℕ) where
   block_behind o z after h = rw (colons_behind o.colons z after h, start_behind o.document_start z) refl
 
   at_back : (is_1_2 : Bool) (o : LexemeOptions) (z : LexemeValue) (key : KeyFacts) (after : _) → l < z.start.line
-      → findings_at is_1_2 o (Some (span_of (lexeme k s l c))) z key after ≡ findings_at is_1_2 o (Some (span_of (lexeme k s l d))) z key after
+      → findings_at is_1_2 o (Some (span_of (lexeme k s l c))) (span_of z) z.value key after ≡ findings_at is_1_2 o (Some (span_of (lexeme k s l d))) (span_of z) z.value key after
   at_back is_1_2 o z key after h = rw (flow_behind o z after h, block_behind o z after h) refl
 
   -- at all lexemes behind it that count
@@ -184,7 +184,7 @@ version_same pre p x y post h =
 -- at a scalar that is no key the rule on documents alone may find something
 at_quiet : (is_1_2 : Bool) (o : LexemeOptions) (before : _) (x : LexemeValue) (after : _)
     → is_scalar x.kind ≡ true → IsQuiet o x
-    → findings_at is_1_2 o before x no_key after ≡ document_start o.document_start before (span_of x) ++ []
+    → findings_at is_1_2 o before (span_of x) x.value no_key after ≡ document_start o.document_start before (span_of x) ++ []
 at_quiet is_1_2 o before x after scalar quiet =
     let start = document_start o.document_start before (span_of x) in
     sym (found_at is_1_2 o before (span_of x) x.value no_key after [] [] start (start ++ value_findings is_1_2 o (span_of x) x.value no_key)
@@ -211,17 +211,17 @@ module _ (is_1_2 : Bool) (o : LexemeOptions) (p x y : LexemeValue) (post : List 
   same_span : span_of (lexeme x.kind x.start x.end.line y.end.col) ≡ span_of y
   same_span = sym (retyped_span y (token_of x) h.token)
 
-  here : (before after : _) → findings_at is_1_2 o before x no_key after ≡ findings_at is_1_2 o before y no_key after
+  here : (before after : _) → findings_at is_1_2 o before (span_of x) x.value no_key after ≡ findings_at is_1_2 o before (span_of y) y.value no_key after
   here before after =
       at_quiet is_1_2 o before x after h.scalar quiet
       ∙ ap (λ (fs : List FindingValue). fs ++ []) (start_here x.kind x.start x.end.line x.end.col y.end.col o.document_start before
       ∙ ap (document_start o.document_start before) same_span)
       ∙ sym (at_quiet is_1_2 o before y after (ap (λ (t : Token). is_scalar t.kind) h.token ∙ h.scalar) anew)
 
-  front : (before : _) (key : KeyFacts) → findings_at is_1_2 o before p key (Some (span_of x)) ≡ findings_at is_1_2 o before p key (Some (span_of y))
+  front : (before : _) (key : KeyFacts) → findings_at is_1_2 o before (span_of p) p.value key (Some (span_of x)) ≡ findings_at is_1_2 o before (span_of p) p.value key (Some (span_of y))
   front before key =
       at_front x.kind x.start x.end.line x.end.col y.end.col is_1_2 o before p key
-      ∙ ap (λ (s : _). findings_at is_1_2 o before p key (Some s)) same_span
+      ∙ ap (λ (s : _). findings_at is_1_2 o before (span_of p) p.value key (Some s)) same_span
 
   back : (n : ℕ) (keys : List KeyFacts) → findings_behind is_1_2 o (Some (span_of x)) (take n post) keys ≡ findings_behind is_1_2 o (Some (span_of y)) (take n post) keys
   back n keys =
@@ -240,9 +240,9 @@ module _ (is_1_2 : Bool) (o : LexemeOptions) (p x y : LexemeValue) (post : List 
   from_front (suc n) before key (k ∷ ks) later e = absurd (omega (arith, e))
   from_front (suc n) before key [] later e =
       let after = first_span (take n post) in
-      ap (λ (fs : List FindingValue). fs ++ (findings_at is_1_2 o (Some (span_of p)) x no_key after ++ findings_behind is_1_2 o (Some (span_of x)) (take n post) later)) (front before key)
-      ∙ ap (λ (fs : List FindingValue). findings_at is_1_2 o before p key (Some (span_of y)) ++ (fs ++ findings_behind is_1_2 o (Some (span_of x)) (take n post) later)) (here (Some (span_of p)) after)
-      ∙ ap (λ (fs : List FindingValue). findings_at is_1_2 o before p key (Some (span_of y)) ++ (findings_at is_1_2 o (Some (span_of p)) y no_key after ++ fs)) (back n later)
+      ap (λ (fs : List FindingValue). fs ++ (findings_at is_1_2 o (Some (span_of p)) (span_of x) x.value no_key after ++ findings_behind is_1_2 o (Some (span_of x)) (take n post) later)) (front before key)
+      ∙ ap (λ (fs : List FindingValue). findings_at is_1_2 o before (span_of p) p.value key (Some (span_of y)) ++ (fs ++ findings_behind is_1_2 o (Some (span_of x)) (take n post) later)) (here (Some (span_of p)) after)
+      ∙ ap (λ (fs : List FindingValue). findings_at is_1_2 o before (span_of p) p.value key (Some (span_of y)) ++ (findings_at is_1_2 o (Some (span_of p)) (span_of y) y.value no_key after ++ fs)) (back n later)
 
   along : (n : ℕ) (pre : List LexemeValue) (before : _) (keys later : List KeyFacts) → length keys ≡ suc (length pre)
       → findings_behind is_1_2 o before (take n (pre ++ p ∷ x ∷ post)) (keys ++ no_key ∷ later)
@@ -251,8 +251,8 @@ module _ (is_1_2 : Bool) (o : LexemeOptions) (p x y : LexemeValue) (post : List 
   along (suc n) pre before [] later e = absurd (omega (arith, e))
   along (suc n) [] before (k ∷ ks) later e = from_front n before k ks later (omega (arith, e))
   along (suc n) (q ∷ qs) before (k ∷ ks) later e =
-      ap (λ (s : _). findings_at is_1_2 o before q k s ++ findings_behind is_1_2 o (Some (span_of q)) (take n (qs ++ p ∷ x ∷ post)) (ks ++ no_key ∷ later)) (first_same n qs)
-      ∙ ap (λ (fs : List FindingValue). findings_at is_1_2 o before q k (first_span (take n (qs ++ p ∷ y ∷ post))) ++ fs) (along n qs (Some (span_of q)) ks later (omega (arith, e)))
+      ap (λ (s : _). findings_at is_1_2 o before (span_of q) q.value k s ++ findings_behind is_1_2 o (Some (span_of q)) (take n (qs ++ p ∷ x ∷ post)) (ks ++ no_key ∷ later)) (first_same n qs)
+      ∙ ap (λ (fs : List FindingValue). findings_at is_1_2 o before (span_of q) q.value k (first_span (take n (qs ++ p ∷ y ∷ post))) ++ fs) (along n qs (Some (span_of q)) ks later (omega (arith, e)))
 
 pub findings_stay : (o : LexemeOptions) (counted : ℕ) (pre : List LexemeValue) (p x y : LexemeValue) (post : List LexemeValue) → IsRetyped p x y post
     → SayNothing (suc (length pre)) (key_facts (pre ++ p ∷ x ∷ post)) → IsQuiet o x → IsQuiet o y

@@ -1,7 +1,8 @@
 -- The truthy words of a sequence, one by one.
 use Rattle.std.proofs.Common.{◌≡◌, ℕ, suc, ◌+◌, ◌<◌, Bool, true, false, List, [], ◌∷◌, Option, Some, length, bytes_eq, if◌then◌else◌, sym, ap, arith}
 use Rattle.yl_layout.specs.declared.truthy.TruthyWords.{TruthyWords}
-use Rattle.yl_layout.specs.Truthy.{index_from, truthy_index, truthy_words}
+use Rattle.std.specs.List.{position_from}
+use Rattle.yl_layout.specs.Truthy.{truthy_index, truthy_words}
 use Rattle.yl_text.specs.declared.position.Pos.{Pos}
 use Rattle.yl_events.specs.Event.{EventKindValue}
 use Rattle.yl_settings.specs.Nodes.{Nodes, NoNode, Node}
@@ -12,12 +13,12 @@ index_one : (b : Bool) (i j n : ℕ) (later : Option ℕ) → (later ≡ Some j 
 index_one true i j n later below here = let same : i ≡ j = cc in omega arith
 index_one false i j n later below there = omega (arith, below there)
 
-index_from-below : (i j : ℕ) (ws : List (List ℕ)) (w : List ℕ) → index_from i ws w ≡ Some j → j < i + length ws
-index_from-below i j [] w is = cc
-index_from-below i j (x ∷ xs) w is = index_one (bytes_eq x w) i j (length xs) (index_from (i + 1) xs w) (index_from-below (i + 1) j xs w) is
+position-below : (i j : ℕ) (ws : List (List ℕ)) (w : List ℕ) → position_from (λ v. bytes_eq v w) i ws ≡ Some j → j < i + length ws
+position-below i j [] w is = cc
+position-below i j (x ∷ xs) w is = index_one (bytes_eq x w) i j (length xs) (position_from (λ v. bytes_eq v w) (i + 1) xs) (position-below (i + 1) j xs w) is
 
 pub truthy_index-below : (w : List ℕ) (j : ℕ) → truthy_index w ≡ Some j → j < 18
-truthy_index-below w j is = index_from-below 0 j truthy_words w is
+truthy_index-below w j is = position-below 0 j truthy_words w is
 
 -- of the first word, and then of the others
 pub words_beside-first : (set : Option TruthyWords) (kind : EventKindValue) (place : Option Pos) (inside more nodes : Nodes) → nodes ≡ Node kind place inside more

@@ -1,9 +1,11 @@
-use Rattle.std.proofs.Common.{◌≡◌, ◌++◌, true, drop}
+use Rattle.std.proofs.Common.{◌≡◌, ◌++◌, drop}
 use Rattle.std.specs.Prelude.{codes, string_bytes}
-use Rattle.yl_layout.specs.Truthy.{chosen_words, word_list, truthy_words}
+use Rattle.std.specs.List.{items_where_true, join_by}
+use Rattle.yl_layout.specs.Truthy.{truthy_words}
+use Rattle.yl_layout.specs.WordList.{word_list}
 use Rattle.yl_layout.proofs.words.truthy_text.Given as goal
 
 abbrev pub invariant-loop-i : goal.invariant-loop-i
 invariant-loop-i g l =
-    string_bytes l.text ++ word_list l.is_first (chosen_words (drop l.i truthy_words) (drop l.i l.words.allowed))
-    ≡ codes "truthy value should be one of [" ++ word_list true (chosen_words truthy_words l.words.allowed)
+    string_bytes l.text ++ word_list l.is_first (items_where_true (drop l.i l.words.allowed) (drop l.i truthy_words))
+    ≡ codes "truthy value should be one of [" ++ join_by (λ w. w) (codes ", ") (items_where_true l.words.allowed truthy_words)
