@@ -34,7 +34,7 @@ pub fn is_space_next(text: &[char]) -> bool
 }
 
 pub fn is_flow_indicator_next(text: &[char]) -> bool
-    ensures { result ≡ is_flow_indicator (next text.now) }
+    ensures { result ≡ is_flow_indicator (slice_index text.now 0) }
 {
     match text {
         [] => false,
