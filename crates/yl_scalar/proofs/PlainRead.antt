@@ -7,7 +7,7 @@ use Rattle.std.proofs.lemmas.List.{append-nil}
 use Rattle.yl_text.specs.Character.{is_white, is_blank, without_front}
 use Rattle.yl_scalar.specs.Allowed.{first_bad}
 use Rattle.yl_scalar.specs.Reading.{ScalarOutcomeValue, Whole, GoesOn, EndedAbove, outcome_of_step, outcome_of_lines, unless_bad}
-use Rattle.yl_scalar.specs.Folding.{break_of}
+use Rattle.yl_scalar.specs.Folding.{joint}
 use Rattle.yl_scalar.specs.Plain.{part, reaches_end, continues}
 use Rattle.yl_scalar.specs.PlainSteps.{PlainReaderValue, plain_extent, plain_step, plain_finish, plain_step_behind, with_line}
 use Rattle.yl_scalar.specs.PlainLines.{scalar_line_count, folded_value, end_column, bad_below, unless_refused, of_lines, PlainLaw}
@@ -88,13 +88,13 @@ module _ (s : PlainReaderValue) (line : List ℕ) (more : List (List ℕ)) where
   text h false None e ih = rw (h, e) (ap (λ v. whole low_at line_end v) (simp (append_assoc, append-nil)))
   text h true None e ih =
       let places : low_at + 0 + 1 ≡ low_at + 1 = omega arith in
-      let value : s.value ++ break_of s.blanks ++ own ++ folded_value s.flow 0 (take n more) ≡ s.value ++ (break_of s.blanks ++ own ++ folded_value s.flow 0 (take n more)) = simp append_assoc in
+      let value : s.value ++ joint None s.blanks ++ own ++ folded_value s.flow 0 (take n more) ≡ s.value ++ (joint None s.blanks ++ own ++ folded_value s.flow 0 (take n more)) = simp append_assoc in
       let column : cond (is_blank line) s.column line_end ≡ line_end = rw h refl in
       rw (one-add, h, e, not_zero n)
-      (ih ∙ ap (λ low. behind (low_at + 0 + 1) low (prefix_column line_end) (s.value ++ break_of s.blanks ++ own ++ folded_value s.flow 0 (take n more))) (lower (eqb n 0) refl)
-      ∙ ap (λ d. behind d (s.down + s.blanks + suc n) (prefix_column line_end) (s.value ++ break_of s.blanks ++ own ++ folded_value s.flow 0 (take n more))) places
+      (ih ∙ ap (λ low. behind (low_at + 0 + 1) low (prefix_column line_end) (s.value ++ joint None s.blanks ++ own ++ folded_value s.flow 0 (take n more))) (lower (eqb n 0) refl)
+      ∙ ap (λ d. behind d (s.down + s.blanks + suc n) (prefix_column line_end) (s.value ++ joint None s.blanks ++ own ++ folded_value s.flow 0 (take n more))) places
       ∙ ap (λ v. behind (low_at + 1) (s.down + s.blanks + suc n) (prefix_column line_end) v) value
-      ∙ ap (λ c. behind (low_at + 1) (s.down + s.blanks + suc n) (prefix_column c) (s.value ++ (break_of s.blanks ++ own ++ folded_value s.flow 0 (take n more)))) (sym column))
+      ∙ ap (λ c. behind (low_at + 1) (s.down + s.blanks + suc n) (prefix_column c) (s.value ++ (joint None s.blanks ++ own ++ folded_value s.flow 0 (take n more)))) (sym column))
     where
       lower : (x : Bool) → eqb n 0 ≡ x → cond x low_at (low_at + 0 + n) ≡ s.down + s.blanks + suc n
       lower true z = let zero_left : n ≡ 0 = eqb-true n 0 z in omega arith

@@ -4,7 +4,7 @@ use Rattle.std.specs.List.{prefix_len}
 use Rattle.yl_text.specs.Character.{is_white, is_blank, without_front}
 use Rattle.yl_scalar.specs.Allowed.{first_bad}
 use Rattle.yl_scalar.specs.Reading.{ScalarOutcomeValue, Whole, Refused}
-use Rattle.yl_scalar.specs.Folding.{break_of}
+use Rattle.yl_scalar.specs.Folding.{joint}
 use Rattle.yl_scalar.specs.Plain.{part, reaches_end, continues}
 use Rattle.yl_scalar.specs.PlainSteps.{plain}
 use Rattle.yl_scalar.specs.declared.answer.ScalarFault.TheVariants.{NotAllowed}
@@ -26,7 +26,7 @@ abbrev pub folded_value : Bool → ℕ → List (List ℕ) → List ℕ
 folded_value flow blanks [] = []
 folded_value flow blanks (line ∷ lines) =
     if is_blank line then folded_value flow (blanks + 1) lines
-    else break_of blanks ++ part flow true (without_front line) ++ folded_value flow 0 lines
+    else joint None blanks ++ part flow true (without_front line) ++ folded_value flow 0 lines
 
 -- before which column the last line with text ends, or this one
 abbrev pub end_column : Bool → ℕ → List (List ℕ) → ℕ

@@ -1,10 +1,10 @@
 -- Bridge: plain scalars line by line: YAML 1.2.2, 7.3.3 and 6.5.
-use Rattle.std.specs.Prelude.{ℕ, Bool, true, false, if◌then◌else◌, List, ◌++◌, ◌+◌, length}
+use Rattle.std.specs.Prelude.{ℕ, Bool, true, false, if◌then◌else◌, List, ◌++◌, ◌+◌, length, None}
 use Rattle.std.specs.List.{prefix_len}
 use Rattle.yl_text.specs.Character.{is_white, is_blank, without_front}
 use Rattle.yl_scalar.specs.Allowed.{first_bad}
 use Rattle.yl_scalar.specs.Reading.{Extent, ScalarOutcomeValue, Whole, ScalarStepValue, GoesOn, EndsIn, EndedAbove, outcome_of_step, outcome_of_lines, unless_bad}
-use Rattle.yl_scalar.specs.Folding.{break_of}
+use Rattle.yl_scalar.specs.Folding.{joint}
 use Rattle.yl_scalar.specs.Plain.{part, reaches_end, continues}
 
 -- a scalar that may go on: in a flow collection or not, the least indentation of its lines below, where it ends so far,
@@ -39,7 +39,7 @@ with_line s line = record {
   down = s.down + s.blanks + 1;
   column = prefix_len is_white line + length (part s.flow true (without_front line));
   blanks = 0;
-  value = s.value ++ break_of s.blanks ++ part s.flow true (without_front line);
+  value = s.value ++ joint None s.blanks ++ part s.flow true (without_front line);
 }
 
 abbrev pub plain_step : PlainReaderValue → List ℕ → ScalarStepValue PlainReaderValue

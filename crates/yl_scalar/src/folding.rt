@@ -1,14 +1,14 @@
 //! What breaks stand for, and values as text.
-ghost use Rattle.std.specs.Prelude.{◌≡◌, ◌++◌, ◌↔◌, ◌∷◌, [], IfOk, IsTrue, length, string_bytes};
+ghost use Rattle.std.specs.Prelude.{◌≡◌, ◌++◌, ◌↔◌, ◌∷◌, [], None, IfOk, IsTrue, length, string_bytes};
 ghost use Rattle.std.specs.Str.{chars, encode_utf8_all, IsAscii};
-ghost use Rattle.yl_scalar.specs.Folding.{break_of, joint};
+ghost use Rattle.yl_scalar.specs.Folding.{joint};
 
 use std::alloc::{AllocError, Allocator};
 use yl_inline::InlineString;
 
 /// Adds what a break with this many blank rows behind it stands for.
 pub fn push_break<A: Allocator>(value: &mut Vec<char, A>, blanks: usize) -> Result<(), AllocError>
-    ensures { IfOk result (λ _. value.new.items ≡ value.old.items ++ break_of blanks) }
+    ensures { IfOk result (λ _. value.new.items ≡ value.old.items ++ joint None blanks) }
 {
     if blanks == 0 {
         value.push(' ')?;
@@ -41,7 +41,7 @@ pub fn push_joint<A: Allocator>(
 
 /// Adds what a break with this many blank rows behind it stands for to a value that is kept as text.
 pub fn add_break<A: Allocator>(value: &mut String<A>, blanks: usize) -> Result<(), AllocError>
-    ensures { IfOk result (λ _. chars (string_bytes value.new) ≡ chars (string_bytes value.old) ++ break_of blanks) }
+    ensures { IfOk result (λ _. chars (string_bytes value.new) ≡ chars (string_bytes value.old) ++ joint None blanks) }
 {
     if blanks == 0 {
         add(value, ' ')?;

@@ -1,6 +1,7 @@
 pub mod Bounds
 pub mod Char
 pub mod Character
+pub mod Counts
 pub mod Edit
 pub mod Fault
 pub mod Finding

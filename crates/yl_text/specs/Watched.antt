@@ -1,6 +1,5 @@
--- Meaning: what a clause reads of a watched device, and how it counts failures: by answers alone,
--- so that a fault of the device is told only where the device failed.
-use Rattle.std.specs.Prelude.{◌≡◌, ℕ, ◌+◌, ◌&&◌, not, ◌==◌, if◌then◌else◌, List, length, Result, MatchResult}
+-- Bridge: what a clause reads of a watched device.
+use Rattle.std.specs.Prelude.{ℕ}
 use Rattle.yl_text.specs.declared.device.Watched.{Watched}
 
 -- the reader or writer inside
@@ -10,11 +9,3 @@ device_of w = w.device
 -- how many failures it has seen
 abbrev pub failures_of : {D : Type 0} → Watched D → ℕ
 failures_of w = w.failures
-
--- a read that fails counts one
-abbrev pub CountsRead : {E : Type 0} → ℕ → ℕ → Result ℕ E → Type 0
-CountsRead old new r = MatchResult r (λ _. new ≡ old) (λ _. new ≡ old + 1)
-
--- a write that fails counts one, and so does one that takes nothing of a piece that is not empty
-abbrev pub CountsWrite : {E : Type 0} → ℕ → ℕ → Result ℕ E → List ℕ → Type 0
-CountsWrite old new r piece = MatchResult r (λ n. new ≡ (if n == 0 && not (length piece == 0) then old + 1 else old)) (λ _. new ≡ old + 1)
