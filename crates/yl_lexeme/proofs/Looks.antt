@@ -1,11 +1,13 @@
 -- What looking back over the earlier lexemes finds is what the scanner keeps of them.
 use Rattle.std.proofs.Common.{◌≡◌, ℕ, zero, suc, ◌+◌, ◌-◌, Bool, true, false, cond, List, [], ◌∷◌, ◌++◌, map, Option, refl, ap, sym, ◌∙◌, eqb, add-one, sub-one}
 use Rattle.std.proofs.Math.Dec.{eqb-suc-zero}
+use Rattle.std.specs.Prelude.{option_map, slice_get}
+use Rattle.std.specs.Option.{option_map_or}
 use Rattle.yl_lexeme.specs.declared.lexeme.Kind.{Kind}
 use Rattle.yl_lexeme.specs.Lexeme.{is_document_marker, is_opening, is_closing}
 use Rattle.yl_lexeme.specs.Keys.{key_start}
 use Rattle.yl_lexeme.specs.Kept.{KeyUnitValue, all_but_first, key_unit_behind, key_unit_of}
-use Rattle.yl_lexeme.specs.Past.{PastLexeme, Context, spot, open_brackets, opens_item, asks_for_node, levels, levels_with, last_kind, is_flow, context_from}
+use Rattle.yl_lexeme.specs.Past.{PastLexeme, Context, spot, open_brackets, opens_item, asks_behind, levels, levels_with, is_flow, context_from}
 use Rattle.yl_lexeme.specs.Known.{context_of, row_start, new_row, own_column, row_unit, brackets_with, surroundings_of}
 use Rattle.yl_lexeme.proofs.Units.{without, without-none, without-one, keeps}
 
@@ -44,6 +46,13 @@ known_brackets (x ∷ here) older = ap (brackets_with x.kind) (known_brackets he
 known_levels : (here older : List PastLexeme) → (surroundings_of here older).levels ≡ levels (here ++ older)
 known_levels [] older = refl
 known_levels (x ∷ here) older = ap (levels_with x) (known_levels here older)
+
+-- of the latest lexeme
+abbrev pub last_kind : List PastLexeme → Option Kind
+last_kind xs = option_map (λ x. x.kind) (slice_get xs 0)
+
+abbrev asks_for_node : List PastLexeme → Bool
+asks_for_node xs = option_map_or (λ x. asks_behind x.kind x.key) (slice_get xs 0) false
 
 known_last : (here older : List PastLexeme) → (surroundings_of here older).last ≡ last_kind (here ++ older)
 known_last [] older = refl

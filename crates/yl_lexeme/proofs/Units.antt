@@ -1,10 +1,11 @@
 -- What looking back over the lexemes of a line finds of a key is what is kept of them.
 use Rattle.std.proofs.Common.{◌≡◌, ℕ, zero, suc, ◌+◌, ◌-◌, Bool, true, false, cond, not, ◌&&◌, List, [], ◌∷◌, Option, Some, None, refl, ap, sym, ◌∙◌, eqb, add-one, sub-one}
 use Rattle.std.proofs.Math.Dec.{eqb-suc-zero, eqb-suc-suc}
+use Rattle.std.specs.Prelude.{option_and_then, slice_get}
 use Rattle.yl_lexeme.specs.declared.lexeme.Kind.{Kind}
 use Rattle.yl_lexeme.specs.declared.lexeme.Kind.TheVariants.{Anchor, Tag}
 use Rattle.yl_lexeme.specs.Lexeme.{is_opening, is_closing, is_property, is_anchor, is_leaf}
-use Rattle.yl_lexeme.specs.Keys.{Spot, from_partner, from_properties, unit_from, or_from, start_of, key_start}
+use Rattle.yl_lexeme.specs.Keys.{Spot, from_partner, from_properties, unit_from, or_from, key_start}
 use Rattle.yl_lexeme.specs.Kept.{KeyUnitValue, all_but_first, first_of, flattened_option, content_start, property_start, key_unit_behind, key_unit_of}
 
 -- without so many
@@ -32,6 +33,10 @@ property_if b x = cond b (Some (is_anchor x.kind, x.start)) None
 abbrev property_of : {T : Type 0} → List (Spot T) → Option (Bool × Option T)
 property_of [] = None
 property_of (x ∷ xs) = property_if (is_property x.kind) x
+
+-- where a list's first lexeme begins, if a key may begin there
+abbrev start_of : {T : Type 0} → List (Spot T) → Option T
+start_of xs = option_and_then (λ x. x.start) (slice_get xs 0)
 
 -- two properties of one node
 abbrev are_both : Kind → Kind → Bool

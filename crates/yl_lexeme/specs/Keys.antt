@@ -1,6 +1,6 @@
 -- Meaning: the latest lexemes of a line that are one unit, which may be a key: YAML 1.2.2, 7.4.2
 -- and 8.2.2. They are listed with the latest first.
-use Rattle.std.specs.Prelude.{ℕ, Bool, not, ◌&&◌, ◌==◌, if◌then◌else◌, List, [], ◌∷◌, ◌+◌, ◌-◌, Option, None}
+use Rattle.std.specs.Prelude.{ℕ, Bool, not, ◌&&◌, ◌==◌, if◌then◌else◌, List, [], ◌∷◌, ◌+◌, ◌-◌, Option, option_and_then, slice_get}
 use Rattle.yl_lexeme.specs.declared.lexeme.Kind.{Kind}
 use Rattle.yl_lexeme.specs.Lexeme.{is_opening, is_closing, is_property, is_anchor, is_leaf}
 
@@ -39,11 +39,6 @@ abbrev pub unit_from : {T : Type 0} → List (Spot T) → List (Spot T) → List
 unit_from [] properties = properties
 unit_from (x ∷ xs) properties = or_from (from_properties xs) (x ∷ xs)
 
--- where a list's first lexeme begins, if a key may begin there
-abbrev pub start_of : {T : Type 0} → List (Spot T) → Option T
-start_of [] = None
-start_of (x ∷ xs) = x.start
-
 -- where a key of which the latest lexeme is the last begins: the unit before a Value, all of it in the Value's line
 abbrev pub key_start : {T : Type 0} → List (Spot T) → Option T
-key_start xs = start_of (unit_from (from_content xs) (from_properties xs))
+key_start xs = option_and_then (λ x. x.start) (slice_get (unit_from (from_content xs) (from_properties xs)) 0)

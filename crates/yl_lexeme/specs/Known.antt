@@ -1,10 +1,10 @@
 -- Bridge: what a scanner keeps of the lexemes that it has read: stacks, and within a row the unit
 -- that may become a key.
-use Rattle.std.specs.Prelude.{ℕ, Bool, false, not, ◌&&◌, if◌then◌else◌, List, [], ◌∷◌, Option, Some, None}
+use Rattle.std.specs.Prelude.{ℕ, Bool, false, not, ◌&&◌, if◌then◌else◌, List, [], ◌∷◌, Option, Some, None, option_map, slice_get}
 use Rattle.yl_lexeme.specs.declared.lexeme.Kind.{Kind}
 use Rattle.yl_lexeme.specs.Lexeme.{is_document_marker, is_opening, is_closing}
 use Rattle.yl_lexeme.specs.Kept.{KeyUnitValue, all_but_first, key_unit_behind}
-use Rattle.yl_lexeme.specs.Past.{PastLexeme, Context, spot, open_brackets, levels, last_kind, is_flow, opens_item, asks_behind, cut, levels_with}
+use Rattle.yl_lexeme.specs.Past.{PastLexeme, Context, spot, open_brackets, levels, is_flow, opens_item, asks_behind, cut, levels_with}
 
 -- levels: one more than each column, the greatest first. brackets: the open ones, the innermost first. asks: the latest lexeme is
 -- an Entry, a Key or a Value without key. unit: where the unit that the latest lexemes make begins, if a key may begin there.
@@ -77,5 +77,5 @@ surroundings_behind x k = record {
 
 -- what is kept behind the lexemes of a row, and those before
 abbrev pub surroundings_of : List PastLexeme → List PastLexeme → SurroundingsValue
-surroundings_of [] older = row_start (levels older) (open_brackets 0 older) (last_kind older)
+surroundings_of [] older = row_start (levels older) (open_brackets 0 older) (option_map (λ x. x.kind) (slice_get older 0))
 surroundings_of (x ∷ here) older = surroundings_behind x (surroundings_of here older)

@@ -1,7 +1,8 @@
 -- Meaning: what the earlier lexemes say of a place: YAML 1.2.2, chapters 6 to 8. They are listed
 -- with the latest first: here, those that begin in this line, and older, those before.
-use Rattle.std.specs.Prelude.{ℕ, Bool, true, false, not, ◌&&◌, ◌||◌, ◌==◌, nat_lt, nat_le, if◌then◌else◌, List, [], ◌∷◌, ◌++◌, map, ◌+◌, ◌-◌, Option, Some, None, is_some, option_and_then, unwrap_or}
+use Rattle.std.specs.Prelude.{ℕ, Bool, true, false, not, ◌&&◌, ◌||◌, ◌==◌, nat_lt, nat_le, if◌then◌else◌, List, [], ◌∷◌, ◌++◌, map, ◌+◌, ◌-◌, Option, Some, None, is_some, option_map, option_and_then, unwrap_or, slice_get}
 use Rattle.std.specs.Bool.{then_some}
+use Rattle.std.specs.Option.{option_map_or}
 use Rattle.yl_lexeme.specs.declared.lexeme.Kind.{Kind}
 use Rattle.yl_lexeme.specs.Lexeme.{is_document_marker, is_opening, is_closing, is_entry, is_key, is_value, is_comma}
 use Rattle.yl_lexeme.specs.Keys.{Spot, key_start}
@@ -42,16 +43,11 @@ abbrev pub near : ℕ → Option ℕ → Option ℕ
 near column start = option_and_then (λ start. then_some (nat_le start column && is_near column start) start) start
 
 abbrev pub opens_item : Option Kind → Bool
-opens_item None = false
-opens_item (Some k) = is_opening k || is_comma k
+opens_item last = option_map_or (λ k. is_opening k || is_comma k) last false
 
 -- an Entry, a Key, or a Value without key
 abbrev pub asks_behind : Kind → Option ℕ → Bool
 asks_behind kind key = is_entry kind || is_key kind || (is_value kind && not (is_some key))
-
-abbrev pub asks_for_node : List PastLexeme → Bool
-asks_for_node [] = false
-asks_for_node (x ∷ xs) = asks_behind x.kind x.key
 
 -- ---- columns (indentation: 6.1, 8.2)
 
@@ -87,10 +83,6 @@ levels (x ∷ xs) = levels_with x (levels xs)
 
 -- ---- all of it
 
-abbrev pub last_kind : List PastLexeme → Option Kind
-last_kind [] = None
-last_kind (x ∷ xs) = Some x.kind
-
 -- what surrounds a place. behind: a key may begin behind the last lexeme. start: where a Value's key would begin, if not too far
 pub record Context : Type 0 where
   pub levels : List ℕ
@@ -110,8 +102,10 @@ abbrev pub context_from : List PastLexeme → List PastLexeme → Context
 context_from here older =
     let xs = here ++ older in
     let brackets = open_brackets 0 xs in
-    let behind = if is_flow brackets then opens_item (last_kind xs) else asks_for_node here in
-    record { levels = levels xs; brackets = brackets; last = last_kind xs; behind = behind; start = key_start (map spot here) }
+    let last = option_map (λ x. x.kind) (slice_get xs 0) in
+    let asks = option_map_or (λ x. asks_behind x.kind x.key) (slice_get here 0) false in
+    let behind = if is_flow brackets then opens_item last else asks in
+    record { levels = levels xs; brackets = brackets; last = last; behind = behind; start = key_start (map spot here) }
 
 abbrev pub may_begin : Bool → Context → Bool
 may_begin first a = if in_flow a then a.behind else first || a.behind

@@ -5,11 +5,11 @@ use Rattle.std.specs.Str.{chars, IsUtf8}
 use Rattle.std.proofs.lemmas.Bool.{cases_lt, le-ltb}
 use Rattle.std.proofs.lemmas.Bool.Decides.{nat_tests}
 use Rattle.std.proofs.lemmas.Str.{encode_ascii, encodes-chars}
-use Rattle.yl_text.specs.Char as char
+use Prim.Native.Char.{code}
 use lib.Utf8.{encodes, encode, next}
 
 abbrev is_space : ℕ → Bool
-is_space c = c == char.space
+is_space c = c == code " "
 
 past_space : (c : ℕ) → 128 ≤ c → is_space c ≡ false
 past_space c h = grind (arith, nat_tests)

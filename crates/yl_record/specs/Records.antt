@@ -6,7 +6,6 @@ use Rattle.yl_text.specs.Lines.{RowValue}
 use Rattle.yl_row.specs.Entries.{RowEntry, LineStateValue, entries}
 use Rattle.yl_scan.specs.Restart.{from_state}
 
--- the characters of each row
 abbrev pub characters_in : List RowValue → List (List ℕ)
 characters_in rows = map (λ row. chars row.text) rows
 

@@ -2,6 +2,7 @@ pub mod Agree
 pub mod Beginnings
 pub mod Carry
 pub mod Columns
+pub mod DocumentEnds
 pub mod Modes
 pub mod Placed
 pub mod RowSteps

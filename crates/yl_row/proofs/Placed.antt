@@ -1,21 +1,22 @@
 -- The directives of a text stand in their places.
-use Rattle.std.proofs.Common.{◌≡◌, ℕ, zero, suc, ◌+◌, ◌-◌, Bool, true, false, cond, not, ◌&&◌, ◌||◌, List, [], ◌∷◌, ◌++◌, map, Option, Some, None, refl, ap, subst, ◌∙◌, eqb, ltb, arith}
+use Rattle.std.proofs.Common.{◌≡◌, ℕ, zero, suc, ◌+◌, ◌-◌, Bool, true, false, cond, not, ◌&&◌, ◌||◌, List, [], ◌∷◌, ◌++◌, map, take, Option, Some, None, refl, ap, subst, ◌∙◌, eqb, ltb, arith}
 use Rattle.std.specs.Prelude.{◌==◌, nat_le, unwrap_or}
 use Rattle.std.specs.List.{filter}
 use Rattle.std.specs.Option.{option_or}
 use Rattle.std.proofs.lemmas.List.{append-nil}
 use Rattle.std.proofs.lemmas.Bool.{and_parts, and_from, or_right, ne_eqb}
-use Rattle.yl_text.specs.Character.{is_white, is_marker_of}
+use Rattle.yl_text.specs.Character.{is_white, is_blank, is_marker_of}
 use Rattle.yl_scalar.specs.Reading.{ScalarOutcomeValue, Whole, Refused}
 use Rattle.yl_lexeme.specs.declared.lexeme.Style.{Style}
 use Rattle.yl_lexeme.specs.declared.lexeme.Kind.{Kind}
 use Rattle.yl_lexeme.specs.Lexeme.{LexemeValue, CommentValue}
 use Rattle.yl_lexeme.specs.Directives.{is_directive, is_directive_place, directives_in_place}
-use Rattle.yl_lexeme.specs.Past.{past_lexeme, PastLexeme, Context, context_from, at_place, last_kind, in_flow}
+use Rattle.yl_lexeme.specs.Past.{past_lexeme, PastLexeme, Context, context_from, at_place, in_flow}
 use Rattle.yl_row.specs.declared.fault.PlacedScanFault.{PlacedScanFault}
 use Rattle.yl_row.specs.Fault.{is_tab, is_unclosed}
-use Rattle.yl_row.specs.Step.{FoundLexemeValue, found_at, document_at, block_at, word_at, tag_found, scalar_found, place_fault, bad_in, first_tab, is_plain_start, is_space_next, is_value_at}
+use Rattle.yl_row.specs.Step.{FoundLexemeValue, found_at, document_at, block_at, word_at, tag_found, scalar_found, place_fault, bad_in, first_tab, is_plain_start, is_value_at}
 use Rattle.yl_row.specs.Entries.{RowEntry, RowReading, ends_document, fault_reading, with_lexeme, reading_or_fault, comment_or, comment_of, lexeme_of, after_lexeme, lexemes_up_to_fault, stopped_rows, entries_below, row_reading, entries_from}
+use Rattle.yl_lexeme.proofs.Looks.{last_kind}
 use Rattle.yl_row.specs.Directives.{kinds_of, DirectivesStandInPlace}
 
 abbrev kinds : List LexemeValue → List Kind
@@ -107,7 +108,7 @@ module _ (rows : List (List ℕ)) (at : ℕ) (a : Context) (c : ℕ) (cs : List 
 
   block_at_other : (tab : Option ℕ) (first : Bool) → IsOther (block_at rows tab first at a c cs)
   block_at_other tab first =
-      either (eqb c 0x2D && is_space_next cs) _ _ (by refl) (either (eqb c 0x3F && is_space_next cs) _ _ (by refl)
+      either (eqb c 0x2D && is_blank (take 1 cs)) _ _ (by refl) (either (eqb c 0x3F && is_blank (take 1 cs)) _ _ (by refl)
       (either (eqb c 0x3A && is_value_at (in_flow a) a.last cs) _ _ (by refl)
       (either (eqb c 0x5B) _ _ (by refl) (either (eqb c 0x7B) _ _ (by refl) (either (eqb c 0x5D) _ _ (by refl) (either (eqb c 0x7D) _ _ (by refl)
       (either (eqb c 0x2C) _ _ (by refl) word_at_other)))))))

@@ -5,7 +5,7 @@ use Rattle.yl_text.specs.Character.{is_white, is_blank, is_marker_of}
 use Rattle.yl_lexeme.specs.declared.lexeme.Kind.{Kind}
 use Rattle.yl_lexeme.specs.declared.lexeme.Kind.TheVariants.{Entry, Key, Value, Comma, SeqOpen, SeqClose, MapOpen, MapClose}
 use Rattle.yl_lexeme.specs.Past.{Context, in_flow}
-use Rattle.yl_row.specs.Step.{FoundLexemeValue, is_space_next, is_value_at, document_at, block_at, word_at, found_at}
+use Rattle.yl_row.specs.Step.{FoundLexemeValue, is_value_at, document_at, block_at, word_at, found_at}
 use Rattle.yl_row.specs.Sign.{sign_at, sign_found}
 
 -- of a kind, or else a word
@@ -16,7 +16,7 @@ sign_or tab first at a word (Some kind) = sign_found tab first at a kind
 module _ (rows : List (List ℕ)) (tab : Option ℕ) (first : Bool) (at : ℕ) (a : Context) (c : ℕ) (cs : List ℕ) where
   pub block_signs : block_at rows tab first at a c cs ≡ sign_or tab first at a (word_at rows at a c cs) (sign_at a c cs)
   block_signs =
-      by_case (eqb c 45 && is_space_next cs) (eqb c 63 && is_space_next cs) (eqb c 58 && is_value_at (in_flow a) a.last cs)
+      by_case (eqb c 45 && is_blank (take 1 cs)) (eqb c 63 && is_blank (take 1 cs)) (eqb c 58 && is_value_at (in_flow a) a.last cs)
       (eqb c 91) (eqb c 123) (eqb c 93) (eqb c 125) (eqb c 44) (word_at rows at a c cs)
     where
       by_case : (entry key value seq map seq_close map_close comma : Bool) (word : FoundLexemeValue)
@@ -54,10 +54,10 @@ white_no_dash y h = by_case (eqb y 45) refl
     by_case false e = e
     by_case true e = let is : y ≡ 45 = eqb-true y 45 e in let dark : is_white 45 ≡ true = ap is_white (sym is) ∙ h in cc
 
-no_dashes : (n : ℕ) (cs : List ℕ) → is_space_next cs ≡ true → is_marker_of 45 (n ∷ cs) ≡ false
+no_dashes : (n : ℕ) (cs : List ℕ) → is_blank (take 1 cs) ≡ true → is_marker_of 45 (n ∷ cs) ≡ false
 no_dashes n [] h = refl
 no_dashes n (y ∷ []) h = refl
-no_dashes n (y ∷ z ∷ rest) h = rw (white_no_dash y h) (by_case (eqb n 45) (eqb z 45) (is_blank (take 1 rest)))
+no_dashes n (y ∷ z ∷ rest) h = rw (white_no_dash y (both (is_white y) true h).0) (by_case (eqb n 45) (eqb z 45) (is_blank (take 1 rest)))
   where
     by_case : (b d e : Bool) → (b && false && d && e) ≡ false
     by_case true d e = refl
@@ -71,15 +71,15 @@ module _ (c : ℕ) (cs : List ℕ) (a : Context) where
   other_character n dash dot percent h = let is : c ≡ n = eqb-true c n h in
       ap (λ c. document_at c cs a) is ∙ no_document n cs a (no_marker 45 n cs dash) dot percent
 
-  dash_alone : (eqb c 45 && is_space_next cs) ≡ true → document_at c cs a ≡ None
-  dash_alone h = let parts : (eqb c 45 ≡ true) × (is_space_next cs ≡ true) = both (eqb c 45) (is_space_next cs) h in
+  dash_alone : (eqb c 45 && is_blank (take 1 cs)) ≡ true → document_at c cs a ≡ None
+  dash_alone h = let parts : (eqb c 45 ≡ true) × (is_blank (take 1 cs) ≡ true) = both (eqb c 45) (is_blank (take 1 cs)) h in
       let is : c ≡ 45 = eqb-true c 45 parts.0 in
       ap (λ c. document_at c cs a) is ∙ no_document 45 cs a (no_dashes 45 cs parts.1) refl refl
 
   pub sign_alone : (kind : Kind) → sign_at a c cs ≡ Some kind → document_at c cs a ≡ None
   sign_alone kind h =
-      by_case (eqb c 45 && is_space_next cs) (eqb c 63 && is_space_next cs) (eqb c 58 && is_value_at (in_flow a) a.last cs) (eqb c 91) (eqb c 123) (eqb c 93) (eqb c 125) (eqb c 44)
-      dash_alone (λ e. other_character 63 refl refl refl (both (eqb c 63) (is_space_next cs) e).0) (λ e. other_character 58 refl refl refl (both (eqb c 58) (is_value_at (in_flow a) a.last cs) e).0)
+      by_case (eqb c 45 && is_blank (take 1 cs)) (eqb c 63 && is_blank (take 1 cs)) (eqb c 58 && is_value_at (in_flow a) a.last cs) (eqb c 91) (eqb c 123) (eqb c 93) (eqb c 125) (eqb c 44)
+      dash_alone (λ e. other_character 63 refl refl refl (both (eqb c 63) (is_blank (take 1 cs)) e).0) (λ e. other_character 58 refl refl refl (both (eqb c 58) (is_value_at (in_flow a) a.last cs) e).0)
       (other_character 91 refl refl refl) (other_character 123 refl refl refl) (other_character 93 refl refl refl) (other_character 125 refl refl refl) (other_character 44 refl refl refl) h
     where
       by_case : (entry key value seq map seq_close map_close comma : Bool)

@@ -53,7 +53,6 @@ ends_document _ = false
 abbrev pub pos_at : ℕ → ℕ → Pos
 pos_at line column = record { line = line; col = column }
 
--- the lexeme that was found at a column
 abbrev pub lexeme_of : ℕ → FoundLexemeValue → LexemeValue
 lexeme_of at found = record { kind = found.kind; start = pos_at 0 at; end = pos_at found.down found.column; value = found.value }
 

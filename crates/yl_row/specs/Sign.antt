@@ -1,9 +1,10 @@
 -- Bridge: lexemes by their first character: the indicators of block collections (YAML 1.2.2, 8.2)
 -- and of flow collections (7.4), and properties and aliases (6.9 and 7.1).
-use Rattle.std.specs.Prelude.{ℕ, Bool, not, ◌&&◌, true, false, ◌==◌, if◌then◌else◌, List, [], ◌+◌, Option, Some, None}
+use Rattle.std.specs.Prelude.{ℕ, Bool, not, ◌&&◌, true, false, ◌==◌, if◌then◌else◌, List, [], ◌+◌, take, Option, Some, None}
 use Rattle.std.specs.Bool.{then_some}
 use Rattle.std.specs.Option.{option_or, option_map_or}
 use Prim.Native.Char.{code}
+use Rattle.yl_text.specs.Character.{is_blank}
 use Rattle.yl_lexeme.specs.declared.lexeme.Kind.{Kind}
 use Rattle.yl_lexeme.specs.declared.lexeme.Kind.TheVariants.{Entry, Key, Value, Comma, SeqOpen, SeqClose, MapOpen, MapClose, Alias, Anchor}
 use Rattle.yl_lexeme.specs.Past.{Context, in_flow, may_begin, near}
@@ -11,13 +12,13 @@ use Rattle.yl_row.specs.declared.fault.ScanFault.{ScanFault}
 use Rattle.yl_row.specs.declared.fault.ScanFault.TheVariants.{NotAllowed, EntryNotAllowed, KeyNotAllowed, ValueNotAllowed, BracketWithoutPartner}
 use Rattle.yl_row.specs.declared.fault.PlacedScanFault.{PlacedScanFault}
 use Rattle.yl_row.specs.Fault.{fault_at}
-use Rattle.yl_row.specs.Step.{FoundLexemeValue, found_in_row, is_space_next, is_value_at, closes, tab_before, name_found, tag_found, tag_len}
+use Rattle.yl_row.specs.Step.{FoundLexemeValue, found_in_row, is_value_at, closes, tab_before, name_found, tag_found, tag_len}
 
 -- what a character is at a place, before that text
 abbrev pub sign_at : Context → ℕ → List ℕ → Option Kind
 sign_at a c cs =
-    if c == code "-" && is_space_next cs then Some Entry
-    else if c == code "?" && is_space_next cs then Some Key
+    if c == code "-" && is_blank (take 1 cs) then Some Entry
+    else if c == code "?" && is_blank (take 1 cs) then Some Key
     else if c == code ":" && is_value_at (in_flow a) a.last cs then Some Value
     else if c == code "[" then Some SeqOpen
     else if c == code "{" then Some MapOpen

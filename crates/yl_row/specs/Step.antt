@@ -7,6 +7,7 @@ use Rattle.std.specs.Option.{option_or, option_map_or}
 use Rattle.std.specs.Str.{encode_utf8_all}
 use Rattle.yl_text.specs.Character.{is_white, is_non_space, is_flow_indicator, is_plain_safe, starts_by, is_marker_of, without_end}
 use Prim.Native.Char.{code}
+use Rattle.yl_text.specs.Character.{is_blank}
 use Rattle.yl_scalar.specs.Allowed.{first_bad}
 use Rattle.yl_scalar.specs.Header.{misfit_behind}
 use Rattle.yl_scalar.specs.Reading.{ScalarOutcomeValue, Whole, Refused}
@@ -34,17 +35,9 @@ pub record FoundLexemeValue : Type 0 where
 
 -- ---- words
 
--- a character of an anchor's or an alias's name, or of a tag (ns-anchor-char, ns-tag-char and more)
-abbrev pub is_name_character : ℕ → Bool
-is_name_character c = is_non_space c && not (is_flow_indicator c)
-
+-- how much of an anchor's or an alias's name, or of a tag, comes next (ns-anchor-char, ns-tag-char and more)
 abbrev pub name_len : List ℕ → ℕ
-name_len = prefix_len is_name_character
-
--- white space, a break or the end comes next
-abbrev pub is_space_next : List ℕ → Bool
-is_space_next [] = true
-is_space_next (c ∷ cs) = is_white c
+name_len = prefix_len (λ c. is_non_space c && not (is_flow_indicator c))
 
 -- a directive's text goes up to a comment behind white space, or the line's end (l-directive)
 abbrev pub directive_len : Bool → List ℕ → ℕ
@@ -75,7 +68,7 @@ is_quoted_or_closing _ = false
 
 -- a Value's colon, by what follows it (7.4.2: directly behind a key like JSON's it needs no space)
 abbrev pub is_value_at : Bool → Option Kind → List ℕ → Bool
-is_value_at flow last rest = is_space_next rest || (flow && (is_flow_indicator (next rest) || is_quoted_or_closing last))
+is_value_at flow last rest = is_blank (take 1 rest) || (flow && (is_flow_indicator (next rest) || is_quoted_or_closing last))
 
 -- the innermost bracket is of this kind
 abbrev pub closes : Bool → List Kind → Bool
@@ -118,7 +111,6 @@ abbrev pub tag_found : ℕ → List ℕ → Option ℕ → FoundLexemeValue
 tag_found at cs None = found_in_row Tag (at + 1) [] (Some (fault_at BadTag at))
 tag_found at cs (Some len) = found_in_row Tag (at + 1 + len) [] (bad_in (at + 1) (take len cs))
 
--- an anchor, an alias, a tag or a scalar
 abbrev pub word_at : List (List ℕ) → ℕ → Context → ℕ → List ℕ → FoundLexemeValue
 word_at rows at a c cs =
     if c == code "&" then name_found Anchor at cs
@@ -136,9 +128,9 @@ abbrev pub block_at : List (List ℕ) → Option ℕ → Bool → ℕ → Contex
 block_at rows tab first at a c cs =
     let sign = λ (kind : Kind) (fault : Option PlacedScanFault). found_in_row kind (at + 1) [] fault in
     let refused = λ (f : ScanFault). option_or (tab_before tab at) (then_some (not (may_begin first a)) (fault_at f at)) in
-    if c == code "-" && is_space_next cs
+    if c == code "-" && is_blank (take 1 cs)
     then sign Entry (if in_flow a then Some (fault_at EntryNotAllowed at) else refused EntryNotAllowed)
-    else if c == code "?" && is_space_next cs then sign Key (if in_flow a then None else refused KeyNotAllowed)
+    else if c == code "?" && is_blank (take 1 cs) then sign Key (if in_flow a then None else refused KeyNotAllowed)
     else if c == code ":" && is_value_at (in_flow a) a.last cs
     then sign Value (if in_flow a then None else option_map_or (tab_before tab) (near at a.start) (refused ValueNotAllowed))
     else if c == code "[" then sign SeqOpen None

@@ -1,16 +1,16 @@
 //! Words in a row: names, tags, directives, markers, and what may follow them.
 
-ghost use Rattle.std.specs.Prelude.{◌≡◌, ◌≤◌, ◌==◌, ◌&&◌, ◌+◌, ◌<◌, ◌^◌, IfSome, length, slice_index, false, drop, option_and_then, take};
+ghost use Rattle.std.specs.Prelude.{◌≡◌, ◌≤◌, ◌==◌, ◌&&◌, ◌+◌, ◌<◌, ◌^◌, IfSome, length, slice_index, false, drop, option_and_then, take, not};
 ghost use Rattle.std.specs.Bool.{then_some};
 ghost use Rattle.std.specs.List.{list_any, position};
 ghost use Rattle.std.specs.Option.{ForSome};
-ghost use Rattle.yl_row.specs.Step.{is_name_character, name_len, is_space_next, directive_len, tag_len, is_plain_start};
-ghost use Rattle.yl_text.specs.Character.{is_flow_indicator, without_end};
+ghost use Rattle.yl_row.specs.Step.{name_len, directive_len, tag_len, is_plain_start};
+ghost use Rattle.yl_text.specs.Character.{is_flow_indicator, without_end, is_blank, is_non_space};
 
 use yl_scalar::{is_flow_indicator, is_safe_next, is_white, without_end};
 
 fn is_name_character(c: char) -> bool
-    ensures { result ≡ is_name_character c }
+    ensures { result ≡ (is_non_space c && not (is_flow_indicator c)) }
 {
     !is_white(c) && !is_flow_indicator(c)
 }
@@ -25,7 +25,7 @@ pub fn name_len(text: &[char]) -> usize
 
 /// White space, a break or the end comes next.
 pub fn is_space_next(text: &[char]) -> bool
-    ensures { result ≡ is_space_next text.now }
+    ensures { result ≡ is_blank (take 1 text.now) }
 {
     match text {
         [] => true,
@@ -157,7 +157,6 @@ pub fn is_plain_start(flow: bool, c: char, text: &[char]) -> bool
 }
 
 /// The place of the first tab.
-#[tactic(auto, using(crate::proofs::Tabs::no_tab))]
 pub fn first_tab(row: &[char]) -> Option<usize>
     ensures { result ≡ position (λ c. c == 9) row.now }
 {

@@ -1,5 +1,5 @@
 -- What a row consists of, with other rows below it from some row on: the same, or its last lexeme goes past that row's start.
-use Rattle.std.proofs.Common.{◌≡◌, ℕ, zero, suc, ◌+◌, ◌-◌, ◌≤◌, ◌⊎◌, inl, inr, Bool, true, false, cond, not, ◌&&◌, ◌||◌, List, [], ◌∷◌, ◌++◌, length, Option, Some, None, refl, ap, sym, subst, ◌∙◌, eqb, ltb, arith}
+use Rattle.std.proofs.Common.{◌≡◌, ℕ, zero, suc, ◌+◌, ◌-◌, ◌≤◌, ◌⊎◌, inl, inr, Bool, true, false, cond, not, ◌&&◌, ◌||◌, List, [], ◌∷◌, ◌++◌, length, take, Option, Some, None, refl, ap, sym, subst, ◌∙◌, eqb, ltb, arith}
 use Rattle.std.specs.Prelude.{unwrap_or}
 use Rattle.std.specs.Option.{option_or}
 use Rattle.yl_text.specs.Character.{is_white, is_blank}
@@ -17,7 +17,7 @@ use Rattle.yl_row.specs.declared.fault.PlacedScanFault.{PlacedScanFault}
 use Rattle.yl_row.specs.Fault.{of_scalar, is_unclosed}
 use Rattle.yl_row.specs.ScalarReader.{ScalarReaderValue, InPlain, InQuoted, InBlock, map_step, reader_step, reader_finish, rows_in, KeepsSpaces}
 use Rattle.yl_row.specs.Begins.{BeginsAt}
-use Rattle.yl_row.specs.Step.{FoundLexemeValue, found_at, document_at, block_at, word_at, scalar_found, is_plain_start, is_space_next, is_value_at, place_fault}
+use Rattle.yl_row.specs.Step.{FoundLexemeValue, found_at, document_at, block_at, word_at, scalar_found, is_plain_start, is_value_at, place_fault}
 use Rattle.yl_row.specs.Entries.{RowReading, fault_reading, with_lexeme, reading_or_fault, lexeme_of, after_lexeme}
 use Rattle.yl_row.specs.Run.{lexeme_reading_by, row_reading_by}
 use Rattle.yl_row.proofs.Carry.{Carries, Facts, mode_ends_at, facts}
@@ -120,8 +120,8 @@ module _ (P : FoundLexemeValue → FoundLexemeValue → Type 0) (n at : ℕ) (sa
   unfolding found_at
   found_same tab first a c cs =
       by_document (cond (eqb at 0) (document_at c cs a) None)
-      (pair_if P (eqb c 0x2D && is_space_next cs) _ _ _ _ (same _)
-      (pair_if P (eqb c 0x3F && is_space_next cs) _ _ _ _ (same _)
+      (pair_if P (eqb c 0x2D && is_blank (take 1 cs)) _ _ _ _ (same _)
+      (pair_if P (eqb c 0x3F && is_blank (take 1 cs)) _ _ _ _ (same _)
       (pair_if P (eqb c 0x3A && is_value_at (in_flow a) a.last cs) _ _ _ _ (same _)
       (pair_if P (eqb c 0x5B) _ _ _ _ (same _)
       (pair_if P (eqb c 0x7B) _ _ _ _ (same _)

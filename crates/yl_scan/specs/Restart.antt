@@ -1,5 +1,5 @@
 -- Meaning: what the rows of a text from a sound one on consist of, by its state; laws of restart.
-use Rattle.std.specs.Prelude.{◌≡◌, ◌∷◌, ◌++◌, ◌+◌, ◌-◌, ◌≤◌, ◌<◌, ◌⊎◌, length, ℕ, zero, suc, false, true, List, [], take, drop, Option, Some, None, IsSome}
+use Rattle.std.specs.Prelude.{◌≡◌, ◌∷◌, ◌++◌, ◌+◌, ◌-◌, ◌≤◌, ◌<◌, ◌⊎◌, length, ℕ, false, true, List, [], take, drop, Option, Some, None, IsSome, option_and_then, slice_get}
 use Rattle.std.specs.List.{AllByRecursion}
 use Rattle.yl_lexeme.specs.Known.{row_start}
 use Rattle.yl_row.specs.Entries.{RowEntry, LineStateValue, Stopped, Stands, stopped_rows, entries}
@@ -8,9 +8,7 @@ use Rattle.yl_scan.specs.Output.{PhaseValue, Fresh, Halted}
 
 -- the state of the row at a line, if it is there and sound
 abbrev pub state_at : List RowEntry → ℕ → Option LineStateValue
-state_at [] n = None
-state_at (e ∷ es) zero = e.state
-state_at (e ∷ es) (suc n) = state_at es n
+state_at es n = option_and_then (λ e. e.state) (slice_get es n)
 
 -- what the rows from a sound row on consist of, if this is its state
 abbrev pub from_state : LineStateValue → List (List ℕ) → List RowEntry

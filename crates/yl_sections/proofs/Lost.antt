@@ -21,7 +21,7 @@ use Rattle.yl_row.specs.declared.fault.ScanFault.{ScanFault}
 use Rattle.yl_row.specs.declared.fault.ScanFault.TheVariants.{NotAllowed, TabInIndentation, EntryNotAllowed, KeyNotAllowed, ValueNotAllowed, ContentAfterDocumentEnd}
 use Rattle.yl_row.specs.declared.fault.PlacedScanFault.{PlacedScanFault}
 use Rattle.yl_row.specs.Fault.{fault_at, is_tab, is_unclosed, of_scalar}
-use Rattle.yl_row.specs.Step.{FoundLexemeValue, found_at, found_in_row, document_at, block_at, word_at, tag_found, name_found, name_len, directive_len, scalar_found, place_fault, tab_before, bad_in, first_tab, is_plain_start, is_space_next, is_value_at}
+use Rattle.yl_row.specs.Step.{FoundLexemeValue, found_at, found_in_row, document_at, block_at, word_at, tag_found, name_found, name_len, directive_len, scalar_found, place_fault, tab_before, bad_in, first_tab, is_plain_start, is_value_at}
 use Rattle.yl_row.specs.Entries.{RowEntry, LineStateValue, Stopped, Stands, RowReading, ends_document, entry_of, entries, entries_below, with_lexeme, reading_or_fault, comment_or, comment_of, lexeme_of, after_lexeme, lexemes_up_to_fault, sound_state, stopped_rows}
 use Rattle.yl_row.specs.Run.{lexeme_reading_by, row_reading_by, entries_by}
 use Rattle.yl_row.proofs.Agree.{run-entries}
@@ -156,8 +156,8 @@ module _ (rows : List (List ℕ)) (tab : Option ℕ) (at : ℕ) (a : Context) (c
   block_at_fits first =
       let refused : (fault : ScanFault) → is_tab fault ≡ false → OnlyTab tab (option_or (tab_before tab at) (then_some (not (may_begin first a)) (fault_at fault at))) =
       λ fault n. only_or tab _ _ (only_before tab at) (only_when tab (not (may_begin first a)) fault at n) in
-      either tab (eqb c 0x2D && is_space_next cs) _ _ (fits refl (only_either tab (in_flow a) _ _ (only_other tab _ refl) (refused EntryNotAllowed refl)))
-      (either tab (eqb c 0x3F && is_space_next cs) _ _ (fits refl (only_if tab (in_flow a) _ (refused KeyNotAllowed refl)))
+      either tab (eqb c 0x2D && is_blank (take 1 cs)) _ _ (fits refl (only_either tab (in_flow a) _ _ (only_other tab _ refl) (refused EntryNotAllowed refl)))
+      (either tab (eqb c 0x3F && is_blank (take 1 cs)) _ _ (fits refl (only_if tab (in_flow a) _ (refused KeyNotAllowed refl)))
       (either tab (eqb c 0x3A && is_value_at (in_flow a) a.last cs) _ _ (fits refl (only_if tab (in_flow a) _ (only_key tab (near at a.start) _ (refused ValueNotAllowed refl))))
       (either tab (eqb c 0x5B) _ _ (fits refl (only_none tab)) (either tab (eqb c 0x7B) _ _ (fits refl (only_none tab))
       (either tab (eqb c 0x5D) _ _ (fits refl (only_when tab _ _ at refl)) (either tab (eqb c 0x7D) _ _ (fits refl (only_when tab _ _ at refl))
