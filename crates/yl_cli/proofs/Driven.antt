@@ -2,7 +2,8 @@
 use Rattle.std.proofs.Common.{◌≡◌, ℕ, ◌+◌, ◌-◌, ◌^◌, true, false, List, [], ◌∷◌, ◌++◌, Option, None, Some, IfSome, Result, Ok, Err, inl, inr, refl, sym, ap, ◌∙◌, subst, append-nil, append_assoc, arith, length-append}
 use Rattle.std.proofs.KnownBytes.{Appends-trans}
 use Rattle.std.specs.Io.KnownBytes.{Appends, IsAtEnd, prepend_known}
-use Rattle.std.specs.Prelude.{is_err, OnOk, OnErr}
+use Rattle.std.specs.Prelude.{is_err, OnOk, OnErr, codes}
+use Rattle.std.specs.Bool.{then_some}
 use Rattle.yl_text.specs.declared.fault.TextFault.{TextFault}
 use Rattle.yl_text.specs.Lines.{RowValue, lines_of}
 use Rattle.yl_text.specs.Edit.{edited_text}
@@ -21,7 +22,7 @@ use Rattle.yl_devices.specs.declared.fault.RunFault.{RunFault}
 use Rattle.yl_devices.specs.declared.fault.RunFault.TheVariants as fault
 use Rattle.yl_cli.specs.Run.{Failures, IsCommandFault}
 use Rattle.yl_devices.specs.Text.{without_mark}
-use Rattle.yl_cli.specs.Drive.{AreCommands, WereRead, text_of_run, refused_line, replies, reply, scanned_shown, shown_lines, shown_text, IsBegun, IsDriven, IsDriveFault}
+use Rattle.yl_cli.specs.Drive.{AreCommands, WereRead, text_of_run, replies, reply, shown_lines, IsBegun, IsDriven, IsDriveFault, refusal_name, IsAnswered}
 use Rattle.yl_cli.specs.Reading.{TakesCommand, IsReply, IsReplyBegun, SoFar}
 
 AreCommands-push : (xs mid rest : List ℕ) (es : List EditValue) (e : EditValue) → AreCommands xs es mid → next_command mid ≡ Command e rest → AreCommands xs (es ++ e ∷ []) rest
@@ -46,10 +47,10 @@ replies-push c name flags text (d ∷ es) (q ∷ rs) e r h =
 driven-push : (c : Config) (name : List ℕ) (flags : Flags) (text : List ℕ) (es : List EditValue) (rs : List (Result Work TextFault)) (e : EditValue) (r : Result Work TextFault) → AreAnswers text es rs
     → text_of_run c name flags text (es ++ e ∷ []) (rs ++ r ∷ []) ≡ text_of_run c name flags text es rs ++ reply c name flags (text_after (text_after_all text es rs) e r) r
 driven-push c name flags text es rs e r h =
-    ap (λ l. shown_text c name flags text None ++ l) (replies-push c name flags text es rs e r h)
-    ∙ sym (append_assoc (shown_text c name flags text None) (replies c name flags text es rs) (reply c name flags (text_after (text_after_all text es rs) e r) r))
+    ap (λ l. shown_lines c name flags (lines_of text) None ++ l) (replies-push c name flags text es rs e r h)
+    ∙ sym (append_assoc (shown_lines c name flags (lines_of text) None) (replies c name flags text es rs) (reply c name flags (text_after (text_after_all text es rs) e r) r))
 
-pub so_far_opened : (c : Config) (name : List ℕ) (flags : Flags) (text : List ℕ) (given before now : Option (List ℕ)) (s : SessionValue) → Shows c text s → Appends before now (shown_text c name flags text None)
+pub so_far_opened : (c : Config) (name : List ℕ) (flags : Flags) (text : List ℕ) (given before now : Option (List ℕ)) (s : SessionValue) → Shows c text s → Appends before now (shown_lines c name flags (lines_of text) None)
     → SoFar 0 c name flags text given given before now s
 so_far_opened c name flags text given before now s h w = record {
   edits = [];
@@ -57,7 +58,7 @@ so_far_opened c name flags text given before now s h w = record {
   counted = refl;
   read = read_nothing given;
   replayed = record { answered = tt; shown = h };
-  written = subst (Appends before now) (sym (append-nil (shown_text c name flags text None))) w;
+  written = subst (Appends before now) (sym (append-nil (shown_lines c name flags (lines_of text) None))) w;
 }
   where
     read_nothing : (given : Option (List ℕ)) → WereRead given given []
@@ -111,13 +112,13 @@ begun_so_far count c name flags text given mid before now s f = record {
 }
 
 -- nothing but a beginning of the first report is out
-pub begun_opened : (c : Config) (name : List ℕ) (flags : Flags) (text : List ℕ) (given before now : Option (List ℕ)) → AppendsFront before now (shown_text c name flags text None)
+pub begun_opened : (c : Config) (name : List ℕ) (flags : Flags) (text : List ℕ) (given before now : Option (List ℕ)) → AppendsFront before now (shown_lines c name flags (lines_of text) None)
     → IsBegun c name flags text (record { given = given; before = before; now = now })
 begun_opened c name flags text given before now w = record {
   edits = [];
   answers = [];
   answered = tt;
-  written = subst (AppendsFront before now) (sym (append-nil (shown_text c name flags text None))) w;
+  written = subst (AppendsFront before now) (sym (append-nil (shown_lines c name flags (lines_of text) None))) w;
 }
 
 -- ---- one answer
@@ -145,12 +146,12 @@ shown_after c text e s u h done =
     subst Q h.config (subst P (sym (lines_of-is text s.rows h.lines)) done)
 
 -- what is written of a session is what its text asks for
-pub text_shown : (c : Config) (name : List ℕ) (flags : Flags) (text : List ℕ) (s : SessionValue) (scanned : Option ℕ) → Shows c text s → shown_lines s.config name flags s.rows scanned ≡ shown_text c name flags text scanned
+pub text_shown : (c : Config) (name : List ℕ) (flags : Flags) (text : List ℕ) (s : SessionValue) (scanned : Option ℕ) → Shows c text s → shown_lines s.config name flags s.rows scanned ≡ shown_lines c name flags (lines_of text) scanned
 text_shown c name flags text s scanned h =
     ap (λ (o : Config). shown_lines o name flags s.rows scanned) h.config ∙ ap (λ (ps : List RowValue). shown_lines c name flags ps scanned) (sym (lines_of-is text s.rows h.lines))
 
 pub replied : (c : Config) (name : List ℕ) (flags : Flags) (text : List ℕ) (e : EditValue) (s u : SessionValue) (work : Work) (scanned : Option ℕ) (before now : Option (List ℕ)) → Shows c text s
-    → IsAnswer s.rows e.from e.to e.bytes (Ok work) → Shows s.config (edited_text s.rows e.from e.to e.bytes) u → scanned ≡ scanned_shown flags work → Appends before now (shown_lines u.config name flags u.rows scanned)
+    → IsAnswer s.rows e.from e.to e.bytes (Ok work) → Shows s.config (edited_text s.rows e.from e.to e.bytes) u → scanned ≡ then_some flags.work work.scanned → Appends before now (shown_lines u.config name flags u.rows scanned)
     → IsReply c name flags text e u before now
 replied c name flags text e s u work scanned before now h is done asked w =
     let shows = shown_after c text e s u h done in
@@ -158,59 +159,58 @@ replied c name flags text e s u work scanned before now h is done asked w =
       answer = Ok work;
       is = answered_before c text e (Ok work) s h is;
       shows = shows;
-      written = subst (Appends before now) (text_shown c name flags (edited_text (lines_of text) e.from e.to e.bytes) u scanned shows ∙ ap (shown_text c name flags (edited_text (lines_of text) e.from e.to e.bytes)) asked) w;
+      written = subst (Appends before now) (text_shown c name flags (edited_text (lines_of text) e.from e.to e.bytes) u scanned shows ∙ ap (shown_lines c name flags (lines_of (edited_text (lines_of text) e.from e.to e.bytes))) asked) w;
     }
 
 pub reply_begun : (c : Config) (name : List ℕ) (flags : Flags) (text : List ℕ) (e : EditValue) (s u : SessionValue) (work : Work) (scanned : Option ℕ) (before now : Option (List ℕ)) → Shows c text s
-    → IsAnswer s.rows e.from e.to e.bytes (Ok work) → Shows s.config (edited_text s.rows e.from e.to e.bytes) u → scanned ≡ scanned_shown flags work → AppendsFront before now (shown_lines u.config name flags u.rows scanned)
+    → IsAnswer s.rows e.from e.to e.bytes (Ok work) → Shows s.config (edited_text s.rows e.from e.to e.bytes) u → scanned ≡ then_some flags.work work.scanned → AppendsFront before now (shown_lines u.config name flags u.rows scanned)
     → IsReplyBegun c name flags text e before now
 reply_begun c name flags text e s u work scanned before now h is done asked w =
     let shows = shown_after c text e s u h done in
     record {
       answer = Ok work;
       is = answered_before c text e (Ok work) s h is;
-      written = subst (AppendsFront before now) (text_shown c name flags (edited_text (lines_of text) e.from e.to e.bytes) u scanned shows ∙ ap (shown_text c name flags (edited_text (lines_of text) e.from e.to e.bytes)) asked) w;
+      written = subst (AppendsFront before now) (text_shown c name flags (edited_text (lines_of text) e.from e.to e.bytes) u scanned shows ∙ ap (shown_lines c name flags (lines_of (edited_text (lines_of text) e.from e.to e.bytes))) asked) w;
     }
 
 pub refused : (c : Config) (name : List ℕ) (flags : Flags) (text : List ℕ) (e : EditValue) (s u : SessionValue) (fault : TextFault) (before now : Option (List ℕ)) → Shows c text s
-    → IsAnswer s.rows e.from e.to e.bytes (Err fault) → u ≡ s → Appends before now (refused_line fault) → IsReply c name flags text e u before now
+    → IsAnswer s.rows e.from e.to e.bytes (Err fault) → u ≡ s → Appends before now (codes "-- refused " ++ refusal_name fault ++ codes "\n") → IsReply c name flags text e u before now
 refused c name flags text e s u fault before now h is same w =
     record { answer = Err fault; is = answered_before c text e (Err fault) s h is; shows = subst (Shows c text) (sym same) h; written = w }
 
 pub refusal_begun : (c : Config) (name : List ℕ) (flags : Flags) (text : List ℕ) (e : EditValue) (s : SessionValue) (fault : TextFault) (before now : Option (List ℕ)) → Shows c text s
-    → IsAnswer s.rows e.from e.to e.bytes (Err fault) → AppendsFront before now (refused_line fault) → IsReplyBegun c name flags text e before now
+    → IsAnswer s.rows e.from e.to e.bytes (Err fault) → AppendsFront before now (codes "-- refused " ++ refusal_name fault ++ codes "\n") → IsReplyBegun c name flags text e before now
 refusal_begun c name flags text e s fault before now h is w =
     record { answer = Err fault; is = answered_before c text e (Err fault) s h is; written = w }
 
 -- ---- how a run ends
+
+answered_so_far : (count : ℕ) (c : Config) (name : List ℕ) (flags : Flags) (text : List ℕ) (given rest before now : Option (List ℕ)) (s : SessionValue)
+    → SoFar count c name flags text given rest before now s → IsAnswered c name flags text (record { given = given; before = before; now = now })
+answered_so_far count c name flags text given rest before now s so_far = record {
+  edits = so_far.edits;
+  answers = so_far.answers;
+  place = rest;
+  read = so_far.read;
+  answered = so_far.replayed.answered;
+  written = so_far.written;
+}
 
 -- the reading of the next command ended the run
 pub stopped : (f : RunFault) (count : ℕ) (c : Config) (name : List ℕ) (flags : Flags) (bytes : List ℕ) (given rest before now : Option (List ℕ)) (s : SessionValue) (n : Failures)
     → SoFar count c name flags (without_mark bytes) given rest before now s → IsCommandFault n.reads_before n.reads_after f → (f ≡ fault.Command → IfSome rest (λ xs. next_command xs ≡ Bad))
     → IsDriveFault c name flags bytes n (record { given = given; before = before; now = now }) f
 stopped fault.Read count c name flags bytes given rest before now s n so_far h bad =
-    (h, record { edits = so_far.edits; answers = so_far.answers; place = rest; all = record { read = so_far.read; answered = so_far.replayed.answered; written = so_far.written } })
+    (h, answered_so_far count c name flags (without_mark bytes) given rest before now s so_far)
 stopped fault.Memory count c name flags bytes given rest before now s n so_far h bad = begun_so_far count c name flags (without_mark bytes) given rest before now s so_far
-stopped fault.Command count c name flags bytes given rest before now s n so_far h bad = record {
-  edits = so_far.edits;
-  answers = so_far.answers;
-  place = rest;
-  all = record { read = so_far.read; answered = so_far.replayed.answered; written = so_far.written };
-  bad = inl (bad refl);
-}
+stopped fault.Command count c name flags bytes given rest before now s n so_far h bad = (answered_so_far count c name flags (without_mark bytes) given rest before now s so_far, inl (bad refl))
 stopped fault.Write count c name flags bytes given rest before now s n so_far h bad = absurd h
 stopped (fault.Text t) count c name flags bytes given rest before now s n so_far h bad = absurd h
 
 -- the commands are as many as are counted
 pub too_many : (c : Config) (name : List ℕ) (flags : Flags) (bytes : List ℕ) (given rest before now : Option (List ℕ)) (s : SessionValue) (n : Failures)
     → SoFar (2 ^ 64 - 1) c name flags (without_mark bytes) given rest before now s → IsDriveFault c name flags bytes n (record { given = given; before = before; now = now }) fault.Command
-too_many c name flags bytes given rest before now s n so_far = record {
-  edits = so_far.edits;
-  answers = so_far.answers;
-  place = rest;
-  all = record { read = so_far.read; answered = so_far.replayed.answered; written = so_far.written };
-  bad = inr so_far.counted;
-}
+too_many c name flags bytes given rest before now s n so_far = (answered_so_far (2 ^ 64 - 1) c name flags (without_mark bytes) given rest before now s so_far, inr so_far.counted)
 
 -- all commands were answered
 pub all_driven : (count : ℕ) (c : Config) (name : List ℕ) (flags : Flags) (text : List ℕ) (given rest before now : Option (List ℕ)) (s : SessionValue) (status : ℕ)
@@ -221,11 +221,8 @@ all_driven count c name flags text given rest before now s status so_far end is 
     let same : report s.config s.rows ≡ report c (lines_of (text_after_all text so_far.edits so_far.answers)) =
     ap (λ (o : Config). report o s.rows) shown.config ∙ ap (report c) (sym (lines_of-is (text_after_all text so_far.edits so_far.answers) s.rows shown.lines)) in
     record {
-      edits = so_far.edits;
-      answers = so_far.answers;
-      place = rest;
+      run = answered_so_far count c name flags text given rest before now s so_far;
       is_end = end;
-      all = record { read = so_far.read; answered = so_far.replayed.answered; written = so_far.written };
       is_status = is ∙ ap (λ problems. status_of problems flags.strict) same;
     }
 

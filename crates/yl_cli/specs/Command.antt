@@ -1,10 +1,10 @@
 -- Meaning: the commands of an editing run: `replace LINE COLUMN LINE COLUMN BYTES`, a line feed, and then that many bytes, in place of what stands
 -- between the two places. Lines and columns count from 0.
-use Rattle.std.specs.Prelude.{ℕ, zero, suc, ◌&&◌, ◌==◌, nat_le, if◌then◌else◌, List, [], ◌∷◌, ◌+◌, ◌*◌, ◌-◌, length, take, drop, codes, bytes_eq, Option, Some, None}
+use Rattle.std.specs.Prelude.{ℕ, zero, suc, ◌&&◌, ◌==◌, nat_le, if◌then◌else◌, List, [], ◌∷◌, ◌+◌, ◌*◌, ◌-◌, length, take, drop, codes, bytes_eq, Option, Some, None, option_and_then}
 use Rattle.std.specs.List.{slice_split}
-use Rattle.std.specs.Option.{option_map}
+use Rattle.std.specs.Option.{option_map, option_map_or}
 use Rattle.std.specs.Char.{is_ascii_digit}
-use Rattle.yl_text.specs.Char as char
+use Prim.Native.Char.{code}
 use Rattle.yl_text.specs.declared.position.Pos.{Pos}
 use Rattle.yl_cli.specs.declared.command.CommandLine.{CommandLine}
 use Rattle.yl_session.specs.Runs.{EditValue}
@@ -12,7 +12,7 @@ use Rattle.yl_session.specs.Runs.{EditValue}
 -- the number that these digits write after those of n
 abbrev pub number_after : ℕ → List ℕ → Option ℕ
 number_after n [] = Some n
-number_after n (c ∷ cs) = if is_ascii_digit c then number_after (n * 10 + (c - char.digit_zero)) cs else None
+number_after n (c ∷ cs) = if is_ascii_digit c then number_after (n * 10 + (c - code "0")) cs else None
 
 -- the number that a word of 1 to 10 decimal digits is
 abbrev pub number_of_word : List ℕ → Option ℕ
@@ -23,20 +23,13 @@ abbrev pub place_at : ℕ → ℕ → Pos
 place_at line col =
     if nat_le line 4294967295 && nat_le col 4294967295 then record { line = line; col = col } else record { line = 4294967295; col = 4294967295 }
 
-abbrev pub place_of_numbers : Option ℕ → Option ℕ → Option Pos
-place_of_numbers None col = None
-place_of_numbers (Some line) None = None
-place_of_numbers (Some line) (Some col) = Some (place_at line col)
-
 abbrev pub place_of_words : List ℕ → List ℕ → Option Pos
-place_of_words line col = place_of_numbers (number_of_word line) (number_of_word col)
+place_of_words line col = option_and_then (λ l. option_map (place_at l) (number_of_word col)) (number_of_word line)
 
 abbrev pub line_of_places : Option Pos → Option Pos → Option ℕ → Option CommandLine
-line_of_places None to size = None
-line_of_places (Some from) None size = None
-line_of_places (Some from) (Some to) None = None
 line_of_places (Some from) (Some to) (Some size) =
     if nat_le size 67108864 then Some (record { from = from; to = to; size = size }) else None
+line_of_places _ _ _ = None
 
 -- a name, a line and a column twice, and how many bytes follow
 abbrev pub line_of_words : List (List ℕ) → Option CommandLine
@@ -46,15 +39,11 @@ line_of_words (name ∷ line ∷ col ∷ end_line ∷ end_col ∷ size ∷ []) =
     else None
 line_of_words _ = None
 
--- the words of a line stand between single spaces
-abbrev pub command_line : List ℕ → Option CommandLine
-command_line line = line_of_words (slice_split (λ c. c == char.space) line)
-
 -- a line of at most so many bytes, and what follows its line feed
 abbrev pub first_line : ℕ → List ℕ → Option (List ℕ × List ℕ)
 first_line most [] = None
-first_line zero (x ∷ xs) = if x == char.line_feed then Some ([], xs) else None
-first_line (suc most) (x ∷ xs) = if x == char.line_feed then Some ([], xs) else option_map (λ p. (x ∷ p.0, p.1)) (first_line most xs)
+first_line zero (x ∷ xs) = if x == code "\n" then Some ([], xs) else None
+first_line (suc most) (x ∷ xs) = if x == code "\n" then Some ([], xs) else option_map (λ p. (x ∷ p.0, p.1)) (first_line most xs)
 
 -- what the next bytes are: a command, and what follows it; the end; or no command
 pub data Next : Type 0 where
@@ -62,18 +51,14 @@ pub data Next : Type 0 where
   End : Next
   Bad : Next
 
+-- the command that a line asks for, and what follows its bytes
 abbrev pub next_of_line : Option CommandLine → List ℕ → Next
-next_of_line None rest = Bad
 next_of_line (Some c) rest =
-    if nat_le c.size (length rest)
-    then Command (record { from = c.from; to = c.to; bytes = take c.size rest }) (drop c.size rest)
-    else Bad
+    if nat_le c.size (length rest) then Command (record { from = c.from; to = c.to; bytes = take c.size rest }) (drop c.size rest) else Bad
+next_of_line None rest = Bad
 
--- the longest line of a command has 62 bytes: its name, five numbers of 10 digits, and five spaces
-abbrev pub next_after : Option (List ℕ × List ℕ) → Next
-next_after None = Bad
-next_after (Some (line, rest)) = next_of_line (command_line line) rest
-
+-- the longest line of a command has 62 bytes: its name, five numbers of 10 digits, and five spaces, which stand between them
 abbrev pub next_command : List ℕ → Next
 next_command [] = End
-next_command (x ∷ xs) = next_after (first_line 62 (x ∷ xs))
+next_command bytes =
+    option_map_or (λ p. next_of_line (line_of_words (slice_split (λ c. c == code " ") p.0)) p.1) (first_line 62 bytes) Bad

@@ -1,5 +1,7 @@
 -- Meaning: what an editing run writes: the report of the text, then what each command is answered.
-use Rattle.std.specs.Prelude.{◌≡◌, ℕ, ◌<◌, ◌-◌, ◌^◌, if◌then◌else◌, List, [], ◌∷◌, ◌++◌, length, codes, decimal, Option, Some, None, Result, Ok, Err, IfSome, ◌⊎◌}
+use Rattle.std.specs.Prelude.{◌≡◌, ℕ, ◌<◌, ◌-◌, ◌^◌, List, [], ◌∷◌, ◌++◌, length, codes, decimal, Option, Some, None, Result, Ok, Err, IfSome, IsSomeAnd, ◌⊎◌}
+use Rattle.std.specs.Bool.{then_some}
+use Rattle.std.specs.Option.{option_map_or}
 use Rattle.std.specs.Io.KnownBytes.{Appends, IsAtEnd, Keeps}
 use Rattle.yl_text.specs.declared.fault.TextFault.{TextFault}
 use Rattle.yl_text.specs.declared.fault.TextFault.TheVariants.{NotUtf8, Range, TooLarge, Memory}
@@ -26,13 +28,10 @@ AreCommands bytes (e ∷ edits) rest = (mid : List ℕ) × (next_command bytes �
 
 -- these commands were read of the bytes that were given, where they are known
 abbrev pub WereRead : Option (List ℕ) → Option (List ℕ) → List EditValue → Type 0
-WereRead None rest edits = Unit {0}
-WereRead (Some bytes) None edits = ⊥
-WereRead (Some bytes) (Some rest) edits = AreCommands bytes edits rest
+WereRead given rest edits = IfSome given (λ bytes. IsSomeAnd rest (λ left. AreCommands bytes edits left))
 
 -- ---- what is written
 
--- the names of refusals
 abbrev pub refusal_name : TextFault → List ℕ
 refusal_name (NotUtf8 n) = codes "NotUtf8"
 refusal_name Range = codes "Range"
@@ -41,38 +40,25 @@ refusal_name Memory = codes "Memory"
 
 -- the line after a report: its status, and how many lines were scanned where that is asked
 abbrev pub ok_line : ℕ → Option ℕ → List ℕ
-ok_line status None = codes "-- ok " ++ decimal status ++ codes "\n"
-ok_line status (Some scanned) = codes "-- ok " ++ decimal status ++ (codes " " ++ decimal scanned) ++ codes "\n"
-
-abbrev pub refused_line : TextFault → List ℕ
-refused_line f = codes "-- refused " ++ refusal_name f ++ codes "\n"
+ok_line status scanned = codes "-- ok " ++ decimal status ++ option_map_or (λ n. codes " " ++ decimal n) scanned [] ++ codes "\n"
 
 -- the report of these lines and the line after it
 abbrev pub shown_lines : Config → (name : List ℕ) → Flags → List RowValue → Option ℕ → List ℕ
 shown_lines c name flags rows scanned = report_text name (report c rows) flags.no_warnings ++ ok_line (status_of (report c rows) flags.strict) scanned
 
--- the same of a text
-abbrev pub shown_text : Config → (name : List ℕ) → Flags → (text : List ℕ) → Option ℕ → List ℕ
-shown_text c name flags text scanned = shown_lines c name flags (lines_of text) scanned
-
--- how many lines were scanned, where that is asked
-abbrev pub scanned_shown : Flags → Work → Option ℕ
-scanned_shown flags work = if flags.work then Some work.scanned else None
-
 -- what an edit that left this text is answered
 abbrev pub reply : Config → (name : List ℕ) → Flags → (text : List ℕ) → Result Work TextFault → List ℕ
-reply c name flags text (Ok work) = shown_text c name flags text (scanned_shown flags work)
-reply c name flags text (Err f) = refused_line f
+reply c name flags text (Ok work) = shown_lines c name flags (lines_of text) (then_some flags.work work.scanned)
+reply c name flags text (Err f) = codes "-- refused " ++ refusal_name f ++ codes "\n"
 
 -- what the edits of a text are answered, one after another
 abbrev pub replies : Config → (name : List ℕ) → Flags → (text : List ℕ) → List EditValue → List (Result Work TextFault) → List ℕ
-replies c name flags text [] answers = []
-replies c name flags text (e ∷ edits) [] = []
 replies c name flags text (e ∷ edits) (r ∷ answers) = reply c name flags (text_after text e r) r ++ replies c name flags (text_after text e r) edits answers
+replies c name flags text _ _ = []
 
 -- all that is written of a text and its edits
 abbrev pub text_of_run : Config → (name : List ℕ) → Flags → (text : List ℕ) → List EditValue → List (Result Work TextFault) → List ℕ
-text_of_run c name flags text edits answers = shown_text c name flags text None ++ replies c name flags text edits answers
+text_of_run c name flags text edits answers = shown_lines c name flags (lines_of text) None ++ replies c name flags text edits answers
 
 -- ---- a run
 
@@ -82,36 +68,21 @@ pub record Devices : Type 0 where
   pub before : Option (List ℕ)
   pub now : Option (List ℕ)
 
--- these commands were read up to the rest, each has the answer that it gets at the text of that moment, and all that they are answered
--- is written
-pub record IsAnswered (c : Config) (name : List ℕ) (flags : Flags) (text : List ℕ) (d : Devices) (rest : Option (List ℕ)) (edits : List EditValue) (answers : List (Result Work TextFault)) : Type 0 where
-  pub read : WereRead d.given rest edits
+-- all commands before a place were read, each has the answer that it gets at the text of that moment, and all that they are answered is
+-- written
+pub record IsAnswered (c : Config) (name : List ℕ) (flags : Flags) (text : List ℕ) (d : Devices) : Type 0 where
+  pub edits : List EditValue
+  pub answers : List (Result Work TextFault)
+  pub place : Option (List ℕ)
+  pub read : WereRead d.given place edits
   pub answered : AreAnswers text edits answers
   pub written : Appends d.before d.now (text_of_run c name flags text edits answers)
 
--- all commands up to the end were answered, and this is the status of the text that they left
+-- so were all commands up to the end, and this is the status of the text that they left
 pub record IsDriven (c : Config) (name : List ℕ) (flags : Flags) (text : List ℕ) (d : Devices) (status : ℕ) : Type 0 where
-  pub edits : List EditValue
-  pub answers : List (Result Work TextFault)
-  pub place : Option (List ℕ)
-  pub is_end : IsAtEnd place
-  pub all : IsAnswered c name flags text d place edits answers
-  pub is_status : status ≡ status_of (report c (lines_of (text_after_all text edits answers))) flags.strict
-
--- all commands before a place were answered
-pub record IsStopped (c : Config) (name : List ℕ) (flags : Flags) (text : List ℕ) (d : Devices) : Type 0 where
-  pub edits : List EditValue
-  pub answers : List (Result Work TextFault)
-  pub place : Option (List ℕ)
-  pub all : IsAnswered c name flags text d place edits answers
-
--- all commands before a place were answered, and there stands no command, or they are as many as are counted
-pub record IsBadCommand (c : Config) (name : List ℕ) (flags : Flags) (text : List ℕ) (d : Devices) : Type 0 where
-  pub edits : List EditValue
-  pub answers : List (Result Work TextFault)
-  pub place : Option (List ℕ)
-  pub all : IsAnswered c name flags text d place edits answers
-  pub bad : (IfSome place (λ bytes. next_command bytes ≡ Bad)) ⊎ (length edits ≡ 2 ^ 64 - 1)
+  pub run : IsAnswered c name flags text d
+  pub is_end : IsAtEnd run.place
+  pub is_status : status ≡ status_of (report c (lines_of (text_after_all text run.edits run.answers))) flags.strict
 
 -- what is written is a beginning of what some answers ask for
 pub record IsBegun (c : Config) (name : List ℕ) (flags : Flags) (text : List ℕ) (d : Devices) : Type 0 where
@@ -121,10 +92,11 @@ pub record IsBegun (c : Config) (name : List ℕ) (flags : Flags) (text : List �
   pub written : AppendsFront d.before d.now (text_of_run c name flags text edits answers)
 
 -- why a run may end early: for a device only where its failures rose. On a failed read and at a bad command all that the commands
--- before it are answered is written
+-- before it are answered is written. A bad command is a place where none stands, or that of one more than are counted
 abbrev pub IsDriveFault : Config → (name : List ℕ) → Flags → (bytes : List ℕ) → Failures → Devices → RunFault → Type 0
 IsDriveFault c name flags bytes n d (fault.Text f) = IsBadText (without_mark bytes) f × Keeps d.before d.now
-IsDriveFault c name flags bytes n d fault.Read = (n.reads_before < n.reads_after) × IsStopped c name flags (without_mark bytes) d
+IsDriveFault c name flags bytes n d fault.Read = (n.reads_before < n.reads_after) × IsAnswered c name flags (without_mark bytes) d
 IsDriveFault c name flags bytes n d fault.Write = (n.writes_before < n.writes_after) × IsBegun c name flags (without_mark bytes) d
-IsDriveFault c name flags bytes n d fault.Command = IsBadCommand c name flags (without_mark bytes) d
+IsDriveFault c name flags bytes n d fault.Command = (run : IsAnswered c name flags (without_mark bytes) d)
+    × ((IfSome run.place (λ rest. next_command rest ≡ Bad)) ⊎ (length run.edits ≡ 2 ^ 64 - 1))
 IsDriveFault c name flags bytes n d fault.Memory = IsBegun c name flags (without_mark bytes) d

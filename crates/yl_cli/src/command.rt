@@ -1,8 +1,7 @@
 //! The line of a command.
 ghost use Rattle.std.specs.Prelude.{◌≡◌, ◌==◌, ◌<◌, length, map, MatchOption};
 ghost use Rattle.std.specs.List.{slice_split};
-ghost use Rattle.yl_text.specs.Char.{space};
-ghost use Rattle.yl_cli.specs.Command.{command_line, line_of_places, line_of_words, number_of_word, place_at, place_of_words};
+ghost use Rattle.yl_cli.specs.Command.{line_of_places, line_of_words, number_of_word, place_at, place_of_words};
 
 use arrayvec::ArrayVec;
 use yl_text::Pos;
@@ -97,8 +96,8 @@ fn line_of_words(words: &[&[u8]]) -> Option<CommandLine>
 // The words of a line, which stand between single spaces, or `None` where they are more than a command has. It takes
 // no memory.
 fn words_of(line: &[u8]) -> Option<Words<'_>>
-    ensures { MatchOption result (6 < length (slice_split (λ c. c == space) line.now))
-        (λ words. map (λ word. word.now) words.items ≡ slice_split (λ c. c == space) line.now) }
+    ensures { MatchOption result (6 < length (slice_split (λ c. c == 0x20) line.now))
+        (λ words. map (λ word. word.now) words.items ≡ slice_split (λ c. c == 0x20) line.now) }
 {
     let mut words = Words::new();
     for word in line.split(|c| *c == b' ') {
@@ -111,7 +110,7 @@ fn words_of(line: &[u8]) -> Option<Words<'_>>
 
 /// What a command's line asks for, or `None` where it is none. It takes no memory.
 pub(crate) fn command_line(line: &[u8]) -> Option<CommandLine>
-    ensures { result ≡ command_line line.now }
+    ensures { result ≡ line_of_words (slice_split (λ c. c == 0x20) line.now) }
 {
     let words = words_of(line)?;
     line_of_words(words.as_slice())

@@ -2,6 +2,7 @@
 ghost use Rattle.std.specs.Prelude.{◌≡◌, ℕ, List, ◌-◌, ◌^◌, ◌<◌, ◌≤◌, ◌++◌, codes, decimal, length, IfOk, IfErr, OnOk, OnErr, Option};
 ghost use Rattle.std.specs.List.{flat_map};
 ghost use Rattle.std.specs.Io.KnownBytes.{Appends, IsAtEnd};
+ghost use Rattle.std.specs.Bool.{then_some};
 ghost use Rattle.yl_text.specs.declared.TheConstants.{MAX_BYTES};
 ghost use Rattle.yl_text.specs.declared.fault.TextFault.{TextFault};
 ghost use Rattle.yl_text.specs.Watched.{device_of, failures_of};
@@ -9,7 +10,7 @@ ghost use Rattle.yl_config.specs.declared.config.Config.{Config};
 ghost use Rattle.yl_devices.specs.Written.{AppendsFront};
 ghost use Rattle.yl_session.specs.State.{Shows};
 ghost use Rattle.yl_devices.specs.Text.{without_mark};
-ghost use Rattle.yl_cli.specs.Drive.{IsDriveFault, IsDriven, ok_line, refusal_name, refused_line, scanned_shown, shown_lines};
+ghost use Rattle.yl_cli.specs.Drive.{IsDriveFault, IsDriven, ok_line, refusal_name, shown_lines};
 ghost use Rattle.yl_cli.specs.Reading.{IsReply, IsReplyBegun};
 
 use crate::ahead::Ahead;
@@ -84,9 +85,9 @@ fn refused_parts<'a>(name: &'a str) -> [&'a [u8]; 3]
 // Writes the line of an edit that is refused.
 fn write_refused<W: Write>(fault: TextFault, out: &mut Watched<W>) -> Result<(), WriteFault>
     requires { failures_of out.old < 2 ^ 64 - 1 }
-    ensures ok { OnOk result (Appends (W.contents (device_of out.old)) (W.contents (device_of out.new)) (refused_line fault)) }
+    ensures ok { OnOk result (Appends (W.contents (device_of out.old)) (W.contents (device_of out.new)) (codes "-- refused " ++ refusal_name fault ++ codes "\n")) }
     ensures quiet { OnOk result (failures_of out.new ≡ failures_of out.old) }
-    ensures err { OnErr result (AppendsFront (W.contents (device_of out.old)) (W.contents (device_of out.new)) (refused_line fault)) }
+    ensures err { OnErr result (AppendsFront (W.contents (device_of out.old)) (W.contents (device_of out.new)) (codes "-- refused " ++ refusal_name fault ++ codes "\n")) }
     ensures failed { OnErr result (failures_of out.old < failures_of out.new) }
 {
     write_parts(out, &refused_parts(refusal_name(fault)))
@@ -124,7 +125,7 @@ fn opened<S: LineStore>(alloc: S::Alloc, config: Config, text: &str) -> Result<S
 
 // How many lines an edit scanned, where that is asked.
 fn scanned_shown(flags: Flags, work: Work) -> Option<u32>
-    ensures { result ≡ scanned_shown flags work }
+    ensures { result ≡ then_some flags.work work.scanned }
 {
     if flags.work { Some(work.scanned) } else { None }
 }

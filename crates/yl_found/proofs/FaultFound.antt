@@ -2,7 +2,7 @@
 use Rattle.std.proofs.Common.{◌≡◌, ℕ, zero, suc, ◌+◌, ◌≤◌, Bool, true, false, List, [], ◌∷◌, ◌++◌, length, take, drop, Option, Some, None, cond, refl, ap, sym, subst, ◌∙◌, arith}
 use Rattle.std.specs.Prelude.{is_some, slice_get}
 use Rattle.std.specs.List.{AllByRecursion, cons_option, filter, filter_map}
-use Rattle.std.specs.Option.{option_map, option_to_list}
+use Rattle.std.specs.Option.{option_map, option_to_list, option_map_or}
 use Rattle.std.proofs.lemmas.List.{length-append, take-append-drop, take_all}
 use Rattle.std.proofs.lemmas.Option.{slice_get_within}
 use Rattle.yl_text.specs.Finding.{FindingValue}
@@ -23,7 +23,7 @@ use Rattle.yl_sections.specs.Owned.{section_fault_value}
 use Rattle.yl_sections.specs.declared.fault.SectionFault.{SectionFault}
 use Rattle.yl_rejudge.specs.Places.{rows_kept}
 use Rattle.yl_rejudge.proofs.KeptRows.{got}
-use Rattle.yl_lint.specs.TextReport.{end_of_lines, fault_in_sections, fault_or_later, finding_of_fault, findings_in_lines, findings_in_sections, shown}
+use Rattle.yl_lint.specs.TextReport.{end_of_lines, fault_in_sections, finding_of_fault, findings_in_lines, findings_in_sections, shown}
 use Rattle.yl_lint.specs.Unsilenced.{unsilenced_of_kept}
 use Rattle.yl_found.specs.Faultless.{faultless}
 use Rattle.yl_found.specs.Found.{all_parts, found_by}
@@ -40,7 +40,7 @@ use Rattle.yl_found.proofs.WithoutFaults.{findings_faultless, measured_faultless
 behind_sound : (line : ℕ) (end : Pos) (xs ys : List KeptValue) → AllByRecursion IsSound xs → fault_in_sections line end (xs ++ ys) ≡ fault_in_sections (line + rows_kept xs) end ys
 behind_sound line end [] ys h = ap (λ (n : ℕ). fault_in_sections n end ys) (omega arith)
 behind_sound line end (x ∷ xs) ys h =
-    ap (λ (f : Option SectionFaultValue). fault_or_later line x.rows end (xs ++ ys) f (fault_in_sections (line + x.rows) end (xs ++ ys))) h.0
+    ap (λ (f : Option SectionFaultValue). option_map_or (λ f. finding_of_fault line x.rows end (xs ++ ys) f ∷ []) f (fault_in_sections (line + x.rows) end (xs ++ ys))) h.0
     ∙ (behind_sound (line + x.rows) end xs ys h.1 ∙ ap (λ (n : ℕ). fault_in_sections n end ys) (omega arith))
 
 -- it is that of the first section with one
@@ -53,7 +53,7 @@ fault_first ks n row end k f first e is =
     ∙ (behind_sound 0 end (take n ks) (drop n ks) first.upto.sound
     ∙ (ap (λ (m : ℕ). fault_in_sections m end (drop n ks)) line
     ∙ (ap (fault_in_sections row end) (one_at ks n k (slice_get_within ks n k e) (got ks n k e))
-    ∙ ap (λ (o : Option SectionFaultValue). fault_or_later row k.rows end rest o (fault_in_sections (row + k.rows) end rest)) is)))
+    ∙ ap (λ (o : Option SectionFaultValue). option_map_or (λ f. finding_of_fault row k.rows end rest f ∷ []) o (fault_in_sections (row + k.rows) end rest)) is)))
 
 -- where none has one
 pub fault_none : (ks : List KeptValue) (n row : ℕ) (end : Pos) → IsFirstFault ks n row → length ks ≤ n → fault_in_sections 0 end ks ≡ []
@@ -130,7 +130,7 @@ pub fault_few : (line : ℕ) (end : Pos) (ks : List KeptValue) → length (fault
 fault_few line end [] = omega arith
 fault_few line end (k ∷ ks) = by k.fault (fault_few (line + k.rows) end ks)
   where
-    by : (o : Option SectionFaultValue) → length (fault_in_sections (line + k.rows) end ks) ≤ 1 → length (fault_or_later line k.rows end ks o (fault_in_sections (line + k.rows) end ks)) ≤ 1
+    by : (o : Option SectionFaultValue) → length (fault_in_sections (line + k.rows) end ks) ≤ 1 → length (option_map_or (λ f. finding_of_fault line k.rows end ks f ∷ []) o (fault_in_sections (line + k.rows) end ks)) ≤ 1
     by None h = h
     by (Some f) h = omega arith
 

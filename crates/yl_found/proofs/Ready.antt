@@ -2,6 +2,7 @@
 use Rattle.std.proofs.Common.{◌≡◌, ℕ, ◌+◌, Bool, true, false, List, [], ◌∷◌, ◌++◌, Option, Some, None, refl, ap, sym, subst, ◌∙◌}
 use Rattle.std.specs.Prelude.{not, slice_get}
 use Rattle.std.specs.List.{AllByRecursion, filter}
+use Rattle.std.specs.Option.{option_map_or}
 use Rattle.yl_text.specs.Finding.{FindingValue}
 use Rattle.yl_text.specs.Lines.{RowValue}
 use Rattle.yl_text.specs.declared.position.Pos.{Pos}
@@ -13,7 +14,7 @@ use Rattle.yl_report.specs.Heard.{nothing_silenced}
 use Rattle.yl_report.specs.Report.{ProblemValue, report_of}
 use Rattle.yl_sections.specs.Kept.{KeptValue, SectionFaultValue}
 use Rattle.yl_lint.specs.Onward.{onward_in_sections}
-use Rattle.yl_lint.specs.TextReport.{comments_in_sections, end_of_lines, fault_in_sections, fault_or_later, findings_in_lines, first_text, found_of_kept, report_by, report_of_kept, shown}
+use Rattle.yl_lint.specs.TextReport.{comments_in_sections, end_of_lines, fault_in_sections, findings_in_lines, first_text, found_of_kept, report_by, report_of_kept, shown, finding_of_fault}
 use Rattle.yl_parting.specs.Order.{IsInOrder}
 use Rattle.yl_parting.specs.Parts.{is_no_fault, with_fault, without_fault}
 use Rattle.yl_parting.proofs.Faults.{report_in_order}
@@ -58,7 +59,7 @@ suppressed_in_order config rows ks plain =
 pub no_fault_in : (line : ℕ) (end : Pos) (ks : List KeptValue) → AllByRecursion IsSound ks → fault_in_sections line end ks ≡ []
 no_fault_in line end [] h = refl
 no_fault_in line end (k ∷ ks) h =
-    ap (λ (f : Option SectionFaultValue). fault_or_later line k.rows end ks f (fault_in_sections (line + k.rows) end ks)) h.0 ∙ no_fault_in (line + k.rows) end ks h.1
+    ap (λ (f : Option SectionFaultValue). option_map_or (λ f. finding_of_fault line k.rows end ks f ∷ []) f (fault_in_sections (line + k.rows) end ks)) h.0 ∙ no_fault_in (line + k.rows) end ks h.1
 
 -- sections without fault have none that is told
 pub none_told : (config : Config) (rows : List RowValue) (ks : List KeptValue) → AllByRecursion IsSound ks → fault_told config rows ks ≡ None

@@ -5,6 +5,7 @@ use Rattle.std.specs.List.{AllByRecursion, filter}
 use Rattle.std.proofs.lemmas.Bool.{lt-ltb, le-ltb}
 use Rattle.std.proofs.lemmas.List.{map-append}
 use Rattle.std.proofs.lemmas.List.Elements.{filter-append}
+use Rattle.std.specs.Option.{option_map_or}
 use Rattle.yl_text.proofs.Every.{all_back, all_front, all_then}
 use Rattle.yl_text.specs.Finding.{FindingValue}
 use Rattle.yl_text.specs.Lines.{RowValue}
@@ -20,10 +21,10 @@ use Rattle.yl_report.specs.Directive.{disables_file, is_silenced}
 use Rattle.yl_report.specs.Heard.{is_heard, nothing_silenced}
 use Rattle.yl_report.specs.Report.{ProblemValue, is_syntax, report_of}
 use Rattle.yl_report.proofs.Heard.{heard_report}
-use Rattle.yl_sections.specs.Kept.{KeptValue, SectionFaultValue, Here, Behind}
+use Rattle.yl_sections.specs.Kept.{KeptValue, SectionFaultValue, Here, Behind, unless_fault}
 use Rattle.yl_rejudge.specs.Places.{rows_kept}
 use Rattle.yl_lint.specs.Onward.{onward_in_sections}
-use Rattle.yl_lint.specs.TextReport.{comments_in_sections, end_of_lines, fault_in_sections, fault_or_later, findings_in_lines, findings_in_sections, first_text, report_by, report_of_kept, shown, unless_fault}
+use Rattle.yl_lint.specs.TextReport.{comments_in_sections, end_of_lines, fault_in_sections, findings_in_lines, findings_in_sections, first_text, report_by, report_of_kept, shown, finding_of_fault}
 use Rattle.yl_lint.specs.Unsilenced.{unsilenced_of_kept}
 use Rattle.yl_lint.proofs.Onward.{whole_looks_back}
 use Rattle.yl_parting.specs.Parts.{parted, with_fault}
@@ -80,7 +81,7 @@ fault_of_all line end [] = inl refl
 fault_of_all line end (k ∷ ks) = by k.fault (fault_of_all (line + k.rows) end ks)
   where
     by : (f : Option SectionFaultValue) → (fault_in_sections (line + k.rows) end ks ≡ []) ⊎ ((x : FindingValue) × (fault_in_sections (line + k.rows) end ks ≡ x ∷ []) × (x.rule ≡ Syntax))
-        → (fault_or_later line k.rows end ks f (fault_in_sections (line + k.rows) end ks) ≡ []) ⊎ ((x : FindingValue) × (fault_or_later line k.rows end ks f (fault_in_sections (line + k.rows) end ks) ≡ x ∷ []) × (x.rule ≡ Syntax))
+        → (option_map_or (λ f. finding_of_fault line k.rows end ks f ∷ []) f (fault_in_sections (line + k.rows) end ks) ≡ []) ⊎ ((x : FindingValue) × (option_map_or (λ f. finding_of_fault line k.rows end ks f ∷ []) f (fault_in_sections (line + k.rows) end ks) ≡ x ∷ []) × (x.rule ≡ Syntax))
     by None later = later
     by (Some (Here p text)) later = inr (_, refl, refl)
     by (Some (Behind text)) later = inr (_, refl, refl)

@@ -3,6 +3,7 @@ use Rattle.std.proofs.Common.{◌≡◌, ℕ, ◌+◌, ◌<◌, ◌≤◌, Bool,
 use Rattle.std.specs.List.{AllByRecursion}
 use Rattle.std.specs.Option.{option_or}
 use Rattle.std.proofs.lemmas.List.{map-append}
+use Rattle.std.specs.Option.{option_map_or}
 use Rattle.yl_text.proofs.Every.{all_both}
 use Rattle.yl_text.specs.declared.position.Pos.{Pos}
 use Rattle.yl_text.specs.declared.finding.RuleId.{RuleId}
@@ -18,9 +19,9 @@ use Rattle.yl_indentation.specs.Measures.{empty_measure, and_later, measure_at, 
 use Rattle.yl_indentation.specs.Onward.{onward_problems}
 use Rattle.yl_indentation.specs.Problems.{finding_at, finding_by, finding_by_width, is_indented, not_as_expected, width_by_spaces}
 use Rattle.yl_indentation.proofs.Measured.{and_later_assoc, measure_is_local}
-use Rattle.yl_sections.specs.Kept.{KeptValue, SectionFaultValue}
+use Rattle.yl_sections.specs.Kept.{KeptValue, SectionFaultValue, unless_fault}
 use Rattle.yl_rejudge.specs.Places.{rows_kept}
-use Rattle.yl_lint.specs.TextReport.{moved, shown, unless_fault, fault_or_later, fault_in_sections, comments_in_sections, moved_comment, facts_in_sections}
+use Rattle.yl_lint.specs.TextReport.{moved, shown, fault_in_sections, comments_in_sections, moved_comment, facts_in_sections, finding_of_fault}
 use Rattle.yl_lint.specs.Onward.{onward_in_section, onward_in_sections}
 use Rattle.yl_found.specs.Plain.{IsPlain}
 use Rattle.yl_overview.specs.Overview.{IsSilent}
@@ -36,7 +37,7 @@ shown_plain (k ∷ ks) h = ap (λ (f : Option SectionFaultValue). k ∷ unless_f
 
 pub no_fault : (line : ℕ) (end : Pos) (ks : List KeptValue) → AllByRecursion IsPlain ks → fault_in_sections line end ks ≡ []
 no_fault line end [] h = refl
-no_fault line end (k ∷ ks) h = ap (λ (f : Option SectionFaultValue). fault_or_later line k.rows end ks f (fault_in_sections (line + k.rows) end ks)) h.0.sound ∙ no_fault (line + k.rows) end ks h.1
+no_fault line end (k ∷ ks) h = ap (λ (f : Option SectionFaultValue). option_map_or (λ f. finding_of_fault line k.rows end ks f ∷ []) f (fault_in_sections (line + k.rows) end ks)) h.0.sound ∙ no_fault (line + k.rows) end ks h.1
 
 pub no_comments : (line : ℕ) (ks : List KeptValue) → AllByRecursion IsSilent ks → comments_in_sections line ks ≡ []
 no_comments line [] h = refl

@@ -10,8 +10,8 @@ use Rattle.yl_indentation.proofs.Onward.{both_count, facts_count, problems_look_
 use Rattle.yl_report.specs.Directive.{disables_file, is_silenced}
 use Rattle.yl_report.specs.Report.{report_of}
 use Rattle.yl_config.specs.Config.{levels_of, options_of}
-use Rattle.yl_sections.specs.Kept.{KeptValue, SectionFaultValue}
-use Rattle.yl_lint.specs.TextReport.{comments_in_sections, end_of_lines, facts_in_sections, fault_in_sections, findings_in_lines, findings_in_section, findings_in_sections, first_text, moved, report_of_kept, shown, unless_fault}
+use Rattle.yl_sections.specs.Kept.{KeptValue, SectionFaultValue, unless_fault}
+use Rattle.yl_lint.specs.TextReport.{comments_in_sections, end_of_lines, facts_in_sections, fault_in_sections, findings_in_lines, findings_in_section, findings_in_sections, first_text, moved, report_of_kept, shown}
 use Rattle.yl_lint.specs.Onward.{onward_in_section, onward_in_sections, line_behind, SectionsLookBack, FirstSectionsLookBack, ShownLooksBack, FoundLooksBack, ReportLooksBack}
 
 -- the measure up to the end of a section and of more

@@ -4,6 +4,7 @@ use Rattle.std.proofs.lemmas.List.{append-nil}
 use Rattle.std.specs.List.{slice_get}
 use Rattle.std.specs.Prelude.{IfOk}
 use Rattle.std.specs.Str.{chars}
+use Rattle.std.specs.Option.{option_map_or}
 use Rattle.yl_text.specs.declared.position.Pos.{Pos}
 use Rattle.yl_text.specs.Finding.{FindingValue}
 use Rattle.yl_text.specs.Lines.{RowValue, break_bytes, text_of, IsLines, lines_of}
@@ -15,7 +16,7 @@ use Rattle.yl_rules.specs.RunsLeft.{RunReaderValue, runs_left}
 use Rattle.yl_config.specs.declared.config.Config.{Config}
 use Rattle.yl_config.specs.Config.{options_of}
 use Rattle.yl_sections.specs.Kept.{KeptValue}
-use Rattle.yl_lint.specs.TextReport.{end_of_lines, findings_from, findings_in_lines, first_text, kept_of_text, report, report_of_kept, width_of_line}
+use Rattle.yl_lint.specs.TextReport.{end_of_lines, findings_from, findings_in_lines, first_text, kept_of_text, report, report_of_kept}
 
 -- a line more is passed by a reader
 pub line_passed : (o : RowOptions) (old new : RunReaderValue) (found found' runs runs' : List FindingValue) (row : RowValue) (rows : List RowValue)
@@ -34,21 +35,21 @@ end_left count last [] = record { line = count - 1; col = length (chars last) }
 end_left count last (row ∷ rows) = end_left (count + 1) row.text rows
 
 last_end : (count : ℕ) (row : RowValue) (rows : List RowValue)
-    → end_left (count + 1) row.text rows ≡ record { line = count + length rows; col = width_of_line (slice_get (row ∷ rows) (length rows)) }
+    → end_left (count + 1) row.text rows ≡ record { line = count + length rows; col = option_map_or (λ (row : RowValue). length (chars row.text)) (slice_get (row ∷ rows) (length rows)) 0 }
 last_end count row [] =
     let places : count + 1 - 1 ≡ count + 0 = omega arith in
     ap (λ (n : ℕ). record { line = n; col = length (chars row.text) }) places
 last_end count row (next ∷ rows) =
     let places : count + 1 + length rows ≡ count + length (next ∷ rows) = omega arith in
-    last_end (count + 1) next rows ∙ ap (λ (n : ℕ). record { line = n; col = width_of_line (slice_get (next ∷ rows) (length rows)) }) places
+    last_end (count + 1) next rows ∙ ap (λ (n : ℕ). record { line = n; col = option_map_or (λ (row : RowValue). length (chars row.text)) (slice_get (next ∷ rows) (length rows)) 0 }) places
 
 pub whole_end : (row : RowValue) (rows : List RowValue) → end_left 0 [] (row ∷ rows) ≡ end_of_lines (row ∷ rows)
 whole_end row rows =
     let places : 0 + length rows ≡ length (row ∷ rows) - 1 = omega arith in
     let before : length rows ≡ length (row ∷ rows) - 1 = omega arith in
     last_end 0 row rows
-    ∙ (ap (λ (n : ℕ). record { line = n; col = width_of_line (slice_get (row ∷ rows) (length rows)) }) places
-    ∙ ap (λ (n : ℕ). record { line = length (row ∷ rows) - 1; col = width_of_line (slice_get (row ∷ rows) n) }) before)
+    ∙ (ap (λ (n : ℕ). record { line = n; col = option_map_or (λ (row : RowValue). length (chars row.text)) (slice_get (row ∷ rows) (length rows)) 0 }) places
+    ∙ ap (λ (n : ℕ). record { line = length (row ∷ rows) - 1; col = option_map_or (λ (row : RowValue). length (chars row.text)) (slice_get (row ∷ rows) n) 0 }) before)
 
 -- the first line of a text has no more bytes than the text
 pub first_short : (t : List ℕ) (p : RowValue) (ps : List RowValue) → lines_of t ≡ p ∷ ps → length p.text ≤ length t

@@ -5,6 +5,8 @@ use Rattle.std.proofs.lemmas.List.{same_lists, places, map-append, length-map, t
 use Rattle.std.proofs.lemmas.Bool.{ne_eqb, eqb-true}
 use Rattle.std.proofs.lemmas.Option.{slice_get-get_or, slice_get_read}
 use Rattle.yl_text.specs.Character.{starts_by}
+use Rattle.std.specs.Option.{option_map_or}
+use Rattle.std.specs.Str.{chars}
 use Rattle.yl_text.specs.Finding.{FindingValue, at_each}
 use Rattle.yl_text.specs.Lines.{RowValue}
 use Rattle.yl_text.specs.declared.position.Pos.{Pos}
@@ -21,7 +23,7 @@ use Rattle.yl_rules.specs.Rows.{row_findings}
 use Rattle.yl_rules.specs.Runs.{run_findings}
 use Rattle.yl_config.specs.declared.config.Config.{Config}
 use Rattle.yl_config.specs.Config.{options_of}
-use Rattle.yl_lint.specs.TextReport.{findings_from, findings_in_lines, text_in, width_of_line, end_of_lines}
+use Rattle.yl_lint.specs.TextReport.{findings_from, findings_in_lines, end_of_lines}
 use Rattle.yl_lint.proofs.Rows.{rows_at}
 use Rattle.yl_lint.specs.Alike.{IsAlike, AreAlike, AreReadAlike}
 
@@ -187,8 +189,8 @@ runs_same config o old new s =
 
 end_same : (config : Config) (old new : List RowValue) → AreSame config old new → end_of_lines new ≡ end_of_lines old
 end_same config old new s =
-    ap (λ n. place (n - 1) (width_of_line (slice_get new (length new - 1)))) s.count
-    ∙ ap (λ (r : Option RowValue). place (length old - 1) (width_of_line r)) s.last
+    ap (λ n. place (n - 1) (option_map_or (λ (row : RowValue). length (chars row.text)) (slice_get new (length new - 1)) 0)) s.count
+    ∙ ap (λ (r : Option RowValue). place (length old - 1) (option_map_or (λ (row : RowValue). length (chars row.text)) r 0)) s.last
 
 lines_same : (config : Config) (old new : List RowValue) → AreSame config old new → findings_in_lines (options_of config) new ≡ findings_in_lines (options_of config) old
 lines_same config old new s =
@@ -199,7 +201,7 @@ lines_same config old new s =
 pub edit_reads_alike : (config : Config) (rows new : List RowValue) (a b : ℕ) → 0 < a → b < length rows → b ≡ a + length new → AreAlike (options_of config).row (a + 1) (drop a rows) new → AreReadAlike config rows (splice rows a b new)
 edit_reads_alike config rows new a b z l e h =
     let same = are_same_texts config rows new a b z l e h in
-    record { found = lines_same config rows (splice rows a b new) same; first = ap text_in same.first; end = end_same config rows (splice rows a b new) same }
+    record { found = lines_same config rows (splice rows a b new) same; first = ap (λ (r : Option RowValue). option_map_or (λ (row : RowValue). row.text) r []) same.first; end = end_same config rows (splice rows a b new) same }
 
 -- ---- lists compared
 

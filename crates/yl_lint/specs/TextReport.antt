@@ -1,6 +1,7 @@
 -- Meaning: the report of a text: what the rules find in its lines and in its sections, with its fault, in order and with levels. Of the
 -- sections after the first with a fault nothing is shown; what the rules on lines find is never hidden.
 use Rattle.std.specs.Prelude.{ℕ, ◌+◌, ◌-◌, List, [], ◌∷◌, ◌++◌, map, length, codes, Option, Some, None, slice_get}
+use Rattle.std.specs.Option.{option_map_or}
 use Rattle.std.specs.List.{flat_map}
 use Rattle.std.specs.Str.{chars}
 use Rattle.yl_text.specs.declared.position.Pos.{Pos}
@@ -22,7 +23,7 @@ use Rattle.yl_config.specs.declared.config.Config.{Config}
 use Rattle.yl_settings.specs.declared.options.RuleOptions.{RuleOptions}
 use Rattle.yl_config.specs.Config.{levels_of, options_of}
 use Rattle.yl_record.specs.Records.{RecordValue, characters_in, records}
-use Rattle.yl_sections.specs.Kept.{KeptValue, SectionFaultValue, Here, Behind, documents_in}
+use Rattle.yl_sections.specs.Kept.{KeptValue, SectionFaultValue, Here, Behind, documents_in, unless_fault}
 use Rattle.yl_sections.specs.Judge.{kept_of_section}
 use Rattle.yl_sections.specs.Sections.{sections}
 
@@ -33,24 +34,16 @@ abbrev pub findings_from : RowOptions → ℕ → List RowValue → List Finding
 findings_from o line [] = []
 findings_from o line (row ∷ rows) = row_findings o line row ++ findings_from o (line + 1) rows
 
--- what the rules on lines find in a text
 abbrev pub findings_in_lines : RuleOptions → List RowValue → List FindingValue
 findings_in_lines o rows = findings_from o.row 1 rows ++ run_findings o.run rows
 
-abbrev pub text_in : Option RowValue → List ℕ
-text_in None = []
-text_in (Some row) = row.text
-
 abbrev pub first_text : List RowValue → List ℕ
-first_text rows = text_in (slice_get rows 0)
-
-abbrev pub width_of_line : Option RowValue → ℕ
-width_of_line None = 0
-width_of_line (Some row) = length (chars row.text)
+first_text rows = option_map_or (λ row. row.text) (slice_get rows 0) []
 
 -- after the last character of the last line
 abbrev pub end_of_lines : List RowValue → Pos
-end_of_lines rows = record { line = length rows - 1; col = width_of_line (slice_get rows (length rows - 1)) }
+end_of_lines rows =
+    let last = length rows - 1 in record { line = last; col = option_map_or (λ row. length (chars row.text)) (slice_get rows last) 0 }
 
 -- ---- the text's fault
 
@@ -64,23 +57,16 @@ place_after line end (k ∷ ks) = record { line = line; col = k.first }
 
 -- the fault of a section of so many rows that begins at this line, before these sections
 abbrev pub finding_of_fault : ℕ → ℕ → Pos → List KeptValue → SectionFaultValue → FindingValue
-finding_of_fault line rows end ks (Here p text) = syntax_finding (record { line = line + p.line; col = p.col }) text
+finding_of_fault line rows end ks (Here p text) = syntax_finding (record p { line = line + p.line }) text
 finding_of_fault line rows end ks (Behind text) = syntax_finding (place_after (line + rows) end ks) text
-
-abbrev pub fault_or_later : ℕ → ℕ → Pos → List KeptValue → Option SectionFaultValue → List FindingValue → List FindingValue
-fault_or_later line rows end ks None later = later
-fault_or_later line rows end ks (Some f) later = finding_of_fault line rows end ks f ∷ []
 
 -- the text's fault, if it has one: the first of those of its sections, of which the first begins at this line
 abbrev pub fault_in_sections : ℕ → Pos → List KeptValue → List FindingValue
 fault_in_sections line end [] = []
-fault_in_sections line end (k ∷ ks) = fault_or_later line k.rows end ks k.fault (fault_in_sections (line + k.rows) end ks)
+fault_in_sections line end (k ∷ ks) =
+    option_map_or (λ f. finding_of_fault line k.rows end ks f ∷ []) k.fault (fault_in_sections (line + k.rows) end ks)
 
 -- ---- what sections show
-
-abbrev pub unless_fault : {X : Type 0} → Option SectionFaultValue → List X → List X
-unless_fault None later = later
-unless_fault (Some f) later = []
 
 -- the sections up to the first with a fault
 abbrev pub shown : List KeptValue → List KeptValue
@@ -89,7 +75,7 @@ shown (k ∷ ks) = k ∷ unless_fault k.fault (shown ks)
 
 -- so many lines further down
 abbrev pub moved : ℕ → FindingValue → FindingValue
-moved line f = record { line = line + f.line; column = f.column; rule = f.rule; message = f.message }
+moved line f = record f { line = line + f.line }
 
 -- what is found in a section that begins at this line. Its indentation is judged by the measure of the facts before it and that of all
 -- facts that are shown
@@ -105,7 +91,7 @@ abbrev pub facts_in_sections : List KeptValue → List Fact
 facts_in_sections ks = flat_map (λ k. k.facts) ks
 
 abbrev pub moved_comment : ℕ → PlacedCommentValue → PlacedCommentValue
-moved_comment line c = record { line = line + c.line; column = c.column; text = c.text; behind = c.behind }
+moved_comment line c = record c { line = line + c.line }
 
 -- the comments of sections, of which the first begins at this line
 abbrev pub comments_in_sections : ℕ → List KeptValue → List PlacedCommentValue
@@ -117,10 +103,8 @@ comments_in_sections line (k ∷ ks) = map (moved_comment line) k.comments ++ co
 -- all that is found in a text that ends there, in whose lines the rules found this, and of whose sections this is kept
 abbrev pub found_of_kept : Config → List FindingValue → Pos → List KeptValue → List FindingValue
 found_of_kept config in_lines end ks =
-    let seen = shown ks in
-    in_lines
-    ++ (fault_in_sections 0 end ks
-    ++ findings_in_sections (options_of config).indentation (measure_of (facts_in_sections seen)) 0 empty_measure seen)
+    let whole = measure_of (facts_in_sections (shown ks)) in
+    in_lines ++ fault_in_sections 0 end ks ++ findings_in_sections (options_of config).indentation whole 0 empty_measure (shown ks)
 
 -- the report of a text with this first line
 unfoldable pub report_of_kept : Config → List FindingValue → List ℕ → Pos → List KeptValue → List ProblemValue
@@ -130,7 +114,6 @@ report_of_kept config in_lines first end ks =
 abbrev pub records_of : List RowValue → List RecordValue
 records_of rows = records (characters_in rows)
 
--- what is kept of the sections of a text
 abbrev pub kept_of_text : Config → List RowValue → List KeptValue
 kept_of_text config rows = map (kept_of_section config) (sections (records_of rows))
 
@@ -144,4 +127,5 @@ report_by config rows ks = report_of_kept config (findings_in_lines (options_of 
 
 -- the report of the lines of a text under a configuration
 unfoldable pub report : Config → List RowValue → List ProblemValue
-report config rows = report_by config rows (kept_of_text config rows)
+report config rows =
+    report_of_kept config (findings_in_lines (options_of config) rows) (first_text rows) (end_of_lines rows) (kept_of_text config rows)

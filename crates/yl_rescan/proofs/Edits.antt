@@ -14,7 +14,7 @@ use Rattle.yl_scan.proofs.States.{states_told}
 use Rattle.yl_scan.proofs.Restarts.{prefix, shift}
 use Rattle.yl_record.specs.Records.{characters_in, records}
 use Rattle.yl_rescan.specs.Agree.{agree, agrees, state_of_row, BeginsAt, BeginsBelow}
-use Rattle.yl_rescan.specs.Rescan.{HaveSameState, IsAgreement, IsRestart, IsStop}
+use Rattle.yl_rescan.specs.Rescan.{IsAgreement, IsRestart, IsStop}
 use Rattle.yl_rescan.proofs.Rows.{records_state, same_back, same_front}
 use Rattle.yl_rescan.proofs.Search.{FirstFrom, LastAbove, first_from, last_above}
 
@@ -113,13 +113,16 @@ module _ (ps ns : List (List ℕ)) (a b : ℕ) (ordered : a ≤ b) (within : b �
   is_restart c found = record { place = inr (found.is.above, found.is.some); greatest = found.is.none }
 
   -- rows that agree
-  pub agreement : (i j : ℕ) → agree (state_of_row (records ps) i) (state_of_row (records new) j) ≡ true → HaveSameState ps new i j
-  agreement i j h =
-      let s = both_agree (state_of_row (records ps) i) (state_of_row (records new) j) h in
-      record { state = s.0; before = sym (records_state ps i) ∙ s.1; after = sym (records_state new j) ∙ s.2 }
+  pub agreement : (m : ℕ) → agrees (records ps) (records new) stop b m ≡ true → IsAgreement ps new stop b m
+  agreement m h =
+      let i = m - stop + b in
+      let s = both_agree (state_of_row (records ps) i) (state_of_row (records new) m) h in
+      record { state = s.0; before = sym (records_state ps i) ∙ s.1; after = sym (records_state new m) ∙ s.2 }
 
-  pub no_agreement : (i j : ℕ) → agree (state_of_row (records ps) i) (state_of_row (records new) j) ≡ false → HaveSameState ps new i j → ⊥
-  no_agreement i j h s = differ _ (agree_same (state_of_row (records ps) i) (state_of_row (records new) j) s.state (records_state ps i ∙ s.before) (records_state new j ∙ s.after)) h
+  pub no_agreement : (m : ℕ) → agrees (records ps) (records new) stop b m ≡ false → IsAgreement ps new stop b m → ⊥
+  no_agreement m h s =
+      let i = m - stop + b in
+      differ _ (agree_same (state_of_row (records ps) i) (state_of_row (records new) m) s.state (records_state ps i ∙ s.before) (records_state new m ∙ s.after)) h
 
   -- the rows behind the edit
   pub rows_behind : (j : ℕ) → stop ≤ j → drop (j - stop + b) ps ≡ drop j new
@@ -133,7 +136,7 @@ module _ (ps ns : List (List ℕ)) (a b : ℕ) (ordered : a ≤ b) (within : b �
 
   -- where no row from `stop` on down to row j agrees, the first that does is row j or one below it
   agrees_at : (m : ℕ) → stop ≤ m → (agrees (records ps) (records new) stop b m ≡ true) ⊎ (m ≡ length new - 1) → 0 < length new → ((stop ≤ m) × IsAgreement ps new stop b m) ⊎ (m + 1 ≡ length new)
-  agrees_at m o (inl h) some = inl (o, agreement (m - stop + b) m h)
+  agrees_at m o (inl h) some = inl (o, agreement m h)
   agrees_at m o (inr e) some = inr (omega (arith, e, some))
 
   pub stop_found : (j : ℕ) → stop ≤ j → j < length new → FirstFrom (λ i. agrees (records ps) (records new) stop b i) j (length new - 1)
@@ -145,7 +148,7 @@ module _ (ps ns : List (List ℕ)) (a b : ℕ) (ordered : a ≤ b) (within : b �
     place = let m = found.from in agrees_at found.place (omega (arith, o, m)) found.holds (omega (arith, l));
     least = λ i k m. elim (cases_lt i j) [
       | inl n ↦ none i k n
-      | inr n ↦ no_agreement (i - stop + b) i (found.first i n m)
+      | inr n ↦ no_agreement i (found.first i n m)
     ];
   }
 

@@ -18,7 +18,7 @@ use Rattle.yl_rejudge.proofs.SectionStarts.{not_first, same_before}
 use Rattle.yl_rescan.specs.Agree.{agree, agrees, counterpart, next_cut, read_beyond, state_of_row, BeginsBelow, EndsAt, GoesOn, MayKeep, StopsAt}
 use Rattle.yl_rescan.specs.Held.{AreHeld, IsCutAt}
 use Rattle.yl_rescan.specs.Made.{HoldsEdit, WasRescanned}
-use Rattle.yl_rescan.specs.Rescan.{HasStoppedAt, HaveSameState, IsAgreement, IsRescan, IsRestart, IsStop}
+use Rattle.yl_rescan.specs.Rescan.{HasStoppedAt, IsAgreement, IsRescan, IsRestart, IsStop}
 use Rattle.yl_rescan.proofs.Search.{LastAbove}
 use Rattle.yl_rescan.specs.declared.scanning.ScanEnd.{ScanEnd}
 use Rattle.yl_rescan.specs.declared.scanning.ScanEnd.TheVariants.{Agreed, Halted, TextEnd}
@@ -54,12 +54,13 @@ begins_true_of t cut es held a bound row (Some s) b = (b.0, sym (true_state t cu
 
 -- ---- rows that do not agree
 
-none_agrees : (ps ns : List (List ℕ)) (a b : ℕ) → a ≤ b → b ≤ length ps → (cut : Option ℕ) (es : List RecordValue) → AreHeld ps cut es → (i j : ℕ) → GoesOn es cut i (state_of_row (records (splice ps a b ns)) j)
-    → HaveSameState ps (splice ps a b ns) i j → ⊥
-none_agrees ps ns a b o w None es held i j g s =
-    no_agreement ps ns a b o w i j (ap (λ (x : Option LineStateValue). agree x (state_of_row (records (splice ps a b ns)) j)) (sym (true_state ps None es i held tt)) ∙ g) s
-none_agrees ps ns a b o w (Some n) es held i j g s = elim (cases_lt i n) [
-  | inl l ↦ no_agreement ps ns a b o w i j (ap (λ (x : Option LineStateValue). agree x (state_of_row (records (splice ps a b ns)) j)) (sym (true_state ps (Some n) es i held l)) ∙ g.0 l) s
+none_agrees : (ps ns : List (List ℕ)) (a b : ℕ) → a ≤ b → b ≤ length ps → (cut : Option ℕ) (es : List RecordValue) → AreHeld ps cut es → (j : ℕ)
+    → GoesOn es cut (j - (a + length ns) + b) (state_of_row (records (splice ps a b ns)) j) → IsAgreement ps (splice ps a b ns) (a + length ns) b j → ⊥
+none_agrees ps ns a b o w None es held j g s =
+    let i = j - (a + length ns) + b in
+    no_agreement ps ns a b o w j (ap (λ (x : Option LineStateValue). agree x (state_of_row (records (splice ps a b ns)) j)) (sym (true_state ps None es i held tt)) ∙ g) s
+none_agrees ps ns a b o w (Some n) es held j g s = let i = j - (a + length ns) + b in elim (cases_lt i n) [
+  | inl l ↦ no_agreement ps ns a b o w j (ap (λ (x : Option LineStateValue). agree x (state_of_row (records (splice ps a b ns)) j)) (sym (true_state ps (Some n) es i held l)) ∙ g.0 l) s
   | inr l ↦
       let is : s.state ≡ Stopped = stopped_below ps n i s.state (sym (records_state ps n) ∙ held.stopped) l s.before in
       g.1 l (records_state (splice ps a b ns) j ∙ (s.after ∙ ap (λ (z : LineStateValue). Some z) is))
@@ -144,7 +145,7 @@ module _ (ps ns : List (List ℕ)) (a b : ℕ) (ordered : a ≤ b) (within : b �
   }
 
   none_before : (j : ℕ) → stop ≤ j → j < end → IsAgreement ps new stop b j → ⊥
-  none_before j o l = none_agrees ps ns a b ordered within cut es held (j - stop + b) j (h.goes_on j o l)
+  none_before j o l = none_agrees ps ns a b ordered within cut es held j (h.goes_on j o l)
 
   fed : end ≡ row + length items
   fed = let l = ap (λ (rs : List RecordValue). length rs) h.told in omega (arith, l, length-take (end - row) (drop row all), length-drop row all, high', h.low)

@@ -3,6 +3,7 @@ use Rattle.std.proofs.Common.{◌≡◌, ◌⊎◌, ◌<◌, ◌≤◌, ◌++◌
 use Rattle.std.specs.Prelude.{IsSome, slice_get}
 use Rattle.std.specs.List.{AllByRecursion}
 use Rattle.std.proofs.lemmas.List.{length-map}
+use Rattle.std.specs.Option.{option_map, option_or}
 use Rattle.yl_text.specs.Character.{is_blank, indentation}
 use Rattle.yl_lexeme.specs.Lexeme.{LexemeValue}
 use Rattle.yl_lexeme.specs.Past.{Context}
@@ -21,7 +22,7 @@ use Rattle.yl_events.specs.Faults as parse
 use Rattle.yl_config.specs.declared.config.Config.{Config}
 use Rattle.yl_sections.specs.Sections.{lexemes_of}
 use Rattle.yl_sections.specs.Local.{all_rows}
-use Rattle.yl_sections.specs.Kept.{KeptValue, SectionFaultValue, Here, Behind, scan_fault_from, scan_fault_or, or_behind, parse_fault_or, section_fault}
+use Rattle.yl_sections.specs.Kept.{KeptValue, SectionFaultValue, Here, Behind, scan_fault_from, section_fault, scan_fault_at}
 use Rattle.yl_sections.specs.Judge.{document_of, kept_of_section}
 use Rattle.yl_sections.specs.Last.{HasNoLexeme}
 use Rattle.yl_sections.proofs.Last.{run_count}
@@ -142,7 +143,7 @@ IsHere None = ⊥
 IsHere (Some (Here place text)) = Unit {0}
 IsHere (Some (Behind text)) = ⊥
 
-scanned_here : (line : ℕ) (f : Option PlacedScanFault) (later : Option SectionFaultValue) → IsSome f ⊎ IsHere later → IsHere (scan_fault_or line f later)
+scanned_here : (line : ℕ) (f : Option PlacedScanFault) (later : Option SectionFaultValue) → IsSome f ⊎ IsHere later → IsHere (option_or (option_map (scan_fault_at line) f) later)
 scanned_here line None later (inl h) = absurd (cc)
 scanned_here line None later (inr h) = h
 scanned_here line (Some f) later h = tt
@@ -152,11 +153,11 @@ scan_here line [] h = h
 scan_here line (r ∷ rs) (inl h) = scanned_here line r.entry.fault (scan_fault_from (line + 1) rs) (inl h)
 scan_here line (r ∷ rs) (inr h) = scanned_here line r.entry.fault (scan_fault_from (line + 1) rs) (inr (scan_here (line + 1) rs h))
 
-or_here : (scanned : Option SectionFaultValue) (text : List ℕ) → IsHere scanned → IsHere (or_behind scanned text)
+or_here : (scanned : Option SectionFaultValue) (text : List ℕ) → IsHere scanned → IsHere (option_or scanned (Some (Behind text)))
 or_here None text h = absurd h
 or_here (Some f) text h = h
 
-parse_here : (o : Option LexemeValue) (text : List ℕ) (scanned : Option SectionFaultValue) → IsHere scanned → IsHere (parse_fault_or o text scanned)
+parse_here : (o : Option LexemeValue) (text : List ℕ) (scanned : Option SectionFaultValue) → IsHere scanned → IsHere (option_or (option_map (λ (x : LexemeValue). Here x.start text) o) (option_or scanned (Some (Behind text))))
 parse_here None text scanned h = or_here scanned text h
 parse_here (Some x) text scanned h = tt
 

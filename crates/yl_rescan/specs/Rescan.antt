@@ -18,15 +18,12 @@ pub record HasStoppedUpto (t : List (List ℕ)) (m : ℕ) : Type 0 where
   pub within : row ≤ m
   pub stopped : HasStoppedAt t row
 
--- row i of the old text and row j of the new one are sound, with the same state
-pub record HaveSameState (old new : List (List ℕ)) (i j : ℕ) : Type 0 where
+-- row m of the new text agrees with its counterpart, where the lines from `stop` on are the old ones from b on: both are sound, with the
+-- same state
+pub record IsAgreement (old new : List (List ℕ)) (stop b m : ℕ) : Type 0 where
   pub state : LineStateValue
-  pub before : state_at (entries old) i ≡ Some state
-  pub after : state_at (entries new) j ≡ Some state
-
--- row m of the new text agrees with its counterpart, where the lines from `stop` on are the old ones from b on
-abbrev pub IsAgreement : (old new : List (List ℕ)) (stop b m : ℕ) → Type 0
-IsAgreement old new stop b m = HaveSameState old new (m - stop + b) m
+  pub before : state_at (entries old) (m - stop + b) ≡ Some state
+  pub after : state_at (entries new) m ≡ Some state
 
 -- the least row from `stop` on that agrees, or the last row
 pub record IsStop (old new : List (List ℕ)) (stop b m : ℕ) : Type 0 where

@@ -1,10 +1,12 @@
 -- Rows that are alike one by one are cut alike into sections.
 use Rattle.std.proofs.Common.{◌≡◌, ℕ, zero, suc, ◌<◌, ◌≤◌, Bool, true, false, List, [], ◌∷◌, length, take, drop, map, Option, Some, None, refl, ap, sym, ◌∙◌, subst, arith}
 use Rattle.std.specs.List.{slice_get}
+use Rattle.std.specs.Option.{option_map_or}
+use Rattle.yl_events.specs.Cut.{is_beginning}
 use Rattle.yl_lexeme.specs.declared.lexeme.Kind.{Kind}
 use Rattle.yl_lexeme.specs.Lexeme.{LexemeValue}
 use Rattle.yl_record.specs.Records.{RecordValue}
-use Rattle.yl_sections.specs.Sections.{Parts, is_next_document, is_section_start, last_kind_from, parts, sections, with_row}
+use Rattle.yl_sections.specs.Sections.{Parts, is_section_start, last_kind_from, parts, sections, with_row}
 
 -- lists of one length, whose elements are so related one by one
 abbrev pub AllRelated : {X : Type 0} → (X → X → Type 0) → List X → List X → Type 0
@@ -28,7 +30,7 @@ last_of last (k ∷ ks) = last_of (Some k) ks
 
 abbrev starts : Option Kind → List Kind → Bool
 starts last [] = false
-starts last (k ∷ ks) = is_next_document last k
+starts last (k ∷ ks) = option_map_or (λ (l : Kind). is_beginning l k) last false
 
 last_by_kinds : (last : Option Kind) (xs : List LexemeValue) → last_kind_from last xs ≡ last_of last (kinds xs)
 last_by_kinds last [] = refl

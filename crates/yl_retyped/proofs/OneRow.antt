@@ -2,6 +2,8 @@
 use Rattle.std.proofs.Common.{◌≡◌, ◌<◌, ◌+◌, inl, inr, ℕ, zero, suc, true, false, ◌==◌, List, [], ◌∷◌, ◌++◌, length, map, take, Option, Some, None, refl, ap, sym, subst, ◌∙◌, arith}
 use Rattle.std.proofs.lemmas.Bool.{ne_eqb}
 use Rattle.std.proofs.lemmas.List.{length-append}
+use Rattle.std.specs.Option.{option_map, option_or, option_and_then}
+use Rattle.std.specs.Bool.{then_some}
 use Rattle.yl_lexeme.specs.declared.lexeme.Kind.{Kind}
 use Rattle.yl_lexeme.specs.declared.lexeme.Kind.TheVariants.{Scalar}
 use Rattle.yl_lexeme.specs.Lexeme.{CommentValue, LexemeValue, PlacedCommentValue}
@@ -22,7 +24,7 @@ use Rattle.yl_config.specs.declared.config.Config.{Config}
 use Rattle.yl_record.specs.Records.{RecordValue}
 use Rattle.yl_sections.specs.declared.comments.LexemeEnd.{LexemeEnd}
 use Rattle.yl_sections.specs.Judge.{built_by, document_of, kept_of_section}
-use Rattle.yl_sections.specs.Kept.{BuiltValue, SectionFaultValue, column_in, comment_at, comments_from, event_findings, last_lexeme_end, lexeme_options_of, scan_fault_from, scan_fault_or, tree_options_of}
+use Rattle.yl_sections.specs.Kept.{BuiltValue, SectionFaultValue, comment_at, comments_from, event_findings, last_lexeme_end, lexeme_options_of, scan_fault_from, tree_options_of, scan_fault_at}
 use Rattle.yl_sections.specs.Sections.{lexemes_from, lexemes_of}
 use Rattle.yl_retyped.proofs.Statements.{EventsLaw, FactsLaw, FindingsLaw, MarksLaw}
 use Rattle.yl_retyped.specs.Retyped.{IsQuiet, asks_for_value, is_scalar}
@@ -42,12 +44,12 @@ indentations_same [] bs r s h = ap (λ n. n ∷ map (λ (x : RecordValue). x.ind
 indentations_same (a ∷ us) bs r s h = ap (λ (ns : List ℕ). a.indentation ∷ ns) (indentations_same us bs r s h)
 
 scanned_same : (line : ℕ) (us bs : List RecordValue) (r s : RecordValue) → r.entry.fault ≡ s.entry.fault → scan_fault_from line (us ++ r ∷ bs) ≡ scan_fault_from line (us ++ s ∷ bs)
-scanned_same line [] bs r s h = ap (λ f. scan_fault_or line f (scan_fault_from (line + 1) bs)) h
-scanned_same line (a ∷ us) bs r s h = ap (λ (f : Option SectionFaultValue). scan_fault_or line a.entry.fault f) (scanned_same (line + 1) us bs r s h)
+scanned_same line [] bs r s h = ap (λ f. option_or (option_map (scan_fault_at line) f) (scan_fault_from (line + 1) bs)) h
+scanned_same line (a ∷ us) bs r s h = ap (λ (f : Option SectionFaultValue). option_or (option_map (scan_fault_at line) a.entry.fault) f) (scanned_same (line + 1) us bs r s h)
 
 -- ---- comments
 
-in_line : (line : ℕ) (e : LexemeEnd) → e.line < line → column_in line (Some e) ≡ None
+in_line : (line : ℕ) (e : LexemeEnd) → e.line < line → option_and_then (λ (e : LexemeEnd). then_some (e.line == line) e.col) (Some e) ≡ None
 in_line line e h = let no : (e.line == line) ≡ false = ne_eqb e.line line (λ i. omega (arith, i, h)) in rw no refl
 
 comment_there : (line : ℕ) (e f : LexemeEnd) (c : Option CommentValue) → e.line < line → f.line < line → comment_at line (Some e) c ≡ comment_at line (Some f) c

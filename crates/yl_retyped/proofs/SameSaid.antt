@@ -2,7 +2,7 @@
 use Rattle.std.proofs.Common.{◌≡◌, ℕ, List, ◌++◌, length, map, Option, Some, None, refl, ap, sym, ◌∙◌}
 use Rattle.std.proofs.lemmas.List.{length-map}
 use Rattle.std.proofs.lemmas.Option.{slice_get-map}
-use Rattle.std.specs.Option.{option_map}
+use Rattle.std.specs.Option.{option_map, option_map_or, option_or}
 use Rattle.std.specs.Prelude.{slice_get}
 use Rattle.std.specs.List.{filter}
 use Rattle.yl_text.specs.Finding.{FindingValue}
@@ -17,7 +17,7 @@ use Rattle.yl_rules.specs.Addressed.{is_addressed}
 use Rattle.yl_config.specs.declared.config.Config.{Config}
 use Rattle.yl_record.specs.Records.{RecordValue}
 use Rattle.yl_sections.specs.Sections.{lexemes_of}
-use Rattle.yl_sections.specs.Kept.{BuiltValue, KeptValue, SectionFaultValue, column_or, comment_lines, counted_of, event_findings, facts_of, hidden_events, kept_of, lexeme_options_of, line_or, parse_fault_or, scan_fault_from, section_fault, shown_comment_findings, shown_comments, shown_events}
+use Rattle.yl_sections.specs.Kept.{BuiltValue, KeptValue, SectionFaultValue, comment_lines, counted_of, event_findings, facts_of, hidden_events, kept_of, lexeme_options_of, scan_fault_from, section_fault, shown_comment_findings, shown_comments, Here, Behind, unless_fault}
 
 -- two sections say the same, the documents of which give these
 pub record SaySame (config : Config) (rs ss : List RecordValue) (d e : BuiltValue) : Type 0 where
@@ -52,20 +52,20 @@ some_none x h = absurd (cc)
 none_some : {X : Type 0} (x : LexemeValue) → option_map token_of None ≡ option_map token_of (Some x) → X
 none_some x h = absurd (cc)
 
-columns_same : (n : ℕ) (a b : Option LexemeValue) → option_map token_of a ≡ option_map token_of b → column_or n a ≡ column_or n b
+columns_same : (n : ℕ) (a b : Option LexemeValue) → option_map token_of a ≡ option_map token_of b → option_map_or (λ (x : LexemeValue). x.start.col) a n ≡ option_map_or (λ (x : LexemeValue). x.start.col) b n
 columns_same n None None h = refl
 columns_same n None (Some y) h = none_some y h
 columns_same n (Some x) None h = some_none x h
 columns_same n (Some x) (Some y) h = ap (λ (t : Token). t.start.col) (token_is x y h)
 
-lines_same : (n : ℕ) (a b : Option LexemeValue) → option_map token_of a ≡ option_map token_of b → line_or n a ≡ line_or n b
+lines_same : (n : ℕ) (a b : Option LexemeValue) → option_map token_of a ≡ option_map token_of b → option_map_or (λ (x : LexemeValue). x.start.line) a n ≡ option_map_or (λ (x : LexemeValue). x.start.line) b n
 lines_same n None None h = refl
 lines_same n None (Some y) h = none_some y h
 lines_same n (Some x) None h = some_none x h
 lines_same n (Some x) (Some y) h = ap (λ (t : Token). t.start.line) (token_is x y h)
 
 parse_faults_same : (text : List ℕ) (scanned : Option SectionFaultValue) (a b : Option LexemeValue) → option_map token_of a ≡ option_map token_of b
-    → parse_fault_or a text scanned ≡ parse_fault_or b text scanned
+    → option_or (option_map (λ (x : LexemeValue). Here x.start text) a) (option_or scanned (Some (Behind text))) ≡ option_or (option_map (λ (x : LexemeValue). Here x.start text) b) (option_or scanned (Some (Behind text)))
 parse_faults_same text scanned None None h = refl
 parse_faults_same text scanned None (Some y) h = none_some y h
 parse_faults_same text scanned (Some x) None h = some_none x h
@@ -86,7 +86,7 @@ facts_same config rs ss xs ys counted h k = rw (h, k) refl
 -- ---- the events
 
 shown_same : (config : Config) (f : Option SectionFaultValue) (es fs : List EventValue) → event_findings config es ≡ event_findings config fs
-    → event_findings config (shown_events f es) ≡ event_findings config (shown_events f fs)
+    → event_findings config (unless_fault f es) ≡ event_findings config (unless_fault f fs)
 shown_same config None es fs h = h
 shown_same config (Some f) es fs h = refl
 
@@ -121,12 +121,12 @@ kept_by config rs ss d e s f =
     let counted : counted_of xs f ≡ counted_of ys f = counts_same xs ys f s.tokens in
     let whole : section_fault xs f (scan_fault_from 0 rs) ≡ section_fault ys f (scan_fault_from 0 ss) = ap (section_fault xs f) s.scanned ∙ faults_same xs ys f (scan_fault_from 0 ss) s.tokens in
     let alone : section_fault xs f None ≡ section_fault ys f None = faults_same xs ys f None s.tokens in
-    let first : column_or 0 (slice_get xs 0) ≡ column_or 0 (slice_get ys 0) = columns_same 0 (slice_get xs 0) (slice_get ys 0) (tokens_at xs ys 0 s.tokens) in
+    let first : option_map_or (λ (x : LexemeValue). x.start.col) (slice_get xs 0) 0 ≡ option_map_or (λ (x : LexemeValue). x.start.col) (slice_get ys 0) 0 = columns_same 0 (slice_get xs 0) (slice_get ys 0) (tokens_at xs ys 0 s.tokens) in
     let found : lexeme_findings (lexeme_options_of config) (counted_of xs f) xs ≡ lexeme_findings (lexeme_options_of config) (counted_of ys f) ys =
     ap (λ n. lexeme_findings (lexeme_options_of config) n xs) counted ∙ s.found (counted_of ys f) in
     let facts : facts_of config rs xs (counted_of xs f) ≡ facts_of config ss ys (counted_of ys f) = ap (facts_of config rs xs) counted ∙ facts_same config rs ss xs ys (counted_of ys f) s.tokens s.indentations in
-    let shown : event_findings config (shown_events (section_fault xs f (scan_fault_from 0 rs)) d.events) ≡ event_findings config (shown_events (section_fault ys f (scan_fault_from 0 ss)) e.events) =
-    ap (λ g. event_findings config (shown_events g d.events)) whole ∙ shown_same config (section_fault ys f (scan_fault_from 0 ss)) d.events e.events s.events in
+    let shown : event_findings config (unless_fault (section_fault xs f (scan_fault_from 0 rs)) d.events) ≡ event_findings config (unless_fault (section_fault ys f (scan_fault_from 0 ss)) e.events) =
+    ap (λ g. event_findings config (unless_fault g d.events)) whole ∙ shown_same config (section_fault ys f (scan_fault_from 0 ss)) d.events e.events s.events in
     let hidden : event_findings config (hidden_events (section_fault xs f (scan_fault_from 0 rs)) (section_fault xs f None) d.events)
     ≡ event_findings config (hidden_events (section_fault ys f (scan_fault_from 0 ss)) (section_fault ys f None) e.events) =
     ap (λ g. event_findings config (hidden_events g (section_fault xs f None) d.events)) whole

@@ -1,8 +1,9 @@
 //! Sections of which the same is kept, since their rows say the same to the rules.
 ghost use Rattle.std.specs.Prelude.{◌≡◌, ◌≤◌, true, false, None, length, map, take, drop, IfOk};
+ghost use Rattle.std.specs.Bool.{then_some};
 ghost use Rattle.yl_text.specs.declared.finding.RuleId.TheVariants.{QuotedStrings, Truthy};
 ghost use Rattle.yl_config.specs.Config.{options_of};
-ghost use Rattle.yl_sections.specs.Kept.{is_on, options_if};
+ghost use Rattle.yl_sections.specs.Kept.{is_on};
 ghost use Rattle.yl_sections.specs.Judge.{kept_of_section};
 ghost use Rattle.yl_sections.specs.Sections.{sections};
 ghost use Rattle.yl_retyped.specs.Holds.{HoldsLexeme, HoldsNone};
@@ -25,15 +26,15 @@ fn is_on(config: &Config, rule: RuleId) -> bool
 
 /// The options of a rule that is on.
 fn options_if<O: Copy>(is_on: bool, options: &O) -> Option<O>
-    ensures { result ≡ options_if is_on options.now }
+    ensures { result ≡ then_some is_on options.now }
 {
     if is_on { Some(*options) } else { None }
 }
 
 /// The options of the rules on values alone.
 fn value_options(config: &Config) -> LexemeOptions
-    ensures truthy { result.truthy ≡ options_if (is_on config.now Truthy) (options_of config.now).truthy }
-    ensures quoted { result.quoted_strings ≡ options_if (is_on config.now QuotedStrings) (options_of config.now).quoted_strings }
+    ensures truthy { result.truthy ≡ then_some (is_on config.now Truthy) (options_of config.now).truthy }
+    ensures quoted { result.quoted_strings ≡ then_some (is_on config.now QuotedStrings) (options_of config.now).quoted_strings }
 {
     LexemeOptions {
         braces: None,

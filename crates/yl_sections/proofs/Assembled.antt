@@ -2,6 +2,7 @@
 use Rattle.std.proofs.Common.{◌≡◌, ◌++◌, ℕ, true, List, [], ◌∷◌, map, length, refl, ap, ◌∙◌, Option, None}
 use Rattle.std.specs.Prelude.{slice_get}
 use Rattle.std.specs.List.{filter, flat_map}
+use Rattle.std.specs.Option.{option_map_or}
 use Rattle.yl_text.specs.declared.finding.RuleId.TheVariants.{Comments}
 use Rattle.yl_rules.specs.Comments.{comment_findings}
 use Rattle.yl_config.specs.Config.{options_of}
@@ -13,7 +14,7 @@ use Rattle.yl_layout.specs.Lexemes.{lexeme_findings}
 use Rattle.yl_config.specs.declared.config.Config.{Config}
 use Rattle.yl_record.specs.Records.{RecordValue}
 use Rattle.yl_sections.specs.Sections.{lexemes_of}
-use Rattle.yl_sections.specs.Kept.{BuiltValue, SectionFaultValue, KeptValue, scan_fault_from, section_fault, shown_events, hidden_events, counted_of, comment_lines, shown_comments, lexeme_options_of, shown_comment_findings, event_findings, facts_of, column_or, kept_of, is_on}
+use Rattle.yl_sections.specs.Kept.{BuiltValue, SectionFaultValue, KeptValue, scan_fault_from, section_fault, hidden_events, counted_of, comment_lines, shown_comments, lexeme_options_of, shown_comment_findings, event_findings, facts_of, kept_of, is_on, unless_fault}
 use Rattle.yl_rules.specs.Addressed.{is_addressed}
 
 pub kept_is :
@@ -23,9 +24,9 @@ pub kept_is :
     → found ≡ lexeme_findings (lexeme_options_of config) counted xs ++ (shown_comment_findings config comments ++ event_findings config events)
     → facts ≡ facts_of config rs xs counted
     → kept ≡ filter is_addressed comments
-    → first ≡ column_or 0 (slice_get xs 0)
+    → first ≡ option_map_or (λ (x : LexemeValue). x.start.col) (slice_get xs 0) 0
     → comments ≡ shown_comments lines rs
-    → events ≡ shown_events fault b.events
+    → events ≡ unless_fault fault b.events
     → counted ≡ counted_of xs b.fault
     → lines ≡ comment_lines rows xs b.fault
     → fault ≡ section_fault xs b.fault scanned

@@ -12,7 +12,7 @@ use Rattle.yl_config.specs.declared.config.Config.{Config}
 use Rattle.yl_settings.specs.Standard.{standard_rule_options}
 use Rattle.yl_record.specs.Records.{RecordValue}
 use Rattle.yl_sections.specs.Sections.{sections}
-use Rattle.yl_sections.specs.Kept.{Here, Behind, nothing_built, kept_of, scan_fault_from, section_fault}
+use Rattle.yl_sections.specs.Kept.{Here, Behind, kept_of, scan_fault_from, section_fault}
 
 abbrev row_with : List LexemeValue → Option CommentValue → Option PlacedScanFault → RecordValue
 row_with xs comment fault = record { indentation = 0; entry = record { state = None; lexemes = xs; comment = comment; fault = fault } }
@@ -76,5 +76,5 @@ pub shown_before_fault : (kept_of off (commented (codes "# yamllint disable") �
 shown_before_fault = refl
 
 -- the same without a fault
-pub all_shown : length (kept_of off (commented (codes "# yamllint disable") ∷ commented (codes "# yamllint") ∷ commented (codes "# yamllint enable") ∷ []) nothing_built).comments ≡ 2
+pub all_shown : length (kept_of off (commented (codes "# yamllint disable") ∷ commented (codes "# yamllint") ∷ commented (codes "# yamllint enable") ∷ []) (record { events = []; fault = None })).comments ≡ 2
 all_shown = refl

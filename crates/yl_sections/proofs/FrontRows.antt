@@ -1,8 +1,10 @@
 -- What is kept of the first rows of a section, where all that is read of it begins in them.
-use Rattle.std.proofs.Common.{◌≡◌, ◌<◌, ◌≤◌, ◌++◌, ◌+◌, ℕ, zero, suc, Bool, true, false, List, [], ◌∷◌, map, length, take, take_all, refl, ap, sym, subst, ◌∙◌, Option, Some, None, arith, append_assoc, append-nil}
+use Rattle.std.proofs.Common.{◌≡◌, ◌<◌, ◌≤◌, ◌++◌, ◌+◌, ℕ, zero, suc, Bool, true, false, List, [], ◌∷◌, map, length, take, take_all, refl, ap, sym, subst, ◌∙◌, Option, Some, None, arith, append_assoc, append-nil, cond}
 use Rattle.std.specs.Prelude.{slice_get, slice_index}
 use Rattle.std.specs.List.{filter, AllByRecursion}
 use Rattle.std.proofs.lemmas.List.{length-take-le, length-take}
+use Rattle.std.specs.Option.{option_map_or, option_map, option_or}
+use Rattle.std.specs.Bool.{then_some}
 use Rattle.yl_text.specs.Finding.{FindingValue}
 use Rattle.yl_text.specs.declared.finding.RuleId.TheVariants.{Anchors, KeyDuplicates, KeyOrdering, Indentation}
 use Rattle.yl_lexeme.specs.Lexeme.{LexemeValue, CommentValue, PlacedCommentValue}
@@ -28,7 +30,7 @@ use Rattle.yl_config.specs.Config.{options_of}
 use Rattle.yl_record.specs.Records.{RecordValue}
 use Rattle.yl_sections.specs.declared.comments.LexemeEnd.{LexemeEnd}
 use Rattle.yl_sections.specs.Sections.{lexemes_from, lexemes_of}
-use Rattle.yl_sections.specs.Kept.{KeptValue, BuiltValue, SectionFaultValue, scan_fault_from, scan_fault_or, section_fault, parse_fault_or, or_behind, shown_events, hidden_events, counted_of, comment_lines, line_or, last_lexeme_end, comment_at, comments_from, shown_comments, lexeme_options_of, shown_comment_findings, event_findings, items_if, options_if, is_on, facts_of, column_or, kept_with, kept_of}
+use Rattle.yl_sections.specs.Kept.{KeptValue, BuiltValue, SectionFaultValue, scan_fault_from, section_fault, hidden_events, counted_of, comment_lines, last_lexeme_end, comment_at, comments_from, shown_comments, lexeme_options_of, shown_comment_findings, event_findings, is_on, facts_of, kept_with, kept_of, Here, Behind, scan_fault_at, unless_fault}
 use Rattle.yl_rules.specs.Addressed.{is_addressed}
 use Rattle.yl_sections.specs.Judge.{document_of, kept_of_section}
 use Rattle.yl_sections.specs.Front.{IsBare, IsFront}
@@ -79,7 +81,7 @@ all_comments n rs h =
     ap (λ (xs : List RecordValue). comments_from None 0 xs) (take_all (length (take n rs)) (take n rs) (omega arith) ∙ sym (take_all (length rs) (take n rs) few))
     ∙ front_comments None 0 n (length rs) rs h
 
-lines_shown : (n : ℕ) (rs : List RecordValue) → AreBareFrom n rs → (o : Option LexemeValue) → shown_comments (line_or (length (take n rs)) o) (take n rs) ≡ shown_comments (line_or (length rs) o) rs
+lines_shown : (n : ℕ) (rs : List RecordValue) → AreBareFrom n rs → (o : Option LexemeValue) → shown_comments (option_map_or (λ (x : LexemeValue). x.start.line) o (length (take n rs))) (take n rs) ≡ shown_comments (option_map_or (λ (x : LexemeValue). x.start.line) o (length rs)) rs
 lines_shown n rs h None = all_comments n rs h
 lines_shown n rs h (Some x) = front_comments None 0 n x.start.line rs h
 
@@ -94,7 +96,7 @@ front_sound : (line n : ℕ) (rs : List RecordValue) → ((i : ℕ) (r : RecordV
 front_sound line zero rs h = refl
 front_sound line (suc n) [] h = refl
 front_sound line (suc n) (r ∷ rs) h =
-    ap (λ (f : Option PlacedScanFault). scan_fault_or line f (scan_fault_from (line + 1) (take n rs))) (h 0 r (omega arith) refl)
+    ap (λ (f : Option PlacedScanFault). option_or (option_map (scan_fault_at line) f) (scan_fault_from (line + 1) (take n rs))) (h 0 r (omega arith) refl)
     ∙ front_sound (line + 1) n rs (λ i x l e. h (suc i) x (omega (arith, l)) e)
 
 -- ---- indentation
@@ -161,11 +163,11 @@ front_facts config n rs counted h =
     let shown : AllByRecursion (IsAbove n) (lexemes_from 0 (take n rs)) = subst (λ m. AllByRecursion (IsAbove m) (lexemes_from 0 (take n rs))) none (above_all 0 n rs) in
     let above : AllByRecursion (IsAbove n) xs = subst (λ (ys : List LexemeValue). AllByRecursion (IsAbove n) ys) (front_lexemes 0 n rs h) shown in
     let alike = tokens_alike (indentations (take n rs)) (indentations rs) n xs above (λ i l. same_indent n i rs l) in
-    ap (λ (es : List Element). items_if (is_on config Indentation) (facts_after [] es)) (all_alike (indentations (take n rs)) (indentations rs) (map token_of xs) counted alike (marked_lexemes xs))
+    ap (λ (es : List Element). cond (is_on config Indentation) (facts_after [] es) []) (all_alike (indentations (take n rs)) (indentations rs) (map token_of xs) counted alike (marked_lexemes xs))
 
 -- ---- what is found
 
-none_repeated : (b : Bool) (o : KeyDuplicatesOptions) → key_duplicates_if (options_if b o) [] ≡ []
+none_repeated : (b : Bool) (o : KeyDuplicatesOptions) → key_duplicates_if (then_some b o) [] ≡ []
 none_repeated true o = refl
 none_repeated false o = refl
 
@@ -173,7 +175,7 @@ none_misplaced : (b : Bool) → key_ordering_if b [] ≡ []
 none_misplaced true = refl
 none_misplaced false = refl
 
-no_anchors : (b : Bool) (o : AnchorsOptions) → anchors_if (options_if b o) [] ≡ []
+no_anchors : (b : Bool) (o : AnchorsOptions) → anchors_if (then_some b o) [] ≡ []
 no_anchors true o = refl
 no_anchors false o = refl
 
@@ -188,7 +190,7 @@ module _ (config : Config) (xs cs : List FindingValue) (es : List EventValue) wh
   hidden_twice (Some f) = none_found config
 
   abbrev Shown : Option SectionFaultValue → Option SectionFaultValue → Type 0
-  Shown fault parsed = (xs ++ (cs ++ event_findings config (shown_events fault es))) ++ event_findings config (hidden_events fault parsed es) ≡ xs ++ (cs ++ event_findings config (shown_events parsed es))
+  Shown fault parsed = (xs ++ (cs ++ event_findings config (unless_fault fault es))) ++ event_findings config (hidden_events fault parsed es) ≡ xs ++ (cs ++ event_findings config (unless_fault parsed es))
 
   nothing_more : (fs : List FindingValue) → (xs ++ (cs ++ fs)) ++ event_findings config [] ≡ xs ++ (cs ++ fs)
   nothing_more fs = ap (λ (gs : List FindingValue). (xs ++ (cs ++ fs)) ++ gs) (none_found config) ∙ append-nil (xs ++ (cs ++ fs))
@@ -202,11 +204,11 @@ module _ (config : Config) (xs cs : List FindingValue) (es : List EventValue) wh
   shown_none None = nothing_more (event_findings config es)
   shown_none (Some f) = all_hidden
 
-  shown_behind : (scanned : Option SectionFaultValue) (text : List ℕ) → Shown (or_behind scanned text) (or_behind None text)
+  shown_behind : (scanned : Option SectionFaultValue) (text : List ℕ) → Shown (option_or scanned (Some (Behind text))) (option_or None (Some (Behind text)))
   shown_behind None text = nothing_more (event_findings config [])
   shown_behind (Some f) text = nothing_more (event_findings config [])
 
-  shown_at : (o : Option LexemeValue) (scanned : Option SectionFaultValue) (text : List ℕ) → Shown (parse_fault_or o text scanned) (parse_fault_or o text None)
+  shown_at : (o : Option LexemeValue) (scanned : Option SectionFaultValue) (text : List ℕ) → Shown (option_or (option_map (λ (x : LexemeValue). Here x.start text) o) (option_or scanned (Some (Behind text)))) (option_or (option_map (λ (x : LexemeValue). Here x.start text) o) (option_or None (Some (Behind text))))
   shown_at None scanned text = shown_behind scanned text
   shown_at (Some x) scanned text = nothing_more (event_findings config [])
 
@@ -258,10 +260,10 @@ module _ (config : Config) (rs : List RecordValue) (n : ℕ) (b : BuiltValue) (w
       let comments = shown_comments (comment_lines (length rs) all b.fault) rs in
       let cs = shown_comment_findings config comments in
       let here : shown_comments (comment_lines (length (take n rs)) all b.fault) (take n rs) ≡ comments = comments_shown n rs all h.bare b.fault in
-      same_value (length (take n rs)) n (column_or 0 (slice_get all 0)) _ ((xs ++ (cs ++ event_findings config (shown_events fault b.events))) ++ event_findings config (hidden_events fault parsed b.events))
+      same_value (length (take n rs)) n (option_map_or (λ (x : LexemeValue). x.start.col) (slice_get all 0) 0) _ ((xs ++ (cs ++ event_findings config (unless_fault fault b.events))) ++ event_findings config (hidden_events fault parsed b.events))
       (event_findings config (hidden_events parsed parsed b.events)) (facts_of config (take n rs) all counted) (facts_of config rs all counted) _ (filter is_addressed comments) parsed
       (length-take-le n rs within)
-      (ap (λ (ds : List PlacedCommentValue). xs ++ (shown_comment_findings config ds ++ event_findings config (shown_events parsed b.events))) here ∙ sym (shown_all config xs cs b.events all b.fault (scan_fault_from 0 rs)))
+      (ap (λ (ds : List PlacedCommentValue). xs ++ (shown_comment_findings config ds ++ event_findings config (unless_fault parsed b.events))) here ∙ sym (shown_all config xs cs b.events all b.fault (scan_fault_from 0 rs)))
       (front_facts config n rs counted h.bare)
       (ap (filter is_addressed) here)
       (hidden_twice config xs cs b.events parsed)

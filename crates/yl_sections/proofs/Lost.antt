@@ -7,6 +7,8 @@ use Rattle.std.specs.List.{AllByRecursion, filter, position, position_or_len}
 use Rattle.std.proofs.lemmas.Bool.{and_parts, eqb-true, ltb-true, le-leb}
 use Rattle.std.proofs.lemmas.List.{length-map}
 use Rattle.yl_text.specs.Character.{is_white, is_blank, is_marker_of, indentation, without_end}
+use Rattle.std.specs.Option.{option_map_or}
+use Rattle.yl_events.specs.Cut.{is_beginning}
 use Rattle.yl_scalar.specs.declared.answer.ScalarFault.{ScalarFault}
 use Rattle.yl_scalar.specs.declared.answer.ScalarFault.TheVariants as scalar
 use Rattle.yl_scalar.specs.Reading.{ScalarOutcomeValue, Whole, Refused}
@@ -30,7 +32,7 @@ use Rattle.yl_scan.proofs.Resumed.{resumed}
 use Rattle.yl_scan.proofs.Restarts.{prefix}
 use Rattle.yl_events.specs.Documents.{is_document_start, is_document_end, is_directive}
 use Rattle.yl_record.specs.Records.{RecordValue, records, records_with}
-use Rattle.yl_sections.specs.Sections.{is_next_document, is_section_start}
+use Rattle.yl_sections.specs.Sections.{is_section_start}
 use Rattle.yl_sections.specs.Local.{kind_after, begins_section, is_start_at}
 use Rattle.yl_sections.specs.Front.{IsFront, LostLaw}
 use Rattle.yl_sections.proofs.Cuts.{none_begins}
@@ -360,11 +362,11 @@ ends_by column x = x.end.line == 0 && nat_le x.end.col column
 
 -- what is left of a row's lexemes begins a section as they do
 start_left : (tab : Option ℕ) (last : Option Kind) (xs : List LexemeValue) (o : Option PlacedScanFault) → OnlyTab tab o → ((t : ℕ) → tab ≡ Some t → 3 ≤ t)
-    → is_section_start last (lexemes_up_to_fault o (lexeme_of 0 start_found ∷ xs)) ≡ is_next_document last DocStart
+    → is_section_start last (lexemes_up_to_fault o (lexeme_of 0 start_found ∷ xs)) ≡ option_map_or (λ (l : Kind). is_beginning l DocStart) last false
 start_left tab last xs None only far = refl
 start_left tab last xs (Some f) only far = by_tab (is_tab f.fault) refl
   where
-    by_tab : (b : Bool) → is_tab f.fault ≡ b → is_section_start last (cond b (filter (ends_by f.column) (lexeme_of 0 start_found ∷ xs)) (lexeme_of 0 start_found ∷ xs)) ≡ is_next_document last DocStart
+    by_tab : (b : Bool) → is_tab f.fault ≡ b → is_section_start last (cond b (filter (ends_by f.column) (lexeme_of 0 start_found ∷ xs)) (lexeme_of 0 start_found ∷ xs)) ≡ option_map_or (λ (l : Kind). is_beginning l DocStart) last false
     by_tab true e =
         let l : 3 ≤ f.column = far f.column (only f refl e) in
         ap (λ b. is_section_start last (cond b (lexeme_of 0 start_found ∷ filter (ends_by f.column) xs) (filter (ends_by f.column) xs))) (le-leb 3 f.column l)
@@ -403,7 +405,7 @@ module _ (rows : List (List ℕ)) (tab : Option ℕ) (k : SurroundingsValue) (cs
       ∙ (read_start ∙ ap (λ (o : Option PlacedScanFault). reading_or_fault (lexeme_of 0 start_found) no_surroundings (more 2 k1) o) (no_step_fault tab (context_of k0))))
 
 start_here : (rows : List (List ℕ)) (k : SurroundingsValue) (last : Option Kind) (rest : List ℕ) → is_marker_of 0x2D (0x2D ∷ 0x2D ∷ 0x2D ∷ rest) ≡ true
-    → is_section_start last (left_of (row_of rows k (0x2D ∷ 0x2D ∷ 0x2D ∷ rest))) ≡ is_next_document last DocStart
+    → is_section_start last (left_of (row_of rows k (0x2D ∷ 0x2D ∷ 0x2D ∷ rest))) ≡ option_map_or (λ (l : Kind). is_beginning l DocStart) last false
 start_here rows k last rest marker =
     let cs = 0x2D ∷ 0x2D ∷ rest in
     let tab = first_tab false (0x2D ∷ cs) in
@@ -418,14 +420,14 @@ hyphens x y z rest h =
     let r = and_parts _ _ q.0 in
     (eqb-true x 0x2D r.0, (eqb-true y 0x2D r.1, eqb-true z 0x2D q.1))
 
-marker_start : (rows : List (List ℕ)) (k : SurroundingsValue) (last : Option Kind) (row : List ℕ) → is_marker_of 0x2D row ≡ true → is_section_start last (left_of (row_of rows k row)) ≡ is_next_document last DocStart
+marker_start : (rows : List (List ℕ)) (k : SurroundingsValue) (last : Option Kind) (row : List ℕ) → is_marker_of 0x2D row ≡ true → is_section_start last (left_of (row_of rows k row)) ≡ option_map_or (λ (l : Kind). is_beginning l DocStart) last false
 marker_start rows k last [] h = cc
 marker_start rows k last (x ∷ []) h = cc
 marker_start rows k last (x ∷ y ∷ []) h = cc
 marker_start rows k last (x ∷ y ∷ z ∷ rest) h =
     let p = hyphens x y z rest h in
     let e : x ∷ y ∷ z ∷ rest ≡ 0x2D ∷ 0x2D ∷ 0x2D ∷ rest = ap (λ a. a ∷ y ∷ z ∷ rest) p.0 ∙ (ap (λ a. 0x2D ∷ a ∷ z ∷ rest) p.1.0 ∙ ap (λ a. 0x2D ∷ 0x2D ∷ a ∷ rest) p.1.1) in
-    subst (λ (cs : List ℕ). is_section_start last (left_of (row_of rows k cs)) ≡ is_next_document last DocStart) (sym e)
+    subst (λ (cs : List ℕ). is_section_start last (left_of (row_of rows k cs)) ≡ option_map_or (λ (l : Kind). is_beginning l DocStart) last false) (sym e)
     (start_here rows k last rest (subst (λ (cs : List ℕ). is_marker_of 0x2D cs ≡ true) e h))
 
 -- ---- a row that began no section
@@ -464,7 +466,7 @@ behind_end (Some l) (x ∷ xs) h b = by_end (is_document_end l) refl
     by_end : (t : Bool) → is_document_end l ≡ t → (m : Kind) × ((Some l ≡ Some m) × (is_document_end m ≡ true))
     by_end true e = (l, (refl, e))
     by_end false e =
-        let f : is_next_document (Some l) x.kind ≡ false = rw (e, h.0) refl in
+        let f : option_map_or (λ (l : Kind). is_beginning l x.kind) (Some l) false ≡ false = rw (e, h.0) refl in
         let g : true ≡ false = sym b ∙ f in
         absurd (cc)
 
@@ -472,7 +474,7 @@ behind_end (Some l) (x ∷ xs) h b = by_end (is_document_end l) refl
 none_behind_end : (last : Option Kind) (l : Kind) (xs : List LexemeValue) → last ≡ Some l → is_document_end l ≡ true → is_section_start last xs ≡ false → xs ≡ []
 none_behind_end last l [] e d b = refl
 none_behind_end last l (x ∷ xs) e d b =
-    let f : is_section_start last (x ∷ xs) ≡ true = ap (λ (k : Option Kind). is_next_document k x.kind) e ∙ ap (λ t. t || (is_document_start x.kind && not (is_directive l))) d in
+    let f : is_section_start last (x ∷ xs) ≡ true = ap (λ (k : Option Kind). option_map_or (λ (l : Kind). is_beginning l x.kind) k false) e ∙ ap (λ t. t || (is_document_start x.kind && not (is_directive l))) d in
     let g : true ≡ false = sym f ∙ b in
     absurd (cc)
 

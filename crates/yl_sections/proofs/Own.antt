@@ -1,5 +1,5 @@
 -- What is kept of a section stands in its own lines: what is found in it, its facts and its comments.
-use Rattle.std.proofs.Common.{◌≡◌, ◌<◌, ◌≤◌, ℕ, ◌+◌, Bool, true, false, List, [], ◌∷◌, length, map, take, Option, Some, None, arith, refl, drop}
+use Rattle.std.proofs.Common.{◌≡◌, ◌<◌, ◌≤◌, ℕ, ◌+◌, Bool, true, false, List, [], ◌∷◌, length, map, take, Option, Some, None, arith, refl, drop, cond}
 use Rattle.std.specs.Prelude.{IfSome, option_map, slice_get}
 use Rattle.std.specs.List.{AllByRecursion, flat_map}
 use Rattle.std.specs.Str.{chars}
@@ -27,7 +27,7 @@ use Rattle.yl_config.specs.declared.config.Config.{Config}
 use Rattle.yl_config.specs.Config.{options_of}
 use Rattle.yl_record.specs.Records.{RecordValue}
 use Rattle.yl_sections.specs.declared.comments.LexemeEnd.{LexemeEnd}
-use Rattle.yl_sections.specs.Kept.{SectionFaultValue, comment_at, comment_lines, comments_from, counted_of, items_if, is_on, last_lexeme_end, lexeme_options_of, section_fault, scan_fault_from, shown_comment_findings, shown_comments, shown_events, tree_options_of}
+use Rattle.yl_sections.specs.Kept.{SectionFaultValue, comment_at, comment_lines, comments_from, counted_of, is_on, last_lexeme_end, lexeme_options_of, section_fault, scan_fault_from, shown_comment_findings, shown_comments, tree_options_of, unless_fault}
 use Rattle.yl_sections.specs.Judge.{built_by, document_of, kept_of_section}
 use Rattle.yl_sections.specs.Sections.{lexemes_from, lexemes_of}
 
@@ -89,13 +89,13 @@ document_begins : (high : ℕ) (xs : List LexemeValue) → AllByRecursion (λ x.
 document_begins high [] h = tt
 document_begins high (x ∷ xs) h = built_begin high (x ∷ xs) (omega (arith, h.0)) h (document_outcome_of_lines parser_at_start start_events (by_line (map token_of (x ∷ xs))))
 
-shown_begins : (high : ℕ) (fault : Option SectionFaultValue) (es : List EventValue) → AllByRecursion (Begins high) es → AllByRecursion (Begins high) (shown_events fault es)
+shown_begins : (high : ℕ) (fault : Option SectionFaultValue) (es : List EventValue) → AllByRecursion (Begins high) es → AllByRecursion (Begins high) (unless_fault fault es)
 shown_begins high None es h = h
 shown_begins high (Some f) es h = tt
 
 -- ---- what is kept
 
-own_items : {X : Type 0} (P : X → Type 0) (b : Bool) (xs : List X) → AllByRecursion P xs → AllByRecursion P (items_if b xs)
+own_items : {X : Type 0} (P : X → Type 0) (b : Bool) (xs : List X) → AllByRecursion P xs → AllByRecursion P (cond b xs [])
 own_items P true xs h = h
 own_items P false xs h = tt
 
@@ -130,7 +130,7 @@ module _ (K : RuleId → Type 0) (k : OfSectionRules K) (config : Config) (rs : 
       let begins = lexemes_begin 0 (length rs) rs (omega arith) in
       all_both P _ _ (own_lexemes K k.lexemes (length rs) P own (lexeme_options_of config) (counted_of xs b.fault) xs begins)
       (all_both P _ _ (own_comments (shown_comments (comment_lines (length rs) xs b.fault) rs) (shown_begin (comment_lines (length rs) xs b.fault) rs))
-      (own_events K k.events (length rs) P own (tree_options_of config) (shown_events fault b.events) (shown_begins (length rs) fault b.events (document_begins (length rs) xs begins))))
+      (own_events K k.events (length rs) P own (tree_options_of config) (unless_fault fault b.events) (shown_begins (length rs) fault b.events (document_begins (length rs) xs begins))))
 
 module _ (config : Config) (rs : List RecordValue) where
   pub own_kept_facts : AllByRecursion (λ f. f.line < length rs) (kept_of_section config rs).facts

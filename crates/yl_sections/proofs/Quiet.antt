@@ -1,7 +1,8 @@
 -- What is kept of a section once rows in which nothing is read come behind it: the same, but for how many rows it has.
-use Rattle.std.proofs.Common.{◌≡◌, ◌<◌, ◌++◌, ◌+◌, ℕ, zero, suc, List, [], ◌∷◌, map, length, take, take_all, refl, ap, sym, subst, ◌∙◌, Option, Some, None, arith, length-append}
+use Rattle.std.proofs.Common.{◌≡◌, ◌<◌, ◌++◌, ◌+◌, ℕ, zero, suc, List, [], ◌∷◌, map, length, take, take_all, refl, ap, sym, subst, ◌∙◌, Option, Some, None, arith, length-append, cond}
 use Rattle.std.specs.Prelude.{slice_get, slice_index}
 use Rattle.std.specs.List.{AllByRecursion}
+use Rattle.std.specs.Option.{option_map_or, option_map, option_or}
 use Rattle.yl_text.specs.declared.finding.RuleId.TheVariants.{Indentation}
 use Rattle.yl_lexeme.specs.Lexeme.{LexemeValue, CommentValue, PlacedCommentValue}
 use Rattle.yl_marks.specs.declared.token.Token.{Token}
@@ -19,7 +20,7 @@ use Rattle.yl_record.specs.Records.{RecordValue}
 use Rattle.yl_scan.specs.Restart.{IsQuiet}
 use Rattle.yl_sections.specs.declared.comments.LexemeEnd.{LexemeEnd}
 use Rattle.yl_sections.specs.Sections.{lexemes_from, lexemes_of}
-use Rattle.yl_sections.specs.Kept.{KeptValue, SectionFaultValue, scan_fault_from, scan_fault_or, section_fault, counted_of, comment_lines, line_or, last_lexeme_end, comment_at, comments_from, shown_comments, items_if, is_on, facts_of, kept_with, document_count}
+use Rattle.yl_sections.specs.Kept.{KeptValue, SectionFaultValue, scan_fault_from, section_fault, counted_of, comment_lines, last_lexeme_end, comment_at, comments_from, shown_comments, is_on, facts_of, kept_with, document_count, scan_fault_at}
 use Rattle.yl_sections.specs.Judge.{document_of, kept_of_section}
 
 -- nothing is read in a row
@@ -65,7 +66,7 @@ all_comments xs qs h =
     comments_before None 0 (length (xs ++ qs)) xs qs h
     ∙ ap (λ (rs : List RecordValue). comments_from None 0 rs) (take_all (length (xs ++ qs)) xs (omega (arith, many)) ∙ sym (take_all (length xs) xs (omega arith)))
 
-lines_shown : (xs qs : List RecordValue) → AllByRecursion IsQuietRow qs → (o : Option LexemeValue) → shown_comments (line_or (length (xs ++ qs)) o) (xs ++ qs) ≡ shown_comments (line_or (length xs) o) xs
+lines_shown : (xs qs : List RecordValue) → AllByRecursion IsQuietRow qs → (o : Option LexemeValue) → shown_comments (option_map_or (λ (x : LexemeValue). x.start.line) o (length (xs ++ qs))) (xs ++ qs) ≡ shown_comments (option_map_or (λ (x : LexemeValue). x.start.line) o (length xs)) xs
 lines_shown xs qs h None = all_comments xs qs h
 lines_shown xs qs h (Some x) = comments_before None 0 x.start.line xs qs h
 
@@ -78,11 +79,11 @@ comments_shown xs qs ls h (Some f) = lines_shown xs qs h (slice_get ls f.place)
 
 quiet_scan : (line : ℕ) (qs : List RecordValue) → AllByRecursion IsQuietRow qs → scan_fault_from line qs ≡ None
 quiet_scan line [] h = refl
-quiet_scan line (q ∷ qs) h = ap (λ (f : Option PlacedScanFault). scan_fault_or line f (scan_fault_from (line + 1) qs)) h.0.fault ∙ quiet_scan (line + 1) qs h.1
+quiet_scan line (q ∷ qs) h = ap (λ (f : Option PlacedScanFault). option_or (option_map (scan_fault_at line) f) (scan_fault_from (line + 1) qs)) h.0.fault ∙ quiet_scan (line + 1) qs h.1
 
 same_scan : (line : ℕ) (xs qs : List RecordValue) → AllByRecursion IsQuietRow qs → scan_fault_from line (xs ++ qs) ≡ scan_fault_from line xs
 same_scan line [] qs h = quiet_scan line qs h
-same_scan line (x ∷ xs) qs h = ap (λ (f : Option SectionFaultValue). scan_fault_or line x.entry.fault f) (same_scan (line + 1) xs qs h)
+same_scan line (x ∷ xs) qs h = ap (λ (f : Option SectionFaultValue). option_or (option_map (scan_fault_at line) x.entry.fault) f) (same_scan (line + 1) xs qs h)
 
 -- ---- indentation
 
@@ -145,7 +146,7 @@ same_facts config xs qs counted =
     let none : 0 + length xs ≡ length xs = omega arith in
     let above : AllByRecursion (IsAbove (length xs)) ls = subst (λ m. AllByRecursion (IsAbove m) ls) none (above_all 0 xs) in
     let alike = tokens_alike (indentations (xs ++ qs)) (indentations xs) (length xs) ls above (λ i l. same_indent i xs qs l) in
-    ap (λ (es : List Element). items_if (is_on config Indentation) (facts_after [] es)) (all_alike (indentations (xs ++ qs)) (indentations xs) (map token_of ls) counted alike (marked_lexemes ls))
+    ap (λ (es : List Element). cond (is_on config Indentation) (facts_after [] es) []) (all_alike (indentations (xs ++ qs)) (indentations xs) (map token_of ls) counted alike (marked_lexemes ls))
 
 -- ---- what is kept
 

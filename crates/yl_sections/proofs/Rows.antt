@@ -3,7 +3,7 @@ use Rattle.std.proofs.Common.{◌≡◌, ℕ, zero, suc, ◌+◌, ◌<◌, ◌�
 use Rattle.std.proofs.Math.ListN.{drop_of_length-le}
 use Rattle.std.proofs.lemmas.List.{length-append, length-map}
 use Rattle.std.specs.Prelude.{is_some, min}
-use Rattle.std.specs.Option.{option_map}
+use Rattle.std.specs.Option.{option_map, option_or}
 use Rattle.yl_lexeme.specs.declared.lexeme.Kind.{Kind}
 use Rattle.yl_lexeme.specs.Lexeme.{LexemeValue, CommentValue, PlacedCommentValue}
 use Rattle.yl_marks.specs.Keys.{lexeme_at_line}
@@ -13,7 +13,7 @@ use Rattle.yl_sections.specs.declared.comments.LexemeEnd.{LexemeEnd}
 use Rattle.yl_sections.specs.declared.fault.SectionFault.{SectionFault}
 use Rattle.yl_sections.specs.Owned.{section_fault_value}
 use Rattle.yl_sections.specs.Sections.{last_kind_from, is_section_start, row_count, lexemes_from}
-use Rattle.yl_sections.specs.Kept.{SectionFaultValue, scan_fault_or, scan_fault_from, last_lexeme_end, comment_at, comments_from}
+use Rattle.yl_sections.specs.Kept.{SectionFaultValue, scan_fault_from, last_lexeme_end, comment_at, comments_from, scan_fault_at}
 
 -- rows behind references
 abbrev pub seen : List (Bor RecordValue) → List RecordValue
@@ -33,11 +33,11 @@ none_left rs i l = drop_of_length-le (seen rs) {i = i} (omega (arith, l, length-
 
 -- ---- the scan fault
 
-none_or : (line : ℕ) (f : Option PlacedScanFault) (later : Option SectionFaultValue) → None ≡ scan_fault_or line f None → scan_fault_or line f later ≡ later
+none_or : (line : ℕ) (f : Option PlacedScanFault) (later : Option SectionFaultValue) → None ≡ option_map (scan_fault_at line) f → option_or (option_map (scan_fault_at line) f) later ≡ later
 none_or line None later e = refl
 none_or line (Some f) later e = absurd (cc)
 
-some_or : (line : ℕ) (f : Option PlacedScanFault) (later : Option SectionFaultValue) (r : SectionFaultValue) → Some r ≡ scan_fault_or line f None → scan_fault_or line f later ≡ Some r
+some_or : (line : ℕ) (f : Option PlacedScanFault) (later : Option SectionFaultValue) (r : SectionFaultValue) → Some r ≡ option_map (scan_fault_at line) f → option_or (option_map (scan_fault_at line) f) later ≡ Some r
 some_or line None later r e = absurd (cc)
 some_or line (Some f) later r e = sym e
 
@@ -46,21 +46,21 @@ counted_if b n = cond b 0 (suc n)
 
 module _ (rs : List (Bor RecordValue)) (i : ℕ) (x : Bor RecordValue) (within : i < length rs) (is : x ≡ get_or rs i x) where
   -- it is not in this row
-  pub fault_below : (f : Option PlacedScanFault) (r total : Option SectionFaultValue) → f ≡ x.now.entry.fault → r ≡ scan_fault_or i f None → is_some r ≡ false
+  pub fault_below : (f : Option PlacedScanFault) (r total : Option SectionFaultValue) → f ≡ x.now.entry.fault → r ≡ option_map (scan_fault_at i) f → is_some r ≡ false
       → scan_fault_from i (drop i (seen rs)) ≡ total → scan_fault_from (i + 1) (drop (i + 1) (seen rs)) ≡ total
   fault_below f None total e found none whole =
       sym (none_or i f (scan_fault_from (i + 1) (drop (i + 1) (seen rs))) found)
-      ∙ (ap (λ (g : Option PlacedScanFault). scan_fault_or i g (scan_fault_from (i + 1) (drop (i + 1) (seen rs)))) e
+      ∙ (ap (λ (g : Option PlacedScanFault). option_or (option_map (scan_fault_at i) g) (scan_fault_from (i + 1) (drop (i + 1) (seen rs)))) e
       ∙ (ap (λ (es : List RecordValue). scan_fault_from i es) (sym (next rs i x within is)) ∙ whole))
   fault_below f (Some r) total e found none whole = absurd (cc)
 
   -- it is
-  pub fault_here : (f : Option PlacedScanFault) (r total : Option SectionFaultValue) → f ≡ x.now.entry.fault → r ≡ scan_fault_or i f None → is_some r ≡ true
+  pub fault_here : (f : Option PlacedScanFault) (r total : Option SectionFaultValue) → f ≡ x.now.entry.fault → r ≡ option_map (scan_fault_at i) f → is_some r ≡ true
       → scan_fault_from i (drop i (seen rs)) ≡ total → r ≡ total
   fault_here f None total e found some whole = absurd (cc)
   fault_here f (Some r) total e found some whole =
       sym (some_or i f (scan_fault_from (i + 1) (drop (i + 1) (seen rs))) r found)
-      ∙ (ap (λ (g : Option PlacedScanFault). scan_fault_or i g (scan_fault_from (i + 1) (drop (i + 1) (seen rs)))) e
+      ∙ (ap (λ (g : Option PlacedScanFault). option_or (option_map (scan_fault_at i) g) (scan_fault_from (i + 1) (drop (i + 1) (seen rs)))) e
       ∙ (ap (λ (es : List RecordValue). scan_fault_from i es) (sym (next rs i x within is)) ∙ whole))
 
   -- ---- lexemes and comments

@@ -2,6 +2,7 @@
 use Rattle.std.proofs.Common.{◌≡◌, ℕ, ◌+◌, Bool, true, false, List, [], ◌∷◌, ◌++◌, length, map, take, Option, None, refl, ap, ◌∙◌}
 use Rattle.std.proofs.lemmas.List.{length-map}
 use Rattle.std.specs.List.{take-map}
+use Rattle.std.specs.Option.{option_map, option_or}
 use Rattle.yl_text.specs.Character.{indentation}
 use Rattle.yl_lexeme.specs.declared.lexeme.Kind.{Kind}
 use Rattle.yl_lexeme.specs.Lexeme.{LexemeValue, PlacedCommentValue}
@@ -11,7 +12,7 @@ use Rattle.yl_config.specs.declared.config.Config.{Config}
 use Rattle.yl_record.specs.Records.{RecordValue, records, records_with}
 use Rattle.yl_record.specs.Recorded.{without_state, records_without_states}
 use Rattle.yl_sections.specs.declared.comments.LexemeEnd.{LexemeEnd}
-use Rattle.yl_sections.specs.Kept.{KeptValue, BuiltValue, SectionFaultValue, scan_fault_or, scan_fault_from, comment_lines, last_lexeme_end, comment_at, comments_from, shown_comments, document_count, kept_of, documents_in}
+use Rattle.yl_sections.specs.Kept.{KeptValue, BuiltValue, SectionFaultValue, scan_fault_from, comment_lines, last_lexeme_end, comment_at, comments_from, shown_comments, document_count, kept_of, documents_in, scan_fault_at}
 use Rattle.yl_sections.specs.Judge.{document_of, kept_of_section}
 use Rattle.yl_sections.specs.Sections.{Parts, last_kind_from, is_section_start, with_row, parts, sections, lexemes_from, lexemes_of}
 
@@ -49,7 +50,7 @@ sections_bare rs = ap (λ (p : Parts). p.here ∷ p.later) (parts_bare None rs)
 
 scan_bare : (line : ℕ) (rs : List RecordValue) → scan_fault_from line (map bare rs) ≡ scan_fault_from line rs
 scan_bare line [] = refl
-scan_bare line (r ∷ rs) = ap (λ (f : Option SectionFaultValue). scan_fault_or line r.entry.fault f) (scan_bare (line + 1) rs)
+scan_bare line (r ∷ rs) = ap (λ (f : Option SectionFaultValue). option_or (option_map (scan_fault_at line) r.entry.fault) f) (scan_bare (line + 1) rs)
 
 comments_bare : (last : Option LexemeEnd) (line : ℕ) (rs : List RecordValue) → comments_from last line (map bare rs) ≡ comments_from last line rs
 comments_bare last line [] = refl

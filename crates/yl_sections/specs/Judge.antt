@@ -9,7 +9,7 @@ use Rattle.yl_events.specs.Parsing.{parser_at_start, start_events, document_outc
 use Rattle.yl_config.specs.declared.config.Config.{Config}
 use Rattle.yl_record.specs.Records.{RecordValue}
 use Rattle.yl_sections.specs.Sections.{lexemes_of}
-use Rattle.yl_sections.specs.Kept.{BuiltValue, nothing_built, KeptValue, kept_of}
+use Rattle.yl_sections.specs.Kept.{BuiltValue, KeptValue, kept_of}
 
 abbrev pub built_by : List LexemeValue → DocumentOutcome → BuiltValue
 built_by xs (Events es) = record { events = map (event_of_outline xs) es; fault = None }
@@ -17,7 +17,7 @@ built_by xs (Fails f) = record { events = []; fault = Some f }
 
 -- what the document of these lexemes gives
 abbrev pub document_of : List LexemeValue → BuiltValue
-document_of [] = nothing_built
+document_of [] = record { events = []; fault = None }
 document_of (x ∷ xs) = built_by (x ∷ xs) (document_outcome_of_lines parser_at_start start_events (by_line (map token_of (x ∷ xs))))
 
 -- what is kept of the section of these rows

@@ -2,8 +2,10 @@
 -- says of a section follows from the sections' own faults: a section after one with a fault is hidden whole, and one without fault shows
 -- all that it has. So what is kept is what the section shows, and no problem needs to know on which lexemes it rests. Rules that look at
 -- rows hide nothing, and are no part of it.
-use Rattle.std.specs.Prelude.{◌≡◌, ℕ, Bool, true, false, ◌==◌, if◌then◌else◌, List, [], ◌∷◌, ◌++◌, ◌+◌, ◌-◌, ◌^◌, min, map, length, take, Option, Some, None, slice_get, is_some}
-use Rattle.std.specs.List.{filter, flat_map}
+use Rattle.std.specs.Prelude.{◌≡◌, ℕ, Bool, ◌==◌, if◌then◌else◌, List, [], ◌∷◌, ◌++◌, ◌+◌, ◌-◌, ◌^◌, min, map, length, take, Option, Some, None, slice_get, is_some, option_map, option_and_then}
+use Rattle.std.specs.Bool.{then_some}
+use Rattle.std.specs.Option.{option_or, option_map_or}
+use Rattle.std.specs.List.{filter, flat_map, fold}
 use Rattle.yl_text.specs.declared.position.Pos.{Pos}
 use Rattle.yl_text.specs.declared.finding.RuleId.{RuleId}
 use Rattle.yl_text.specs.declared.finding.RuleId.TheVariants.{Anchors, Braces, Brackets, Colons, Commas, Comments, DocumentStart, Hyphens, Indentation, KeyDuplicates, KeyOrdering, QuotedStrings, Truthy}
@@ -39,15 +41,11 @@ pub record BuiltValue : Type 0 where
   pub events : List EventValue
   pub fault : Option PlacedParseFault
 
-abbrev pub nothing_built : BuiltValue
-nothing_built = record { events = []; fault = None }
-
 -- what the document of these lexemes gives; no lexemes are no document
 abbrev pub IsSectionBuilt : List LexemeValue → BuiltValue → Type 0
-IsSectionBuilt [] b = b ≡ nothing_built
+IsSectionBuilt [] b = b ≡ record { events = []; fault = None }
 IsSectionBuilt (x ∷ xs) b = Builds (x ∷ xs) b.events b.fault
 
--- how many documents they are
 abbrev pub document_count : List LexemeValue → ℕ
 document_count [] = 0
 document_count (x ∷ xs) = 1
@@ -65,62 +63,42 @@ pub data SectionFaultValue : Type 0 where
   -- its document may not end: at the next document's first lexeme, or at the text's end
   Behind : (text : List ℕ) → SectionFaultValue
 
--- the greatest number of lines and of characters stands for all beyond it: no text has that many
-abbrev pub place_in_text : ℕ → ℕ → Pos
-place_in_text line column = pos_at (min line (2 ^ 32 - 1)) (min column (2 ^ 32 - 1))
-
-abbrev pub scan_fault_or : ℕ → Option PlacedScanFault → Option SectionFaultValue → Option SectionFaultValue
-scan_fault_or line None later = later
-scan_fault_or line (Some f) later = Some (Here (place_in_text (line + f.down) f.column) (scan.fault_text f.fault))
+-- of the row at this line. The greatest number of lines and of characters stands for all beyond it: no text has that many
+abbrev pub scan_fault_at : ℕ → PlacedScanFault → SectionFaultValue
+scan_fault_at line f = Here (pos_at (min (line + f.down) (2 ^ 32 - 1)) (min f.column (2 ^ 32 - 1))) (scan.fault_text f.fault)
 
 -- the scan fault in these rows, the first of which is at this line
 abbrev pub scan_fault_from : ℕ → List RecordValue → Option SectionFaultValue
 scan_fault_from line [] = None
-scan_fault_from line (r ∷ rs) = scan_fault_or line r.entry.fault (scan_fault_from (line + 1) rs)
+scan_fault_from line (r ∷ rs) = option_or (option_map (scan_fault_at line) r.entry.fault) (scan_fault_from (line + 1) rs)
 
-abbrev pub or_behind : Option SectionFaultValue → List ℕ → Option SectionFaultValue
-or_behind None text = Some (Behind text)
-or_behind (Some f) text = Some f
-
--- a parse fault at a lexeme comes before the scan fault, which stands after all lexemes; one after them gives way to it
-abbrev pub parse_fault_or : Option LexemeValue → List ℕ → Option SectionFaultValue → Option SectionFaultValue
-parse_fault_or None text scanned = or_behind scanned text
-parse_fault_or (Some x) text scanned = Some (Here x.start text)
-
--- by the parse fault of these lexemes and the scan fault
+-- by the parse fault of these lexemes and the scan fault, which stands after all lexemes: a parse fault at a lexeme comes before it, and
+-- one after them gives way to it
 abbrev pub section_fault : List LexemeValue → Option PlacedParseFault → Option SectionFaultValue → Option SectionFaultValue
 section_fault xs None scanned = scanned
-section_fault xs (Some f) scanned = parse_fault_or (slice_get xs f.place) (parse.fault_text f.kind) scanned
+section_fault xs (Some f) scanned =
+    let text = parse.fault_text f.kind in
+    option_or (option_map (λ x. Here x.start text) (slice_get xs f.place)) (option_or scanned (Some (Behind text)))
 
 -- how many lexemes come before the parse fault
 abbrev pub counted_of : List LexemeValue → Option PlacedParseFault → ℕ
-counted_of xs None = length xs
-counted_of xs (Some f) = f.place
-
-abbrev pub line_or : ℕ → Option LexemeValue → ℕ
-line_or rows None = rows
-line_or rows (Some x) = x.start.line
+counted_of xs f = option_map_or (λ e. e.place) f (length xs)
 
 -- up to which line, without it, comments are shown: that of a parse fault at a lexeme, else as many as there are rows
 abbrev pub comment_lines : ℕ → List LexemeValue → Option PlacedParseFault → ℕ
-comment_lines rows xs None = rows
-comment_lines rows xs (Some f) = line_or rows (slice_get xs f.place)
+comment_lines rows xs f = option_map_or (λ x. x.start.line) (option_and_then (λ e. slice_get xs e.place) f) rows
 
 -- ---- comments
 
 -- where the last lexeme ends, after those of the row at this line too
 abbrev pub last_lexeme_end : Option LexemeEnd → ℕ → List LexemeValue → Option LexemeEnd
-last_lexeme_end last line [] = last
-last_lexeme_end last line (x ∷ xs) = last_lexeme_end (Some (record { line = line + x.end.line; col = x.end.col })) line xs
+last_lexeme_end last line xs = fold (λ e x. Some (record { line = line + x.end.line; col = x.end.col })) last xs
 
--- in which column, if it is in this line
-abbrev pub column_in : ℕ → Option LexemeEnd → Option ℕ
-column_in line None = None
-column_in line (Some end) = if end.line == line then Some end.col else None
-
+-- with the column where the last lexeme ends, if that is in this line
 abbrev pub comment_at : ℕ → Option LexemeEnd → Option CommentValue → List PlacedCommentValue
 comment_at line last None = []
-comment_at line last (Some c) = record { line = line; column = c.column; text = c.text; behind = column_in line last } ∷ []
+comment_at line last (Some c) =
+    record { line = line; column = c.column; text = c.text; behind = option_and_then (λ e. then_some (e.line == line) e.col) last } ∷ []
 
 -- the comments of these rows, the first of which is at this line; a row's comment comes after its lexemes
 abbrev pub comments_from : Option LexemeEnd → ℕ → List RecordValue → List PlacedCommentValue
@@ -137,52 +115,40 @@ shown_comments line rs = comments_from None 0 (take line rs)
 abbrev pub is_on : Config → RuleId → Bool
 is_on config rule = is_some (levels_of config rule)
 
-abbrev pub options_if : {O : Type 0} → Bool → O → Option O
-options_if true o = Some o
-options_if false o = None
-
-abbrev pub items_if : {X : Type 0} → Bool → List X → List X
-items_if true xs = xs
-items_if false xs = []
-
--- of the rules on lexemes
 abbrev pub lexeme_options_of : Config → LexemeOptions
 lexeme_options_of config = record {
-  braces = options_if (is_on config Braces) (options_of config).braces;
-  brackets = options_if (is_on config Brackets) (options_of config).brackets;
-  colons = options_if (is_on config Colons) (options_of config).colons;
-  commas = options_if (is_on config Commas) (options_of config).commas;
-  hyphens = options_if (is_on config Hyphens) (options_of config).hyphens;
-  document_start = options_if (is_on config DocumentStart) (options_of config).document_start;
-  truthy = options_if (is_on config Truthy) (options_of config).truthy;
-  quoted_strings = options_if (is_on config QuotedStrings) (options_of config).quoted_strings;
+  braces = then_some (is_on config Braces) (options_of config).braces;
+  brackets = then_some (is_on config Brackets) (options_of config).brackets;
+  colons = then_some (is_on config Colons) (options_of config).colons;
+  commas = then_some (is_on config Commas) (options_of config).commas;
+  hyphens = then_some (is_on config Hyphens) (options_of config).hyphens;
+  document_start = then_some (is_on config DocumentStart) (options_of config).document_start;
+  truthy = then_some (is_on config Truthy) (options_of config).truthy;
+  quoted_strings = then_some (is_on config QuotedStrings) (options_of config).quoted_strings;
 }
 
 -- the shebang's place, line 0 and column 0, is the text's first: in the first row of a later section a lexeme stands before any comment
 abbrev pub shown_comment_findings : Config → List PlacedCommentValue → List FindingValue
-shown_comment_findings config cs = items_if (is_on config Comments) (flat_map (comment_findings (options_of config).comments) cs)
+shown_comment_findings config cs =
+    if is_on config Comments then flat_map (comment_findings (options_of config).comments) cs else []
 
--- of the rules on keys and anchors
 abbrev pub tree_options_of : Config → TreeOptions
 tree_options_of config = record {
-  key_duplicates = options_if (is_on config KeyDuplicates) (options_of config).key_duplicates;
+  key_duplicates = then_some (is_on config KeyDuplicates) (options_of config).key_duplicates;
   key_ordering = is_on config KeyOrdering;
-  anchors = options_if (is_on config Anchors) (options_of config).anchors;
+  anchors = then_some (is_on config Anchors) (options_of config).anchors;
 }
 
 abbrev pub event_findings : Config → List EventValue → List FindingValue
 event_findings config es = tree_findings (tree_options_of config) es
 
--- the events count where the section has no fault
-abbrev pub shown_events : Option SectionFaultValue → List EventValue → List EventValue
-shown_events None es = es
-shown_events (Some f) es = []
+-- a fault hides these
+abbrev pub unless_fault : {X : Type 0} → Option SectionFaultValue → List X → List X
+unless_fault fault xs = option_map_or (λ _. []) fault xs
 
--- those that a scan fault alone hides: without it the section has this fault
+-- the events that a scan fault alone hides: without it the section has this fault
 abbrev pub hidden_events : Option SectionFaultValue → Option SectionFaultValue → List EventValue → List EventValue
-hidden_events None parse_fault es = []
-hidden_events (Some f) None es = es
-hidden_events (Some f) (Some g) es = []
+hidden_events fault parse_fault es = option_map_or (λ _. unless_fault parse_fault es) fault []
 
 -- ---- what is kept
 
@@ -202,13 +168,9 @@ pub record KeptValue : Type 0 where
   -- the fault without a scan fault in these rows
   pub parse_fault : Option SectionFaultValue
 
-abbrev pub column_or : ℕ → Option LexemeValue → ℕ
-column_or column None = column
-column_or column (Some x) = x.start.col
-
 abbrev pub facts_of : Config → List RecordValue → List LexemeValue → ℕ → List Fact
 facts_of config rs xs counted =
-    items_if (is_on config Indentation) (indent_facts (map token_of xs) (marked_lexemes xs) counted (map (λ r. r.indentation) rs))
+    if is_on config Indentation then indent_facts (map token_of xs) (marked_lexemes xs) counted (map (λ r. r.indentation) rs) else []
 
 -- of a section with these lexemes, whose document gives this, and with this fault
 abbrev pub kept_with : Config → List RecordValue → List LexemeValue → BuiltValue → Option SectionFaultValue → KeptValue
@@ -217,10 +179,10 @@ kept_with config rs xs b fault =
     let comments = shown_comments (comment_lines (length rs) xs b.fault) rs in
     record {
       rows = length rs;
-      first = column_or 0 (slice_get xs 0);
+      first = option_map_or (λ x. x.start.col) (slice_get xs 0) 0;
       found =
           lexeme_findings (lexeme_options_of config) counted xs
-          ++ (shown_comment_findings config comments ++ event_findings config (shown_events fault b.events));
+          ++ (shown_comment_findings config comments ++ event_findings config (unless_fault fault b.events));
       facts = facts_of config rs xs counted;
       comments = filter is_addressed comments;
       fault = fault;

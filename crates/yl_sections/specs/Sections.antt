@@ -3,6 +3,8 @@
 -- holds the rows from a document's first lexeme on to before the next document's; the first holds all rows before it too. A text without
 -- lexemes is one section and no document.
 use Rattle.std.specs.Prelude.{ℕ, suc, Bool, true, false, if◌then◌else◌, List, [], ◌∷◌, ◌++◌, ◌+◌, map, Option, Some, None}
+use Rattle.std.specs.Option.{option_map_or}
+use Rattle.std.specs.List.{fold}
 use Rattle.yl_lexeme.specs.declared.lexeme.Kind.{Kind}
 use Rattle.yl_lexeme.specs.Lexeme.{LexemeValue}
 use Rattle.yl_marks.specs.Keys.{lexeme_at_line}
@@ -11,18 +13,12 @@ use Rattle.yl_record.specs.Records.{RecordValue}
 
 -- the kind of the last lexeme, after these too
 abbrev pub last_kind_from : Option Kind → List LexemeValue → Option Kind
-last_kind_from last [] = last
-last_kind_from last (x ∷ xs) = last_kind_from (Some x.kind) xs
+last_kind_from last xs = fold (λ k x. Some x.kind) last xs
 
--- a document begins with a lexeme of this kind after one of that kind, and is not the text's first
-abbrev pub is_next_document : Option Kind → Kind → Bool
-is_next_document None kind = false
-is_next_document (Some last) kind = is_beginning last kind
-
--- a section begins with the row of these lexemes
+-- a section begins with the row of these lexemes: a document does with the first of them, and it is not the text's first
 abbrev pub is_section_start : Option Kind → List LexemeValue → Bool
 is_section_start last [] = false
-is_section_start last (x ∷ xs) = is_next_document last x.kind
+is_section_start last (x ∷ xs) = option_map_or (λ k. is_beginning k x.kind) last false
 
 -- the rows that belong to the section before, and the sections that begin after them
 pub record Parts : Type 0 where

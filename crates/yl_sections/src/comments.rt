@@ -1,10 +1,11 @@
 //! The comments of a section.
-ghost use Rattle.std.specs.Prelude.{◌≡◌, ◌<◌, ◌^◌, ◌++◌, ◌∷◌, [], map, length, take, None, IfOk, OnOk};
+ghost use Rattle.std.specs.Prelude.{◌≡◌, ◌<◌, ◌^◌, ◌++◌, ◌∷◌, [], map, length, take, None, IfOk, OnOk, ◌==◌, option_and_then};
 ghost use Rattle.std.specs.Option.{option_map};
 ghost use Rattle.std.specs.List.{filter};
+ghost use Rattle.std.specs.Bool.{then_some};
 ghost use Rattle.yl_lexeme.specs.PlacedComments.{placed_comment_value};
 ghost use Rattle.yl_rules.specs.Addressed as spec;
-ghost use Rattle.yl_sections.specs.Kept.{column_in, comment_at, comments_from, last_lexeme_end, shown_comments};
+ghost use Rattle.yl_sections.specs.Kept.{comment_at, comments_from, last_lexeme_end, shown_comments};
 
 use crate::kept::KeptComment;
 use std::alloc::{AllocError, Allocator};
@@ -40,7 +41,7 @@ fn last_end<A: Allocator>(
 
 /// In which column it is, if it is in this line.
 fn column_in(line: u32, last: Option<LexemeEnd>) -> Option<u32>
-    ensures { result ≡ column_in line last }
+    ensures { result ≡ option_and_then (λ e. then_some (e.line == line) e.col) last }
 {
     match last {
         None => None,

@@ -2,7 +2,7 @@
 ghost use Rattle.std.specs.Prelude.{◌≡◌, ◌<◌, ◌^◌, ◌-◌, map, min, length, None};
 ghost use Rattle.std.specs.Option.{option_map};
 ghost use Rattle.yl_marks.specs.Keys.{lexeme_at_line};
-ghost use Rattle.yl_sections.specs.Kept.{comment_lines, counted_of, line_or, or_behind, parse_fault_or, scan_fault_from, scan_fault_or, section_fault};
+ghost use Rattle.yl_sections.specs.Kept.{comment_lines, counted_of, scan_fault_from, section_fault, scan_fault_at};
 ghost use Rattle.yl_sections.specs.Owned.{section_fault_value};
 
 use std::alloc::Allocator;
@@ -35,7 +35,7 @@ fn saturated(n: usize) -> u32
 /// The scan fault of the row at this line, if it has one.
 fn scan_fault_at(line: usize, fault: Option<PlacedScanFault>) -> Option<SectionFault>
     requires { line < 2 ^ 32 }
-    ensures { option_map section_fault_value result ≡ scan_fault_or line fault None }
+    ensures { option_map section_fault_value result ≡ option_map (scan_fault_at line) fault }
 {
     let fault = fault?;
     let place = Pos {

@@ -1,13 +1,13 @@
 //! Judging a section.
 ghost use Rattle.std.specs.Prelude.{◌≡◌, ◌≤◌, ◌<◌, ◌-◌, ◌+◌, ◌++◌, ◌∷◌, ◌^◌, [], List, drop, take, map, length, slice_get, IfOk, OnOk};
 ghost use Rattle.yl_record.specs.Records.{RecordValue};
-ghost use Rattle.std.specs.Option.{option_map};
+ghost use Rattle.std.specs.Option.{option_map, option_map_or};
 ghost use Rattle.yl_config.specs.declared.config.Config.{Config};
 ghost use Rattle.yl_events.specs.Event.{EventValue};
 ghost use Rattle.yl_marks.specs.Facts.{key_facts};
 ghost use Rattle.yl_marks.specs.Keys.{lexeme_at_line};
 ghost use Rattle.yl_sections.specs.Sections.{lexemes_of, sections};
-ghost use Rattle.yl_sections.specs.Kept.{BuiltValue, column_or, counted_of, document_count, event_findings, hidden_events, kept_of, scan_fault_from, section_fault, shown_events, documents_in};
+ghost use Rattle.yl_sections.specs.Kept.{BuiltValue, counted_of, document_count, event_findings, hidden_events, kept_of, scan_fault_from, section_fault, documents_in, unless_fault};
 ghost use Rattle.yl_sections.specs.Judge.{kept_of_section};
 ghost use Rattle.yl_sections.specs.Owned.{section_fault_value};
 ghost use Rattle.yl_sections.specs.Reading.{IsReading};
@@ -39,7 +39,7 @@ fn show_or_hide<A: Allocator + Copy>(
     found: Vec<Finding<A>, A>,
 ) -> TreeFindings<A>
     ensures shown { (config : Config) (es : List EventValue) → found.items ≡ event_findings config es
-        → result.shown.items ≡ event_findings config (shown_events (option_map section_fault_value fault) es) }
+        → result.shown.items ≡ event_findings config (unless_fault (option_map section_fault_value fault) es) }
     ensures hidden { (config : Config) (es : List EventValue) → found.items ≡ event_findings config es
         → result.hidden.items ≡ event_findings config (hidden_events (option_map section_fault_value fault) (option_map section_fault_value parse_fault) es) }
 {
@@ -62,7 +62,7 @@ fn show_or_hide<A: Allocator + Copy>(
 
 /// The column of the first lexeme, or 0.
 fn first_column<A: Allocator>(lexemes: &[LexemeAtLine<'_, A>]) -> u32
-    ensures { result ≡ column_or 0 (slice_get (map (λ x. lexeme_at_line x.line x.lexeme.now) lexemes.now) 0) }
+    ensures { result ≡ option_map_or (λ x. x.start.col) (slice_get (map (λ x. lexeme_at_line x.line x.lexeme.now) lexemes.now) 0) 0 }
 {
     match lexemes {
         [] => 0,

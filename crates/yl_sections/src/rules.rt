@@ -1,10 +1,11 @@
 //! What the rules find in a section.
 ghost use Rattle.std.specs.Prelude.{◌≡◌, ◌≤◌, ◌++◌, map, length, IfOk};
+ghost use Rattle.std.specs.Bool.{then_some};
 ghost use Rattle.yl_lexeme.specs.PlacedComments.{placed_comment_value};
 ghost use Rattle.yl_marks.specs.Facts.{key_facts};
 ghost use Rattle.yl_marks.specs.Keys.{lexeme_at_line};
 ghost use Rattle.yl_layout.specs.Lexemes.{lexeme_findings};
-ghost use Rattle.yl_sections.specs.Kept.{is_on, lexeme_options_of, options_if, shown_comment_findings, tree_options_of};
+ghost use Rattle.yl_sections.specs.Kept.{is_on, lexeme_options_of, shown_comment_findings, tree_options_of};
 
 use std::alloc::{AllocError, Allocator};
 use yl_config::Config;
@@ -24,7 +25,7 @@ pub fn is_on(config: &Config, rule: RuleId) -> bool
 
 /// The options of a rule that is on.
 fn options_if<O: Copy>(is_on: bool, options: &O) -> Option<O>
-    ensures { result ≡ options_if is_on options.now }
+    ensures { result ≡ then_some is_on options.now }
 {
     if is_on { Some(*options) } else { None }
 }

@@ -1,5 +1,6 @@
 -- What a report shows of sections up to one with a fault at a place: what comes behind that one, and how many rows it has, counts nowhere.
 use Rattle.std.proofs.Common.{◌≡◌, ◌⊎◌, ◌++◌, ◌+◌, ℕ, List, [], ◌∷◌, map, refl, ap, sym, ◌∙◌, Option, Some, None, inl, inr}
+use Rattle.std.specs.Option.{option_map_or}
 use Rattle.yl_text.specs.declared.position.Pos.{Pos}
 use Rattle.yl_text.specs.Finding.{FindingValue}
 use Rattle.yl_lexeme.specs.Lexeme.{PlacedCommentValue}
@@ -9,8 +10,8 @@ use Rattle.yl_indentation.specs.declared.options.IndentationOptions.{Indentation
 use Rattle.yl_indentation.specs.Measures.{and_later, empty_measure, measure_of}
 use Rattle.yl_config.specs.declared.config.Config.{Config}
 use Rattle.yl_config.specs.Config.{options_of}
-use Rattle.yl_sections.specs.Kept.{KeptValue, SectionFaultValue, Here, Behind}
-use Rattle.yl_lint.specs.TextReport.{comments_in_sections, facts_in_sections, fault_in_sections, fault_or_later, findings_in_section, findings_in_sections, moved_comment, place_after, report_of_kept, shown, syntax_finding, unless_fault}
+use Rattle.yl_sections.specs.Kept.{KeptValue, SectionFaultValue, Here, Behind, unless_fault}
+use Rattle.yl_lint.specs.TextReport.{comments_in_sections, facts_in_sections, fault_in_sections, findings_in_section, findings_in_sections, moved_comment, place_after, report_of_kept, shown, syntax_finding, finding_of_fault}
 use Rattle.yl_sections.proofs.Quiet.{with_rows}
 use Rattle.yl_rescan.proofs.Stops.{IsHere, HaveHere}
 
@@ -27,12 +28,12 @@ longer n (k ∷ ks) = longer_behind n k ks
 
 fault_next : (line rows : ℕ) (end : Pos) (xs ys : List KeptValue) (f : Option SectionFaultValue) (us vs : List FindingValue)
     → ((text : List ℕ) → f ≡ Some (Behind text) → place_after (line + rows) end xs ≡ place_after (line + rows) end ys) → (f ≡ None → us ≡ vs)
-    → fault_or_later line rows end xs f us ≡ fault_or_later line rows end ys f vs
+    → option_map_or (λ f. finding_of_fault line rows end xs f ∷ []) f us ≡ option_map_or (λ f. finding_of_fault line rows end ys f ∷ []) f vs
 fault_next line rows end xs ys None us vs place later = later refl
 fault_next line rows end xs ys (Some (Here p text)) us vs place later = refl
 fault_next line rows end xs ys (Some (Behind text)) us vs place later = ap (λ (p : Pos). syntax_finding p text ∷ []) (place text refl)
 
-fault_last : (line m n : ℕ) (end : Pos) (xs ys : List KeptValue) (f : Option SectionFaultValue) (us vs : List FindingValue) → IsHere f → fault_or_later line m end xs f us ≡ fault_or_later line n end ys f vs
+fault_last : (line m n : ℕ) (end : Pos) (xs ys : List KeptValue) (f : Option SectionFaultValue) (us vs : List FindingValue) → IsHere f → option_map_or (λ f. finding_of_fault line m end xs f ∷ []) f us ≡ option_map_or (λ f. finding_of_fault line n end ys f ∷ []) f vs
 fault_last line m n end xs ys None us vs h = absurd h
 fault_last line m n end xs ys (Some (Here p text)) us vs h = refl
 fault_last line m n end xs ys (Some (Behind text)) us vs h = absurd h

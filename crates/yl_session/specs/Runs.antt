@@ -16,28 +16,18 @@ use Rattle.yl_session.specs.Work.{IsWork}
 abbrev pub IsNothing : List RowValue → Pos → Pos → List ℕ → Type 0
 IsNothing ps from to bytes = (offset ps from ≡ offset ps to) × (bytes ≡ [])
 
--- what nothing takes
-abbrev pub no_work : Work
-no_work = record { scanned = 0; documents = 0 }
-
--- what an edit of these lines is refused for: the first cause that stands, or want of memory where none does and there is
+-- the answer to an edit of these lines. It is refused for the first cause that stands, or for want of memory where none does and there is
 -- something to be done
-abbrev pub IsRefusal : List RowValue → Pos → Pos → List ℕ → TextFault → Type 0
-IsRefusal ps from to bytes Memory = CanEdit ps from to bytes × ¬ (IsNothing ps from to bytes)
-IsRefusal ps from to bytes fault = IsEditFault ps from to bytes fault
-
--- the answer to an edit of these lines
 abbrev pub IsAnswer : List RowValue → Pos → Pos → List ℕ → Result Work TextFault → Type 0
-IsAnswer ps from to bytes (Ok work) = CanEdit ps from to bytes × (IsNothing ps from to bytes → work ≡ no_work)
-IsAnswer ps from to bytes (Err fault) = IsRefusal ps from to bytes fault
+IsAnswer ps from to bytes (Ok work) = CanEdit ps from to bytes × (IsNothing ps from to bytes → work ≡ record { scanned = 0; documents = 0 })
+IsAnswer ps from to bytes (Err Memory) = CanEdit ps from to bytes × ¬ (IsNothing ps from to bytes)
+IsAnswer ps from to bytes (Err fault) = IsEditFault ps from to bytes fault
 
--- how many of the new lines stand in place of the old ones that the edit touches: all but those before these and behind them
-abbrev pub lines_put : List RowValue → List RowValue → Pos → Pos → List ℕ → ℕ
-lines_put old new from to bytes = length new - (first_line old from + (length old - end_line old from to bytes))
-
--- an edit that leaves these new lines may take so much: its old lines are the first one that it touches to its end line
+-- an edit that leaves these new lines may take so much: its old lines are the first one that it touches to its end line, and the new
+-- lines in their place are all but those before them and behind them
 abbrev pub IsEditWork : List RowValue → List RowValue → Pos → Pos → List ℕ → Work → Type 0
-IsEditWork old new from to bytes work = IsWork (characters_in old) (characters_in new) (first_line old from) (end_line old from to bytes) (lines_put old new from to bytes) work
+IsEditWork old new from to bytes work = IsWork (characters_in old) (characters_in new) (first_line old from) (end_line old from to bytes)
+    (length new - (first_line old from + (length old - end_line old from to bytes))) work
 
 -- an edit as a value: these bytes in place of what stands between two places
 pub record EditValue : Type 0 where
@@ -53,16 +43,13 @@ text_after text e (Err fault) = text
 -- the text that is left by the edits that were accepted
 abbrev pub text_after_all : List ℕ → List EditValue → List (Result Work TextFault) → List ℕ
 text_after_all text (e ∷ edits) (r ∷ answers) = text_after_all (text_after text e r) edits answers
-text_after_all text [] [] = text
-text_after_all text [] (r ∷ answers) = text
-text_after_all text (e ∷ edits) [] = text
+text_after_all text _ _ = text
 
 -- each edit has the answer that it gets at the text of that moment
 abbrev pub AreAnswers : List ℕ → List EditValue → List (Result Work TextFault) → Type 0
 AreAnswers text [] [] = Unit {0}
 AreAnswers text (e ∷ edits) (r ∷ answers) = IsAnswer (lines_of text) e.from e.to e.bytes r × AreAnswers (text_after text e r) edits answers
-AreAnswers text [] (r ∷ answers) = ⊥
-AreAnswers text (e ∷ edits) [] = ⊥
+AreAnswers text _ _ = ⊥
 
 -- after these edits of the text, with these answers, the session shows what is left
 pub record Replayed (c : Config) (text : List ℕ) (edits : List EditValue) (answers : List (Result Work TextFault)) (s : SessionValue) : Type 0 where

@@ -6,13 +6,8 @@ use Rattle.yl_rescan.specs.Rescan.{IsRestart, IsStop}
 use Rattle.yl_rejudge.specs.Documents.{documents_holding}
 use Rattle.yl_session.specs.declared.work.Work.{Work}
 
--- so many documents of the text hold one of the rows from r to m
-abbrev pub count_holding : List (List ℕ) → ℕ → ℕ → ℕ
-count_holding t r m = documents_holding 0 r m (sections (records t))
-
--- An edit of a text of these old rows, each given as its characters, put k lines in place of the lines a to b. Row r is the greatest
--- sound one above row a of the new text, or the first; m is the least row from a + k on at which the texts agree, or the last. Then
--- the rows from r to m are scanned at the most, and events are derived at the most of the documents that hold one of these rows.
+-- An edit of a text of these old rows, each given as its characters, put k lines in place of the lines a to b. Then the rows from r to m
+-- are scanned at the most, and events are derived at the most of the documents that hold one of these rows.
 pub record IsWork (old new : List (List ℕ)) (a b k : ℕ) (work : Work) : Type 0 where
   pub r : ℕ
   pub m : ℕ
@@ -20,4 +15,4 @@ pub record IsWork (old new : List (List ℕ)) (a b k : ℕ) (work : Work) : Type
   pub stop : IsStop old new (a + k) b m
   pub some : k ≤ work.scanned
   pub few : work.scanned ≤ m - r + 1
-  pub documents : work.documents ≤ count_holding new r m
+  pub documents : work.documents ≤ documents_holding 0 r m (sections (records new))

@@ -71,7 +71,7 @@ impl<S: LineStore> Session<S> {
     ghost use Rattle.yl_session.specs.State.{Shows};
     ghost use Rattle.yl_lint.specs.TextReport.{report};
     ghost use Rattle.yl_report.specs.Report.{status_of};
-    ghost use Rattle.yl_session.specs.Runs.{IsAnswer, IsEditWork, no_work};
+    ghost use Rattle.yl_session.specs.Runs.{IsAnswer, IsEditWork};
 
     /// A session over these bytes.
     pub fn open(alloc: S::Alloc, config: Config, bytes: &[u8]) -> Result<Session<S>, TextFault>
@@ -219,7 +219,7 @@ impl<S: LineStore> Session<S> {
         // No more than the rows and documents that the edit can have changed.
         ensures work { IfOk result (λ work. ¬ (IsNothing self.old.rows from to bytes.now) → IsEditWork self.old.rows self.new.rows from to bytes.now work) }
         ensures refused { OnErr result (self.new ≡ self.old) }
-        ensures nothing { IsEditRange self.old.rows from to → IsNothing self.old.rows from to bytes.now → (result ≡ Ok no_work) × (self.new ≡ self.old) }
+        ensures nothing { IsEditRange self.old.rows from to → IsNothing self.old.rows from to bytes.now → (result ≡ Ok (record { scanned = 0; documents = 0 })) × (self.new ≡ self.old) }
     {
         if let Err(fault) = self.store.check(from, to, bytes) {
             return Err(fault);

@@ -6,7 +6,7 @@ use Rattle.yl_lexeme.specs.declared.placed.PlacedComment.{PlacedComment}
 use Rattle.yl_lexeme.specs.PlacedComments.{placed_comment_value}
 use Rattle.yl_marks.specs.Keys.{lexeme_at_line}
 use Rattle.yl_layout.specs.Lexemes.{lexeme_findings}
-use Rattle.yl_sections.specs.Kept.{comment_lines, counted_of, facts_of, lexeme_options_of, section_fault, shown_comment_findings, shown_events, hidden_events}
+use Rattle.yl_sections.specs.Kept.{comment_lines, counted_of, facts_of, lexeme_options_of, section_fault, shown_comment_findings, hidden_events, unless_fault}
 use Rattle.yl_rules.specs.Addressed.{is_addressed}
 use Rattle.yl_sections.specs.Owned.{section_fault_value}
 use Rattle.yl_sections.proofs.Rows.{seen, length-seen}
@@ -22,7 +22,7 @@ returns g c = λ b reads.
     let scanned = option_map section_fault_value c.scan_fault.result in
     let xs = map (λ x. lexeme_at_line x.line x.lexeme.now) c.args.lexemes.now in
     let counted = c.counted-counted.ensures ∙ ap (counted_of xs) reads.fault in
-    kept_is config rs b xs scanned fault parse_fault (shown_events fault b.events) (hidden_events fault parse_fault b.events) c.counted-counted.result (length c.args.records.now)
+    kept_is config rs b xs scanned fault parse_fault (unless_fault fault b.events) (hidden_events fault parse_fault b.events) c.counted-counted.result (length c.args.records.now)
     c.comment_lines-lines.result c.first_column.result (map placed_comment_value c.in_ok-comments.comments.items) c.in_ok-comments-2.comments.items c.in_ok-found.found.items c.show_or_hide-in_tree.result.hidden.items c.args.reading.facts.items c.new.result
     c.new.ensures
     (c.in_ok-found.ensures

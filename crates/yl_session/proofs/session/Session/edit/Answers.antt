@@ -1,4 +1,4 @@
-use Rattle.std.proofs.Common.{ℕ, List, ap, subst, refl}
+use Rattle.std.proofs.Common.{ℕ, List, Err, ap, subst, refl}
 use Rattle.yl_text.specs.declared.fault.TextFault.{TextFault}
 use Rattle.yl_text.specs.declared.fault.TextFault.TheVariants.{NotUtf8, Range, TooLarge, Memory}
 use Rattle.yl_text.specs.declared.position.Pos.{Pos}
@@ -6,11 +6,11 @@ use Rattle.yl_text.specs.Lines.{RowValue}
 use Rattle.yl_text.specs.Store.{AreLines}
 use Rattle.yl_text.specs.Edit.{IsEditFault, edited_text}
 use Rattle.yl_session.specs.State.{SessionValue, Shows}
-use Rattle.yl_session.specs.Runs.{IsRefusal, IsNothing}
+use Rattle.yl_session.specs.Runs.{IsAnswer, IsNothing}
 use Rattle.yl_session.proofs.Nothing.{IsLines-nothing, IsEditFault-nothing}
 use Rattle.yl_session.proofs.session.Session.edit.Goals as goal
 
-refusal : (ps : List RowValue) (from to : Pos) (t : List ℕ) (f : TextFault) → IsEditFault ps from to t f → IsRefusal ps from to t f
+refusal : (ps : List RowValue) (from to : Pos) (t : List ℕ) (f : TextFault) → IsEditFault ps from to t f → IsAnswer ps from to t (Err f)
 refusal ps from to t (NotUtf8 n) h = h
 refusal ps from to t Range h = h
 refusal ps from to t TooLarge h = h
