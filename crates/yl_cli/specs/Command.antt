@@ -54,7 +54,9 @@ pub data Next : Type 0 where
 -- the command that a line asks for, and what follows its bytes
 abbrev pub next_of_line : Option CommandLine → List ℕ → Next
 next_of_line (Some c) rest =
-    if nat_le c.size (length rest) then Command (record { from = c.from; to = c.to; bytes = take c.size rest }) (drop c.size rest) else Bad
+    if nat_le c.size (length rest)
+    then Command (record { from = c.from; to = c.to; bytes = take c.size rest }) (drop c.size rest)
+    else Bad
 next_of_line None rest = Bad
 
 -- the longest line of a command has 62 bytes: its name, five numbers of 10 digits, and five spaces, which stand between them

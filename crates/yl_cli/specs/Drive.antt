@@ -56,9 +56,9 @@ abbrev pub replies : Config → (name : List ℕ) → Flags → (text : List ℕ
 replies c name flags text (e ∷ edits) (r ∷ answers) = reply c name flags (text_after text e r) r ++ replies c name flags (text_after text e r) edits answers
 replies c name flags text _ _ = []
 
--- all that is written of a text and its edits
 abbrev pub text_of_run : Config → (name : List ℕ) → Flags → (text : List ℕ) → List EditValue → List (Result Work TextFault) → List ℕ
-text_of_run c name flags text edits answers = shown_lines c name flags (lines_of text) None ++ replies c name flags text edits answers
+text_of_run c name flags text edits answers =
+    shown_lines c name flags (lines_of text) None ++ replies c name flags text edits answers
 
 -- ---- a run
 
@@ -68,8 +68,7 @@ pub record Devices : Type 0 where
   pub before : Option (List ℕ)
   pub now : Option (List ℕ)
 
--- all commands before a place were read, each has the answer that it gets at the text of that moment, and all that they are answered is
--- written
+-- the commands before a place were read, each has the answer that it gets at the text of that moment, and all these are written
 pub record IsAnswered (c : Config) (name : List ℕ) (flags : Flags) (text : List ℕ) (d : Devices) : Type 0 where
   pub edits : List EditValue
   pub answers : List (Result Work TextFault)
@@ -91,8 +90,8 @@ pub record IsBegun (c : Config) (name : List ℕ) (flags : Flags) (text : List �
   pub answered : AreAnswers text edits answers
   pub written : AppendsFront d.before d.now (text_of_run c name flags text edits answers)
 
--- why a run may end early: for a device only where its failures rose. On a failed read and at a bad command all that the commands
--- before it are answered is written. A bad command is a place where none stands, or that of one more than are counted
+-- why a run may end early: for a device only where its failures rose. On a failed read, where no command stands, and once as many
+-- commands were read as are counted, all that those before are answered is written
 abbrev pub IsDriveFault : Config → (name : List ℕ) → Flags → (bytes : List ℕ) → Failures → Devices → RunFault → Type 0
 IsDriveFault c name flags bytes n d (fault.Text f) = IsBadText (without_mark bytes) f × Keeps d.before d.now
 IsDriveFault c name flags bytes n d fault.Read = (n.reads_before < n.reads_after) × IsAnswered c name flags (without_mark bytes) d

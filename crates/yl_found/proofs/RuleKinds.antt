@@ -1,5 +1,5 @@
 -- What is found in lines is of rules on lines, and what is found in sections of rules on sections.
-use Rattle.std.proofs.Common.{◌≡◌, ℕ, ◌+◌, ◌-◌, ◌==◌, Bool, true, false, List, [], ◌∷◌, ◌++◌, length, map, Option, Some, None, refl, sym, if◌then◌else◌, cond}
+use Rattle.std.proofs.Common.{◌≡◌, ℕ, ◌+◌, ◌-◌, ◌==◌, Bool, true, false, List, [], ◌∷◌, ◌++◌, length, map, Option, Some, None, refl, sym, if◌then◌else◌}
 use Rattle.std.specs.Prelude.{◌&&◌, ◌||◌, not, slice_get}
 use Rattle.std.specs.List.{AllByRecursion, prefix_len}
 use Rattle.std.specs.Str.{chars}
@@ -31,7 +31,7 @@ use Rattle.yl_rules.specs.Runs.{run_findings}
 use Rattle.yl_rules.specs.TrailingSpaces.{trailing_spaces}
 use Rattle.yl_settings.specs.declared.options.RuleOptions.{RuleOptions}
 use Rattle.yl_report.specs.Report.{is_syntax}
-use Rattle.yl_sections.specs.Kept.{KeptValue}
+use Rattle.yl_sections.specs.Kept.{KeptValue, items_if}
 use Rattle.yl_lint.specs.Onward.{onward_in_section, onward_in_sections}
 use Rattle.yl_lint.specs.TextReport.{findings_from, findings_in_lines, moved}
 use Rattle.yl_lint.specs.There.{lines_there}
@@ -113,7 +113,7 @@ in_lines_of o rows =
     (both_of is_of_lines (new_lines o.run.new_line rows) (empty_lines o.run.empty_lines rows ++ end_of_file rows) (new_lines_of o.run.new_line rows)
     (both_of is_of_lines (empty_lines o.run.empty_lines rows) (end_of_file rows) (empty_lines_of o.run.empty_lines [] rows) (end_of (length rows) (slice_get rows (length rows - 1)))))
 
-items_of : (b : Bool) (fs : List FindingValue) → AreOf is_of_lines fs → AreOf is_of_lines (cond b fs [])
+items_of : (b : Bool) (fs : List FindingValue) → AreOf is_of_lines fs → AreOf is_of_lines (items_if b fs)
 items_of true fs h = h
 items_of false fs h = tt
 
@@ -122,9 +122,9 @@ pub lines_there_of : (o : RuleOptions) (e : Ends) (rows : List RowValue) → Are
 lines_there_of o e rows =
     let n = new_lines o.run.new_line rows in
     let z = end_of_file rows in
-    both_of is_of_lines (findings_from o.row 1 rows) (cond e.begins n [] ++ (empty_lines o.run.empty_lines rows ++ cond e.ends z [])) (rows_of o.row 1 rows)
-    (both_of is_of_lines (cond e.begins n []) (empty_lines o.run.empty_lines rows ++ cond e.ends z []) (items_of e.begins n (new_lines_of o.run.new_line rows))
-    (both_of is_of_lines (empty_lines o.run.empty_lines rows) (cond e.ends z []) (empty_lines_of o.run.empty_lines [] rows) (items_of e.ends z (end_of (length rows) (slice_get rows (length rows - 1))))))
+    both_of is_of_lines (findings_from o.row 1 rows) (items_if e.begins n ++ (empty_lines o.run.empty_lines rows ++ items_if e.ends z)) (rows_of o.row 1 rows)
+    (both_of is_of_lines (items_if e.begins n) (empty_lines o.run.empty_lines rows ++ items_if e.ends z) (items_of e.begins n (new_lines_of o.run.new_line rows))
+    (both_of is_of_lines (empty_lines o.run.empty_lines rows) (items_if e.ends z) (empty_lines_of o.run.empty_lines [] rows) (items_of e.ends z (end_of (length rows) (slice_get rows (length rows - 1))))))
 
 -- ---- sections
 

@@ -18,6 +18,7 @@ use Rattle.yl_rules.specs.Rows.{row_findings}
 use Rattle.yl_rules.specs.TrailingSpaces.{trailing_spaces}
 use Rattle.yl_rules.specs.LineLength.{line_length}
 use Rattle.yl_settings.specs.declared.options.RuleOptions.{RuleOptions}
+use Rattle.yl_sections.specs.Kept.{items_if}
 use Rattle.yl_lint.specs.TextReport.{findings_from, findings_in_lines}
 use Rattle.yl_lint.specs.There.{judges, lines_there}
 use Rattle.yl_lint.specs.declared.there.Ends.{Ends}
@@ -70,7 +71,7 @@ module _ (e : Ends) where
   last_stays line None = tt
   last_stays line (Some row) = unless_each e.ends line _ _ _ _ refl
 
-  stay_if : (b : Bool) (fs : List FindingValue) → Each b fs → filter stays fs ≡ cond b fs []
+  stay_if : (b : Bool) (fs : List FindingValue) → Each b fs → filter stays fs ≡ items_if b fs
   stay_if true [] h = refl
   stay_if false [] h = refl
   stay_if true (f ∷ fs) h = ap (λ b. cond b (f ∷ filter stays fs) (filter stays fs)) h.0 ∙ ap (λ (gs : List FindingValue). f ∷ gs) (stay_if true fs h.1)

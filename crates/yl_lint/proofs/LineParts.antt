@@ -20,6 +20,7 @@ use Rattle.yl_rules.specs.NewLines.{new_lines}
 use Rattle.yl_rules.specs.Rows.{row_findings}
 use Rattle.yl_rules.specs.TrailingSpaces.{trailing_spaces}
 use Rattle.yl_rules.specs.LineLength.{line_length}
+use Rattle.yl_sections.specs.Kept.{items_if}
 use Rattle.yl_lint.specs.TextReport.{moved, findings_from}
 
 -- in lines behind one, up to another
@@ -232,23 +233,23 @@ not_moved : (fs : List FindingValue) → fs ≡ map (moved 0) fs
 not_moved [] = refl
 not_moved (f ∷ fs) = ap (λ (g : FindingValue). g ∷ fs) (same_finding f) ∙ ap (λ (gs : List FindingValue). moved 0 f ∷ gs) (not_moved fs)
 
-nothing_if : (b : Bool) → cond {A = List FindingValue} b [] [] ≡ []
+nothing_if : (b : Bool) → items_if {X = FindingValue} b [] ≡ []
 nothing_if true = refl
 nothing_if false = refl
 
-if_moved : (n : ℕ) (b : Bool) (fs gs : List FindingValue) → gs ≡ map (moved n) fs → cond b gs [] ≡ map (moved n) (cond b fs [])
+if_moved : (n : ℕ) (b : Bool) (fs gs : List FindingValue) → gs ≡ map (moved n) fs → items_if b gs ≡ map (moved n) (items_if b fs)
 if_moved n true fs gs h = h
 if_moved n false fs gs h = refl
 
 pub first_apart : (wanted : NewLine) (b : Bool) (xs ys : List RowValue)
-    → cond b (new_lines wanted (xs ++ ys)) [] ≡ cond b (new_lines wanted xs) [] ++ map (moved (length xs)) (cond (if_none xs b) (new_lines wanted ys) [])
-first_apart wanted b [] ys = if_moved 0 b (new_lines wanted ys) (new_lines wanted ys) (not_moved (new_lines wanted ys)) ∙ ap (λ (fs : List FindingValue). fs ++ map (moved 0) (cond b (new_lines wanted ys) [])) (sym (nothing_if b))
-first_apart wanted b (x ∷ xs) ys = sym (append-nil (cond b (new_lines wanted (x ∷ xs)) []))
+    → items_if b (new_lines wanted (xs ++ ys)) ≡ items_if b (new_lines wanted xs) ++ map (moved (length xs)) (items_if (if_none xs b) (new_lines wanted ys))
+first_apart wanted b [] ys = if_moved 0 b (new_lines wanted ys) (new_lines wanted ys) (not_moved (new_lines wanted ys)) ∙ ap (λ (fs : List FindingValue). fs ++ map (moved 0) (items_if b (new_lines wanted ys))) (sym (nothing_if b))
+first_apart wanted b (x ∷ xs) ys = sym (append-nil (items_if b (new_lines wanted (x ∷ xs))))
 
-pub last_apart : (b : Bool) (xs ys : List RowValue) → cond b (end_of_file (xs ++ ys)) [] ≡ cond (if_none ys b) (end_of_file xs) [] ++ map (moved (length xs)) (cond b (end_of_file ys) [])
+pub last_apart : (b : Bool) (xs ys : List RowValue) → items_if b (end_of_file (xs ++ ys)) ≡ items_if (if_none ys b) (end_of_file xs) ++ map (moved (length xs)) (items_if b (end_of_file ys))
 last_apart b xs [] =
-    ap (λ (rows : List RowValue). cond b (end_of_file rows) []) (append-nil xs)
-    ∙ (sym (append-nil (cond b (end_of_file xs) [])) ∙ ap (λ (fs : List FindingValue). cond b (end_of_file xs) [] ++ map (moved (length xs)) fs) (sym (nothing_if b)))
+    ap (λ (rows : List RowValue). items_if b (end_of_file rows)) (append-nil xs)
+    ∙ (sym (append-nil (items_if b (end_of_file xs))) ∙ ap (λ (fs : List FindingValue). items_if b (end_of_file xs) ++ map (moved (length xs)) fs) (sym (nothing_if b)))
 last_apart b xs (y ∷ ys) = if_moved (length xs) b (end_of_file (y ∷ ys)) (end_of_file (xs ++ y ∷ ys)) (end_of_file_apart xs ys y)
 
 pub runs_apart : (o : EmptyLinesOptions) (xs ys : List RowValue) → is_seam xs ys ≡ true → empty_lines o (xs ++ ys) ≡ empty_lines o xs ++ map (moved (length xs)) (empty_lines o ys)

@@ -43,7 +43,7 @@ first_text rows = option_map_or (λ row. row.text) (slice_get rows 0) []
 -- after the last character of the last line
 abbrev pub end_of_lines : List RowValue → Pos
 end_of_lines rows =
-    let last = length rows - 1 in record { line = last; col = option_map_or (λ row. length (chars row.text)) (slice_get rows last) 0 }
+    let i = length rows - 1 in record { line = i; col = option_map_or (λ row. length (chars row.text)) (slice_get rows i) 0 }
 
 -- ---- the text's fault
 
@@ -103,8 +103,9 @@ comments_in_sections line (k ∷ ks) = map (moved_comment line) k.comments ++ co
 -- all that is found in a text that ends there, in whose lines the rules found this, and of whose sections this is kept
 abbrev pub found_of_kept : Config → List FindingValue → Pos → List KeptValue → List FindingValue
 found_of_kept config in_lines end ks =
-    let whole = measure_of (facts_in_sections (shown ks)) in
-    in_lines ++ fault_in_sections 0 end ks ++ findings_in_sections (options_of config).indentation whole 0 empty_measure (shown ks)
+    let seen = shown ks in
+    let whole = measure_of (facts_in_sections seen) in
+    in_lines ++ fault_in_sections 0 end ks ++ findings_in_sections (options_of config).indentation whole 0 empty_measure seen
 
 -- the report of a text with this first line
 unfoldable pub report_of_kept : Config → List FindingValue → List ℕ → Pos → List KeptValue → List ProblemValue
@@ -128,4 +129,5 @@ report_by config rows ks = report_of_kept config (findings_in_lines (options_of 
 -- the report of the lines of a text under a configuration
 unfoldable pub report : Config → List RowValue → List ProblemValue
 report config rows =
-    report_of_kept config (findings_in_lines (options_of config) rows) (first_text rows) (end_of_lines rows) (kept_of_text config rows)
+    let in_lines = findings_in_lines (options_of config) rows in
+    report_of_kept config in_lines (first_text rows) (end_of_lines rows) (kept_of_text config rows)

@@ -1,5 +1,5 @@
 -- Meaning: what is found in some lines of a text, and in the sections that have these lines.
-use Rattle.std.specs.Prelude.{Bool, true, if◌then◌else◌, List, [], ◌++◌}
+use Rattle.std.specs.Prelude.{Bool, true, List, ◌++◌}
 use Rattle.yl_text.specs.declared.finding.RuleId.{RuleId}
 use Rattle.yl_text.specs.declared.finding.RuleId.TheVariants.{NewLines, NewLineAtEndOfFile}
 use Rattle.yl_text.specs.Finding.{FindingValue}
@@ -9,7 +9,7 @@ use Rattle.yl_rules.specs.EmptyLines.{empty_lines}
 use Rattle.yl_rules.specs.EndOfFile.{end_of_file}
 use Rattle.yl_rules.specs.NewLines.{new_lines}
 use Rattle.yl_settings.specs.declared.options.RuleOptions.{RuleOptions}
-use Rattle.yl_sections.specs.Kept.{KeptValue}
+use Rattle.yl_sections.specs.Kept.{KeptValue, items_if}
 use Rattle.yl_lint.specs.Onward.{onward_in_sections}
 use Rattle.yl_lint.specs.TextReport.{findings_from}
 use Rattle.yl_lint.specs.declared.there.Ends.{Ends}
@@ -24,8 +24,7 @@ judges e _ = true
 abbrev pub lines_there : RuleOptions → Ends → List RowValue → List FindingValue
 lines_there o e rows =
     findings_from o.row 1 rows
-    ++ ((if e.begins then new_lines o.run.new_line rows else [])
-    ++ (empty_lines o.run.empty_lines rows ++ (if e.ends then end_of_file rows else [])))
+    ++ (items_if e.begins (new_lines o.run.new_line rows) ++ (empty_lines o.run.empty_lines rows ++ items_if e.ends (end_of_file rows)))
 
 -- in the sections too, behind facts of this measure
 abbrev pub found_there : RuleOptions → Ends → Measure → List RowValue → List KeptValue → List FindingValue

@@ -14,7 +14,7 @@ use Rattle.yl_indentation.specs.declared.measure.Measure.{Measure}
 use Rattle.yl_indentation.specs.Measures.{and_later}
 use Rattle.yl_settings.specs.declared.options.RuleOptions.{RuleOptions}
 use Rattle.yl_report.specs.Report.{ProblemValue}
-use Rattle.yl_sections.specs.Kept.{KeptValue}
+use Rattle.yl_sections.specs.Kept.{KeptValue, items_if}
 use Rattle.yl_rejudge.specs.Places.{rows_kept}
 use Rattle.yl_lint.specs.Onward.{onward_in_sections}
 use Rattle.yl_lint.specs.TextReport.{moved, findings_from}
@@ -32,10 +32,10 @@ use Rattle.yl_overview.proofs.Walks.{measured}
 abbrev pub part : RuleOptions → Bool → Bool → Measure → List RowValue → List KeptValue → List FindingValue
 part o begins ends before rows ks =
     findings_from o.row 1 rows
-    ++ (cond begins (new_lines o.run.new_line rows) []
-    ++ (empty_lines o.run.empty_lines rows ++ (cond ends (end_of_file rows) [] ++ onward_in_sections o.indentation 0 before ks)))
+    ++ (items_if begins (new_lines o.run.new_line rows)
+    ++ (empty_lines o.run.empty_lines rows ++ (items_if ends (end_of_file rows) ++ onward_in_sections o.indentation 0 before ks)))
 
-if_between : (low high : ℕ) (b : Bool) (fs : List FindingValue) → Between low high fs → Between low high (cond b fs [])
+if_between : (low high : ℕ) (b : Bool) (fs : List FindingValue) → Between low high fs → Between low high (items_if b fs)
 if_between low high true fs h = h
 if_between low high false fs h = tt
 
@@ -44,15 +44,15 @@ pub part_between : (o : RuleOptions) (begins ends : Bool) (before : Measure) (ro
 part_between o begins ends before rows ks high h l m =
     let n = length rows in
     between_both 0 high (findings_from o.row 1 rows) _ (rows_between o.row 0 high 1 rows (omega arith) (omega (arith, l)))
-    (between_both 0 high (cond begins (new_lines o.run.new_line rows) []) _ (if_between 0 high begins (new_lines o.run.new_line rows) (between_wider 0 n 0 high (new_lines o.run.new_line rows) (omega arith) l (new_lines_between o.run.new_line rows)))
+    (between_both 0 high (items_if begins (new_lines o.run.new_line rows)) _ (if_between 0 high begins (new_lines o.run.new_line rows) (between_wider 0 n 0 high (new_lines o.run.new_line rows) (omega arith) l (new_lines_between o.run.new_line rows)))
     (between_both 0 high (empty_lines o.run.empty_lines rows) _ (empty_lines_between o.run.empty_lines 0 high [] rows (omega arith) (omega (arith, l)))
-    (between_both 0 high (cond ends (end_of_file rows) []) _ (if_between 0 high ends (end_of_file rows) (between_wider 0 n 0 high (end_of_file rows) (omega arith) l (end_of_file_between rows)))
+    (between_both 0 high (items_if ends (end_of_file rows)) _ (if_between 0 high ends (end_of_file rows) (between_wider 0 n 0 high (end_of_file rows) (omega arith) l (end_of_file_between rows)))
     (sections_between o.indentation before 0 high ks h (omega (arith, m))))))
 
 -- the same behind facts of either measure, where the same is found in the sections
 pub part_alike : (o : RuleOptions) (begins ends : Bool) (one other : Measure) (rows : List RowValue) (ks : List KeptValue) → AreFoundAlike one other ks → part o begins ends one rows ks ≡ part o begins ends other rows ks
 part_alike o begins ends one other rows ks same =
-    ap (λ (fs : List FindingValue). findings_from o.row 1 rows ++ (cond begins (new_lines o.run.new_line rows) [] ++ (empty_lines o.run.empty_lines rows ++ (cond ends (end_of_file rows) [] ++ fs)))) (same o.indentation 0)
+    ap (λ (fs : List FindingValue). findings_from o.row 1 rows ++ (items_if begins (new_lines o.run.new_line rows) ++ (empty_lines o.run.empty_lines rows ++ (items_if ends (end_of_file rows) ++ fs)))) (same o.indentation 0)
 
 -- ---- the members of two parts
 
@@ -111,10 +111,10 @@ module _ (levels : LevelTable) (s : RuleId → ℕ → Bool) (o : RuleOptions) (
   r₂ = findings_from o.row 1 ys
 
   abbrev n₁ : List FindingValue
-  n₁ = cond begins (new_lines o.run.new_line xs) []
+  n₁ = items_if begins (new_lines o.run.new_line xs)
 
   abbrev n₂ : List FindingValue
-  n₂ = cond (if_none xs begins) (new_lines o.run.new_line ys) []
+  n₂ = items_if (if_none xs begins) (new_lines o.run.new_line ys)
 
   abbrev e₁ : List FindingValue
   e₁ = empty_lines o.run.empty_lines xs
@@ -123,10 +123,10 @@ module _ (levels : LevelTable) (s : RuleId → ℕ → Bool) (o : RuleOptions) (
   e₂ = empty_lines o.run.empty_lines ys
 
   abbrev z₁ : List FindingValue
-  z₁ = cond (if_none ys ends) (end_of_file xs) []
+  z₁ = items_if (if_none ys ends) (end_of_file xs)
 
   abbrev z₂ : List FindingValue
-  z₂ = cond ends (end_of_file ys) []
+  z₂ = items_if ends (end_of_file ys)
 
   abbrev s₁ : List FindingValue
   s₁ = onward_in_sections o.indentation 0 before ks

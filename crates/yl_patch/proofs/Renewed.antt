@@ -1,5 +1,5 @@
 -- What is found in an edited text, from what was found in the old text and what is found in the touched lines.
-use Rattle.std.proofs.Common.{◌≡◌, ℕ, zero, suc, ◌+◌, ◌-◌, ◌<◌, ◌≤◌, ◌==◌, Bool, true, false, List, [], ◌∷◌, ◌++◌, length, map, take, drop, refl, ap, sym, subst, ◌∙◌, arith, rules, append_assoc, cond}
+use Rattle.std.proofs.Common.{◌≡◌, ℕ, zero, suc, ◌+◌, ◌-◌, ◌<◌, ◌≤◌, ◌==◌, Bool, true, false, List, [], ◌∷◌, ◌++◌, length, map, take, drop, refl, ap, sym, subst, ◌∙◌, arith, rules, append_assoc}
 use Rattle.std.specs.List.{AllByRecursion, splice, slice_get, prefix_len}
 use Rattle.std.proofs.lemmas.List.{same_lists, places, length-take-le, length-drop}
 use Rattle.yl_text.proofs.Every.{all_back, all_both, all_front}
@@ -18,7 +18,7 @@ use Rattle.yl_config.specs.Config.{levels_of, options_of}
 use Rattle.yl_report.specs.Heard.{nothing_silenced}
 use Rattle.yl_report.specs.Report.{ProblemValue, report_of}
 use Rattle.yl_parting.specs.Parts.{above, behind, is_upto, shifted}
-use Rattle.yl_sections.specs.Kept.{KeptValue}
+use Rattle.yl_sections.specs.Kept.{KeptValue, items_if}
 use Rattle.yl_rejudge.specs.Places.{rows_kept}
 use Rattle.yl_lint.proofs.Onward.{whole_looks_back}
 use Rattle.yl_lint.specs.Onward.{onward_in_sections}
@@ -43,9 +43,9 @@ use Rattle.yl_overview.proofs.Walks.{measured}
 pub found_is_part : (o : RuleOptions) (e : Ends) (before : Measure) (rows : List RowValue) (ks : List KeptValue) → found_there o e before rows ks ≡ part o e.begins e.ends before rows ks
 found_is_part o e before rows ks =
     let r = findings_from o.row 1 rows in
-    let n = cond e.begins (new_lines o.run.new_line rows) [] in
+    let n = items_if e.begins (new_lines o.run.new_line rows) in
     let l = empty_lines o.run.empty_lines rows in
-    let z = cond e.ends (end_of_file rows) [] in
+    let z = items_if e.ends (end_of_file rows) in
     let s = onward_in_sections o.indentation 0 before ks in
     append_assoc r (n ++ (l ++ z)) s ∙ ap (λ (fs : List FindingValue). r ++ fs) (append_assoc n (l ++ z) s ∙ ap (λ (fs : List FindingValue). n ++ fs) (append_assoc l z s))
 

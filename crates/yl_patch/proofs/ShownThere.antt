@@ -1,5 +1,5 @@
 -- What is found in the lines of sections that are put in place of some is shown as the comments up to them say.
-use Rattle.std.proofs.Common.{◌≡◌, ℕ, ◌+◌, ◌<◌, ◌≤◌, Bool, true, false, List, [], ◌++◌, length, map, take, ap, sym, subst, ◌∙◌, arith, rules, cond}
+use Rattle.std.proofs.Common.{◌≡◌, ℕ, ◌+◌, ◌<◌, ◌≤◌, Bool, true, false, List, [], ◌++◌, length, map, take, ap, sym, subst, ◌∙◌, arith, rules}
 use Rattle.std.specs.Prelude.{not}
 use Rattle.std.specs.List.{AllByRecursion, filter, splice}
 use Rattle.std.proofs.lemmas.List.{same_lists, places}
@@ -15,7 +15,7 @@ use Rattle.yl_indentation.specs.declared.measure.Measure.{Measure}
 use Rattle.yl_settings.specs.declared.options.RuleOptions.{RuleOptions}
 use Rattle.yl_report.specs.Directive.{disables_file, is_silenced}
 use Rattle.yl_report.specs.Report.{ProblemValue, report_of}
-use Rattle.yl_sections.specs.Kept.{KeptValue}
+use Rattle.yl_sections.specs.Kept.{KeptValue, items_if}
 use Rattle.yl_rejudge.specs.Places.{rows_kept}
 use Rattle.yl_lint.specs.Onward.{onward_in_sections}
 use Rattle.yl_lint.specs.TextReport.{comments_in_sections, findings_from, first_text, moved, shown}
@@ -36,7 +36,7 @@ use Rattle.yl_found.proofs.WithoutFaults.{onward_faultless, rows_faultless}
 
 -- ---- the lines of what is found there
 
-if_between : (low high : ℕ) (b : Bool) (fs : List FindingValue) → Between low high fs → Between low high (cond b fs [])
+if_between : (low high : ℕ) (b : Bool) (fs : List FindingValue) → Between low high fs → Between low high (items_if b fs)
 if_between low high true fs h = h
 if_between low high false fs h = tt
 
@@ -45,7 +45,7 @@ there_between o e before rows ks n plain l m =
     let wider = λ (fs : List FindingValue) (h : Between 0 (length rows) fs). between_wider 0 (length rows) 0 n fs (omega arith) l h in
     between_both 0 n (lines_there o e rows) (onward_in_sections o.indentation 0 before ks)
     (between_both 0 n (findings_from o.row 1 rows) _ (rows_between o.row 0 n 1 rows (omega arith) (omega (arith, l)))
-    (between_both 0 n (cond e.begins (new_lines o.run.new_line rows) []) _ (if_between 0 n e.begins (new_lines o.run.new_line rows) (wider (new_lines o.run.new_line rows) (new_lines_between o.run.new_line rows)))
+    (between_both 0 n (items_if e.begins (new_lines o.run.new_line rows)) _ (if_between 0 n e.begins (new_lines o.run.new_line rows) (wider (new_lines o.run.new_line rows) (new_lines_between o.run.new_line rows)))
     (between_both 0 n (empty_lines o.run.empty_lines rows) _ (empty_lines_between o.run.empty_lines 0 n [] rows (omega arith) (omega (arith, l)))
     (if_between 0 n e.ends (end_of_file rows) (wider (end_of_file rows) (end_of_file_between rows))))))
     (subst (λ (fs : List FindingValue). Between 0 n fs) (onward_faultless o.indentation 0 before ks) (sections_between o.indentation before 0 n (faultless ks) plain (omega (arith, m, rows_faultless ks))))

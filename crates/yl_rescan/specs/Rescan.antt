@@ -18,8 +18,7 @@ pub record HasStoppedUpto (t : List (List ℕ)) (m : ℕ) : Type 0 where
   pub within : row ≤ m
   pub stopped : HasStoppedAt t row
 
--- row m of the new text agrees with its counterpart, where the lines from `stop` on are the old ones from b on: both are sound, with the
--- same state
+-- row m of the new text and its counterpart, where the lines from `stop` on are the old ones from b on, are sound with one state
 pub record IsAgreement (old new : List (List ℕ)) (stop b m : ℕ) : Type 0 where
   pub state : LineStateValue
   pub before : state_at (entries old) (m - stop + b) ≡ Some state

@@ -1,5 +1,5 @@
 -- What is kept of the first rows of a section, where all that is read of it begins in them.
-use Rattle.std.proofs.Common.{◌≡◌, ◌<◌, ◌≤◌, ◌++◌, ◌+◌, ℕ, zero, suc, Bool, true, false, List, [], ◌∷◌, map, length, take, take_all, refl, ap, sym, subst, ◌∙◌, Option, Some, None, arith, append_assoc, append-nil, cond}
+use Rattle.std.proofs.Common.{◌≡◌, ◌<◌, ◌≤◌, ◌++◌, ◌+◌, ℕ, zero, suc, Bool, true, false, List, [], ◌∷◌, map, length, take, take_all, refl, ap, sym, subst, ◌∙◌, Option, Some, None, arith, append_assoc, append-nil}
 use Rattle.std.specs.Prelude.{slice_get, slice_index}
 use Rattle.std.specs.List.{filter, AllByRecursion}
 use Rattle.std.proofs.lemmas.List.{length-take-le, length-take}
@@ -30,7 +30,7 @@ use Rattle.yl_config.specs.Config.{options_of}
 use Rattle.yl_record.specs.Records.{RecordValue}
 use Rattle.yl_sections.specs.declared.comments.LexemeEnd.{LexemeEnd}
 use Rattle.yl_sections.specs.Sections.{lexemes_from, lexemes_of}
-use Rattle.yl_sections.specs.Kept.{KeptValue, BuiltValue, SectionFaultValue, scan_fault_from, section_fault, hidden_events, counted_of, comment_lines, last_lexeme_end, comment_at, comments_from, shown_comments, lexeme_options_of, shown_comment_findings, event_findings, is_on, facts_of, kept_with, kept_of, Here, Behind, scan_fault_at, unless_fault}
+use Rattle.yl_sections.specs.Kept.{KeptValue, BuiltValue, SectionFaultValue, scan_fault_from, section_fault, hidden_events, counted_of, comment_lines, last_lexeme_end, comment_at, comments_from, shown_comments, lexeme_options_of, shown_comment_findings, event_findings, is_on, facts_of, kept_with, kept_of, Here, Behind, scan_fault_at, unless_fault, items_if}
 use Rattle.yl_rules.specs.Addressed.{is_addressed}
 use Rattle.yl_sections.specs.Judge.{document_of, kept_of_section}
 use Rattle.yl_sections.specs.Front.{IsBare, IsFront}
@@ -163,7 +163,7 @@ front_facts config n rs counted h =
     let shown : AllByRecursion (IsAbove n) (lexemes_from 0 (take n rs)) = subst (λ m. AllByRecursion (IsAbove m) (lexemes_from 0 (take n rs))) none (above_all 0 n rs) in
     let above : AllByRecursion (IsAbove n) xs = subst (λ (ys : List LexemeValue). AllByRecursion (IsAbove n) ys) (front_lexemes 0 n rs h) shown in
     let alike = tokens_alike (indentations (take n rs)) (indentations rs) n xs above (λ i l. same_indent n i rs l) in
-    ap (λ (es : List Element). cond (is_on config Indentation) (facts_after [] es) []) (all_alike (indentations (take n rs)) (indentations rs) (map token_of xs) counted alike (marked_lexemes xs))
+    ap (λ (es : List Element). items_if (is_on config Indentation) (facts_after [] es)) (all_alike (indentations (take n rs)) (indentations rs) (map token_of xs) counted alike (marked_lexemes xs))
 
 -- ---- what is found
 

@@ -1,7 +1,7 @@
 -- A document is read line by line.
 use Rattle.std.specs.Prelude.{ℕ, suc, ◌==◌, Bool, true, false, is_some, ◌≡◌, ◌+◌, ◌<◌, ◌≤◌, nat_lt, List, [], ◌∷◌, ◌++◌, map, drop, length, Option, Some, None}
 use Rattle.std.specs.Prelude.{IfOk}
-use Rattle.std.proofs.Common.{Result, refl, ap, sym, subst, ◌∙◌, arith, append-nil, append_assoc, drop-cons, get_or, cond}
+use Rattle.std.proofs.Common.{Result, refl, ap, sym, subst, ◌∙◌, arith, append-nil, append_assoc, drop-cons, get_or}
 use Rattle.std.proofs.lemmas.Bool.{eqb-true, lt-ltb}
 use Rattle.std.proofs.lemmas.List.{drop_all, length-map, map-append}
 use Rattle.yl_text.specs.declared.finding.RuleId.TheVariants.{Indentation}
@@ -46,7 +46,7 @@ use Rattle.yl_config.specs.declared.config.Config.{Config}
 use Rattle.yl_record.specs.Records.{RecordValue}
 use Rattle.yl_sections.specs.Sections.{lexemes_of}
 use Rattle.yl_sections.specs.Judge.{built_by, document_of, kept_of_section}
-use Rattle.yl_sections.specs.Kept.{BuiltValue, KeptValue, counted_of, event_findings, facts_of, is_on, kept_of, tree_options_of}
+use Rattle.yl_sections.specs.Kept.{BuiltValue, KeptValue, counted_of, event_findings, facts_of, is_on, items_if, kept_of, tree_options_of}
 use Rattle.yl_sections.proofs.Documents.{counted_within}
 use Rattle.yl_sections.specs.declared.reading.DocumentReading.{DocumentReading}
 use Rattle.yl_sections.specs.Reading.{Ends, FindsAll, Gives, GivesOrFails, IsQuiet, IsReading, ReadsOn, counted_in, fault_told}
@@ -332,7 +332,7 @@ keys_read xs ks old m told none start =
 
 pub facts_read : (config : Config) (rs : List RecordValue) (xs : List LexemeValue) (counted so_many : ℕ) (ns : List ℕ) (fs old is_checked : List Fact) (m : KeyMarkerValue)
     → fs ≡ old ++ facts_left nothing_open (map token_of xs) counted ns (marks_by_lines m.marks (by_line (map token_of xs))) → old ≡ [] → m ≡ key_marker_at_start → counted ≡ so_many
-    → ns ≡ map (λ r. r.indentation) rs → is_checked ≡ cond (is_on config Indentation) fs [] → is_checked ≡ facts_of config rs xs so_many
+    → ns ≡ map (λ r. r.indentation) rs → is_checked ≡ items_if (is_on config Indentation) fs → is_checked ≡ facts_of config rs xs so_many
 facts_read config rs xs counted so_many ns fs old is_checked m told none start same are is =
     let ts = map token_of xs in
     let left = λ (k : KeyMarkerValue). facts_left nothing_open ts counted ns (marks_by_lines k.marks (by_line ts)) in
@@ -340,10 +340,10 @@ facts_read config rs xs counted so_many ns fs old is_checked m told none start s
     told
     ∙ (ap (λ (gs : List Fact). gs ++ left m) none ∙ (ap left start ∙ (ap (facts_left nothing_open ts counted ns) (marked_by_lines ts) ∙ by_symbols xs counted ns))) in
     is
-    ∙ (ap (λ (es : List Fact). cond (is_on config Indentation) es []) whole
-    ∙ (ap (λ n. cond (is_on config Indentation) (indent_facts ts (marked_lexemes xs) n ns) []) same ∙ ap (λ ks. cond (is_on config Indentation) (indent_facts ts (marked_lexemes xs) so_many ks) []) are))
+    ∙ (ap (items_if (is_on config Indentation)) whole
+    ∙ (ap (λ n. items_if (is_on config Indentation) (indent_facts ts (marked_lexemes xs) n ns)) same ∙ ap (λ ks. items_if (is_on config Indentation) (indent_facts ts (marked_lexemes xs) so_many ks)) are))
 
-none_if : (b : Bool) (fs : List Fact) → fs ≡ [] → [] ≡ cond b fs []
+none_if : (b : Bool) (fs : List Fact) → fs ≡ [] → [] ≡ items_if b fs
 none_if true fs e = sym e
 none_if false fs e = refl
 

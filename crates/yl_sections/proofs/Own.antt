@@ -27,7 +27,7 @@ use Rattle.yl_config.specs.declared.config.Config.{Config}
 use Rattle.yl_config.specs.Config.{options_of}
 use Rattle.yl_record.specs.Records.{RecordValue}
 use Rattle.yl_sections.specs.declared.comments.LexemeEnd.{LexemeEnd}
-use Rattle.yl_sections.specs.Kept.{SectionFaultValue, comment_at, comment_lines, comments_from, counted_of, is_on, last_lexeme_end, lexeme_options_of, section_fault, scan_fault_from, shown_comment_findings, shown_comments, tree_options_of, unless_fault}
+use Rattle.yl_sections.specs.Kept.{SectionFaultValue, comment_at, comment_lines, comments_from, counted_of, is_on, last_lexeme_end, lexeme_options_of, section_fault, scan_fault_from, shown_comment_findings, shown_comments, tree_options_of, unless_fault, items_if}
 use Rattle.yl_sections.specs.Judge.{built_by, document_of, kept_of_section}
 use Rattle.yl_sections.specs.Sections.{lexemes_from, lexemes_of}
 
@@ -95,7 +95,7 @@ shown_begins high (Some f) es h = tt
 
 -- ---- what is kept
 
-own_items : {X : Type 0} (P : X → Type 0) (b : Bool) (xs : List X) → AllByRecursion P xs → AllByRecursion P (cond b xs [])
+own_items : {X : Type 0} (P : X → Type 0) (b : Bool) (xs : List X) → AllByRecursion P xs → AllByRecursion P (items_if b xs)
 own_items P true xs h = h
 own_items P false xs h = tt
 

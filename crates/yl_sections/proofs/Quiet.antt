@@ -1,5 +1,5 @@
 -- What is kept of a section once rows in which nothing is read come behind it: the same, but for how many rows it has.
-use Rattle.std.proofs.Common.{◌≡◌, ◌<◌, ◌++◌, ◌+◌, ℕ, zero, suc, List, [], ◌∷◌, map, length, take, take_all, refl, ap, sym, subst, ◌∙◌, Option, Some, None, arith, length-append, cond}
+use Rattle.std.proofs.Common.{◌≡◌, ◌<◌, ◌++◌, ◌+◌, ℕ, zero, suc, List, [], ◌∷◌, map, length, take, take_all, refl, ap, sym, subst, ◌∙◌, Option, Some, None, arith, length-append}
 use Rattle.std.specs.Prelude.{slice_get, slice_index}
 use Rattle.std.specs.List.{AllByRecursion}
 use Rattle.std.specs.Option.{option_map_or, option_map, option_or}
@@ -20,7 +20,7 @@ use Rattle.yl_record.specs.Records.{RecordValue}
 use Rattle.yl_scan.specs.Restart.{IsQuiet}
 use Rattle.yl_sections.specs.declared.comments.LexemeEnd.{LexemeEnd}
 use Rattle.yl_sections.specs.Sections.{lexemes_from, lexemes_of}
-use Rattle.yl_sections.specs.Kept.{KeptValue, SectionFaultValue, scan_fault_from, section_fault, counted_of, comment_lines, last_lexeme_end, comment_at, comments_from, shown_comments, is_on, facts_of, kept_with, document_count, scan_fault_at}
+use Rattle.yl_sections.specs.Kept.{KeptValue, SectionFaultValue, scan_fault_from, section_fault, counted_of, comment_lines, last_lexeme_end, comment_at, comments_from, shown_comments, is_on, facts_of, kept_with, document_count, scan_fault_at, items_if}
 use Rattle.yl_sections.specs.Judge.{document_of, kept_of_section}
 
 -- nothing is read in a row
@@ -146,7 +146,7 @@ same_facts config xs qs counted =
     let none : 0 + length xs ≡ length xs = omega arith in
     let above : AllByRecursion (IsAbove (length xs)) ls = subst (λ m. AllByRecursion (IsAbove m) ls) none (above_all 0 xs) in
     let alike = tokens_alike (indentations (xs ++ qs)) (indentations xs) (length xs) ls above (λ i l. same_indent i xs qs l) in
-    ap (λ (es : List Element). cond (is_on config Indentation) (facts_after [] es) []) (all_alike (indentations (xs ++ qs)) (indentations xs) (map token_of ls) counted alike (marked_lexemes ls))
+    ap (λ (es : List Element). items_if (is_on config Indentation) (facts_after [] es)) (all_alike (indentations (xs ++ qs)) (indentations xs) (map token_of ls) counted alike (marked_lexemes ls))
 
 -- ---- what is kept
 

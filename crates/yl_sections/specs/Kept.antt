@@ -2,7 +2,7 @@
 -- says of a section follows from the sections' own faults: a section after one with a fault is hidden whole, and one without fault shows
 -- all that it has. So what is kept is what the section shows, and no problem needs to know on which lexemes it rests. Rules that look at
 -- rows hide nothing, and are no part of it.
-use Rattle.std.specs.Prelude.{◌≡◌, ℕ, Bool, ◌==◌, if◌then◌else◌, List, [], ◌∷◌, ◌++◌, ◌+◌, ◌-◌, ◌^◌, min, map, length, take, Option, Some, None, slice_get, is_some, option_map, option_and_then}
+use Rattle.std.specs.Prelude.{◌≡◌, ℕ, Bool, true, false, ◌==◌, List, [], ◌∷◌, ◌++◌, ◌+◌, ◌-◌, ◌^◌, min, map, length, take, Option, Some, None, slice_get, is_some, option_map, option_and_then}
 use Rattle.std.specs.Bool.{then_some}
 use Rattle.std.specs.Option.{option_or, option_map_or}
 use Rattle.std.specs.List.{filter, flat_map, fold}
@@ -72,8 +72,7 @@ abbrev pub scan_fault_from : ℕ → List RecordValue → Option SectionFaultVal
 scan_fault_from line [] = None
 scan_fault_from line (r ∷ rs) = option_or (option_map (scan_fault_at line) r.entry.fault) (scan_fault_from (line + 1) rs)
 
--- by the parse fault of these lexemes and the scan fault, which stands after all lexemes: a parse fault at a lexeme comes before it, and
--- one after them gives way to it
+-- a parse fault at a lexeme comes before the scan fault, which stands after all lexemes; one after them gives way to it
 abbrev pub section_fault : List LexemeValue → Option PlacedParseFault → Option SectionFaultValue → Option SectionFaultValue
 section_fault xs None scanned = scanned
 section_fault xs (Some f) scanned =
@@ -98,7 +97,8 @@ last_lexeme_end last line xs = fold (λ e x. Some (record { line = line + x.end.
 abbrev pub comment_at : ℕ → Option LexemeEnd → Option CommentValue → List PlacedCommentValue
 comment_at line last None = []
 comment_at line last (Some c) =
-    record { line = line; column = c.column; text = c.text; behind = option_and_then (λ e. then_some (e.line == line) e.col) last } ∷ []
+    let behind = option_and_then (λ e. then_some (e.line == line) e.col) last in
+    record { line = line; column = c.column; text = c.text; behind = behind } ∷ []
 
 -- the comments of these rows, the first of which is at this line; a row's comment comes after its lexemes
 abbrev pub comments_from : Option LexemeEnd → ℕ → List RecordValue → List PlacedCommentValue
@@ -115,6 +115,10 @@ shown_comments line rs = comments_from None 0 (take line rs)
 abbrev pub is_on : Config → RuleId → Bool
 is_on config rule = is_some (levels_of config rule)
 
+abbrev pub items_if : {X : Type 0} → Bool → List X → List X
+items_if true xs = xs
+items_if false xs = []
+
 abbrev pub lexeme_options_of : Config → LexemeOptions
 lexeme_options_of config = record {
   braces = then_some (is_on config Braces) (options_of config).braces;
@@ -129,8 +133,7 @@ lexeme_options_of config = record {
 
 -- the shebang's place, line 0 and column 0, is the text's first: in the first row of a later section a lexeme stands before any comment
 abbrev pub shown_comment_findings : Config → List PlacedCommentValue → List FindingValue
-shown_comment_findings config cs =
-    if is_on config Comments then flat_map (comment_findings (options_of config).comments) cs else []
+shown_comment_findings config cs = items_if (is_on config Comments) (flat_map (comment_findings (options_of config).comments) cs)
 
 abbrev pub tree_options_of : Config → TreeOptions
 tree_options_of config = record {
@@ -170,7 +173,7 @@ pub record KeptValue : Type 0 where
 
 abbrev pub facts_of : Config → List RecordValue → List LexemeValue → ℕ → List Fact
 facts_of config rs xs counted =
-    if is_on config Indentation then indent_facts (map token_of xs) (marked_lexemes xs) counted (map (λ r. r.indentation) rs) else []
+    items_if (is_on config Indentation) (indent_facts (map token_of xs) (marked_lexemes xs) counted (map (λ r. r.indentation) rs))
 
 -- of a section with these lexemes, whose document gives this, and with this fault
 abbrev pub kept_with : Config → List RecordValue → List LexemeValue → BuiltValue → Option SectionFaultValue → KeptValue

@@ -1,5 +1,5 @@
 //! A section's document, read line by line.
-ghost use Rattle.std.specs.Prelude.{◌≡◌, ◌≤◌, ◌<◌, ◌+◌, ◌-◌, ◌^◌, ◌++◌, ◌∷◌, [], List, map, drop, length, Option, Some, None, IfOk, OnOk, if◌then◌else◌};
+ghost use Rattle.std.specs.Prelude.{◌≡◌, ◌≤◌, ◌<◌, ◌+◌, ◌-◌, ◌^◌, ◌++◌, ◌∷◌, [], List, map, drop, length, Option, Some, None, IfOk, OnOk};
 ghost use Rattle.yl_text.specs.Finding.{FindingValue};
 ghost use Rattle.yl_marks.specs.declared.symbol.Symbol.{Symbol};
 ghost use Rattle.yl_marks.specs.ByLine.{by_line, marks_by_lines, marks_of_line};
@@ -14,7 +14,7 @@ ghost use Rattle.yl_indentation.specs.Context.{nothing_open};
 ghost use Rattle.yl_indentation.specs.SymbolFacts.{facts_left};
 ghost use Rattle.yl_tree.specs.TreeRules.{Finds};
 ghost use Rattle.yl_config.specs.declared.config.Config.{Config};
-ghost use Rattle.yl_sections.specs.Kept.{BuiltValue, counted_of, document_count, event_findings, is_on};
+ghost use Rattle.yl_sections.specs.Kept.{BuiltValue, counted_of, document_count, event_findings, is_on, items_if};
 ghost use Rattle.yl_sections.specs.Judge.{built_by, document_of};
 ghost use Rattle.yl_sections.specs.Reading.{Ends, Gives, GivesOrFails, IsQuiet, IsReading, ReadsOn, counted_in};
 
@@ -314,7 +314,7 @@ fn read_some<'a, A: Allocator + Copy>(
 
 /// What the rule indentation checks, if it is on.
 fn checked<A: Allocator>(config: &Config, mut facts: Vec<Fact, A>) -> Vec<Fact, A>
-    ensures { result.items ≡ (if is_on config.now RuleId.Indentation then facts.items else []) }
+    ensures { result.items ≡ items_if (is_on config.now RuleId.Indentation) facts.items }
 {
     if !is_on(config, RuleId::Indentation) {
         facts.clear();

@@ -16,17 +16,17 @@ use Rattle.yl_session.specs.Work.{IsWork}
 abbrev pub IsNothing : List RowValue → Pos → Pos → List ℕ → Type 0
 IsNothing ps from to bytes = (offset ps from ≡ offset ps to) × (bytes ≡ [])
 
--- the answer to an edit of these lines. It is refused for the first cause that stands, or for want of memory where none does and there is
--- something to be done
+-- the answer to an edit of these lines; want of memory refuses one that has no fault, where there is something to be done
 abbrev pub IsAnswer : List RowValue → Pos → Pos → List ℕ → Result Work TextFault → Type 0
-IsAnswer ps from to bytes (Ok work) = CanEdit ps from to bytes × (IsNothing ps from to bytes → work ≡ record { scanned = 0; documents = 0 })
+IsAnswer ps from to bytes (Ok work) =
+    CanEdit ps from to bytes × (IsNothing ps from to bytes → work ≡ record { scanned = 0; documents = 0 })
 IsAnswer ps from to bytes (Err Memory) = CanEdit ps from to bytes × ¬ (IsNothing ps from to bytes)
 IsAnswer ps from to bytes (Err fault) = IsEditFault ps from to bytes fault
 
--- an edit that leaves these new lines may take so much: its old lines are the first one that it touches to its end line, and the new
--- lines in their place are all but those before them and behind them
+-- what an edit may take: its old lines are its first to its end line, and its new ones all but those before these and behind them
 abbrev pub IsEditWork : List RowValue → List RowValue → Pos → Pos → List ℕ → Work → Type 0
-IsEditWork old new from to bytes work = IsWork (characters_in old) (characters_in new) (first_line old from) (end_line old from to bytes)
+IsEditWork old new from to bytes work =
+    IsWork (characters_in old) (characters_in new) (first_line old from) (end_line old from to bytes)
     (length new - (first_line old from + (length old - end_line old from to bytes))) work
 
 -- an edit as a value: these bytes in place of what stands between two places

@@ -6,8 +6,8 @@ use Rattle.yl_rescan.specs.Rescan.{IsRestart, IsStop}
 use Rattle.yl_rejudge.specs.Documents.{documents_holding}
 use Rattle.yl_session.specs.declared.work.Work.{Work}
 
--- An edit of a text of these old rows, each given as its characters, put k lines in place of the lines a to b. Then the rows from r to m
--- are scanned at the most, and events are derived at the most of the documents that hold one of these rows.
+-- An edit of a text of these old rows, each given as its characters, put k lines in place of the lines a to b. Then at the most the
+-- rows from r to m are scanned, and events are derived of the documents that hold one of these rows.
 pub record IsWork (old new : List (List ℕ)) (a b k : ℕ) (work : Work) : Type 0 where
   pub r : ℕ
   pub m : ℕ

@@ -2,11 +2,10 @@ use Rattle.std.proofs.Common.{rules, tests, arith, ◌≤◌, ◌∙◌, ap, len
 use Rattle.std.specs.Prelude.{◌==◌}
 use Rattle.std.proofs.lemmas.Iterator.Consumers.{YieldsList-at, YieldsList-end, YieldsList-turn}
 use Rattle.std.proofs.lemmas.Iterator.Splits.{YieldsList-from_slice_split}
-use Rattle.yl_text.specs.Char.{space}
 use Rattle.yl_cli.proofs.command.words_of.Goals as goal
 
 abbrev is_space : ℕ → Bool
-is_space c = c == space
+is_space c = c == 0x20
 
 -- where the words that are there already are as many as a command has, there is one more
 pub returns-then-is_err : goal.returns-then-is_err
