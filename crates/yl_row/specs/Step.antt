@@ -68,7 +68,7 @@ is_quoted_or_closing _ = false
 
 -- a Value's colon, by what follows it (7.4.2: directly behind a key like JSON's it needs no space)
 abbrev pub is_value_at : Bool → Option Kind → List ℕ → Bool
-is_value_at flow last rest = is_blank (take 1 rest) || (flow && (is_flow_indicator (next rest) || is_quoted_or_closing last))
+is_value_at flow last rest = is_blank (take 1 rest) || (flow && (is_flow_indicator (slice_index rest 0) || is_quoted_or_closing last))
 
 -- the innermost bracket is of this kind
 abbrev pub closes : Bool → List Kind → Bool
