@@ -1,5 +1,7 @@
 -- The rules on keys and anchors find the same in events that differ only in values that are no keys.
-use Rattle.std.specs.Prelude.{ℕ, ◌≡◌, refl, Bool, true, false, ◌&&◌, List, [], ◌∷◌, ◌++◌, codes, Option, Some, None}
+use Rattle.std.specs.Prelude.{ℕ, ◌≡◌, refl, Bool, true, false, not, ◌&&◌, ◌||◌, if◌then◌else◌, List, [], ◌∷◌, ◌++◌, bytes_eq, codes, Option, Some, None}
+use Rattle.std.specs.List.{list_any}
+use Rattle.std.specs.Option.{option_map_or}
 use Rattle.std.proofs.Common.{sym, ◌∙◌, ap, subst}
 use Rattle.yl_text.specs.declared.finding.RuleId.{RuleId}
 use Rattle.yl_text.specs.declared.finding.RuleId.TheVariants as rules
@@ -10,11 +12,11 @@ use Rattle.yl_events.specs.Event.{EventValue, EventKindValue, EventAnchorValue, 
 use Rattle.yl_tree.specs.declared.options.AnchorsOptions.{AnchorsOptions}
 use Rattle.yl_tree.specs.declared.options.KeyDuplicatesOptions.{KeyDuplicatesOptions}
 use Rattle.yl_tree.specs.declared.options.TreeOptions.{TreeOptions}
-use Rattle.yl_tree.specs.Anchors.{is_alias_of, is_declared, is_used, undeclared_alias, anchor_findings, anchors_at}
-use Rattle.yl_tree.specs.KeyRules.{key_finding, is_judged, is_duplicate, is_misplaced}
-use Rattle.yl_tree.specs.Keys.{name_of, value_in, earlier_keys}
+use Rattle.yl_tree.specs.Anchors.{is_alias_of, is_declared, is_used, undeclared_alias, anchor_findings, anchors, anchors_at}
+use Rattle.yl_tree.specs.KeyRules.{key_duplicates, key_finding, key_ordering, is_duplicate, is_greater}
+use Rattle.yl_tree.specs.Keys.{name_of, earlier_keys}
 use Rattle.yl_tree.specs.OpenNodes.{OpenNodes, with_event, collections_behind, keys_if_next}
-use Rattle.yl_tree.specs.Tree.{tree_findings, key_duplicates_if, key_ordering_if, anchors_if}
+use Rattle.yl_tree.specs.Tree.{tree_findings}
 use Rattle.yl_tree.proofs.Keys.{earlier}
 
 -- a test of a name by the earlier keys of its mapping
@@ -64,8 +66,8 @@ alike_scalar s style place anchor tagged v w off = record {
   alias = λ name. refl;
   opens = rw off refl;
   finding = λ test quiet id front before is. let none = no_earlier s before is off in
-      unfound test quiet id front before (scalar_of style place anchor tagged v) none (value_in style v)
-      ∙ sym (unfound test quiet id front before (scalar_of style place anchor tagged w) none (value_in style w));
+      unfound test quiet id front before (scalar_of style place anchor tagged v) none (name_of (scalar_of style place anchor tagged v))
+      ∙ sym (unfound test quiet id front before (scalar_of style place anchor tagged w) none (name_of (scalar_of style place anchor tagged w)));
 }
 
 -- ---- the rules on keys
@@ -125,15 +127,15 @@ pub and_false : (b : Bool) → (b && false) ≡ false
 and_false true = refl
 and_false false = refl
 
-duplicates : (o : Option KeyDuplicatesOptions) (es fs : List EventValue) → AllAlike (collections_behind []) es fs → key_duplicates_if o es ≡ key_duplicates_if o fs
+duplicates : (o : Option KeyDuplicatesOptions) (es fs : List EventValue) → AllAlike (collections_behind []) es fs → option_map_or (λ d. key_duplicates d es) o [] ≡ option_map_or (λ d. key_duplicates d fs) o []
 duplicates None es fs all = refl
-duplicates (Some o) es fs all = same_keys (is_duplicate o) (λ name. and_false (is_judged o name)) rules.KeyDuplicates (codes "duplication of key \"") (collections_behind []) [] [] es fs refl refl all
+duplicates (Some o) es fs all = same_keys (is_duplicate o) (λ name. and_false (o.forbid_duplicated_merge_keys || not (bytes_eq name (codes "<<")))) rules.KeyDuplicates (codes "duplication of key \"") (collections_behind []) [] [] es fs refl refl all
 
-ordering : (on : Bool) (es fs : List EventValue) → AllAlike (collections_behind []) es fs → key_ordering_if on es ≡ key_ordering_if on fs
+ordering : (on : Bool) (es fs : List EventValue) → AllAlike (collections_behind []) es fs → (if on then key_ordering es else []) ≡ (if on then key_ordering fs else [])
 ordering false es fs all = refl
-ordering true es fs all = same_keys is_misplaced (λ name. refl) rules.KeyOrdering (codes "wrong ordering of key \"") (collections_behind []) [] [] es fs refl refl all
+ordering true es fs all = same_keys (λ earlier name. list_any (λ key. is_greater key name) earlier) (λ name. refl) rules.KeyOrdering (codes "wrong ordering of key \"") (collections_behind []) [] [] es fs refl refl all
 
-references : (o : Option AnchorsOptions) (es fs : List EventValue) → AllAlike (collections_behind []) es fs → anchors_if o es ≡ anchors_if o fs
+references : (o : Option AnchorsOptions) (es fs : List EventValue) → AllAlike (collections_behind []) es fs → option_map_or (λ a. anchors a es) o [] ≡ option_map_or (λ a. anchors a fs) o []
 references None es fs all = refl
 references (Some o) es fs all = same_anchors o (collections_behind []) [] [] es fs (λ name. refl) all
 

@@ -1,6 +1,6 @@
 -- What is kept of the first rows of a section, where all that is read of it begins in them.
 use Rattle.std.proofs.Common.{◌≡◌, ◌<◌, ◌≤◌, ◌++◌, ◌+◌, ℕ, zero, suc, Bool, true, false, List, [], ◌∷◌, map, length, take, take_all, refl, ap, sym, subst, ◌∙◌, Option, Some, None, arith, append_assoc, append-nil}
-use Rattle.std.specs.Prelude.{slice_get, slice_index}
+use Rattle.std.specs.Prelude.{slice_get, slice_index, if◌then◌else◌}
 use Rattle.std.specs.List.{filter, AllByRecursion}
 use Rattle.std.proofs.lemmas.List.{length-take-le, length-take}
 use Rattle.std.specs.Option.{option_map_or, option_map, option_or}
@@ -24,7 +24,8 @@ use Rattle.yl_indentation.specs.Facts.{facts_after}
 use Rattle.yl_layout.specs.Lexemes.{lexeme_findings}
 use Rattle.yl_tree.specs.declared.options.AnchorsOptions.{AnchorsOptions}
 use Rattle.yl_tree.specs.declared.options.KeyDuplicatesOptions.{KeyDuplicatesOptions}
-use Rattle.yl_tree.specs.Tree.{anchors_if, key_duplicates_if, key_ordering_if}
+use Rattle.yl_tree.specs.Anchors.{anchors}
+use Rattle.yl_tree.specs.KeyRules.{key_duplicates, key_ordering}
 use Rattle.yl_config.specs.declared.config.Config.{Config}
 use Rattle.yl_config.specs.Config.{options_of}
 use Rattle.yl_record.specs.Records.{RecordValue}
@@ -167,15 +168,15 @@ front_facts config n rs counted h =
 
 -- ---- what is found
 
-none_repeated : (b : Bool) (o : KeyDuplicatesOptions) → key_duplicates_if (then_some b o) [] ≡ []
+none_repeated : (b : Bool) (o : KeyDuplicatesOptions) → option_map_or (λ d. key_duplicates d []) (then_some b o) [] ≡ []
 none_repeated true o = refl
 none_repeated false o = refl
 
-none_misplaced : (b : Bool) → key_ordering_if b [] ≡ []
+none_misplaced : (b : Bool) → (if b then key_ordering [] else []) ≡ []
 none_misplaced true = refl
 none_misplaced false = refl
 
-no_anchors : (b : Bool) (o : AnchorsOptions) → anchors_if (then_some b o) [] ≡ []
+no_anchors : (b : Bool) (o : AnchorsOptions) → option_map_or (λ a. anchors a []) (then_some b o) [] ≡ []
 no_anchors true o = refl
 no_anchors false o = refl
 

@@ -1,9 +1,10 @@
 -- The keys that one finds by looking back are those of the innermost open collection.
-use Rattle.std.proofs.Common.{◌≡◌, ℕ, zero, suc, List, [], ◌∷◌, ◌++◌, Bool, true, false, not, ◌&&◌, cond, refl, ◌∙◌, ap, Option, Some, None}
+use Rattle.std.proofs.Common.{◌≡◌, ℕ, zero, suc, ◌-◌, ◌==◌, arith, List, [], ◌∷◌, ◌++◌, Bool, true, false, not, ◌&&◌, cond, refl, ◌∙◌, ap, Option, Some, None}
 use Rattle.std.specs.Prelude.{if◌then◌else◌}
 use Rattle.std.specs.Option.{option_to_list}
 use Rattle.std.specs.List.{filter_map, cons_option}
-use Rattle.yl_events.specs.Event.{EventValue}
+use Rattle.std.proofs.lemmas.Bool.{ne_eqb}
+use Rattle.yl_events.specs.Event.{EventValue, EventKindValue, SequenceEnd, MappingEnd}
 use Rattle.yl_tree.specs.Keys.{is_collection_start, is_collection_end, is_mapping_start, nodes_so_far, is_mapping_open, is_key_next, keys_among, name_of, earlier_keys}
 use Rattle.yl_tree.specs.OpenNodes.{OpenCollection, OpenNodes, new_collection, with_node, first_or_new, without_first, with_event, collections_behind, keys_if_next}
 
@@ -51,22 +52,35 @@ opened : (m : Bool) → open_of m [] ≡ new_collection m
 opened true = refl
 opened false = refl
 
+-- a number that counts something, and what it counts but for one
+counts : (n : ℕ) → (suc n == 0) ≡ false
+counts n = ne_eqb (suc n) 0 (λ e. omega (arith, e))
+
+one_fewer : (n : ℕ) → suc n - 1 ≡ n
+one_fewer n = omega arith
+
+-- an event that ends a collection starts none
+ends_alone : (k : EventKindValue) → is_collection_end k ≡ true → is_collection_start k ≡ false
+ends_alone SequenceEnd h = refl
+ends_alone MappingEnd h = refl
+ends_alone k h = absurd cc
+
 -- an event that starts a collection
 started : (skip : ℕ) (e : EventValue) (es : List EventValue) → ((k : ℕ) → looked_at k es ≡ at k (collections_behind es)) → is_collection_end e.kind ≡ false → is_collection_start e.kind ≡ true
     → looked_at skip (e ∷ es) ≡ at skip (with_event e (collections_behind es))
 started zero e es ih off on = rw (off, on) (opened (is_mapping_start e.kind))
 started (suc zero) e es ih off on = rw (off, on) (node_more e (is_mapping_open zero es) (nodes_so_far zero es) ∙ ap (with_node (name_of e)) (ih zero))
-started (suc (suc skip)) e es ih off on = rw (off, on) (ih (suc skip))
+started (suc (suc skip)) e es ih off on = rw (off, on, counts (suc skip), one_fewer (suc skip), counts skip) (ih (suc skip))
 
 -- one that is a node by itself
 stood : (skip : ℕ) (e : EventValue) (es : List EventValue) → ((k : ℕ) → looked_at k es ≡ at k (collections_behind es)) → is_collection_end e.kind ≡ false → is_collection_start e.kind ≡ false
     → looked_at skip (e ∷ es) ≡ at skip (with_event e (collections_behind es))
 stood zero e es ih off none = rw (off, none) (node_more e (is_mapping_open zero es) (nodes_so_far zero es) ∙ ap (with_node (name_of e)) (ih zero))
-stood (suc skip) e es ih off none = rw (off, none) (ih (suc skip))
+stood (suc skip) e es ih off none = rw (off, none, counts skip) (ih (suc skip))
 
 by_kind : (skip : ℕ) (e : EventValue) (es : List EventValue) → ((k : ℕ) → looked_at k es ≡ at k (collections_behind es)) → (b c : Bool) → is_collection_end e.kind ≡ b → is_collection_start e.kind ≡ c
     → looked_at skip (e ∷ es) ≡ at skip (with_event e (collections_behind es))
-by_kind skip e es ih true c on _ = rw on (ih (suc skip) ∙ popped skip (collections_behind es).outer)
+by_kind skip e es ih true c on _ = rw (on, ends_alone e.kind on, counts skip) (ih (suc skip) ∙ popped skip (collections_behind es).outer)
 by_kind skip e es ih false true off on = started skip e es ih off on
 by_kind skip e es ih false false off none = stood skip e es ih off none
 

@@ -1,7 +1,8 @@
 -- What the rules on keys and anchors find in events of a text's first lines stands in these lines.
 use Rattle.std.proofs.Common.{◌≡◌, ◌<◌, ℕ, ◌+◌, Bool, true, false, List, [], ◌∷◌, Option, Some, None}
-use Rattle.std.specs.Prelude.{IfSome, not, ◌&&◌, codes}
-use Rattle.std.specs.List.{AllByRecursion}
+use Rattle.std.specs.Prelude.{IfSome, not, ◌&&◌, codes, if◌then◌else◌}
+use Rattle.std.specs.List.{AllByRecursion, list_any}
+use Rattle.std.specs.Option.{option_map_or}
 use Rattle.yl_text.specs.declared.finding.RuleId.{RuleId}
 use Rattle.yl_text.specs.declared.finding.RuleId.TheVariants.{Anchors, KeyDuplicates, KeyOrdering}
 use Rattle.yl_text.specs.declared.position.Pos.{Pos}
@@ -11,11 +12,11 @@ use Rattle.yl_events.specs.Event.{EventValue, EventAnchorValue, EventKindValue, 
 use Rattle.yl_tree.specs.declared.options.AnchorsOptions.{AnchorsOptions}
 use Rattle.yl_tree.specs.declared.options.KeyDuplicatesOptions.{KeyDuplicatesOptions}
 use Rattle.yl_tree.specs.declared.options.TreeOptions.{TreeOptions}
-use Rattle.yl_tree.specs.Anchors.{anchor_findings, anchors_at, duplicated_anchor, is_declared, is_used, undeclared_alias, unused_anchor}
-use Rattle.yl_tree.specs.KeyRules.{duplicate_at, is_duplicate, is_misplaced, key_finding, misplaced_at}
+use Rattle.yl_tree.specs.Anchors.{anchor_findings, anchors, anchors_at, is_declared, is_used, undeclared_alias}
+use Rattle.yl_tree.specs.KeyRules.{duplicate_at, is_duplicate, is_greater, key_duplicates, key_finding, key_ordering, misplaced_at}
 use Rattle.yl_tree.specs.Keys.{earlier_keys, name_of}
 use Rattle.yl_tree.specs.Messages.{name_finding}
-use Rattle.yl_tree.specs.Tree.{anchors_if, key_duplicates_if, key_ordering_if, tree_findings}
+use Rattle.yl_tree.specs.Tree.{tree_findings}
 
 -- its content and its anchor, where it has them, begin in the first lines
 pub record Begins (rows : ℕ) (e : EventValue) : Type 0 where
@@ -34,9 +35,9 @@ module _ (K : RuleId → Type 0) (k : OfEventRules K) (rows : ℕ) (P : FindingV
   abbrev Every : List FindingValue → Type 0
   Every fs = AllByRecursion P fs
 
-  named : (rule : RuleId) (place : Option Pos) (message : List ℕ) → K rule → IfSome place (λ p. p.line < rows) → Every (name_finding rule place message)
-  named rule None message r h = tt
-  named rule (Some place) message r h = (own rule place.line (place.col + 1) message r h, tt)
+  named : (rule : RuleId) (place : Option Pos) (front name back : List ℕ) → K rule → IfSome place (λ p. p.line < rows) → Every (name_finding rule place front name back)
+  named rule None front name back r h = tt
+  named rule (Some place) front name back r h = (own rule place.line (place.col + 1) _ r h, tt)
 
   -- at each event, if that holds at one
   each : (f : List EventValue → EventValue → List EventValue → List FindingValue) → ((before : List EventValue) (e : EventValue) (after : List EventValue) → Begins rows e → Every (f before e after))
@@ -49,15 +50,15 @@ module _ (K : RuleId → Type 0) (k : OfEventRules K) (rows : ℕ) (P : FindingV
   own_key : (test : List (List ℕ) → List ℕ → Bool) (rule : RuleId) (front : List ℕ) (before : List EventValue) (e : EventValue) (name : Option (List ℕ))
       → K rule → Begins rows e → Every (key_finding test rule front before e name)
   own_key test rule front before e None r h = tt
-  own_key test rule front before e (Some name) r h = all_if P (test (earlier_keys before) name) _ (named rule e.place _ r h.place)
+  own_key test rule front before e (Some name) r h = all_if P (test (earlier_keys before) name) _ (named rule e.place _ _ _ r h.place)
 
-  own_duplicates : (o : Option KeyDuplicatesOptions) (es : List EventValue) → AllByRecursion (Begins rows) es → Every (key_duplicates_if o es)
+  own_duplicates : (o : Option KeyDuplicatesOptions) (es : List EventValue) → AllByRecursion (Begins rows) es → Every (option_map_or (λ d. key_duplicates d es) o [])
   own_duplicates None es h = tt
   own_duplicates (Some o) es h = each (duplicate_at o) (λ before e after b. own_key (is_duplicate o) KeyDuplicates (codes "duplication of key \"") before e (name_of e) k.key_duplicates b) [] es h
 
-  own_ordering : (on : Bool) (es : List EventValue) → AllByRecursion (Begins rows) es → Every (key_ordering_if on es)
+  own_ordering : (on : Bool) (es : List EventValue) → AllByRecursion (Begins rows) es → Every (if on then key_ordering es else [])
   own_ordering false es h = tt
-  own_ordering true es h = each misplaced_at (λ before e after b. own_key is_misplaced KeyOrdering (codes "wrong ordering of key \"") before e (name_of e) k.key_ordering b) [] es h
+  own_ordering true es h = each misplaced_at (λ before e after b. own_key (λ earlier name. list_any (λ key. is_greater key name) earlier) KeyOrdering (codes "wrong ordering of key \"") before e (name_of e) k.key_ordering b) [] es h
 
   -- ---- anchors
 
@@ -68,7 +69,7 @@ module _ (K : RuleId → Type 0) (k : OfEventRules K) (rows : ℕ) (P : FindingV
   own_undeclared o before e SequenceEnd h = tt
   own_undeclared o before e MappingStart h = tt
   own_undeclared o before e MappingEnd h = tt
-  own_undeclared o before e (AliasOf name) h = all_if P (o.forbid_undeclared_aliases && not (is_declared before name)) _ (named Anchors e.place _ k.anchors h.place)
+  own_undeclared o before e (AliasOf name) h = all_if P (o.forbid_undeclared_aliases && not (is_declared before name)) _ (named Anchors e.place _ _ _ k.anchors h.place)
   own_undeclared o before e (ScalarOf style value) h = tt
   own_undeclared o before e Empty h = tt
 
@@ -76,10 +77,10 @@ module _ (K : RuleId → Type 0) (k : OfEventRules K) (rows : ℕ) (P : FindingV
       → IfSome anchor (λ a. a.place.line < rows) → Every (anchor_findings o before anchor after)
   own_anchor o before None after h = tt
   own_anchor o before (Some anchor) after h =
-      all_both P _ _ (all_if P (o.forbid_duplicated_anchors && is_declared before anchor.name) _ (named Anchors (Some anchor.place) _ k.anchors h))
-      (all_if P (o.forbid_unused_anchors && not (is_used after anchor.name)) _ (named Anchors (Some anchor.place) _ k.anchors h))
+      all_both P _ _ (all_if P (o.forbid_duplicated_anchors && is_declared before anchor.name) _ (named Anchors (Some anchor.place) (codes "found duplicated anchor \"") anchor.name (codes "\"") k.anchors h))
+      (all_if P (o.forbid_unused_anchors && not (is_used after anchor.name)) _ (named Anchors (Some anchor.place) (codes "found unused anchor \"") anchor.name (codes "\"") k.anchors h))
 
-  own_anchors : (o : Option AnchorsOptions) (es : List EventValue) → AllByRecursion (Begins rows) es → Every (anchors_if o es)
+  own_anchors : (o : Option AnchorsOptions) (es : List EventValue) → AllByRecursion (Begins rows) es → Every (option_map_or (λ a. anchors a es) o [])
   own_anchors None es h = tt
   own_anchors (Some o) es h =
       each (anchors_at o) (λ before e after b. all_both P _ _ (own_undeclared o before e e.kind b) (own_anchor o before e.anchor after b.anchor)) [] es h

@@ -5,8 +5,8 @@ use Rattle.yl_text.specs.declared.finding.RuleId.TheVariants.{Anchors}
 use Rattle.yl_text.specs.Finding.{FindingValue, at_each}
 use Rattle.yl_events.specs.Event.{EventValue, EventKindValue, EventAnchorValue, DocumentStart, DocumentEnd, SequenceStart, SequenceEnd, MappingStart, MappingEnd, AliasOf, ScalarOf, Empty}
 use Rattle.yl_tree.specs.declared.options.AnchorsOptions.{AnchorsOptions}
-use Rattle.yl_tree.specs.Anchors.{anchor_findings, anchors, anchors_at, duplicated_anchor, undeclared_alias, unused_anchor, is_alias_event, is_alias_of, is_anchor_of, is_declared, is_used}
-use Rattle.yl_tree.specs.Messages.{message_of, name_finding}
+use Rattle.yl_tree.specs.Anchors.{anchor_findings, anchors, anchors_at, undeclared_alias, is_alias_event, is_alias_of, is_anchor_of, is_declared, is_used}
+use Rattle.yl_tree.specs.Messages.{name_finding}
 use Rattle.yl_tree.specs.References.{is_reference}
 use Rattle.yl_tree.proofs.References.{both_false, nothing_at}
 
@@ -33,7 +33,7 @@ module _ (o : AnchorsOptions) (old new : List EventValue) (same : (q : List ℕ)
   alias_same : (e : EventValue) (kind : EventKindValue)
       → undeclared_alias o old e kind ≡ undeclared_alias o new e kind
   alias_same e (AliasOf name) =
-      ap (λ (b : Bool). if o.forbid_undeclared_aliases && not b then name_finding Anchors e.place (message_of (codes "found undeclared alias \"") name (codes "\"")) else []) (same name)
+      ap (λ (b : Bool). if o.forbid_undeclared_aliases && not b then name_finding Anchors e.place (codes "found undeclared alias \"") name (codes "\"") else []) (same name)
   alias_same e DocumentStart = refl
   alias_same e DocumentEnd = refl
   alias_same e SequenceStart = refl
@@ -47,7 +47,8 @@ module _ (o : AnchorsOptions) (old new : List EventValue) (same : (q : List ℕ)
       → anchor_findings o old anchor after ≡ anchor_findings o new anchor after
   anchor_same None after = refl
   anchor_same (Some anchor) after =
-      ap (λ (b : Bool). (if o.forbid_duplicated_anchors && b then name_finding Anchors (Some anchor.place) (message_of (codes "found duplicated anchor \"") anchor.name (codes "\"")) else []) ++ unused_anchor o anchor after)
+      ap (λ (b : Bool). (if o.forbid_duplicated_anchors && b then name_finding Anchors (Some anchor.place) (codes "found duplicated anchor \"") anchor.name (codes "\"") else [])
+      ++ (if o.forbid_unused_anchors && not (is_used after anchor.name) then name_finding Anchors (Some anchor.place) (codes "found unused anchor \"") anchor.name (codes "\"") else []))
       (same anchor.name)
 
   at_same : (e : EventValue) (after : List EventValue)
@@ -88,7 +89,8 @@ module _ (o : AnchorsOptions) (e : EventValue) (none : is_reference e ≡ false)
       → anchor_findings o before anchor (xs ++ e ∷ es) ≡ anchor_findings o before anchor (xs ++ es)
   anchor_skips before None xs es = refl
   anchor_skips before (Some anchor) xs es =
-      ap (λ (b : Bool). duplicated_anchor o before anchor ++ (if o.forbid_unused_anchors && not b then name_finding Anchors (Some anchor.place) (message_of (codes "found unused anchor \"") anchor.name (codes "\"")) else []))
+      ap (λ (b : Bool). (if o.forbid_duplicated_anchors && is_declared before anchor.name then name_finding Anchors (Some anchor.place) (codes "found duplicated anchor \"") anchor.name (codes "\"") else [])
+      ++ (if o.forbid_unused_anchors && not b then name_finding Anchors (Some anchor.place) (codes "found unused anchor \"") anchor.name (codes "\"") else []))
       (used_skips xs es anchor.name)
 
   each_skips : (before xs es : List EventValue)

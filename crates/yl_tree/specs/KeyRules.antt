@@ -9,7 +9,7 @@ use Rattle.yl_text.specs.declared.finding.RuleId.TheVariants.{KeyDuplicates, Key
 use Rattle.yl_text.specs.Finding.{FindingValue, at_each}
 use Rattle.yl_events.specs.Event.{EventValue}
 use Rattle.yl_tree.specs.declared.options.KeyDuplicatesOptions.{KeyDuplicatesOptions}
-use Rattle.yl_tree.specs.Messages.{message_of, name_finding}
+use Rattle.yl_tree.specs.Messages.{name_finding}
 use Rattle.yl_tree.specs.Keys.{name_of, earlier_keys}
 
 -- an event that has a name, if the test of the earlier keys of its mapping says yes
@@ -17,22 +17,14 @@ abbrev pub key_finding : (List (List ℕ) → List ℕ → Bool) → RuleId → 
     → EventValue → Option (List ℕ) → List FindingValue
 key_finding test rule front before e None = []
 key_finding test rule front before e (Some name) =
-    if test (earlier_keys before) name
-    then name_finding rule e.place (message_of front name (codes "\" in mapping")) else []
+    if test (earlier_keys before) name then name_finding rule e.place front name (codes "\" in mapping") else []
 
-abbrev pub merge_key : List ℕ
-merge_key = codes "<<"
-
--- merge keys may repeat unless that is forbidden
-abbrev pub is_judged : KeyDuplicatesOptions → List ℕ → Bool
-is_judged o name = o.forbid_duplicated_merge_keys || not (bytes_eq name merge_key)
-
--- an earlier key is equal
+-- an earlier key is equal; merge keys may repeat unless that is forbidden
 abbrev pub is_duplicate : KeyDuplicatesOptions → List (List ℕ) → List ℕ → Bool
-is_duplicate o earlier name = is_judged o name && list_any (λ key. bytes_eq key name) earlier
+is_duplicate o earlier name = (o.forbid_duplicated_merge_keys || not (bytes_eq name (codes "<<")))
+    && list_any (λ key. bytes_eq key name) earlier
 
-abbrev pub duplicate_at : KeyDuplicatesOptions → List EventValue → EventValue → List EventValue
-    → List FindingValue
+abbrev pub duplicate_at : KeyDuplicatesOptions → List EventValue → EventValue → List EventValue → List FindingValue
 duplicate_at o before e after =
     key_finding (is_duplicate o) KeyDuplicates (codes "duplication of key \"") before e (name_of e)
 
@@ -44,12 +36,9 @@ abbrev pub is_greater : List ℕ → List ℕ → Bool
 is_greater a b = is_gt (slice_cmp nat_cmp (chars a) (chars b))
 
 -- some earlier key is greater
-abbrev pub is_misplaced : List (List ℕ) → List ℕ → Bool
-is_misplaced earlier name = list_any (λ key. is_greater key name) earlier
-
 abbrev pub misplaced_at : List EventValue → EventValue → List EventValue → List FindingValue
-misplaced_at before e after =
-    key_finding is_misplaced KeyOrdering (codes "wrong ordering of key \"") before e (name_of e)
+misplaced_at before e after = key_finding (λ earlier name. list_any (λ key. is_greater key name) earlier)
+    KeyOrdering (codes "wrong ordering of key \"") before e (name_of e)
 
 abbrev pub key_ordering : List EventValue → List FindingValue
 key_ordering events = at_each misplaced_at [] events

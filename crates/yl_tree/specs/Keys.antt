@@ -1,9 +1,8 @@
 -- Meaning: the keys of mappings (YAML 1.2.2, 3.2.1.1), read off the events that come before an
 -- event, the latest first.
-use Rattle.std.specs.Prelude.{ℕ, zero, suc, Bool, true, false, not, ◌&&◌, if◌then◌else◌, List, [], ◌∷◌, Option, Some, None}
+use Rattle.std.specs.Prelude.{ℕ, suc, Bool, true, false, not, ◌&&◌, ◌==◌, ◌-◌, if◌then◌else◌, List, [], ◌∷◌, Option, Some, None}
 use Rattle.std.specs.List.{filter_map}
-use Rattle.yl_lexeme.specs.declared.lexeme.Style.{Style}
-use Rattle.yl_lexeme.specs.declared.lexeme.Style.TheVariants.{Plain, Single, Double, Literal, Folded}
+use Rattle.yl_lexeme.specs.declared.lexeme.Style.TheVariants.{Plain, Single, Double}
 use Rattle.yl_events.specs.Event.{EventValue, EventKindValue, SequenceStart, SequenceEnd, MappingStart, MappingEnd, ScalarOf}
 
 abbrev pub is_collection_start : EventKindValue → Bool
@@ -21,15 +20,10 @@ is_mapping_start MappingStart = true
 is_mapping_start _ = false
 
 -- the value of a plain or quoted scalar: block scalars are not compared
-abbrev pub value_in : Style → List ℕ → Option (List ℕ)
-value_in Plain value = Some value
-value_in Single value = Some value
-value_in Double value = Some value
-value_in Literal value = None
-value_in Folded value = None
-
 abbrev pub compared_value : EventKindValue → Option (List ℕ)
-compared_value (ScalarOf style value) = value_in style value
+compared_value (ScalarOf Plain value) = Some value
+compared_value (ScalarOf Single value) = Some value
+compared_value (ScalarOf Double value) = Some value
 compared_value _ = None
 
 abbrev pub name_of : EventValue → Option (List ℕ)
@@ -37,36 +31,23 @@ name_of e = compared_value e.kind
 
 -- ---- looking back: `skip` counts the collections that ended and whose starts are still to come
 
--- at the start of a collection; `outer` goes on before it
-abbrev pub nodes_at_start : ℕ → EventValue → (ℕ → List EventValue) → List EventValue
-nodes_at_start zero e outer = []
-nodes_at_start (suc zero) e outer = e ∷ outer zero
-nodes_at_start (suc (suc skip)) e outer = outer (suc skip)
-
--- at any other event
-abbrev pub nodes_at_leaf : ℕ → EventValue → (ℕ → List EventValue) → List EventValue
-nodes_at_leaf zero e earlier = e ∷ earlier zero
-nodes_at_leaf (suc skip) e earlier = earlier (suc skip)
+-- from how many they are behind an event to how many they are before it
+abbrev pub skipped : EventValue → ℕ → ℕ
+skipped e skip =
+    if is_collection_end e.kind then suc skip else if is_collection_start e.kind then skip - 1 else skip
 
 -- the nodes of the innermost open collection, each by its first event, the latest first
 abbrev pub nodes_so_far : ℕ → List EventValue → List EventValue
 nodes_so_far skip [] = []
 nodes_so_far skip (e ∷ es) =
-    if is_collection_end e.kind then nodes_so_far (suc skip) es
-    else if is_collection_start e.kind then nodes_at_start skip e (λ n. nodes_so_far n es)
-    else nodes_at_leaf skip e (λ n. nodes_so_far n es)
-
-abbrev pub mapping_at_start : ℕ → EventValue → (ℕ → Bool) → Bool
-mapping_at_start zero e outer = is_mapping_start e.kind
-mapping_at_start (suc skip) e outer = outer skip
+    if is_collection_start e.kind && skip == 0 then []
+    else if skipped e skip == 0 then e ∷ nodes_so_far 0 es else nodes_so_far (skipped e skip) es
 
 -- the innermost open collection is a mapping
 abbrev pub is_mapping_open : ℕ → List EventValue → Bool
 is_mapping_open skip [] = false
 is_mapping_open skip (e ∷ es) =
-    if is_collection_end e.kind then is_mapping_open (suc skip) es
-    else if is_collection_start e.kind then mapping_at_start skip e (λ n. is_mapping_open n es)
-    else is_mapping_open skip es
+    if is_collection_start e.kind && skip == 0 then is_mapping_start e.kind else is_mapping_open (skipped e skip) es
 
 -- ---- the nodes of a mapping are a key, its value, a key, its value ..
 
@@ -79,11 +60,9 @@ abbrev pub keys_among : List EventValue → List EventValue
 keys_among [] = []
 keys_among (n ∷ nodes) = if is_key_next nodes then n ∷ keys_among nodes else keys_among nodes
 
-abbrev pub is_key_after : List EventValue → Bool
-is_key_after before = is_mapping_open 0 before && is_key_next (nodes_so_far 0 before)
-
 -- the names of the earlier keys of the mapping in which the event after these is a key; none where
 -- it is no key
 abbrev pub earlier_keys : List EventValue → List (List ℕ)
 earlier_keys before =
-    if is_key_after before then filter_map name_of (keys_among (nodes_so_far 0 before)) else []
+    if is_mapping_open 0 before && is_key_next (nodes_so_far 0 before)
+    then filter_map name_of (keys_among (nodes_so_far 0 before)) else []

@@ -3,7 +3,7 @@ use Rattle.std.specs.Prelude.{Bool, false, not, if◌then◌else◌, List, [], �
 use Rattle.yl_text.specs.declared.finding.RuleId.TheVariants.{Anchors}
 use Rattle.yl_text.specs.Finding.{FindingValue}
 use Rattle.yl_events.specs.Event.{EventValue, EventAnchorValue}
-use Rattle.yl_tree.specs.Messages.{message_of, name_finding}
+use Rattle.yl_tree.specs.Messages.{name_finding}
 use Rattle.yl_tree.specs.Anchors.{is_used}
 
 abbrev pub is_unused : Option EventAnchorValue → List EventValue → Bool
@@ -17,6 +17,5 @@ unused_flags (e ∷ es) = is_unused e.anchor es ∷ unused_flags es
 abbrev pub unused_if : Bool → EventAnchorValue → List FindingValue
 unused_if is_told anchor =
     if is_told
-    then name_finding Anchors (Some anchor.place)
-    (message_of (codes "found unused anchor \"") anchor.name (codes "\""))
+    then name_finding Anchors (Some anchor.place) (codes "found unused anchor \"") anchor.name (codes "\"")
     else []

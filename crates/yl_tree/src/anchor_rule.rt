@@ -1,8 +1,9 @@
 //! The rule anchors.
-ghost use Rattle.std.specs.Prelude.{◌≡◌, ◌&&◌, ◌||◌, ◌++◌, not, ℕ, Bool, List, [], ◌∷◌, map, reverse, drop, IfOk, OnOk};
+ghost use Rattle.std.specs.Prelude.{◌≡◌, ◌&&◌, ◌||◌, ◌++◌, not, ℕ, Bool, List, [], ◌∷◌, map, reverse, drop, codes, if◌then◌else◌, Some, IfOk, OnOk};
 ghost use Rattle.std.specs.Option.{option_to_list};
 ghost use Rattle.yl_events.specs.Event.{EventValue, event_value, kind_value, anchor_value};
-ghost use Rattle.yl_tree.specs.Anchors.{is_anchor_of, is_alias_of, is_declared, is_used, undeclared_alias, duplicated_anchor, anchor_findings, anchors_at, anchors};
+ghost use Rattle.yl_tree.specs.Anchors.{is_anchor_of, is_alias_of, is_declared, is_used, undeclared_alias, anchor_findings, anchors_at, anchors};
+ghost use Rattle.yl_tree.specs.Messages.{name_finding};
 ghost use Rattle.yl_tree.specs.NameSets.{has_name};
 ghost use Rattle.std.specs.List.{list_any};
 ghost use Rattle.yl_tree.specs.References.{is_reference};
@@ -124,10 +125,9 @@ fn duplicated_anchor<A: Allocator>(
     ensures { (before : List EventValue) → ((q : List ℕ)
         → has_name declared.now q ≡ is_declared before q)
         → IfOk result (λ o. option_to_list o
-        ≡ duplicated_anchor options.now before (record {
-          name = anchor.now.name.now;
-          place = anchor.now.place;
-        })) }
+        ≡ (if options.now.forbid_duplicated_anchors && is_declared before anchor.now.name.now
+        then name_finding RuleId.Anchors (Some anchor.now.place) (codes "found duplicated anchor \"")
+        anchor.now.name.now (codes "\"") else [])) }
 {
     if !options.forbid_duplicated_anchors || !has_name(declared, anchor.name) {
         return Ok(None);

@@ -1,9 +1,9 @@
 //! The rule key-duplicates.
-ghost use Rattle.std.specs.Prelude.{◌≡◌, ◌++◌, ◌∷◌, ◌||◌, ℕ, List, [], map, not, false, IfOk, OnOk, bytes_eq};
+ghost use Rattle.std.specs.Prelude.{◌≡◌, ◌++◌, ◌∷◌, ◌||◌, ℕ, List, [], map, not, false, codes, IfOk, OnOk, bytes_eq};
 ghost use Rattle.yl_text.specs.Finding.{FindingValue};
 ghost use Rattle.yl_events.specs.Event.{EventValue, event_value};
 ghost use Rattle.yl_tree.specs.Keys.{earlier_keys};
-ghost use Rattle.yl_tree.specs.KeyRules.{duplicate_at, is_duplicate, is_judged, key_duplicates};
+ghost use Rattle.yl_tree.specs.KeyRules.{duplicate_at, is_duplicate, key_duplicates};
 ghost use Rattle.yl_tree.specs.NameSets.{is_among};
 ghost use Rattle.yl_tree.specs.ManyKeys.{is_among_many};
 ghost use Rattle.yl_tree.specs.Frames.{IsBehind};
@@ -94,7 +94,7 @@ impl<'a, A: Allocator + Copy> KeyMemory for KeySet<'a, A> {
 }
 
 fn is_judged(options: &KeyDuplicatesOptions, name: &str) -> bool
-    ensures { result ≡ is_judged options.now name.now }
+    ensures { result ≡ options.now.forbid_duplicated_merge_keys || not (bytes_eq name.now (codes "<<")) }
 {
     options.forbid_duplicated_merge_keys || name != "<<"
 }

@@ -1,20 +1,23 @@
 //! Problems whose messages name a key or an anchor.
-ghost use Rattle.std.specs.Prelude.{◌≡◌, ◌<◌, ◌++◌, ◌/◌, ◌%◌, ◌∷◌, [], codes, string_bytes, IfOk, OnOk};
+ghost use Rattle.std.specs.Prelude.{◌≡◌, ◌<◌, ◌++◌, ◌/◌, ◌%◌, ◌||◌, ◌==◌, nat_lt, false, ◌∷◌, [], codes, string_bytes, IfOk, OnOk};
+ghost use Rattle.std.specs.Fmt.{digit_glyph};
+ghost use Rattle.std.specs.List.{flat_map};
+ghost use Rattle.std.specs.Str.{chars};
 ghost use Rattle.std.specs.Option.{option_to_list};
-ghost use Rattle.yl_tree.specs.Messages.{hexadecimal, is_control, printed_character, printed_name, message_of, name_finding};
+ghost use Rattle.yl_tree.specs.Messages.{printed_character, name_finding};
 
 use std::alloc::{AllocError, Allocator};
 use yl_text::{Finding, Pos, RuleId};
 
 fn is_control(c: char) -> bool
-    ensures { result ≡ is_control c }
+    ensures { result ≡ nat_lt c 0x20 || c == 0x7F }
 {
     c < ' ' || c == '\x7f'
 }
 
 fn digit(n: u32) -> char
     requires { n < 16 }
-    ensures value { result ≡ hexadecimal n }
+    ensures value { result ≡ digit_glyph false n }
     ensures ascii { result < 128 }
 {
     if n < 10 {
@@ -28,8 +31,8 @@ fn digit(n: u32) -> char
 fn push_number<A: Allocator>(text: &mut String<A>, n: u32) -> Result<(), AllocError>
     requires { n < 128 }
     ensures { OnOk result (string_bytes text.new
-        ≡ string_bytes text.old ++ (codes "\\x" ++ hexadecimal (n / 16) ∷ hexadecimal (n % 16)
-        ∷ [])) }
+        ≡ string_bytes text.old ++ (codes "\\x" ++ digit_glyph false (n / 16)
+        ∷ digit_glyph false (n % 16) ∷ [])) }
 {
     text.push_str("\\x")?;
     text.push(digit(n / 16))?;
@@ -49,7 +52,8 @@ fn push_character<A: Allocator>(text: &mut String<A>, c: char) -> Result<(), All
 }
 
 fn push_name<A: Allocator>(text: &mut String<A>, name: &str) -> Result<(), AllocError>
-    ensures { OnOk result (string_bytes text.new ≡ string_bytes text.old ++ printed_name name.now) }
+    ensures { OnOk result (string_bytes text.new ≡ string_bytes text.old
+        ++ flat_map printed_character (chars name.now)) }
 {
     for c in name.chars() {
         push_character(text, c)?;
@@ -63,7 +67,8 @@ fn message_of<A: Allocator>(
     name: &str,
     back: &str,
 ) -> Result<String<A>, AllocError>
-    ensures { IfOk result (λ text. string_bytes text ≡ message_of front.now name.now back.now) }
+    ensures { IfOk result (λ text. string_bytes text
+        ≡ front.now ++ (flat_map printed_character (chars name.now) ++ back.now)) }
 {
     let mut text = String::from_str(alloc, front)?;
     push_name(&mut text, name)?;
@@ -82,7 +87,7 @@ pub(crate) fn name_problem<A: Allocator>(
     back: &str,
 ) -> Result<Option<Finding<A>>, AllocError>
     ensures { IfOk result (λ o. option_to_list o
-        ≡ name_finding rule place (message_of front.now name.now back.now)) }
+        ≡ name_finding rule place front.now name.now back.now) }
 {
     let Some(place) = place else {
         return Ok(None);

@@ -1,8 +1,11 @@
 //! The rules on keys and anchors, fed a document's events one after another.
-ghost use Rattle.std.specs.Prelude.{◌≡◌, List, [], ◌∷◌, IfOk, OnOk};
+ghost use Rattle.std.specs.Prelude.{◌≡◌, List, [], ◌∷◌, if◌then◌else◌, IfOk, OnOk};
+ghost use Rattle.std.specs.Option.{option_map_or};
 ghost use Rattle.yl_text.specs.Finding.{FindingValue};
 ghost use Rattle.yl_events.specs.Event.{EventValue, event_value};
-ghost use Rattle.yl_tree.specs.Tree.{anchors_if, key_duplicates_if, key_ordering_if, tree_findings};
+ghost use Rattle.yl_tree.specs.Anchors.{anchors};
+ghost use Rattle.yl_tree.specs.KeyRules.{key_duplicates, key_ordering};
+ghost use Rattle.yl_tree.specs.Tree.{tree_findings};
 ghost use Rattle.yl_tree.specs.Finders.{FindsAnchors, FindsDuplicates, FindsIf, FindsMisplaced};
 
 use crate::anchor_finder::AnchorFinder;
@@ -30,7 +33,8 @@ fn duplicate_finder<'a, A: Allocator + Copy>(
     options: &TreeOptions,
 ) -> Option<DuplicateFinder<'a, A>>
     ensures { (es : List EventValue)
-        → FindsIf FindsDuplicates result es (key_duplicates_if options.now.key_duplicates es) }
+        → FindsIf FindsDuplicates result es
+        (option_map_or (λ d. key_duplicates d es) options.now.key_duplicates []) }
 {
     let options = options.key_duplicates?;
     Some(DuplicateFinder::new(alloc, options))
@@ -42,7 +46,8 @@ fn misplaced_finder<'a, A: Allocator + Copy>(
     options: &TreeOptions,
 ) -> Option<MisplacedFinder<'a, A>>
     ensures { (es : List EventValue)
-        → FindsIf FindsMisplaced result es (key_ordering_if options.now.key_ordering es) }
+        → FindsIf FindsMisplaced result es
+        (if options.now.key_ordering then key_ordering es else []) }
 {
     if !options.key_ordering {
         return None;
@@ -56,7 +61,8 @@ fn anchor_finder<'a, A: Allocator + Copy>(
     options: &TreeOptions,
 ) -> Option<AnchorFinder<'a, A>>
     ensures { (es : List EventValue)
-        → FindsIf FindsAnchors result es (anchors_if options.now.anchors es) }
+        → FindsIf FindsAnchors result es
+        (option_map_or (λ a. anchors a es) options.now.anchors []) }
 {
     let options = options.anchors?;
     Some(AnchorFinder::new(alloc, options))
