@@ -1,5 +1,4 @@
 pub mod Bounds
-pub mod Char
 pub mod Character
 pub mod Counts
 pub mod Edit
