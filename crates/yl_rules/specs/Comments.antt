@@ -1,5 +1,5 @@
 -- Meaning: yamllint's rule comments. A comment is its `#` and what follows it up to the break.
-use Rattle.std.specs.Prelude.{ℕ, Bool, false, not, ◌&&◌, ◌==◌, nat_lt, if◌then◌else◌, List, [], ◌∷◌, ◌++◌, ◌+◌, ◌-◌, drop, codes, Option, Some, None}
+use Rattle.std.specs.Prelude.{ℕ, Bool, false, not, ◌&&◌, ◌==◌, nat_lt, if◌then◌else◌, List, [], ◌++◌, ◌+◌, ◌-◌, drop, codes, Option, Some}
 use Rattle.std.specs.Str.{chars}
 use Prim.Native.Char.{code}
 use Rattle.yl_lexeme.specs.Lexeme.{PlacedCommentValue}

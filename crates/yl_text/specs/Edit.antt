@@ -1,7 +1,7 @@
 -- Meaning: an edit of a text. The bytes between two places are replaced by others. A place is a line and a column, both counted
 -- from 0; a column counts the characters of the line, its break with them. The faults of an edit are this project's own; what a
 -- break is, YAML 1.2.2, 5.4 says.
-use Rattle.std.specs.Prelude.{◌≡◌, ℕ, ◌+◌, ◌-◌, ◌≤◌, ◌<◌, ◌⊎◌, Bool, not, ◌&&◌, ◌||◌, ◌==◌, nat_lt, if◌then◌else◌, List, [], ◌∷◌, ◌++◌, length, take, drop, slice_index}
+use Rattle.std.specs.Prelude.{◌≡◌, ℕ, ◌+◌, ◌-◌, ◌≤◌, ◌<◌, ◌⊎◌, Bool, not, ◌&&◌, ◌||◌, ◌==◌, nat_lt, if◌then◌else◌, List, ◌∷◌, ◌++◌, length, take, drop, slice_index}
 use Rattle.std.specs.Str.{IsUtf8, IsValidUpTo, chars, encode_utf8_all}
 use Prim.Native.Char.{code}
 use Rattle.yl_text.specs.Lines.{RowValue, row_bytes, text_of}
