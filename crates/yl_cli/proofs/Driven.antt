@@ -185,7 +185,7 @@ refusal_begun c name flags text e s fault before now h is w =
 
 -- ---- how a run ends
 
-answered_so_far : (count : ℕ) (c : Config) (name : List ℕ) (flags : Flags) (text : List ℕ) (given rest before now : Option (List ℕ)) (s : SessionValue)
+abbrev answered_so_far : (count : ℕ) (c : Config) (name : List ℕ) (flags : Flags) (text : List ℕ) (given rest before now : Option (List ℕ)) (s : SessionValue)
     → SoFar count c name flags text given rest before now s → IsAnswered c name flags text (record { given = given; before = before; now = now })
 answered_so_far count c name flags text given rest before now s so_far = record {
   edits = so_far.edits;
