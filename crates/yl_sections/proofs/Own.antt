@@ -22,6 +22,7 @@ use Rattle.yl_indentation.proofs.Own.{own_facts}
 use Rattle.yl_tree.proofs.Own.{Begins, OfEventRules, own_events}
 use Rattle.yl_rules.specs.Addressed.{is_addressed}
 use Rattle.yl_rules.specs.Comments.{comment_findings, is_too_near, lacks_space, near_findings, starting_space_in}
+use Rattle.yl_rules.specs.LineLength.{hash_count}
 use Rattle.yl_rules.specs.declared.comments.CommentsOptions.{CommentsOptions}
 use Rattle.yl_config.specs.declared.config.Config.{Config}
 use Rattle.yl_config.specs.Config.{options_of}
