@@ -105,7 +105,7 @@ abbrev pub found_of_kept : Config → List FindingValue → Pos → List KeptVal
 found_of_kept config in_lines end ks =
     let seen = shown ks in
     let whole = measure_of (facts_in_sections seen) in
-    in_lines ++ fault_in_sections 0 end ks ++ findings_in_sections (options_of config).indentation whole 0 empty_measure seen
+    in_lines ++ (fault_in_sections 0 end ks ++ findings_in_sections (options_of config).indentation whole 0 empty_measure seen)
 
 -- the report of a text with this first line
 unfoldable pub report_of_kept : Config → List FindingValue → List ℕ → Pos → List KeptValue → List ProblemValue
