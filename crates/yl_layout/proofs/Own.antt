@@ -1,6 +1,6 @@
 -- What the rules on lexemes find in lexemes of a text's first lines stands in these lines.
-use Rattle.std.proofs.Common.{◌≡◌, ◌<◌, ℕ, ◌+◌, Bool, List, [], ◌∷◌, Option, Some, None, refl, take}
-use Rattle.std.specs.Prelude.{IfSome, is_some, not, ◌&&◌, ◌==◌, false, nat_lt, max, codes}
+use Rattle.std.proofs.Common.{◌<◌, ℕ, ◌+◌, Bool, List, [], ◌∷◌, Option, Some, None, take}
+use Rattle.std.specs.Prelude.{IfSome, is_some, not, ◌&&◌, ◌==◌, false, nat_lt, max}
 use Rattle.std.specs.Option.{option_map_or}
 use Rattle.std.specs.List.{AllByRecursion}
 use Rattle.yl_text.specs.declared.finding.RuleId.{RuleId}

@@ -1,4 +1,4 @@
-use Rattle.std.proofs.Common.{◌≡◌, ℕ, List, Bool, true, false, codes, refl, sym, ◌∙◌, ap, subst}
+use Rattle.std.proofs.Common.{◌≡◌, ℕ, List, true, false, codes, refl, sym, ◌∙◌, ap, subst}
 use Rattle.std.specs.Prelude.{IfOk, option_to_list}
 use Rattle.yl_text.specs.declared.finding.RuleId.TheVariants.{Anchors}
 use Rattle.yl_text.specs.Finding.{FindingValue}
