@@ -185,7 +185,8 @@ refusal_begun c name flags text e s fault before now h is w =
 
 -- ---- how a run ends
 
-abbrev answered_so_far : (count : ℕ) (c : Config) (name : List ℕ) (flags : Flags) (text : List ℕ) (given rest before now : Option (List ℕ)) (s : SessionValue)
+-- what was answered so far
+abbrev pub answered_so_far : (count : ℕ) (c : Config) (name : List ℕ) (flags : Flags) (text : List ℕ) (given rest before now : Option (List ℕ)) (s : SessionValue)
     → SoFar count c name flags text given rest before now s → IsAnswered c name flags text (record { given = given; before = before; now = now })
 answered_so_far count c name flags text given rest before now s so_far = record {
   edits = so_far.edits;
@@ -206,11 +207,6 @@ stopped fault.Memory count c name flags bytes given rest before now s n so_far h
 stopped fault.Command count c name flags bytes given rest before now s n so_far h bad = (answered_so_far count c name flags (without_mark bytes) given rest before now s so_far, inl (bad refl))
 stopped fault.Write count c name flags bytes given rest before now s n so_far h bad = absurd h
 stopped (fault.Text t) count c name flags bytes given rest before now s n so_far h bad = absurd h
-
--- the commands are as many as are counted
-pub too_many : (c : Config) (name : List ℕ) (flags : Flags) (bytes : List ℕ) (given rest before now : Option (List ℕ)) (s : SessionValue) (n : Failures)
-    → SoFar (2 ^ 64 - 1) c name flags (without_mark bytes) given rest before now s → IsDriveFault c name flags bytes n (record { given = given; before = before; now = now }) fault.Command
-too_many c name flags bytes given rest before now s n so_far = (answered_so_far (2 ^ 64 - 1) c name flags (without_mark bytes) given rest before now s so_far, inr so_far.counted)
 
 -- all commands were answered
 pub all_driven : (count : ℕ) (c : Config) (name : List ℕ) (flags : Flags) (text : List ℕ) (given rest before now : Option (List ℕ)) (s : SessionValue) (status : ℕ)

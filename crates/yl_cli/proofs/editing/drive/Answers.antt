@@ -1,4 +1,4 @@
-use Rattle.std.proofs.Common.{◌∙◌, sym, subst, rules, List, ℕ, Option, None}
+use Rattle.std.proofs.Common.{◌≡◌, ◌-◌, ◌^◌, ◌∙◌, sym, subst, rules, arith, inr, List, ℕ, Option, None}
 use Rattle.std.specs.Io.KnownBytes.{Appends}
 use Rattle.yl_text.specs.Watched.{device_of, failures_of}
 use Rattle.yl_devices.specs.Written.{AppendsFront}
@@ -7,7 +7,7 @@ use Rattle.yl_session.specs.Runs.{text_after_all}
 use Rattle.yl_devices.specs.Text.{without_mark}
 use Rattle.yl_cli.specs.Reading.{SoFar}
 use Rattle.yl_cli.proofs.Begun.{none_written}
-use Rattle.yl_cli.proofs.Driven.{all_driven, begun_more, begun_opened, from_err, from_ok, nothing_ahead, so_far_more, so_far_opened, stopped, text_shown}
+use Rattle.yl_cli.proofs.Driven.{all_driven, answered_so_far, begun_more, begun_opened, from_err, from_ok, nothing_ahead, so_far_more, so_far_opened, stopped, text_shown}
 use Rattle.yl_cli.proofs.editing.drive.Goals as goal
 
 pub returns-in-Err-opened-clause-fault : goal.returns-in-Err-opened-clause-fault
@@ -72,3 +72,8 @@ loop-preserved g c =
       so_far = so_far_more _ _ _ _ _ _ _ _ _ _ _ _ _ c.in-Ok-Some.edit so_far (rw c.in-Ok-Some.field-0-is at c.in-Ok-Some.ensures.some)
           (from_ok c.answer.result written c.answer.ensures.ok c.args.config text so_far.replayed.shown);
     }
+
+pub returns-clause-fault : goal.returns-clause-fault
+returns-clause-fault g c =
+    let so_far = c.loop.invariant.so_far in
+    let all : c.loop.counter ≡ 2 ^ 64 - 1 = omega (arith, c.loop-test.false, c.loop.auto.counter-end) in (answered_so_far _ _ _ _ _ _ _ _ _ _ so_far, inr (so_far.counted ∙ all))
