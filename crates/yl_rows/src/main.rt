@@ -31,7 +31,6 @@
 #![tactic(auto)]
 
 mod edits;
-mod escapes;
 mod refused;
 mod rows;
 mod sessions;

@@ -1,9 +1,9 @@
 //! Rows, one after another.
 use crate::edits::{Both, Inquiry, Limits, NO_LIMITS, Request, answer_both, open};
-use crate::escapes::push_unescaped;
 use crate::sessions::push_answer;
 use crate::views::{SMALL, Wanted, growths, show, told_growths};
 use crate::words::{Instruction, instruction_of};
+use escaped::{push_keys, push_stairs, push_times, push_unescaped};
 use refusing::Refusing;
 use std::alloc::Global;
 use std::io::Write;
@@ -36,34 +36,6 @@ fn say(rt: &HostRuntime, text: &str) -> Result<(), RunFault> {
         Ok(()) => Ok(()),
         Err(_) => Err(RunFault::Write),
     }
-}
-
-// Puts a text so many times behind another.
-fn push_times(out: &mut Vec<u8>, count: usize, text: &str) -> Result<(), RunFault> {
-    for _ in 0..count {
-        push_unescaped(out, text)?;
-    }
-    Ok(())
-}
-
-// Puts lines with a key each behind a text.
-fn push_keys(alloc: Global, out: &mut Vec<u8>, count: usize) -> Result<(), RunFault> {
-    for n in 0..count {
-        let line = format!(in alloc; "k{n:05}: v\n")?;
-        out.extend_from_slice(line.as_str().as_bytes())?;
-    }
-    Ok(())
-}
-
-// Puts lines with a key each behind a text, each key a blank further on than the one above.
-fn push_stairs(alloc: Global, out: &mut Vec<u8>, count: usize) -> Result<(), RunFault> {
-    let mut blanks = Vec::new(alloc);
-    for _ in 0..count {
-        out.extend_from_slice(blanks.as_slice())?;
-        out.extend_from_slice(b"k:\n")?;
-        blanks.push(b' ')?;
-    }
-    Ok(())
 }
 
 // Asks with each growth refused in turn, and says where it is answered otherwise than it has to be.
@@ -162,9 +134,9 @@ fn follow_asked(
 // Does what a row says.
 fn follow(rt: &HostRuntime, kept: &mut Kept<'_>, row: Instruction<'_>) -> Result<(), RunFault> {
     match row {
-        Instruction::More(count, text) => return push_times(&mut kept.front, count, text),
-        Instruction::Keys(count) => return push_keys(rt.alloc(), &mut kept.front, count),
-        Instruction::Stairs(count) => return push_stairs(rt.alloc(), &mut kept.front, count),
+        Instruction::More(count, text) => push_times(&mut kept.front, count, text)?,
+        Instruction::Keys(count) => push_keys(rt.alloc(), &mut kept.front, count)?,
+        Instruction::Stairs(count) => push_stairs(rt.alloc(), &mut kept.front, count)?,
         Instruction::Growths(least) => kept.limits.least = least,
         Instruction::Most(most) => kept.limits.most = most,
         Instruction::Exactly => kept.limits.is_exact = true,

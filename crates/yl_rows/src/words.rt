@@ -1,6 +1,7 @@
 //! What rows say.
 use crate::edits::{BoundedEdit, EditRange, Request};
 use crate::views::Wanted;
+use escaped::first_word;
 use yl_text::Pos;
 
 /// What a row says.
@@ -13,11 +14,6 @@ pub enum Instruction<'a> {
     Exactly,
     Shown(Wanted, &'a str),
     Request(Request, &'a str),
-}
-
-// The first word, and what is behind the space behind it.
-fn first_word(text: &str) -> (&str, &str) {
-    text.split_once(' ').unwrap_or((text, ""))
 }
 
 // Two numbers, and what is behind them. `-` is the largest there is.

@@ -1,5 +1,9 @@
-//! Texts that are written in one line.
-use std::alloc::AllocError;
+//! Texts for tests, as a line says them.
+//!
+//! In a line `\n`, `\r`, `\t`, `\\` and `\u{HEX}` stand for characters, and `\x{HEX}` for a byte. A backslash that begins no escape stands for itself.
+#![tactic(auto)]
+
+use std::alloc::{AllocError, Global};
 
 // What a letter behind a backslash stands for.
 const LETTERS: [(&str, char); 3] = [("n", '\n'), ("r", '\r'), ("t", '\t')];
@@ -44,7 +48,7 @@ fn push_escape(out: &mut Vec<u8>, piece: &str) -> Result<bool, AllocError> {
     Ok(true)
 }
 
-/// Puts a text behind another. A backslash that begins no escape stands for itself.
+/// Puts what a line says behind a text.
 pub fn push_unescaped(out: &mut Vec<u8>, text: &str) -> Result<(), AllocError> {
     let mut is_plain = true;
     for piece in text.split('\\') {
@@ -58,4 +62,37 @@ pub fn push_unescaped(out: &mut Vec<u8>, text: &str) -> Result<(), AllocError> {
         }
     }
     Ok(())
+}
+
+/// Puts what a line says so many times behind a text.
+pub fn push_times(out: &mut Vec<u8>, count: usize, text: &str) -> Result<(), AllocError> {
+    for _ in 0..count {
+        push_unescaped(out, text)?;
+    }
+    Ok(())
+}
+
+/// Puts so many lines with a key each behind a text.
+pub fn push_keys(alloc: Global, out: &mut Vec<u8>, count: usize) -> Result<(), AllocError> {
+    for n in 0..count {
+        let line = format!(in alloc; "k{n:05}: v\n")?;
+        out.extend_from_slice(line.as_str().as_bytes())?;
+    }
+    Ok(())
+}
+
+/// Puts so many lines with a key each behind a text, each key a blank further on than the one above.
+pub fn push_stairs(alloc: Global, out: &mut Vec<u8>, count: usize) -> Result<(), AllocError> {
+    let mut blanks = Vec::new(alloc);
+    for _ in 0..count {
+        out.extend_from_slice(blanks.as_slice())?;
+        out.extend_from_slice(b"k:\n")?;
+        blanks.push(b' ')?;
+    }
+    Ok(())
+}
+
+/// The first word of a line, and what is behind the space behind it.
+pub fn first_word(line: &str) -> (&str, &str) {
+    line.split_once(' ').unwrap_or((line, ""))
 }
