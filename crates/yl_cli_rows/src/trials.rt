@@ -100,7 +100,7 @@ fn is_ended(trial: &Trial<'_>, ran: &Ran, read: &[u8]) -> bool {
 // A reader that gives a byte a call and fails behind so many, each number in turn. Commands may end before all is read.
 fn stops_at_each_read(trial: &Trial<'_>) -> bool {
     for calls in 0..trial.input.len().saturating_add(1) {
-        let reader = make_reader(trial.input, 1, calls as u64 + 1);
+        let reader = make_reader(trial.input, 1, (calls as u64).saturating_add(1));
         let ran = run(trial.alloc, trial.call, reader, writer(trial.alloc));
         if ran.read_failures == 0 {
             return matches!(trial.call, Call::Drive { .. }) && did_all(trial, &ran);
