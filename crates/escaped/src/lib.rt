@@ -48,7 +48,7 @@ fn push_escape(out: &mut Vec<u8>, piece: &str) -> Result<bool, AllocError> {
     Ok(true)
 }
 
-/// Puts what a line says behind a text.
+/// Puts what a line says behind a text. The only error is out of memory.
 pub fn push_unescaped(out: &mut Vec<u8>, text: &str) -> Result<(), AllocError> {
     let mut is_plain = true;
     for piece in text.split('\\') {
@@ -64,7 +64,7 @@ pub fn push_unescaped(out: &mut Vec<u8>, text: &str) -> Result<(), AllocError> {
     Ok(())
 }
 
-/// Puts what a line says so many times behind a text.
+/// Puts what a line says so many times behind a text. The only error is out of memory.
 pub fn push_times(out: &mut Vec<u8>, count: usize, text: &str) -> Result<(), AllocError> {
     for _ in 0..count {
         push_unescaped(out, text)?;
@@ -72,7 +72,7 @@ pub fn push_times(out: &mut Vec<u8>, count: usize, text: &str) -> Result<(), All
     Ok(())
 }
 
-/// Puts so many lines with a key each behind a text.
+/// Puts so many lines with a key each behind a text. The only error is out of memory.
 pub fn push_keys(alloc: Global, out: &mut Vec<u8>, count: usize) -> Result<(), AllocError> {
     for n in 0..count {
         let line = format!(in alloc; "k{n:05}: v\n")?;
@@ -81,7 +81,7 @@ pub fn push_keys(alloc: Global, out: &mut Vec<u8>, count: usize) -> Result<(), A
     Ok(())
 }
 
-/// Puts so many lines with a key each behind a text, each key a blank further on than the one above.
+/// Puts so many lines with a key each behind a text, each key a blank further on than the one above. The only error is out of memory.
 pub fn push_stairs(alloc: Global, out: &mut Vec<u8>, count: usize) -> Result<(), AllocError> {
     let mut blanks = Vec::new(alloc);
     for _ in 0..count {

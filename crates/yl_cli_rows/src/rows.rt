@@ -70,7 +70,7 @@ fn show(rt: &HostRuntime, call: Call<'_>, input: &[u8], least: u64) -> Result<()
     Ok(())
 }
 
-// Reads a byte again and again, and prints what comes of it, and whether some million bytes were never read.
+// Reads a byte so many times at most, and prints what comes of it, and `reads all` where fewer than a million of them are left.
 fn flood(rt: &HostRuntime, call: Call<'_>, byte: u8, count: usize) -> Result<(), RunFault> {
     let mut reader = Repeated { byte, left: count };
     let writer = make_writer(rt.alloc(), usize::MAX, usize::MAX, true);

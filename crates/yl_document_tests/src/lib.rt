@@ -1,16 +1,6 @@
-//! Tests of documents: their events, and the rules on their keys and anchors, some with an allocator that
-//! refuses.
+//! Tests of calls over one whole document that no program makes: the programs read documents line by line, and what comes of that is shown by the
+//! rows of `yl_rows`.
 #![tactic(auto)]
 
 #[cfg(test)]
-mod asked;
-#[cfg(test)]
-mod by_line;
-#[cfg(test)]
-mod events;
-#[cfg(test)]
-mod lexemes;
-#[cfg(test)]
-mod shown;
-#[cfg(test)]
-mod tree;
+mod calls;

@@ -1,17 +1,16 @@
-//! Tests of the scanner and of the recorder, over several crates.
+//! Tests of the scanner and of the recorder that only one who calls them row by row can make. What they tell of texts is shown by the rows of
+//! yl_rows.
 #![tactic(auto)]
 
 #[cfg(test)]
-mod bounds;
-#[cfg(test)]
 mod deep;
 #[cfg(test)]
-mod growths;
+mod feeding;
 #[cfg(test)]
-mod large;
+mod refused;
 #[cfg(test)]
-mod records;
+mod resumed;
 #[cfg(test)]
-mod scans;
+mod shown;
 #[cfg(test)]
-mod steps;
+mod texts;

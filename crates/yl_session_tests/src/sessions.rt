@@ -1,6 +1,7 @@
-//! Sessions that are opened and edited, over either store. These functions have no clauses, so a call of one
-//! brings none of a session's with it.
-use yl_config::Config;
+//! Sessions that are opened and edited, over either store, and configurations that are read. These functions have no clauses, so a call of one brings
+//! none of a session's with it.
+use std::alloc::Global;
+use yl_config::{Config, ConfigFault};
 use yl_session::{Session, Work};
 use yl_text::{LineStore, Pos, TextFault};
 
@@ -32,4 +33,9 @@ pub fn edit_lines<S: LineStore>(
         Pos { line: b, col: 0 },
         bytes,
     )
+}
+
+/// Why these bytes are no configuration.
+pub fn config_fault(alloc: Global, bytes: &[u8]) -> Option<ConfigFault> {
+    Config::read(alloc, bytes).err()
 }

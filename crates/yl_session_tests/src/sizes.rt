@@ -1,8 +1,9 @@
-//! Texts, and bytes of edits, that are too large.
-use crate::sessions::{edit, opened};
+//! Texts, bytes of edits, and configurations that are too large.
+use crate::sessions::{config_fault, edit, opened};
 use refusing::Refusing;
 use std::alloc::Global;
 use std::test::Fail;
+use yl_config::ConfigFault;
 use yl_session::Session;
 use yl_text::{LineStore, PlainStore, Pos, TextFault};
 
@@ -44,6 +45,21 @@ fn what_is_too_large_is_refused(rt: HostRuntime) -> Result<(), Fail> {
         let longer = long.get(..=most).unwrap_or(&[]);
         let fault = edit_fault::<PlainStore<&Refusing<Global>>>(&heap, &heap, from, to, longer)?;
         assert_eq!(rt; fault, Some(TextFault::TooLarge));
+    }
+    Ok(())
+}
+
+// Bytes that are no UTF-8 are no configuration, as many as a text may have, and one more is too large.
+#[test]
+fn what_is_no_text_is_no_configuration(rt: HostRuntime) -> Result<(), Fail> {
+    let bytes = vec![in rt.alloc(); 0xFF_u8; 67_108_865]?;
+    for (count, wanted) in [
+        (67_108_864, ConfigFault::NotUtf8),
+        (67_108_865, ConfigFault::TooLarge),
+    ] {
+        let count: usize = count;
+        let bytes = bytes.as_slice().get(..count).unwrap_or(&[]);
+        assert_eq!(rt; config_fault(rt.alloc(), bytes), Some(wanted));
     }
     Ok(())
 }

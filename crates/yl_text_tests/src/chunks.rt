@@ -1,18 +1,17 @@
-//! Stores and lists in chunks, whose rows are numbers.
+//! Stores and lists in chunks: edits of about one, two and three chunks of numbers, from and to each place near a chunk's border.
 
-mod growths;
 mod lists;
-mod random;
-mod seams;
 
-use crate::stores::Heap;
-pub(crate) use growths::is_stored_at_once;
+use crate::stores::{Heap, place};
+use crate::texts::is_edited;
+pub(crate) use lists::is_made_at_once;
+use refusing::Refusing;
 use std::alloc::{AllocError, Global};
-use yl_text::{Break, Lines};
+use std::test::Fail;
 
 // What is edited: a store of rows, or a list.
 #[derive(Clone, Copy)]
-pub(crate) enum Kind {
+enum Kind {
     Store,
     List,
 }
@@ -21,20 +20,37 @@ pub(crate) enum Kind {
 // goes, and how many come in.
 pub(crate) type Edit = (usize, usize, usize, usize);
 
-// Makes an edit whose nth growth is refused; at 0 none is. A refusal changes nothing, and the same edit is
-// made when it is asked again. Whether it was made at once; there is no answer where what is edited is not as it has to be.
-pub(crate) fn is_made_at_once(
-    alloc: Global,
-    heap: Heap<'_>,
-    n: u64,
-    kind: Kind,
-    edit: Edit,
-) -> Option<bool> {
-    match kind {
-        Kind::Store => growths::is_made_at_once(alloc, heap, n, edit),
-        Kind::List => lists::is_made_at_once(heap, heap, n, edit),
+// The first number of those that are put in.
+const NEW: usize = 1000;
+
+// The number at i behind an edit that puts `count` of them in place of those from a to b.
+fn wanted(i: usize, a: usize, b: usize, count: usize) -> usize {
+    let end = a.saturating_add(count);
+    if i < a {
+        i
+    } else if i < end {
+        i.saturating_sub(a).saturating_add(NEW)
+    } else {
+        i.saturating_sub(end).saturating_add(b)
     }
 }
+
+// How many numbers there are behind an edit.
+fn size_behind(edit: Edit) -> usize {
+    let (size, a, b, count) = edit;
+    size.saturating_sub(b.saturating_sub(a))
+        .saturating_add(count)
+}
+
+// The first numbers of the lines of a text, and of those that are put in. All have as many digits.
+const FIRST: usize = 10_000;
+
+const FIRST_NEW: usize = 20_000;
+
+// How many bytes such a line has, and how many stand before its break.
+const LINE: usize = 6;
+
+const DIGITS: usize = 5;
 
 // Lines that are numbers from `first` on, `count` of them. Each has a break, but for the last where it
 // is the last of the text.
@@ -55,66 +71,75 @@ fn numbered(
     Ok(text)
 }
 
-// The first number of rows that are put in.
-const NEW: usize = 1000;
-
-// The number of row i behind an edit that puts `count` rows in place of the rows a to b.
-fn wanted(i: usize, a: usize, b: usize, count: usize) -> usize {
-    let end = a.saturating_add(count);
-    if i < a {
-        i
-    } else if i < end {
-        i.saturating_sub(a).saturating_add(NEW)
-    } else {
-        i.saturating_sub(end).saturating_add(b)
-    }
-}
-
-// How many rows there are behind an edit.
-fn size_behind(edit: Edit) -> usize {
+// Whether both stores make an edit of the lines of a text rightly.
+fn is_stored(alloc: Global, heap: Heap<'_>, edit: Edit) -> Option<bool> {
     let (size, a, b, count) = edit;
-    size.saturating_sub(b.saturating_sub(a))
-        .saturating_add(count)
-}
-
-// Whether the rows that are lent together from row i on are those behind that edit.
-fn are_lent<S: Lines>(lines: &S, i: usize, edit: Edit) -> bool {
-    let (_, a, b, count) = edit;
-    if i >= lines.len() {
-        return false;
-    }
-    for (k, row) in lines.rows_from(i).iter().enumerate() {
-        if row.as_str().parse::<usize>() != Ok(wanted(i.saturating_add(k), a, b, count)) {
-            return false;
-        }
-    }
-    true
-}
-
-// Whether row i has this number. The last has no break.
-fn is_number<S: Lines>(lines: &S, i: usize, number: usize) -> bool {
-    if i >= lines.len() {
-        return false;
-    }
-    let row = lines.row(i);
-    let end = if i.saturating_add(1) == lines.len() {
-        Break::No
+    let is_end = b == size;
+    let text = numbered(alloc, FIRST, size, true).ok()?;
+    let bytes = numbered(alloc, FIRST_NEW, count, is_end).ok()?;
+    let start = a.saturating_mul(LINE);
+    let (to, end) = if is_end {
+        (place(b.saturating_sub(1), DIGITS), text.len())
     } else {
-        Break::Lf
+        (place(b, 0), b.saturating_mul(LINE))
     };
-    row.as_str().parse::<usize>() == Ok(number) && row.end() == end
+    let (range, places) = ((start, end), (place(a, 0), to));
+    is_edited(alloc, heap, text.as_str(), range, places, bytes.as_str()).ok()
 }
 
-// Whether these are the rows behind that edit.
-fn is_edited<S: Lines>(lines: &S, edit: Edit) -> bool {
-    let (_, a, b, count) = edit;
-    for i in 0..lines.len() {
-        if !is_number(lines, i, wanted(i, a, b, count)) {
-            return false;
-        }
-        if i % 97 == 0 && !are_lent(lines, i, edit) {
-            return false;
+// How many numbers the texts and lists have.
+const SIZES: [usize; 4] = [255, 256, 257, 513];
+
+// Places at their ends, and about the borders of chunks that halve or third them.
+const PLACES: [usize; 12] = [0, 1, 128, 129, 171, 172, 254, 255, 256, 257, 342, 513];
+
+// How many numbers are put in: with them a chunk keeps its items, is filled, is split, or is left empty.
+const COUNTS: [usize; 6] = [0, 1, 2, 128, 256, 257];
+
+// How many numbers are not put rightly in place of those from a to b, of these counts the first.
+fn wrong_count(
+    alloc: Global,
+    heap: Heap<'_>,
+    kind: Kind,
+    size: usize,
+    a: usize,
+    b: usize,
+) -> Option<usize> {
+    for count in COUNTS {
+        let edit = (size, a, b, count);
+        let answer = match kind {
+            Kind::Store => is_stored(alloc, heap, edit),
+            Kind::List => is_made_at_once(heap, heap, 0, edit),
+        };
+        if answer != Some(true) {
+            return Some(count);
         }
     }
-    lines.len() == size_behind(edit)
+    None
+}
+
+// The first edit about a border that is not made rightly.
+fn wrong_edit(alloc: Global, heap: Heap<'_>, kind: Kind) -> Option<Edit> {
+    for size in SIZES {
+        for a in PLACES {
+            for b in PLACES {
+                if a >= size || a > b || b > size {
+                    continue;
+                }
+                if let Some(count) = wrong_count(alloc, heap, kind, size, a, b) {
+                    return Some((size, a, b, count));
+                }
+            }
+        }
+    }
+    None
+}
+
+#[test]
+fn edits_about_each_border(rt: HostRuntime) -> Result<(), Fail> {
+    let heap = Refusing::new(rt.alloc());
+    for kind in [Kind::Store, Kind::List] {
+        assert_eq!(rt; wrong_edit(rt.alloc(), &heap, kind), None);
+    }
+    Ok(())
 }

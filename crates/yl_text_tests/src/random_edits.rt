@@ -1,12 +1,28 @@
 //! Random edits between places of small texts, by both stores, against the lines of the edited text.
 
-use crate::random::Random;
-use crate::seams::is_edited;
 use crate::stores::{Heap, place};
+use crate::texts::is_edited;
 use refusing::Refusing;
 use std::alloc::{AllocError, Global};
 use std::test::Fail;
 use yl_text::Pos;
+
+// Numbers that look random, the same ones at each run.
+#[derive(Drop)]
+struct Random {
+    seed: u64,
+}
+
+impl Random {
+    // The next number, below a bound.
+    fn below(&mut self, bound: usize) -> usize {
+        self.seed = self
+            .seed
+            .wrapping_mul(6_364_136_223_846_793_005)
+            .wrapping_add(1_442_695_040_888_963_407);
+        ((self.seed >> 33) % (bound as u64).max(1)) as usize
+    }
+}
 
 // What texts are made of. A break is as likely as a letter.
 const CHARACTERS: [char; 10] = [
@@ -75,7 +91,7 @@ fn is_random_edit_made(alloc: Global, heap: Heap<'_>, random: &mut Random) -> Re
 #[test]
 fn of_both_stores(rt: HostRuntime) -> Result<(), Fail> {
     let heap = Refusing::new(rt.alloc());
-    let mut random = Random::new(46);
+    let mut random = Random { seed: 46 };
     for n in 0..60_000 {
         assert!(rt;
             is_random_edit_made(rt.alloc(), &heap, &mut random)?,
