@@ -5,7 +5,7 @@ ghost use Rattle.yl_args.specs.declared.answer.Stop.TheVariants.{Memory};
 use std::alloc::{AllocError, AllocFailed};
 
 /// How a run prints and counts.
-#[derive(Clone, Copy, Debug, PartialEq, Eq)]
+#[derive(Clone, Copy)]
 pub struct Flags {
     /// Warnings give status 2 where no error gives 1.
     pub strict: bool,
@@ -16,7 +16,7 @@ pub struct Flags {
 }
 
 /// Where the configuration of a run is read from.
-#[derive(Debug, Drop)]
+#[derive(Drop)]
 pub enum Source {
     /// Nowhere: it is the default configuration.
     Standard,
@@ -28,7 +28,7 @@ pub enum Source {
 
 /// A run: its configuration, the names of its files in order, of which there is at least one, and
 /// its flags. The name `-` is standard input.
-#[derive(Debug, Drop)]
+#[derive(Drop)]
 pub struct Asked {
     pub config: Source,
     pub files: Vec<String>,
@@ -36,7 +36,7 @@ pub struct Asked {
 }
 
 /// What `yldump` shows of a text.
-#[derive(Clone, Copy, Debug, PartialEq, Eq)]
+#[derive(Clone, Copy)]
 pub enum View {
     /// Its lexemes and its comments.
     Lexemes,
@@ -47,14 +47,14 @@ pub enum View {
 }
 
 /// A run of `yldump`: the name of its file, where `-` is standard input, and what is shown of it.
-#[derive(Debug, Drop)]
+#[derive(Drop)]
 pub struct AskedDump {
     pub file: String,
     pub view: View,
 }
 
 /// Why nothing is run.
-#[derive(Debug, Drop)]
+#[derive(Drop)]
 pub enum Stop {
     /// The help is asked for, which is this text.
     Help(String),

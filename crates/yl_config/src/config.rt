@@ -20,7 +20,7 @@ use yl_text::RuleId;
 use yl_tree::{AnchorsOptions, KeyDuplicatesOptions};
 
 /// Which rules are on, at which level, and the options of the rules.
-#[derive(Clone, Copy, Debug, PartialEq, Eq)]
+#[derive(Clone, Copy)]
 pub struct Config {
     levels: RuleLevels,
     options: RuleOptions,

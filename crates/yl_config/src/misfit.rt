@@ -6,7 +6,7 @@ use yl_documents::stands_before;
 use yl_text::Pos;
 
 /// Why something does not fit.
-#[derive(Clone, Copy, Debug, PartialEq, Eq)]
+#[derive(Clone, Copy)]
 pub enum MisfitKind {
     NotAMapping,
     UnknownKey,
@@ -18,7 +18,7 @@ pub enum MisfitKind {
 }
 
 /// Something that does not fit, and where it stands.
-#[derive(Clone, Copy, Debug, PartialEq, Eq)]
+#[derive(Clone, Copy)]
 pub struct Misfit {
     pub kind: MisfitKind,
     pub place: Pos,

@@ -34,7 +34,7 @@ pub enum RunFault {
 }
 
 /// The program that speaks.
-#[derive(Clone, Copy, Debug, PartialEq, Eq)]
+#[derive(Clone, Copy, PartialEq, Eq)]
 pub enum Program {
     Yamllint,
     Yledit,

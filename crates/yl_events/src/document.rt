@@ -154,25 +154,8 @@ fn count(meter: &mut Meter)
     meter.documents += 1;
 }
 
-/// The events of one whole document's lexemes, or its parse fault and no events. `symbols` are the lexemes with their marks, as
-/// `document_marks` gives them. Counts the document in the meter, also where memory is refused. The only error is memory.
-pub fn parse_marked<'a, A: Allocator + Copy>(
-    alloc: A,
-    lexemes: &[LexemeAtLine<'a, A>],
-    symbols: &[Symbol],
-    meter: &mut Meter,
-) -> Result<Built<'a, A>, AllocError>
-    requires symbols { symbols.now ≡ symbols_of_lexemes (map (λ x. lexeme_at_line x.line x.lexeme.now) lexemes.now) }
-    requires documents { meter.old.documents < 2 ^ 32 - 1 }
-    ensures built { IfOk result (λ b. Builds (map (λ x. lexeme_at_line x.line x.lexeme.now) lexemes.now) (map event_value b.events.items) b.fault) }
-    ensures counted { meter.new ≡ record meter.old { documents = meter.old.documents + 1 } }
-{
-    count(meter);
-    build(alloc, lexemes, symbols)
-}
-
-/// The same of a document whose lexemes have no marks yet: its events, or its parse fault and no events. Counts the document in the
-/// meter, also where memory is refused. The only error is memory.
+/// The events of one whole document's lexemes, or its parse fault and no events. Counts the document in the meter, also where memory is
+/// refused. The only error is memory.
 pub fn parse_document<'a, A: Allocator + Copy>(
     alloc: A,
     lexemes: &[LexemeAtLine<'a, A>],

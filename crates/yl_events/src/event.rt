@@ -23,14 +23,14 @@ pub enum EventKind<'a> {
 }
 
 /// An anchor: its name, and its place in the text.
-#[derive(Clone, Copy, Debug, PartialEq, Eq)]
+#[derive(Clone, Copy)]
 pub struct EventAnchor<'a> {
     pub name: &'a str,
     pub place: Pos,
 }
 
 /// An event of a document. The parts of its anchor are fields, so that the small ones lie next to each other.
-#[derive(Clone, Copy, Debug, PartialEq, Eq)]
+#[derive(Clone, Copy)]
 pub struct Event<'a> {
     pub kind: EventKind<'a>,
     /// Where its content begins, behind properties: of a scalar, an alias and a start of a collection.

@@ -38,7 +38,7 @@ impl ParseFault {
 
 /// A document's fault: which, and the index of its lexeme in the document; the number of its lexemes stands for the
 /// place behind it.
-#[derive(Clone, Copy, Debug, PartialEq, Eq)]
+#[derive(Clone, Copy)]
 pub struct PlacedParseFault {
     pub kind: ParseFault,
     pub place: usize,

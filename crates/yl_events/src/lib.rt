@@ -13,7 +13,7 @@ mod symbol_parser;
 mod trail;
 
 pub use cuts::{begins_document, documents};
-pub use document::{event_of, parse_document, parse_marked};
+pub use document::{event_of, parse_document};
 pub use event::{Built, Event, EventAnchor, EventKind};
 pub use fault::{ParseFault, PlacedParseFault};
 pub use laws::{documents_cut_by_two, one_derivation, one_fault, told_behind, told_documents};

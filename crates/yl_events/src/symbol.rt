@@ -18,7 +18,7 @@ pub enum Properties {
 }
 
 /// What an event is, without its contents.
-#[derive(Clone, Copy, Debug, PartialEq, Eq)]
+#[derive(Clone, Copy)]
 pub enum Shape {
     DocumentStart,
     DocumentEnd,
@@ -33,7 +33,7 @@ pub enum Shape {
 }
 
 /// An event by its lexemes, which go by their index in the document, from 0.
-#[derive(Clone, Copy, Debug, PartialEq, Eq)]
+#[derive(Clone, Copy)]
 pub struct Outline {
     pub kind: Shape,
     pub is_tagged: bool,

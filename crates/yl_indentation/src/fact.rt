@@ -1,7 +1,7 @@
 //! What is expected at the checked places of a document.
 
 /// Where a lexeme is expected. Columns count from 0 in characters.
-#[derive(Clone, Copy, Debug, PartialEq, Eq)]
+#[derive(Clone, Copy)]
 pub enum Expectation {
     /// At this column.
     At(u32),
@@ -12,7 +12,7 @@ pub enum Expectation {
 }
 
 /// A checked place: the first lexeme of a line, and where it is expected.
-#[derive(Clone, Copy, Debug, PartialEq, Eq)]
+#[derive(Clone, Copy)]
 pub struct Fact {
     /// Its line, counted as the lexemes' lines.
     pub line: u32,

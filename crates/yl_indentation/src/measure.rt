@@ -8,7 +8,7 @@ use crate::fact::{Expectation, Fact};
 /// What facts decide: the first step, which is the width where the option spaces is consistent, and
 /// how sequences in mappings stand. A measure is kept of each document; that of a text is made of
 /// them by `and_later`. Steps are in characters.
-#[derive(Clone, Copy, Debug, PartialEq, Eq)]
+#[derive(Clone, Copy)]
 pub struct Measure {
     /// The first positive distance of a lexeme from its base, entries in mappings left out.
     pub step: Option<u32>,

@@ -2,7 +2,7 @@
 ghost use Rattle.std.specs.Prelude.{◌≡◌};
 
 /// How far a block is indented from the one around it: yamllint's option spaces.
-#[derive(Clone, Copy, Debug, PartialEq, Eq)]
+#[derive(Clone, Copy)]
 pub enum Spaces {
     /// As far as the first such block of the text.
     Consistent,
@@ -11,7 +11,7 @@ pub enum Spaces {
 }
 
 /// Whether sequences in mappings are indented from them: yamllint's option indent-sequences.
-#[derive(Clone, Copy, Debug, PartialEq, Eq)]
+#[derive(Clone, Copy)]
 pub enum IndentSequences {
     Indented,
     /// They stand in the mapping's own column.
@@ -23,7 +23,7 @@ pub enum IndentSequences {
 }
 
 /// The options of yamllint's rule indentation.
-#[derive(Clone, Copy, Debug, PartialEq, Eq)]
+#[derive(Clone, Copy)]
 pub struct IndentationOptions {
     pub spaces: Spaces,
     pub indent_sequences: IndentSequences,

@@ -9,7 +9,7 @@ use yl_lexeme::Kind;
 use yl_text::{Finding, Pos, RuleId};
 
 /// Which flow collections are forbidden.
-#[derive(Clone, Copy, Debug, PartialEq, Eq)]
+#[derive(Clone, Copy, PartialEq, Eq)]
 pub enum Forbid {
     Nothing,
     /// Those that hold something.
@@ -19,7 +19,7 @@ pub enum Forbid {
 
 /// How many characters may stand behind an opening bracket and before a closing one, in one line.
 /// `None` is no bound; of empty collections it is the bound of the others.
-#[derive(Clone, Copy, Debug, PartialEq, Eq)]
+#[derive(Clone, Copy)]
 pub struct BracketsOptions {
     pub forbid: Forbid,
     pub min_spaces_inside: Option<u32>,

@@ -11,7 +11,7 @@ use yl_text::{Finding, RuleId};
 
 /// How many characters may stand before and behind a `:`, and behind a `?`, in one line. `None` is
 /// no bound.
-#[derive(Clone, Copy, Debug, PartialEq, Eq)]
+#[derive(Clone, Copy)]
 pub struct ColonsOptions {
     pub max_spaces_before: Option<u32>,
     pub max_spaces_after: Option<u32>,

@@ -9,7 +9,7 @@ use yl_lexeme::Kind;
 use yl_text::{Finding, RuleId};
 
 /// How many characters may stand before and behind a `,` in one line. `None` is no bound.
-#[derive(Clone, Copy, Debug, PartialEq, Eq)]
+#[derive(Clone, Copy)]
 pub struct CommasOptions {
     pub max_spaces_before: Option<u32>,
     pub min_spaces_after: Option<u32>,

@@ -13,7 +13,7 @@ use yl_lexeme::Kind;
 use yl_text::{Finding, Pos, RuleId};
 
 /// Whether the marker `---` must stand before a document, or must not.
-#[derive(Clone, Copy, Debug, PartialEq, Eq)]
+#[derive(Clone, Copy)]
 pub struct DocumentStartOptions {
     pub present: bool,
 }

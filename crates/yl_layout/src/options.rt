@@ -10,7 +10,7 @@ use crate::quoted_strings::QuotedStringsOptions;
 use crate::truthy::TruthyOptions;
 
 /// For each rule on lexemes its options, or none where it is off.
-#[derive(Clone, Copy, Debug, PartialEq, Eq)]
+#[derive(Clone, Copy)]
 pub struct LexemeOptions {
     pub braces: Option<BracketsOptions>,
     pub brackets: Option<BracketsOptions>,

@@ -11,7 +11,7 @@ use yl_plain::is_string;
 use yl_text::{Finding, Pos, RuleId};
 
 /// The quotes that strings are to have.
-#[derive(Clone, Copy, Debug, PartialEq, Eq)]
+#[derive(Clone, Copy)]
 pub enum QuoteType {
     Any,
     Single,
@@ -35,7 +35,7 @@ impl QuoteType {
 }
 
 /// Which quotes strings are to have, and whether they must have quotes.
-#[derive(Clone, Copy, Debug, PartialEq, Eq)]
+#[derive(Clone, Copy)]
 pub struct QuotedStringsOptions {
     pub quote_type: QuoteType,
     pub required: bool,

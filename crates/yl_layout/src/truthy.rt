@@ -13,7 +13,7 @@ use yl_marks::KeyFacts;
 use yl_text::{Finding, Pos, RuleId};
 
 /// A set of truthy words. A word goes by its index, which `index_of` tells.
-#[derive(Clone, Copy, Debug, PartialEq, Eq)]
+#[derive(Clone, Copy)]
 pub struct TruthyWords {
     /// For each truthy word, in the order of ASCII, whether it is in the set.
     pub allowed: [bool; 18],
@@ -59,7 +59,7 @@ impl TruthyWords {
 }
 
 /// Which truthy words may stand, and whether keys are looked at.
-#[derive(Clone, Copy, Debug, PartialEq, Eq)]
+#[derive(Clone, Copy)]
 pub struct TruthyOptions {
     pub allowed_values: TruthyWords,
     pub check_keys: bool,

@@ -17,7 +17,7 @@ use yl_sections::Kept;
 use yl_text::{Finding, Lines, RuleId};
 
 /// Whether some lines of a text begin it, and whether they end it.
-#[derive(Clone, Copy, Debug)]
+#[derive(Clone, Copy)]
 pub struct Ends {
     pub begins: bool,
     pub ends: bool,

@@ -83,18 +83,6 @@ pub fn document_marks<A: Allocator + Copy>(
     Ok(DocumentMarks { symbols, keys })
 }
 
-/// The lexemes of one whole document with the marks between them, as `document_marks` gives these. The only error is memory.
-pub fn marked<A: Allocator + Copy>(
-    alloc: A,
-    lexemes: &[LexemeAtLine<'_, A>],
-    symbols: &[Symbol],
-) -> Result<Vec<Marked, A>, AllocError>
-    requires { symbols.now ≡ symbols_of_lexemes (map (λ x. lexeme_at_line x.line x.lexeme.now) lexemes.now) }
-    ensures { IfOk result (λ v. v.items ≡ marked_lexemes (map (λ x. lexeme_at_line x.line x.lexeme.now) lexemes.now)) }
-{
-    as_marked(alloc, lexemes, symbols)
-}
-
 /// The lexemes of one whole document, in order, with the marks between them. The only error is memory.
 pub fn mark<A: Allocator + Copy>(
     alloc: A,
@@ -103,16 +91,5 @@ pub fn mark<A: Allocator + Copy>(
     ensures { IfOk result (λ v. v.items ≡ marked_lexemes (map (λ x. lexeme_at_line x.line x.lexeme.now) lexemes.now)) }
 {
     let marks = document_marks(alloc, lexemes)?;
-    marked(alloc, lexemes, &marks.symbols)
-}
-
-/// What the keys of a whole document say of each of its lexemes. The only error is memory.
-pub fn key_facts<A: Allocator + Copy>(
-    alloc: A,
-    lexemes: &[LexemeAtLine<'_, A>],
-) -> Result<Vec<KeyFacts, A>, AllocError>
-    ensures { IfOk result (λ v. v.items ≡ key_facts (map (λ x. lexeme_at_line x.line x.lexeme.now) lexemes.now)) }
-{
-    let marks = document_marks(alloc, lexemes)?;
-    Ok(marks.keys)
+    as_marked(alloc, lexemes, &marks.symbols)
 }

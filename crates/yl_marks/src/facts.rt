@@ -10,7 +10,7 @@ use std::alloc::{AllocError, Allocator};
 use yl_lexeme::Kind;
 
 /// What the keys of a document say of one of its lexemes.
-#[derive(Clone, Copy, Debug, PartialEq, Eq)]
+#[derive(Clone, Copy)]
 pub struct KeyFacts {
     /// Of a scalar, whether it is a key: a key unit ends with it, or only properties stand between it and an indicator `?`.
     pub is_key: bool,

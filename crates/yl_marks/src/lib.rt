@@ -15,7 +15,7 @@ mod single_keys;
 mod symbol;
 mod token;
 
-pub use document::{DocumentMarks, column_at, document_marks, key_facts, mark, marked};
+pub use document::{DocumentMarks, column_at, document_marks, mark};
 pub use facts::KeyFacts;
 pub use key_marker::KeyMarker;
 pub use lines::{keys_by_lines, lexemes_in_line, line_len, marked_by_lines};

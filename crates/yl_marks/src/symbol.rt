@@ -64,14 +64,14 @@ pub struct OpenBlock {
 }
 
 /// What a block collection is.
-#[derive(Clone, Copy, Debug, PartialEq, Eq)]
+#[derive(Clone, Copy)]
 pub enum Collection {
     Sequence,
     Mapping,
 }
 
 /// A lexeme of a document, or a mark between its lexemes.
-#[derive(Clone, Copy, Debug, PartialEq, Eq)]
+#[derive(Clone, Copy)]
 pub enum Marked {
     /// A block collection opens, in this column, counted from 0.
     Open(Collection, u32),

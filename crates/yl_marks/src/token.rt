@@ -8,7 +8,7 @@ use yl_lexeme::{Kind, LexemeAtLine};
 use yl_text::Pos;
 
 /// A lexeme of a document without its value.
-#[derive(Clone, Copy, Debug, PartialEq, Eq)]
+#[derive(Clone, Copy)]
 pub struct Token {
     pub kind: Kind,
     /// Where it begins in the text: line and column from 0, the column in characters.

@@ -10,7 +10,7 @@ use yl_chunks::{Chunks, Spliced};
 use yl_sections::Kept;
 
 /// The borders between overviews above an edit of sections and below it, and what is known of the sections between them and the edit.
-#[derive(Clone, Copy, Debug)]
+#[derive(Clone, Copy)]
 pub struct Nearby {
     pub start: Border,
     pub stop: Border,

@@ -9,7 +9,7 @@ use yl_sections::Kept;
 
 /// Which of some sections may silence rules, counted from 0: some of those from `from` on, before `end`; `row` lines stand before the first of
 /// these. None may where `end` is 0.
-#[derive(Clone, Copy, Debug)]
+#[derive(Clone, Copy)]
 pub struct Silencing {
     pub from: usize,
     pub row: u32,
@@ -18,7 +18,7 @@ pub struct Silencing {
 
 /// What is known of sections that stand one after another: how many they are, and how many lines they have; how many stand before the first
 /// with a fault, all where none has one, and how many lines these have; the measure of the facts of all; and which of them may silence rules.
-#[derive(Clone, Copy, Debug)]
+#[derive(Clone, Copy)]
 pub struct Overview {
     pub sections: usize,
     pub rows: u32,

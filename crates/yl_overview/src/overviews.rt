@@ -89,7 +89,7 @@ pub fn nearest<A: Allocator>(kept: &Chunks<Kept<A>, A>, overviews: &[Overview], 
 }
 
 /// A border between overviews: how many sections stand before it, and how many overviews.
-#[derive(Clone, Copy, Debug)]
+#[derive(Clone, Copy)]
 pub struct Border {
     pub sections: usize,
     pub overviews: usize,

@@ -8,7 +8,7 @@ use yl_lint::Ends;
 use yl_overview::SectionEdit;
 
 /// How many lines stand before the touched sections, and how many up to their end, in the old text and in the new one.
-#[derive(Clone, Copy, Debug)]
+#[derive(Clone, Copy)]
 pub struct Touched {
     pub first: u32,
     pub old_end: u32,

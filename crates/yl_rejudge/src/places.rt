@@ -10,7 +10,7 @@ use yl_record::Record;
 use yl_sections::Kept;
 
 /// A section, and its first row, both counted from 0; the end of all sections, where there is none.
-#[derive(Clone, Copy, Debug, PartialEq, Eq)]
+#[derive(Clone, Copy)]
 pub struct Place {
     pub section: usize,
     pub row: usize,

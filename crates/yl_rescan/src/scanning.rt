@@ -97,7 +97,7 @@ fn is_far<A: Allocator + Copy>(records: &Chunks<Record<A>, A>, row: usize) -> bo
 }
 
 /// Why scanning ends before a row.
-#[derive(Clone, Copy, Debug)]
+#[derive(Clone, Copy)]
 pub enum ScanEnd {
     /// The row agrees with the old one.
     Agreed,

@@ -80,7 +80,7 @@ pub fn of_scalar(fault: ScalarFault) -> ScanFault
 
 /// A scan fault and its place: so many rows below the one in which the lexeme begins that it interrupts, and the column, in
 /// characters from 0.
-#[derive(Clone, Copy, Debug, PartialEq, Eq)]
+#[derive(Clone, Copy, PartialEq, Eq)]
 pub struct PlacedScanFault {
     pub fault: ScanFault,
     pub down: usize,

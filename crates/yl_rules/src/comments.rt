@@ -14,7 +14,7 @@ use yl_lexeme::PlacedComment;
 use yl_text::{Finding, RuleId};
 
 /// What a comment has before it and in it.
-#[derive(Clone, Copy, Debug, PartialEq, Eq)]
+#[derive(Clone, Copy)]
 pub struct CommentsOptions {
     /// Whether a space follows the `#` characters.
     pub require_starting_space: bool,

@@ -9,7 +9,7 @@ use std::alloc::{AllocError, Allocator};
 use yl_text::{Break, Finding, RuleId};
 
 /// How many lines that are nothing but a break may follow each other.
-#[derive(Clone, Copy, Debug, PartialEq, Eq)]
+#[derive(Clone, Copy)]
 pub struct EmptyLinesOptions {
     pub max: u32,
     /// At the text's start.

@@ -27,7 +27,7 @@ impl Level {
 const RULES: usize = 19;
 
 /// For each rule its level, or none where it is off. `syntax` is always an error.
-#[derive(Clone, Copy, Debug, PartialEq, Eq)]
+#[derive(Clone, Copy)]
 pub struct RuleLevels {
     levels: [Option<Level>; RULES],
 }

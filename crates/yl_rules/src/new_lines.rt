@@ -10,7 +10,7 @@ use std::alloc::{AllocError, Allocator};
 use yl_text::{Break, Finding, RuleId};
 
 /// How the first line of a text is to end.
-#[derive(Clone, Copy, Debug, PartialEq, Eq)]
+#[derive(Clone, Copy)]
 pub enum NewLine {
     /// In LF.
     Unix,

@@ -5,7 +5,7 @@ use crate::empty_lines::EmptyLinesOptions;
 use crate::new_lines::NewLine;
 
 /// The options of the rules that look at one line: those of yamllint's line-length.
-#[derive(Clone, Copy, Debug, PartialEq, Eq)]
+#[derive(Clone, Copy)]
 pub struct RowOptions {
     /// How many characters a line may have.
     pub max: u32,
@@ -26,7 +26,7 @@ impl RowOptions {
 }
 
 /// The options of the rules that look at the lines of a whole text.
-#[derive(Clone, Copy, Debug, PartialEq, Eq)]
+#[derive(Clone, Copy)]
 pub struct RunOptions {
     /// How the first line is to end.
     pub new_line: NewLine,

@@ -1,6 +1,9 @@
 -- Bridge: what a reader of a quoted scalar has of one line.
-use Rattle.std.specs.Prelude.{ℕ, List, Some, None, ◌+◌, ◌≤◌, ◌<◌, ◌^◌}
-use Rattle.yl_scalar.specs.Quoted.{Stretch, Closes, Breaks, Faulty}
+use Rattle.std.specs.Prelude.{ℕ, Bool, List, [], Some, None, ◌∷◌, ◌++◌, length, ◌==◌, ◌&&◌, if◌then◌else◌, ◌+◌, ◌≤◌, ◌<◌, ◌^◌}
+use Rattle.yl_text.specs.Character.{is_white}
+use Rattle.yl_scalar.specs.Quoted.{Stretch, Closes, Breaks, Faulty, stretch}
+use Rattle.yl_scalar.specs.declared.quoted.Glyph.{Glyph}
+use Rattle.yl_scalar.specs.declared.quoted.Glyph.TheVariants as glyph
 use Rattle.yl_scalar.specs.declared.quoted.Part.{Part}
 use Rattle.yl_scalar.specs.declared.quoted.Part.TheVariants.{Open, Closed, Faulted}
 
@@ -9,6 +12,13 @@ abbrev pub gives : Part → List ℕ → Stretch
 gives (Open backslash) text = Breaks text backslash
 gives (Closed place) text = Closes text place
 gives (Faulted fault place) text = Faulty fault place
+
+-- what a line makes of it, where this glyph stands next behind a value, and this behind its first character
+abbrev pub onward : Bool → Glyph → List ℕ → ℕ → ℕ → List ℕ → Stretch
+onward double (glyph.Stands c more) text kept at after = stretch double more (text ++ c ∷ []) (if more == 0 && is_white c then kept else length text + 1) (at + 1) after
+onward double glyph.EndsRow text kept at after = Breaks text (Some at)
+onward double glyph.Closes text kept at after = Closes text (at + 1)
+onward double (glyph.Fails fault) text kept at after = Faulty fault at
 
 -- its place is in a line of this length
 abbrev pub IsWithin : ℕ → Part → Type 0

@@ -1,5 +1,5 @@
 -- Meaning: quoted scalars line by line: YAML 1.2.2, 7.3.1, 7.3.2 and 6.5.
-use Rattle.std.specs.Prelude.{ℕ, Bool, ◌==◌, if◌then◌else◌, List, [], ◌++◌, ◌+◌, length, Option, Some, None, option_map}
+use Rattle.std.specs.Prelude.{ℕ, Bool, ◌==◌, if◌then◌else◌, List, [], ◌++◌, ◌+◌, length, Option, None, option_map}
 use Rattle.std.specs.List.{prefix_len}
 use Rattle.std.specs.Option.{option_map_or}
 use Rattle.yl_text.specs.Character.{is_white, is_blank, is_marker, without_front}

@@ -18,14 +18,14 @@ pub enum ScalarFault {
 }
 
 /// A place, so many rows below the scalar's first one, at a column in characters from 0.
-#[derive(Clone, Copy, Debug, PartialEq, Eq)]
+#[derive(Clone, Copy)]
 pub struct ScalarPlace {
     pub down: usize,
     pub column: usize,
 }
 
 /// What a row is to a scalar.
-#[derive(Clone, Copy, Debug, PartialEq, Eq)]
+#[derive(Clone, Copy)]
 pub enum ScalarStep {
     /// It belongs to the scalar or is blank, and a later row may go on with it.
     GoesOn,
@@ -38,7 +38,7 @@ pub enum ScalarStep {
 }
 
 /// What a whole scalar is.
-#[derive(Clone, Copy, Debug, PartialEq, Eq)]
+#[derive(Clone, Copy)]
 pub enum ScalarOutcome {
     /// It ends before this place.
     Whole(ScalarPlace),

@@ -12,7 +12,7 @@ use crate::header::{indicators, misfit};
 use std::alloc::{AllocError, Allocator};
 
 /// A block scalar that may go on below the rows that were read.
-#[derive(Debug, Drop)]
+#[derive(Drop)]
 pub struct BlockReader<A: Allocator> {
     least: usize,
     /// The content column, once it is known.

@@ -1,7 +1,8 @@
 //! Plain scalars: YAML 1.2.2, 7.3.3.
-ghost use Rattle.std.specs.Prelude.{◌≡◌, ◌≤◌, ◌<◌, ◌+◌, ◌^◌, IfOk, OnErr, OnOk, IsErr, IsTrue, true, false, length};
+ghost use Rattle.std.specs.Prelude.{◌≡◌, ◌≤◌, ◌<◌, ◌+◌, ◌^◌, ◌++◌, IfOk, OnErr, OnOk, IsErr, IsTrue, None, true, false, length};
 ghost use Rattle.yl_scalar.specs.Reading.{Whole};
 ghost use Rattle.yl_text.specs.Character.{is_plain_safe, starts_by};
+ghost use Rattle.yl_scalar.specs.Folding.{joint};
 ghost use Rattle.yl_scalar.specs.Plain.{stop};
 ghost use Rattle.yl_scalar.specs.PlainSteps.{plain_begin, plain_step, plain_finish};
 ghost use Rattle.yl_scalar.specs.Reader.{step_value, extent_at, plain_reader_value, plain_rows, is_plain_refused};
@@ -17,7 +18,7 @@ use std::mem;
 use yl_inline::InlineString;
 
 /// A plain scalar that may go on below the rows that were read.
-#[derive(Debug, Drop)]
+#[derive(Drop)]
 pub struct PlainReader<A: Allocator> {
     alloc: A,
     flow: bool,
@@ -135,13 +136,7 @@ impl<A: Allocator + Copy> PlainReader<A> {
             let column = white + place;
             return Ok(ScalarStep::Fails(ScalarFault::NotAllowed, ScalarPlace { down, column }));
         }
-        self.failed = true;
-        let value = mem::replace(&mut self.value, InlineString::new());
-        let mut value = value.into_string(self.alloc)?;
-        add_break(&mut value, self.blanks)?;
-        add_characters(&mut value, part)?;
-        self.value = InlineString::of_string(value);
-        self.failed = false;
+        self.push_part(part)?;
         self.down = down;
         self.column = white + part.len();
         self.blanks = 0;
@@ -150,6 +145,25 @@ impl<A: Allocator + Copy> PlainReader<A> {
         } else {
             Ok(ScalarStep::EndsIn(self.finish()))
         }
+    }
+
+    /// Puts a row's part behind the value, and before it what the breaks above the row give. Refused, the reader is of no more use.
+    fn push_part(&mut self, part: &[char]) -> Result<(), AllocError>
+        ensures value { OnOk result (plain_reader_value self.new ≡ record (plain_reader_value self.old) {
+          value = (plain_reader_value self.old).value ++ joint None (plain_reader_value self.old).blanks ++ part.now;
+        }) }
+        ensures reads { OnOk result (is_plain_refused self.new ≡ false) }
+        ensures failed { OnErr result (is_plain_refused self.new ≡ true) }
+        ensures count { plain_rows self.new ≡ plain_rows self.old }
+    {
+        self.failed = true;
+        let value = mem::replace(&mut self.value, InlineString::new());
+        let mut value = value.into_string(self.alloc)?;
+        add_break(&mut value, self.blanks)?;
+        add_characters(&mut value, part)?;
+        self.value = InlineString::of_string(value);
+        self.failed = false;
+        Ok(())
     }
 
     /// Where the scalar ends, if no row follows.

@@ -1,10 +1,10 @@
 //! Quoted scalars: YAML 1.2.2, 7.3.1 and 7.3.2.
-ghost use Rattle.std.specs.Prelude.{◌≡◌, ◌≤◌, ◌<◌, ◌+◌, ◌^◌, ◌++◌, ◌&&◌, ◌==◌, not, ℕ, List, IfOk, IfSome, OnErr, OnOk, IsErr, true, false, length, slice_index};
+ghost use Rattle.std.specs.Prelude.{◌≡◌, ◌≤◌, ◌<◌, ◌+◌, ◌^◌, ◌++◌, ◌∷◌, ◌&&◌, ◌==◌, not, ℕ, List, IfOk, IfSome, OnErr, OnOk, IsErr, true, false, length, slice_index};
 ghost use Rattle.yl_scalar.specs.Reading.{Refused};
 ghost use Rattle.yl_scalar.specs.Quoted.{Closes, stretch, quote};
 ghost use Rattle.yl_scalar.specs.QuotedSteps.{quoted_begin, quoted_step, quoted_finish, quoted_step_behind};
 ghost use Rattle.yl_scalar.specs.Reader.{step_value, quoted_reader_value, quoted_rows, is_quoted_refused};
-ghost use Rattle.yl_scalar.specs.Part.{gives, IsWithin, FitsBehind};
+ghost use Rattle.yl_scalar.specs.Part.{gives, onward, IsWithin, FitsBehind};
 
 use crate::answer::{ScalarFault, ScalarPlace, ScalarStep};
 use crate::character::{is_blank, is_marker, is_quoted_character, is_white, leading_white};
@@ -14,7 +14,7 @@ use std::alloc::{AllocError, Allocator};
 use yl_inline::InlineString;
 
 /// A quoted scalar that goes on below the rows that were read.
-#[derive(Debug, Drop)]
+#[derive(Drop)]
 pub struct QuotedReader<A: Allocator> {
     double: bool,
     opening: usize,
@@ -26,7 +26,7 @@ pub struct QuotedReader<A: Allocator> {
 }
 
 /// What a row has of a scalar, places counted from where reading began.
-#[derive(Clone, Copy, Debug, PartialEq, Eq)]
+#[derive(Clone, Copy)]
 enum Part {
     /// It goes on behind the break, before which a backslash may stand.
     Open(Option<usize>),
@@ -34,6 +34,17 @@ enum Part {
     Closed(usize),
     /// This fault stands behind this many characters.
     Faulted(ScalarFault, usize),
+}
+
+/// What stands in a row of a scalar next.
+#[derive(Clone, Copy)]
+enum Glyph {
+    /// A character of the value, and how many characters more it takes in the row than its first.
+    Stands(char, usize),
+    /// A backslash before the break.
+    EndsRow,
+    Closes,
+    Fails(ScalarFault),
 }
 
 fn quote(double: bool) -> char
@@ -63,6 +74,32 @@ fn begins_escape(double: bool, c: char) -> bool
     ensures { result ≡ (double && c == 0x5C) }
 {
     double && c == '\\'
+}
+
+/// What begins with a character, with this behind it.
+fn next_glyph(double: bool, c: char, after: &[char]) -> Glyph
+    ensures { (text : List ℕ) (kept at : ℕ) → stretch double 0 text kept at (c ∷ after.now) ≡ onward double result text kept at after.now }
+{
+    if c == quote(double) {
+        if is_doubled(double, after) {
+            return Glyph::Stands(c, 1);
+        }
+        return Glyph::Closes;
+    }
+    if begins_escape(double, c) {
+        if after.is_empty() {
+            return Glyph::EndsRow;
+        }
+        return match escape(after) {
+            Some((x, len)) => Glyph::Stands(x, len + 1),
+            None => Glyph::Fails(ScalarFault::BadEscape),
+        };
+    }
+    if is_quoted_character(c) {
+        Glyph::Stands(c, 0)
+    } else {
+        Glyph::Fails(ScalarFault::NotAllowed)
+    }
 }
 
 /// The scalar's part of a row that closes it, if each character of the part stands for itself.
@@ -108,34 +145,17 @@ fn stretch<A: Allocator>(
             skip -= 1;
             continue;
         }
-        let after = &text[i + 1..];
-        if *c == quote(double) {
-            if !is_doubled(double, after) {
-                return Ok(Part::Closed(i + 1));
+        match next_glyph(double, *c, &text[i + 1..]) {
+            Glyph::Stands(x, more) => {
+                value.push(x)?;
+                if more > 0 || !is_white(x) {
+                    kept = value.len();
+                }
+                skip = more;
             }
-            value.push(*c)?;
-            kept = value.len();
-            skip = 1;
-            continue;
-        }
-        if begins_escape(double, *c) {
-            if after.is_empty() {
-                return Ok(Part::Open(Some(i)));
-            }
-            let Some((x, len)) = escape(after) else {
-                return Ok(Part::Faulted(ScalarFault::BadEscape, i));
-            };
-            value.push(x)?;
-            kept = value.len();
-            skip = len + 1;
-            continue;
-        }
-        if !is_quoted_character(*c) {
-            return Ok(Part::Faulted(ScalarFault::NotAllowed, i));
-        }
-        value.push(*c)?;
-        if !is_white(*c) {
-            kept = value.len();
+            Glyph::EndsRow => return Ok(Part::Open(Some(i))),
+            Glyph::Closes => return Ok(Part::Closed(i + 1)),
+            Glyph::Fails(fault) => return Ok(Part::Faulted(fault, i)),
         }
     }
     value.truncate(kept);

@@ -4,7 +4,7 @@ use std::alloc::Allocator;
 use yl_row::OpenScalar;
 
 /// How far a fault reaches: so many rows further, or to the text's end.
-#[derive(Clone, Copy, Debug, PartialEq, Eq)]
+#[derive(Clone, Copy)]
 pub struct Reach {
     pub to_end: bool,
     pub down: usize,

@@ -18,7 +18,7 @@ pub struct LexemeAbove<A: Allocator> {
 
 /// A fault in a lexeme that began so many rows above the row that tells it; 0 is that row. What the text's end tells counts from
 /// behind the last row.
-#[derive(Clone, Copy, Debug, PartialEq, Eq)]
+#[derive(Clone, Copy)]
 pub struct FaultAbove {
     pub ago: u32,
     pub fault: PlacedScanFault,
@@ -26,7 +26,7 @@ pub struct FaultAbove {
 
 /// Whether a row is sound: no lexeme and no fault's reach is in progress at its start, and it is not blank. The text's first row
 /// always is sound.
-#[derive(Clone, Copy, Debug, PartialEq, Eq)]
+#[derive(Clone, Copy)]
 pub enum Soundness {
     NotSound,
     /// It is sound, and no fault has come before.

@@ -30,7 +30,7 @@ pub struct LineComment<A: Allocator> {
 }
 
 /// A fault, and the line in which its lexeme begins, counted from 0.
-#[derive(Clone, Copy, Debug, PartialEq, Eq)]
+#[derive(Clone, Copy)]
 pub struct LineFault {
     pub line: u32,
     pub fault: PlacedScanFault,

@@ -14,7 +14,7 @@ use yl_record::Record;
 use yl_rules::is_addressed;
 
 /// Where a lexeme ends: at this line, from 0 from the section's first row, and behind its last character, from 0 in characters.
-#[derive(Clone, Copy, Debug, PartialEq, Eq)]
+#[derive(Clone, Copy)]
 pub struct LexemeEnd {
     pub line: u64,
     pub col: u32,

@@ -13,7 +13,7 @@ use yl_row::PlacedScanFault;
 use yl_text::Pos;
 
 /// The first fault of a section, and what is said of it.
-#[derive(Clone, Copy, Debug, PartialEq, Eq)]
+#[derive(Clone, Copy)]
 pub enum SectionFault {
     /// At this place, whose line counts from 0 from the section's first row, and its column from 0 in characters.
     Here(Pos, &'static str),

@@ -12,7 +12,7 @@ use yl_tree::{AnchorsOptions, KeyDuplicatesOptions};
 
 /// The options of each rule that has some; those of empty-lines and new-lines are in `run`, those
 /// of line-length in `row`.
-#[derive(Clone, Copy, Debug, PartialEq, Eq)]
+#[derive(Clone, Copy)]
 pub struct RuleOptions {
     pub anchors: AnchorsOptions,
     pub braces: BracketsOptions,

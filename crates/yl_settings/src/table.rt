@@ -20,7 +20,7 @@ use yl_text::RuleId;
 use yl_tree::{AnchorsOptions, KeyDuplicatesOptions};
 
 /// What is said of an option.
-#[derive(Clone, Copy, Debug, PartialEq, Eq)]
+#[derive(Clone, Copy)]
 pub enum Answer {
     /// The rule has no option of this name.
     UnknownName,

@@ -1,7 +1,7 @@
 //! Options of the tree rules.
 
 /// What the rule key-duplicates reports of merge keys.
-#[derive(Clone, Copy, Debug, PartialEq, Eq)]
+#[derive(Clone, Copy)]
 pub struct KeyDuplicatesOptions {
     /// Whether a `<<` that repeats an earlier one of its mapping is reported.
     pub forbid_duplicated_merge_keys: bool,
@@ -21,7 +21,7 @@ impl KeyDuplicatesOptions {
 }
 
 /// What the rule anchors reports.
-#[derive(Clone, Copy, Debug, PartialEq, Eq)]
+#[derive(Clone, Copy)]
 pub struct AnchorsOptions {
     /// Whether an alias is reported that no anchor of its name comes before.
     pub forbid_undeclared_aliases: bool,
@@ -51,7 +51,7 @@ impl AnchorsOptions {
 }
 
 /// For each rule on keys and anchors its options, or none where it is off.
-#[derive(Clone, Copy, Debug, PartialEq, Eq)]
+#[derive(Clone, Copy)]
 pub struct TreeOptions {
     pub key_duplicates: Option<KeyDuplicatesOptions>,
     /// Whether the rule is on: it has no options.
