@@ -1,8 +1,9 @@
 #!/usr/bin/env python3
-"""rows.py [--check]: writes crates/yl_rows/stdout, what the model of tools/model says of the rows in crates/yl_rows/stdin.
+"""rows.py [--check]: writes the file stdout of yl_text_rows and of yl_session_rows, what the model of tools/model says of the
+rows in their files stdin.
 
-With --check it writes nothing, and ends with 1 where the file says otherwise. So what the program `yl_rows` is to print is
-never taken from a program of this repository."""
+With --check it writes nothing, and ends with 1 where a file says otherwise. So what these programs are to print is never
+taken from a program of this repository."""
 
 import os
 import re
@@ -17,7 +18,7 @@ from model.lint import Text, report  # noqa: E402
 from model.report import printed, status  # noqa: E402
 from model.text import TextFault, decode, edited, split  # noqa: E402
 
-FOLDER = os.path.join(os.path.dirname(HERE), "crates", "yl_rows")
+CRATES = os.path.join(os.path.dirname(HERE), "crates")
 ESCAPE = re.compile(r"\\(?:u\{([0-9A-Fa-f]+)\}|x\{([0-9A-Fa-f]+)\}|([nrt\\]))")
 LETTERS = {"n": b"\n", "r": b"\r", "t": b"\t", "\\": b"\\"}
 SHOWN = {"lexemes": dump.lexemes, "events": dump.events, "lines": dump.lines}
@@ -154,16 +155,21 @@ def answers(lines):
         front = b""
 
 
-def main():
-    with open(os.path.join(FOLDER, "stdin"), encoding="utf-8", newline="\n") as file:
+def is_said(crate, is_check):
+    """Whether a crate's stdout says what the model does; it is written unless that is asked alone."""
+    with open(os.path.join(CRATES, crate, "stdin"), encoding="utf-8", newline="\n") as file:
         said = "".join(answers(file.read().split("\n")))
-    path = os.path.join(FOLDER, "stdout")
-    if "--check" not in sys.argv:
+    path = os.path.join(CRATES, crate, "stdout")
+    if not is_check:
         with open(path, "w", encoding="utf-8", newline="\n") as file:
             file.write(said)
-        return 0
     with open(path, encoding="utf-8", newline="\n") as file:
-        return int(file.read() != said)
+        return file.read() == said
+
+
+def main():
+    is_check = "--check" in sys.argv
+    return int(not all([is_said(crate, is_check) for crate in ("yl_text_rows", "yl_session_rows")]))
 
 
 if __name__ == "__main__":

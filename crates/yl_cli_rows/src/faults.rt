@@ -1,7 +1,7 @@
 //! The lines that tell faults.
 use crate::devices::{MemoryWriter, make_writer};
-use crate::rows::{say, write};
 use std::alloc::Global;
+use test_rows::{say, write};
 use yl_config::{ConfigFault, FaultPlace};
 use yl_devices::{BadText, Program, ProgramFault, RunFault, WriteFault, say as say_fault};
 use yl_sources::say_config;

@@ -1,10 +1,9 @@
 //! `yl_cli_rows`: reads rows of tests of `lint` and `drive`, and prints what comes of each.
 //!
-//! A row is a line: a word, a space and a text, as `escaped` reads it.
+//! A row is a line as `test_rows` reads it:
 //!
-//!     times N TEXT    the next text begins with this one, so many times
-//!     keys N          and so: so many lines with a key each
-//!     stairs N        and so: so many lines with a key each, each a blank further on
+//!     more, times, keys, stairs
+//!                     how the next text begins
 //!     growths N       the next `lint` asks for memory at least so often
 //!     lint TEXT       what `lint` answers to the text that ends so, and writes
 //!     text TEXT       the rows below edit the text that ends so

@@ -3,8 +3,7 @@ use crate::devices::{Repeated, make_writer};
 use crate::faults::tell_faults;
 use crate::runs::{Call, Ran, run as run_call};
 use crate::trials::{Trial, failure, whole};
-use escaped::{first_word, push_keys, push_stairs, push_times, push_unescaped};
-use std::io::Write;
+use test_rows::{first_word, push_front, push_unescaped, say, write};
 use yl_cli::joined;
 use yl_devices::RunFault;
 
@@ -17,23 +16,6 @@ struct Kept {
     front: Vec<u8>,
     least: u64,
     text: Vec<u8>,
-}
-
-/// Prints a text.
-pub fn write(rt: &HostRuntime, text: &[u8]) -> Result<(), RunFault> {
-    let mut out = rt.stdout();
-    match out.write_all(text) {
-        Ok(()) => Ok(()),
-        Err(_) => Err(RunFault::Write),
-    }
-}
-
-/// Prints a text and a line feed.
-pub fn say(rt: &HostRuntime, text: &str) -> Result<(), RunFault> {
-    match println!(rt; "{text}") {
-        Ok(()) => Ok(()),
-        Err(_) => Err(RunFault::Write),
-    }
 }
 
 // Prints what a run has written, and its status or its fault.
@@ -104,20 +86,6 @@ fn follow_joined(rt: &HostRuntime, rest: &str) -> Result<(), RunFault> {
     say(rt, line.as_str())
 }
 
-// What is put before the next text. Whether that is what the row says.
-fn begin(rt: &HostRuntime, kept: &mut Kept, word: &str, rest: &str) -> Result<bool, RunFault> {
-    let (count, text) = first_word(rest);
-    let count = count.parse().unwrap_or(0);
-    match word {
-        "times" => push_times(&mut kept.front, count, text)?,
-        "keys" => push_keys(rt.alloc(), &mut kept.front, count)?,
-        "stairs" => push_stairs(rt.alloc(), &mut kept.front, count)?,
-        "growths" => kept.least = count as u64,
-        _ => return Ok(false),
-    }
-    Ok(true)
-}
-
 // Calls what a row asks for.
 fn call(rt: &HostRuntime, kept: &Kept, word: &str) -> Result<(), RunFault> {
     let input = kept.front.as_slice();
@@ -137,9 +105,13 @@ fn follow(rt: &HostRuntime, kept: &mut Kept, row: &str) -> Result<(), RunFault> 
         "flood" => return follow_flood(rt, kept, rest),
         "joined" => return follow_joined(rt, rest),
         "faults" => return tell_faults(rt),
+        "growths" => {
+            kept.least = rest.parse().unwrap_or(u64::MAX);
+            return Ok(());
+        }
         _ => {}
     }
-    if begin(rt, kept, word, rest)? {
+    if push_front(rt.alloc(), &mut kept.front, word, rest)? {
         return Ok(());
     }
     push_unescaped(&mut kept.front, rest)?;

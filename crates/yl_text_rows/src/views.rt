@@ -123,12 +123,3 @@ pub fn growths(global: Global, config: &Config, wanted: Wanted, text: &str) -> O
     }
     None
 }
-
-/// What is said of a count of growths, which there has to be, and at least so many.
-pub fn told_growths(count: Option<u64>, least: u64) -> &'static str {
-    match count {
-        None => "is answered otherwise where memory is refused\n",
-        Some(count) if count < least => "asks for memory less often\n",
-        Some(_) => "",
-    }
-}

@@ -1,7 +1,4 @@
-//! Texts for tests, as a line says them.
-//!
-//! In a line `\n`, `\r`, `\t`, `\\` and `\u{HEX}` stand for characters, and `\x{HEX}` for a byte. A backslash that begins no escape stands for itself.
-#![tactic(auto)]
+//! Texts as rows say them.
 
 use std::alloc::{AllocError, Global};
 
@@ -64,16 +61,16 @@ pub fn push_unescaped(out: &mut Vec<u8>, text: &str) -> Result<(), AllocError> {
     Ok(())
 }
 
-/// Puts what a line says so many times behind a text. The only error is out of memory.
-pub fn push_times(out: &mut Vec<u8>, count: usize, text: &str) -> Result<(), AllocError> {
+// Puts what a line says so many times behind a text.
+fn push_times(out: &mut Vec<u8>, count: usize, text: &str) -> Result<(), AllocError> {
     for _ in 0..count {
         push_unescaped(out, text)?;
     }
     Ok(())
 }
 
-/// Puts so many lines with a key each behind a text. The only error is out of memory.
-pub fn push_keys(alloc: Global, out: &mut Vec<u8>, count: usize) -> Result<(), AllocError> {
+// Puts so many lines with a key each behind a text.
+fn push_keys(alloc: Global, out: &mut Vec<u8>, count: usize) -> Result<(), AllocError> {
     for n in 0..count {
         let line = format!(in alloc; "k{n:05}: v\n")?;
         out.extend_from_slice(line.as_str().as_bytes())?;
@@ -81,8 +78,8 @@ pub fn push_keys(alloc: Global, out: &mut Vec<u8>, count: usize) -> Result<(), A
     Ok(())
 }
 
-/// Puts so many lines with a key each behind a text, each key a blank further on than the one above. The only error is out of memory.
-pub fn push_stairs(alloc: Global, out: &mut Vec<u8>, count: usize) -> Result<(), AllocError> {
+// Puts so many lines with a key each behind a text, each key a blank further on than the one above.
+fn push_stairs(alloc: Global, out: &mut Vec<u8>, count: usize) -> Result<(), AllocError> {
     let mut blanks = Vec::new(alloc);
     for _ in 0..count {
         out.extend_from_slice(blanks.as_slice())?;
@@ -95,4 +92,29 @@ pub fn push_stairs(alloc: Global, out: &mut Vec<u8>, count: usize) -> Result<(),
 /// The first word of a line, and what is behind the space behind it.
 pub fn first_word(line: &str) -> (&str, &str) {
     line.split_once(' ').unwrap_or((line, ""))
+}
+
+/// Puts behind a text what the next one begins with, by the first word of a row and the rest of it. Whether it is such a row. The only error is out
+/// of memory.
+pub fn push_front(
+    alloc: Global,
+    front: &mut Vec<u8>,
+    word: &str,
+    rest: &str,
+) -> Result<bool, AllocError> {
+    if word == "more" {
+        push_unescaped(front, rest)?;
+        return Ok(true);
+    }
+    let (count, text) = first_word(rest);
+    let Ok(count) = count.parse() else {
+        return Ok(false);
+    };
+    match word {
+        "times" => push_times(front, count, text)?,
+        "keys" => push_keys(alloc, front, count)?,
+        "stairs" => push_stairs(alloc, front, count)?,
+        _ => return Ok(false),
+    }
+    Ok(true)
 }

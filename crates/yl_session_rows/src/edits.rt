@@ -1,9 +1,9 @@
 //! Texts that are kept open over either store, and what comes of the rows that ask of them.
 use crate::refused::{edit_growths, list_growths};
 use crate::sessions::{line_start, make, opened, push_answer, push_report, push_state};
-use crate::views::told_growths;
 use refusing::Refusing;
 use std::alloc::{AllocError, Global};
+use test_rows::told_growths;
 use yl_chunks::ChunkStore;
 use yl_config::Config;
 use yl_devices::RunFault;
