@@ -1,5 +1,5 @@
 //! Tests that need code of their own: random edits of sessions over both stores, how many bytes a session holds, what is too large, and in how many
-//! writes a report goes out. What edits are answered and what is shown then, also where memory is refused, is told by the rows of `yl_rows`.
+//! writes a report goes out. What edits are answered and what is shown then, also where memory is refused, is told by the rows of `yl_session_rows`.
 #![tactic(auto)]
 
 #[cfg(test)]

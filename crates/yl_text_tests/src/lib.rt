@@ -1,4 +1,4 @@
-//! Tests of lists and stores in chunks, of random edits, and of what asks for no memory. What is shown of texts is told by the rows of `yl_rows`.
+//! Tests of lists and stores in chunks, of random edits, and of what asks for no memory. What is shown of texts is told by the rows of `yl_session_rows`.
 #![tactic(auto)]
 
 #[cfg(test)]
