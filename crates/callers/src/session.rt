@@ -2,7 +2,7 @@
 
 ghost use Rattle.std.specs.Prelude.{◌≡◌, false, IfOk, OnErr, OnOk};
 ghost use Rattle.yl_text.specs.Edit.{edited_text};
-ghost use Rattle.yl_lint.specs.TextReport.{report};
+ghost use Rattle.yl_lint.specs.Computed.{report};
 ghost use Rattle.yl_report.specs.Report.{status_of};
 ghost use Rattle.yl_session.specs.State.{Shows};
 

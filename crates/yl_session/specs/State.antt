@@ -4,7 +4,7 @@ use Rattle.std.specs.Prelude.{◌≡◌, ℕ, List}
 use Rattle.yl_text.specs.Lines.{RowValue, IsLines}
 use Rattle.yl_config.specs.declared.config.Config.{Config}
 use Rattle.yl_report.specs.Report.{ProblemValue}
-use Rattle.yl_lint.specs.TextReport.{report}
+use Rattle.yl_lint.specs.Computed.{report}
 
 pub record SessionValue : Type 0 where
   pub config : Config

@@ -49,7 +49,7 @@ impl<S: LineStore> Model for Session<S> {
     ghost use Rattle.yl_sections.specs.Judge.{kept_of_section};
     ghost use Rattle.yl_sections.specs.Sections.{sections};
     ghost use Rattle.yl_rescan.specs.Held.{AreHeld};
-    ghost use Rattle.yl_lint.specs.TextReport.{report};
+    ghost use Rattle.yl_lint.specs.Computed.{report};
     ghost use Rattle.yl_parting.specs.Changes.{parts_in};
     ghost use Rattle.yl_found.specs.Found.{all_parts};
     ghost use Rattle.yl_overview.specs.Overview.{AreOverviews};
@@ -69,7 +69,7 @@ impl<S: LineStore> Model for Session<S> {
 
 impl<S: LineStore> Session<S> {
     ghost use Rattle.yl_session.specs.State.{Shows};
-    ghost use Rattle.yl_lint.specs.TextReport.{report};
+    ghost use Rattle.yl_lint.specs.Computed.{report};
     ghost use Rattle.yl_report.specs.Report.{status_of};
     ghost use Rattle.yl_session.specs.Runs.{IsAnswer, IsEditWork};
 

@@ -3,7 +3,7 @@ use Rattle.yl_text.specs.Lines.{RowValue, lines_of}
 use Rattle.yl_text.proofs.Computed.{lines_of-is}
 use Rattle.yl_config.specs.declared.config.Config.{Config}
 use Rattle.yl_report.specs.Report.{ProblemValue}
-use Rattle.yl_lint.specs.TextReport.{report}
+use Rattle.yl_lint.specs.Computed.{report}
 use Rattle.yl_session.specs.State.{SessionValue, Shows}
 use Rattle.yl_session.proofs.session.one_state.Goals as goal
 

@@ -8,7 +8,8 @@ use Rattle.yl_record.specs.Records.{RecordValue}
 use Rattle.yl_sections.specs.Judge.{kept_of_section}
 use Rattle.yl_sections.specs.Kept.{KeptValue}
 use Rattle.yl_sections.specs.Sections.{sections}
-use Rattle.yl_lint.specs.TextReport.{kept_of_text, records_of, report}
+use Rattle.yl_lint.specs.TextReport.{records_of}
+use Rattle.yl_lint.specs.Computed.{kept_of_text, report}
 use Rattle.yl_parting.specs.Parts.{PartsValue}
 use Rattle.yl_found.specs.Found.{all_parts}
 use Rattle.yl_session.proofs.Parts.{shown_is_report}

@@ -6,7 +6,7 @@ use Rattle.yl_text.specs.Store.{AreLines}
 use Rattle.yl_text.specs.PutLines.{CanPutLines, put_text, inserted_rows, incoming_lines}
 use Rattle.yl_text.proofs.Edited.{AreLines-edited}
 use Rattle.yl_session.specs.State.{SessionValue, Shows}
-use Rattle.yl_lint.specs.TextReport.{report}
+use Rattle.yl_lint.specs.Computed.{report}
 use Rattle.yl_config.specs.declared.config.Config.{Config}
 use Rattle.yl_session.proofs.session.Session.put.Goals as goal
 
