@@ -6,7 +6,7 @@ ghost use Rattle.yl_text.specs.Lines.{lines_of};
 ghost use Rattle.yl_text.specs.Watched.{device_of, failures_of};
 ghost use Rattle.yl_devices.specs.Written.{AppendsFront};
 ghost use Rattle.yl_report.specs.Report.{report_text, status_of};
-ghost use Rattle.yl_lint.specs.TextReport.{report};
+ghost use Rattle.yl_lint.specs.Computed.{report};
 ghost use Rattle.yl_devices.specs.Text.{without_mark, TakesAtMost};
 ghost use Rattle.yl_cli.specs.Run.{IsRunFault, joined_status};
 
@@ -15,7 +15,7 @@ use std::io::{Read, Write};
 use yl_args::Flags;
 use yl_config::Config;
 use yl_devices::{MOST_READ, RunFault, read_text, text_of};
-use yl_lint::report_of_text;
+use yl_lint::{one_report, report_of_text};
 use yl_report::{status, write_report};
 use yl_text::Watched;
 
@@ -53,6 +53,7 @@ pub fn lint<A: Allocator + Copy, R: Read, W: Write>(
     })
         (R.remaining (device_of input.old))) }
 {
+    one_report();
     let bytes = read_text(alloc, input)?;
     let text = match text_of(bytes.as_slice()) {
         Ok(text) => text,
