@@ -16,7 +16,8 @@ use Rattle.yl_rules.specs.RunsLeft.{RunReaderValue, runs_left}
 use Rattle.yl_config.specs.declared.config.Config.{Config}
 use Rattle.yl_config.specs.Config.{options_of}
 use Rattle.yl_sections.specs.Kept.{KeptValue}
-use Rattle.yl_lint.specs.TextReport.{end_of_lines, findings_from, findings_in_lines, first_text, kept_of_text, report, report_of_kept}
+use Rattle.yl_lint.specs.TextReport.{end_of_lines, findings_from, findings_in_lines, first_text, report_of_kept}
+use Rattle.yl_lint.specs.Computed.{kept_of_text, report}
 
 -- a line more is passed by a reader
 pub line_passed : (o : RowOptions) (old new : RunReaderValue) (found found' runs runs' : List FindingValue) (row : RowValue) (rows : List RowValue)

@@ -1,6 +1,6 @@
 -- Meaning: the report of a text: what the rules find in its lines and in its sections, with its fault, in order and with levels. Of the
 -- sections after the first with a fault nothing is shown; what the rules on lines find is never hidden.
-use Rattle.std.specs.Prelude.{ℕ, ◌+◌, ◌-◌, List, [], ◌∷◌, ◌++◌, map, length, codes, Option, Some, None, slice_get}
+use Rattle.std.specs.Prelude.{◌≡◌, ℕ, ◌+◌, ◌-◌, List, [], ◌∷◌, ◌++◌, map, length, codes, Option, Some, None, slice_get}
 use Rattle.std.specs.Option.{option_map_or}
 use Rattle.std.specs.List.{flat_map}
 use Rattle.std.specs.Str.{chars}
@@ -23,8 +23,7 @@ use Rattle.yl_config.specs.declared.config.Config.{Config}
 use Rattle.yl_settings.specs.declared.options.RuleOptions.{RuleOptions}
 use Rattle.yl_config.specs.Config.{levels_of, options_of}
 use Rattle.yl_record.specs.Records.{RecordValue, characters_in, records}
-use Rattle.yl_sections.specs.Kept.{KeptValue, SectionFaultValue, Here, Behind, documents_in, unless_fault}
-use Rattle.yl_sections.specs.Judge.{kept_of_section}
+use Rattle.yl_sections.specs.Kept.{KeptValue, SectionFaultValue, Here, Behind, IsKept, documents_in, unless_fault}
 use Rattle.yl_sections.specs.Sections.{sections}
 
 -- ---- lines
@@ -115,9 +114,6 @@ report_of_kept config in_lines first end ks =
 abbrev pub records_of : List RowValue → List RecordValue
 records_of rows = records (characters_in rows)
 
-abbrev pub kept_of_text : Config → List RowValue → List KeptValue
-kept_of_text config rows = map (kept_of_section config) (sections (records_of rows))
-
 -- how many documents a text has
 abbrev pub document_total : List RowValue → ℕ
 document_total rows = documents_in (sections (records_of rows))
@@ -126,8 +122,14 @@ document_total rows = documents_in (sections (records_of rows))
 abbrev pub report_by : Config → List RowValue → List KeptValue → List ProblemValue
 report_by config rows ks = report_of_kept config (findings_in_lines (options_of config) rows) (first_text rows) (end_of_lines rows) ks
 
--- the report of the lines of a text under a configuration
-unfoldable pub report : Config → List RowValue → List ProblemValue
-report config rows =
-    let in_lines = findings_in_lines (options_of config) rows in
-    report_of_kept config in_lines (first_text rows) (end_of_lines rows) (kept_of_text config rows)
+-- this is kept of these sections: their documents build these events, or have this fault
+abbrev pub AreKept : Config → List (List RecordValue) → List KeptValue → Type 0
+AreKept config [] [] = Unit {0}
+AreKept config (s ∷ ss) (k ∷ ks) = IsKept config s k × AreKept config ss ks
+AreKept config _ _ = ⊥
+
+-- these problems are the report of the lines of a text under a configuration
+pub record IsReport (config : Config) (rows : List RowValue) (problems : List ProblemValue) : Type 0 where
+  pub kept : List KeptValue
+  pub are : AreKept config (sections (records_of rows)) kept
+  pub put : problems ≡ report_by config rows kept

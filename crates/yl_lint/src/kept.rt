@@ -9,7 +9,8 @@ ghost use Rattle.yl_sections.specs.Judge.{kept_of_section};
 ghost use Rattle.yl_sections.specs.Kept.{documents_in};
 ghost use Rattle.yl_sections.specs.Sections.{sections};
 ghost use Rattle.yl_lint.specs.Left.{documents_left, kept_left};
-ghost use Rattle.yl_lint.specs.TextReport.{document_total, kept_of_text};
+ghost use Rattle.yl_lint.specs.TextReport.{document_total};
+ghost use Rattle.yl_lint.specs.Computed.{kept_of_text};
 
 use std::alloc::{AllocError, Allocator};
 use yl_config::Config;

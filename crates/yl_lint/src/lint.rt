@@ -4,10 +4,12 @@ ghost use Rattle.std.specs.Str.{chars};
 ghost use Rattle.yl_text.specs.Lines.{lines_of};
 ghost use Rattle.yl_text.specs.Store.{AreLines};
 ghost use Rattle.yl_lint.specs.Left.{kept_left, lines_left};
-ghost use Rattle.yl_lint.specs.TextReport.{document_total, report, report_by, report_of_kept};
+ghost use Rattle.yl_lint.specs.TextReport.{IsReport, document_total, report_by, report_of_kept};
+ghost use Rattle.yl_lint.specs.Computed.{report};
 
 use crate::assembling::report_of_kept;
 use crate::kept::{SectionReader, kept_of_lines, lent};
+use crate::laws::one_report;
 use crate::lines::{LineReader, end_of, find_in_lines, first_text};
 use std::alloc::{AllocError, Allocator};
 use yl_config::Config;
@@ -84,8 +86,9 @@ pub fn report_of_text<A: Allocator + Copy>(
     text: &str,
 ) -> Result<Vec<Problem<A>, A>, AllocError>
     requires { length text.now ≤ MAX_BYTES }
-    ensures { IfOk result (λ problems. problems.items ≡ report config.now (lines_of text.now)) }
+    ensures { IfOk result (λ problems. IsReport config.now (lines_of text.now) problems.items) }
 {
+    one_report();
     let mut meter = Meter::new();
     let mut lines = LineReader::start(alloc, config);
     let mut sections = SectionReader::start(&alloc);

@@ -11,7 +11,8 @@ use Rattle.yl_record.specs.Records.{RecordValue, characters_in, records}
 use Rattle.yl_sections.specs.Sections.{sections}
 use Rattle.yl_sections.specs.Kept.{KeptValue}
 use Rattle.yl_sections.specs.Judge.{kept_of_section}
-use Rattle.yl_lint.specs.TextReport.{end_of_lines, findings_in_lines, first_text, report, report_of_kept}
+use Rattle.yl_lint.specs.TextReport.{end_of_lines, findings_in_lines, first_text, report_of_kept}
+use Rattle.yl_lint.specs.Computed.{report}
 use Rattle.yl_rescan.specs.Held.{AreHeld, IsCutAt}
 use Rattle.yl_rescan.proofs.Cut.{fails, held_sections, quiet, stops_at, true_sections}
 use Rattle.yl_sections.proofs.Quiet.{IsQuietRow, kept_longer}

@@ -15,7 +15,8 @@ use Rattle.yl_sections.specs.Kept.{KeptValue}
 use Rattle.yl_sections.specs.Sections.{sections}
 use Rattle.yl_rescan.specs.Held.{AreHeld}
 use Rattle.yl_rejudge.specs.Places.{rows_kept}
-use Rattle.yl_lint.specs.TextReport.{comments_in_sections, end_of_lines, fault_in_sections, findings_in_lines, first_text, report, report_by, shown}
+use Rattle.yl_lint.specs.TextReport.{comments_in_sections, end_of_lines, fault_in_sections, findings_in_lines, first_text, report_by, shown}
+use Rattle.yl_lint.specs.Computed.{report}
 use Rattle.yl_lint.specs.Unsilenced.{unsilenced_of_kept}
 use Rattle.yl_overview.specs.Overview.{AreOverviews}
 use Rattle.yl_overview.specs.declared.overview.Overview.{Overview}

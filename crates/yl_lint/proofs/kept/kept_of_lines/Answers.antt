@@ -5,7 +5,8 @@ use Rattle.yl_text.specs.Lines.{RowValue}
 use Rattle.yl_lexeme.specs.declared.meter.Meter.{Meter}
 use Rattle.yl_record.specs.Records.{characters_in}
 use Rattle.yl_lint.specs.Left.{documents_left, kept_left}
-use Rattle.yl_lint.specs.TextReport.{document_total, kept_of_text}
+use Rattle.yl_lint.specs.TextReport.{document_total}
+use Rattle.yl_lint.specs.Computed.{kept_of_text}
 use Rattle.yl_lint.proofs.Rows.{told_more}
 use Rattle.yl_lint.proofs.Streamed.{counted_at_end, on_ok}
 use Rattle.yl_lint.proofs.Passed.{if_same}

@@ -1,7 +1,8 @@
 use Rattle.std.proofs.Common.{◌≡◌, ◌≤◌, ◌+◌, false, drop, length}
 use Rattle.yl_record.specs.Records.{characters_in}
 use Rattle.yl_lint.specs.Left.{documents_left, kept_left}
-use Rattle.yl_lint.specs.TextReport.{document_total, kept_of_text}
+use Rattle.yl_lint.specs.TextReport.{document_total}
+use Rattle.yl_lint.specs.Computed.{kept_of_text}
 use Rattle.yl_lint.proofs.kept.kept_of_lines.Given as goal
 
 abbrev pub invariant-loop-i : goal.invariant-loop-i

@@ -1,5 +1,5 @@
 use Rattle.std.proofs.Common.{◌≡◌, ◌∙◌, ap, map}
-use Rattle.yl_lint.specs.TextReport.{kept_of_text, report}
+use Rattle.yl_lint.specs.Computed.{kept_of_text, report}
 use Rattle.yl_lint.proofs.lint.report_of_lines.Goals as goal
 
 pub returns-clause-report : goal.returns-clause-report
