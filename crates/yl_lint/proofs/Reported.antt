@@ -1,5 +1,6 @@
 -- One report, from one kept value for each section.
 use Rattle.std.proofs.Common.{◌≡◌, List, [], ◌∷◌, map, refl, ap, sym, ◌∙◌}
+use Rattle.yl_text.specs.Store.{end_of_lines}
 use Rattle.yl_config.specs.declared.config.Config.{Config}
 use Rattle.yl_config.specs.Config.{options_of}
 use Rattle.yl_record.specs.Records.{RecordValue}
@@ -7,7 +8,7 @@ use Rattle.yl_sections.specs.Kept.{KeptValue}
 use Rattle.yl_sections.specs.Judge.{kept_of_section}
 use Rattle.yl_sections.specs.Laws.{OneKept, KeptIsComputed}
 use Rattle.yl_sections.specs.Sections.{sections}
-use Rattle.yl_lint.specs.TextReport.{findings_in_lines, first_text, end_of_lines, records_of, kept_of_text, report_of_kept, report}
+use Rattle.yl_lint.specs.TextReport.{findings_in_lines, first_text, records_of, kept_of_text, report_of_kept, report}
 use Rattle.yl_lint.specs.Laws.{AreKept, OneReport, ReportReports}
 
 both : {X : Type 0} (x y : X) (xs ys : List X) → x ≡ y → xs ≡ ys → x ∷ xs ≡ y ∷ ys

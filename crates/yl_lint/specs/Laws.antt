@@ -1,13 +1,14 @@
 -- Meaning: what makes a list of problems the report of a text, and laws: a text has one report, and `report` is it.
 use Rattle.std.specs.Prelude.{◌≡◌, List, [], ◌∷◌}
 use Rattle.yl_text.specs.Lines.{RowValue}
+use Rattle.yl_text.specs.Store.{end_of_lines}
 use Rattle.yl_report.specs.Report.{ProblemValue}
 use Rattle.yl_config.specs.declared.config.Config.{Config}
 use Rattle.yl_config.specs.Config.{options_of}
 use Rattle.yl_record.specs.Records.{RecordValue}
 use Rattle.yl_sections.specs.Kept.{KeptValue, IsKept}
 use Rattle.yl_sections.specs.Sections.{sections}
-use Rattle.yl_lint.specs.TextReport.{findings_in_lines, first_text, end_of_lines, records_of, report_of_kept, report}
+use Rattle.yl_lint.specs.TextReport.{findings_in_lines, first_text, records_of, report_of_kept, report}
 
 -- this is kept of these sections: their documents derive so
 abbrev pub AreKept : Config → List (List RecordValue) → List KeptValue → Type 0
