@@ -4,13 +4,12 @@ use Rattle.std.specs.Prelude.{IfOk}
 use Rattle.yl_text.specs.Lines.{RowValue}
 use Rattle.yl_report.specs.Report.{ProblemValue}
 use Rattle.yl_config.specs.declared.config.Config.{Config}
-use Rattle.yl_config.specs.Config.{options_of}
 use Rattle.yl_record.specs.Records.{RecordValue}
 use Rattle.yl_sections.specs.Kept.{KeptValue}
 use Rattle.yl_sections.specs.Judge.{KeptIsComputed, kept_of_section}
 use Rattle.yl_sections.specs.Laws.{OneKept}
 use Rattle.yl_sections.specs.Sections.{sections}
-use Rattle.yl_lint.specs.TextReport.{AreKept, IsReport, findings_in_lines, first_text, end_of_lines, records_of, report_by, report_of_kept}
+use Rattle.yl_lint.specs.TextReport.{AreKept, IsReport, records_of, report_by}
 use Rattle.yl_lint.specs.Computed.{ReportIsComputed, kept_of_text, report}
 use Rattle.yl_lint.specs.Laws.{HasReport, OneReport}
 

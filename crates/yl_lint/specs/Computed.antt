@@ -3,20 +3,17 @@ use Rattle.std.specs.Prelude.{List, map}
 use Rattle.yl_text.specs.Lines.{RowValue}
 use Rattle.yl_report.specs.Report.{ProblemValue}
 use Rattle.yl_config.specs.declared.config.Config.{Config}
-use Rattle.yl_config.specs.Config.{options_of}
 use Rattle.yl_sections.specs.Kept.{KeptValue}
 use Rattle.yl_sections.specs.Judge.{kept_of_section}
 use Rattle.yl_sections.specs.Sections.{sections}
-use Rattle.yl_lint.specs.TextReport.{IsReport, end_of_lines, findings_in_lines, first_text, records_of, report_of_kept}
+use Rattle.yl_lint.specs.TextReport.{IsReport, records_of, report_by}
 
 abbrev pub kept_of_text : Config → List RowValue → List KeptValue
 kept_of_text config rows = map (kept_of_section config) (sections (records_of rows))
 
 -- the report of the lines of a text under a configuration
 unfoldable pub report : Config → List RowValue → List ProblemValue
-report config rows =
-    let in_lines = findings_in_lines (options_of config) rows in
-    report_of_kept config in_lines (first_text rows) (end_of_lines rows) (kept_of_text config rows)
+report config rows = report_by config rows (kept_of_text config rows)
 
 -- what is computed is the report
 abbrev pub ReportIsComputed : Type 0

@@ -1,13 +1,13 @@
 -- Meaning: the report of a text: what the rules find in its lines and in its sections, with its fault, in order and with levels. Of the
 -- sections after the first with a fault nothing is shown; what the rules on lines find is never hidden.
-use Rattle.std.specs.Prelude.{◌≡◌, ℕ, ◌+◌, ◌-◌, List, [], ◌∷◌, ◌++◌, map, length, codes, Option, Some, None, slice_get}
+use Rattle.std.specs.Prelude.{◌≡◌, ℕ, ◌+◌, List, [], ◌∷◌, ◌++◌, map, codes, Option, Some, None, slice_get}
 use Rattle.std.specs.Option.{option_map_or}
 use Rattle.std.specs.List.{flat_map}
-use Rattle.std.specs.Str.{chars}
 use Rattle.yl_text.specs.declared.position.Pos.{Pos}
 use Rattle.yl_text.specs.declared.finding.RuleId.TheVariants.{Syntax}
 use Rattle.yl_text.specs.Finding.{FindingValue}
 use Rattle.yl_text.specs.Lines.{RowValue}
+use Rattle.yl_text.specs.Store.{end_of_lines}
 use Rattle.yl_lexeme.specs.Lexeme.{PlacedCommentValue}
 use Rattle.yl_indentation.specs.declared.fact.Fact.{Fact}
 use Rattle.yl_indentation.specs.declared.measure.Measure.{Measure}
@@ -38,11 +38,6 @@ findings_in_lines o rows = findings_from o.row 1 rows ++ run_findings o.run rows
 
 abbrev pub first_text : List RowValue → List ℕ
 first_text rows = option_map_or (λ row. row.text) (slice_get rows 0) []
-
--- after the last character of the last line
-abbrev pub end_of_lines : List RowValue → Pos
-end_of_lines rows =
-    let i = length rows - 1 in record { line = i; col = option_map_or (λ row. length (chars row.text)) (slice_get rows i) 0 }
 
 -- ---- the text's fault
 
