@@ -23,7 +23,7 @@ use Rattle.yl_config.specs.declared.config.Config.{Config}
 use Rattle.yl_settings.specs.declared.options.RuleOptions.{RuleOptions}
 use Rattle.yl_config.specs.Config.{levels_of, options_of}
 use Rattle.yl_record.specs.Records.{RecordValue, characters_in, records}
-use Rattle.yl_sections.specs.Kept.{KeptValue, SectionFaultValue, Here, Behind, documents_in, unless_fault}
+use Rattle.yl_sections.specs.Kept.{KeptValue, SectionFaultValue, Here, Behind, unless_fault}
 use Rattle.yl_sections.specs.Judge.{kept_of_section}
 use Rattle.yl_sections.specs.Sections.{sections}
 
@@ -117,10 +117,6 @@ records_of rows = records (characters_in rows)
 
 abbrev pub kept_of_text : Config → List RowValue → List KeptValue
 kept_of_text config rows = map (kept_of_section config) (sections (records_of rows))
-
--- how many documents a text has
-abbrev pub document_total : List RowValue → ℕ
-document_total rows = documents_in (sections (records_of rows))
 
 -- the report of these lines, if this is kept of their sections
 abbrev pub report_by : Config → List RowValue → List KeptValue → List ProblemValue
