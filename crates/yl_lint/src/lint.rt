@@ -14,8 +14,7 @@ use yl_lexeme::Meter;
 use yl_report::Problem;
 use yl_text::{Break, MAX_BYTES, cut_line};
 
-/// The report of a text whose first line is `first`, where all its lines were passed. Counts the documents of the sections that were not
-/// judged. The only error is out of memory.
+/// The report of a text whose first line is `first`, where all its lines were passed. The only error is out of memory.
 fn report_of_read<A: Allocator + Copy>(
     alloc: A,
     config: &Config,
