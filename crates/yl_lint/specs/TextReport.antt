@@ -23,7 +23,7 @@ use Rattle.yl_config.specs.declared.config.Config.{Config}
 use Rattle.yl_settings.specs.declared.options.RuleOptions.{RuleOptions}
 use Rattle.yl_config.specs.Config.{levels_of, options_of}
 use Rattle.yl_record.specs.Records.{RecordValue, characters_in, records}
-use Rattle.yl_sections.specs.Kept.{KeptValue, SectionFaultValue, Here, Behind, IsKept, documents_in, unless_fault}
+use Rattle.yl_sections.specs.Kept.{KeptValue, SectionFaultValue, Here, Behind, IsKept, unless_fault}
 use Rattle.yl_sections.specs.Sections.{sections}
 
 -- ---- lines
@@ -109,9 +109,6 @@ report_of_kept config in_lines first end ks =
 abbrev pub records_of : List RowValue → List RecordValue
 records_of rows = records (characters_in rows)
 
--- how many documents a text has
-abbrev pub document_total : List RowValue → ℕ
-document_total rows = documents_in (sections (records_of rows))
 
 -- the report of these lines, if this is kept of their sections
 abbrev pub report_by : Config → List RowValue → List KeptValue → List ProblemValue
