@@ -109,7 +109,6 @@ report_of_kept config in_lines first end ks =
 abbrev pub records_of : List RowValue → List RecordValue
 records_of rows = records (characters_in rows)
 
-
 -- the report of these lines, if this is kept of their sections
 abbrev pub report_by : Config → List RowValue → List KeptValue → List ProblemValue
 report_by config rows ks = report_of_kept config (findings_in_lines (options_of config) rows) (first_text rows) (end_of_lines rows) ks

@@ -3,7 +3,6 @@ ghost use Rattle.std.specs.Prelude.{◌≡◌, ◌<◌, ◌≤◌, ◌+◌, ◌-
 ghost use Rattle.std.specs.Str.{chars};
 ghost use Rattle.yl_text.specs.Lines.{lines_of};
 ghost use Rattle.yl_lint.specs.Left.{kept_left, lines_left};
-ghost use Rattle.yl_lint.specs.Computed.{report};
 ghost use Rattle.yl_lint.specs.TextReport.{IsReport, report_of_kept};
 
 use crate::assembling::report_of_kept;
