@@ -10,10 +10,12 @@ use std::process::ExitCode;
 use yl_args::{Asked, Flags, asked};
 use yl_cli::{joined, lint};
 use yl_config::Config;
-use yl_devices::{Program, ProgramFault, RunFault};
+use yl_devices::{ProgramFault, RunFault};
 use yl_programs::{ended, stopped, words};
 use yl_sources::config_of;
 use yl_text::Watched;
+
+const NAME: &str = "yamllint";
 
 // The name under which a file's problems are printed.
 fn shown_name(file: &str) -> &str
@@ -58,7 +60,7 @@ fn linted_all(rt: &HostRuntime, asked: &Asked, config: &Config) -> u8 {
             Ok(code) => status = joined(status, code),
             Err(fault) => {
                 let fault = ProgramFault::Run(shown_name(name), fault);
-                return stopped(rt, Program::Yamllint, &fault);
+                return stopped(rt, NAME, &fault);
             }
         }
     }
@@ -68,13 +70,13 @@ fn linted_all(rt: &HostRuntime, asked: &Asked, config: &Config) -> u8 {
 fn answered(rt: &HostRuntime) -> u8 {
     let words = match words(rt) {
         Ok(words) => words,
-        Err(fault) => return stopped(rt, Program::Yamllint, &fault),
+        Err(fault) => return stopped(rt, NAME, &fault),
     };
-    let asked = match asked(rt.alloc(), Program::Yamllint, words.as_slice()) {
+    let asked = match asked(rt.alloc(), words.as_slice()) {
         Ok(asked) => asked,
-        Err(stop) => return ended(rt, Program::Yamllint, stop),
+        Err(stop) => return ended(rt, NAME, stop),
     };
-    match config_of(rt, Program::Yamllint, &asked.config) {
+    match config_of(rt, NAME, &asked.config) {
         Ok(config) => linted_all(rt, &asked, &config),
         Err(status) => status,
     }

@@ -5,4 +5,4 @@ mod answer;
 mod words;
 
 pub use answer::{Asked, AskedDump, Flags, Source, Stop, View};
-pub use words::{asked, asked_dump};
+pub use words::{asked, asked_dump, asked_edit};

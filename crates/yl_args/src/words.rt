@@ -4,7 +4,6 @@ use clap::builder::PossibleValue;
 use clap::error::ErrorKind;
 use clap::{Arg, ArgAction, ArgGroup, ArgMatches, Command, Error};
 use std::alloc::{AllocError, Global};
-use yl_devices::Program;
 
 fn flag<'a>(alloc: Global, id: &'a str, help: &'a str) -> Arg<'a> {
     Arg::new(alloc, id)
@@ -211,9 +210,9 @@ fn source_of(alloc: Global, matches: &ArgMatches<'_>) -> Result<Source, AllocErr
     }
 }
 
-// What the words after the name `yledit` ask for. Standard input has the commands, so it is no
-// file.
-fn asked_edit(alloc: Global, words: &[String]) -> Result<Asked, Stop> {
+/// What the words after the name `yledit` ask for, which are read as those of `yamllint`. Standard
+/// input has the commands, so it is no file: the name `-` is `Use`.
+pub fn asked_edit(alloc: Global, words: &[String]) -> Result<Asked, Stop> {
     let command = edit_command(alloc)?;
     let matches = matches_of(alloc, command, words)?;
     let files = files_of(alloc, &matches)?;
@@ -231,13 +230,10 @@ fn asked_edit(alloc: Global, words: &[String]) -> Result<Asked, Stop> {
     })
 }
 
-/// What the words after the name of `yamllint` or `yledit` ask for. They are looked at from left to
-/// right: whichever of `-h` and a word that does not fit comes first answers. An option that is
-/// given twice, a value that is none of those that the option takes, and a want of files are `Use`.
-pub fn asked(alloc: Global, program: Program, words: &[String]) -> Result<Asked, Stop> {
-    if program == Program::Yledit {
-        return asked_edit(alloc, words);
-    }
+/// What the words after the name `yamllint` ask for. They are read from left to right: whichever of
+/// `-h` and a word that does not fit comes first answers. An option that is given twice, a value
+/// that is none of those that the option takes, and a want of files are `Use`.
+pub fn asked(alloc: Global, words: &[String]) -> Result<Asked, Stop> {
     let formats = formats();
     let command = lint_command(alloc, &formats)?;
     let matches = matches_of(alloc, command, words)?;

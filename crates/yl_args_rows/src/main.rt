@@ -6,8 +6,8 @@
 
 use std::alloc::{AllocError, Global};
 use std::process::ExitCode;
-use yl_args::{Asked, AskedDump, Source, Stop, View, asked, asked_dump};
-use yl_devices::{Program, RunFault, read_text, text_of};
+use yl_args::{Asked, AskedDump, Source, Stop, View, asked, asked_dump, asked_edit};
+use yl_devices::{RunFault, read_text, text_of};
 use yl_text::Watched;
 
 // The words of a row, and before them the name of its program.
@@ -66,24 +66,21 @@ fn stopped(alloc: Global, stop: Stop) -> Result<String, AllocError> {
 }
 
 // What these words ask of a program.
-fn answer(alloc: Global, program: Program, words: &[String]) -> Result<String, AllocError> {
-    if program == Program::Yldump {
+fn answer(alloc: Global, program: &str, words: &[String]) -> Result<String, AllocError> {
+    if program == "yldump" {
         return match asked_dump(alloc, words) {
             Ok(asked) => shown_dump(alloc, &asked),
             Err(stop) => stopped(alloc, stop),
         };
     }
-    match asked(alloc, program, words) {
+    let answer = if program == "yledit" {
+        asked_edit(alloc, words)
+    } else {
+        asked(alloc, words)
+    };
+    match answer {
         Ok(asked) => shown(alloc, &asked),
         Err(stop) => stopped(alloc, stop),
-    }
-}
-
-fn program(name: &str) -> Program {
-    match name {
-        "yledit" => Program::Yledit,
-        "yldump" => Program::Yldump,
-        _ => Program::Yamllint,
     }
 }
 
@@ -91,7 +88,7 @@ fn program(name: &str) -> Program {
 fn answer_of(alloc: Global, row: &str) -> Result<String, AllocError> {
     let words = words(alloc, row)?;
     match words.split_first() {
-        Some((name, words)) => answer(alloc, program(name.as_str()), words),
+        Some((name, words)) => answer(alloc, name.as_str(), words),
         None => Ok(String::new(alloc)),
     }
 }

@@ -13,7 +13,7 @@ use Rattle.yl_devices.specs.Written.{AppendsFront}
 use Rattle.yl_session.specs.declared.work.Work.{Work}
 use Rattle.yl_session.specs.Runs.{EditValue, AreAnswers, IsAnswer, text_after, text_after_all}
 use Rattle.yl_session.specs.State.{SessionValue, Shows}
-use Rattle.yl_lint.specs.TextReport.{report}
+use Rattle.yl_lint.specs.Computed.{report}
 use Rattle.yl_report.specs.Report.{status_of}
 use Rattle.yl_session.proofs.Goes.{left_by-push, AreAnswers-push}
 use Rattle.yl_args.specs.declared.answer.Flags.{Flags}

@@ -11,7 +11,7 @@ use Rattle.yl_report.specs.Report.{report_text, status_of}
 use Rattle.yl_devices.specs.Written.{AppendsFront}
 use Rattle.yl_session.specs.declared.work.Work.{Work}
 use Rattle.yl_session.specs.Runs.{EditValue, text_after, text_after_all, AreAnswers}
-use Rattle.yl_lint.specs.TextReport.{report}
+use Rattle.yl_lint.specs.Computed.{report}
 use Rattle.yl_args.specs.declared.answer.Flags.{Flags}
 use Rattle.yl_devices.specs.declared.fault.RunFault.{RunFault}
 use Rattle.yl_devices.specs.declared.fault.RunFault.TheVariants as fault

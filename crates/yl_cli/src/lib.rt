@@ -10,4 +10,4 @@ mod stream;
 pub use editing::drive;
 pub use run::{joined, lint};
 pub use yl_args::{Asked, Flags, Source, Stop, asked};
-pub use yl_devices::{BadText, Program, ProgramFault, RunFault, say};
+pub use yl_devices::{BadText, ProgramFault, RunFault, say};

@@ -6,7 +6,7 @@ ghost use Rattle.yl_text.specs.Lines.{lines_of};
 ghost use Rattle.yl_text.specs.Watched.{device_of, failures_of};
 ghost use Rattle.yl_devices.specs.Written.{AppendsFront};
 ghost use Rattle.yl_report.specs.Report.{report_text, status_of};
-ghost use Rattle.yl_lint.specs.TextReport.{report};
+ghost use Rattle.yl_lint.specs.Computed.{report};
 ghost use Rattle.yl_devices.specs.Text.{without_mark, TakesAtMost};
 ghost use Rattle.yl_cli.specs.Run.{IsRunFault, joined_status};
 

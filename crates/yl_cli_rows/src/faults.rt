@@ -3,7 +3,7 @@ use crate::devices::{MemoryWriter, make_writer};
 use std::alloc::Global;
 use test_rows::{say, write};
 use yl_config::{ConfigFault, FaultPlace};
-use yl_devices::{BadText, Program, ProgramFault, RunFault, WriteFault, say as say_fault};
+use yl_devices::{BadText, ProgramFault, RunFault, WriteFault, say as say_fault};
 use yl_sources::say_config;
 use yl_text::Watched;
 
@@ -45,7 +45,7 @@ struct Told {
 
 // Tells a fault.
 fn tell_to(fault: Fault, writer: MemoryWriter) -> Told {
-    let program = Program::Yamllint;
+    let program = "yamllint";
     let mut out = Watched::new(writer);
     let answer = match fault {
         Fault::Use => say_fault(program, &ProgramFault::Use, &mut out),

@@ -1,17 +1,10 @@
 -- Meaning: the line of a fault on standard error.
 use Rattle.std.specs.Prelude.{ℕ, List, ◌++◌, codes, decimal}
-use Rattle.yl_devices.specs.declared.fault.Program.{Program}
-use Rattle.yl_devices.specs.declared.fault.Program.TheVariants.{Yamllint, Yledit, Yldump}
 use Rattle.yl_devices.specs.declared.fault.BadText.TheVariants.{NotUtf8, TooLarge}
 use Rattle.yl_devices.specs.declared.fault.RunFault.{RunFault}
 use Rattle.yl_devices.specs.declared.fault.RunFault.TheVariants.{Read, Text, Write, Command, Memory}
 use Rattle.yl_devices.specs.declared.fault.ProgramFault.{ProgramFault}
 use Rattle.yl_devices.specs.declared.fault.ProgramFault.TheVariants as fault
-
-abbrev pub program_name : Program → List ℕ
-program_name Yamllint = codes "yamllint"
-program_name Yledit = codes "yledit"
-program_name Yldump = codes "yldump"
 
 -- what is said of a run over this file
 abbrev pub run_words : List ℕ → RunFault → List ℕ
@@ -28,8 +21,8 @@ fault_words fault.Memory = codes "out of memory"
 fault_words (fault.Run file f) = run_words file.now f
 
 -- the program's name, what is said, and a line feed
-abbrev pub line_with : List ℕ → List ℕ → List ℕ
+abbrev pub line_with : (program words : List ℕ) → List ℕ
 line_with program words = program ++ codes ": " ++ words ++ codes "\n"
 
-abbrev pub fault_line : Program → ProgramFault → List ℕ
-fault_line program f = line_with (program_name program) (fault_words f)
+abbrev pub fault_line : (program : List ℕ) → ProgramFault → List ℕ
+fault_line program f = line_with program (fault_words f)

@@ -1,5 +1,5 @@
 -- Meaning: the text of a file's bytes (a byte-order mark may begin a stream: YAML 1.2.2, chapter
--- 5.2), what keeps bytes from being one, and how an input is read to its end.
+-- 5.2), what keeps bytes from being one, and how an input is read to its end or piece by piece.
 use Rattle.std.specs.Prelude.{ℕ, ◌<◌, ◌≤◌, List, [], ◌∷◌, length, drop, nat_eq, if◌then◌else◌, Option}
 use Rattle.std.specs.List.{starts_with}
 use Rattle.std.specs.Io.KnownBytes.{Consumes}
@@ -32,3 +32,17 @@ IsReadFault before after Memory = Unit {0}
 IsReadFault before after Write = ⊥
 IsReadFault before after Command = ⊥
 IsReadFault before after (Text fault) = ⊥
+
+-- fewer than so many bytes were taken of those given
+pub record TakesFewer (size : ℕ) (given left : Option (List ℕ)) : Type 0 where
+  pub taken : List ℕ
+  pub bound : length taken < size
+  pub consumed : Consumes given left taken
+
+-- the reading of so many bytes ends where the reader's failures rose, for want of memory, or since there are fewer
+abbrev pub IsCommandFault : ℕ → ℕ → RunFault → Type 0
+IsCommandFault before after Read = before < after
+IsCommandFault before after Memory = Unit {0}
+IsCommandFault before after Command = Unit {0}
+IsCommandFault before after Write = ⊥
+IsCommandFault before after (Text fault) = ⊥

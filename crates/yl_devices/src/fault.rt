@@ -33,30 +33,6 @@ pub enum RunFault {
     Memory,
 }
 
-/// The program that speaks.
-#[derive(Clone, Copy, PartialEq, Eq)]
-pub enum Program {
-    Yamllint,
-    Yledit,
-    Yldump,
-}
-
-impl Program {
-    ghost use Rattle.std.specs.Prelude.{◌≡◌};
-    ghost use Rattle.yl_devices.specs.Fault.{program_name};
-
-    /// The name with which its lines on standard error begin.
-    pub fn name(self) -> &'static str
-        ensures { result.now ≡ program_name self }
-    {
-        match self {
-            Program::Yamllint => "yamllint",
-            Program::Yledit => "yledit",
-            Program::Yldump => "yldump",
-        }
-    }
-}
-
 /// What ends a program before its work is done. That a configuration is refused has a line of its
 /// own.
 #[derive(Clone, Copy, Debug)]

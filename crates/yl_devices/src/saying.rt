@@ -6,7 +6,7 @@ ghost use Rattle.yl_text.specs.Watched.{device_of, failures_of};
 ghost use Rattle.yl_devices.specs.Written.{AppendsFront};
 ghost use Rattle.yl_devices.specs.Fault.{fault_line, line_with, run_words};
 
-use crate::fault::{BadText, Program, ProgramFault, RunFault};
+use crate::fault::{BadText, ProgramFault, RunFault};
 use crate::writing::{WriteFault, write_parts};
 use itoa::Buffer;
 use std::io::Write;
@@ -96,22 +96,21 @@ fn say_of_run<W: Write>(
     }
 }
 
-/// Writes the line of a fault, as it goes to standard error, and takes no memory. On a fault of the
-/// writer a beginning of the line is out.
+/// Writes the line of a fault, as it goes to standard error, and takes no memory. The line begins
+/// with the program's name. On a fault of the writer a beginning of the line is out.
 pub fn say<W: Write>(
-    program: Program,
+    name: &str,
     fault: &ProgramFault<'_>,
     out: &mut Watched<W>,
 ) -> Result<(), WriteFault>
     requires { failures_of out.old < 2 ^ 64 - 1 }
     ensures ok { OnOk result (Appends (W.contents (device_of out.old)) (W.contents (device_of out.new))
-        (fault_line program fault.now)) }
+        (fault_line name.now fault.now)) }
     ensures quiet { OnOk result (failures_of out.new ≡ failures_of out.old) }
     ensures err { OnErr result (AppendsFront (W.contents (device_of out.old)) (W.contents (device_of out.new))
-        (fault_line program fault.now)) }
+        (fault_line name.now fault.now)) }
     ensures failed { OnErr result (failures_of out.old < failures_of out.new) }
 {
-    let name = program.name();
     match *fault {
         ProgramFault::Use => write_line(name, "", "fault of use", out),
         ProgramFault::Memory => write_line(name, "", "out of memory", out),

@@ -2,6 +2,7 @@
 -- not; and the text's fault.
 use Rattle.std.specs.Prelude.{◌≡◌, Bool, List, Option, map, slice_get}
 use Rattle.yl_text.specs.Lines.{RowValue}
+use Rattle.yl_text.specs.Store.{end_of_lines}
 use Rattle.yl_config.specs.declared.config.Config.{Config}
 use Rattle.yl_config.specs.Config.{levels_of}
 use Rattle.yl_report.specs.Directive.{disables_file, is_silenced}
@@ -10,7 +11,7 @@ use Rattle.yl_report.specs.Report.{ProblemValue, report_of}
 use Rattle.yl_record.specs.Records.{RecordValue}
 use Rattle.yl_sections.specs.Judge.{kept_of_section}
 use Rattle.yl_sections.specs.Kept.{KeptValue, rows_kept}
-use Rattle.yl_lint.specs.TextReport.{comments_in_sections, end_of_lines, fault_in_sections, first_text, report_by, shown}
+use Rattle.yl_lint.specs.TextReport.{comments_in_sections, fault_in_sections, first_text, report_by, shown}
 use Rattle.yl_lint.specs.Unsilenced.{unsilenced_by}
 use Rattle.yl_parting.specs.Parts.{PartsValue, parted, with_fault}
 use Rattle.yl_parting.specs.Showing.{shows}

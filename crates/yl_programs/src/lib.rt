@@ -7,14 +7,14 @@ ghost use Rattle.std.specs.IoError.{error_kind};
 use std::io::ErrorKind;
 use std::{env, fs, io};
 use yl_args::Stop;
-use yl_devices::{Program, ProgramFault, RunFault, read_text, say};
+use yl_devices::{ProgramFault, RunFault, read_text, say};
 use yl_text::Watched;
 
 /// The exit status where a fault ended a program.
 pub const FAULT: u8 = 255;
 
 /// Says a fault on standard error, and answers the exit status.
-pub fn stopped(rt: &HostRuntime, program: Program, fault: &ProgramFault<'_>) -> u8
+pub fn stopped(rt: &HostRuntime, program: &str, fault: &ProgramFault<'_>) -> u8
     ensures { result ≡ FAULT }
 {
     let mut out = Watched::new(rt.stderr());
@@ -50,7 +50,7 @@ pub fn words(rt: &HostRuntime) -> Result<Vec<String>, ProgramFault<'static>> {
 
 /// Ends a program whose words ask for no run: prints the help that is asked for, or says the fault.
 /// Answers the exit status.
-pub fn ended(rt: &HostRuntime, program: Program, stop: Stop) -> u8 {
+pub fn ended(rt: &HostRuntime, program: &str, stop: Stop) -> u8 {
     match stop {
         Stop::Help(text) => match rt.print(text) {
             Ok(()) => 0,

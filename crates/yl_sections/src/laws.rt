@@ -3,7 +3,8 @@ ghost use Rattle.yl_sections.specs.Documents.{SectionsAreDocuments};
 ghost use Rattle.yl_sections.specs.Front.{LostLaw};
 ghost use Rattle.yl_sections.specs.Last.{LastLaw, StoppedLaw};
 ghost use Rattle.yl_sections.specs.Local.{SectionsAreLocal, SectionsAreRows};
-ghost use Rattle.yl_sections.specs.Laws.{FirstSection, KeptIsComputed, OneKept};
+ghost use Rattle.yl_sections.specs.Judge.{KeptIsComputed};
+ghost use Rattle.yl_sections.specs.Laws.{FirstSection, OneKept};
 
 /// A section has one value that is kept, and it can be computed.
 pub fn one_kept()

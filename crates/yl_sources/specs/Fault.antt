@@ -3,8 +3,7 @@ use Rattle.std.specs.Prelude.{ℕ, List, [], ◌++◌, codes, decimal, Option, S
 use Rattle.yl_config.specs.declared.fault.FaultPlace.{FaultPlace}
 use Rattle.yl_config.specs.declared.fault.ConfigFault.{ConfigFault}
 use Rattle.yl_config.specs.Faults.{fault_name, fault_place}
-use Rattle.yl_devices.specs.declared.fault.Program.{Program}
-use Rattle.yl_devices.specs.Fault.{line_with, program_name}
+use Rattle.yl_devices.specs.Fault.{line_with}
 
 -- where a configuration's fault stands, if it has a place
 abbrev pub place_words : Option FaultPlace → List ℕ
@@ -14,5 +13,5 @@ place_words (Some p) = codes " at " ++ (decimal p.line ++ (codes ":" ++ decimal 
 abbrev pub config_words : ConfigFault → List ℕ
 config_words f = codes "configuration: " ++ (fault_name f ++ place_words (fault_place f))
 
-abbrev pub config_line : Program → ConfigFault → List ℕ
-config_line program f = line_with (program_name program) (config_words f)
+abbrev pub config_line : (program : List ℕ) → ConfigFault → List ℕ
+config_line program f = line_with program (config_words f)

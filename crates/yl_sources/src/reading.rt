@@ -4,12 +4,12 @@ ghost use Rattle.std.specs.Prelude.{◌≡◌, IfErr};
 use crate::saying::say_config;
 use yl_args::Source;
 use yl_config::{Config, ConfigFault};
-use yl_devices::{Program, ProgramFault, without_mark};
+use yl_devices::{ProgramFault, without_mark};
 use yl_programs::{FAULT, bytes_of, stopped};
 use yl_text::Watched;
 
 // Says a configuration's fault on standard error, and answers the exit status.
-fn refused(rt: &HostRuntime, program: Program, fault: ConfigFault) -> u8
+fn refused(rt: &HostRuntime, program: &str, fault: ConfigFault) -> u8
     ensures { result ≡ FAULT }
 {
     let mut out = Watched::new(rt.stderr());
@@ -20,7 +20,7 @@ fn refused(rt: &HostRuntime, program: Program, fault: ConfigFault) -> u8
 /// The configuration that is asked for. One leading byte-order mark of a file is dropped, of a text
 /// that the words give none. Where there is no configuration, that is said on standard error, and
 /// the answer is the exit status.
-pub fn config_of(rt: &HostRuntime, program: Program, source: &Source) -> Result<Config, u8>
+pub fn config_of(rt: &HostRuntime, program: &str, source: &Source) -> Result<Config, u8>
     ensures { IfErr result (λ status. status ≡ FAULT) }
 {
     let read = match source {

@@ -10,7 +10,7 @@ ghost use Rattle.yl_sources.specs.Fault.{config_line, place_words};
 use itoa::Buffer;
 use std::io::Write;
 use yl_config::{ConfigFault, FaultPlace};
-use yl_devices::{Program, WriteFault, write_parts};
+use yl_devices::{WriteFault, write_parts};
 use yl_text::Watched;
 
 // The pieces of the line of a fault that has no place.
@@ -73,23 +73,22 @@ fn say_place<W: Write>(
 }
 
 /// Writes the line of a configuration's fault, as it goes to standard error, and takes no memory.
-/// On a fault of the writer a beginning of the line is out.
+/// The line begins with the program's name. On a fault of the writer a beginning of the line is out.
 pub fn say_config<W: Write>(
-    program: Program,
+    program: &str,
     fault: ConfigFault,
     out: &mut Watched<W>,
 ) -> Result<(), WriteFault>
     requires { failures_of out.old < 2 ^ 64 - 1 }
     ensures ok { OnOk result (Appends (W.contents (device_of out.old)) (W.contents (device_of out.new))
-        (config_line program fault)) }
+        (config_line program.now fault)) }
     ensures quiet { OnOk result (failures_of out.new ≡ failures_of out.old) }
     ensures err { OnErr result (AppendsFront (W.contents (device_of out.old)) (W.contents (device_of out.new))
-        (config_line program fault)) }
+        (config_line program.now fault)) }
     ensures failed { OnErr result (failures_of out.old < failures_of out.new) }
 {
-    let name = program.name();
     match fault.place() {
-        Some(place) => say_place(name, fault.name(), place, out),
-        None => write_parts(out, &parts_of(name, fault.name())),
+        Some(place) => say_place(program, fault.name(), place, out),
+        None => write_parts(out, &parts_of(program, fault.name())),
     }
 }

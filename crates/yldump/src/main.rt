@@ -3,10 +3,12 @@
 
 use std::process::ExitCode;
 use yl_args::{AskedDump, View, asked_dump};
-use yl_devices::{Program, ProgramFault, RunFault, read_text, text_of};
+use yl_devices::{ProgramFault, RunFault, read_text, text_of};
 use yl_dump::{DumpFault, write_events, write_lexemes, write_lines};
 use yl_programs::{bytes_of, ended, stopped, words};
 use yl_text::Watched;
+
+const NAME: &str = "yldump";
 
 // The name under which a fault of the file is told.
 fn shown_name(file: &str) -> &str {
@@ -43,17 +45,17 @@ fn shown(rt: &HostRuntime, asked: &AskedDump) -> Result<(), RunFault> {
 fn answered(rt: &HostRuntime) -> u8 {
     let words = match words(rt) {
         Ok(words) => words,
-        Err(fault) => return stopped(rt, Program::Yldump, &fault),
+        Err(fault) => return stopped(rt, NAME, &fault),
     };
     let asked = match asked_dump(rt.alloc(), words.as_slice()) {
         Ok(asked) => asked,
-        Err(stop) => return ended(rt, Program::Yldump, stop),
+        Err(stop) => return ended(rt, NAME, stop),
     };
     match shown(rt, &asked) {
         Ok(()) => 0,
         Err(fault) => {
             let fault = ProgramFault::Run(shown_name(asked.file.as_str()), fault);
-            stopped(rt, Program::Yldump, &fault)
+            stopped(rt, NAME, &fault)
         }
     }
 }

@@ -2,20 +2,22 @@
 #![tactic(auto)]
 
 use std::process::ExitCode;
-use yl_args::{Asked, asked};
+use yl_args::{Asked, asked_edit};
 use yl_chunks::ChunkStore;
 use yl_cli::drive;
 use yl_config::Config;
-use yl_devices::{Program, ProgramFault, RunFault};
+use yl_devices::{ProgramFault, RunFault};
 use yl_programs::{bytes_of, ended, stopped, words};
 use yl_sources::config_of;
 use yl_text::Watched;
+
+const NAME: &str = "yledit";
 
 // A fault of the run over a file: what cannot be read after its text was, are the commands.
 fn edited(rt: &HostRuntime, file: &str, asked: &Asked, config: Config) -> u8 {
     let bytes = match bytes_of(rt, file) {
         Ok(bytes) => bytes,
-        Err(fault) => return stopped(rt, Program::Yledit, &ProgramFault::Run(file, fault)),
+        Err(fault) => return stopped(rt, NAME, &ProgramFault::Run(file, fault)),
     };
     let mut input = Watched::new(rt.stdin());
     let mut out = Watched::new(rt.stdout());
@@ -32,29 +34,29 @@ fn edited(rt: &HostRuntime, file: &str, asked: &Asked, config: Config) -> u8 {
         Ok(status) => status,
         Err(RunFault::Read) => stopped(
             rt,
-            Program::Yledit,
+            NAME,
             &ProgramFault::Run("stdin", RunFault::Read),
         ),
-        Err(fault) => stopped(rt, Program::Yledit, &ProgramFault::Run(file, fault)),
+        Err(fault) => stopped(rt, NAME, &ProgramFault::Run(file, fault)),
     }
 }
 
 fn answered(rt: &HostRuntime) -> u8 {
     let words = match words(rt) {
         Ok(words) => words,
-        Err(fault) => return stopped(rt, Program::Yledit, &fault),
+        Err(fault) => return stopped(rt, NAME, &fault),
     };
-    let asked = match asked(rt.alloc(), Program::Yledit, words.as_slice()) {
+    let asked = match asked_edit(rt.alloc(), words.as_slice()) {
         Ok(asked) => asked,
-        Err(stop) => return ended(rt, Program::Yledit, stop),
+        Err(stop) => return ended(rt, NAME, stop),
     };
-    let config = match config_of(rt, Program::Yledit, &asked.config) {
+    let config = match config_of(rt, NAME, &asked.config) {
         Ok(config) => config,
         Err(status) => return status,
     };
     match asked.files.first() {
         Some(file) => edited(rt, file.as_str(), &asked, config),
-        None => stopped(rt, Program::Yledit, &ProgramFault::Use),
+        None => stopped(rt, NAME, &ProgramFault::Use),
     }
 }
 

@@ -1,5 +1,5 @@
 use Rattle.std.proofs.Common.{◌≡◌, ◌∙◌}
-use Rattle.yl_lint.specs.TextReport.{report}
+use Rattle.yl_lint.specs.Computed.{report}
 use Rattle.yl_cli.proofs.Begun.{on_err}
 use Rattle.yl_cli.proofs.Driven.{begun_after, begun_longer, on_err_map}
 use Rattle.yl_cli.proofs.editing.show.Goals as goal

@@ -5,7 +5,7 @@ use Rattle.yl_text.specs.Lines.{lines_of}
 use Rattle.yl_text.specs.Watched.{device_of}
 use Rattle.yl_report.specs.Report.{report_text, status_of}
 use Rattle.yl_devices.specs.Written.{AppendsFront}
-use Rattle.yl_lint.specs.TextReport.{report}
+use Rattle.yl_lint.specs.Computed.{report}
 use Rattle.yl_devices.specs.Text.{without_mark}
 use Rattle.yl_cli.proofs.Begun.{none_begun, on_err}
 use Rattle.yl_cli.proofs.Whole.{whole_text, of_all}
