@@ -6,7 +6,7 @@
     tools/believed.py --bridges          also the bridges, and which public contract names them
     tools/believed.py --from CRATE..     what the public calls of these crates reach, and no others: the headline is
                                          --from yl_session yl_cli
-    tools/believed.py --check            fails where meaning names a bridge, other than the view of a type, that no law ties to meaning
+    tools/believed.py --check            fails where a file of meaning imports a bridge that is no view
 
 A definition is meaning or bridge as the first line of its file in specs/ says. A bridge ties code to meaning and is not counted.
 A law is a public function without parameters. A clause of it ties a bridge of its crate to meaning if it names that bridge and, beside
@@ -388,18 +388,17 @@ def show_bridges(reached):
 
 
 def check(all_):
-    """whether all meaning rests on meaning, views, and bridges that laws tie to it"""
+    """whether no file of meaning imports a bridge, views apart"""
     bad = []
     for (crate, module), file in all_.files.items():
         if file.kind not in ('Meaning', 'Bridge'):
             bad.append(f'{crate} {module}: its first line says neither Meaning nor Bridge')
         if file.kind == 'Meaning':
-            for name in file.defs:
-                key = (crate, module, name)
-                rests = {k for k in all_.named_by(key) if all_.kind(k) == 'Bridge'} - all_.views
-                bad += [f'{crate} {module}.{name} names {k[0]} {k[1]}.{k[2]}'
-                        for k in sorted(rests) if not all_.laws.get(k) and not all_.is_statement(key)]
-    print('\n'.join(bad) or 'all meaning rests on meaning')
+            named = {k for k in map(all_.find, file.names.values()) if k and all_.kind(k) == 'Bridge'} - all_.views
+            bad += [f'{crate} {module} imports {k[0]} {k[1]}.{k[2]}' for k in sorted(named)]
+            bad += [f'{crate} {module} imports {c} {m}' for c, m in sorted(file.modules.values())
+                    if (c, m) in all_.files and all_.files[(c, m)].kind == 'Bridge']
+    print('\n'.join(bad) or 'no file of meaning imports a bridge')
     return bool(bad)
 
 
