@@ -13,6 +13,7 @@ A law is a public function without parameters. A clause of it ties a bridge of i
 it, meaning alone. Then the bridge need not be read: the clause is counted in its place with all that it reaches, and with it the
 law's clauses on the same relation (that it has one value). Through any other bridge what it reaches is counted: nothing hides behind
 a bridge. A view is a definition that an `impl Model` cites, or that says what a struct of its crate with a private field shows.
+All this goes by names: that a law's statement determines the bridge is for its reader to see.
 Lines are those of a definition with the comment above it.
 """
 import os
@@ -175,10 +176,10 @@ def private_structs(crates):
 class Clause:
     """a clause of a public call, or what a public type is seen as"""
 
-    def __init__(self, crate, call, imported, text, is_law=False, is_view=False):
+    def __init__(self, crate, call, imported, text, is_law=False):
         self.crate, self.call, self.text = crate, call, text
         self.names, self.modules = imported
-        self.is_law, self.is_view = is_law, is_view
+        self.is_law = is_law
 
     def keys(self):
         """what it names"""
@@ -230,7 +231,7 @@ def clauses(crate):
         for m in re.finditer(r"(?m)^impl[^{]* Model for (\w+)[^{]*\{(.*?)^\}", text, re.S):
             value = re.search(r"ghost Value = \{(.*?)\};", m.group(2), re.S)
             if value and m.group(1) in out:
-                yield Clause(crate, m.group(1), imported, value.group(1), is_view=True)
+                yield Clause(crate, m.group(1), imported, value.group(1))
 
 
 class Definitions:

@@ -68,7 +68,7 @@ grouped_by_two (x ∷ xs) = cut_groups 0 0 x.kind (x ∷ []) xs (omega arith)
 
 -- ---- the lexemes of a row
 
--- behind this one no document begins
+-- after a lexeme of this kind none of these begins a document
 abbrev pub Unbroken : Kind → List LexemeValue → Type 0
 Unbroken last [] = Unit {0}
 Unbroken last (x ∷ xs) = (is_beginning last x.kind ≡ false) × Unbroken x.kind xs

@@ -96,7 +96,7 @@ module _ (rows : List (List ℕ)) (a : Context) (c : ℕ) (cs : List ℕ) (tab :
       (end_marked cs (is_marker_of 0x2E (c ∷ cs)) _ (block_at rows tab first 0 a c cs) _ (λ e. refl)
       (end_marked cs (eqb c 0x25 && is_directive_place a.last) _ (block_at rows tab first 0 a c cs) None (no_end cs _ refl) rest))
 
--- ---- what stands behind a document's end in its row
+-- ---- what stands after a document's end in its row
 
 -- white space, and then nothing or a comment
 abbrev is_quiet : Bool → List ℕ → Bool
@@ -157,7 +157,7 @@ quiet_reading rows tab bs first at here older (c ∷ cs) h =
     by_white true y h ih = ih h
     by_white false y h ih = by_comment (eqb c 0x23 && bs) _ y (comment_empty (comment_of at (c ∷ cs)) (here ++ older) (bad_in at (c ∷ cs))) h
 
--- behind the two characters more of the marker
+-- after the other two characters of the marker
 marker_reading : (rows : List (List ℕ)) (tab : Option ℕ) (here older : List PastLexeme) (cs : List ℕ) → misfit_behind (drop 2 cs) ≡ None → IsEmpty (row_reading rows tab 2 false false 1 here older cs)
 marker_reading rows tab here older [] h = record { empty = refl }
 marker_reading rows tab here older (x ∷ []) h = record { empty = refl }
@@ -191,7 +191,7 @@ chosen_other x more (Some f) h g = by_end (ends_document x.kind)
 further : (at : ℕ) → eqb (at + 1) 0 ≡ false
 further at = ne_eqb (at + 1) 0 (λ e. omega arith)
 
--- behind the first column no marker begins
+-- after the first column no marker begins
 others : (rows : List (List ℕ)) (tab : Option ℕ) (skip : ℕ) (bs first : Bool) (at : ℕ) (here older : List PastLexeme) (cs : List ℕ) → eqb at 0 ≡ false →
     AllOther (row_reading rows tab skip bs first at here older cs)
 others rows tab skip bs first at here older [] h = record { all = tt }
