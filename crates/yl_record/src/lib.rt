@@ -8,6 +8,7 @@ mod record;
 mod recorder;
 mod rows;
 mod sharing;
+mod spaces;
 
 pub use record::Record;
 pub use recorder::Recorder;
