@@ -4,7 +4,7 @@ use Rattle.std.specs.Prelude.{IfSome, slice_get}
 use Rattle.std.specs.Str.{chars}
 use Rattle.std.specs.List.{AllByRecursion}
 use Rattle.std.proofs.lemmas.Bool.{cases_lt}
-use Rattle.std.proofs.lemmas.List.{same_lists, places, length-map, drop-map}
+use Rattle.std.proofs.lemmas.List.{same_lists, places, length-drop, length-map, length-take-le, drop-map}
 use Rattle.std.proofs.Common.{append_assoc}
 use Rattle.yl_text.specs.Character.{indentation, is_blank}
 use Rattle.yl_text.specs.Lines.{RowValue}
@@ -23,14 +23,14 @@ use Rattle.yl_scan.proofs.Resumed.{run_resumed, stopped_resumed}
 use Rattle.yl_record.specs.Records.{RecordValue, characters_in, records, records_from, records_with}
 use Rattle.yl_sections.specs.Last.{HasNoLexeme}
 use Rattle.yl_sections.specs.Local.{begins_section, is_start_at, kind_after}
-use Rattle.yl_sections.specs.Sections.{is_section_start, last_kind_from}
+use Rattle.yl_sections.specs.Sections.{last_kind_from}
 use Rattle.yl_sections.proofs.Last.{last_from, run_count, stopped_count}
 use Rattle.yl_rejudge.proofs.SectionStarts.{from_row, not_first, starts_after}
 use Rattle.yl_rejudge.proofs.SectionStarts as starts
 use Rattle.yl_rescan.specs.Agree.{state_of_row}
 use Rattle.yl_rescan.specs.Held.{AreHeld, IsCutAt, last_in}
 use Rattle.yl_rescan.proofs.Held.{begins_by, drop_both, take_part}
-use Rattle.yl_rescan.proofs.Rows.{records_state, sound_behind, state_behind, with_drop, with_state}
+use Rattle.yl_rescan.proofs.Rows.{records_from_length, records_state, sound_behind, state_behind, with_drop, with_state}
 use Rattle.yl_rescan.proofs.Starts.{alone}
 
 differ : (t : Bool) → t ≡ true → t ≡ false → ⊥
@@ -358,8 +358,5 @@ feed_more rows from i row text rest o at is =
     ap (λ (qs : List (List ℕ)). records_from Stopped qs)
     (sym (append_assoc (drop from (take i (characters_in rows))) (chars text ∷ []) rest) ∙ ap (λ (qs : List (List ℕ)). qs ++ rest) (sym (rows_more rows from i row text o at is)))
 
--- a section begins with the row of these lexemes
-pub begins_at : (last : Option Kind) (rs : List RecordValue) (i : ℕ) (r : RecordValue) → slice_get rs i ≡ Some r → is_section_start last r.entry.lexemes ≡ true → begins_section last (drop i rs) ≡ true
-begins_at last [] i r e b = absurd (cc)
-begins_at last (x ∷ rs) zero r e b = let same : x ≡ r = cc in ap (λ (y : RecordValue). is_section_start last y.entry.lexemes) same ∙ b
-begins_at last (x ∷ rs) (suc i) r e b = begins_at last rs i r e b
+pub passed_length : (qs : List (List ℕ)) (from end : ℕ) → end ≤ length qs → length (records_from Stopped (drop from (take end qs))) ≡ end - from
+passed_length qs from end l = omega (arith, records_from_length Stopped (drop from (take end qs)), length-drop from (take end qs), length-take-le end qs l)
