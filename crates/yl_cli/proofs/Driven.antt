@@ -20,9 +20,10 @@ use Rattle.yl_args.specs.declared.answer.Flags.{Flags}
 use Rattle.yl_cli.specs.Command.{Command, Bad, next_command}
 use Rattle.yl_devices.specs.declared.fault.RunFault.{RunFault}
 use Rattle.yl_devices.specs.declared.fault.RunFault.TheVariants as fault
-use Rattle.yl_cli.specs.Run.{Failures, IsCommandFault}
-use Rattle.yl_devices.specs.Text.{without_mark}
-use Rattle.yl_cli.specs.Drive.{AreCommands, WereRead, text_of_run, replies, reply, shown_lines, IsBegun, IsDriven, IsDriveFault, refusal_name, IsAnswered}
+use Rattle.yl_cli.specs.Run.{Failures}
+use Rattle.yl_text.specs.Fault.{IsText}
+use Rattle.yl_devices.specs.Text.{IsCommandFault, without_mark}
+use Rattle.yl_cli.specs.Drive.{AreCommands, WereRead, text_of_run, replies, reply, shown_lines, IsBegun, IsDriven, IsDriveFault, refusal_name, IsAnswered, IsCut}
 use Rattle.yl_cli.specs.Reading.{TakesCommand, IsReply, IsReplyBegun, SoFar}
 
 AreCommands-push : (xs mid rest : List ℕ) (es : List EditValue) (e : EditValue) → AreCommands xs es mid → next_command mid ≡ Command e rest → AreCommands xs (es ++ e ∷ []) rest
@@ -50,6 +51,10 @@ driven-push c name flags text es rs e r h =
     ap (λ l. shown_lines c name flags (lines_of text) None ++ l) (replies-push c name flags text es rs e r h)
     ∙ sym (append_assoc (shown_lines c name flags (lines_of text) None) (replies c name flags text es rs) (reply c name flags (text_after (text_after_all text es rs) e r) r))
 
+read_nothing : (given : Option (List ℕ)) → WereRead given given []
+read_nothing None = tt
+read_nothing (Some xs) = refl
+
 pub so_far_opened : (c : Config) (name : List ℕ) (flags : Flags) (text : List ℕ) (given before now : Option (List ℕ)) (s : SessionValue) → Shows c text s → Appends before now (shown_lines c name flags (lines_of text) None)
     → SoFar 0 c name flags text given given before now s
 so_far_opened c name flags text given before now s h w = record {
@@ -60,10 +65,6 @@ so_far_opened c name flags text given before now s h w = record {
   replayed = record { answered = tt; shown = h };
   written = subst (Appends before now) (sym (append-nil (shown_lines c name flags (lines_of text) None))) w;
 }
-  where
-    read_nothing : (given : Option (List ℕ)) → WereRead given given []
-    read_nothing None = tt
-    read_nothing (Some xs) = refl
 
 pub so_far_more : (count : ℕ) (c : Config) (name : List ℕ) (flags : Flags) (text : List ℕ) (given mid rest before then now : Option (List ℕ)) (s new : SessionValue) (e : EditValue)
     → (f : SoFar count c name flags text given mid before then s) → TakesCommand mid rest e → IsReply c name flags (text_after_all text f.edits f.answers) e new then now
@@ -90,33 +91,39 @@ begun_after a b c xs ys p q = record {
 }
 
 -- the answer to the next command is begun
-pub begun_more : (count : ℕ) (c : Config) (name : List ℕ) (flags : Flags) (text : List ℕ) (given mid before then now : Option (List ℕ)) (s : SessionValue) (e : EditValue)
-    → (f : SoFar count c name flags text given mid before then s) → IsReplyBegun c name flags (text_after_all text f.edits f.answers) e then now
-    → IsBegun c name flags text (record { given = given; before = before; now = now })
-begun_more count c name flags text given mid before then now s e f p = record {
+pub begun_more : (count : ℕ) (c : Config) (name : List ℕ) (flags : Flags) (text : List ℕ) (given mid rest left before then now : Option (List ℕ)) (s : SessionValue) (e : EditValue)
+    → (f : SoFar count c name flags text given mid before then s) → TakesCommand mid rest e → IsReplyBegun c name flags (text_after_all text f.edits f.answers) e then now
+    → IsBegun c name flags text (record { given = given; left = left; before = before; now = now })
+begun_more count c name flags text given mid rest left before then now s e f t p = record {
   edits = f.edits ++ e ∷ [];
   answers = f.answers ++ p.answer ∷ [];
+  place = rest;
+  read = WereRead-push given mid rest f.edits e f.read t;
   answered = AreAnswers-push text f.edits f.answers e p.answer f.replayed.answered p.is;
   written = subst (AppendsFront before now) (sym (driven-push c name flags text f.edits f.answers e p.answer f.replayed.answered))
       (begun_after before then now _ _ f.written p.written);
 }
 
 -- all that was answered is a beginning
-pub begun_so_far : (count : ℕ) (c : Config) (name : List ℕ) (flags : Flags) (text : List ℕ) (given mid before now : Option (List ℕ)) (s : SessionValue)
-    → SoFar count c name flags text given mid before now s → IsBegun c name flags text (record { given = given; before = before; now = now })
-begun_so_far count c name flags text given mid before now s f = record {
+pub begun_so_far : (count : ℕ) (c : Config) (name : List ℕ) (flags : Flags) (text : List ℕ) (given mid left before now : Option (List ℕ)) (s : SessionValue)
+    → SoFar count c name flags text given mid before now s → IsBegun c name flags text (record { given = given; left = left; before = before; now = now })
+begun_so_far count c name flags text given mid left before now s f = record {
   edits = f.edits;
   answers = f.answers;
+  place = mid;
+  read = f.read;
   answered = f.replayed.answered;
   written = record { front = text_of_run c name flags text f.edits f.answers; rest = []; whole = sym (append-nil _); appends = f.written };
 }
 
 -- nothing but a beginning of the first report is out
-pub begun_opened : (c : Config) (name : List ℕ) (flags : Flags) (text : List ℕ) (given before now : Option (List ℕ)) → AppendsFront before now (shown_lines c name flags (lines_of text) None)
-    → IsBegun c name flags text (record { given = given; before = before; now = now })
-begun_opened c name flags text given before now w = record {
+pub begun_opened : (c : Config) (name : List ℕ) (flags : Flags) (text : List ℕ) (given left before now : Option (List ℕ)) → AppendsFront before now (shown_lines c name flags (lines_of text) None)
+    → IsBegun c name flags text (record { given = given; left = left; before = before; now = now })
+begun_opened c name flags text given left before now w = record {
   edits = [];
   answers = [];
+  place = given;
+  read = read_nothing given;
   answered = tt;
   written = subst (AppendsFront before now) (sym (append-nil (shown_lines c name flags (lines_of text) None))) w;
 }
@@ -186,9 +193,9 @@ refusal_begun c name flags text e s fault before now h is w =
 -- ---- how a run ends
 
 -- what was answered so far
-abbrev pub answered_so_far : (count : ℕ) (c : Config) (name : List ℕ) (flags : Flags) (text : List ℕ) (given rest before now : Option (List ℕ)) (s : SessionValue)
-    → SoFar count c name flags text given rest before now s → IsAnswered c name flags text (record { given = given; before = before; now = now })
-answered_so_far count c name flags text given rest before now s so_far = record {
+abbrev pub answered_so_far : (count : ℕ) (c : Config) (name : List ℕ) (flags : Flags) (text : List ℕ) (given rest left before now : Option (List ℕ)) (s : SessionValue)
+    → SoFar count c name flags text given rest before now s → IsAnswered c name flags text (record { given = given; left = left; before = before; now = now })
+answered_so_far count c name flags text given rest left before now s so_far = record {
   edits = so_far.edits;
   answers = so_far.answers;
   place = rest;
@@ -198,26 +205,28 @@ answered_so_far count c name flags text given rest before now s so_far = record 
 }
 
 -- the reading of the next command ended the run
-pub stopped : (f : RunFault) (count : ℕ) (c : Config) (name : List ℕ) (flags : Flags) (bytes : List ℕ) (given rest before now : Option (List ℕ)) (s : SessionValue) (n : Failures)
-    → SoFar count c name flags (without_mark bytes) given rest before now s → IsCommandFault n.reads_before n.reads_after f → (f ≡ fault.Command → IfSome rest (λ xs. next_command xs ≡ Bad))
-    → IsDriveFault c name flags bytes n (record { given = given; before = before; now = now }) f
-stopped fault.Read count c name flags bytes given rest before now s n so_far h bad =
-    (h, answered_so_far count c name flags (without_mark bytes) given rest before now s so_far)
-stopped fault.Memory count c name flags bytes given rest before now s n so_far h bad = begun_so_far count c name flags (without_mark bytes) given rest before now s so_far
-stopped fault.Command count c name flags bytes given rest before now s n so_far h bad = (answered_so_far count c name flags (without_mark bytes) given rest before now s so_far, inl (bad refl))
-stopped fault.Write count c name flags bytes given rest before now s n so_far h bad = absurd h
-stopped (fault.Text t) count c name flags bytes given rest before now s n so_far h bad = absurd h
+pub stopped : (f : RunFault) (count : ℕ) (c : Config) (name : List ℕ) (flags : Flags) (bytes : List ℕ) (given rest left before now : Option (List ℕ)) (s : SessionValue) (n : Failures)
+    → IsText (without_mark bytes) → SoFar count c name flags (without_mark bytes) given rest before now s → IsCommandFault n.reads_before n.reads_after f
+    → (f ≡ fault.Command → IfSome rest (λ xs. next_command xs ≡ Bad)) → (f ≡ fault.Read → IsCut rest left)
+    → IsDriveFault c name flags bytes n (record { given = given; left = left; before = before; now = now }) f
+stopped fault.Read count c name flags bytes given rest left before now s n text so_far h bad cut =
+    (text, h, (answered_so_far count c name flags (without_mark bytes) given rest left before now s so_far, cut refl))
+stopped fault.Memory count c name flags bytes given rest left before now s n text so_far h bad cut = (text, begun_so_far count c name flags (without_mark bytes) given rest left before now s so_far)
+stopped fault.Command count c name flags bytes given rest left before now s n text so_far h bad cut =
+    (text, (answered_so_far count c name flags (without_mark bytes) given rest left before now s so_far, inl (bad refl)))
+stopped fault.Write count c name flags bytes given rest left before now s n text so_far h bad cut = absurd h
+stopped (fault.Text t) count c name flags bytes given rest left before now s n text so_far h bad cut = absurd h
 
 -- all commands were answered
-pub all_driven : (count : ℕ) (c : Config) (name : List ℕ) (flags : Flags) (text : List ℕ) (given rest before now : Option (List ℕ)) (s : SessionValue) (status : ℕ)
+pub all_driven : (count : ℕ) (c : Config) (name : List ℕ) (flags : Flags) (text : List ℕ) (given rest left before now : Option (List ℕ)) (s : SessionValue) (status : ℕ)
     → SoFar count c name flags text given rest before now s → IsAtEnd rest → status ≡ status_of (report s.config s.rows) flags.strict
-    → IsDriven c name flags text (record { given = given; before = before; now = now }) status
-all_driven count c name flags text given rest before now s status so_far end is =
+    → IsDriven c name flags text (record { given = given; left = left; before = before; now = now }) status
+all_driven count c name flags text given rest left before now s status so_far end is =
     let shown = so_far.replayed.shown in
     let same : report s.config s.rows ≡ report c (lines_of (text_after_all text so_far.edits so_far.answers)) =
     ap (λ (o : Config). report o s.rows) shown.config ∙ ap (report c) (sym (lines_of-is (text_after_all text so_far.edits so_far.answers) s.rows shown.lines)) in
     record {
-      run = answered_so_far count c name flags text given rest before now s so_far;
+      run = answered_so_far count c name flags text given rest left before now s so_far;
       is_end = end;
       is_status = is ∙ ap (λ problems. status_of problems flags.strict) same;
     }

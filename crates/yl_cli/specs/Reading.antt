@@ -1,7 +1,7 @@
 -- Bridge: what is taken of the bytes that a reader gives, of which some were read ahead.
 use Rattle.std.specs.Prelude.{◌≡◌, ◌≢◌, ℕ, ◌-◌, ◌≤◌, List, [], ◌++◌, length, Option, Some, None, Result}
 use Rattle.std.specs.Option.{option_map}
-use Rattle.std.specs.Io.KnownBytes.{Appends}
+use Rattle.std.specs.Io.KnownBytes.{Appends, Consumes}
 use Rattle.yl_text.specs.declared.fault.TextFault.{TextFault}
 use Rattle.yl_text.specs.Lines.{lines_of}
 use Rattle.yl_config.specs.declared.config.Config.{Config}
@@ -25,6 +25,12 @@ abbrev pub LineBegan : Option (List ℕ) → Option (List ℕ) → List ℕ → 
 LineBegan None rest line = Unit {0}
 LineBegan (Some all) None line = ⊥
 LineBegan (Some all) (Some rest) line = HasBegun all rest line
+
+-- what was taken of the bytes that were given, where they are known, has no whole line
+pub record IsLineCut (given left : Option (List ℕ)) : Type 0 where
+  pub begun : List ℕ
+  pub consumed : Consumes given left begun
+  pub none : first_line 62 begun ≡ None
 
 -- a line is read
 abbrev pub TakesLine : Option (List ℕ) → Option (List ℕ) → List ℕ → Type 0
