@@ -8,7 +8,7 @@ mod record;
 mod recorder;
 mod rows;
 mod sharing;
-mod spaces;
+mod white;
 
 pub use record::Record;
 pub use recorder::Recorder;

@@ -8,7 +8,7 @@ ghost use Rattle.yl_record.specs.Beside.{comment_beside, fault_beside, indentati
 ghost use Rattle.yl_record.specs.Parts.{entry_with_last, entry_with_fault};
 ghost use Rattle.yl_record.specs.Records.{records_from};
 
-use crate::spaces::{is_blank, spaces_before};
+use crate::white::{is_blank, spaces_before};
 use std::alloc::{AllocError, Allocator};
 use std::marker::Model;
 use std::mem;

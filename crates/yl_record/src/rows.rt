@@ -11,7 +11,7 @@ ghost use Rattle.yl_record.specs.Parts.{LiesIn, entries_in, entries_with_end, en
 
 use crate::record::{Record, push_lexeme, record_of, set_fault};
 use crate::sharing::shared;
-use crate::spaces::spaces_before;
+use crate::white::spaces_before;
 use std::alloc::{AllocError, Allocator};
 use yl_lexeme::Lexeme;
 use yl_row::PlacedScanFault;

@@ -4,8 +4,8 @@ use Rattle.std.specs.Prelude.{IfSome, slice_get}
 use Rattle.std.specs.Str.{chars}
 use Rattle.std.specs.List.{AllByRecursion}
 use Rattle.std.proofs.lemmas.Bool.{cases_lt}
-use Rattle.std.proofs.lemmas.List.{same_lists, places, length-map, drop-map}
-use Rattle.std.proofs.Common.{append_assoc}
+use Rattle.std.proofs.lemmas.List.{same_lists, places, length-drop, length-map, length-take-le, drop-map}
+use Rattle.std.proofs.Common.{append_assoc, append_nil}
 use Rattle.yl_text.specs.Character.{indentation, is_blank}
 use Rattle.yl_text.specs.Lines.{RowValue}
 use Rattle.yl_lexeme.specs.declared.lexeme.Kind.{Kind}
@@ -23,14 +23,14 @@ use Rattle.yl_scan.proofs.Resumed.{run_resumed, stopped_resumed}
 use Rattle.yl_record.specs.Records.{RecordValue, characters_in, records, records_from, records_with}
 use Rattle.yl_sections.specs.Last.{HasNoLexeme}
 use Rattle.yl_sections.specs.Local.{begins_section, is_start_at, kind_after}
-use Rattle.yl_sections.specs.Sections.{is_section_start, last_kind_from}
+use Rattle.yl_sections.specs.Sections.{last_kind_from}
 use Rattle.yl_sections.proofs.Last.{last_from, run_count, stopped_count}
 use Rattle.yl_rejudge.proofs.SectionStarts.{from_row, not_first, starts_after}
 use Rattle.yl_rejudge.proofs.SectionStarts as starts
 use Rattle.yl_rescan.specs.Agree.{state_of_row}
 use Rattle.yl_rescan.specs.Held.{AreHeld, IsCutAt, last_in}
 use Rattle.yl_rescan.proofs.Held.{begins_by, drop_both, take_part}
-use Rattle.yl_rescan.proofs.Rows.{records_state, sound_behind, state_behind, with_drop, with_state}
+use Rattle.yl_rescan.proofs.Rows.{records_from_length, records_state, sound_behind, state_behind, with_drop, with_state}
 use Rattle.yl_rescan.proofs.Starts.{alone}
 
 differ : (t : Bool) → t ≡ true → t ≡ false → ⊥
@@ -358,8 +358,31 @@ feed_more rows from i row text rest o at is =
     ap (λ (qs : List (List ℕ)). records_from Stopped qs)
     (sym (append_assoc (drop from (take i (characters_in rows))) (chars text ∷ []) rest) ∙ ap (λ (qs : List (List ℕ)). qs ++ rest) (sym (rows_more rows from i row text o at is)))
 
--- a section begins with the row of these lexemes
-pub begins_at : (last : Option Kind) (rs : List RecordValue) (i : ℕ) (r : RecordValue) → slice_get rs i ≡ Some r → is_section_start last r.entry.lexemes ≡ true → begins_section last (drop i rs) ≡ true
-begins_at last [] i r e b = absurd (cc)
-begins_at last (x ∷ rs) zero r e b = let same : x ≡ r = cc in ap (λ (y : RecordValue). is_section_start last y.entry.lexemes) same ∙ b
-begins_at last (x ∷ rs) (suc i) r e b = begins_at last rs i r e b
+pub passed_length : (qs : List (List ℕ)) (from end : ℕ) → end ≤ length qs → length (records_from Stopped (drop from (take end qs))) ≡ end - from
+passed_length qs from end l = omega (arith, records_from_length Stopped (drop from (take end qs)), length-drop from (take end qs), length-take-le end qs l)
+
+-- ---- loops over rows that are passed, and rows that are fed
+
+pub nothing_passed : (xs : List RecordValue) (qs : List (List ℕ)) (k : ℕ) → xs ≡ xs ++ records_from Stopped (drop k (take k qs))
+nothing_passed xs qs k = sym (append_nil xs) ∙ ap (λ (ys : List (List ℕ)). xs ++ records_from Stopped ys) (sym (none_taken qs k))
+
+pub one_passed : (xs ys zs : List RecordValue) (rows : List RowValue) (from i : ℕ) (row : RowValue) (text : List ℕ) (r : RecordValue) → zs ≡ ys ++ r ∷ []
+    → ys ≡ xs ++ records_from Stopped (drop from (take i (characters_in rows))) → from ≤ i → slice_get rows i ≡ Some row → text ≡ row.text → records_from Stopped (chars text ∷ []) ≡ r ∷ records_from Stopped []
+    → zs ≡ xs ++ records_from Stopped (drop from (take (i + 1) (characters_in rows)))
+one_passed xs ys zs rows from i row text r e h o at is one =
+    e
+    ∙ (ap (λ (rs : List RecordValue). rs ++ r ∷ []) h
+    ∙ (append_assoc xs (records_from Stopped (drop from (take i (characters_in rows)))) (r ∷ []) ∙ ap (λ (rs : List RecordValue). xs ++ rs) (sym (pass_more rows from i row text r o at is one))))
+
+pub all_passed : (xs ys zs : List RecordValue) (qs : List (List ℕ)) (from i end : ℕ) → ys ≡ xs → i ≡ end → zs ≡ ys ++ records_from Stopped (drop from (take i qs)) → zs ≡ xs ++ records_from Stopped (drop from (take end qs))
+all_passed xs ys zs qs from i end same ended h =
+    h ∙ (ap (λ (rs : List RecordValue). rs ++ records_from Stopped (drop from (take i qs))) same ∙ ap (λ k. xs ++ records_from Stopped (drop from (take k qs))) ended)
+
+pub nothing_fed : (told : List (List ℕ) → List RecordValue) (qs : List (List ℕ)) (k : ℕ) → ((rest : List (List ℕ)) → told rest ≡ records_from Stopped rest) → (rest : List (List ℕ))
+    → told rest ≡ records_from Stopped (drop k (take k qs) ++ rest)
+nothing_fed told qs k h rest = h rest ∙ ap (λ (ys : List (List ℕ)). records_from Stopped (ys ++ rest)) (sym (none_taken qs k))
+
+pub all_fed : (told : List (List ℕ) → List RecordValue) (qs : List (List ℕ)) (from i end : ℕ) (items : List RecordValue) → i ≡ end → ((rest : List (List ℕ)) → told rest ≡ records_from Stopped (drop from (take i qs) ++ rest)) → items ≡ told []
+    → items ≡ records_from Stopped (drop from (take end qs))
+all_fed told qs from i end items ended h is =
+    is ∙ (h [] ∙ ap (λ (ys : List (List ℕ)). records_from Stopped ys) (append_nil (drop from (take i qs)) ∙ ap (λ k. drop from (take k qs)) ended))

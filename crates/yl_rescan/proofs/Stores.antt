@@ -1,20 +1,21 @@
 -- The same for the rows of stores.
-use Rattle.std.proofs.Common.{◌≡◌, ℕ, ◌+◌, ◌-◌, ◌<◌, ◌≤◌, List, [], ◌++◌, length, take, drop, Option, Some, None, refl, ap, sym, ◌∙◌, subst, arith}
-use Rattle.std.specs.Prelude.{IfSome}
+use Rattle.std.proofs.Common.{◌≡◌, ℕ, zero, suc, ◌∷◌, ◌+◌, ◌-◌, ◌<◌, ◌≤◌, true, List, [], ◌++◌, length, take, drop, Option, Some, None, refl, ap, sym, ◌∙◌, subst, arith}
+use Rattle.std.specs.Prelude.{IfSome, IsSome}
 use Rattle.std.specs.List.{splice}
 use Rattle.yl_text.specs.Lines.{RowValue}
 use Rattle.yl_text.specs.Store.{AreLines, IsRange}
 use Rattle.yl_row.specs.Entries.{LineStateValue, Stopped}
 use Rattle.yl_record.specs.Records.{RecordValue, characters_in, records, records_from}
-use Rattle.yl_sections.specs.Local.{kind_after}
-use Rattle.yl_rescan.specs.Agree.{BeginsAt, BeginsBelow, MayKeep, StopsPassed, counterpart, next_cut}
+use Rattle.yl_lexeme.specs.declared.lexeme.Kind.{Kind}
+use Rattle.yl_sections.specs.Local.{begins_section, is_start_at, kind_after}
+use Rattle.yl_rescan.specs.Agree.{BeginsAt, BeginsBelow, MayKeep, StopsPassed, counterpart, next_cut, state_of_row}
 use Rattle.yl_rescan.specs.Held.{AreHeld, IsCutAt}
 use Rattle.yl_rescan.specs.Made.{WasRescanned}
 use Rattle.yl_rescan.specs.declared.scanning.ScanEnd.{ScanEnd}
 use Rattle.yl_rescan.specs.declared.scanning.ScanEnd.TheVariants.{Agreed, Halted, TextEnd}
 use Rattle.yl_rescan.proofs.Edits.{begins_again, characters_length, characters_spliced, row_before, some_lines}
 use Rattle.yl_rescan.proofs.Held.{held_length, state_there}
-use Rattle.yl_rescan.proofs.Made.{WasScanned, begins_true_of, kept, not_held, passed_below, told_below}
+use Rattle.yl_rescan.proofs.Made.{WasScanned, begins_true_of, kept, kept_under, not_held, passed_below, told_below}
 
 module _ (ps ns us : List RowValue) (a b : ℕ) (range : IsRange a b (length ps)) (patched : us ≡ splice ps a b ns) where
   abbrev old : List (List ℕ)
@@ -67,6 +68,11 @@ module _ (ps ns us : List RowValue) (a b : ℕ) (range : IsRange a b (length ps)
           (subst (λ k. MayKeep (splice es row (at k) items) why (next_cut why cut (at k) end) → WasRescanned es old new (next_cut why cut (at k) end) a b k row (at k) end n items) count
           (kept old put a b range.ordered within_told cut es held bound row state why end n items (some_rows lines) scanned))
 
+      pub kept_under_rows : why ≡ Agreed → state ≡ Some Stopped → MayKeep (splice es row (at (length ns)) items) why (next_cut why cut (at (length ns)) end)
+      kept_under_rows is stopped =
+          subst (λ k. MayKeep (splice es row (at k) items) why (next_cut why cut (at k) end)) count
+          (kept_under old put a b range.ordered within_told cut es held bound row state why end n items (some_rows lines) scanned is stopped)
+
       pub passed_rows : (next : Option ℕ) (old_end below : ℕ) (all : List RecordValue) → (MayKeep (splice es row (at (length ns)) items) why (next_cut why cut (at (length ns)) end) → ⊥)
           → StopsPassed es cut (kind_after None (take end (splice es row (at (length ns)) items))) (at (length ns)) end old_end below (length us) next
           → all ≡ items ++ records_from Stopped (drop end (take below (characters_in us))) → WasRescanned es old (characters_in (splice ps a b ns)) next a b (length ns) row old_end below n all
@@ -109,6 +115,11 @@ the_same es ps qs a b k n cut cut' from from' old_end old_end' end end' items it
     (subst (λ x. WasRescanned es ps qs cut' a b k from' x end n items) (sym o)
     (subst (λ x. WasRescanned es ps qs cut' a b k from' old_end' x n items) (sym e) (subst (λ (x : List RecordValue). WasRescanned es ps qs cut' a b k from' old_end' end' n x) (sym i) h))))
 
+pub renamed : (es : List RecordValue) (ps qs : List (List ℕ)) (a b k : ℕ) (cut : Option ℕ) (from from' old_end end n n' : ℕ) (items : List RecordValue) → from ≡ from' → n ≡ n'
+    → WasRescanned es ps qs cut a b k from' old_end end n' items → WasRescanned es ps qs cut a b k from old_end end n items
+renamed es ps qs a b k cut from from' old_end end n n' items f e h =
+    subst (λ x. WasRescanned es ps qs cut a b k x old_end end n items) (sym f) (subst (λ x. WasRescanned es ps qs cut a b k from' old_end end x items) (sym e) h)
+
 -- whether it may be kept, under other names
 pub may_the_same : (es : List RecordValue) (row at at' : ℕ) (items items' : List RecordValue) (why : ScanEnd) (next next' : Option ℕ) → at ≡ at' → items ≡ items' → next ≡ next'
     → (MayKeep (splice es row at items) why next ≡ MayKeep (splice es row at' items') why next')
@@ -139,3 +150,33 @@ pub counterpart_range : (why : ScanEnd) (end stop b count total : ℕ) → b ≤
 counterpart_range Agreed end stop b count total w e x y z = let p = x refl in let q = p.0 in let r = p.1 in (omega arith, omega (arith, w, e, q, r), omega (arith, w, e, q, r))
 counterpart_range Halted end stop b count total w e x y z = let p = y refl in let q = p.0 in let r = p.1 in (omega arith, omega (arith, w, e, q, r), omega (arith, w, e, q, r))
 counterpart_range TextEnd end stop b count total w e x y z = let p = z refl in (w, omega arith, omega (arith, p))
+
+-- where rows are passed to, by what was found
+pub stops_at_end : (es : List RecordValue) (cut : Option ℕ) (kind : Option Kind) (at end old_end below count : ℕ) (next : Option ℕ) → next ≡ None → old_end ≡ length es → below ≡ count
+    → StopsPassed es cut kind at end old_end below count next
+stops_at_end es cut kind at end old_end below count next n o b = subst (λ (x : Option ℕ). StopsPassed es cut kind at end old_end below count x) (sym n) (o, b)
+
+pub stops_at_row : (es : List RecordValue) (cut : Option ℕ) (last kind : Option Kind) (at end row old_end below c count : ℕ) (next : Option ℕ) → last ≡ kind → next ≡ Some c → old_end ≡ row → below ≡ c → c ≡ row - at + end → at ≤ row
+    → IfSome cut (λ n. n ≤ row) → IsSome (state_of_row es row) → is_start_at es row ≡ true → begins_section last (drop row es) ≡ true → StopsPassed es cut kind at end old_end below count next
+stops_at_row es cut last kind at end row old_end below c count next k n o b e l low sound start begins =
+    subst (λ (x : Option ℕ). StopsPassed es cut kind at end old_end below count x) (sym n)
+    (subst (λ (z : Option Kind). StopsPassed es cut z at end old_end below count (Some c)) k
+    (subst (λ i. StopsPassed es cut last at end i below count (Some c)) (sym o) (l, low, b ∙ e, sym b, sound, start, begins)))
+
+-- the first row that is looked at is one from the cut on
+pub from_cut : (cut : Option ℕ) (first row : ℕ) → IfSome cut (λ n. n ≤ first) → first ≤ row → IfSome cut (λ n. n ≤ row)
+from_cut None first row h l = tt
+from_cut (Some n) first row h l = omega (arith, h, l)
+
+pub of_some : {X : Type 0} (o : Option X) (x : X) (P : X → Type 0) → o ≡ Some x → IfSome o P → P x
+of_some {X} o x P e h = subst (λ (p : Option X). IfSome p P) e h
+
+-- a row that is passed to
+pub row_passed_to : (es : List RecordValue) (at end row count : ℕ) → at ≤ row → IsSome (state_of_row es row) → length es - at + end ≡ count → (end ≤ row - at + end) × (row - at + end ≤ count) × (row < length es)
+row_passed_to es at end row count l sound rows =
+    let there = some_row es row sound in
+    (omega arith, omega (arith, l, there, rows), there) where
+      some_row : (rs : List RecordValue) (i : ℕ) → IsSome (state_of_row rs i) → i < length rs
+      some_row [] i h = absurd (cc)
+      some_row (r ∷ rs) zero h = omega arith
+      some_row (r ∷ rs) (suc i) h = let k = some_row rs i h in omega (arith, k)

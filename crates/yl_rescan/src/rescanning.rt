@@ -81,6 +81,53 @@ fn may_keep<A: Allocator + Copy>(
     }
 }
 
+/// These new records, and after them those of the rows from their end on to before `end`, which are passed, since reading has stopped above
+/// them; in place of the old ones before `old_end`.
+fn passed_to<L: Lines>(
+    alloc: L::Alloc,
+    lines: &L,
+    read: Rescanned<L::Alloc>,
+    old_end: usize,
+    end: usize,
+    cut: Option<usize>,
+) -> Result<Rescanned<L::Alloc>, AllocError>
+    requires lines { AreLines (L.rows lines.now) }
+    requires ordered { read.end ≤ end }
+    requires within { end ≤ length (L.rows lines.now) }
+    ensures from { IfOk result (λ r. r.from ≡ read.from) }
+    ensures old_end { IfOk result (λ r. r.old_end ≡ old_end) }
+    ensures end { IfOk result (λ r. r.end ≡ end) }
+    ensures cut { IfOk result (λ r. r.cut ≡ cut) }
+    ensures records { IfOk result (λ r. r.records.items ≡ read.records.items ++ records_from Stopped (drop read.end (take end (characters_in (L.rows lines.now))))) }
+{
+    let Rescanned {
+        from,
+        end: begin,
+        records,
+        ..
+    } = read;
+    let mut records = records;
+    pass(alloc, lines, begin, end, &mut records)?;
+    Ok(Rescanned {
+        from,
+        old_end,
+        end,
+        records,
+        cut,
+    })
+}
+
+/// The first row from this one on that is not above row `cut`.
+fn first_below(cut: Option<usize>, at: usize) -> usize
+    ensures least { at ≤ result }
+    ensures below { IfSome cut (λ n. n ≤ result) }
+{
+    match cut {
+        None => at,
+        Some(row) => row.max(at),
+    }
+}
+
 /// These new records, and after them those of the rows below, which are passed, since reading has stopped above their end: down to the
 /// first of the old rows below with which a section begins, or to the text's end. The old rows above row `cut` are not looked at.
 fn with_passed<L: Lines>(
@@ -104,32 +151,13 @@ fn with_passed<L: Lines>(
         &Spliced::new(old, read.from, read.old_end, &read.records),
         read.end,
     );
-    let first = match cut {
-        None => read.old_end,
-        Some(row) => row.max(read.old_end),
-    };
-    let (old_end, end, cut) = match next_start(old, first, last) {
-        None => (old.len(), lines.len(), None),
-        Some(row) => {
-            let end = row - read.old_end + read.end;
-            (row, end, Some(end))
-        }
-    };
-    let Rescanned {
-        from,
-        end: begin,
-        records,
-        ..
-    } = read;
-    let mut records = records;
-    pass(alloc, lines, begin, end, &mut records)?;
-    Ok(Rescanned {
-        from,
-        old_end,
-        end,
-        records,
-        cut,
-    })
+    if let Some(row) = next_start(old, first_below(cut, read.old_end), last) {
+        let end = row - read.old_end + read.end;
+        let to_row = passed_to(alloc, lines, read, row, end, Some(end))?;
+        return Ok(to_row);
+    }
+    let to_end = passed_to(alloc, lines, read, old.len(), lines.len(), None)?;
+    Ok(to_end)
 }
 
 /// The same as `rescan`, where the edit does not begin below the row at which the old records are cut.
