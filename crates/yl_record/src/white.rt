@@ -10,7 +10,7 @@ use yl_scalar::is_white;
 pub fn is_blank(text: &str) -> bool
     ensures { result ≡ is_blank (chars text.now) }
 {
-    text.chars().all(is_white)
+    text.chars().all(|c| is_white(c))
 }
 
 /// How many bytes at the front are spaces.
