@@ -9,7 +9,7 @@ use Rattle.yl_sections.specs.Kept.{KeptValue}
 use Rattle.yl_sections.specs.Judge.{KeptIsComputed, kept_of_section}
 use Rattle.yl_sections.specs.Laws.{OneKept}
 use Rattle.yl_sections.specs.Sections.{sections}
-use Rattle.yl_lint.specs.TextReport.{AreKept, IsReport, records_of, report_by}
+use Rattle.yl_lint.specs.TextReport.{AreKept, IsReport, Reporter, records_of, report_by}
 use Rattle.yl_lint.specs.Computed.{ReportIsComputed, kept_of_text, report}
 use Rattle.yl_lint.specs.Laws.{HasReport, OneReport}
 
@@ -47,3 +47,11 @@ pub if_report : {X E : Type 0} (config : Config) (rows : List RowValue) (items :
     → IfOk r (λ v. IsReport config rows (items v))
 if_report config rows items (Ok v) h same = is_report config rows (items v) h same
 if_report config rows items (Err e) h same = tt
+
+-- what computes the report tells it
+abbrev pub reporter : ReportIsComputed → (config : Config) → Reporter config
+reporter computed config = record { tells = report config; is = computed config }
+
+-- the one report is the computed one
+pub same_report : OneReport → ReportIsComputed → (config : Config) (rows : List RowValue) (problems : List ProblemValue) → IsReport config rows problems → problems ≡ report config rows
+same_report one computed config rows problems h = one config rows problems (report config rows) h (computed config rows)

@@ -124,3 +124,8 @@ pub record IsReport (config : Config) (rows : List RowValue) (problems : List Pr
   pub kept : List KeptValue
   pub are : AreKept config (sections (records_of rows)) kept
   pub put : problems ≡ report_by config rows kept
+
+-- tells the report of each text under a configuration
+pub record Reporter (config : Config) : Type 0 where
+  pub tells : List RowValue → List ProblemValue
+  pub is : (rows : List RowValue) → IsReport config rows (tells rows)
