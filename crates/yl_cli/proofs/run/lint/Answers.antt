@@ -19,7 +19,8 @@ returns-in-Err-clause-fault g c =
       writes_before = failures_of c.args.out.now;
       writes_after = failures_of c.args.out.now;
     })
-    _ _ _ c.in-Err.fault c.in-Err.ensures.fault
+    (g.R.Read.remaining (device_of c.args.input.now)) (g.R.Read.remaining (device_of c.read_text.new.input)) (g.W.Write.contents (device_of c.args.out.now))
+    c.in-Err.fault c.in-Err.ensures.fault
 
 pub returns-clause-output : goal.returns-clause-output
 returns-clause-output g c =
