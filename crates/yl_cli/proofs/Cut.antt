@@ -1,6 +1,6 @@
 -- Laws of commands of which only a part was read.
-use Rattle.std.proofs.Common.{◌≡◌, ◌≢◌, ℕ, suc, ◌<◌, Bool, true, false, cond, List, [], ◌∷◌, ◌++◌, length, drop, take, Option, None, Some, refl, sym, ap, subst, ◌∙◌, append_assoc}
-use Rattle.std.specs.Prelude.{◌==◌, nat_le, codes}
+use Rattle.std.proofs.Common.{◌≡◌, ◌≢◌, ℕ, zero, suc, ◌<◌, Bool, true, false, cond, List, [], ◌∷◌, ◌++◌, length, drop, take, Option, None, Some, refl, sym, ap, subst, ◌∙◌, append_assoc}
+use Rattle.std.specs.Prelude.{◌==◌}
 use Rattle.std.specs.Option.{option_map, option_map_or}
 use Rattle.std.specs.List.{slice_split}
 use Rattle.std.specs.Io.KnownBytes.{Consumes}
@@ -10,7 +10,7 @@ use Rattle.yl_cli.specs.declared.command.CommandLine.{CommandLine}
 use Rattle.yl_session.specs.Runs.{EditValue}
 use Rattle.yl_cli.specs.Command.{Next, Command, End, Bad, first_line, line_of_words, next_command, next_of_line}
 use Rattle.yl_cli.specs.Drive.{HasNoCommand, IsCut}
-use Rattle.yl_cli.specs.Reading.{IsLineCut, TakesLine}
+use Rattle.yl_cli.specs.Reading.{TakesLine}
 
 abbrev Line : Type 0
 Line = List ℕ × List ℕ
@@ -100,14 +100,6 @@ end_not_command e rest h = cc
 
 bad_not_command : (e : EditValue) (rest : List ℕ) → Bad ≢ Command e rest
 bad_not_command e rest h = cc
-
-no_line_no_command : (bytes : List ℕ) → first_line 62 bytes ≡ None → HasNoCommand bytes
-no_line_no_command [] h = end_not_command
-no_line_no_command (x ∷ xs) h = λ e rest is. bad_not_command e rest (sym (by_line x xs None h) ∙ is)
-
--- the reading of a line was cut short
-pub cut_in_line : (given left : Option (List ℕ)) → IsLineCut given left → IsCut given left
-cut_in_line given left cut = record { begun = cut.begun; consumed = cut.consumed; none = no_line_no_command cut.begun cut.none }
 
 -- a command that wants more bytes than there are
 too_few : (asked : CommandLine) (bytes : List ℕ) → length bytes < asked.size → next_of_line (Some asked) bytes ≡ Bad

@@ -100,8 +100,8 @@ pub record IsBegun (c : Config) (name : List ℕ) (flags : Flags) (text : List �
   pub written : AppendsFront d.before d.now (text_of_run reporter.tells name flags text edits answers)
 
 -- why a run over these bytes may end early: they are no text, which is looked at first; or they are one, and a device failed, whose failures rose,
--- no command stands next, as many commands were read as are counted, or memory was refused. On a failed read all that the commands are answered
--- is written which stand whole in what was read, and at a bad command all that those before it are
+-- no command stands next, as many commands were read as are counted, or memory was refused. On a failed read the answers to all commands are
+-- written that stand whole in what was read, and at a bad command those to all commands before it
 abbrev pub IsDriveFault : Config → (name : List ℕ) → Flags → (bytes : List ℕ) → Failures → Devices → RunFault → Type 0
 IsDriveFault c name flags bytes n d (fault.Text f) = IsBadText (without_mark bytes) f × Keeps d.before d.now
 IsDriveFault c name flags bytes n d fault.Read = IsText (without_mark bytes) × (n.reads_before < n.reads_after)

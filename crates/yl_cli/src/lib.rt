@@ -8,5 +8,5 @@ mod stream;
 
 pub use editing::drive;
 pub use run::{joined, lint, lint_bytes};
-pub use yl_args::{Asked, Flags, Source, Stop, asked};
+pub use yl_args::{Asked, Flags, Source, Stop, asked, asked_edit};
 pub use yl_devices::{BadText, ProgramFault, RunFault, say};

@@ -16,7 +16,8 @@ returns-in-Err-clause-fault g c =
       writes_before = failures_of c.args.out.now;
       writes_after = failures_of c.args.out.now;
     })
-    _ _ _ c.in-Err.fault c.in-Err.ensures.fault
+    (g.R.Read.remaining (device_of c.args.input.now)) (g.R.Read.remaining (device_of c.read_text.new.input)) (g.W.Write.contents (device_of c.args.out.now))
+    c.in-Err.fault c.in-Err.ensures.fault
 
 pub returns-clause-linted : goal.returns-clause-linted
 returns-clause-linted g c =

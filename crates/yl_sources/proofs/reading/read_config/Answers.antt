@@ -1,8 +1,3 @@
-use Rattle.std.proofs.Common.{List, ℕ, Result, sym, subst}
-use Rattle.yl_config.specs.declared.config.Config.{Config}
-use Rattle.yl_config.specs.declared.fault.ConfigFault.{ConfigFault}
-use Rattle.yl_config.specs.Answered.{settings_answer}
-use Rattle.yl_config.specs.Outcome.{IsConfigOf}
 use Rattle.yl_devices.proofs.Whole.{are_read}
 use Rattle.yl_sources.proofs.Read.{config_read}
 use Rattle.yl_sources.proofs.reading.read_config.Goals as goal
