@@ -20,7 +20,7 @@ use yl_chunks::{Chunks, Spliced};
 use yl_lexeme::Meter;
 use yl_record::Record;
 use yl_rejudge::{is_start_at, kind_before};
-use yl_text::{LineStore, Lines, Patched, Row, rows_fit};
+use yl_text::{LineStore, Lines, Patched, Row};
 
 /// What an edit does to a text's records: these come in place of those from `from` on, before `old_end`. They are those of the new
 /// text's rows from `from` on, before `end`. Rows are counted from 0. From row `cut` on, where there is one, the records that are kept
@@ -230,7 +230,6 @@ fn rescan_below<S: LineStore>(
     ensures documents { OnOk result (meter.new.documents ≡ meter.old.documents) }
 {
     let patched = Patched::new(store, a, b, rows);
-    rows_fit(&patched);
     let end = a + rows.len();
     let mut records = Vec::new(alloc);
     pass(alloc, &patched, cut, a, &mut records)?;

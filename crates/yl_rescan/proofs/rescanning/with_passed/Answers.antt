@@ -11,8 +11,9 @@ use Rattle.yl_rescan.proofs.rescanning.with_passed.Goals as goal
 pub kind_before-last-requires : goal.kind_before-last-requires
 kind_before-last-requires g c =
     let same = ap (λ (rs : List RecordValue). length rs) c.new.ensures in
-    let all = length-spliced c.args.old.now.items c.args.read.records.items c.args.read.from c.args.read.old_end c.requires.range.ordered c.requires.range.within in
-    omega (arith, same, all, c.requires.len)
+    let value = ap (λ (rs : List RecordValue). length rs) c.deref.ensures.value in
+    let all = length-spliced c.args.old.now.items c.deref.result.now c.args.read.from c.args.read.old_end c.requires.range.ordered c.requires.range.within in
+    omega (arith, same, value, all, c.requires.len)
 
 pub passed_to-to_row-requires : goal.passed_to-to_row-requires
 passed_to-to_row-requires g c =
@@ -32,7 +33,8 @@ returns-in-Some-clause-stops g c =
     let low = of_some c.next_start.result row (λ i. c.first_below.result ≤ i) c.in-Some.is c.next_start.ensures.from in
     stops_at_row es c.args.cut c.kind_before-last.result (kind_after None (take read.end (splice es read.from read.old_end read.records.items))) read.old_end read.end row r.to_row.old_end r.to_row.end
     (row - read.old_end + read.end) _ r.to_row.cut
-    (c.kind_before-last.ensures ∙ ap (λ (rs : List RecordValue). kind_after None (take read.end rs)) c.new.ensures) r.ensures.cut r.ensures.old_end r.ensures.end refl (omega (arith, low, c.first_below.ensures.least))
+    (c.kind_before-last.ensures
+    ∙ ap (λ (rs : List RecordValue). kind_after None (take read.end rs)) (c.new.ensures ∙ ap (λ (rs : List RecordValue). splice es read.from read.old_end rs) c.deref.ensures.value)) r.ensures.cut r.ensures.old_end r.ensures.end refl (omega (arith, low, c.first_below.ensures.least))
     (from_cut c.args.cut c.first_below.result row c.first_below.ensures.below low) (of_some c.next_start.result row (λ i. IsSome (state_of_row es i)) c.in-Some.is c.next_start.ensures.sound)
     (of_some c.next_start.result row (λ i. is_start_at es i ≡ true) c.in-Some.is c.next_start.ensures.start)
     (of_some c.next_start.result row (λ i. begins_section c.kind_before-last.result (drop i es) ≡ true) c.in-Some.is c.next_start.ensures.begins)
