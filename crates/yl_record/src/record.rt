@@ -2,6 +2,7 @@
 
 ghost use Rattle.std.specs.Prelude.{◌≡◌, ◌<◌, ◌^◌, ◌++◌, ◌∷◌, [], ℕ, List, None, Some, true, false, IfOk, OnOk, length};
 ghost use Rattle.std.specs.Str.{chars};
+ghost use Rattle.yl_text.specs.Character.{indentation, is_blank, is_white};
 ghost use Rattle.yl_row.specs.Entries.{Stopped};
 ghost use Rattle.yl_record.specs.Beside.{comment_beside, fault_beside, indentation_beside, state_beside};
 ghost use Rattle.yl_record.specs.Parts.{entry_with_last, entry_with_fault};
