@@ -73,7 +73,7 @@ CASES = [
     Case("yledit", ["f.yaml"], NO_START + "-- ok 0\n" + 2 * "-- refused Range\n", "", 0, b"replace 4294967296 0 0 0 0\nreplace 0 1 0 0 0\n"),
     Case("yledit", ["-s", "f.yaml"], NO_START + "-- ok 2\n", "", 2),
     Case("yledit", ["--no-warnings", "-s", "f.yaml"], "-- ok 2\n", "", 2),
-    Case("yledit", ["f.yaml"], NO_START + "-- ok 0\n", "yledit: bad command\n", 255, b"replace 0 0 1 0 9\nab"),
+    Case("yledit", ["f.yaml"], NO_START + "-- ok 0\n", "yledit: bad command\n", 255, b"replace 0 1 0 1 9\nab"),
     Case("yledit", ["f.yaml"], NO_START + "-- ok 0\n", "yledit: bad command\n", 255, b"\n"),
     Case("yledit", ["f.yaml"], NO_START + "-- ok 0\n", "yledit: bad command\n", 255, b"replace 0 0 1 0 67108865\n"),
     Case("yledit", ["f.yaml"], NO_START + "-- ok 0\n", "yledit: bad command\n", 255, b"replace 0 0 1 0 0"),

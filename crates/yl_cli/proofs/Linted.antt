@@ -3,7 +3,6 @@ use Rattle.std.proofs.Common.{ℕ, List, Option, Result, Ok, Err, IfSome, IfOk, 
 use Rattle.std.proofs.KnownBytes.{Keeps-refl}
 use Rattle.yl_text.specs.Fault.{IsText}
 use Rattle.yl_devices.specs.Text.{without_mark, IsBadText, IsReadFault}
-use Rattle.yl_devices.specs.Written.{AppendsFront}
 use Rattle.yl_devices.specs.declared.fault.BadText.TheVariants.{NotUtf8, TooLarge}
 use Rattle.yl_devices.specs.declared.fault.RunFault.{RunFault}
 use Rattle.yl_devices.specs.declared.fault.RunFault.TheVariants.{Read, Text, Write, Command, Memory}
@@ -17,29 +16,29 @@ all_linted given left bytes P (Ok code) read text p = text_is_all given left byt
 all_linted given left bytes P (Err f) read text p = tt
 
 -- the reading ended the run
-pub reading_ended : (printed : List ℕ → List ℕ) (n : Failures) (given left before : Option (List ℕ)) (f : RunFault) → IsReadFault n.reads_before n.reads_after f
-    → IsLintFault printed n (record { given = given; left = left; before = before; now = before }) f
-reading_ended printed n given left before Read h = (h, Keeps-refl before)
-reading_ended printed n given left before Memory h = Keeps-refl before
-reading_ended printed n given left before Write h = absurd h
-reading_ended printed n given left before Command h = absurd h
-reading_ended printed n given left before (Text f) h = absurd h
+pub reading_ended : (begun : List ℕ → Type 0) (n : Failures) (given left before : Option (List ℕ)) (f : RunFault) → IsReadFault n.reads_before n.reads_after f
+    → IsLintFault begun n (record { given = given; left = left; before = before; now = before }) f
+reading_ended begun n given left before Read h = (h, Keeps-refl before)
+reading_ended begun n given left before Memory h = Keeps-refl before
+reading_ended begun n given left before Write h = absurd h
+reading_ended begun n given left before Command h = absurd h
+reading_ended begun n given left before (Text f) h = absurd h
 
 -- the report of what was read ended the run
-lint_fault : (printed : List ℕ → List ℕ) (n : Failures) (d : Devices) (bytes : List ℕ) (f : RunFault) → AreRead d.given d.left bytes
-    → IsReportFault bytes (printed bytes) n.writes_before n.writes_after d.before d.now f → IsLintFault printed n d f
-lint_fault printed n d bytes (Text (NotUtf8 v)) read h = (text_is_all d.given d.left bytes (λ all. IsBadText (without_mark all) (NotUtf8 v)) read h.0.0 h.0, h.1)
-lint_fault printed n d bytes (Text TooLarge) read h = (too_many d.given d.left bytes read h.0, h.1)
-lint_fault printed n d bytes Write read h =
-    (h.1, text_is_all d.given d.left bytes (λ all. IsText (without_mark all) × AppendsFront d.before d.now (printed all)) read h.0.short (h.0, h.2))
-lint_fault printed n d bytes Memory read h = h.1
-lint_fault printed n d bytes Read read h = absurd h
-lint_fault printed n d bytes Command read h = absurd h
+lint_fault : (begun : List ℕ → Type 0) (n : Failures) (d : Devices) (bytes : List ℕ) (f : RunFault) → AreRead d.given d.left bytes
+    → IsReportFault bytes (begun bytes) n.writes_before n.writes_after d.before d.now f → IsLintFault begun n d f
+lint_fault begun n d bytes (Text (NotUtf8 v)) read h = (text_is_all d.given d.left bytes (λ all. IsBadText (without_mark all) (NotUtf8 v)) read h.0.0 h.0, h.1)
+lint_fault begun n d bytes (Text TooLarge) read h = (too_many d.given d.left bytes read h.0, h.1)
+lint_fault begun n d bytes Write read h =
+    (h.1, text_is_all d.given d.left bytes (λ all. IsText (without_mark all) × begun all) read h.0.short (h.0, h.2))
+lint_fault begun n d bytes Memory read h = h.1
+lint_fault begun n d bytes Read read h = absurd h
+lint_fault begun n d bytes Command read h = absurd h
 
-pub lint_ended : (printed : List ℕ → List ℕ) (n : Failures) (d : Devices) (bytes : List ℕ) (r : Result ℕ RunFault) → AreRead d.given d.left bytes
-    → IfErr r (IsReportFault bytes (printed bytes) n.writes_before n.writes_after d.before d.now) → IfErr r (IsLintFault printed n d)
-lint_ended printed n d bytes (Ok code) read h = tt
-lint_ended printed n d bytes (Err f) read h = lint_fault printed n d bytes f read h
+pub lint_ended : (begun : List ℕ → Type 0) (n : Failures) (d : Devices) (bytes : List ℕ) (r : Result ℕ RunFault) → AreRead d.given d.left bytes
+    → IfErr r (IsReportFault bytes (begun bytes) n.writes_before n.writes_after d.before d.now) → IfErr r (IsLintFault begun n d)
+lint_ended begun n d bytes (Ok code) read h = tt
+lint_ended begun n d bytes (Err f) read h = lint_fault begun n d bytes f read h
 
 -- what holds at any result
 pub on_ok : {T E P : Type 0} (r : Result T E) → P → OnOk r P

@@ -1,7 +1,12 @@
 -- Meaning: how a run may end early.
-use Rattle.std.specs.Prelude.{ℕ, ◌<◌, ◌==◌, ◌||◌, if◌then◌else◌, List, Option, IfSome}
-use Rattle.std.specs.Io.KnownBytes.{Keeps}
+use Rattle.std.specs.Prelude.{◌≡◌, ℕ, ◌<◌, ◌==◌, ◌||◌, if◌then◌else◌, List, Option, IfSome}
+use Rattle.std.specs.Io.KnownBytes.{Appends, Keeps}
 use Rattle.yl_text.specs.Fault.{IsText}
+use Rattle.yl_text.specs.Lines.{lines_of}
+use Rattle.yl_config.specs.declared.config.Config.{Config}
+use Rattle.yl_report.specs.Report.{ProblemValue, report_text, status_of}
+use Rattle.yl_lint.specs.TextReport.{IsReport}
+use Rattle.yl_args.specs.declared.answer.Flags.{Flags}
 use Rattle.yl_devices.specs.Written.{AppendsFront}
 use Rattle.yl_devices.specs.declared.fault.RunFault.{RunFault}
 use Rattle.yl_devices.specs.declared.fault.RunFault.TheVariants.{Read, Text, Write, Command, Memory}
@@ -21,22 +26,35 @@ pub record Devices : Type 0 where
   pub before : Option (List ℕ)
   pub now : Option (List ℕ)
 
--- what is to be printed of these bytes is not out as a whole: they are no text; or they are one, and the writer's failures rose, or memory was
--- refused. On a failed write a beginning is out, and else nothing
-abbrev pub IsReportFault : (bytes printed : List ℕ) → (failures failures_after : ℕ) → (before now : Option (List ℕ)) → RunFault → Type 0
-IsReportFault bytes printed m n before now (Text f) = IsBadText (without_mark bytes) f × Keeps before now
-IsReportFault bytes printed m n before now Write = IsText (without_mark bytes) × (m < n) × AppendsFront before now printed
-IsReportFault bytes printed m n before now Memory = IsText (without_mark bytes) × Keeps before now
-IsReportFault bytes printed m n before now Read = ⊥
-IsReportFault bytes printed m n before now Command = ⊥
+-- the report of these bytes, less a mark, is printed, and this is its status
+pub record IsLinted (c : Config) (name : List ℕ) (flags : Flags) (bytes : List ℕ) (before now : Option (List ℕ)) (status : ℕ) : Type 0 where
+  pub problems : List ProblemValue
+  pub is : IsReport c (lines_of (without_mark bytes)) problems
+  pub written : Appends before now (report_text name problems flags.no_warnings)
+  pub is_status : status ≡ status_of problems flags.strict
+
+-- a beginning of it is
+pub record IsLintBegun (c : Config) (name : List ℕ) (flags : Flags) (bytes : List ℕ) (before now : Option (List ℕ)) : Type 0 where
+  pub problems : List ProblemValue
+  pub is : IsReport c (lines_of (without_mark bytes)) problems
+  pub written : AppendsFront before now (report_text name problems flags.no_warnings)
+
+-- why the report of these bytes is not printed as a whole: they are no text; or they are one, and the writer's failures rose, or memory was
+-- refused. On a failed write it is begun, and else nothing is out
+abbrev pub IsReportFault : (bytes : List ℕ) → (begun : Type 0) → (failures failures_after : ℕ) → (before now : Option (List ℕ)) → RunFault → Type 0
+IsReportFault bytes begun m n before now (Text f) = IsBadText (without_mark bytes) f × Keeps before now
+IsReportFault bytes begun m n before now Write = IsText (without_mark bytes) × (m < n) × begun
+IsReportFault bytes begun m n before now Memory = IsText (without_mark bytes) × Keeps before now
+IsReportFault bytes begun m n before now Read = ⊥
+IsReportFault bytes begun m n before now Command = ⊥
 
 -- the same where a reader gives the bytes: `Read` only where its failures rose. Memory may be refused while they are read, too
-abbrev pub IsLintFault : (printed : List ℕ → List ℕ) → Failures → Devices → RunFault → Type 0
-IsLintFault printed n d Read = (n.reads_before < n.reads_after) × Keeps d.before d.now
-IsLintFault printed n d (Text f) = IfSome d.given (λ bytes. IsBadText (without_mark bytes) f) × Keeps d.before d.now
-IsLintFault printed n d Write = (n.writes_before < n.writes_after) × IfSome d.given (λ bytes. IsText (without_mark bytes) × AppendsFront d.before d.now (printed bytes))
-IsLintFault printed n d Memory = Keeps d.before d.now
-IsLintFault printed n d Command = ⊥
+abbrev pub IsLintFault : (begun : List ℕ → Type 0) → Failures → Devices → RunFault → Type 0
+IsLintFault begun n d Read = (n.reads_before < n.reads_after) × Keeps d.before d.now
+IsLintFault begun n d (Text f) = IfSome d.given (λ bytes. IsBadText (without_mark bytes) f) × Keeps d.before d.now
+IsLintFault begun n d Write = (n.writes_before < n.writes_after) × IfSome d.given (λ bytes. IsText (without_mark bytes) × begun bytes)
+IsLintFault begun n d Memory = Keeps d.before d.now
+IsLintFault begun n d Command = ⊥
 
 -- 1 if one of two is 1, else 2 if one is 2, else 0
 abbrev pub joined_status : ℕ → ℕ → ℕ

@@ -9,6 +9,7 @@ ghost use Rattle.yl_text.specs.Fault.{IsText};
 ghost use Rattle.yl_text.specs.Watched.{device_of, failures_of};
 ghost use Rattle.yl_config.specs.declared.config.Config.{Config};
 ghost use Rattle.yl_devices.specs.Written.{AppendsFront};
+ghost use Rattle.yl_lint.specs.Computed.{report};
 ghost use Rattle.yl_session.specs.State.{Shows};
 ghost use Rattle.yl_devices.specs.Text.{without_mark};
 ghost use Rattle.yl_cli.specs.Drive.{IsDriveFault, IsDriven, ok_line, refusal_name, shown_lines};
@@ -20,6 +21,7 @@ use std::io::{Read, Write};
 use yl_args::Flags;
 use yl_config::Config;
 use yl_devices::{Ahead, RunFault, WriteFault, text_of, write_parts};
+use yl_lint::one_report;
 use yl_report::write_report;
 use yl_session::{Edit, Session, Work};
 use yl_text::{LineStore, TextFault, Watched};
@@ -103,12 +105,13 @@ fn show<S: LineStore, W: Write>(
 ) -> Result<(), WriteFault>
     requires { failures_of out.old < 2 ^ 64 - 1 }
     ensures ok { OnOk result (Appends (W.contents (device_of out.old)) (W.contents (device_of out.new))
-        (shown_lines session.now.config name.now flags session.now.rows scanned)) }
+        (shown_lines (report session.now.config) name.now flags session.now.rows scanned)) }
     ensures quiet { OnOk result (failures_of out.new ≡ failures_of out.old) }
     ensures err { OnErr result (AppendsFront (W.contents (device_of out.old)) (W.contents (device_of out.new))
-        (shown_lines session.now.config name.now flags session.now.rows scanned)) }
+        (shown_lines (report session.now.config) name.now flags session.now.rows scanned)) }
     ensures failed { OnErr result (failures_of out.old < failures_of out.new) }
 {
+    one_report();
     write_report(name, session.problems(), flags.no_warnings, out)?;
     write_ok(session.status(flags.strict), scanned, out)
 }
@@ -194,6 +197,7 @@ pub fn drive<S: LineStore, R: Read, W: Write>(
           now = W.contents (device_of out.new);
         })) }
 {
+    one_report();
     let text = match text_of(text) {
         Ok(text) => text,
         Err(fault) => return Err(RunFault::Text(fault)),

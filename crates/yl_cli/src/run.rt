@@ -1,13 +1,9 @@
 //! A file linted from its bytes to printed lines and a status.
 ghost use Rattle.std.specs.Prelude.{◌≡◌, ◌-◌, ◌^◌, ◌<◌, IfOk, IfErr, IfSome, OnOk};
-ghost use Rattle.std.specs.Io.KnownBytes.{Appends};
 ghost use Rattle.yl_text.specs.Fault.{IsText};
-ghost use Rattle.yl_text.specs.Lines.{lines_of};
 ghost use Rattle.yl_text.specs.Watched.{device_of, failures_of};
-ghost use Rattle.yl_report.specs.Report.{report_text, status_of};
-ghost use Rattle.yl_lint.specs.TextReport.{report};
 ghost use Rattle.yl_devices.specs.Text.{without_mark, TakesAtMost};
-ghost use Rattle.yl_cli.specs.Run.{IsLintFault, IsReportFault, joined_status};
+ghost use Rattle.yl_cli.specs.Run.{IsLintBegun, IsLinted, IsLintFault, IsReportFault, joined_status};
 
 use std::alloc::Allocator;
 use std::io::{Read, Write};
@@ -33,13 +29,10 @@ pub fn lint_bytes<A: Allocator + Copy, W: Write>(
     out: &mut Watched<W>,
 ) -> Result<u8, RunFault>
     requires { failures_of out.old < 2 ^ 64 - 1 }
-    ensures output { OnOk result (Appends (W.contents (device_of out.old)) (W.contents (device_of out.new))
-        (report_text name.now (report config.now (lines_of (without_mark bytes.now))) flags.no_warnings)) }
-    ensures code { IfOk result (λ code. code ≡ status_of (report config.now (lines_of (without_mark bytes.now))) flags.strict) }
+    ensures linted { IfOk result (λ code. IsLinted config.now name.now flags bytes.now (W.contents (device_of out.old)) (W.contents (device_of out.new)) code) }
     ensures is_text { OnOk result (IsText (without_mark bytes.now)) }
     ensures quiet { OnOk result (failures_of out.new ≡ failures_of out.old) }
-    ensures fault { IfErr result (IsReportFault bytes.now
-        (report_text name.now (report config.now (lines_of (without_mark bytes.now))) flags.no_warnings)
+    ensures fault { IfErr result (IsReportFault bytes.now (IsLintBegun config.now name.now flags bytes.now (W.contents (device_of out.old)) (W.contents (device_of out.new)))
         (failures_of out.old) (failures_of out.new) (W.contents (device_of out.old)) (W.contents (device_of out.new))) }
 {
     let text = match text_of(bytes) {
@@ -68,17 +61,14 @@ pub fn lint<A: Allocator + Copy, R: Read, W: Write>(
 ) -> Result<u8, RunFault>
     requires reader { failures_of input.old < 2 ^ 64 - 1 }
     requires writer { failures_of out.old < 2 ^ 64 - 1 }
-    ensures output { OnOk result (IfSome (R.remaining (device_of input.old)) (λ bytes.
-        Appends (W.contents (device_of out.old)) (W.contents (device_of out.new))
-        (report_text name.now (report config.now (lines_of (without_mark bytes))) flags.no_warnings))) }
-    ensures code { IfOk result (λ code. IfSome (R.remaining (device_of input.old)) (λ bytes.
-        code ≡ status_of (report config.now (lines_of (without_mark bytes))) flags.strict)) }
+    ensures linted { IfOk result (λ code. IfSome (R.remaining (device_of input.old)) (λ bytes.
+        IsLinted config.now name.now flags bytes (W.contents (device_of out.old)) (W.contents (device_of out.new)) code)) }
     ensures is_text { OnOk result (IfSome (R.remaining (device_of input.old)) (λ bytes. IsText (without_mark bytes))) }
     ensures read { TakesAtMost MOST_READ (R.remaining (device_of input.old)) (R.remaining (device_of input.new)) }
     ensures reader_quiet { OnOk result (failures_of input.new ≡ failures_of input.old) }
     ensures writer_quiet { OnOk result (failures_of out.new ≡ failures_of out.old) }
     ensures fault { IfErr result (IsLintFault
-        (λ bytes. report_text name.now (report config.now (lines_of (without_mark bytes))) flags.no_warnings) (record {
+        (λ bytes. IsLintBegun config.now name.now flags bytes (W.contents (device_of out.old)) (W.contents (device_of out.new))) (record {
           reads_before = failures_of input.old;
           reads_after = failures_of input.new;
           writes_before = failures_of out.old;

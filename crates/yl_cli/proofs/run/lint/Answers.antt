@@ -1,18 +1,15 @@
 use Rattle.std.proofs.Common.{◌≡◌, ℕ, List}
-use Rattle.std.specs.Io.KnownBytes.{Appends}
 use Rattle.yl_text.specs.Fault.{IsText}
-use Rattle.yl_text.specs.Lines.{lines_of}
 use Rattle.yl_text.specs.Watched.{device_of, failures_of}
-use Rattle.yl_report.specs.Report.{report_text, status_of}
-use Rattle.yl_lint.specs.TextReport.{report}
 use Rattle.yl_devices.specs.Text.{without_mark}
 use Rattle.yl_devices.proofs.Whole.{are_read}
+use Rattle.yl_cli.specs.Run.{IsLintBegun, IsLinted}
 use Rattle.yl_cli.proofs.Linted.{all_linted, lint_ended, on_ok, reading_ended}
 use Rattle.yl_cli.proofs.run.lint.Goals as goal
 
 pub returns-in-Err-clause-fault : goal.returns-in-Err-clause-fault
 returns-in-Err-clause-fault g c =
-    reading_ended (λ (bytes : List ℕ). report_text c.args.name.now (report c.args.config.now (lines_of (without_mark bytes))) c.args.flags.no_warnings)
+    reading_ended (λ (bytes : List ℕ). IsLintBegun c.args.config.now c.args.name.now c.args.flags bytes (g.W.Write.contents (device_of c.args.out.now)) (g.W.Write.contents (device_of c.args.out.now)))
     (record {
       reads_before = failures_of c.args.input.now;
       reads_after = failures_of c.read_text.new.input;
@@ -22,23 +19,14 @@ returns-in-Err-clause-fault g c =
     (g.R.Read.remaining (device_of c.args.input.now)) (g.R.Read.remaining (device_of c.read_text.new.input)) (g.W.Write.contents (device_of c.args.out.now))
     c.in-Err.fault c.in-Err.ensures.fault
 
-pub returns-clause-output : goal.returns-clause-output
-returns-clause-output g c =
+pub returns-clause-linted : goal.returns-clause-linted
+returns-clause-linted g c =
     let given = g.R.Read.remaining (device_of c.args.input.now) in
     let left = g.R.Read.remaining (device_of c.read_text.new.input) in
     let read = are_read given left c.in-Ok.bytes.items c.as_slice.result.now _ c.in-Ok.ensures.read c.in-Ok.ensures.end c.as_slice.ensures.value c.as_slice.ensures.len in
     all_linted given left c.as_slice.result.now
-    (λ (code : ℕ) (bytes : List ℕ). Appends (g.W.Write.contents (device_of c.args.out.now)) (g.W.Write.contents (device_of c.lint_bytes.new.out))
-    (report_text c.args.name.now (report c.args.config.now (lines_of (without_mark bytes))) c.args.flags.no_warnings))
-    c.lint_bytes.result read c.lint_bytes.ensures.is_text c.lint_bytes.ensures.output
-
-pub returns-clause-code : goal.returns-clause-code
-returns-clause-code g c =
-    let given = g.R.Read.remaining (device_of c.args.input.now) in
-    let left = g.R.Read.remaining (device_of c.read_text.new.input) in
-    let read = are_read given left c.in-Ok.bytes.items c.as_slice.result.now _ c.in-Ok.ensures.read c.in-Ok.ensures.end c.as_slice.ensures.value c.as_slice.ensures.len in
-    all_linted given left c.as_slice.result.now (λ (code : ℕ) (bytes : List ℕ). code ≡ status_of (report c.args.config.now (lines_of (without_mark bytes))) c.args.flags.strict)
-    c.lint_bytes.result read c.lint_bytes.ensures.is_text c.lint_bytes.ensures.code
+    (λ (code : ℕ) (bytes : List ℕ). IsLinted c.args.config.now c.args.name.now c.args.flags bytes (g.W.Write.contents (device_of c.args.out.now)) (g.W.Write.contents (device_of c.lint_bytes.new.out)) code)
+    c.lint_bytes.result read c.lint_bytes.ensures.is_text c.lint_bytes.ensures.linted
 
 pub returns-clause-is_text : goal.returns-clause-is_text
 returns-clause-is_text g c =
@@ -54,7 +42,7 @@ pub returns-clause-fault : goal.returns-clause-fault
 returns-clause-fault g c =
     let given = g.R.Read.remaining (device_of c.args.input.now) in
     let left = g.R.Read.remaining (device_of c.read_text.new.input) in
-    lint_ended (λ (bytes : List ℕ). report_text c.args.name.now (report c.args.config.now (lines_of (without_mark bytes))) c.args.flags.no_warnings)
+    lint_ended (λ (bytes : List ℕ). IsLintBegun c.args.config.now c.args.name.now c.args.flags bytes (g.W.Write.contents (device_of c.args.out.now)) (g.W.Write.contents (device_of c.lint_bytes.new.out)))
     (record {
       reads_before = failures_of c.args.input.now;
       reads_after = failures_of c.read_text.new.input;
