@@ -9,5 +9,5 @@ loop-i-preserved g c = record {
   begun = grind (arith, common_steps);
   len = grind (arith, common_steps);
   taken = grind (arith, common_steps);
-  unbroken = none_more 62 c.loop-i.line.items c.in-Some.byte (search rules) c.loop-i.invariant.unbroken;
+  unbroken = none_more 62 c.loop-i.line.items c.in-Some.byte (grind (arith, common_steps)) c.loop-i.invariant.unbroken;
 }
