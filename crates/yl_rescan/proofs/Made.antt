@@ -26,7 +26,7 @@ use Rattle.yl_rescan.proofs.Edits.{both_agree, front_again, grown, is_restart, i
 use Rattle.yl_rescan.proofs.Held.{held_length, made_front, made_whole, true_front, true_state}
 use Rattle.yl_rescan.proofs.Outcomes.{alike_above, alike_by, alike_cut, alike_there, behind, cut_on, cut_there, not_kept, nothing_left, start_under, whole_agreed, whole_cut}
 use Rattle.yl_rescan.proofs.Passed.{passed_told}
-use Rattle.yl_rescan.proofs.Passing.{passed_bounds, passed_to}
+use Rattle.yl_rescan.proofs.RowsPassed.{passed_bounds, passed_to}
 use Rattle.yl_rescan.proofs.Rows.{records_length, records_state, stopped_below}
 
 differ : (t : Bool) → t ≡ true → t ≡ false → ⊥
