@@ -59,11 +59,11 @@ fn next_cut(why: ScanEnd, cut: Option<usize>, at: usize, end: usize) -> Option<u
 
 /// Whether what is kept behind the new records may be: a section begins with the row at which they are cut, or it is the new text's. Where
 /// reading has stopped above the edit, in both texts, a section begins with that row as it did.
-fn may_keep<A: Allocator + Copy>(
-    old: &Chunks<Record<A>, A>,
+fn may_keep<'a, A: Allocator + Copy>(
+    old: &'a Chunks<Record<A>, A>,
     from: usize,
     at: usize,
-    new: &[Record<A>],
+    new: &'a [Record<A>],
     why: ScanEnd,
     cut: Option<usize>,
     is_below_fault: bool,
