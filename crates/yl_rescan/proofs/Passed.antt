@@ -5,7 +5,7 @@ use Rattle.std.specs.Str.{chars}
 use Rattle.std.specs.List.{AllByRecursion}
 use Rattle.std.proofs.lemmas.Bool.{cases_lt}
 use Rattle.std.proofs.lemmas.List.{same_lists, places, length-drop, length-map, length-take-le, drop-map}
-use Rattle.std.proofs.Common.{append_assoc, append_nil}
+use Rattle.std.proofs.Common.{append_assoc, append-nil}
 use Rattle.yl_text.specs.Character.{indentation, is_blank}
 use Rattle.yl_text.specs.Lines.{RowValue}
 use Rattle.yl_lexeme.specs.declared.lexeme.Kind.{Kind}
@@ -364,7 +364,7 @@ passed_length qs from end l = omega (arith, records_from_length Stopped (drop fr
 -- ---- loops over rows that are passed, and rows that are fed
 
 pub nothing_passed : (xs : List RecordValue) (qs : List (List ℕ)) (k : ℕ) → xs ≡ xs ++ records_from Stopped (drop k (take k qs))
-nothing_passed xs qs k = sym (append_nil xs) ∙ ap (λ (ys : List (List ℕ)). xs ++ records_from Stopped ys) (sym (none_taken qs k))
+nothing_passed xs qs k = sym (append-nil xs) ∙ ap (λ (ys : List (List ℕ)). xs ++ records_from Stopped ys) (sym (none_taken qs k))
 
 pub one_passed : (xs ys zs : List RecordValue) (rows : List RowValue) (from i : ℕ) (row : RowValue) (text : List ℕ) (r : RecordValue) → zs ≡ ys ++ r ∷ []
     → ys ≡ xs ++ records_from Stopped (drop from (take i (characters_in rows))) → from ≤ i → slice_get rows i ≡ Some row → text ≡ row.text → records_from Stopped (chars text ∷ []) ≡ r ∷ records_from Stopped []
@@ -385,4 +385,4 @@ nothing_fed told qs k h rest = h rest ∙ ap (λ (ys : List (List ℕ)). records
 pub all_fed : (told : List (List ℕ) → List RecordValue) (qs : List (List ℕ)) (from i end : ℕ) (items : List RecordValue) → i ≡ end → ((rest : List (List ℕ)) → told rest ≡ records_from Stopped (drop from (take i qs) ++ rest)) → items ≡ told []
     → items ≡ records_from Stopped (drop from (take end qs))
 all_fed told qs from i end items ended h is =
-    is ∙ (h [] ∙ ap (λ (ys : List (List ℕ)). records_from Stopped ys) (append_nil (drop from (take i qs)) ∙ ap (λ k. drop from (take k qs)) ended))
+    is ∙ (h [] ∙ ap (λ (ys : List (List ℕ)). records_from Stopped ys) (append-nil (drop from (take i qs)) ∙ ap (λ k. drop from (take k qs)) ended))

@@ -38,8 +38,8 @@ feed_stopped-requires g c =
       meter = omega (arith, same, few.2, c.requires.meter);
     }
 
-pub with_passed-rescanned-requires : goal.with_passed-rescanned-requires
-with_passed-rescanned-requires g c =
+pub with_passed-requires : goal.with_passed-requires
+with_passed-requires g c =
     let ps = g.S.Lines.rows c.args.store.now in
     let ns = c.args.rows.now in
     let us = c.new-patched.result in
@@ -50,7 +50,7 @@ with_passed-rescanned-requires g c =
     let grown = length-spliced ps ns c.args.a c.args.b c.requires.range.ordered c.requires.range.within in
     let count = held_length (characters_in ps) (Some c.args.cut) es c.requires.held in
     let total = characters_length us in
-    let none = ap (λ (rs : List RecordValue). length rs) c.new.ensures.items in
+    let none = ap (λ (rs : List RecordValue). length rs) c.new-records.ensures.items in
     let first = ap (λ (rs : List RecordValue). length rs) c.in_ok-pass.ensures in
     let second = ap (λ (rs : List RecordValue). length rs) c.in_ok-feed_stopped.ensures.records in
     let xs = records_from Stopped (drop c.args.cut (take c.args.a qs)) in
@@ -65,7 +65,7 @@ with_passed-rescanned-requires g c =
         none,
         first,
         second,
-        length-append c.new.result.items xs,
+        length-append c.new-records.result.items xs,
         length-append c.pass.new.records.items ys,
         passed_length qs c.args.cut c.args.a (omega (arith, total, same, few.3)),
         passed_length qs c.args.a (c.args.a + length ns) (omega (arith, total, same, few.3)),
@@ -87,5 +87,5 @@ returns-clause-made g c =
     (omega (arith, counted, c.requires.meter))
     (passed_below_rows ps ns us c.args.a c.args.b c.requires.range c.new-patched.ensures c.args.cut es c.requires.held c.requires.below c.requires.lines c.pass.new.records.items c.feed_stopped.new.records.items
     r.rescanned.records.items r.rescanned.cut r.rescanned.old_end r.rescanned.end
-    (c.in_ok-pass.ensures ∙ ap (λ (rs : List RecordValue). rs ++ records_from Stopped (drop c.args.cut (take c.args.a (characters_in us)))) c.new.ensures.items)
+    (c.in_ok-pass.ensures ∙ ap (λ (rs : List RecordValue). rs ++ records_from Stopped (drop c.args.cut (take c.args.a (characters_in us)))) c.new-records.ensures.items)
     c.in_ok-feed_stopped.ensures.records more.stops more.records)

@@ -15,8 +15,8 @@ kind_before-last-requires g c =
     let all = length-spliced c.args.old.now.items c.deref.result.now c.args.read.from c.args.read.old_end c.requires.range.ordered c.requires.range.within in
     omega (arith, same, value, all, c.requires.len)
 
-pub passed_to-to_row-requires : goal.passed_to-to_row-requires
-passed_to-to_row-requires g c =
+pub passed_to-requires : goal.passed_to-requires
+passed_to-requires g c =
     let es = c.args.old.now.items in
     let row = c.in-Some.row in
     let low = of_some c.next_start.result row (λ i. c.first_below.result ≤ i) c.in-Some.is c.next_start.ensures.from in
