@@ -73,8 +73,12 @@ fn may_keep<'a, A: Allocator + Copy>(
     ensures kept { result ≡ true → ((why ≡ Agreed) × (is_below_fault ≡ true)) ⊎ MayKeep (splice old.now.items from at new.now) why cut }
     ensures refused { result ≡ false → MayKeep (splice old.now.items from at new.now) why cut → ⊥ }
 {
+    if is_below_fault {
+        if let ScanEnd::Agreed = why {
+            return true;
+        }
+    }
     match (why, cut) {
-        (ScanEnd::Agreed, Some(_)) if is_below_fault => true,
         (_, Some(row)) => is_start_at(&Spliced::new(old, from, at, new), row),
         (ScanEnd::Halted, None) => false,
         _ => true,
