@@ -100,8 +100,8 @@ may_keep-requires-clause-few g c =
     let many = ap (λ (rs : List RecordValue). length rs) (c.deref.ensures.value ∙ c.in_ok-found.ensures.records) in
     omega (arith, few.0, few.2, same, count, characters_length ps, many, length-take (c.in_ok-found.found.end - row) (drop row all), length-drop row all, records_length (characters_in us), characters_length us)
 
-pub with_passed-rescanned-requires : goal.with_passed-rescanned-requires
-with_passed-rescanned-requires g c =
+pub with_passed-requires : goal.with_passed-requires
+with_passed-requires g c =
     let ps = g.S.Lines.rows c.args.store.now in
     let ns = c.args.rows.now in
     let us = c.new-patched.result in
