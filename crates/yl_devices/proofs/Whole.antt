@@ -54,6 +54,6 @@ too_many (Some all) None bytes read many = absurd read.taken
 too_many (Some all) (Some rest) bytes read many =
     let P : List ℕ → Type 0 = λ l. 67108864 < length (without_mark l) in
     elim (leb_tells 67108868 (length bytes)) [
-      inl enough ↦ subst P (sym read.taken) (many_more bytes rest enough.1)
-    | inr fewer ↦ of_all (Some all) bytes P (all_taken (Some all) (Some rest) bytes read.taken (read.end fewer.1)) many
+      | inl enough ↦ subst P (sym read.taken) (many_more bytes rest enough.1)
+      | inr fewer ↦ of_all (Some all) bytes P (all_taken (Some all) (Some rest) bytes read.taken (read.end fewer.1)) many
     ]

@@ -32,11 +32,7 @@ fn edited(rt: &HostRuntime, file: &str, asked: &Asked, config: Config) -> u8 {
     );
     match answer {
         Ok(status) => status,
-        Err(RunFault::Read) => stopped(
-            rt,
-            NAME,
-            &ProgramFault::Run("stdin", RunFault::Read),
-        ),
+        Err(RunFault::Read) => stopped(rt, NAME, &ProgramFault::Run("stdin", RunFault::Read)),
         Err(fault) => stopped(rt, NAME, &ProgramFault::Run(file, fault)),
     }
 }
