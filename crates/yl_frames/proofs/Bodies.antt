@@ -20,7 +20,7 @@ ahead_taken a n (Some xs) = ap (λ l. l ++ xs) (sym (take-append-drop n a)) ∙ 
 -- the first n bytes of those read ahead are taken next
 pub more_taken : {X : Type 0} (items : X → List ℕ) (given mid rest : Option (List ℕ)) (count m n : ℕ) (old new : Option X) (a b piece : List ℕ) → TakenSoFar given mid count old items → Keeps mid (prepend_known a rest) → b ≡ drop n a
     → IfSome new (λ y. IsSomeAnd old (λ x. items y ≡ items x ++ piece)) → piece ≡ take n a → n ≤ length a → m ≡ count + n → TakenSoFar given (prepend_known b rest) m new items
-more_taken items given mid rest count m n old new a b piece f k e more is within sum = record {
+more_taken {X = X} items given mid rest count m n old new a b piece f k e more is within sum = record {
   taken = f.taken ++ take n a;
   consumed = subst (λ (l : List ℕ). Consumes given (prepend_known l rest) (f.taken ++ take n a)) (sym e)
       (Consumes-trans given (prepend_known a rest) (prepend_known (drop n a) rest) f.taken (take n a) (Consumes-kept given mid (prepend_known a rest) f.taken f.consumed k) (ahead_taken a n rest));
@@ -71,13 +71,13 @@ message_read (Some all) (Some xs) left n found.End h some b = absurd b
 message_read (Some all) (Some xs) left n found.Bad h some b = after_header all xs n some h ∙ no_body n xs b
 
 -- no header begins here
-pub none_read : {A : Type 0} (given left : Option (List ℕ)) → IfSome given (λ all. header_of all ≡ None) → IfSome given (λ all. all ≢ []) → IsNext {A = A} given left found.Bad
-none_read None left h some = tt
-none_read (Some all) left h some = next_at all some ∙ ap (λ (o : Option (ℕ × List ℕ)). option_map_or (λ p. next_of_length p.0 p.1) o Bad) h
+pub none_read : (A : Type 0) (given left : Option (List ℕ)) → IfSome given (λ all. header_of all ≡ None) → IfSome given (λ all. all ≢ []) → IsNext {A = A} given left found.Bad
+none_read A None left h some = tt
+none_read A (Some all) left h some = next_at all some ∙ ap (λ (o : Option (ℕ × List ℕ)). option_map_or (λ p. next_of_length p.0 p.1) o Bad) h
 
-pub end_read : {A : Type 0} (given left : Option (List ℕ)) → IsAtEnd given → IsNext {A = A} given left found.End
-end_read None left e = tt
-end_read (Some all) left e = ap next_body e
+pub end_read : (A : Type 0) (given left : Option (List ℕ)) → IsAtEnd given → IsNext {A = A} given left found.End
+end_read A None left e = tt
+end_read A (Some all) left e = ap next_body e
 
 -- more bytes were read ahead before
 pub next_kept : {A : Type 0} (given mid left : Option (List ℕ)) (next : NextBody A) → Keeps given mid → IsNext mid left next → IsNext given left next

@@ -1,6 +1,6 @@
 -- Meaning: escapes of surrogates in a body. RFC 8259 (chapter 8.2) leaves open what `\uD800` to `\uDFFF` mean without their partner. An editor that
 -- holds its text in UTF-16 sends them while a pair is typed. Here each of these is read as U+FFFD.
-use Rattle.std.specs.Prelude.{ℕ, ◌&&◌, ◌||◌, ◌==◌, not, if◌then◌else◌, Bool, true, false, List, [], ◌∷◌, ◌++◌, codes, Option, Some, None}
+use Rattle.std.specs.Prelude.{ℕ, ◌&&◌, ◌||◌, ◌==◌, not, if◌then◌else◌, Bool, true, false, List, [], ◌∷◌, ◌++◌, codes, take, Option, Some, None}
 use Rattle.std.specs.Option.{option_map_or}
 use Prim.Native.Char.{code}
 use Rattle.json.specs.Text.{code_unit, is_high_surrogate, is_low_surrogate}
@@ -28,6 +28,10 @@ has_partner _ = false
 abbrev pub is_lone : (is_partner : Bool) → List ℕ → Bool
 is_lone is_partner bytes = (begins_high bytes && not (has_partner bytes)) || (begins_low bytes && not is_partner)
 
+-- what is read for the four digits at the front
+abbrev pub digits_read : (is_partner : Bool) → List ℕ → List ℕ
+digits_read is_partner bytes = if is_lone is_partner bytes then codes "FFFD" else take 4 bytes
+
 -- where the byte after this one stands
 abbrev pub next_within : Within → ℕ → Within
 next_within (Plain p) x = if x == code "\\" then AfterBackslash p else Plain false
@@ -40,8 +44,7 @@ mended_from w [] = []
 mended_from (Plain p) (x ∷ rest) = x ∷ mended_from (next_within (Plain p) x) rest
 mended_from (AfterBackslash p) (x ∷ rest) = x ∷ mended_from (next_within (AfterBackslash p) x) rest
 mended_from (AfterU p) (a ∷ b ∷ c ∷ d ∷ rest) =
-    (if is_lone p (a ∷ b ∷ c ∷ d ∷ rest) then codes "FFFD" else a ∷ b ∷ c ∷ d ∷ [])
-    ++ mended_from (Plain (begins_high (a ∷ b ∷ c ∷ d ∷ rest) && has_partner (a ∷ b ∷ c ∷ d ∷ rest))) rest
+    digits_read p (a ∷ b ∷ c ∷ d ∷ rest) ++ mended_from (Plain (begins_high (a ∷ b ∷ c ∷ d ∷ rest) && has_partner (a ∷ b ∷ c ∷ d ∷ rest))) rest
 mended_from (AfterU p) rest = rest
 
 abbrev pub mended : List ℕ → List ℕ

@@ -2,7 +2,7 @@
 ghost use Rattle.std.specs.Prelude.{◌≡◌, ◌+◌, ◌≤◌, ◌<◌, ◌&&◌, ◌++◌, codes, length, take, drop, cond};
 ghost use Rattle.std.specs.Option.{SomeIff};
 ghost use Rattle.std.specs.Char.{digit_value};
-ghost use Rattle.yl_rpc.specs.Surrogates.{begins_high, begins_low, has_partner, is_lone, mended, next_within, unit_of};
+ghost use Rattle.yl_rpc.specs.Surrogates.{begins_high, begins_low, digits_read, has_partner, is_lone, mended, next_within, unit_of};
 
 /// Where a byte stands. The next escape, or the one that it is in, may be the second half of a pair.
 #[derive(Clone, Copy)]
@@ -30,16 +30,17 @@ fn hex_digit(byte: u8) -> Option<u32>
 }
 
 // The code unit that the first four digits write.
+#[tactic(auto, using(crate::proofs::Digits::unit_at, crate::proofs::Digits::unit_short), unfolding(json::specs::Text::code_unit))]
 fn unit_of(digits: &[u8]) -> Option<u32>
     ensures { result ≡ unit_of digits.now }
 {
-    let [a, b, c, d, ..] = digits else {
+    if digits.len() < 4 {
         return None;
-    };
-    let a = hex_digit(*a)?;
-    let b = hex_digit(*b)?;
-    let c = hex_digit(*c)?;
-    let d = hex_digit(*d)?;
+    }
+    let a = hex_digit(digits[0])?;
+    let b = hex_digit(digits[1])?;
+    let c = hex_digit(digits[2])?;
+    let d = hex_digit(digits[3])?;
     Some(a * 4096 + b * 256 + c * 16 + d)
 }
 
@@ -47,7 +48,7 @@ fn begins_high(digits: &[u8]) -> bool
     ensures { result ≡ begins_high digits.now }
 {
     match unit_of(digits) {
-        Some(unit) => (0xD800..0xDC00).contains(&unit),
+        Some(unit) => unit >= 0xD800 && unit < 0xDC00,
         None => false,
     }
 }
@@ -56,19 +57,20 @@ fn begins_low(digits: &[u8]) -> bool
     ensures { result ≡ begins_low digits.now }
 {
     match unit_of(digits) {
-        Some(unit) => (0xDC00..0xE000).contains(&unit),
+        Some(unit) => unit >= 0xDC00 && unit < 0xE000,
         None => false,
     }
 }
 
 // The bytes after four digits are the escape of a second half.
+#[tactic(auto, using(crate::proofs::Digits::partner_at, crate::proofs::Digits::partner_short))]
 fn has_partner(digits: &[u8]) -> bool
     ensures { result ≡ has_partner digits.now }
 {
-    match digits {
-        [_, _, _, _, b'\\', b'u', ..] => begins_low(&digits[6..]),
-        _ => false,
+    if digits.len() < 6 {
+        return false;
     }
+    digits[4] == b'\\' && digits[5] == b'u' && begins_low(&digits[6..])
 }
 
 // The digits are of half a pair, and the other half does not stand beside it.
@@ -76,6 +78,30 @@ fn is_lone(is_partner: bool, digits: &[u8]) -> bool
     ensures { result ≡ is_lone is_partner digits.now }
 {
     (begins_high(digits) && !has_partner(digits)) || (begins_low(digits) && !is_partner)
+}
+
+fn begins_pair(digits: &[u8]) -> bool
+    ensures { result ≡ (begins_high digits.now && has_partner digits.now) }
+{
+    begins_high(digits) && has_partner(digits)
+}
+
+// Puts the digits of U+FFFD at a place.
+fn put_replacement(body: &mut [u8], i: usize)
+    requires { i + 4 ≤ length body.old }
+    ensures { body.new ≡ take i body.old ++ (codes "FFFD" ++ drop (i + 4) body.old) }
+{
+    body[i..i + 4].copy_from_slice(b"FFFD");
+}
+
+// Puts U+FFFD in place of half a pair at a place, if the other half does not stand beside it.
+fn mend_digits(body: &mut [u8], i: usize, is_partner: bool)
+    requires { i + 4 ≤ length body.old }
+    ensures { body.new ≡ take i body.old ++ (digits_read is_partner (drop i body.old) ++ drop (i + 4) body.old) }
+{
+    if is_lone(is_partner, &body[i..]) {
+        put_replacement(body, i);
+    }
 }
 
 /// Puts U+FFFD in place of each half of a pair without the other.
@@ -93,13 +119,11 @@ pub(crate) fn mend(body: &mut [u8])
         if body.len() - i < 4 {
             return;
         }
-        let digits = &body[i..];
+        let is_pair = begins_pair(&body[i..]);
+        mend_digits(body, i, is_partner);
         within = Within::Plain {
-            is_partner: begins_high(digits) && has_partner(digits),
+            is_partner: is_pair,
         };
-        if is_lone(is_partner, digits) {
-            body[i..i + 4].copy_from_slice(b"FFFD");
-        }
         i += 4;
     }
 }

@@ -6,30 +6,30 @@ use Rattle.yl_frames.proofs.Headers.{header_bad, header_ends, header_goes_on, he
 use Rattle.yl_frames.proofs.header.read_header.Goals as goal
 
 pub returns-in-None-clause-header : goal.returns-in-None-clause-header
-returns-in-None-clause-header g c = header_stops _ _ _ _ c.loop.invariant.begun (rw c.in-None.is at c.in_ok-read_line.ensures.line)
+returns-in-None-clause-header g c = header_stops _ _ _ _ c.loop.invariant.begun (rw c.in-None.is at c.in_ok-line.ensures.line)
 
 pub returns-in-Empty-clause-header : goal.returns-in-Empty-clause-header
 returns-in-Empty-clause-header g c =
     let kind : line_of c.in-Some.line.items ≡ Empty = ap line_of (sym c.as_slice.ensures.value) ∙ sym c.line_of.ensures ∙ c.in-Empty.is in
-    header_ends (65 - c.loop.counter) (65 - (c.loop.counter + 1)) _ _ _ c.loop.length c.in-Some.line.items (omega arith) c.loop.invariant.begun (rw c.in-Some.is at c.in_ok-read_line.ensures.line) kind
+    header_ends (65 - c.loop.counter) (65 - (c.loop.counter + 1)) _ _ _ c.loop.length c.in-Some.line.items (omega arith) c.loop.invariant.begun (rw c.in-Some.is at c.in_ok-line.ensures.line) kind
 
 pub returns-in-Bad-clause-header : goal.returns-in-Bad-clause-header
 returns-in-Bad-clause-header g c =
     let kind : line_of c.in-Some.line.items ≡ Bad = ap line_of (sym c.as_slice.ensures.value) ∙ sym c.line_of.ensures ∙ c.in-Bad.is in
-    header_bad (65 - c.loop.counter) (65 - (c.loop.counter + 1)) _ _ _ c.loop.length c.in-Some.line.items (omega arith) c.loop.invariant.begun (rw c.in-Some.is at c.in_ok-read_line.ensures.line) kind
+    header_bad (65 - c.loop.counter) (65 - (c.loop.counter + 1)) _ _ _ c.loop.length c.in-Some.line.items (omega arith) c.loop.invariant.begun (rw c.in-Some.is at c.in_ok-line.ensures.line) kind
 
 pub returns-then-is_some-clause-header : goal.returns-then-is_some-clause-header
 returns-then-is_some-clause-header g c =
     let kind : line_of c.in-Some.line.items ≡ Length c.in-Length.n = ap line_of (sym c.as_slice.ensures.value) ∙ sym c.line_of.ensures ∙ c.in-Length.is in
     let twice : is_some c.loop.length ≡ true = search (rules, tests) in
-    header_says_twice (65 - c.loop.counter) (65 - (c.loop.counter + 1)) c.in-Length.n _ _ _ c.loop.length c.in-Some.line.items (omega arith) twice c.loop.invariant.begun (rw c.in-Some.is at c.in_ok-read_line.ensures.line) kind
+    header_says_twice (65 - c.loop.counter) (65 - (c.loop.counter + 1)) c.in-Length.n _ _ _ c.loop.length c.in-Some.line.items (omega arith) twice c.loop.invariant.begun (rw c.in-Some.is at c.in_ok-line.ensures.line) kind
 
 pub loop-preserved-in-Other : goal.loop-preserved-in-Other
 loop-preserved-in-Other g c =
     let kind : line_of c.in-Some.line.items ≡ Other = ap line_of (sym c.as_slice.ensures.value) ∙ sym c.line_of.ensures ∙ c.in-Other.is in
     record {
       quiet = search rules;
-      begun = header_goes_on (65 - c.loop.counter) (65 - (c.loop.counter + 1)) _ _ _ c.loop.length c.in-Some.line.items (omega arith) c.loop.invariant.begun (rw c.in-Some.is at c.in_ok-read_line.ensures.line) kind;
+      begun = header_goes_on (65 - c.loop.counter) (65 - (c.loop.counter + 1)) _ _ _ c.loop.length c.in-Some.line.items (omega arith) c.loop.invariant.begun (rw c.in-Some.is at c.in_ok-line.ensures.line) kind;
     }
 
 pub loop-preserved : goal.loop-preserved
@@ -38,7 +38,7 @@ loop-preserved g c =
     let none : is_some c.loop.length ≡ false = search (rules, tests) in
     record {
       quiet = search rules;
-      begun = header_says (65 - c.loop.counter) (65 - (c.loop.counter + 1)) c.in-Length.n _ _ _ c.loop.length c.in-Some.line.items (omega arith) none c.loop.invariant.begun (rw c.in-Some.is at c.in_ok-read_line.ensures.line) kind;
+      begun = header_says (65 - c.loop.counter) (65 - (c.loop.counter + 1)) c.in-Length.n _ _ _ c.loop.length c.in-Some.line.items (omega arith) none c.loop.invariant.begun (rw c.in-Some.is at c.in_ok-line.ensures.line) kind;
     }
 
 pub returns-clause-header : goal.returns-clause-header

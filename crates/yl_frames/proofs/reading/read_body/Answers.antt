@@ -8,5 +8,5 @@ loop-taken-preserved g c = record {
   quiet = search rules;
   most = grind (arith, common_steps);
   so_far = more_taken _ _ _ _ c.loop-taken.taken _ c.min-count.result c.loop-taken.kept _ c.more.new.self c.skip.new.self _ c.loop-taken.invariant.so_far c.in_ok-more.ensures.kept c.skip.ensures
-      c.extended.ensures (grind (arith, common_steps)) (grind (arith, common_steps)) (search rules);
+      c.extended-kept.ensures (grind (arith, common_steps)) (grind (arith, common_steps)) (search rules);
 }

@@ -12,11 +12,11 @@ returns-in_err-put-clause-err g c = on_err c.from_residual.result (g.met.P.Piece
 pub returns-in_err-put-2-clause-err : goal.returns-in_err-put-2-clause-err
 returns-in_err-put-2-clause-err g c =
     let to = c.args.to.now in
-    let new = c.put-2.new.self in
-    let bytes = c.as_bytes.result.now in
+    let new = c.put-in-loop-i.new.self in
+    let bytes = c.as_bytes-bytes.result.now in
     let laws = g.met.P.Pieces in
     let h = c.loop-i.invariant in
-    on_err c.from_residual-in_err-put-2.result (subst (λ (l : List ℕ). g.P.Pieces.breaks to (quoted l) new) c.as_bytes.ensures.value
+    on_err c.from_residual-in_err-put-2.result (subst (λ (l : List ℕ). g.P.Pieces.breaks to (quoted l) new) c.as_bytes-bytes.ensures.value
     (broken_at (λ l. g.P.Pieces.breaks to l new) (λ xs ys b. laws.broken_before _ _ xs ys b) bytes c.loop-i.i
     (subst (λ (l : List ℕ). g.P.Pieces.breaks to l new) (run_put bytes c.loop-i.from c.loop-i.i h.within h.plain)
     (laws.broken_after _ _ _ _ _ h.put c.in_err-put-2.ensures.err))))
@@ -24,7 +24,7 @@ returns-in_err-put-2-clause-err g c =
 pub loop-i-preserved-then-not-is_special : goal.loop-i-preserved-then-not-is_special
 loop-i-preserved-then-not-is_special g c =
     let h = c.loop-i.invariant in
-    let bytes = c.as_bytes.result.now in
+    let bytes = c.as_bytes-bytes.result.now in
     let plain : is_special (get_or bytes c.loop-i.i 0) ≡ false = search (rules, tests) in
     record {
       can = h.can;
@@ -37,11 +37,11 @@ pub returns-in_err-put_escape-clause-err : goal.returns-in_err-put_escape-clause
 returns-in_err-put_escape-clause-err g c =
     let to = c.args.to.now in
     let new = c.put_escape.new.to in
-    let bytes = c.as_bytes.result.now in
+    let bytes = c.as_bytes-bytes.result.now in
     let laws = g.met.P.Pieces in
     let h = c.loop-i.invariant in
     let inside : c.loop-i.i < length bytes = omega arith in
-    on_err c.from_residual-in_err-put_escape.result (subst (λ (l : List ℕ). g.P.Pieces.breaks to (quoted l) new) c.as_bytes.ensures.value
+    on_err c.from_residual-in_err-put_escape.result (subst (λ (l : List ℕ). g.P.Pieces.breaks to (quoted l) new) c.as_bytes-bytes.ensures.value
     (broken_at (λ l. g.P.Pieces.breaks to l new) (λ xs ys b. laws.broken_before _ _ xs ys b) bytes (c.loop-i.i + 1)
     (subst (λ (l : List ℕ). g.P.Pieces.breaks to l new) (ap (λ l. l ++ escape_byte (get_or bytes c.loop-i.i 0)) (run_put bytes c.loop-i.from c.loop-i.i h.within h.plain) ∙ byte_put bytes c.loop-i.i 0 inside)
     (laws.broken_after _ _ _ _ _ (laws.joined _ _ _ _ _ h.put c.in_ok-put-2.ensures.ok) c.in_err-put_escape.ensures.err))))
@@ -49,7 +49,7 @@ returns-in_err-put_escape-clause-err g c =
 pub loop-i-preserved : goal.loop-i-preserved
 loop-i-preserved g c =
     let to = c.args.to.now in
-    let bytes = c.as_bytes.result.now in
+    let bytes = c.as_bytes-bytes.result.now in
     let laws = g.met.P.Pieces in
     let h = c.loop-i.invariant in
     let inside : c.loop-i.i < length bytes = omega arith in
@@ -64,13 +64,13 @@ loop-i-preserved g c =
 pub returns-in_err-put-3-clause-err : goal.returns-in_err-put-3-clause-err
 returns-in_err-put-3-clause-err g c =
     let to = c.args.to.now in
-    let new = c.put-3.new.self in
-    let bytes = c.as_bytes.result.now in
+    let new = c.put-2.new.self in
+    let bytes = c.as_bytes-bytes.result.now in
     let laws = g.met.P.Pieces in
     let end : c.loop-i.i ≡ length bytes = omega arith in
     let within = rw end at c.loop-i.invariant.within in
     let plain = rw end at c.loop-i.invariant.plain in
-    on_err c.from_residual-in_err-put-3.result (subst (λ (l : List ℕ). g.P.Pieces.breaks to (quoted l) new) c.as_bytes.ensures.value
+    on_err c.from_residual-in_err-put-3.result (subst (λ (l : List ℕ). g.P.Pieces.breaks to (quoted l) new) c.as_bytes-bytes.ensures.value
     (broken_at (λ l. g.P.Pieces.breaks to l new) (λ xs ys b. laws.broken_before _ _ xs ys b) bytes (length bytes)
     (subst (λ (l : List ℕ). g.P.Pieces.breaks to l new) (run_put bytes c.loop-i.from (length bytes) within plain)
     (laws.broken_after _ _ _ _ _ c.loop-i.invariant.put c.in_err-put-3.ensures.err))))
@@ -78,25 +78,25 @@ returns-in_err-put-3-clause-err g c =
 pub returns-clause-ok : goal.returns-clause-ok
 returns-clause-ok g c =
     let to = c.args.to.now in
-    let new = c.put-4.new.self in
-    let bytes = c.as_bytes.result.now in
+    let new = c.put-3.new.self in
+    let bytes = c.as_bytes-bytes.result.now in
     let laws = g.met.P.Pieces in
     let end : c.loop-i.i ≡ length bytes = omega arith in
     let within = rw end at c.loop-i.invariant.within in
     let plain = rw end at c.loop-i.invariant.plain in
-    ok_then c.put-4.result c.put-4.ensures.ok (λ q. subst (λ (l : List ℕ). g.P.Pieces.puts to (quoted l) new) c.as_bytes.ensures.value
+    ok_then c.put-3.result c.put-3.ensures.ok (λ q. subst (λ (l : List ℕ). g.P.Pieces.puts to (quoted l) new) c.as_bytes-bytes.ensures.value
     (subst (λ (l : List ℕ). g.P.Pieces.puts to l new) (text_put bytes c.loop-i.from (length bytes) refl within plain)
     (laws.joined _ _ _ _ _ (laws.joined _ _ _ _ _ c.loop-i.invariant.put c.in_ok-put-3.ensures.ok) q)))
 
 pub returns-clause-err : goal.returns-clause-err
 returns-clause-err g c =
     let to = c.args.to.now in
-    let new = c.put-4.new.self in
-    let bytes = c.as_bytes.result.now in
+    let new = c.put-3.new.self in
+    let bytes = c.as_bytes-bytes.result.now in
     let laws = g.met.P.Pieces in
     let end : c.loop-i.i ≡ length bytes = omega arith in
     let within = rw end at c.loop-i.invariant.within in
     let plain = rw end at c.loop-i.invariant.plain in
-    fault_then c.put-4.result c.put-4.ensures.err (λ q. subst (λ (l : List ℕ). g.P.Pieces.breaks to (quoted l) new) c.as_bytes.ensures.value
+    fault_then c.put-3.result c.put-3.ensures.err (λ q. subst (λ (l : List ℕ). g.P.Pieces.breaks to (quoted l) new) c.as_bytes-bytes.ensures.value
     (subst (λ (l : List ℕ). g.P.Pieces.breaks to l new) (text_put bytes c.loop-i.from (length bytes) refl within plain)
     (laws.broken_after _ _ _ _ _ (laws.joined _ _ _ _ _ c.loop-i.invariant.put c.in_ok-put-3.ensures.ok) q)))
