@@ -20,7 +20,7 @@ fn reader(bytes: &[u8], most: usize, fails_at: u64) -> MemoryReader<'_> {
     }
 }
 
-// Puts a line for each message behind a text.
+// Puts a line for each message after a text.
 fn read_all<A: Allocator + Copy>(
     alloc: A,
     mut reader: MemoryReader<'_>,
