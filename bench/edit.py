@@ -13,6 +13,9 @@ end, each in a fresh process, the same edits are made again and again until SECO
     long     letters are typed past column 80
     line     a line is put in, and taken out
     quote    a double quote is opened before a value, a letter is typed under it, it is closed, and both are taken away
+    far      while such a quote is open, a letter is typed a quarter of the text below it, the first one there
+    next     one more letter is typed there
+    closed   the quote is closed then
     bracket  the same with a bracket
     comment  a line `# yamllint disable` is put in, and taken out
     marker   a line `---` is put in, and taken out
@@ -39,7 +42,7 @@ NAME_LINE, IMAGE_LINE = 1, 2
 BLOCK_LINES = BLOCK.count("\n")
 DOCUMENTS = [1000, 100_000, 1]
 PLACES = {"start": 0.0, "middle": 0.5, "end": 1.0}
-KINDS = ["nothing", "typing", "blank", "long", "line", "quote", "bracket", "comment", "marker", "width"]
+KINDS = ["nothing", "typing", "blank", "long", "line", "quote", "far", "next", "closed", "bracket", "comment", "marker", "width"]
 # What stands before a document's first block, or behind the text.
 SILENCED, HEARD, FAULT = "# yamllint disable rule:key-duplicates\n", "# yamllint enable rule:key-duplicates\n", 'end: "open\n'
 CONFIG = "{extends: default, rules: {key-duplicates: {level: warning}}}"
@@ -86,8 +89,22 @@ def opened_and_closed(kind, line, sign, closing):
     )
 
 
-def edits(line, first_indented):
-    """The edits of the value in a line, behind which the text is as it was."""
+def far_below(line, far):
+    """A quote is opened before a value, letters are typed in a line far below it, and it is closed; then both lines are as they were."""
+    name = "  name: web"
+    if far <= line:
+        return []
+    return (
+        replaced("quote", line, ['  name: "web'], name)[:1]
+        + [("far", far, far + 1, name + "s\n"), ("next", far, far + 1, name + "st\n")]
+        + [("closed", line, line + 1, '  name: "web"\n')]
+        + replaced("typing", far, [], name)
+        + replaced("quote", line, [], name)
+    )
+
+
+def edits(line, far, first_indented):
+    """The edits of the value in a line, and of one in a line far below, behind which the text is as it was."""
     name, image = "  name: web", "  image: registry/web"
     below = line + IMAGE_LINE - NAME_LINE
     long = image + "w" * (81 - len(image))
@@ -98,6 +115,7 @@ def edits(line, first_indented):
         + replaced("long", below, [long, long + "w", long + "ww"], image)
         + put_in("line", line, "  tier: front")
         + opened_and_closed("quote", line, '"', '"')
+        + far_below(line, far)
         + opened_and_closed("bracket", line, "[", "]")
         + put_in("comment", line, "  # yamllint disable")
         + put_in("marker", line - NAME_LINE, "---")
@@ -109,8 +127,9 @@ def listed(places, place):
     """The edits of up to 50 blocks next to a place of the text, a list for each block: what kind each is, and its command."""
     count = min(50, len(places))
     first = int((len(places) - count) * place)
+    below = places[min(first + len(places) // 4, len(places) - 1)]
     return [
-        [(kind, f"replace {a} 0 {b} 0 {len(text)}\n{text}".encode()) for kind, a, b, text in edits(line, places[0])]
+        [(kind, f"replace {a} 0 {b} 0 {len(text)}\n{text}".encode()) for kind, a, b, text in edits(line, below, places[0])]
         for line in places[first : first + count]
     ]
 
@@ -176,7 +195,7 @@ def show_text(words, folder, documents, problems, more):
     print("place   kind      edits  median us   99 % us  open/median  open/99 %  most rows")
     for place, share in PLACES.items():
         kinds, peak = timed(words.program, text, listed(places, share), words.seconds)
-        for kind in KINDS:
+        for kind in (kind for kind in KINDS if kind in kinds):
             times = sorted(took for took, _ in kinds[kind])
             median, most = statistics.median(times), times[min(len(times) - 1, int(len(times) * 0.99))]
             rows = max(rows for _, rows in kinds[kind])

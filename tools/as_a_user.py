@@ -20,6 +20,7 @@ COLON_AND_BLANK = (
     "spaced.yaml:2:4: [error] too many spaces after colon (colons)\n"
     "spaced.yaml:2:6: [error] trailing spaces (trailing-spaces)\n"
 )
+START_IS_ERROR = "{extends: default, rules: {document-start: {level: error}}}"
 MISSPELT = "extends: default\nrules:\n  line-lenght: disable\n"
 FILES = {
     "f.yaml": b"a: 1\n",
@@ -27,6 +28,7 @@ FILES = {
     "spaced.yaml": b"---\na:  1 \n",
     "bytes.yaml": b"a: \xc3",
     "misspelt": MISSPELT.encode(),
+    "rules": b"\xef\xbb\xbfextends: default\nrules:\n  document-start: disable\n",
 }
 
 # A run: its program and its words, what is to come on standard output, on standard error and as status, what it is given on
@@ -41,6 +43,9 @@ CASES = [
     Case("yamllint", ["spaced.yaml"], COLON_AND_BLANK, "", 1),
     Case("yamllint", ["-s", "f.yaml", "spaced.yaml"], NO_START + COLON_AND_BLANK, "", 1),
     Case("yamllint", ["-"], NO_START.replace("f.yaml", "stdin"), "", 0, b"a: 1\n"),
+    Case("yamllint", ["-c", "rules", "f.yaml"], "", "", 0),
+    Case("yamllint", ["-d", START_IS_ERROR, "f.yaml"], NO_START.replace("warning", "error"), "", 1),
+    Case("yamllint", ["-d", "default", "-s", "f.yaml"], NO_START, "", 2),
     # Words, configurations and files that are refused.
     Case("yamllint", [], "", "yamllint: fault of use\n", 255),
     Case("yamllint", ["-f", "other", "f.yaml"], "", "yamllint: fault of use\n", 255),
@@ -60,13 +65,15 @@ CASES = [
     Case("yamllint", ["f.yaml"], "", "yamllint: output cannot be written\n", 255, b"", ">&-"),
     Case("yamllint", ["empty.yaml"], "", "", 0, b"", ">&-"),
     Case("yamllint", ["--help"], "", "yamllint: output cannot be written\n", 255, b"", ">/dev/full"),
+    Case("yledit", ["-c", "rules", "f.yaml"], "-- ok 0\n", "", 0),
+    Case("yledit", ["-d", START_IS_ERROR, "f.yaml"], NO_START.replace("warning", "error") + "-- ok 1\n", "", 1),
     # Commands.
     Case("yledit", ["f.yaml"], NO_START + "-- ok 0\n-- ok 0\n-- refused Range\n", "", 0, b"replace 0 0 0 0 4\n---\nreplace 9 0 9 0 0\n"),
     Case("yledit", ["f.yaml"], NO_START + "-- ok 0\n" + NO_START + "-- ok 0\n-- ok 0\n", "", 0, b"replace 0 3 0 4 1\n2replace 0 0 0 1 5\n---\nb"),
     Case("yledit", ["f.yaml"], NO_START + "-- ok 0\n" + 2 * "-- refused Range\n", "", 0, b"replace 4294967296 0 0 0 0\nreplace 0 1 0 0 0\n"),
     Case("yledit", ["-s", "f.yaml"], NO_START + "-- ok 2\n", "", 2),
     Case("yledit", ["--no-warnings", "-s", "f.yaml"], "-- ok 2\n", "", 2),
-    Case("yledit", ["f.yaml"], NO_START + "-- ok 0\n", "yledit: bad command\n", 255, b"replace 0 0 1 0 9\nab"),
+    Case("yledit", ["f.yaml"], NO_START + "-- ok 0\n", "yledit: bad command\n", 255, b"replace 0 1 0 1 9\nab"),
     Case("yledit", ["f.yaml"], NO_START + "-- ok 0\n", "yledit: bad command\n", 255, b"\n"),
     Case("yledit", ["f.yaml"], NO_START + "-- ok 0\n", "yledit: bad command\n", 255, b"replace 0 0 1 0 67108865\n"),
     Case("yledit", ["f.yaml"], NO_START + "-- ok 0\n", "yledit: bad command\n", 255, b"replace 0 0 1 0 0"),

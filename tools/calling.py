@@ -1,14 +1,14 @@
 #!/usr/bin/env python3
 """calling.py: writes docs/CALLING.md from the crate `callers`.
 
-Each module of the crate calls one library, of which its first line says what it is."""
+Each module of the crate calls one library, of which its first line says what it is. With --check it
+writes nothing, and fails where the page is not the one that it would write."""
 
 import os
 import re
 import sys
 
 REPOSITORY = os.path.dirname(os.path.dirname(os.path.abspath(__file__)))
-DOCUMENT = os.path.join(REPOSITORY, "docs", "CALLING.md")
 HEAD = """# Calling the crates
 
 A short caller of each crate that a user may call. They are the modules of the crate `callers`,
@@ -16,19 +16,20 @@ and each is proved as it stands here. `tools/calling.py` writes this page from t
 
 What allocates takes an allocator, and out of memory is an error like another. A clause sees a
 slice as a list, a text as the list of its bytes, and a value of a crate by the crate's `specs/`.
-`docs/DEFINITIONS.md` says where each definition stands.
+`docs/DEFINITIONS.md` says what each file there holds.
 """
 
 
 def crates():
     """The libraries in the order of crates.txt."""
-    with open(os.path.join(REPOSITORY, "crates.txt")) as file:
+    with open(os.path.join(REPOSITORY, "crates.txt"), encoding="utf-8") as file:
         return re.findall(r"(?m)^(\w+)[^:\n]*:", file.read())
 
 
 def caller(name):
     """What the crate is, and the code of its caller."""
-    with open(os.path.join(REPOSITORY, "crates", "callers", "src", f"{name}.rt")) as file:
+    path = os.path.join(REPOSITORY, "crates", "callers", "src", f"{name}.rt")
+    with open(path, encoding="utf-8") as file:
         first, code = file.read().split("\n", 1)
     said = re.fullmatch(r"//! `(\w+)`: (.*)", first)
     if said is None or said.group(1) != f"yl_{name}":
@@ -52,11 +53,17 @@ def page():
     return "".join(parts)
 
 
-def main():
-    text = page()
-    with open(DOCUMENT, "w") as file:
-        file.write(text)
+def put(name, text):
+    """Writes a page of docs/, or under --check only compares it."""
+    path = os.path.join(REPOSITORY, "docs", name)
+    if "--check" not in sys.argv[1:]:
+        with open(path, "w", encoding="utf-8") as file:
+            file.write(text)
+        return
+    with open(path, encoding="utf-8") as file:
+        if file.read() != text:
+            sys.exit(f"docs/{name} is not what {os.path.basename(sys.argv[0])} writes now")
 
 
 if __name__ == "__main__":
-    main()
+    put("CALLING.md", page())

@@ -1,7 +1,8 @@
 //! `yl_lint`: the report of a text.
 
-ghost use Rattle.std.specs.Prelude.{◌≡◌, ◌≤◌, IfOk, length};
-ghost use Rattle.yl_lint.specs.TextReport.{report};
+ghost use Rattle.std.specs.Prelude.{◌≡◌, ◌≤◌, List, IfOk, length};
+ghost use Rattle.yl_report.specs.Report.{ProblemValue};
+ghost use Rattle.yl_lint.specs.TextReport.{IsReport};
 ghost use Rattle.yl_text.specs.Lines.{lines_of};
 ghost use Rattle.yl_text.specs.declared.TheConstants.{MAX_BYTES};
 
@@ -16,7 +17,7 @@ pub fn problem_count<A: Allocator + Copy>(
     text: &str,
 ) -> Result<usize, AllocError>
     requires { length text.now ≤ MAX_BYTES }
-    ensures { IfOk result (λ count. count ≡ length (report config.now (lines_of text.now))) }
+    ensures { IfOk result (λ count. (problems : List ProblemValue) × IsReport config.now (lines_of text.now) problems × (count ≡ length problems)) }
 {
     let problems = report_of_text(alloc, config, text)?;
     Ok(problems.len())

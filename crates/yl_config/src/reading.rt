@@ -4,7 +4,7 @@ ghost use Rattle.std.specs.List.{flat_map, list_any};
 ghost use Rattle.yl_events.specs.Event.{kind_value};
 ghost use Rattle.yl_settings.specs.Item.{item_value, entry_value, nodes_at};
 ghost use Rattle.yl_settings.specs.Nodes.{entries_of, starts_mapping};
-ghost use Rattle.yl_config.specs.Misfits.{earliest, at_key, at_value, answer_misfits, level_misfits, option_misfits, options_misfits, rule_misfits, rule_value_misfits, rules_misfits, extends_misfits, root_entry_misfits, root_misfits, place_or, is_free_option, is_unchecked_rule, is_ignored_key, rule_named, turns_on, turns_off};
+ghost use Rattle.yl_config.specs.Misfits.{earliest, at_key, at_value, answer_misfits, level_misfits, option_misfits, options_misfits, rule_misfits, rule_value_misfits, rules_misfits, extends_misfits, root_entry_misfits, root_misfits, place_or, is_unchecked_rule, rule_named, turns_on, turns_off};
 ghost use Rattle.yl_config.specs.Config.{config_settings};
 ghost use Rattle.yl_settings.specs.Values.{level_in};
 ghost use Rattle.yl_config.specs.Settings.{Settings, with_rule_level, with_option, with_options, with_value, with_rule, with_rules, with_entry, with_entries, afresh, turned_on, base_of, settings_of, is_extends};
@@ -32,18 +32,6 @@ fn place_or(other: Pos, place: Option<Pos>) -> Pos
     ensures { result ≡ place_or other place }
 {
     place.unwrap_or(other)
-}
-
-fn is_free_option(name: &str) -> bool
-    ensures { result ≡ is_free_option name.now }
-{
-    matches!(name, "ignore" | "ignore-from-file")
-}
-
-fn is_ignored_key(name: &str) -> bool
-    ensures { result ≡ is_ignored_key name.now }
-{
-    matches!(name, "ignore" | "ignore-from-file" | "yaml-files")
 }
 
 fn is_unchecked_rule(name: &str) -> bool

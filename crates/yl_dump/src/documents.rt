@@ -1,6 +1,5 @@
 //! The documents of a text, one after another.
 
-use crate::begins::begins_inside;
 use crate::document_fault::{Behind, DocumentFault, print_fault, text_fault};
 use crate::event::print_events;
 use crate::fault::{DumpFault, TextPlace};
@@ -51,20 +50,6 @@ impl<A: Allocator + Copy, W: Write> Documents<A, W> {
         Ok(())
     }
 
-    /// Takes the text's next lexemes, which begin at this line, counted from 0. A document begins with the first of them or with none.
-    fn take_all(&mut self, line: u32, lexemes: &mut Vec<Lexeme<A>, A>) -> Result<(), DumpFault> {
-        let (Some(first), Some(last)) = (lexemes.first(), lexemes.last()) else {
-            return Ok(());
-        };
-        let last = last.kind();
-        self.enter(line, first)?;
-        self.last = Some(last);
-        if self.fault.is_none() {
-            self.group.append(line, lexemes)?;
-        }
-        Ok(())
-    }
-
     /// Takes the text's next lexeme, which begins at this line, counted from 0.
     pub fn take(&mut self, line: u32, lexeme: Lexeme<A>) -> Result<(), DumpFault> {
         self.enter(line, &lexeme)?;
@@ -75,17 +60,21 @@ impl<A: Allocator + Copy, W: Write> Documents<A, W> {
         Ok(())
     }
 
-    /// Takes the lexemes of a row, which begin at this line, counted from 0, out of their list.
+    /// Takes the lexemes of a row, which begin at this line, counted from 0, out of their list. A document begins with the first of them
+    /// or with none.
     pub fn take_row(
         &mut self,
         line: u32,
         lexemes: &mut Vec<Lexeme<A>, A>,
     ) -> Result<(), DumpFault> {
-        if !begins_inside(lexemes) {
-            return self.take_all(line, lexemes);
-        }
-        for lexeme in lexemes.drain(..) {
-            self.take(line, lexeme)?;
+        let (Some(first), Some(last)) = (lexemes.first(), lexemes.last()) else {
+            return Ok(());
+        };
+        let last = last.kind();
+        self.enter(line, first)?;
+        self.last = Some(last);
+        if self.fault.is_none() {
+            self.group.append(line, lexemes)?;
         }
         Ok(())
     }

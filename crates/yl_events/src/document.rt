@@ -16,7 +16,7 @@ use crate::symbol::{Outline, Shape};
 use crate::symbol_parser::SymbolParser;
 use std::alloc::{AllocError, Allocator};
 use yl_lexeme::{LexemeAtLine, Meter};
-use yl_marks::{Symbol, document_marks};
+use yl_marks::document_marks;
 use yl_text::Pos;
 
 /// The value of the lexeme of this index.
@@ -106,34 +106,20 @@ fn fill_all<'a, A: Allocator + Copy>(
     Ok(events)
 }
 
-/// The outlines of a document's symbols, or its fault.
-fn parse<A: Allocator + Copy>(
-    alloc: A,
-    symbols: &[Symbol],
-) -> Result<(Vec<Outline, A>, Option<PlacedParseFault>), AllocError>
-    ensures { IfOk result (λ r. IsOutcome (outcome_by no_trail 0 goals_of_document start_events symbols.now) r.1 r.0.items) }
-{
-    let mut parser = SymbolParser::new(alloc);
-    let mut outlines = Vec::with_capacity(alloc, symbols.len())?;
-    parser.begin(&mut outlines)?;
-    let fault = parser.finish(0, symbols, &mut outlines)?;
-    Ok((outlines, fault))
-}
-
-/// The events of a document with these symbols, or its fault.
+/// The events of a document with these outlines, or its fault.
 #[tactic(auto, using(crate::proofs::Giving::told_events))]
 fn build<'a, A: Allocator + Copy>(
     alloc: A,
     lexemes: &[LexemeAtLine<'a, A>],
-    symbols: &[Symbol],
+    outlines: &[Outline],
+    fault: Option<PlacedParseFault>,
 ) -> Result<Built<'a, A>, AllocError>
-    requires { symbols.now ≡ symbols_of_lexemes (map (λ x. lexeme_at_line x.line x.lexeme.now) lexemes.now) }
+    requires { IsOutcome (outcome_by no_trail 0 goals_of_document start_events (symbols_of_lexemes (map (λ x. lexeme_at_line x.line x.lexeme.now) lexemes.now))) fault outlines.now }
     ensures { IfOk result (λ b. Builds (map (λ x. lexeme_at_line x.line x.lexeme.now) lexemes.now) (map event_value b.events.items) b.fault) }
 {
-    let (outlines, fault) = parse(alloc, symbols)?;
     match fault {
         None => {
-            let events = fill_all(alloc, lexemes, &outlines)?;
+            let events = fill_all(alloc, lexemes, outlines)?;
             Ok(Built {
                 events,
                 fault: None,
@@ -144,14 +130,6 @@ fn build<'a, A: Allocator + Copy>(
             fault: Some(fault),
         }),
     }
-}
-
-/// Counts a document.
-fn count(meter: &mut Meter)
-    requires { meter.old.documents < 2 ^ 32 - 1 }
-    ensures { meter.new ≡ record meter.old { documents = meter.old.documents + 1 } }
-{
-    meter.documents += 1;
 }
 
 /// The events of one whole document's lexemes, or its parse fault and no events. Counts the document in the meter, also where memory is
@@ -165,7 +143,11 @@ pub fn parse_document<'a, A: Allocator + Copy>(
     ensures built { IfOk result (λ b. Builds (map (λ x. lexeme_at_line x.line x.lexeme.now) lexemes.now) (map event_value b.events.items) b.fault) }
     ensures counted { meter.new ≡ record meter.old { documents = meter.old.documents + 1 } }
 {
-    count(meter);
+    let mut parser = SymbolParser::new(alloc);
+    let mut outlines = Vec::new(alloc);
+    parser.begin(&mut outlines, meter)?;
     let marks = document_marks(alloc, lexemes)?;
-    build(alloc, lexemes, &marks.symbols)
+    outlines.reserve(marks.symbols.len())?;
+    let fault = parser.finish(0, &marks.symbols, &mut outlines)?;
+    build(alloc, lexemes, &outlines, fault)
 }

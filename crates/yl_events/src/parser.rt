@@ -53,9 +53,8 @@ impl<A: Allocator + Copy> Parser<A> {
         ensures told { OnOk result (outlines.new.items ≡ outlines.old.items ++ start_events) }
         ensures counted { meter.new ≡ record meter.old { documents = meter.old.documents + 1 } }
     {
-        meter.documents += 1;
         self.marker.clear();
-        self.parser.begin(outlines)
+        self.parser.begin(outlines, meter)
     }
 
     /// How many lexemes of the document were fed.

@@ -1,6 +1,6 @@
 //! A document is parsed as its symbols come.
 
-ghost use Rattle.std.specs.Prelude.{◌≡◌, ◌++◌, ◌+◌, true, reverse, OnOk, IfOk};
+ghost use Rattle.std.specs.Prelude.{◌≡◌, ◌<◌, ◌++◌, ◌+◌, ◌-◌, ◌^◌, true, reverse, OnOk, IfOk};
 ghost use Rattle.yl_events.specs.Derives.{lexeme_count};
 ghost use Rattle.yl_events.specs.DocumentOutcome.{AnswersDocument};
 ghost use Rattle.yl_events.specs.Machine.{run, taken_count};
@@ -14,6 +14,7 @@ use crate::symbol::{Goal, Outline, Shape, Where};
 use crate::trail::Trail;
 use std::alloc::{AllocError, Allocator};
 use std::marker::Model;
+use yl_lexeme::Meter;
 use yl_marks::Symbol;
 
 /// Parses a document whose symbols are fed some at a time, and tells its outlines: what counts of the symbols that were fed. It is
@@ -45,11 +46,19 @@ impl<A: Allocator + Copy> SymbolParser<A> {
         }
     }
 
-    /// A document begins: what was fed before is forgotten, and all room is kept. The only error is memory.
-    pub fn begin(&mut self, outlines: &mut Vec<Outline, A>) -> Result<(), AllocError>
+    /// A document begins, and is counted: what was fed before is forgotten, and all room is kept. The only error is memory; the
+    /// document is counted then too.
+    pub fn begin(
+        &mut self,
+        outlines: &mut Vec<Outline, A>,
+        meter: &mut Meter,
+    ) -> Result<(), AllocError>
+        requires { meter.old.documents < 2 ^ 32 - 1 }
         ensures start { OnOk result (self.new ≡ symbols_at_start) }
         ensures told { OnOk result (outlines.new.items ≡ outlines.old.items ++ start_events) }
+        ensures counted { meter.new ≡ record meter.old { documents = meter.old.documents + 1 } }
     {
+        meter.documents += 1;
         self.trail.clear();
         self.goals.clear();
         self.goals.extend_from_slice(&[

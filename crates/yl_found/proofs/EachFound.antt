@@ -5,6 +5,7 @@ use Rattle.std.specs.List.{AllByRecursion, filter}
 use Rattle.yl_text.proofs.Every.{all_both, all_filter, all_then}
 use Rattle.yl_text.specs.Finding.{FindingValue}
 use Rattle.yl_text.specs.Lines.{RowValue}
+use Rattle.yl_text.specs.Store.{end_of_lines}
 use Rattle.yl_text.specs.declared.finding.RuleId.TheVariants.{Syntax}
 use Rattle.yl_rules.specs.EmptyLines.{empty_lines}
 use Rattle.yl_rules.specs.EndOfFile.{end_of_file}
@@ -20,7 +21,7 @@ use Rattle.yl_report.specs.Report.{ProblemValue, is_syntax, report_of}
 use Rattle.yl_sections.specs.Kept.{KeptValue}
 use Rattle.yl_rejudge.specs.Places.{rows_kept}
 use Rattle.yl_lint.specs.Onward.{onward_in_sections}
-use Rattle.yl_lint.specs.TextReport.{end_of_lines, fault_in_sections, findings_from, findings_in_lines, first_text}
+use Rattle.yl_lint.specs.TextReport.{fault_in_sections, findings_from, findings_in_lines, first_text}
 use Rattle.yl_parting.specs.Parts.{IsLow, is_no_fault}
 use Rattle.yl_parting.specs.Showing.{is_of_lines}
 use Rattle.yl_found.specs.Faultless.{faultless}

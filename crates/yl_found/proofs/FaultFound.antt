@@ -7,6 +7,7 @@ use Rattle.std.proofs.lemmas.List.{length-append, take-append-drop, take_all}
 use Rattle.std.proofs.lemmas.Option.{slice_get_within}
 use Rattle.yl_text.specs.Finding.{FindingValue}
 use Rattle.yl_text.specs.Lines.{RowValue}
+use Rattle.yl_text.specs.Store.{end_of_lines}
 use Rattle.yl_text.specs.declared.finding.RuleId.{RuleId}
 use Rattle.yl_text.specs.declared.position.Pos.{Pos}
 use Rattle.yl_rules.specs.Levels.{LevelTable}
@@ -23,7 +24,7 @@ use Rattle.yl_sections.specs.Owned.{section_fault_value}
 use Rattle.yl_sections.specs.declared.fault.SectionFault.{SectionFault}
 use Rattle.yl_rejudge.specs.Places.{rows_kept}
 use Rattle.yl_rejudge.proofs.KeptRows.{got}
-use Rattle.yl_lint.specs.TextReport.{end_of_lines, fault_in_sections, finding_of_fault, findings_in_lines, findings_in_sections, shown}
+use Rattle.yl_lint.specs.TextReport.{fault_in_sections, finding_of_fault, findings_in_lines, findings_in_sections, shown}
 use Rattle.yl_lint.specs.Unsilenced.{unsilenced_of_kept}
 use Rattle.yl_found.specs.Faultless.{faultless}
 use Rattle.yl_found.specs.Found.{all_parts, found_by}

@@ -5,6 +5,7 @@ use Rattle.std.specs.List.{AllByRecursion, filter}
 use Rattle.std.specs.Option.{option_map_or}
 use Rattle.yl_text.specs.Finding.{FindingValue}
 use Rattle.yl_text.specs.Lines.{RowValue}
+use Rattle.yl_text.specs.Store.{end_of_lines}
 use Rattle.yl_text.specs.declared.position.Pos.{Pos}
 use Rattle.yl_indentation.specs.Measures.{empty_measure}
 use Rattle.yl_config.specs.declared.config.Config.{Config}
@@ -14,7 +15,7 @@ use Rattle.yl_report.specs.Heard.{nothing_silenced}
 use Rattle.yl_report.specs.Report.{ProblemValue, report_of}
 use Rattle.yl_sections.specs.Kept.{KeptValue, SectionFaultValue}
 use Rattle.yl_lint.specs.Onward.{onward_in_sections}
-use Rattle.yl_lint.specs.TextReport.{comments_in_sections, end_of_lines, fault_in_sections, findings_in_lines, first_text, found_of_kept, report_by, report_of_kept, shown, finding_of_fault}
+use Rattle.yl_lint.specs.TextReport.{comments_in_sections, fault_in_sections, findings_in_lines, first_text, found_of_kept, report_by, report_of_kept, shown, finding_of_fault}
 use Rattle.yl_parting.specs.Order.{IsInOrder}
 use Rattle.yl_parting.specs.Parts.{is_no_fault, with_fault, without_fault}
 use Rattle.yl_parting.proofs.Faults.{report_in_order}

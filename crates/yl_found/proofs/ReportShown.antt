@@ -9,6 +9,7 @@ use Rattle.std.specs.Option.{option_map_or}
 use Rattle.yl_text.proofs.Every.{all_back, all_front, all_then}
 use Rattle.yl_text.specs.Finding.{FindingValue}
 use Rattle.yl_text.specs.Lines.{RowValue}
+use Rattle.yl_text.specs.Store.{end_of_lines}
 use Rattle.yl_text.specs.declared.finding.RuleId.{RuleId}
 use Rattle.yl_text.specs.declared.finding.RuleId.TheVariants.{Syntax}
 use Rattle.yl_text.specs.declared.position.Pos.{Pos}
@@ -24,7 +25,7 @@ use Rattle.yl_report.proofs.Heard.{heard_report}
 use Rattle.yl_sections.specs.Kept.{KeptValue, SectionFaultValue, Here, Behind, unless_fault}
 use Rattle.yl_rejudge.specs.Places.{rows_kept}
 use Rattle.yl_lint.specs.Onward.{onward_in_sections}
-use Rattle.yl_lint.specs.TextReport.{comments_in_sections, end_of_lines, fault_in_sections, findings_in_lines, findings_in_sections, first_text, report_by, report_of_kept, shown, finding_of_fault}
+use Rattle.yl_lint.specs.TextReport.{comments_in_sections, fault_in_sections, findings_in_lines, findings_in_sections, first_text, report_by, report_of_kept, shown, finding_of_fault}
 use Rattle.yl_lint.specs.Unsilenced.{unsilenced_of_kept}
 use Rattle.yl_lint.proofs.Onward.{whole_looks_back}
 use Rattle.yl_parting.specs.Parts.{parted, with_fault}

@@ -1,17 +1,15 @@
 -- Meaning: all that is found in a text, whatever comments silence and whatever its first fault hides, parted into what is shown and what is
 -- not; and the text's fault.
-use Rattle.std.specs.Prelude.{◌≡◌, Bool, List, Option, map, slice_get}
+use Rattle.std.specs.Prelude.{Bool, List, Option, slice_get}
 use Rattle.yl_text.specs.Lines.{RowValue}
+use Rattle.yl_text.specs.Store.{end_of_lines}
 use Rattle.yl_config.specs.declared.config.Config.{Config}
 use Rattle.yl_config.specs.Config.{levels_of}
 use Rattle.yl_report.specs.Directive.{disables_file, is_silenced}
 use Rattle.yl_report.specs.Heard.{nothing_silenced}
 use Rattle.yl_report.specs.Report.{ProblemValue, report_of}
-use Rattle.yl_record.specs.Records.{RecordValue}
-use Rattle.yl_sections.specs.Judge.{kept_of_section}
-use Rattle.yl_sections.specs.Kept.{KeptValue}
-use Rattle.yl_rejudge.specs.Places.{rows_kept}
-use Rattle.yl_lint.specs.TextReport.{comments_in_sections, end_of_lines, fault_in_sections, first_text, report_by, shown}
+use Rattle.yl_sections.specs.Kept.{KeptValue, rows_kept}
+use Rattle.yl_lint.specs.TextReport.{comments_in_sections, fault_in_sections, first_text, shown}
 use Rattle.yl_lint.specs.Unsilenced.{unsilenced_by}
 use Rattle.yl_parting.specs.Parts.{PartsValue, parted, with_fault}
 use Rattle.yl_parting.specs.Showing.{shows}
@@ -36,8 +34,3 @@ fault_told config rows ks = slice_get (report_of (levels_of config) (disables_fi
 -- both lists, with the fault in its place
 abbrev pub all_parts : Config → List RowValue → List KeptValue → PartsValue
 all_parts config rows ks = with_fault (fault_told config rows ks) (parts_of config rows ks)
-
--- whatever is kept of a text's sections, the report is what is shown of both lists
-abbrev pub ReportIsShown : Type 0
-ReportIsShown = (config : Config) (rows : List RowValue) (ss : List (List RecordValue)) →
-    let ks = map (kept_of_section config) ss in report_by config rows ks ≡ (all_parts config rows ks).shown

@@ -1,9 +1,9 @@
 //! The fault of a text, as its report tells it.
 ghost use Rattle.std.specs.Prelude.{◌≡◌, ◌<◌, ◌∷◌, [], Some, length, slice_get, IfOk};
-ghost use Rattle.yl_text.specs.Store.{AreLines};
+ghost use Rattle.yl_text.specs.Store.{AreLines, end_of_lines};
 ghost use Rattle.yl_sections.specs.Kept.{KeptValue};
 ghost use Rattle.yl_sections.specs.Owned.{section_fault_value};
-ghost use Rattle.yl_lint.specs.TextReport.{end_of_lines, fault_in_sections};
+ghost use Rattle.yl_lint.specs.TextReport.{fault_in_sections};
 ghost use Rattle.yl_found.specs.Found.{fault_told};
 ghost use Rattle.yl_overview.specs.Overview.{IsFirstFault};
 ghost use Rattle.yl_overview.specs.Survey.{IsSurvey};

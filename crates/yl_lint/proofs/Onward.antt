@@ -2,6 +2,7 @@
 use Rattle.std.proofs.Common.{◌≡◌, refl, sym, ◌∙◌, ap, ℕ, ◌+◌, List, [], ◌∷◌, ◌++◌, append_assoc, map, Option, Some, None}
 use Rattle.std.proofs.lemmas.Grind.{flat_map-append}
 use Rattle.yl_text.specs.Finding.{FindingValue}
+use Rattle.yl_text.specs.Store.{end_of_lines}
 use Rattle.yl_indentation.specs.declared.measure.Measure.{Measure}
 use Rattle.yl_indentation.specs.declared.options.IndentationOptions.{IndentationOptions}
 use Rattle.yl_indentation.specs.Measures.{empty_measure, and_later, measure_of}
@@ -11,7 +12,7 @@ use Rattle.yl_report.specs.Directive.{disables_file, is_silenced}
 use Rattle.yl_report.specs.Report.{report_of}
 use Rattle.yl_config.specs.Config.{levels_of, options_of}
 use Rattle.yl_sections.specs.Kept.{KeptValue, SectionFaultValue, unless_fault}
-use Rattle.yl_lint.specs.TextReport.{comments_in_sections, end_of_lines, facts_in_sections, fault_in_sections, findings_in_lines, findings_in_section, findings_in_sections, first_text, moved, report_of_kept, shown}
+use Rattle.yl_lint.specs.TextReport.{comments_in_sections, facts_in_sections, fault_in_sections, findings_in_lines, findings_in_section, findings_in_sections, first_text, moved, report_of_kept, shown}
 use Rattle.yl_lint.specs.Onward.{onward_in_section, onward_in_sections, line_behind, SectionsLookBack, FirstSectionsLookBack, ShownLooksBack, FoundLooksBack, ReportLooksBack}
 
 -- the measure up to the end of a section and of more

@@ -8,6 +8,7 @@ use Rattle.std.specs.Option.{option_map_or}
 use Rattle.yl_text.specs.declared.position.Pos.{Pos}
 use Rattle.yl_text.specs.Finding.{FindingValue}
 use Rattle.yl_text.specs.Lines.{RowValue, break_bytes, text_of, IsLines, lines_of}
+use Rattle.yl_text.specs.Store.{end_of_lines}
 use Rattle.yl_text.proofs.Computed.{lines_of-IsLines}
 use Rattle.yl_text.proofs.Fitting.{length-chars}
 use Rattle.yl_rules.specs.declared.options.RowOptions.{RowOptions}
@@ -16,7 +17,8 @@ use Rattle.yl_rules.specs.RunsLeft.{RunReaderValue, runs_left}
 use Rattle.yl_config.specs.declared.config.Config.{Config}
 use Rattle.yl_config.specs.Config.{options_of}
 use Rattle.yl_sections.specs.Kept.{KeptValue}
-use Rattle.yl_lint.specs.TextReport.{end_of_lines, findings_from, findings_in_lines, first_text, kept_of_text, report, report_of_kept}
+use Rattle.yl_lint.specs.TextReport.{findings_from, findings_in_lines, first_text, report_of_kept}
+use Rattle.yl_lint.specs.Computed.{kept_of_text, report}
 
 -- a line more is passed by a reader
 pub line_passed : (o : RowOptions) (old new : RunReaderValue) (found found' runs runs' : List FindingValue) (row : RowValue) (rows : List RowValue)

@@ -9,6 +9,7 @@ use Rattle.std.specs.Option.{option_map_or}
 use Rattle.std.specs.Str.{chars}
 use Rattle.yl_text.specs.Finding.{FindingValue, at_each}
 use Rattle.yl_text.specs.Lines.{RowValue}
+use Rattle.yl_text.specs.Store.{end_of_lines}
 use Rattle.yl_text.specs.declared.position.Pos.{Pos}
 use Rattle.yl_text.specs.declared.row.Break.{Break}
 use Rattle.yl_text.specs.declared.row.Break.TheVariants.{No}
@@ -23,7 +24,7 @@ use Rattle.yl_rules.specs.Rows.{row_findings}
 use Rattle.yl_rules.specs.Runs.{run_findings}
 use Rattle.yl_config.specs.declared.config.Config.{Config}
 use Rattle.yl_config.specs.Config.{options_of}
-use Rattle.yl_lint.specs.TextReport.{findings_from, findings_in_lines, end_of_lines}
+use Rattle.yl_lint.specs.TextReport.{findings_from, findings_in_lines}
 use Rattle.yl_lint.proofs.Rows.{rows_at}
 use Rattle.yl_lint.specs.Alike.{IsAlike, AreAlike, AreReadAlike}
 

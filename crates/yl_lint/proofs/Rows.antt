@@ -3,11 +3,10 @@ use Rattle.std.proofs.Common.{◌≡◌, ℕ, ◌+◌, ◌<◌, ◌≤◌, List,
 use Rattle.std.proofs.Math.Seq.{drop-cons}
 use Rattle.std.proofs.lemmas.Option.{slice_get_within, get_or_from_slice_get}
 use Rattle.std.specs.List.{slice_get}
-use Rattle.std.specs.Str.{chars}
 use Rattle.yl_text.specs.Lines.{RowValue}
 use Rattle.yl_text.specs.declared.row.Break.{Break}
 use Rattle.yl_row.specs.Entries.{RowEntry}
-use Rattle.yl_record.specs.Records.{characters_in, records_with}
+use Rattle.yl_record.specs.Records.{records_with}
 
 pub rows_at : (rows : List RowValue) (i : ℕ) (row : RowValue) → slice_get rows i ≡ Some row → drop i rows ≡ row ∷ drop (i + 1) rows
 rows_at rows i row e =
@@ -25,15 +24,6 @@ passed_more left rows i row text end old new total at same_text same_end told wh
     ∙ (ap (λ (t : List ℕ). left old (record { text = t; end = end } ∷ rest)) same_text
     ∙ (ap (λ (e : Break). left old (record { text = row.text; end = e } ∷ rest)) same_end
     ∙ (ap (left old) (sym (rows_at rows i row at)) ∙ whole)))
-
--- a row more is fed
-pub told_more : {X : Type 0} (old new : List (List ℕ) → X) (rows : List RowValue) (i : ℕ) (row : RowValue) (text : List ℕ) (total : X)
-    → slice_get rows i ≡ Some row → text ≡ row.text → ((rest : List (List ℕ)) → new rest ≡ old (chars text ∷ rest))
-    → old (characters_in (drop i rows)) ≡ total → new (characters_in (drop (i + 1) rows)) ≡ total
-told_more old new rows i row text total at is told whole =
-    told (characters_in (drop (i + 1) rows))
-    ∙ (ap (λ (t : List ℕ). old (chars t ∷ characters_in (drop (i + 1) rows))) is
-    ∙ (ap (λ (rs : List RowValue). old (characters_in rs)) (sym (rows_at rows i row at)) ∙ whole))
 
 -- no more records than indentations
 pub few_with : (ns : List ℕ) (es : List RowEntry) → length (records_with ns es) ≤ length ns

@@ -1,13 +1,11 @@
 -- Records that come row by row, and the sections that are judged among them.
-use Rattle.std.proofs.Common.{◌≡◌, ℕ, ◌+◌, ◌≤◌, Result, Ok, Err, List, [], ◌++◌, length, map, take, drop, ap, sym, refl, ◌∙◌, append-nil, arith}
+use Rattle.std.proofs.Common.{◌≡◌, ℕ, ◌≤◌, List, [], ◌++◌, length, map, take, drop, ap, sym, ◌∙◌, append-nil, arith}
 use Rattle.std.proofs.lemmas.List.{take-append-drop, drop-append-le, length-map}
-use Rattle.std.specs.Prelude.{OnOk}
 use Rattle.yl_text.specs.Character.{indentation}
-use Rattle.yl_lexeme.specs.declared.meter.Meter.{Meter}
 use Rattle.yl_record.specs.Parts.{entries_in, indentations_in, indentation_in}
 use Rattle.yl_record.specs.Records.{RecordValue}
 use Rattle.yl_record.specs.Recorded.{RecorderValue, recorded, if_wanted, entries_with_rest}
-use Rattle.yl_sections.specs.Kept.{KeptValue, documents_in}
+use Rattle.yl_sections.specs.Kept.{KeptValue}
 use Rattle.yl_sections.specs.Sections.{sections}
 use Rattle.yl_lint.proofs.Rows.{few_with}
 
@@ -30,14 +28,6 @@ module _ (before after : List (List ℕ) → List RecordValue) (complete : List 
       ∙ (ap (λ (xs : List RecordValue). new ++ map f (sections (drop n xs ++ more))) (sym same)
       ∙ (told more ∙ (ap (λ (xs : List RecordValue). old ++ map f (sections (xs ++ more))) same ∙ ap (λ (xs : List RecordValue). old ++ map f (sections xs)) whole)))
 
-  pub documents_so : (old new : ℕ) (lent : List RecordValue) → lent ≡ complete
-      → ((more : List RecordValue) → new + documents_in (sections (drop n lent ++ more)) ≡ old + documents_in (sections (lent ++ more)))
-      → new + documents_in (sections (after rows)) ≡ old + documents_in (sections (before rows))
-  documents_so old new lent same told =
-      ap (λ (xs : List RecordValue). new + documents_in (sections xs)) (sym rest)
-      ∙ (ap (λ (xs : List RecordValue). new + documents_in (sections (drop n xs ++ more))) (sym same)
-      ∙ (told more ∙ (ap (λ (xs : List RecordValue). old + documents_in (sections (xs ++ more))) same ∙ ap (λ (xs : List RecordValue). old + documents_in (sections xs)) whole)))
-
 -- no more records at the text's end than were not taken
 pub few_at_end : (r : RecorderValue) (all : List RecordValue) → all ≡ recorded r [] → length all ≤ length r.records
 few_at_end r all is =
@@ -45,12 +35,3 @@ few_at_end r all is =
     let few : length (recorded r []) ≤ length ns = few_with ns (if_wanted r.states (entries_with_rest (entries_in r.records) r.taken r.stand [])) in
     let len : length ns ≡ length r.records = ap (λ (xs : List ℕ). length xs) (append-nil (indentations_in r.records)) ∙ length-map r.records indentation_in in
     omega (arith, ap (λ (xs : List RecordValue). length xs) is, few, len)
-
--- and how many documents and lines there are
-pub counted_at_end : (m : Meter) (lines documents : ℕ) → m.lines ≡ lines → m.documents ≡ documents → m ≡ record { lines = lines; documents = documents }
-counted_at_end m lines documents a b = rw (sym a, sym b) refl
-
--- an answer, by what follows from it
-pub on_ok : {T E P Q : Type 0} (r : Result T E) → (P → Q) → OnOk r P → OnOk r Q
-on_ok (Ok x) f p = f p
-on_ok (Err e) f p = tt

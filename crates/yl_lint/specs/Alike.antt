@@ -1,11 +1,12 @@
 -- Meaning: lines in which the rules on lines find the same.
 use Rattle.std.specs.Prelude.{◌≡◌, ℕ, ◌==◌, ◌+◌, List, [], ◌∷◌, length}
 use Rattle.yl_text.specs.Lines.{RowValue}
+use Rattle.yl_text.specs.Store.{end_of_lines}
 use Rattle.yl_rules.specs.declared.options.RowOptions.{RowOptions}
 use Rattle.yl_rules.specs.Rows.{row_findings}
 use Rattle.yl_config.specs.declared.config.Config.{Config}
 use Rattle.yl_config.specs.Config.{options_of}
-use Rattle.yl_lint.specs.TextReport.{end_of_lines, findings_in_lines, first_text}
+use Rattle.yl_lint.specs.TextReport.{findings_in_lines, first_text}
 
 -- an old line and the new one of the same number
 pub record IsAlike (o : RowOptions) (line : ℕ) (old new : RowValue) : Type 0 where

@@ -7,7 +7,7 @@ use Rattle.yl_rules.specs.RunsLeft.{RunReaderValue, runs_left}
 use Rattle.yl_config.specs.declared.config.Config.{Config}
 use Rattle.yl_record.specs.Recorded.{RecorderValue, recorded}
 use Rattle.yl_sections.specs.Judge.{kept_of_section}
-use Rattle.yl_sections.specs.Kept.{documents_in, KeptValue}
+use Rattle.yl_sections.specs.Kept.{KeptValue}
 use Rattle.yl_sections.specs.Sections.{sections}
 use Rattle.yl_lint.specs.TextReport.{findings_from}
 
@@ -26,7 +26,3 @@ lines_left r rows = (r.found ++ findings_from r.options (r.runs.count + 1) rows)
 -- all that is kept of sections, if these rows follow, each given as its characters
 abbrev pub kept_left : Config → List KeptValue → RecorderValue → List (List ℕ) → List KeptValue
 kept_left config kept r rows = kept ++ map (kept_of_section config) (sections (recorded r rows))
-
--- how many documents there are
-abbrev pub documents_left : ℕ → RecorderValue → List (List ℕ) → ℕ
-documents_left documents r rows = documents + documents_in (sections (recorded r rows))

@@ -4,6 +4,7 @@ use Rattle.std.specs.Prelude.{◌≡◌, ℕ, ◌+◌, List, [], ◌∷◌, ◌+
 use Rattle.yl_text.specs.declared.position.Pos.{Pos}
 use Rattle.yl_text.specs.Finding.{FindingValue}
 use Rattle.yl_text.specs.Lines.{RowValue}
+use Rattle.yl_text.specs.Store.{end_of_lines}
 use Rattle.yl_indentation.specs.declared.measure.Measure.{Measure}
 use Rattle.yl_indentation.specs.declared.options.IndentationOptions.{IndentationOptions}
 use Rattle.yl_indentation.specs.Measures.{empty_measure, and_later, measure_of}
@@ -13,7 +14,7 @@ use Rattle.yl_report.specs.Report.{report_of}
 use Rattle.yl_config.specs.declared.config.Config.{Config}
 use Rattle.yl_config.specs.Config.{levels_of, options_of}
 use Rattle.yl_sections.specs.Kept.{KeptValue}
-use Rattle.yl_lint.specs.TextReport.{comments_in_sections, end_of_lines, facts_in_sections, fault_in_sections, findings_in_lines, findings_in_sections, first_text, found_of_kept, moved, report_by, shown}
+use Rattle.yl_lint.specs.TextReport.{comments_in_sections, facts_in_sections, fault_in_sections, findings_in_lines, findings_in_sections, first_text, found_of_kept, moved, report_by, shown}
 
 -- what is found in a section that begins at this line. Its indentation is judged by the facts before it and its own alone
 abbrev pub onward_in_section : IndentationOptions → ℕ → Measure → KeptValue → List FindingValue

@@ -1,13 +1,13 @@
 -- Meaning: the report of a text: what the rules find in its lines and in its sections, with its fault, in order and with levels. Of the
 -- sections after the first with a fault nothing is shown; what the rules on lines find is never hidden.
-use Rattle.std.specs.Prelude.{ℕ, ◌+◌, ◌-◌, List, [], ◌∷◌, ◌++◌, map, length, codes, Option, Some, None, slice_get}
+use Rattle.std.specs.Prelude.{◌≡◌, ℕ, ◌+◌, List, [], ◌∷◌, ◌++◌, map, codes, Option, Some, None, slice_get}
 use Rattle.std.specs.Option.{option_map_or}
 use Rattle.std.specs.List.{flat_map}
-use Rattle.std.specs.Str.{chars}
 use Rattle.yl_text.specs.declared.position.Pos.{Pos}
 use Rattle.yl_text.specs.declared.finding.RuleId.TheVariants.{Syntax}
 use Rattle.yl_text.specs.Finding.{FindingValue}
 use Rattle.yl_text.specs.Lines.{RowValue}
+use Rattle.yl_text.specs.Store.{end_of_lines}
 use Rattle.yl_lexeme.specs.Lexeme.{PlacedCommentValue}
 use Rattle.yl_indentation.specs.declared.fact.Fact.{Fact}
 use Rattle.yl_indentation.specs.declared.measure.Measure.{Measure}
@@ -23,8 +23,7 @@ use Rattle.yl_config.specs.declared.config.Config.{Config}
 use Rattle.yl_settings.specs.declared.options.RuleOptions.{RuleOptions}
 use Rattle.yl_config.specs.Config.{levels_of, options_of}
 use Rattle.yl_record.specs.Records.{RecordValue, characters_in, records}
-use Rattle.yl_sections.specs.Kept.{KeptValue, SectionFaultValue, Here, Behind, documents_in, unless_fault}
-use Rattle.yl_sections.specs.Judge.{kept_of_section}
+use Rattle.yl_sections.specs.Kept.{KeptValue, SectionFaultValue, Here, Behind, IsKept, unless_fault}
 use Rattle.yl_sections.specs.Sections.{sections}
 
 -- ---- lines
@@ -39,11 +38,6 @@ findings_in_lines o rows = findings_from o.row 1 rows ++ run_findings o.run rows
 
 abbrev pub first_text : List RowValue → List ℕ
 first_text rows = option_map_or (λ row. row.text) (slice_get rows 0) []
-
--- after the last character of the last line
-abbrev pub end_of_lines : List RowValue → Pos
-end_of_lines rows =
-    let i = length rows - 1 in record { line = i; col = option_map_or (λ row. length (chars row.text)) (slice_get rows i) 0 }
 
 -- ---- the text's fault
 
@@ -115,19 +109,23 @@ report_of_kept config in_lines first end ks =
 abbrev pub records_of : List RowValue → List RecordValue
 records_of rows = records (characters_in rows)
 
-abbrev pub kept_of_text : Config → List RowValue → List KeptValue
-kept_of_text config rows = map (kept_of_section config) (sections (records_of rows))
-
--- how many documents a text has
-abbrev pub document_total : List RowValue → ℕ
-document_total rows = documents_in (sections (records_of rows))
-
 -- the report of these lines, if this is kept of their sections
 abbrev pub report_by : Config → List RowValue → List KeptValue → List ProblemValue
 report_by config rows ks = report_of_kept config (findings_in_lines (options_of config) rows) (first_text rows) (end_of_lines rows) ks
 
--- the report of the lines of a text under a configuration
-unfoldable pub report : Config → List RowValue → List ProblemValue
-report config rows =
-    let in_lines = findings_in_lines (options_of config) rows in
-    report_of_kept config in_lines (first_text rows) (end_of_lines rows) (kept_of_text config rows)
+-- this is kept of these sections: their documents build these events, or have this fault
+abbrev pub AreKept : Config → List (List RecordValue) → List KeptValue → Type 0
+AreKept config [] [] = Unit {0}
+AreKept config (s ∷ ss) (k ∷ ks) = IsKept config s k × AreKept config ss ks
+AreKept config _ _ = ⊥
+
+-- these problems are the report of the lines of a text under a configuration
+pub record IsReport (config : Config) (rows : List RowValue) (problems : List ProblemValue) : Type 0 where
+  pub kept : List KeptValue
+  pub are : AreKept config (sections (records_of rows)) kept
+  pub put : problems ≡ report_by config rows kept
+
+-- tells the report of each text under a configuration
+pub record Reporter (config : Config) : Type 0 where
+  pub tells : List RowValue → List ProblemValue
+  pub is : (rows : List RowValue) → IsReport config rows (tells rows)

@@ -2,6 +2,7 @@
 use Rattle.std.specs.Prelude.{◌≡◌, false, List, []}
 use Rattle.yl_text.specs.Finding.{FindingValue}
 use Rattle.yl_text.specs.Lines.{RowValue}
+use Rattle.yl_text.specs.Store.{end_of_lines}
 use Rattle.yl_text.specs.declared.position.Pos.{Pos}
 use Rattle.yl_config.specs.declared.config.Config.{Config}
 use Rattle.yl_config.specs.Config.{levels_of, options_of}
@@ -9,7 +10,7 @@ use Rattle.yl_report.specs.Directive.{disables_file, is_silenced}
 use Rattle.yl_report.specs.Heard.{heard, nothing_silenced}
 use Rattle.yl_report.specs.Report.{ProblemValue, report_of}
 use Rattle.yl_sections.specs.Kept.{KeptValue}
-use Rattle.yl_lint.specs.TextReport.{comments_in_sections, end_of_lines, findings_in_lines, first_text, found_of_kept, report_by, shown}
+use Rattle.yl_lint.specs.TextReport.{comments_in_sections, findings_in_lines, first_text, found_of_kept, report_by, shown}
 
 -- of a text that ends there, in whose lines the rules found this, and of whose sections this is kept
 unfoldable pub unsilenced_of_kept : Config → List FindingValue → Pos → List KeptValue → List ProblemValue

@@ -1,22 +1,18 @@
 //! What is kept of the sections of a text.
 ghost use Rattle.std.specs.Prelude.{◌≡◌, ◌<◌, ◌≤◌, ◌+◌, ◌++◌, ◌-◌, ◌^◌, ◌∷◌, [], false, ℕ, List, length, map, IfOk, OnOk};
 ghost use Rattle.std.specs.Str.{chars};
-ghost use Rattle.yl_text.specs.Store.{AreLines};
 ghost use Rattle.yl_config.specs.declared.config.Config.{Config};
 ghost use Rattle.yl_record.specs.Recorded.{recorded};
 ghost use Rattle.yl_record.specs.Records.{records};
 ghost use Rattle.yl_sections.specs.Judge.{kept_of_section};
-ghost use Rattle.yl_sections.specs.Kept.{documents_in};
 ghost use Rattle.yl_sections.specs.Sections.{sections};
-ghost use Rattle.yl_lint.specs.Left.{documents_left, kept_left};
-ghost use Rattle.yl_lint.specs.TextReport.{document_total, kept_of_text};
+ghost use Rattle.yl_lint.specs.Left.{kept_left};
 
 use std::alloc::{AllocError, Allocator};
 use yl_config::Config;
 use yl_lexeme::Meter;
-use yl_record::{Record, Recorder};
+use yl_record::Recorder;
 use yl_sections::{Kept, judge_all, judge_whole};
-use yl_text::{Lines, rows_fit};
 
 /// How many records wait at least before sections are looked for among them.
 const ROOM: usize = 256;
@@ -31,21 +27,6 @@ pub fn lent<T, A: Allocator>(alloc: A, items: &[T]) -> Result<Vec<&T, A>, AllocE
         all.push(item)?;
     }
     Ok(all)
-}
-
-/// What is kept of each section of a text with these records. Counts its documents in the meter. The only error is out of memory.
-pub fn kept_of_records<A: Allocator + Copy>(
-    alloc: A,
-    config: &Config,
-    records: &[Record<A>],
-    meter: &mut Meter,
-) -> Result<Vec<Kept<A>, A>, AllocError>
-    requires rows { length records.now < 2 ^ 32 }
-    requires documents { meter.old.documents + length records.now < 2 ^ 32 - 1 }
-    ensures kept { IfOk result (λ v. v.items ≡ map (kept_of_section config.now) (sections records.now)) }
-    ensures counted { OnOk result (meter.new ≡ record { lines = meter.old.lines; documents = meter.old.documents + documents_in (sections records.now) }) }
-{
-    judge_all(alloc, config, &lent(alloc, records)?, meter)
 }
 
 /// Judges the sections that are complete, puts what is kept of them after the rest, and lets their records go, once `room` records are
@@ -64,9 +45,6 @@ fn judge_complete<A: Allocator + Copy>(
     ensures kept { OnOk result ((rows : List (List ℕ))
         → kept.new.items ++ map (kept_of_section config.now) (sections (recorded recorder.new rows))
         ≡ kept.old.items ++ map (kept_of_section config.now) (sections (recorded recorder.old rows))) }
-    ensures counted { OnOk result ((rows : List (List ℕ))
-        → meter.new.documents + documents_in (sections (recorded recorder.new rows))
-        ≡ meter.old.documents + documents_in (sections (recorded recorder.old rows))) }
     ensures whole { OnOk result (recorder.new.refused ≡ false) }
     ensures fed { OnOk result (recorder.new.taken + length recorder.new.records ≡ recorder.old.taken + length recorder.old.records) }
     ensures few { OnOk result (meter.new.documents + recorder.old.taken ≤ meter.old.documents + recorder.new.taken) }
@@ -99,7 +77,6 @@ impl<'a, A: Allocator + Copy> SectionReader<'a, A> {
     /// A reader at a text's start.
     pub fn start(alloc: &'a A) -> SectionReader<'a, A>
         ensures kept { (config : Config) (rows : List (List ℕ)) → kept_left config result.kept.items result.recorder rows ≡ map (kept_of_section config) (sections (records rows)) }
-        ensures documents { (documents : ℕ) (rows : List (List ℕ)) → documents_left documents result.recorder rows ≡ documents + documents_in (sections (records rows)) }
         ensures whole { result.recorder.refused ≡ false }
         ensures fed { result.recorder.taken + length result.recorder.records ≡ 0 }
     {
@@ -111,9 +88,8 @@ impl<'a, A: Allocator + Copy> SectionReader<'a, A> {
         }
     }
 
-    /// Passes the next row, given as its text without its break. Counts it in the meter, and the
-    /// documents of the sections that it judges. The only error is out of memory, and then the reader
-    /// is of no more use.
+    /// Passes the next row, given as its text without its break, and counts it in the meter. The only
+    /// error is out of memory, and then the reader is of no more use.
     pub fn pass(&mut self, config: &Config, text: &str, meter: &mut Meter) -> Result<(), AllocError>
         requires fits { length (chars text.now) < 2 ^ 31 }
         requires whole { self.old.recorder.refused ≡ false }
@@ -123,9 +99,6 @@ impl<'a, A: Allocator + Copy> SectionReader<'a, A> {
         ensures kept { OnOk result ((rows : List (List ℕ))
             → kept_left config.now self.new.kept.items self.new.recorder rows
             ≡ kept_left config.now self.old.kept.items self.old.recorder (chars text.now ∷ rows)) }
-        ensures documents { OnOk result ((rows : List (List ℕ))
-            → documents_left meter.new.documents self.new.recorder rows
-            ≡ documents_left meter.old.documents self.old.recorder (chars text.now ∷ rows)) }
         ensures whole { OnOk result (self.new.recorder.refused ≡ false) }
         ensures fed { OnOk result (self.new.recorder.taken + length self.new.recorder.records ≡ self.old.recorder.taken + length self.old.recorder.records + 1) }
         ensures few { OnOk result (meter.new.documents + self.old.recorder.taken ≤ meter.old.documents + self.new.recorder.taken) }
@@ -143,16 +116,11 @@ impl<'a, A: Allocator + Copy> SectionReader<'a, A> {
         Ok(())
     }
 
-    /// What is kept of the sections of all rows, where no row follows. Counts the documents of those
-    /// that were not judged. The only error is out of memory.
+    /// What is kept of the sections of all rows, where no row follows. The only error is out of memory.
     pub fn finish(self, config: &Config, meter: &mut Meter) -> Result<Vec<Kept<A>, A>, AllocError>
         requires rows { length self.recorder.records < 2 ^ 32 }
         requires documents { meter.old.documents + length self.recorder.records < 2 ^ 32 - 1 }
-        ensures kept { IfOk result (λ v. v.items ≡ kept_left config.now self.entry.kept.items self.entry.recorder []) }
-        ensures counted { OnOk result (meter.new ≡ record {
-          lines = meter.old.lines;
-          documents = documents_left meter.old.documents self.entry.recorder [];
-        }) }
+        ensures { IfOk result (λ v. v.items ≡ kept_left config.now self.entry.kept.items self.entry.recorder []) }
     {
         let SectionReader {
             alloc,
@@ -161,32 +129,8 @@ impl<'a, A: Allocator + Copy> SectionReader<'a, A> {
             ..
         } = self;
         let records = recorder.finish()?;
-        let mut last = kept_of_records(alloc, config, &records, meter)?;
+        let mut last = judge_all(alloc, config, &lent(alloc, &records)?, meter)?;
         kept.append(&mut last)?;
         Ok(kept)
     }
-}
-
-/// What is kept of the sections of these lines.
-pub fn kept_of_lines<L: Lines>(
-    alloc: L::Alloc,
-    config: &Config,
-    lines: &L,
-    meter: &mut Meter,
-) -> Result<Vec<Kept<L::Alloc>, L::Alloc>, AllocError>
-    requires lines { AreLines (L.rows lines.now) }
-    requires rows { meter.old.lines + length (L.rows lines.now) < 2 ^ 32 }
-    requires documents { meter.old.documents + length (L.rows lines.now) < 2 ^ 32 - 1 }
-    ensures kept { IfOk result (λ v. v.items ≡ kept_of_text config.now (L.rows lines.now)) }
-    ensures counted { OnOk result (meter.new ≡ record {
-      lines = meter.old.lines + length (L.rows lines.now);
-      documents = meter.old.documents + document_total (L.rows lines.now);
-    }) }
-{
-    rows_fit(lines);
-    let mut reader = SectionReader::start(&alloc);
-    for i in 0..lines.len() {
-        reader.pass(config, lines.row(i).as_str(), meter)?;
-    }
-    reader.finish(config, meter)
 }

@@ -1,15 +1,17 @@
 //! Laws of reports.
-ghost use Rattle.yl_lint.specs.Laws.{OneReport, ReportReports};
+ghost use Rattle.yl_lint.specs.Computed.{ReportIsComputed};
+ghost use Rattle.yl_lint.specs.Laws.{HasReport, OneReport};
 ghost use Rattle.yl_lint.specs.Onward.{SectionsLookBack, FirstSectionsLookBack, ShownLooksBack, FoundLooksBack, ReportLooksBack};
 ghost use Rattle.yl_lint.specs.Unsilenced.{IsHeardOfText};
 
 use yl_report::heard_reports;
 use yl_sections::one_kept;
 
-/// Laws: a text has one report, which rests on the derivations of its documents alone, and `report` computes it.
+/// Laws: a text has one report, which rests on the derivations of its documents alone. `computed` ties the one that is computed to it.
 pub fn one_report()
+    ensures has { HasReport }
     ensures one { OneReport }
-    ensures computed { ReportReports }
+    ensures computed { ReportIsComputed }
 {
     one_kept();
 }

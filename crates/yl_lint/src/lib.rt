@@ -1,11 +1,10 @@
 //! The report of a text.
 //!
 //! The rows of a text are recorded, its sections are judged one after another, and what is kept of them is put together with what the rules
-//! on lines find: `report_of_lines`. Sections after the first with a fault are hidden.
+//! on lines find: `report_of_text`. Sections after the first with a fault are hidden.
 //!
-//! For a session, which keeps the records and what is kept of the sections, there is one of the steps by itself, `kept_of_records`, and what
-//! finds problems in lines, in a section, in some of both, and by a fault. `TextEdit` is an edit of the lines, `reads_alike` says where it
-//! leaves what is found in them.
+//! A session keeps the records and what is kept of the sections. It calls the steps by themselves: each finds the problems in lines, in a
+//! section, in some of both, or of a fault. `TextEdit` is an edit of the lines, `reads_alike` says where it leaves what is found in them.
 #![tactic(auto)]
 
 mod assembling;
@@ -26,10 +25,9 @@ pub use assembling::{push_indentation, push_section, report_of_kept};
 pub use comments::push_comments;
 pub use edit::TextEdit;
 pub use fault::finding_of_fault;
-pub use kept::kept_of_records;
 pub use laws::{heard_of_text, indentation_looks_back, one_report};
 pub use lines::{end_of, find_in_lines, first_text};
-pub use lint::{report_of_lines, report_of_text};
+pub use lint::report_of_text;
 pub use moving::line_below;
 pub use switches::{have_same_texts, retain_switches, speak_within};
 pub use there::{Ends, find_there};

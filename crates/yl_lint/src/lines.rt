@@ -3,9 +3,9 @@ ghost use Rattle.std.specs.Prelude.{◌≡◌, ◌+◌, ◌++◌, ◌-◌, ◌<�
 ghost use Rattle.std.specs.Str.{chars};
 ghost use Rattle.yl_config.specs.Config.{options_of};
 ghost use Rattle.yl_text.specs.Lines.{RowValue};
-ghost use Rattle.yl_text.specs.Store.{AreLines};
+ghost use Rattle.yl_text.specs.Store.{AreLines, end_of_lines};
 ghost use Rattle.yl_lint.specs.Left.{lines_left};
-ghost use Rattle.yl_lint.specs.TextReport.{end_of_lines, findings_in_lines, first_text};
+ghost use Rattle.yl_lint.specs.TextReport.{findings_in_lines, first_text};
 
 use std::alloc::{AllocError, Allocator};
 use std::marker::Model;

@@ -1,58 +1,21 @@
-//! The report of the lines of a text.
-ghost use Rattle.std.specs.Prelude.{◌≡◌, ◌<◌, ◌≤◌, ◌+◌, ◌-◌, ◌^◌, [], length, map, IfOk, OnOk};
+//! The report of a text.
+ghost use Rattle.std.specs.Prelude.{◌≡◌, ◌<◌, ◌≤◌, ◌+◌, ◌-◌, ◌^◌, [], length, IfOk};
 ghost use Rattle.std.specs.Str.{chars};
 ghost use Rattle.yl_text.specs.Lines.{lines_of};
-ghost use Rattle.yl_text.specs.Store.{AreLines};
 ghost use Rattle.yl_lint.specs.Left.{kept_left, lines_left};
-ghost use Rattle.yl_lint.specs.TextReport.{document_total, report, report_by, report_of_kept};
+ghost use Rattle.yl_lint.specs.TextReport.{IsReport, report_of_kept};
 
 use crate::assembling::report_of_kept;
-use crate::kept::{SectionReader, kept_of_lines, lent};
-use crate::lines::{LineReader, end_of, find_in_lines, first_text};
+use crate::kept::{SectionReader, lent};
+use crate::laws::one_report;
+use crate::lines::LineReader;
 use std::alloc::{AllocError, Allocator};
 use yl_config::Config;
 use yl_lexeme::Meter;
 use yl_report::Problem;
-use yl_sections::Kept;
-use yl_text::{Break, Lines, MAX_BYTES, cut_line};
+use yl_text::{Break, MAX_BYTES, cut_line};
 
-/// The report of these lines under a configuration, in order, if this is kept of their sections, in order.
-fn report_with_kept<L: Lines>(
-    alloc: L::Alloc,
-    config: &Config,
-    lines: &L,
-    kept: &[&Kept<L::Alloc>],
-) -> Result<Vec<Problem<L::Alloc>, L::Alloc>, AllocError>
-    requires lines { AreLines (L.rows lines.now) }
-    ensures { IfOk result (λ problems. problems.items ≡ report_by config.now (L.rows lines.now) (map (λ k. k.now) kept.now)) }
-{
-    let found = find_in_lines(alloc, config, lines)?;
-    report_of_kept(alloc, config, found, first_text(lines), end_of(lines), kept)
-}
-
-/// The report of the lines of a text under a configuration, in order. Counts its lines and its documents in the meter. The only error is
-/// out of memory.
-pub fn report_of_lines<L: Lines>(
-    alloc: L::Alloc,
-    config: &Config,
-    lines: &L,
-    meter: &mut Meter,
-) -> Result<Vec<Problem<L::Alloc>, L::Alloc>, AllocError>
-    requires lines { AreLines (L.rows lines.now) }
-    requires rows { meter.old.lines + length (L.rows lines.now) < 2 ^ 32 }
-    requires documents { meter.old.documents + length (L.rows lines.now) < 2 ^ 32 - 1 }
-    ensures report { IfOk result (λ problems. problems.items ≡ report config.now (L.rows lines.now)) }
-    ensures counted { OnOk result (meter.new ≡ record {
-      lines = meter.old.lines + length (L.rows lines.now);
-      documents = meter.old.documents + document_total (L.rows lines.now);
-    }) }
-{
-    let kept = kept_of_lines(alloc, config, lines, meter)?;
-    report_with_kept(alloc, config, lines, &lent(alloc, &kept)?)
-}
-
-/// The report of a text whose first line is `first`, where all its lines were passed. Counts the documents of the sections that were not
-/// judged. The only error is out of memory.
+/// The report of a text whose first line is `first`, where all its lines were passed. The only error is out of memory.
 fn report_of_read<A: Allocator + Copy>(
     alloc: A,
     config: &Config,
@@ -84,8 +47,9 @@ pub fn report_of_text<A: Allocator + Copy>(
     text: &str,
 ) -> Result<Vec<Problem<A>, A>, AllocError>
     requires { length text.now ≤ MAX_BYTES }
-    ensures { IfOk result (λ problems. problems.items ≡ report config.now (lines_of text.now)) }
+    ensures { IfOk result (λ problems. IsReport config.now (lines_of text.now) problems.items) }
 {
+    one_report();
     let mut meter = Meter::new();
     let mut lines = LineReader::start(alloc, config);
     let mut sections = SectionReader::start(&alloc);

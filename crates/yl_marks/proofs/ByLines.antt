@@ -1,10 +1,9 @@
 -- The marks of a document are the marks of its lines, one after another.
-use Rattle.std.proofs.Common.{◌≡◌, ◌<◌, ◌≤◌, ◌+◌, inl, inr, ℕ, suc, false, cond, ◌||◌, List, [], ◌∷◌, ◌++◌, Option, Some, None, length, refl, sym, ◌∙◌, ap, subst, eq-eqb, append_assoc, arith}
+use Rattle.std.proofs.Common.{◌≡◌, ◌<◌, ◌≤◌, ◌+◌, inl, inr, ℕ, suc, false, cond, ◌||◌, List, [], ◌∷◌, ◌++◌, Option, Some, None, length, refl, sym, ◌∙◌, ap, subst, eq-eqb, append_assoc, arith, slice_get}
 use Rattle.std.proofs.lemmas.Bool.{ne_eqb}
 use Rattle.std.proofs.lemmas.List.Folds.{list_any-append}
 use Rattle.std.proofs.Math.Bool.{or-false}
 use Rattle.yl_lexeme.specs.Keys.{Spot, key_start}
-use Rattle.yl_lexeme.specs.Kept.{first_of}
 use Rattle.yl_marks.specs.declared.token.Token.{Token}
 use Rattle.yl_marks.specs.declared.symbol.Symbol.{Symbol}
 use Rattle.yl_marks.specs.declared.symbol.KeyedToken.{KeyedToken}
@@ -29,9 +28,9 @@ line_of (Some p) = Some p.start.line
 
 -- the pieces of a line behind these, of which so many are the line's
 abbrev pub line_behind : List KeyedToken → List (Spot KeyStart) → List Token → List KeyedToken
-line_behind before line xs = line_pieces (length before) (depth before) (first_of before) line xs
+line_behind before line xs = line_pieces (length before) (depth before) (slice_get before 0) line xs
 
-pub nothing_here : (line : ℕ) (before : List KeyedToken) → IsOther (line_of (first_of before)) line → tokens_of_line line before ≡ []
+pub nothing_here : (line : ℕ) (before : List KeyedToken) → IsOther (line_of (slice_get before 0)) line → tokens_of_line line before ≡ []
 nothing_here line [] h = refl
 nothing_here line (p ∷ before) h = ap (λ b. cond b (record { kind = p.kind; start = place_of (length before) p } ∷ tokens_of_line line before) []) (ne_eqb p.start.line line h)
 
@@ -43,8 +42,8 @@ pieces_of_line : (line : ℕ) (before : List KeyedToken) (spots : List (Spot Key
 pieces_of_line line before spots [] rest h g = refl
 pieces_of_line line before spots (x ∷ xs) rest h g =
     let key : key_start (tokens_of_line x.start.line before) ≡ key_start spots = ap (λ l. key_start (tokens_of_line l before)) g.0 ∙ ap key_start h in
-    let p = keyed_token_at x (depth before) (first_of before) (key_start spots) in
-    ap (λ k. keyed_token_at x (depth before) (first_of before) k ∷ keyed_tokens (keyed_token_at x (depth before) (first_of before) k ∷ before) (xs ++ rest)) key
+    let p = keyed_token_at x (depth before) (slice_get before 0) (key_start spots) in
+    ap (λ k. keyed_token_at x (depth before) (slice_get before 0) k ∷ keyed_tokens (keyed_token_at x (depth before) (slice_get before 0) k ∷ before) (xs ++ rest)) key
     ∙ ap (λ ps. p ∷ ps) (pieces_of_line line (p ∷ before) (record { kind = p.kind; start = place_of (length before) p } ∷ spots) xs rest
     (one_more_here line p before g.0 ∙ ap (λ l. record { kind = p.kind; start = place_of (length before) p } ∷ l) h) g.1)
 
@@ -59,23 +58,23 @@ length-behind (p ∷ ps) before = omega (arith, length-behind ps (p ∷ before))
 pub depth-behind : (before : List KeyedToken) (line : List (Spot KeyStart)) (xs : List Token) → depth (behind (line_behind before line xs) before) ≡ depth_behind_all (depth before) xs
 depth-behind before line [] = refl
 depth-behind before line (x ∷ xs) =
-    let p = keyed_token_at x (depth before) (first_of before) (key_start line) in
+    let p = keyed_token_at x (depth before) (slice_get before 0) (key_start line) in
     depth-behind (p ∷ before) (record { kind = p.kind; start = place_of (length before) p } ∷ line) xs
 
-pub first-behind : (ps before : List KeyedToken) → first_of (behind ps before) ≡ latest_of (first_of before) ps
+pub first-behind : (ps before : List KeyedToken) → slice_get (behind ps before) 0 ≡ latest_of (slice_get before 0) ps
 first-behind [] before = refl
 first-behind (p ∷ ps) before = first-behind ps (p ∷ before)
 
-line-behind : (line : ℕ) (before : List KeyedToken) (spots : List (Spot KeyStart)) (xs : List Token) → line_of (first_of before) ≡ Some line → InLine line xs →
-    line_of (first_of (behind (line_behind before spots xs) before)) ≡ Some line
+line-behind : (line : ℕ) (before : List KeyedToken) (spots : List (Spot KeyStart)) (xs : List Token) → line_of (slice_get before 0) ≡ Some line → InLine line xs →
+    line_of (slice_get (behind (line_behind before spots xs) before) 0) ≡ Some line
 line-behind line before spots [] h g = h
 line-behind line before spots (x ∷ xs) h g =
-    let p = keyed_token_at x (depth before) (first_of before) (key_start spots) in
+    let p = keyed_token_at x (depth before) (slice_get before 0) (key_start spots) in
     line-behind line (p ∷ before) (record { kind = p.kind; start = place_of (length before) p } ∷ spots) xs (ap Some g.0) g.1
 
 -- ---- a whole line behind those before
 
-module _ (before : List KeyedToken) (x : Token) (xs : List Token) (other : IsOther (line_of (first_of before)) x.start.line) (same : InLine x.start.line xs) where
+module _ (before : List KeyedToken) (x : Token) (xs : List Token) (other : IsOther (line_of (slice_get before 0)) x.start.line) (same : InLine x.start.line xs) where
   abbrev pub own : List KeyedToken
   own = line_behind before [] (x ∷ xs)
 
@@ -85,18 +84,18 @@ module _ (before : List KeyedToken) (x : Token) (xs : List Token) (other : IsOth
   pub split : (rest : List Token) → keyed_tokens before ((x ∷ xs) ++ rest) ≡ own ++ keyed_tokens now rest
   split rest = pieces_of_line x.start.line before [] (x ∷ xs) rest (nothing_here x.start.line before other) (refl, same)
 
-  pub latest : line_of (first_of now) ≡ Some x.start.line
-  latest = line-behind x.start.line (keyed_token_at x (depth before) (first_of before) None ∷ before) _ xs refl same
+  pub latest : line_of (slice_get now 0) ≡ Some x.start.line
+  latest = line-behind x.start.line (keyed_token_at x (depth before) (slice_get before 0) None ∷ before) _ xs refl same
 
   pub count : length now ≡ length before + length own
   count = length-behind own before
 
   pub within : KeysAreWithin (length before) (length now) own
-  within = line_within (length before) (length now) (length before) (depth before) (first_of before) [] (x ∷ xs) (omega arith)
-      (omega (arith, count, length-line_pieces (length before) (depth before) (first_of before) [] (x ∷ xs))) tt
+  within = line_within (length before) (length now) (length before) (depth before) (slice_get before 0) [] (x ∷ xs) (omega arith)
+      (omega (arith, count, length-line_pieces (length before) (depth before) (slice_get before 0) [] (x ∷ xs))) tt
 
 -- no key of later lines begins in earlier ones
-pub none_later : (ls : List (List Token)) (before : List KeyedToken) → AreLines (line_of (first_of before)) ls → (i : ℕ) → i < length before → begins_key i (keyed_tokens before (joined ls)) ≡ false
+pub none_later : (ls : List (List Token)) (before : List KeyedToken) → AreLines (line_of (slice_get before 0)) ls → (i : ℕ) → i < length before → begins_key i (keyed_tokens before (joined ls)) ≡ false
 none_later [] before h i below = refl
 none_later ([] ∷ ls) before h i below = absurd h
 none_later ((x ∷ xs) ∷ ls) before h i below =
@@ -156,13 +155,13 @@ to_end-append all cs i ps qs =
     ∙ append_assoc (marks all cs i ps) (marks all (open_behind_all all cs i ps) (i + length ps) qs) _
 
 abbrev pub at : List KeyedToken → List OpenBlock → MarkerValue
-at before cs = record { count = length before; depth = depth before; latest = first_of before; open_ones = cs }
+at before cs = record { count = length before; depth = depth before; latest = slice_get before 0; open_ones = cs }
 
-pub at_of : (n d : ℕ) (latest : Option KeyedToken) (cs : List OpenBlock) (before : List KeyedToken) → length before ≡ n → depth before ≡ d → first_of before ≡ latest →
+pub at_of : (n d : ℕ) (latest : Option KeyedToken) (cs : List OpenBlock) (before : List KeyedToken) → length before ≡ n → depth before ≡ d → slice_get before 0 ≡ latest →
     at before cs ≡ record { count = n; depth = d; latest = latest; open_ones = cs }
 at_of n d latest cs before c e l = cc
 
-by_lines : (ls : List (List Token)) (before : List KeyedToken) (cs : List OpenBlock) (all : List KeyedToken) → AreLines (line_of (first_of before)) ls →
+by_lines : (ls : List (List Token)) (before : List KeyedToken) (cs : List OpenBlock) (all : List KeyedToken) → AreLines (line_of (slice_get before 0)) ls →
     ((i : ℕ) → length before ≤ i → begins_key i all ≡ begins_key i (keyed_tokens before (joined ls))) →
     marks_by_lines (at before cs) ls ≡ to_end all cs (length before) (keyed_tokens before (joined ls))
 by_lines [] before cs all h g = refl
@@ -171,7 +170,7 @@ by_lines ((x ∷ xs) ∷ ls) before cs all h g =
     let ps = own before x xs h.0 h.1.0 in
     let before' = now before x xs h.0 h.1.0 in
     let qs = keyed_tokens before' (joined ls) in
-    let lines : AreLines (line_of (first_of before')) ls = subst (λ l. AreLines l ls) (sym (latest before x xs h.0 h.1.0)) h.1.1 in
+    let lines : AreLines (line_of (slice_get before' 0)) ls = subst (λ l. AreLines l ls) (sym (latest before x xs h.0 h.1.0)) h.1.1 in
     let n : length before' ≡ length before + length ps = count before x xs h.0 h.1.0 in
     let either : (i : ℕ) → length before ≤ i → begins_key i all ≡ (begins_key i ps || begins_key i qs) =
     λ i l. g i l ∙ ap (begins_key i) (split before x xs h.0 h.1.0 (joined ls)) ∙ list_any-append (λ p. is_at i p.key) ps qs in
@@ -185,7 +184,7 @@ by_lines ((x ∷ xs) ∷ ls) before cs all h g =
     let opened : open_behind_all all cs (length before) ps ≡ open_behind_all ps cs (length before) ps = same_open all ps cs (length before) (length before') ps fits in_line in
     let cs' = open_behind_all ps cs (length before) ps in
     let state : at before' cs' ≡ behind_line (at before cs) (x ∷ xs) =
-    at_of _ _ _ cs' before' (n ∙ ap (λ k. length before + k) (length-line_pieces (length before) (depth before) (first_of before) [] (x ∷ xs)))
+    at_of _ _ _ cs' before' (n ∙ ap (λ k. length before + k) (length-line_pieces (length before) (depth before) (slice_get before 0) [] (x ∷ xs)))
     (depth-behind before [] (x ∷ xs)) (first-behind ps before) in
     ap (λ b. marks ps cs (length before) ps ++ marks_by_lines b ls) (sym state)
     ∙ ap (λ ws. marks ps cs (length before) ps ++ ws) (by_lines ls before' cs' all lines below)

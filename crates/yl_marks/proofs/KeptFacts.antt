@@ -1,8 +1,7 @@
 -- The facts of lexemes, by what is kept of those before them.
-use Rattle.std.proofs.Common.{◌≡◌, ◌+◌, ◌<◌, ◌≤◌, ◌&&◌, ◌||◌, ℕ, suc, Bool, not, arith, List, [], ◌∷◌, ◌++◌, Option, length, map, drop, drop-cons, get_or, refl, sym, ◌∙◌, ap, add-one, append_assoc, append-nil}
+use Rattle.std.proofs.Common.{◌≡◌, ◌+◌, ◌<◌, ◌≤◌, ◌&&◌, ◌||◌, ℕ, suc, Bool, not, arith, List, [], ◌∷◌, ◌++◌, Option, length, map, drop, drop-cons, get_or, refl, sym, ◌∙◌, ap, add-one, append_assoc, append-nil, slice_get}
 use Rattle.std.proofs.lemmas.List.{drop_all, length-map}
 use Rattle.yl_lexeme.specs.Lexeme.{LexemeValue}
-use Rattle.yl_lexeme.specs.Kept.{first_of}
 use Rattle.yl_marks.specs.declared.token.Token.{Token}
 use Rattle.yl_marks.specs.declared.symbol.KeyedToken.{KeyedToken}
 use Rattle.yl_marks.specs.declared.symbol.Marking.{Marking}
@@ -14,7 +13,7 @@ use Rattle.yl_marks.specs.FactsByLine.{ahead_of_all, fact_by, facts_ahead, has_k
 
 -- ---- what is kept suffices
 
-value_next : (ps : List KeyedToken) → has_key (first_of ps) ≡ is_value_next ps
+value_next : (ps : List KeyedToken) → has_key (slice_get ps 0) ≡ is_value_next ps
 value_next [] = refl
 value_next (p ∷ ps) = refl
 
@@ -49,18 +48,18 @@ module _ (all : List KeyedToken) (ahead ahead' : KeyFacts) (first i : ℕ) (d : 
   one_more : first + (i + 1) ≡ suc (first + i)
   one_more = omega arith
 
-  here : facts_ahead ahead all (first + i) (drop i all) ≡ fact_by ahead m (first_of (drop (i + 1) all)) ∷ facts_ahead ahead' all (first + (i + 1)) (drop (i + 1) all)
+  here : facts_ahead ahead all (first + i) (drop i all) ≡ fact_by ahead m (slice_get (drop (i + 1) all) 0) ∷ facts_ahead ahead' all (first + (i + 1)) (drop (i + 1) all)
   here =
       ap (facts_ahead ahead all (first + i)) (drop-cons all i d inside)
-      ∙ ap (λ n. fact_by ahead m (first_of (drop n all)) ∷ facts_ahead (next_ahead ahead m) all (suc (first + i)) (drop n all)) (sym (add-one i))
-      ∙ ap (λ n. fact_by ahead m (first_of (drop (i + 1) all)) ∷ facts_ahead (next_ahead ahead m) all n (drop (i + 1) all)) (sym one_more)
-      ∙ ap (λ a. fact_by ahead m (first_of (drop (i + 1) all)) ∷ facts_ahead a all (first + (i + 1)) (drop (i + 1) all)) (sym (ahead_is ∙ ap (next_ahead ahead) m_is))
+      ∙ ap (λ n. fact_by ahead m (slice_get (drop n all) 0) ∷ facts_ahead (next_ahead ahead m) all (suc (first + i)) (drop n all)) (sym (add-one i))
+      ∙ ap (λ n. fact_by ahead m (slice_get (drop (i + 1) all) 0) ∷ facts_ahead (next_ahead ahead m) all n (drop (i + 1) all)) (sym one_more)
+      ∙ ap (λ a. fact_by ahead m (slice_get (drop (i + 1) all) 0) ∷ facts_ahead a all (first + (i + 1)) (drop (i + 1) all)) (sym (ahead_is ∙ ap (next_ahead ahead) m_is))
 
-  pub facts_more : (next : Option KeyedToken) (fact : KeyFacts) (facts facts' whole : List KeyFacts) → next ≡ first_of (drop (i + 1) all) →
+  pub facts_more : (next : Option KeyedToken) (fact : KeyFacts) (facts facts' whole : List KeyFacts) → next ≡ slice_get (drop (i + 1) all) 0 →
       fact ≡ fact_by ahead (record { piece = get_or all i d; begins_key = begins }) next → facts' ≡ facts ++ fact ∷ [] →
       facts ++ facts_ahead ahead all (first + i) (drop i all) ≡ whole → facts' ++ facts_ahead ahead' all (first + (i + 1)) (drop (i + 1) all) ≡ whole
   facts_more next fact facts facts' whole next_is fact_is facts_is e =
-      let fact_here : fact ≡ fact_by ahead m (first_of (drop (i + 1) all)) =
+      let fact_here : fact ≡ fact_by ahead m (slice_get (drop (i + 1) all) 0) =
       fact_is ∙ ap (λ k. fact_by ahead k next) m_is ∙ ap (fact_by ahead m) next_is in
       ap (λ fs. fs ++ facts_ahead ahead' all (first + (i + 1)) (drop (i + 1) all)) facts_is
       ∙ append_assoc facts (fact ∷ []) _

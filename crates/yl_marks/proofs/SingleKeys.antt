@@ -1,11 +1,11 @@
 -- A line in which each key is one scalar or alias, directly before its Value: what a lexeme and the next one say is all that counts.
-use Rattle.std.proofs.Common.{◌≡◌, ◌≢◌, ◌<◌, ◌≤◌, ◌||◌, ◌&&◌, ℕ, suc, add-one, Bool, true, false, cond, not, List, [], ◌∷◌, ◌++◌, Option, Some, None, is_some, refl, sym, ◌∙◌, ap, arith}
+use Rattle.std.proofs.Common.{◌≡◌, ◌≢◌, ◌<◌, ◌≤◌, ◌||◌, ◌&&◌, ℕ, suc, add-one, Bool, true, false, cond, not, List, [], ◌∷◌, ◌++◌, Option, Some, None, is_some, refl, sym, ◌∙◌, ap, arith, slice_get}
 use Rattle.std.proofs.Math.Bool.{or-false}
 use Rattle.yl_lexeme.specs.declared.lexeme.Kind.{Kind}
 use Rattle.yl_lexeme.specs.declared.lexeme.Kind.TheVariants.{Directive, DocStart, DocEnd, Entry, Key, Value, Comma, SeqOpen, SeqClose, MapOpen, MapClose, Alias, Anchor, Tag, Scalar}
 use Rattle.yl_lexeme.specs.Lexeme.{is_closing, is_leaf, is_property, is_value}
 use Rattle.yl_lexeme.specs.Past.{is_near}
-use Rattle.yl_lexeme.specs.Kept.{KeyUnitValue, content_start, first_of, key_unit_behind, no_key_unit}
+use Rattle.yl_lexeme.specs.Kept.{KeyUnitValue, content_start, key_unit_behind, no_key_unit}
 use Rattle.yl_marks.specs.declared.token.Token.{Token}
 use Rattle.yl_marks.specs.declared.symbol.KeyedToken.{KeyedToken}
 use Rattle.yl_marks.specs.declared.symbol.KeyStart.{KeyStart}
@@ -126,7 +126,7 @@ own_key : (k : ℕ) (key : Option ℕ) → ((j : ℕ) → is_at j key ≡ true �
 own_key k None h = refl
 own_key k (Some j) h = let same : suc j ≡ suc k = h j (grind arith) in grind (arith, same)
 
-here : (k : ℕ) (ps : List KeyedToken) → Adjacent (suc k) ps → begins_key k ps ≡ has_key (first_of ps)
+here : (k : ℕ) (ps : List KeyedToken) → Adjacent (suc k) ps → begins_key k ps ≡ has_key (slice_get ps 0)
 here k [] a = refl
 here k (p ∷ ps) a = ap (λ b. is_at k p.key || b) (none_before k (suc (suc k)) ps a.1 (omega arith)) ∙ or-false (is_at k p.key) ∙ own_key k p.key a.0
 
@@ -134,7 +134,7 @@ here k (p ∷ ps) a = ap (λ b. is_at k p.key || b) (none_before k (suc (suc k))
 abbrev Covers : ℕ → List KeyedToken → List KeyedToken → Type 0
 Covers i all ps = (k : ℕ) → i ≤ k → begins_key k all ≡ begins_key k ps
 
-begins_next : (all : List KeyedToken) (i : ℕ) (p : KeyedToken) (ps : List KeyedToken) → Adjacent i (p ∷ ps) → Covers i all (p ∷ ps) → begins_key i all ≡ has_key (first_of ps)
+begins_next : (all : List KeyedToken) (i : ℕ) (p : KeyedToken) (ps : List KeyedToken) → Adjacent i (p ∷ ps) → Covers i all (p ∷ ps) → begins_key i all ≡ has_key (slice_get ps 0)
 begins_next all i p ps a c = c i (omega arith) ∙ ap (λ b. b || begins_key i ps) (not_at i i (is_at i p.key) (a.0 i) (omega arith)) ∙ here i ps a.1
 
 covers_next : (all : List KeyedToken) (i : ℕ) (p : KeyedToken) (ps : List KeyedToken) → Adjacent i (p ∷ ps) → Covers i all (p ∷ ps) → Covers (suc i) all ps
@@ -143,7 +143,7 @@ covers_next all i p ps a c k h = c k (omega arith) ∙ ap (λ b. b || begins_key
 -- ---- the marks and the facts of such lexemes
 
 abbrev next_marking : KeyedToken → List KeyedToken → Marking
-next_marking p ps = record { piece = p; begins_key = has_key (first_of ps) }
+next_marking p ps = record { piece = p; begins_key = has_key (slice_get ps 0) }
 
 abbrev next_markings : List KeyedToken → List Marking
 next_markings [] = []
@@ -169,7 +169,7 @@ next_facts : (all : List KeyedToken) (ahead : KeyFacts) (i : ℕ) (ps : List Key
 next_facts all ahead i [] a c = refl
 next_facts all ahead i (p ∷ ps) a c =
     let m = next_marking p ps in
-    ap (λ m. fact_by ahead m (first_of ps) ∷ facts_ahead (next_ahead ahead m) all (suc i) ps) (same_marking all i p ps a c)
+    ap (λ m. fact_by ahead m (slice_get ps 0) ∷ facts_ahead (next_ahead ahead m) all (suc i) ps) (same_marking all i p ps a c)
     ∙ ap (λ fs. single_fact ahead m ∷ fs) (next_facts all (next_ahead ahead m) (suc i) ps a.1 (covers_next all i p ps a c))
 
 next_said : (all : List KeyedToken) (ahead : KeyFacts) (i : ℕ) (ps : List KeyedToken) → Adjacent i ps → Covers i all ps → ahead_of_all ahead all i ps ≡ ahead_of_each ahead (next_markings ps)
@@ -186,7 +186,7 @@ some_if : {A : Type 0} (b : Bool) (o : Option A) → is_some (cond b o None) ≡
 some_if true o = refl
 some_if false o = refl
 
-is_next : (count depth : ℕ) (latest : Option KeyedToken) (place : Option KeyStart) (xs : List Token) → has_key (first_of (single_pieces count depth latest place xs)) ≡ is_key_next place xs
+is_next : (count depth : ℕ) (latest : Option KeyedToken) (place : Option KeyStart) (xs : List Token) → has_key (slice_get (single_pieces count depth latest place xs) 0) ≡ is_key_next place xs
 is_next count depth latest place [] = refl
 is_next count depth latest place (x ∷ xs) = some_if (is_value x.kind) (key_at x.start.col place)
 

@@ -1,9 +1,8 @@
 -- Bridge: the facts of lexemes by what is kept of those before them, line by line. A key and its Value begin in one line (YAML 1.2.2,
 -- 7.4.2 and 8.2.2), so whether a key begins or ends at a lexeme shows in the lexeme's own line.
-use Rattle.std.specs.Prelude.{ℕ, suc, ◌≡◌, Bool, false, not, ◌&&◌, ◌||◌, if◌then◌else◌, List, [], ◌∷◌, ◌++◌, map, Option, Some, None, is_some}
+use Rattle.std.specs.Prelude.{ℕ, suc, ◌≡◌, Bool, false, not, ◌&&◌, ◌||◌, if◌then◌else◌, List, [], ◌∷◌, ◌++◌, map, Option, Some, None, is_some, slice_get}
 use Rattle.yl_lexeme.specs.declared.lexeme.Kind.{Kind}
 use Rattle.yl_lexeme.specs.Lexeme.{LexemeValue, is_key, is_property}
-use Rattle.yl_lexeme.specs.Kept.{first_of}
 use Rattle.yl_marks.specs.declared.token.Token.{Token}
 use Rattle.yl_marks.specs.declared.symbol.KeyedToken.{KeyedToken}
 use Rattle.yl_marks.specs.declared.symbol.Marking.{Marking}
@@ -41,7 +40,7 @@ nothing_ahead = record { is_key = false; has_tag = false }
 -- the facts of the lexemes from this index on
 abbrev pub facts_ahead : KeyFacts → List KeyedToken → ℕ → List KeyedToken → List KeyFacts
 facts_ahead ahead all i [] = []
-facts_ahead ahead all i (p ∷ ps) = fact_by ahead (marking all i p) (first_of ps) ∷ facts_ahead (next_ahead ahead (marking all i p)) all (suc i) ps
+facts_ahead ahead all i (p ∷ ps) = fact_by ahead (marking all i p) (slice_get ps 0) ∷ facts_ahead (next_ahead ahead (marking all i p)) all (suc i) ps
 
 -- behind them
 abbrev pub ahead_of_all : KeyFacts → List KeyedToken → ℕ → List KeyedToken → KeyFacts

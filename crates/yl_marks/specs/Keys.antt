@@ -1,12 +1,11 @@
 -- Meaning: keys, and where they may begin: YAML 1.2.2, 7.4.2 and 8.2.2. Earlier lexemes are listed
 -- with the latest first.
-use Rattle.std.specs.Prelude.{ℕ, Bool, true, false, ◌&&◌, ◌||◌, ◌==◌, nat_lt, if◌then◌else◌, List, [], ◌∷◌, ◌+◌, ◌-◌, length, Option, Some, None, option_map, option_and_then}
+use Rattle.std.specs.Prelude.{ℕ, Bool, true, false, ◌&&◌, ◌||◌, ◌==◌, nat_lt, if◌then◌else◌, List, [], ◌∷◌, ◌+◌, ◌-◌, length, Option, Some, None, option_map, option_and_then, slice_get}
 use Rattle.std.specs.Option.{option_map_or}
 use Rattle.yl_lexeme.specs.declared.lexeme.Kind.{Kind}
 use Rattle.yl_lexeme.specs.Lexeme.{LexemeValue, is_document_marker, is_opening, is_closing, is_value}
 use Rattle.yl_lexeme.specs.Past.{opens_item, asks_behind, is_near}
 use Rattle.yl_lexeme.specs.Keys.{Spot, key_start}
-use Rattle.yl_lexeme.specs.Kept.{first_of}
 use Rattle.yl_marks.specs.declared.token.Token.{Token}
 use Rattle.yl_marks.specs.declared.symbol.KeyedToken.{KeyedToken}
 use Rattle.yl_marks.specs.declared.symbol.KeyStart.{KeyStart}
@@ -66,7 +65,7 @@ keyed_token_at x depth latest key = record {
 
 -- a Value's key is the unit directly before it, all of it in the Value's line
 abbrev pub keyed_token : Token → List KeyedToken → KeyedToken
-keyed_token x before = keyed_token_at x (depth before) (first_of before) (key_start (tokens_of_line x.start.line before))
+keyed_token x before = keyed_token_at x (depth before) (slice_get before 0) (key_start (tokens_of_line x.start.line before))
 
 -- lexemes behind these earlier ones, each with what those say of it
 abbrev pub keyed_tokens : List KeyedToken → List Token → List KeyedToken

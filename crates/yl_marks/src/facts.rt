@@ -1,7 +1,6 @@
 //! What the keys of a document say of its lexemes.
 
-ghost use Rattle.std.specs.Prelude.{◌≡◌, ◌++◌, IfOk, OnOk};
-ghost use Rattle.yl_lexeme.specs.Kept.{first_of};
+ghost use Rattle.std.specs.Prelude.{◌≡◌, ◌++◌, IfOk, OnOk, slice_get};
 ghost use Rattle.yl_marks.specs.Marks.{AreBegins};
 ghost use Rattle.yl_marks.specs.FactsByLine.{ahead_of_all, fact_by, facts_ahead, has_key, has_tag_behind, is_key_behind, next_ahead};
 
@@ -52,7 +51,7 @@ fn has_key(piece: Option<KeyedToken>) -> bool
 
 /// The first of them, if there is one.
 fn first_of(pieces: &[KeyedToken]) -> Option<KeyedToken>
-    ensures { result ≡ first_of pieces.now }
+    ensures { result ≡ slice_get pieces.now 0 }
 {
     match pieces {
         [] => None,

@@ -1,4 +1,4 @@
--- Bridge: problems in the order of a report.
+-- Meaning: problems in the order of a report.
 use Rattle.std.specs.Prelude.{Bool, if◌then◌else◌, List, [], ◌∷◌}
 use Rattle.std.specs.Ordering.{is_lt}
 use Rattle.std.specs.declared.cmp.Ordering.{Ordering}

@@ -1,8 +1,7 @@
 -- Meaning: comments that say the same of all lines behind their sections.
 use Rattle.std.specs.Prelude.{◌≡◌, List}
 use Rattle.std.specs.List.{AllByRecursion}
-use Rattle.yl_sections.specs.Kept.{KeptValue}
-use Rattle.yl_rejudge.specs.Places.{rows_kept}
+use Rattle.yl_sections.specs.Kept.{KeptValue, rows_kept}
 use Rattle.yl_lint.specs.Switches.{SpeaksWithin, switch_texts}
 use Rattle.yl_lint.specs.TextReport.{comments_in_sections, shown}
 

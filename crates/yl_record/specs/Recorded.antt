@@ -1,4 +1,4 @@
--- Meaning: the records of the rows that a recorder was fed, and of those that follow.
+-- Bridge: the records of the rows that a recorder was fed, and of those that follow.
 use Rattle.std.specs.Prelude.{ℕ, Bool, true, false, List, ◌++◌, ◌+◌, ◌-◌, map, length, Option, Some, None}
 use Rattle.yl_text.specs.Character.{indentation}
 use Rattle.yl_lexeme.specs.Known.{SurroundingsValue}

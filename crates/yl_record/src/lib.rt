@@ -8,6 +8,7 @@ mod record;
 mod recorder;
 mod rows;
 mod sharing;
+mod white;
 
 pub use record::Record;
 pub use recorder::Recorder;

@@ -1,9 +1,13 @@
 //! What is kept of a row.
 
-ghost use Rattle.std.specs.Prelude.{◌≡◌, ◌++◌, ◌∷◌, [], None, Some, true, false, IfOk, OnOk};
+ghost use Rattle.std.specs.Prelude.{◌≡◌, ◌<◌, ◌^◌, ◌++◌, ◌∷◌, [], ℕ, List, None, Some, true, false, IfOk, OnOk, length};
+ghost use Rattle.std.specs.Str.{chars};
+ghost use Rattle.yl_row.specs.Entries.{Stopped};
 ghost use Rattle.yl_record.specs.Beside.{comment_beside, fault_beside, indentation_beside, state_beside};
 ghost use Rattle.yl_record.specs.Parts.{entry_with_last, entry_with_fault};
+ghost use Rattle.yl_record.specs.Records.{records_from};
 
+use crate::white::{is_blank, spaces_before};
 use std::alloc::{AllocError, Allocator};
 use std::marker::Model;
 use std::mem;
@@ -115,6 +119,25 @@ impl<A: Allocator> Record<A> {
             Beside::WithState { indentation, .. } => *indentation,
             Beside::WithExtra { indentation, .. } => *indentation,
             Beside::WithBoth { indentation, .. } => *indentation,
+        }
+    }
+}
+
+impl<A: Allocator + Copy> Record<A> {
+    /// The record of a row of this text at which reading has stopped. Nothing is read of the row but whether it is blank and how many
+    /// spaces it begins with. Takes no memory.
+    pub fn unread(alloc: A, text: &str) -> Record<A>
+        requires { length (chars text.now) < 2 ^ 31 }
+        ensures { (rows : List (List ℕ)) → records_from Stopped (chars text.now ∷ rows) ≡ result ∷ records_from Stopped rows }
+    {
+        let state = if is_blank(text) {
+            None
+        } else {
+            Some(LineState::stopped())
+        };
+        Record {
+            lexemes: Vec::new(alloc),
+            beside: beside_of(spaces_before(text), state),
         }
     }
 }

@@ -11,32 +11,11 @@ ghost use Rattle.yl_record.specs.Parts.{LiesIn, entries_in, entries_with_end, en
 
 use crate::record::{Record, push_lexeme, record_of, set_fault};
 use crate::sharing::shared;
+use crate::white::spaces_before;
 use std::alloc::{AllocError, Allocator};
 use yl_lexeme::Lexeme;
 use yl_row::PlacedScanFault;
 use yl_scan::{FaultAbove, LexemeAbove, Step};
-
-/// How many bytes at the front are spaces.
-fn leading_spaces_in(bytes: &[u8]) -> usize
-    ensures { result ≡ indentation bytes.now }
-{
-    bytes.iter().take_while(|byte| **byte == b' ').count()
-}
-
-/// How many spaces a row begins with. A space is one byte, and no byte of another character is one.
-fn leading_spaces(text: &str) -> usize
-    ensures { result ≡ indentation (chars text.now) }
-{
-    leading_spaces_in(text.as_bytes())
-}
-
-/// The same, of a row that is not too long.
-fn spaces_before(text: &str) -> u32
-    requires { length (chars text.now) < 2 ^ 31 }
-    ensures { result ≡ indentation (chars text.now) }
-{
-    leading_spaces(text) as u32
-}
 
 /// Adds a lexeme to the record at this place.
 fn put_lexeme<A: Allocator>(

@@ -4,5 +4,4 @@ pub mod SectionsEdited
 pub mod Bound
 pub mod Anew
 pub mod Outcome
-pub mod HeldRows
 pub mod Same

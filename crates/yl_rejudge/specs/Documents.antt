@@ -3,9 +3,8 @@ use Rattle.std.specs.Prelude.{◌≡◌, ◌<◌, ◌≤◌, ℕ, true, false, �
 use Rattle.yl_record.specs.Records.{RecordValue}
 use Rattle.yl_sections.specs.Sections.{lexemes_of}
 use Rattle.yl_sections.specs.Local.{is_start_at}
-use Rattle.yl_sections.specs.Kept.{document_count, KeptValue}
+use Rattle.yl_sections.specs.Kept.{document_count, KeptValue, rows_kept}
 use Rattle.yl_sections.specs.Front.{IsBare}
-use Rattle.yl_rejudge.specs.Places.{rows_kept}
 
 -- how many documents of these sections, of which the first begins at this line, hold one of the lines from r to m
 abbrev pub documents_holding : ℕ → ℕ → ℕ → List (List RecordValue) → ℕ

@@ -4,12 +4,8 @@ use Rattle.yl_record.specs.Records.{RecordValue}
 use Rattle.yl_sections.specs.Sections.{sections}
 use Rattle.yl_sections.specs.Local.{is_start_at}
 use Rattle.yl_sections.specs.Kept.{KeptValue}
+pub use Rattle.yl_sections.specs.Kept.{rows_kept}
 use Rattle.yl_rejudge.specs.declared.places.Place.{Place}
-
--- how many rows these sections have
-abbrev pub rows_kept : List KeptValue → ℕ
-rows_kept [] = 0
-rows_kept (k ∷ ks) = k.rows + rows_kept ks
 
 -- a section begins with its row, or all of them have so many
 pub record IsAt (ks : List KeptValue) (p : Place) : Type 0 where

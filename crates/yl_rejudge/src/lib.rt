@@ -12,4 +12,4 @@ mod starts;
 
 pub use places::Place;
 pub use rejudging::{Rejudged, rejudge};
-pub use starts::is_start_at;
+pub use starts::{is_start_at, kind_before};

@@ -18,7 +18,7 @@ use yl_chunks::{Chunks, Spliced};
 use yl_config::Config;
 use yl_lexeme::Meter;
 use yl_record::Record;
-use yl_retyped::{hold_lexeme, keep_sections};
+use yl_retyped::keep_sections;
 use yl_sections::{Kept, judge_all, kept_of_front};
 
 /// What is kept of the sections from one on to before `end`, both counted from 0, becomes this.
@@ -189,29 +189,12 @@ fn is_in_section<A: Allocator + Copy>(kept: &Chunks<Kept<A>, A>, place: Place, e
     end - place.row <= kept.get(place.section).rows() as usize
 }
 
-/// Counts the document of a section that stays, if a lexeme begins in one of these of its rows: of others nothing was read.
-fn count_kept<A: Allocator + Copy>(
-    records: &Spliced<'_, Record<A>, A>,
-    from: usize,
-    end: usize,
-    meter: &mut Meter,
-)
-    requires within { end ≤ length records.now }
-    requires meter { meter.old.documents < 2 ^ 32 - 1 }
-    ensures documents { (m : ℕ) → end ≤ m + 1 → meter.new.documents ≤ meter.old.documents + documents_holding 0 from m (sections records.now) }
-    ensures lines { meter.new.lines ≡ meter.old.lines }
-{
-    if hold_lexeme(records, from, end) {
-        meter.documents += 1;
-    }
-}
-
 /// What is kept of the sections of the new records, from what is kept of those of the old ones: the new records are the old ones before
 /// row `from`, and from row `end` on the old ones from `old_end` on, rows counted from 0. Judges no section but those that hold a row
 /// from `from` on to before `end`, if the section above loses nothing but empty rows, and counts their documents in the meter. Where it is
-/// seen that the same is kept of one section that holds all of these rows, its document is looked through no more, and counted if a lexeme
-/// begins in them; the rows are compared for that if they are no more than the meter says were scanned. The first one is looked for from a
-/// section at or before it. The only error is out of memory.
+/// seen that the same is kept of one section that holds all of these rows, it is not judged, and its document is not counted; the rows are
+/// compared for that if they are no more than the meter says were scanned. The first one is looked for from a section at or before it. The
+/// only error is out of memory.
 pub fn rejudge<A: Allocator + Copy>(
     alloc: A,
     config: &Config,
@@ -247,7 +230,6 @@ pub fn rejudge<A: Allocator + Copy>(
         && is_in_section(kept, begin, end)
         && keep_sections(alloc, config, old, records, from, end)?
     {
-        count_kept(records, from, end, meter);
         return Ok(Rejudged {
             from: begin.section,
             end: begin.section,

@@ -9,7 +9,7 @@ use yl_record::Record;
 use yl_sections::{is_section_start, last_kind};
 
 /// The kind of the last lexeme before row `i`, counted from 0.
-fn kind_before<A: Allocator + Copy>(records: &Spliced<'_, Record<A>, A>, i: usize) -> Option<Kind>
+pub fn kind_before<A: Allocator + Copy>(records: &Spliced<'_, Record<A>, A>, i: usize) -> Option<Kind>
     requires { i ≤ length records.now }
     ensures { result ≡ kind_after None (take i records.now) }
 {

@@ -1,4 +1,4 @@
--- Bridge: what was found, as a problem of a report tells it.
+-- Meaning: what was found, as a problem of a report tells it.
 use Rattle.yl_text.specs.Finding.{FindingValue}
 use Rattle.yl_report.specs.Report.{ProblemValue}
 

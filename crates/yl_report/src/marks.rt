@@ -13,8 +13,8 @@ pub struct Switch {
     pub is_off: bool,
 }
 
-// Puts a switch behind the others, without those that it makes void: that stand at or behind its
-// line.
+/// Adds a switch at the end, after taking away those of later lines, which it makes void. Of several at one line
+/// the last counts. The only error is out of memory.
 pub fn push_switch<A: Allocator>(
     switches: &mut Vec<Switch, A>,
     line: u64,

@@ -18,6 +18,7 @@ use Rattle.yl_sections.specs.Local.{begins_section, is_start_at, kind_after}
 use Rattle.yl_sections.specs.Sections.{is_section_start}
 use Rattle.yl_rescan.specs.Held.{AreHeld}
 use Rattle.yl_rescan.proofs.Made.{got_in_front}
+use Rattle.yl_rescan.proofs.Passed.{got_behind}
 
 -- ---- entries
 
@@ -74,12 +75,6 @@ none_from (Stands levels brackets last) t i r h x =
 none_in : (t : List (List ℕ)) (i : ℕ) (r : RecordValue) → slice_get (records t) i ≡ Some r → slice_get t i ≡ Some [] → r.entry.lexemes ≡ []
 none_in t i r h x =
     none_read true 0 0 no_surroundings t i r.entry (ap (λ (es : List RowEntry). slice_get es i) (run-entries t) ∙ entry_there (map indentation t) (entries t) i r h) x
-
-got_behind : {X : Type 0} (xs : List X) (n i : ℕ) → n ≤ i → slice_get (drop n xs) (i - n) ≡ slice_get xs i
-got_behind xs zero i o = let e : i - 0 ≡ i = omega arith in ap (λ k. slice_get xs k) e
-got_behind [] (suc n) i o = refl
-got_behind (x ∷ xs) (suc n) zero o = absurd (omega (arith, o))
-got_behind (x ∷ xs) (suc n) (suc i) o = let e : suc i - suc n ≡ i - n = omega arith in ap (λ k. slice_get (drop n xs) k) e ∙ got_behind xs n i (omega (arith, o))
 
 none_held : (t : List (List ℕ)) (cut : Option ℕ) (rs : List RecordValue) → AreHeld t cut rs → (i : ℕ) (r : RecordValue) → slice_get rs i ≡ Some r → slice_get t i ≡ Some [] → r.entry.lexemes ≡ []
 none_held t None rs held i r h x = none_in t i r (ap (λ (us : List RecordValue). slice_get us i) (sym held) ∙ h) x

@@ -28,13 +28,13 @@ drop_joined xs ys e c o l = same_lists _ _ (search (rules, places)) (λ k d h. g
 take_beyond : {X : Type 0} (xs ys : List X) (e k : ℕ) → e ≤ length xs → take (k + e) (take e xs ++ ys) ≡ take e xs ++ take k ys
 take_beyond xs ys e k l = same_lists _ _ (search (rules, places)) (λ k d h. grind (arith, places))
 
-take_part : {X : Type 0} (xs : List X) (a n : ℕ) → take (n - a) (drop a xs) ≡ drop a (take n xs)
+pub take_part : {X : Type 0} (xs : List X) (a n : ℕ) → take (n - a) (drop a xs) ≡ drop a (take n xs)
 take_part xs a n = same_lists _ _ (search (rules, places)) (λ k d h. grind (arith, places))
 
 take_both : {X : Type 0} (xs : List X) (e k : ℕ) → take e xs ++ take k (drop e xs) ≡ take (k + e) xs
 take_both xs e k = same_lists _ _ (search (rules, places)) (λ k d h. grind (arith, places))
 
-drop_both : {X : Type 0} (xs : List X) (a k : ℕ) → drop k (drop a xs) ≡ drop (a + k) xs
+pub drop_both : {X : Type 0} (xs : List X) (a k : ℕ) → drop k (drop a xs) ≡ drop (a + k) xs
 drop_both xs a k = same_lists _ _ (search (rules, places)) (λ k d h. grind (arith, places))
 
 pub in_two : {X : Type 0} (xs : List X) (c : ℕ) → take c xs ++ drop c xs ≡ xs
@@ -117,7 +117,7 @@ nothing_more : (i : ℕ) → i ≡ i + 0
 nothing_more i = omega arith
 
 -- by the state of a sound row of a text with which a section begins, it does
-begins_by : (t : List (List ℕ)) (i : ℕ) (s : LineStateValue) → state_of_row (records t) i ≡ Some s → is_start_at (records t) i ≡ true → begins_section (last_in s) (drop i (records t)) ≡ true
+pub begins_by : (t : List (List ℕ)) (i : ℕ) (s : LineStateValue) → state_of_row (records t) i ≡ Some s → is_start_at (records t) i ≡ true → begins_section (last_in s) (drop i (records t)) ≡ true
 begins_by t i Stopped h b =
     let e : is_start_at (records t) i ≡ false = ap (λ k. is_start_at (records t) k) (nothing_more i) ∙ (from_row None (records t) i 0 ∙ quiet (kind_after None (take i (records t))) (drop i (records t)) 0 (stopped_empty t i (sym (records_state t i) ∙ h))) in
     absurd (cc)

@@ -10,12 +10,12 @@ use Rattle.yl_row.specs.Entries.{LineStateValue, Stopped, entries}
 use Rattle.yl_scan.specs.Restart.{state_at}
 use Rattle.yl_record.specs.Records.{RecordValue, records, records_from}
 use Rattle.yl_sections.specs.Front.{IsFront}
-use Rattle.yl_sections.specs.Local.{is_start_at}
+use Rattle.yl_sections.specs.Local.{is_start_at, kind_after}
 use Rattle.yl_sections.proofs.Lost.{lost_rows}
 use Rattle.yl_rejudge.specs.Alike.{GoOnAlike}
 use Rattle.yl_rejudge.specs.Documents.{ReadsNothing, TakesNothing}
 use Rattle.yl_rejudge.proofs.SectionStarts.{not_first, same_before}
-use Rattle.yl_rescan.specs.Agree.{agree, agrees, counterpart, next_cut, read_beyond, state_of_row, BeginsBelow, EndsAt, GoesOn, MayKeep, StopsAt}
+use Rattle.yl_rescan.specs.Agree.{agree, agrees, counterpart, next_cut, read_beyond, state_of_row, BeginsBelow, EndsAt, GoesOn, MayKeep, StopsAt, StopsPassed}
 use Rattle.yl_rescan.specs.Held.{AreHeld, IsCutAt}
 use Rattle.yl_rescan.specs.Made.{HoldsEdit, WasRescanned}
 use Rattle.yl_rescan.specs.Rescan.{HasStoppedAt, IsAgreement, IsRescan, IsRestart, IsStop}
@@ -24,7 +24,9 @@ use Rattle.yl_rescan.specs.declared.scanning.ScanEnd.{ScanEnd}
 use Rattle.yl_rescan.specs.declared.scanning.ScanEnd.TheVariants.{Agreed, Halted, TextEnd}
 use Rattle.yl_rescan.proofs.Edits.{both_agree, front_again, grown, is_restart, is_some_of, is_stop, length-spliced, no_agreement, records_above, restart_found, restart_place, restarted, row_before, rows_above, state_above, stop_at_end, stop_found}
 use Rattle.yl_rescan.proofs.Held.{held_length, made_front, made_whole, true_front, true_state}
-use Rattle.yl_rescan.proofs.Outcomes.{alike_above, alike_by, alike_cut, alike_there, behind, cut_on, cut_there, not_kept, nothing_left, whole_agreed, whole_cut, whole_unread}
+use Rattle.yl_rescan.proofs.Outcomes.{alike_above, alike_by, alike_cut, alike_there, behind, cut_on, cut_there, not_kept, nothing_left, start_under, whole_agreed, whole_cut}
+use Rattle.yl_rescan.proofs.Passed.{passed_told}
+use Rattle.yl_rescan.proofs.Passing.{passed_bounds, passed_to}
 use Rattle.yl_rescan.proofs.Rows.{records_length, records_state, stopped_below}
 
 differ : (t : Bool) → t ≡ true → t ≡ false → ⊥
@@ -217,24 +219,18 @@ module _ (ps ns : List (List ℕ)) (a b : ℕ) (ordered : a ≤ b) (within : b �
     }
 
     -- the rows below it are passed
-    passed : (more : List RecordValue) → state_of_row all end ≡ Some Stopped → more ≡ records_from Stopped (drop end new)
-        → WasRescanned es ps new None a b (length ns) row (length es) (length new) n (items ++ more)
-    passed more stopped is =
-        let whole = whole_unread es items more new row end front h.told h.low stopped is in
-        let len : length (splice es row (length es) (items ++ more)) ≡ length new = ap (λ (rs : List RecordValue). length rs) whole ∙ records_length new in
-        record {
-          range = record { ordered = omega (arith, row_high, ordered, within, count); within = omega arith };
-          held = whole;
-          before = front ∙ ap (λ (rs : List RecordValue). take row rs) (sym whole);
-          behind = nothing es (splice es row (length es) (items ++ more)) (length es) (length new) (omega arith) (omega (arith, len));
-          within = omega arith;
-          some = omega (arith, len, length-spliced es (items ++ more) row (length es) (omega (arith, row_high, ordered, within, count)) (omega arith));
-          alike = nothing_left es (splice es row (length es) (items ++ more)) (length es) (length new) (omega (arith, len));
-          taken = takes_by state begins (splice es row (length es) (items ++ more)) len (λ l. ap (λ (rs : List RecordValue). is_start_at rs row) whole) (omega (arith, h.low, before));
-          below = tt;
-          holds = holds_by (length es) (length new) (omega (arith, within, count)) (omega (arith, many));
-          work = worked (length new) (inr stopped);
-        }
+    passed : state_of_row all end ≡ Some Stopped → (next : Option ℕ) (old_end below : ℕ) → StopsPassed es cut (kind_after None (take end made)) at end old_end below (length new) next
+        → WasRescanned es ps new next a b (length ns) row old_end below n (items ++ records_from Stopped (drop end (take below new)))
+    passed stopped next old_end below ends =
+        let bounds = passed_bounds es cut (kind_after None (take end made)) at end old_end below (length new) next ends (omega (arith, from, before, many, count, within)) range.within (omega (arith, before)) in
+        let low : end ≤ below = bounds.0 in
+        let least : at ≤ old_end = bounds.3 in
+        passed_to ps ns a b ordered within cut es held row end items
+        (record { front = front; told = h.told; low = h.low; high = h.high; halt = end; above = omega arith; stopped = stopped })
+        from range.ordered old_end below low bounds.1 bounds.2 (omega (arith, least, range.ordered)) next ends n
+        (λ len same. takes_by state begins (splice es row old_end (items ++ records_from Stopped (drop end (take below new)))) len
+        (λ l. same_before (splice es row old_end (items ++ records_from Stopped (drop end (take below new)))) all below row same (omega (arith, l, from, low))) (omega (arith, h.low, before)))
+        (holds_by old_end below (omega (arith, least)) (omega (arith, from, low))) (worked below (inr stopped))
 
   -- ---- what was found
 
@@ -330,53 +326,77 @@ module _ (ps ns : List (List ℕ)) (a b : ℕ) (ordered : a ≤ b) (within : b �
   pub kept : Keeps why (next_cut why cut (at_of why) end)
   kept may = kept_if why cut refl refl may
 
+  -- ---- where scanning began at a row at which reading had stopped, what is kept behind may be
+
+  under_above : (c : ℕ) → Some c ≡ cut → Agreed ≡ why → state_of_row es row ≡ Some Stopped → row < a → (t : Bool) → ltb (at_of Agreed) c ≡ t
+      → MayKeep (splice es row (at_of Agreed) items) Agreed (cond t (Some (c - at_of Agreed + end)) None)
+  under_above c f e stopped l false less = tt
+  under_above c f e stopped l true less =
+      let g = h.agreed (sym e) in
+      let s = both_agree (state_of_row es (at_of Agreed)) (state_of_row all end) g.1 in
+      let is = held_as (Some c) f in
+      let upper : at_of Agreed < c = ltb-true (at_of Agreed) c less in
+      let old_stopped : state_of_row (records ps) row ≡ Some Stopped = sym (true_state ps (Some c) es row is (omega (arith, upper, l, ordered))) ∙ stopped in
+      start_under ps ns a b ordered within es items row end front h.told h.low high' g.0.0 c is upper s.0 s.1 s.2 old_stopped
+      (sym (state_above ps ns a b ordered within row l) ∙ old_stopped) (omega (arith, upper, l, ordered))
+
+  under_if : (w : ScanEnd) (c : Option ℕ) → w ≡ why → c ≡ cut → w ≡ Agreed → state_of_row es row ≡ Some Stopped → row < a → MayKeep (splice es row (at_of w) items) w (next_cut w c (at_of w) end)
+  under_if Agreed None e f is stopped l = tt
+  under_if Agreed (Some c) e f is stopped l = under_above c f e stopped l (ltb (at_of Agreed) c) refl
+  under_if Halted c e f is stopped l = absurd (cc)
+  under_if TextEnd c e f is stopped l = absurd (cc)
+
+  begun_stopped : (s : Option LineStateValue) → BeginsBelow es a row s → s ≡ Some Stopped → (row < a) × (state_of_row es row ≡ Some Stopped)
+  begun_stopped None begun is = absurd (cc)
+  begun_stopped (Some s) begun is = (begun.0, begun.1 ∙ is)
+
+  pub kept_under : why ≡ Agreed → state ≡ Some Stopped → MayKeep (splice es row (at_of why) items) why (next_cut why cut (at_of why) end)
+  kept_under is stopped = let begun = begun_stopped state h.begins stopped in under_if why cut refl refl is begun.1 begun.0
+
   -- ---- where it may not be kept, reading has stopped
 
-  record IsHalted : Type 0 where
+  record IsHalted (w : ScanEnd) : Type 0 where
     from : stop ≤ end
     before : end < length new
     counted : n ≡ end - row + 1
     stopped : state_of_row all end ≡ Some Stopped
+    here : at_of w ≡ end - stop + b
 
   halted_above : (c : ℕ) → Some c ≡ cut → Agreed ≡ why → (t : Bool) → ltb (at_of Agreed) c ≡ t
-      → (MayKeep (splice es row (at_of Agreed) items) Agreed (cond t (Some (c - at_of Agreed + end)) None) → ⊥) → IsHalted
+      → (MayKeep (splice es row (at_of Agreed) items) Agreed (cond t (Some (c - at_of Agreed + end)) None) → ⊥) → IsHalted Agreed
   halted_above c f e true l refused =
       let g = h.agreed (sym e) in
       let s = both_agree (state_of_row es (at_of Agreed)) (state_of_row all end) g.1 in
       let is = not_kept ps ns a b ordered within es items row end front h.told h.low high' g.0.0 c (held_as (Some c) f) (ltb-true (at_of Agreed) c l) s.0 s.1 s.2 refused in
-      record { from = g.0.0; before = g.0.1; counted = one_more Agreed e refl; stopped = s.2 ∙ ap (λ (z : LineStateValue). Some z) is }
+      record { from = g.0.0; before = g.0.1; counted = one_more Agreed e refl; stopped = s.2 ∙ ap (λ (z : LineStateValue). Some z) is; here = refl }
   halted_above c f e false l refused = absurd (refused tt)
 
-  halted_if : (w : ScanEnd) (c : Option ℕ) → w ≡ why → c ≡ cut → (MayKeep (splice es row (at_of w) items) w (next_cut w c (at_of w) end) → ⊥) → IsHalted
+  halted_if : (w : ScanEnd) (c : Option ℕ) → w ≡ why → c ≡ cut → (MayKeep (splice es row (at_of w) items) w (next_cut w c (at_of w) end) → ⊥) → IsHalted w
   halted_if Agreed None e f refused = absurd (refused tt)
   halted_if Agreed (Some c) e f refused = halted_above c f e (ltb (at_of Agreed) c) refl refused
-  halted_if Halted c e f refused = let g = h.halted (sym e) in record { from = g.0.0; before = g.0.1; counted = one_more Halted e refl; stopped = g.1 }
+  halted_if Halted c e f refused = let g = h.halted (sym e) in record { from = g.0.0; before = g.0.1; counted = one_more Halted e refl; stopped = g.1; here = refl }
   halted_if TextEnd None e f refused = absurd (refused tt)
   halted_if TextEnd (Some c) e f refused = absurd (refused tt)
 
-  pub not_held : (more : List RecordValue) → (MayKeep (splice es row (at_of why) items) why (next_cut why cut (at_of why) end) → ⊥) → more ≡ records_from Stopped (drop end new)
-      → WasRescanned es ps new None a b (length ns) row (length es) (length new) n (items ++ more)
-  not_held more refused is = let s = halted_if why cut refl refl refused in passed s.from s.before s.counted more s.stopped is
+  pub not_held : (next : Option ℕ) (old_end below : ℕ) → (MayKeep (splice es row (at_of why) items) why (next_cut why cut (at_of why) end) → ⊥)
+      → StopsPassed es cut (kind_after None (take end (splice es row (at_of why) items))) (at_of why) end old_end below (length new) next
+      → WasRescanned es ps new next a b (length ns) row old_end below n (items ++ records_from Stopped (drop end (take below new)))
+  not_held next old_end below refused ends =
+      let s = halted_if why cut refl refl refused in
+      passed s.from s.before s.counted s.stopped next old_end below
+      (subst (λ k. StopsPassed es cut (kind_after None (take end (splice es row k items))) k end old_end below (length new) next) s.here ends)
 
 -- ---- an edit below the row at which the old records are cut
 
-module _ (ps ns : List (List ℕ)) (a b : ℕ) (ordered : a ≤ b) (within : b ≤ length ps) (cut : ℕ) (es : List RecordValue) (h : IsCutAt ps cut es) (below : cut < a) (items : List RecordValue)
-    (told : items ≡ records_from Stopped (drop cut (splice ps a b ns))) (some : 0 < length (splice ps a b ns)) where
+module _ (ps ns : List (List ℕ)) (a b : ℕ) (ordered : a ≤ b) (within : b ≤ length ps) (cut : ℕ) (es : List RecordValue) (h : IsCutAt ps cut es) (below : cut < a) (some : 0 < length (splice ps a b ns)) where
   abbrev edited : List (List ℕ)
   edited = splice ps a b ns
 
+  abbrev behind_edit : ℕ
+  behind_edit = a + length ns
+
   stays : state_of_row (records edited) cut ≡ Some Stopped
   stays = sym (state_above ps ns a b ordered within cut below) ∙ h.stopped
-
-  whole : splice es cut (length es) items ≡ records edited
-  whole =
-      whole_unread es [] items edited cut cut (h.front ∙ records_above ps ns a b ordered within cut Stopped below h.stopped)
-      (ap (λ k. take k (drop cut (records edited))) (zero_of cut)) (omega arith) stays told where
-        zero_of : (k : ℕ) → 0 ≡ k - k
-        zero_of k = omega arith
-
-  length_is : length (splice es cut (length es) items) ≡ length edited
-  length_is = ap (λ (rs : List RecordValue). length rs) whole ∙ records_length edited
 
   many_rows : length edited ≡ a + length ns + (length ps - b)
   many_rows = grown ps ns a b ordered within
@@ -384,17 +404,14 @@ module _ (ps ns : List (List ℕ)) (a b : ℕ) (ordered : a ≤ b) (within : b �
   count_rows : length es ≡ length ps
   count_rows = held_length ps (Some cut) es h
 
-  abbrev WorkBelow : Type 0
-  WorkBelow = IsRescan ps edited a b (length ns) cut (length edited) (length ns)
-
   restart_at : LastAbove (λ j. state_at (entries edited) j) cut a
   restart_at = restart_found ps ns a b ordered within cut below (is_some_of (state_at (entries edited) cut) Stopped (sym (records_state edited cut) ∙ stays))
 
   halts : HasStoppedAt edited cut
   halts = sym (records_state edited cut) ∙ stays
 
-  worked_at : (m : ℕ) → a + length ns ≤ m + 1 → cut ≤ m → IsStop ps edited (a + length ns) b m → WorkBelow
-  worked_at m enough low stop =
+  worked_at : (last m : ℕ) → a + length ns ≤ m + 1 → cut ≤ m → IsStop ps edited (a + length ns) b m → IsRescan ps edited a b (length ns) cut last (length ns)
+  worked_at last m enough low stop =
       let r = restart_at.is in
       let under = r.above in
       record {
@@ -408,28 +425,46 @@ module _ (ps ns : List (List ℕ)) (a b : ℕ) (ordered : a ≤ b) (within : b �
         below = inr (record { row = cut; within = low; stopped = halts });
       }
 
-  work_below : WorkBelow
-  work_below = elim (cases_lt (a + length ns) (length edited)) [
+  work_below : (last : ℕ) → IsRescan ps edited a b (length ns) cut last (length ns)
+  work_below last = elim (cases_lt (a + length ns) (length edited)) [
     | inl l ↦
         let found = stop_found ps ns a b ordered within (a + length ns) (omega arith) l in
         let m = found.from in
-        worked_at found.place (omega (arith, m)) (omega (arith, m, below)) (is_stop ps ns a b ordered within (a + length ns) (omega arith) l (λ j o k. absurd (omega (arith, o, k))) found)
+        worked_at last found.place (omega (arith, m)) (omega (arith, m, below)) (is_stop ps ns a b ordered within (a + length ns) (omega arith) l (λ j o k. absurd (omega (arith, o, k))) found)
     | inr l ↦
         let e : length edited - 1 + 1 ≡ length edited = omega (arith, some) in
-        worked_at (length edited - 1) (omega (arith, e, l, many_rows)) (omega (arith, e, many_rows, below)) (stop_at_end ps ns a b ordered within (length edited - 1) e (λ j o k. absurd (omega (arith, o, k, e, many_rows, l))))
+        worked_at last (length edited - 1) (omega (arith, e, l, many_rows)) (omega (arith, e, many_rows, below)) (stop_at_end ps ns a b ordered within (length edited - 1) e (λ j o k. absurd (omega (arith, o, k, e, many_rows, l))))
   ]
 
-  pub passed_below : WasRescanned es ps edited None a b (length ns) cut (length es) (length edited) (length ns) items
-  passed_below = record {
-    range = record { ordered = omega (arith, below, ordered, within, count_rows); within = omega arith };
-    held = whole;
-    before = h.front ∙ (records_above ps ns a b ordered within cut Stopped below h.stopped ∙ ap (λ (rs : List RecordValue). take cut rs) (sym whole));
-    behind = nothing es (splice es cut (length es) items) (length es) (length edited) (omega arith) (omega (arith, length_is));
-    within = omega arith;
-    some = omega (arith, length_is, length-spliced es items cut (length es) (omega (arith, below, ordered, within, count_rows)) (omega arith));
-    alike = nothing_left es (splice es cut (length es) items) (length es) (length edited) (omega (arith, length_is));
-    taken = record { within = omega (arith, length_is, many_rows, below); front = λ lost start. absurd (differ _ h.start lost) };
-    below = tt;
-    holds = record { above = inl below; old_lines = omega (arith, within, count_rows); new_lines = omega (arith, many_rows) };
-    work = work_below;
-  }
+  -- the records down to the edit's end
+  pub told_below : (items more : List RecordValue) → items ≡ [] ++ records_from Stopped (drop cut (take a edited)) → more ≡ items ++ records_from Stopped (drop a (take behind_edit edited))
+      → more ≡ take (behind_edit - cut) (drop cut (records edited))
+  told_below items more is rest =
+      let none : 0 ≡ cut - cut = omega arith in
+      let first : items ≡ take (a - cut) (drop cut (records edited)) =
+      is ∙ passed_told edited cut stays cut cut a [] (omega arith) (omega arith) (omega (arith, below)) (omega (arith, many_rows, records_length edited)) (ap (λ k. take k (drop cut (records edited))) none) in
+      rest ∙ passed_told edited cut stays cut a behind_edit items (omega (arith, below)) (omega (arith, below)) (omega arith) (omega (arith, many_rows, records_length edited)) first
+
+  pub passed_below : (items : List RecordValue) → items ≡ take (behind_edit - cut) (drop cut (records edited)) → (next : Option ℕ) (old_end last : ℕ)
+      → StopsPassed es (Some cut) (kind_after None (take behind_edit (splice es cut b items))) b behind_edit old_end last (length edited) next
+      → WasRescanned es ps edited next a b (length ns) cut old_end last (length ns) (items ++ records_from Stopped (drop behind_edit (take last edited)))
+  passed_below items told next old_end last ends =
+      let here : b ≡ behind_edit - behind_edit + b = omega arith in
+      let bounds = passed_bounds es (Some cut) (kind_after None (take behind_edit (splice es cut b items))) b behind_edit old_end last (length edited) next ends (omega (arith, many_rows, count_rows, within))
+      (omega (arith, count_rows, within)) (omega (arith, many_rows)) in
+      let low : behind_edit ≤ last = bounds.0 in
+      let least : b ≤ old_end = bounds.3 in
+      passed_to ps ns a b ordered within (Some cut) es h cut behind_edit items
+      (record {
+        front = h.front ∙ records_above ps ns a b ordered within cut Stopped below h.stopped;
+        told = told;
+        low = omega (arith, below);
+        high = omega (arith, many_rows);
+        halt = cut;
+        above = omega (arith, below);
+        stopped = stays;
+      })
+      (omega arith) (omega (arith, below, ordered)) old_end last low bounds.1 bounds.2 (omega (arith, least, below, ordered)) next
+      (subst (λ k. StopsPassed es (Some cut) (kind_after None (take behind_edit (splice es cut k items))) k behind_edit old_end last (length edited) next) here ends) (length ns)
+      (λ len same. record { within = omega (arith, len, many_rows, below); front = λ lost start. absurd (differ _ h.start lost) })
+      (record { above = inl below; old_lines = least; new_lines = low }) (work_below last)

@@ -16,6 +16,7 @@ use Rattle.yl_rescan.specs.Agree.{state_of_row}
 use Rattle.yl_rescan.specs.Held.{IsCutAt, last_in}
 use Rattle.yl_rescan.proofs.Edits.{rows_behind, same_behind}
 use Rattle.yl_rescan.proofs.Held.{cut_here, cut_moved, made_behind, made_beyond, made_front, made_whole, true_front, true_state}
+use Rattle.yl_rescan.proofs.Passed.{kind_passed}
 use Rattle.yl_rescan.proofs.Rows.{records_state, sound_behind, state_behind}
 use Rattle.yl_rescan.proofs.Starts.{by_kind, by_start, none_among}
 
@@ -131,6 +132,16 @@ module _ (ps ns : List (List ℕ)) (a b : ℕ) (ordered : a ≤ b) (within : b �
     pub cut_on : is_start_at made c ≡ true → IsCutAt new c made
     cut_on start = cut_moved ps new es made n c h rows_back stopped made_upto made_back start
 
+    -- where reading has stopped above the edit in both texts, one does
+    pub start_under : state_of_row (records ps) row ≡ Some Stopped → state_of_row all row ≡ Some Stopped → row ≤ n → is_start_at made c ≡ true
+    start_under x' y' o =
+        let kinds : kind_after None (take c made) ≡ kind_after None (take n es) =
+        ap (λ (rs : List RecordValue). kind_after None rs) made_upto
+        ∙ (kind_passed new row y' row c (omega arith) (omega (arith, low))
+        ∙ (ap (λ (rs : List RecordValue). kind_after None rs) (sym front ∙ true_front ps (Some n) es row h o)
+        ∙ (sym (kind_passed ps row x' row n (omega arith) o) ∙ ap (λ (rs : List RecordValue). kind_after None rs) (sym h.front)))) in
+        ap (λ (k : Option Kind). begins_section k (drop c made)) kinds ∙ (ap (λ (rs : List RecordValue). begins_section (kind_after None (take n es)) rs) made_back ∙ h.start)
+
     -- if the kinds are the same, a section begins there
     start_by : (z : LineStateValue) → z ≡ s → (z ≡ Stopped → ⊥) → is_start_at made c ≡ true
     start_by Stopped is not = absurd (not refl)
@@ -175,18 +186,3 @@ module _ (ps ns : List (List ℕ)) (a b : ℕ) (ordered : a ≤ b) (within : b �
 
   pub alike_there : is_start_at es at ≡ true → is_start_at made end ≡ true → GoOnAlike es made at end
   alike_there start begins e b = by_start es made at end e (sym behind) start begins b
-
--- ---- reading has stopped: the rows below are passed
-
-closed : {X : Type 0} (xs rest : List X) (r e : ℕ) → r ≤ e → rest ≡ [] → take r xs ++ ((take (e - r) (drop r xs) ++ drop e xs) ++ rest) ≡ xs
-closed xs rest r e o none = rw (none) (same_lists _ _ (search (rules, places)) (λ k d h. grind (arith, places)))
-
-pub whole_unread : (es items more : List RecordValue) (new : List (List ℕ)) (row end : ℕ) → take row es ≡ take row (records new) → items ≡ take (end - row) (drop row (records new)) → row ≤ end
-    → state_of_row (records new) end ≡ Some Stopped → more ≡ records_from Stopped (drop end new) → splice es row (length es) (items ++ more) ≡ records new
-whole_unread es items more new row end front told low stopped is =
-    let all = records new in
-    let rest : more ≡ drop end all = is ∙ sym (sound_behind new end Stopped stopped) in
-    ap (λ (fs : List RecordValue). fs ++ ((items ++ more) ++ drop (length es) es)) front
-    ∙ (ap (λ (is : List RecordValue). take row all ++ ((is ++ more) ++ drop (length es) es)) told
-    ∙ (ap (λ (ms : List RecordValue). take row all ++ ((take (end - row) (drop row all) ++ ms) ++ drop (length es) es)) rest
-    ∙ closed all (drop (length es) es) row end low (drop_of_length-le es {i = length es} (omega arith))))

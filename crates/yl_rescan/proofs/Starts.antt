@@ -16,7 +16,7 @@ by_kind old new i j e kind same =
     ∙ (ap (λ (last : Option Kind). starts_after last (drop i old) e) (sym kind) ∙ sym (from_row None old i e)))
 
 -- what stands before a row that begins one does not count behind it
-alone : (last : Option Kind) (rs : List RecordValue) (e : ℕ) → begins_section last rs ≡ true → starts_after last rs (suc e) ≡ starts_after None rs (suc e)
+pub alone : (last : Option Kind) (rs : List RecordValue) (e : ℕ) → begins_section last rs ≡ true → starts_after last rs (suc e) ≡ starts_after None rs (suc e)
 alone last [] e b = absurd (cc)
 alone last (r ∷ rs) e b = ap (λ (k : Option Kind). starts_after k rs e) (last_anew last r.entry.lexemes b)
 

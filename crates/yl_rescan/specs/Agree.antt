@@ -1,10 +1,11 @@
 -- Bridge: states compared as the code does; where scanning begins, why it ends, and which row is cut at then.
-use Rattle.std.specs.Prelude.{◌≡◌, ◌<◌, ◌≤◌, ◌+◌, ◌-◌, ℕ, Bool, false, List, Option, true, ltb, if◌then◌else◌, Some, None, IsSome, slice_get}
+use Rattle.std.specs.Prelude.{◌≡◌, ◌<◌, ◌≤◌, ◌+◌, ◌-◌, ℕ, Bool, false, List, length, drop, Option, true, ltb, if◌then◌else◌, Some, None, IsSome, IfSome, slice_get}
+use Rattle.yl_lexeme.specs.declared.lexeme.Kind.{Kind}
 use Rattle.yl_row.specs.Entries.{LineStateValue, Stopped}
 use Rattle.yl_scan.specs.State.{state_eq}
 use Rattle.yl_record.specs.Records.{RecordValue}
 use Rattle.yl_record.specs.Recorder.{state_in}
-use Rattle.yl_sections.specs.Local.{is_start_at}
+use Rattle.yl_sections.specs.Local.{begins_section, is_start_at}
 use Rattle.yl_rescan.specs.declared.scanning.ScanEnd.{ScanEnd}
 use Rattle.yl_rescan.specs.declared.scanning.ScanEnd.TheVariants.{Agreed, Halted, TextEnd}
 
@@ -69,3 +70,12 @@ abbrev pub MayKeep : List RecordValue → ScanEnd → Option ℕ → Type 0
 MayKeep rs why (Some cut) = is_start_at rs cut ≡ true
 MayKeep rs Halted None = ⊥
 MayKeep rs why None = Unit {0}
+
+-- rows are passed from row `end` on, whose counterpart is the old row `at`, to before row `below`, whose counterpart is `old_end`: that is
+-- a sound row from the old cut on with which a section begins, and would where the last lexeme above it had this kind, and the new
+-- records are cut at it; or both are the ends, of a text of so many rows
+abbrev pub StopsPassed : List RecordValue → (cut : Option ℕ) → Option Kind → (at end old_end below count : ℕ) → (next : Option ℕ) → Type 0
+StopsPassed old cut last at end old_end below count None = (old_end ≡ length old) × (below ≡ count)
+StopsPassed old cut last at end old_end below count (Some c) =
+    (at ≤ old_end) × IfSome cut (λ n. n ≤ old_end) × (below ≡ old_end - at + end) × (c ≡ below) × IsSome (state_of_row old old_end) × (is_start_at old old_end ≡ true)
+    × (begins_section last (drop old_end old) ≡ true)

@@ -1,4 +1,4 @@
--- Meaning: the records that are kept of a text that is edited. Behind a scan fault nothing is read, so that what stands there may be kept
+-- Bridge: the records that are kept of a text that is edited. Behind a scan fault nothing is read, so that what stands there may be kept
 -- as it was before the fault came.
 use Rattle.std.specs.Prelude.{◌≡◌, ℕ, true, List, take, drop, Option, Some, None}
 use Rattle.yl_lexeme.specs.declared.lexeme.Kind.{Kind}

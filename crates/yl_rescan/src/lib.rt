@@ -4,6 +4,7 @@
 //! row behind it whose state is the old one's (`specs/Rescan.antt`). All others are the old ones.
 #![tactic(auto)]
 
+mod passing;
 mod rescanning;
 mod scanning;
 

@@ -1,24 +1,25 @@
 //! The records of an edited text.
-ghost use Rattle.std.specs.Prelude.{◌≡◌, ◌≤◌, ◌<◌, ◌+◌, ◌-◌, ◌^◌, ◌++◌, true, false, Some, None, Option, length, take, drop, IfOk, IfSome, OnOk};
+ghost use Rattle.std.specs.Prelude.{◌≡◌, ◌⊎◌, ◌≤◌, ◌<◌, ◌+◌, ◌-◌, ◌^◌, ◌++◌, true, false, Some, None, Option, length, take, drop, IfOk, IfSome, OnOk};
 ghost use Rattle.std.specs.List.{splice};
 ghost use Rattle.yl_text.specs.Store.{AreLines, IsRange};
 ghost use Rattle.yl_row.specs.Entries.{Stopped};
 ghost use Rattle.yl_record.specs.Records.{characters_in, records_from};
-ghost use Rattle.yl_sections.specs.Local.{is_start_at};
+ghost use Rattle.yl_sections.specs.Local.{is_start_at, kind_after};
 ghost use Rattle.yl_rejudge.specs.Alike.{GoOnAlike};
 ghost use Rattle.yl_rejudge.specs.Documents.{TakesNothing};
-ghost use Rattle.yl_rescan.specs.Agree.{counterpart, next_cut, MayKeep};
+ghost use Rattle.yl_rescan.specs.Agree.{counterpart, next_cut, MayKeep, StopsPassed};
 ghost use Rattle.yl_rescan.specs.Held.{AreHeld, IsCutAt};
 ghost use Rattle.yl_rescan.specs.Made.{HoldsEdit, WasRescanned};
 ghost use Rattle.yl_rescan.specs.Rescan.{IsRescan};
-ghost use Rattle.yl_rescan.specs.declared.scanning.ScanEnd.TheVariants.{TextEnd};
+ghost use Rattle.yl_rescan.specs.declared.scanning.ScanEnd.TheVariants.{Agreed, TextEnd};
 
-use crate::scanning::{ScanEnd, Scanned, last_sound, rescan_from, unread};
+use crate::passing::{feed_stopped, next_start, pass};
+use crate::scanning::{ScanEnd, Scanned, is_stopped, last_sound, rescan_from};
 use std::alloc::{AllocError, Allocator};
 use yl_chunks::{Chunks, Spliced};
 use yl_lexeme::Meter;
 use yl_record::Record;
-use yl_rejudge::is_start_at;
+use yl_rejudge::{is_start_at, kind_before};
 use yl_text::{LineStore, Lines, Patched, Row, rows_fit};
 
 /// What an edit does to a text's records: these come in place of those from `from` on, before `old_end`. They are those of the new
@@ -56,7 +57,8 @@ fn next_cut(why: ScanEnd, cut: Option<usize>, at: usize, end: usize) -> Option<u
     }
 }
 
-/// Whether what is kept behind the new records may be: a section begins with the row at which they are cut, or it is the new text's.
+/// Whether what is kept behind the new records may be: a section begins with the row at which they are cut, or it is the new text's. Where
+/// reading has stopped above the edit, in both texts, a section begins with that row as it did.
 fn may_keep<A: Allocator + Copy>(
     old: &Chunks<Record<A>, A>,
     from: usize,
@@ -64,46 +66,98 @@ fn may_keep<A: Allocator + Copy>(
     new: &[Record<A>],
     why: ScanEnd,
     cut: Option<usize>,
+    is_below_fault: bool,
 ) -> bool
     requires range { IsRange from at (length old.now.items) }
     requires few { length old.now.items + length new.now < 2 ^ 64 }
-    ensures kept { result ≡ true → MayKeep (splice old.now.items from at new.now) why cut }
+    ensures kept { result ≡ true → ((why ≡ Agreed) × (is_below_fault ≡ true)) ⊎ MayKeep (splice old.now.items from at new.now) why cut }
     ensures refused { result ≡ false → MayKeep (splice old.now.items from at new.now) why cut → ⊥ }
 {
     match (why, cut) {
+        (ScanEnd::Agreed, Some(_)) if is_below_fault => true,
         (_, Some(row)) => is_start_at(&Spliced::new(old, from, at, new), row),
         (ScanEnd::Halted, None) => false,
         _ => true,
     }
 }
 
-/// The new records, and behind them those of rows of which nothing is read, to the text's end.
-fn with_unread<L: Lines>(
+/// These new records, and after them those of the rows from their end on to before `end`, which are passed, since reading has stopped above
+/// them; in place of the old ones before `old_end`.
+fn passed_to<L: Lines>(
     alloc: L::Alloc,
     lines: &L,
-    from: usize,
-    old_len: usize,
+    read: Rescanned<L::Alloc>,
+    old_end: usize,
     end: usize,
-    records: Vec<Record<L::Alloc>, L::Alloc>,
+    cut: Option<usize>,
 ) -> Result<Rescanned<L::Alloc>, AllocError>
     requires lines { AreLines (L.rows lines.now) }
+    requires ordered { read.end ≤ end }
     requires within { end ≤ length (L.rows lines.now) }
-    ensures from { IfOk result (λ r. r.from ≡ from) }
-    ensures old_end { IfOk result (λ r. r.old_end ≡ old_len) }
-    ensures end { IfOk result (λ r. r.end ≡ length (L.rows lines.now)) }
-    ensures cut { IfOk result (λ r. r.cut ≡ None) }
-    ensures records { IfOk result (λ r. r.records.items ≡ records.items ++ records_from Stopped (characters_in (drop end (L.rows lines.now)))) }
+    ensures from { IfOk result (λ r. r.from ≡ read.from) }
+    ensures old_end { IfOk result (λ r. r.old_end ≡ old_end) }
+    ensures end { IfOk result (λ r. r.end ≡ end) }
+    ensures cut { IfOk result (λ r. r.cut ≡ cut) }
+    ensures records { IfOk result (λ r. r.records.items ≡ read.records.items ++ records_from Stopped (drop read.end (take end (characters_in (L.rows lines.now))))) }
 {
-    let mut all = records;
-    let mut rest = unread(alloc, lines, end)?;
-    all.append(&mut rest)?;
+    let Rescanned {
+        from,
+        end: begin,
+        records,
+        ..
+    } = read;
+    let mut records = records;
+    pass(alloc, lines, begin, end, &mut records)?;
     Ok(Rescanned {
         from,
-        old_end: old_len,
-        end: lines.len(),
-        records: all,
-        cut: None,
+        old_end,
+        end,
+        records,
+        cut,
     })
+}
+
+/// The first row from this one on that is not above row `cut`.
+fn first_below(cut: Option<usize>, at: usize) -> usize
+    ensures least { at ≤ result }
+    ensures below { IfSome cut (λ n. n ≤ result) }
+{
+    match cut {
+        None => at,
+        Some(row) => row.max(at),
+    }
+}
+
+/// These new records, and after them those of the rows below, which are passed, since reading has stopped above their end: down to the
+/// first of the old rows below with which a section begins, or to the text's end. The old rows above row `cut` are not looked at.
+fn with_passed<L: Lines>(
+    alloc: L::Alloc,
+    lines: &L,
+    old: &Chunks<Record<L::Alloc>, L::Alloc>,
+    cut: Option<usize>,
+    read: Rescanned<L::Alloc>,
+) -> Result<Rescanned<L::Alloc>, AllocError>
+    requires lines { AreLines (L.rows lines.now) }
+    requires within { read.end ≤ length (L.rows lines.now) }
+    requires rows { length old.now.items - read.old_end + read.end ≡ length (L.rows lines.now) }
+    requires range { IsRange read.from read.old_end (length old.now.items) }
+    requires len { read.end ≡ read.from + length read.records.items }
+    requires few { length old.now.items + length (L.rows lines.now) < 2 ^ 63 }
+    ensures from { IfOk result (λ r. r.from ≡ read.from) }
+    ensures records { IfOk result (λ r. r.records.items ≡ read.records.items ++ records_from Stopped (drop read.end (take r.end (characters_in (L.rows lines.now))))) }
+    ensures stops { IfOk result (λ r. StopsPassed old.now.items cut (kind_after None (take read.end (splice old.now.items read.from read.old_end read.records.items))) read.old_end read.end r.old_end r.end (length (L.rows lines.now)) r.cut) }
+{
+    let last = kind_before(
+        &Spliced::new(old, read.from, read.old_end, &read.records),
+        read.end,
+    );
+    if let Some(row) = next_start(old, first_below(cut, read.old_end), last) {
+        let end = row - read.old_end + read.end;
+        let to_row = passed_to(alloc, lines, read, row, end, Some(end))?;
+        return Ok(to_row);
+    }
+    let to_end = passed_to(alloc, lines, read, old.len(), lines.len(), None)?;
+    Ok(to_end)
 }
 
 /// The same as `rescan`, where the edit does not begin below the row at which the old records are cut.
@@ -133,8 +187,16 @@ fn rescan_above<S: LineStore>(
     let Scanned { records, end, why } = found;
     let at = counterpart(why, end, stop, b, old.len());
     let next = next_cut(why, cut, at, end);
-    if !may_keep(old, from.row, at, &records, why, next) {
-        let rescanned = with_unread(alloc, &patched, from.row, old.len(), end, records)?;
+    let is_below_fault = is_stopped(from.state);
+    if !may_keep(old, from.row, at, &records, why, next, is_below_fault) {
+        let read = Rescanned {
+            from: from.row,
+            old_end: at,
+            end,
+            records,
+            cut: None,
+        };
+        let rescanned = with_passed(alloc, &patched, old, cut, read)?;
         return Ok(rescanned);
     }
     Ok(Rescanned {
@@ -147,7 +209,7 @@ fn rescan_above<S: LineStore>(
 }
 
 /// The same, where it begins below row `cut`, at which the old records are cut: there reading has stopped, and so it has in the new text.
-/// So the new text's rows are not read, nor are those below it; the former count as scanned.
+/// So the records of the rows from there on say nothing. Of these rows the edit's own are scanned, and the others are passed.
 fn rescan_below<S: LineStore>(
     alloc: S::Alloc,
     store: &S,
@@ -169,17 +231,28 @@ fn rescan_below<S: LineStore>(
 {
     let patched = Patched::new(store, a, b, rows);
     rows_fit(&patched);
-    let rescanned = with_unread(alloc, &patched, cut, old.len(), cut, Vec::new(alloc))?;
-    meter.lines = rows.len() as u32;
+    let end = a + rows.len();
+    let mut records = Vec::new(alloc);
+    pass(alloc, &patched, cut, a, &mut records)?;
+    feed_stopped(alloc, &patched, a, end, &mut records, meter)?;
+    let read = Rescanned {
+        from: cut,
+        old_end: b,
+        end,
+        records,
+        cut: None,
+    };
+    let rescanned = with_passed(alloc, &patched, old, Some(cut), read)?;
     Ok(rescanned)
 }
 
 /// Scans a text again, where these rows are put in place of those from a on, before b. `old` is the records that are kept of the old text,
 /// from row `cut` on, if there is one, as they were before reading stopped there. It begins at the last sound row above the edit, and goes
 /// on to the first row behind it whose state is the old one's, or to the end. Where reading stops far from the text's end, it goes no
-/// further than to a row with which a section begins: what stands below it is kept. Counts the rows that it scans. Where the edit begins
-/// below row `cut`, or reading stops there again, the rows below are passed to the text's end: nothing is read of them, and they do not
-/// count. Rows are counted from 0. Nothing is changed; the only error is out of memory.
+/// further than to a row with which a section begins: what stands below it is kept. Where the edit begins below row `cut`, its own rows
+/// alone are scanned. Then, and where a section no longer begins with that row, the rows around them are passed, from row `cut` down to
+/// the first row below the edit with which a section begins, or to the text's end: nothing is read of these. Each row that is scanned
+/// counts in the meter, and no other. Rows are counted from 0. Nothing is changed; the only error is out of memory.
 pub fn rescan<S: LineStore>(
     alloc: S::Alloc,
     store: &S,

@@ -8,11 +8,11 @@ ghost use Rattle.yl_sections.specs.Local.{is_start_at};
 ghost use Rattle.yl_rescan.specs.Agree.{agree, agrees, state_of_row, read_beyond, BeginsAt, BeginsBelow, EndsAt, GoesOn, StopsAt};
 ghost use Rattle.yl_rescan.specs.declared.scanning.ScanEnd.TheVariants.{Agreed, Halted, TextEnd};
 
+use crate::passing::is_old_start;
 use std::alloc::{AllocError, Allocator};
-use yl_chunks::{Chunks, Spliced};
+use yl_chunks::Chunks;
 use yl_lexeme::Meter;
 use yl_record::{Record, Recorder};
-use yl_rejudge::is_start_at;
 use yl_scan::LineState;
 use yl_text::{Lines, rows_fit};
 
@@ -68,24 +68,13 @@ fn agree<A: Allocator + Copy>(
 }
 
 /// Whether this is the state of a row at which reading has stopped.
-fn is_stopped<A: Allocator + Copy>(state: Option<&LineState<A>>) -> bool
+pub fn is_stopped<A: Allocator + Copy>(state: Option<&LineState<A>>) -> bool
     ensures { IsTrue result ↔ (option_map (λ s. s.now) state.entry ≡ Some Stopped) }
 {
     match state {
         None => false,
         Some(state) => state.is_stopped(),
     }
-}
-
-/// Whether this row of the old records is sound, and a section begins with it; false says nothing.
-fn is_old_start<A: Allocator + Copy>(records: &Chunks<Record<A>, A>, row: usize) -> bool
-    ensures sound { result ≡ true → IsSome (state_of_row records.now.items row) }
-    ensures start { result ≡ true → is_start_at records.now.items row ≡ true }
-{
-    if row >= records.len() || records.get(row).state().is_none() {
-        return false;
-    }
-    is_start_at(&Spliced::new(records, 0, 0, &[]), row)
 }
 
 /// So many rows at a text's end are read again, and not kept behind a fault: then nothing stands below what is read.
@@ -228,24 +217,4 @@ pub fn rescan_from<L: Lines>(
         end: lines.len(),
         why: ScanEnd::TextEnd,
     })
-}
-
-/// The records of the rows from one on, counted from 0, where reading has stopped above it. Nothing is read of them but whether they are
-/// blank and how they are indented, and they do not count as scanned. The only error is out of memory.
-pub fn unread<L: Lines>(
-    alloc: L::Alloc,
-    lines: &L,
-    from: usize,
-) -> Result<Vec<Record<L::Alloc>, L::Alloc>, AllocError>
-    requires lines { AreLines (L.rows lines.now) }
-    requires within { from ≤ length (L.rows lines.now) }
-    ensures { IfOk result (λ records. records.items ≡ records_from Stopped (characters_in (drop from (L.rows lines.now)))) }
-{
-    rows_fit(lines);
-    let mut passed = Meter::new();
-    let mut recorder = Recorder::resume(&alloc, &LineState::stopped())?;
-    for i in from..lines.len() {
-        recorder.feed_text(lines.row(i).as_str(), &mut passed)?;
-    }
-    recorder.finish()
 }

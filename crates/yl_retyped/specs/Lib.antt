@@ -1,3 +1,2 @@
 pub mod Retyped
 pub mod Rows
-pub mod Holds

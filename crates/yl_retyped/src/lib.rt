@@ -9,4 +9,4 @@ mod lexemes;
 mod rows;
 mod staying;
 
-pub use staying::{hold_lexeme, keep_sections};
+pub use staying::keep_sections;

@@ -6,7 +6,6 @@ ghost use Rattle.yl_config.specs.Config.{options_of};
 ghost use Rattle.yl_sections.specs.Kept.{is_on};
 ghost use Rattle.yl_sections.specs.Judge.{kept_of_section};
 ghost use Rattle.yl_sections.specs.Sections.{sections};
-ghost use Rattle.yl_retyped.specs.Holds.{HoldsLexeme, HoldsNone};
 ghost use Rattle.yl_retyped.specs.Rows.{AreRowsAlike};
 
 use crate::rows::is_row_alike;
@@ -71,24 +70,6 @@ fn are_rows_alike<A: Allocator + Copy>(
         }
     }
     Ok(true)
-}
-
-/// Whether a lexeme begins in one of the rows from `from` on to before `end`, counted from 0.
-pub fn hold_lexeme<A: Allocator + Copy>(
-    records: &Spliced<'_, Record<A>, A>,
-    from: usize,
-    end: usize,
-) -> bool
-    requires { end ≤ length records.now }
-    ensures some { result ≡ true → HoldsLexeme records.now from end }
-    ensures none { result ≡ false → HoldsNone records.now from end }
-{
-    for i in from..end {
-        if !records.get(i).lexemes().is_empty() {
-            return true;
-        }
-    }
-    false
 }
 
 /// Whether it is seen that the same is kept of each section of the new records as of the old ones. The records are the same above row

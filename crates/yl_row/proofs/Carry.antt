@@ -15,7 +15,8 @@ use Rattle.yl_scalar.specs.PlainSteps.{PlainReaderValue, plain_extent, plain_ste
 use Rattle.yl_scalar.specs.Quoted.{Stretch, Closes, Breaks, Faulty, stretch, quote}
 use Rattle.yl_scalar.specs.Escape.{escape}
 use Rattle.yl_scalar.specs.QuotedSteps.{QuotedReaderValue, quoted_step, quoted_finish, quoted_step_behind, with_break}
-use Rattle.yl_scalar.specs.Block.{BlockReaderValue, block_extent, block_step, block_finish, text_line, with_content, deeper, unless_too_deep, spaces_with}
+use Rattle.yl_scalar.specs.Block.{BlockReaderValue, block_extent, block_step, block_finish, text_line, with_content, unless_too_deep, spaces_with}
+use Rattle.yl_scalar.specs.BlockLines.{deeper}
 use Rattle.yl_row.specs.Fault.{of_scalar, is_unclosed}
 use Rattle.yl_row.specs.ScalarReader.{ScalarReaderValue, InPlain, InQuoted, InBlock, map_step, reader_step, reader_finish, rows_in, KeepsSpaces}
 use Rattle.yl_row.proofs.Wholes.{PlainEnds, QuotedEnds, BlockEnds, behind, behind_content, plain_ends_at, quoted_ends_at, block_ends_at}

@@ -9,7 +9,8 @@ use Rattle.yl_scalar.specs.Plain.{part, reaches_end, continues}
 use Rattle.yl_scalar.specs.PlainSteps.{PlainReaderValue, plain_extent, with_line, plain_step_behind}
 use Rattle.yl_scalar.specs.Quoted.{Stretch, Closes, Breaks, Faulty, stretch}
 use Rattle.yl_scalar.specs.QuotedSteps.{QuotedReaderValue, quoted_step_behind, with_break}
-use Rattle.yl_scalar.specs.Block.{BlockReaderValue, block_extent, text_line, with_content, deeper, unless_too_deep, spaces_with}
+use Rattle.yl_scalar.specs.Block.{BlockReaderValue, block_extent, text_line, with_content, unless_too_deep, spaces_with}
+use Rattle.yl_scalar.specs.BlockLines.{deeper}
 use Rattle.yl_row.specs.ScalarReader.{ScalarReaderValue, InPlain, InQuoted, InBlock, map_step, reader_step, ColumnBy, StepBy}
 use Rattle.yl_row.proofs.Modes.{part_len, ClosesBy, stretch_closes}
 

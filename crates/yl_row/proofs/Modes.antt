@@ -11,11 +11,15 @@ use Rattle.yl_scalar.specs.Reader.{step_value}
 use Rattle.yl_scalar.specs.Allowed.{first_bad, is_quoted_character}
 use Rattle.yl_scalar.specs.Escape.{escape}
 use Rattle.yl_scalar.specs.Plain.{stop, part, reaches_end}
-use Rattle.yl_scalar.specs.PlainSteps.{PlainReaderValue, plain_begin, plain_step, plain_finish, plain, plain_step_behind}
+use Rattle.yl_scalar.specs.PlainSteps.{PlainReaderValue, plain_begin, plain_step, plain_finish, plain_step_behind}
+use Rattle.yl_scalar.specs.PlainLines.{plain_scalar}
 use Rattle.yl_scalar.specs.Quoted.{Stretch, Closes, Breaks, Faulty, stretch, quote}
 use Rattle.yl_scalar.specs.QuotedSteps.{QuotedReaderValue, quoted_begin, quoted_step, quoted_finish, quoted, quoted_step_behind, quoted_start}
 use Rattle.yl_scalar.specs.Header.{indicators, misfit}
-use Rattle.yl_scalar.specs.Block.{BlockReaderValue, block_begin, block_step, block_finish, block, header_end, header_read}
+use Rattle.yl_scalar.specs.Block.{BlockReaderValue, block_begin, block_step, block_finish, header_end, header_read}
+use Rattle.yl_scalar.specs.BlockLines.{block_scalar}
+use Rattle.yl_scalar.proofs.PlainRead.{plain_law}
+use Rattle.yl_scalar.proofs.BlockRead.{block_law}
 use Rattle.yl_row.specs.ScalarReader.{ScalarReaderValue, InPlain, InQuoted, InBlock, map_step, reader_step, reader_finish}
 use Rattle.yl_row.specs.Beginning.{EndsHere}
 
@@ -43,16 +47,16 @@ module _ {S : Type 0} (f : S → ScalarReaderValue) (step : S → List ℕ → S
   settled_alike rows t = settled_with rows t (λ s. read_alike s rows)
 
 pub plain_alike : (flow : Bool) (least at : ℕ) (text : List ℕ) (rows : List (List ℕ)) →
-    plain flow least at text rows ≡ outcome_of_step (λ m. outcome_of_lines reader_step reader_finish m rows) (map_step InPlain (plain_begin flow least at text))
-plain_alike flow least at text rows = sym (settled_alike InPlain plain_step plain_finish (λ s row. refl) (λ s. refl) rows (plain_begin flow least at text))
+    plain_scalar flow least at text rows ≡ outcome_of_step (λ m. outcome_of_lines reader_step reader_finish m rows) (map_step InPlain (plain_begin flow least at text))
+plain_alike flow least at text rows = sym (plain_law flow least at text rows) ∙ sym (settled_alike InPlain plain_step plain_finish (λ s row. refl) (λ s. refl) rows (plain_begin flow least at text))
 
 pub quoted_alike : (double : Bool) (opening : ℕ) (text : List ℕ) (rows : List (List ℕ)) →
     quoted double opening text rows ≡ outcome_of_step (λ m. outcome_of_lines reader_step reader_finish m rows) (map_step InQuoted (quoted_begin double opening text))
 quoted_alike double opening text rows = sym (settled_alike InQuoted quoted_step quoted_finish (λ s row. refl) (λ s. refl) rows (quoted_begin double opening text))
 
 pub block_alike : (least at : ℕ) (header : List ℕ) (rows : List (List ℕ)) →
-    block least at header rows ≡ outcome_of_step (λ m. outcome_of_lines reader_step reader_finish m rows) (map_step InBlock (block_begin least at header))
-block_alike least at header rows = sym (settled_alike InBlock block_step block_finish (λ s row. refl) (λ s. refl) rows (block_begin least at header))
+    block_scalar least at header rows ≡ outcome_of_step (λ m. outcome_of_lines reader_step reader_finish m rows) (map_step InBlock (block_begin least at header))
+block_alike least at header rows = sym (block_law least at header rows) ∙ sym (settled_alike InBlock block_step block_finish (λ s row. refl) (λ s. refl) rows (block_begin least at header))
 
 -- ---- what ends in its first row ends no further down
 

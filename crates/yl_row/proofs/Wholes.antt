@@ -12,7 +12,8 @@ use Rattle.yl_scalar.specs.Plain.{part, reaches_end, continues}
 use Rattle.yl_scalar.specs.PlainSteps.{PlainReaderValue, plain_extent, plain_step, plain_finish, with_line, plain_step_behind}
 use Rattle.yl_scalar.specs.Quoted.{Stretch, Closes, Breaks, Faulty, stretch}
 use Rattle.yl_scalar.specs.QuotedSteps.{QuotedReaderValue, quoted_step, quoted_finish, quoted_step_behind, with_break}
-use Rattle.yl_scalar.specs.Block.{BlockReaderValue, block_extent, block_step, block_finish, text_line, deeper, unless_too_deep, spaces_with}
+use Rattle.yl_scalar.specs.Block.{BlockReaderValue, block_extent, block_step, block_finish, text_line, unless_too_deep, spaces_with}
+use Rattle.yl_scalar.specs.BlockLines.{deeper}
 
 -- ---- plain scalars
 

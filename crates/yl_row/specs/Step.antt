@@ -11,9 +11,9 @@ use Rattle.yl_text.specs.Character.{is_blank}
 use Rattle.yl_scalar.specs.Allowed.{first_bad}
 use Rattle.yl_scalar.specs.Header.{misfit_behind}
 use Rattle.yl_scalar.specs.Reading.{ScalarOutcomeValue, Whole, Refused}
-use Rattle.yl_scalar.specs.PlainSteps.{plain}
+use Rattle.yl_scalar.specs.PlainLines.{plain_scalar}
 use Rattle.yl_scalar.specs.QuotedSteps.{quoted}
-use Rattle.yl_scalar.specs.Block.{block}
+use Rattle.yl_scalar.specs.BlockLines.{block_scalar}
 use Rattle.yl_lexeme.specs.declared.lexeme.Style.{Style}
 use Rattle.yl_lexeme.specs.declared.lexeme.Style.TheVariants.{Plain, Single, Double, Literal, Folded}
 use Rattle.yl_lexeme.specs.declared.lexeme.Kind.{Kind}
@@ -118,9 +118,9 @@ word_at rows at a c cs =
     else if c == code "!" then tag_found at cs (tag_len cs)
     else if c == code "'" then scalar_found Single at (quoted false at cs rows)
     else if c == code "\"" then scalar_found Double at (quoted true at cs rows)
-    else if c == code "|" && not (in_flow a) then scalar_found Literal at (block (level a.levels) at cs rows)
-    else if c == code ">" && not (in_flow a) then scalar_found Folded at (block (level a.levels) at cs rows)
-    else if is_plain_start (in_flow a) c cs then scalar_found Plain at (plain (in_flow a) (level a.levels) at (c ∷ cs) rows)
+    else if c == code "|" && not (in_flow a) then scalar_found Literal at (block_scalar (level a.levels) at cs rows)
+    else if c == code ">" && not (in_flow a) then scalar_found Folded at (block_scalar (level a.levels) at cs rows)
+    else if is_plain_start (in_flow a) c cs then scalar_found Plain at (plain_scalar (in_flow a) (level a.levels) at (c ∷ cs) rows)
     else found_in_row (Scalar Plain) at [] (Some (fault_at NotAllowed at))
 
 -- refused: a tab before it, or that fault if no key may begin there

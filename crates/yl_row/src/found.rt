@@ -4,9 +4,9 @@ ghost use Rattle.std.specs.Prelude.{◌≡◌, ◌≤◌, ◌<◌, ◌+◌, ◌-
 ghost use Rattle.std.specs.Str.{encode_utf8_all};
 ghost use Rattle.yl_scalar.specs.Header.{misfit_behind};
 ghost use Rattle.yl_scalar.specs.Reading.{outcome_of_lines, outcome_of_step};
-ghost use Rattle.yl_scalar.specs.PlainSteps.{plain};
+ghost use Rattle.yl_scalar.specs.PlainLines.{plain_scalar};
 ghost use Rattle.yl_scalar.specs.QuotedSteps.{quoted};
-ghost use Rattle.yl_scalar.specs.Block.{block};
+ghost use Rattle.yl_scalar.specs.BlockLines.{block_scalar};
 ghost use Rattle.yl_row.specs.Begins.{BeginsAt};
 ghost use Rattle.yl_lexeme.specs.declared.lexeme.Style.TheVariants.{Plain};
 ghost use Rattle.yl_lexeme.specs.declared.lexeme.Kind.TheVariants.{Scalar};
@@ -258,7 +258,7 @@ fn block_found<A: Allocator + Copy>(
 ) -> Result<Beginning<A>, AllocError>
     requires fits { at + length rest.now < 2 ^ 31 }
     requires small { least < 2 ^ 63 }
-    ensures found { IfOk result (λ s. (rows : List (List ℕ)) → scalar_found style at (block least at rest.now rows) ≡ beginning_value at rows s) }
+    ensures found { IfOk result (λ s. (rows : List (List ℕ)) → scalar_found style at (block_scalar least at rest.now rows) ≡ beginning_value at rows s) }
     ensures rests { IfOk result (λ s. (c : ℕ) → BeginningRests at (c ∷ rest.now) s) }
 {
     let (reader, line) = BlockReader::begin(alloc, least, at, rest);
@@ -279,7 +279,7 @@ fn plain_found<A: Allocator + Copy>(
     requires fits { at + length text.now < 2 ^ 31 }
     requires text { text.now ≡ c ∷ rest.now }
     ensures found { IfOk result (λ s. (rows : List (List ℕ)) →
-        (if is_plain_start flow c rest.now then scalar_found Plain at (plain flow least at (c ∷ rest.now) rows) else found_in_row (Scalar Plain) at [] (Some (fault_at NotAllowed at))) ≡ beginning_value at rows s) }
+        (if is_plain_start flow c rest.now then scalar_found Plain at (plain_scalar flow least at (c ∷ rest.now) rows) else found_in_row (Scalar Plain) at [] (Some (fault_at NotAllowed at))) ≡ beginning_value at rows s) }
     ensures rests { IfOk result (λ s. BeginningRests at text.now s) }
 {
     if !is_plain_start(flow, c, rest) {

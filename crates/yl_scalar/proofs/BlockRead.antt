@@ -7,10 +7,11 @@ use Rattle.std.proofs.lemmas.List.{append-nil}
 use Rattle.yl_text.specs.Character.{is_blank, is_marker, indentation}
 use Rattle.yl_scalar.specs.Allowed.{first_bad}
 use Rattle.yl_scalar.specs.Reading.{ScalarOutcomeValue, Whole, GoesOn, EndedAbove, outcome_of_step, outcome_of_lines, unless_bad}
-use Rattle.yl_scalar.specs.Header.{indicators}
-use Rattle.yl_scalar.specs.Block.{BlockReaderValue, block_extent, block_step, block_finish, deeper, unless_too_deep, explicit_content}
+use Rattle.yl_scalar.specs.Header.{indicators, explicit_content, misfit}
+use Rattle.yl_scalar.specs.Block.{BlockReaderValue, block_extent, block_step, block_finish, unless_too_deep, block}
 use Rattle.yl_scalar.specs.PlainLines.{unless_refused}
-use Rattle.yl_scalar.specs.BlockLines.{content_line_count, last_end, bad_content, of_content, unless_deeper, content_below, below_header, BlockLaw}
+use Rattle.yl_scalar.specs.BlockLines.{content_line_count, last_end, bad_content, of_content, unless_deeper, content_below, deeper, below_header, block_scalar}
+use Rattle.yl_scalar.specs.Laws.{BlockLaw}
 
 abbrev whole : ℕ → ℕ → ScalarOutcomeValue
 whole down column = Whole (record { down = down; column = column; value = [] })
@@ -170,6 +171,21 @@ module _ (least column : ℕ) (lines : List (List ℕ)) where
       ∙ same least column (map indentation (take (prefix_len is_blank lines) lines)) (drop (prefix_len is_blank lines) lines) (λ content. left 0 column 0 (content_line_count content lines) lines)
       (λ content. of_content column (content_line_count content lines) (take (content_line_count content lines) lines)) straight
 
+-- by the header's first character that does not fit, and the first of those up to it that is not allowed
+module _ (least at : ℕ) (header : List ℕ) (lines : List (List ℕ)) where
+  whole_header : misfit header ≡ None → (bad : Option ℕ) → first_bad header ≡ bad → block least at header lines ≡ block_scalar least at header lines
+  unfolding block_scalar
+  whole_header fits None e = rw (fits, e) (below least (at + 1 + length header) lines (explicit_content least (indicators header).0))
+  whole_header fits (Some i) e = rw (fits, e) refl
+
+  up_to : (place : ℕ) → misfit header ≡ Some place → (bad : Option ℕ) → first_bad (take (place + 1) header) ≡ bad → block least at header lines ≡ block_scalar least at header lines
+  unfolding block_scalar
+  up_to place m None e = rw (m, e) refl
+  up_to place m (Some i) e = rw (m, e) refl
+
+  by_misfit : (m : Option ℕ) → misfit header ≡ m → block least at header lines ≡ block_scalar least at header lines
+  by_misfit None fits = whole_header fits (first_bad header) refl
+  by_misfit (Some place) m = up_to place m (first_bad (take (place + 1) header)) refl
+
 pub block_law : BlockLaw
-block_law least at header lines fits clean =
-    rw (fits, clean) (below least (at + 1 + length header) lines (explicit_content least (indicators header).0))
+block_law least at header lines = by_misfit least at header lines (misfit header) refl

@@ -10,7 +10,8 @@ use Rattle.yl_scalar.specs.Reading.{ScalarOutcomeValue, Whole, GoesOn, EndedAbov
 use Rattle.yl_scalar.specs.Folding.{joint}
 use Rattle.yl_scalar.specs.Plain.{part, reaches_end, continues}
 use Rattle.yl_scalar.specs.PlainSteps.{PlainReaderValue, plain_extent, plain_step, plain_finish, plain_step_behind, with_line}
-use Rattle.yl_scalar.specs.PlainLines.{scalar_line_count, folded_value, end_column, bad_below, unless_refused, of_lines, PlainLaw}
+use Rattle.yl_scalar.specs.PlainLines.{scalar_line_count, folded_value, end_column, bad_below, unless_refused, of_lines, plain_scalar}
+use Rattle.yl_scalar.specs.Laws.{PlainLaw}
 
 abbrev whole : ℕ → ℕ → List ℕ → ScalarOutcomeValue
 whole down column value = Whole (record { down = down; column = column; value = value })
@@ -138,4 +139,5 @@ module _ (flow : Bool) (least at : ℕ) (first : List ℕ) (lines : List (List �
       lower false z = zero-add m
 
 pub plain_law : PlainLaw
+unfolding plain_scalar
 plain_law flow least at first lines = law flow least at first lines (reaches_end flow false first) (first_bad (part flow false first)) refl

@@ -1,8 +1,9 @@
 -- Bridge: block scalars line by line: YAML 1.2.2, 8.1. The values of their lines are not read.
-use Rattle.std.specs.Prelude.{ℕ, nat_lt, nat_le, if◌then◌else◌, List, [], ◌∷◌, ◌++◌, ◌+◌, ◌-◌, take, length, Option, Some, None}
+use Rattle.std.specs.Prelude.{ℕ, nat_le, if◌then◌else◌, List, [], ◌∷◌, ◌++◌, ◌+◌, take, length, Option, Some, None}
 use Rattle.yl_text.specs.Character.{is_blank, is_marker, indentation}
 use Rattle.yl_scalar.specs.Allowed.{first_bad}
-use Rattle.yl_scalar.specs.Header.{indicators, misfit}
+use Rattle.yl_scalar.specs.Header.{indicators, explicit_content, misfit}
+use Rattle.yl_scalar.specs.BlockLines.{deeper}
 use Rattle.yl_scalar.specs.Reading.{Extent, ScalarOutcomeValue, Whole, ScalarStepValue, GoesOn, EndedAbove, Fails, outcome_of_step, outcome_of_lines, unless_bad}
 use Rattle.yl_scalar.specs.declared.answer.ScalarFault.TheVariants.{BadHeader, BadIndentation}
 
@@ -18,10 +19,6 @@ pub record BlockReaderValue : Type 0 where
 
 abbrev pub block_extent : BlockReaderValue → Extent
 block_extent s = record { down = s.down; column = s.column; value = [] }
-
--- the content column that an indentation indicator gives, or 0 for none: n + digit, where `least` is n + 1
-abbrev pub explicit_content : ℕ → ℕ → Option ℕ
-explicit_content least digit = if nat_lt 0 digit then Some ((least - 1) + digit) else None
 
 -- behind a header that ends before this column
 abbrev pub header_end : ℕ → ℕ → ℕ → BlockReaderValue
@@ -48,11 +45,6 @@ abbrev pub with_content : BlockReaderValue → ℕ → List ℕ → ScalarStepVa
 with_content s content line =
     unless_bad (first_bad line) (s.down + s.blanks + 1) 0
     (GoesOn (record { least = s.least; content = Some content; down = s.down + s.blanks + 1; column = length line; blanks = 0; spaces = s.spaces }))
-
--- the first of these numbers of leading spaces that is greater than the column, with its line
-abbrev pub deeper : ℕ → ℕ → List ℕ → Option (ℕ × ℕ)
-deeper column place [] = None
-deeper column place (n ∷ ns) = if nat_lt column n then Some (place, n) else deeper column (place + 1) ns
 
 -- the first line with text gives the column, and no blank line before it may have more leading spaces
 abbrev pub unless_too_deep : Option (ℕ × ℕ) → ScalarStepValue BlockReaderValue → ScalarStepValue BlockReaderValue

@@ -1,13 +1,12 @@
 -- Meaning: a block scalar as the lines that it takes: YAML 1.2.2, 8.1.
-use Rattle.std.specs.Prelude.{ℕ, not, ◌&&◌, ◌==◌, nat_le, if◌then◌else◌, List, [], ◌∷◌, ◌+◌, take, drop, length, map, Option, Some, None, ◌≡◌}
+use Rattle.std.specs.Prelude.{ℕ, not, ◌&&◌, ◌==◌, nat_lt, nat_le, if◌then◌else◌, List, [], ◌∷◌, ◌+◌, take, drop, length, map, Option, Some, None}
 use Rattle.std.specs.List.{prefix_len}
 use Rattle.yl_text.specs.Character.{is_blank, is_marker, indentation}
 use Rattle.yl_scalar.specs.Allowed.{first_bad}
 use Rattle.yl_scalar.specs.Reading.{ScalarOutcomeValue, Whole, Refused}
-use Rattle.yl_scalar.specs.Header.{indicators, misfit}
-use Rattle.yl_scalar.specs.Block.{block, deeper, explicit_content}
+use Rattle.yl_scalar.specs.Header.{indicators, explicit_content, misfit, up_to_misfit}
 use Rattle.yl_scalar.specs.PlainLines.{place_at, first_of, unless_refused}
-use Rattle.yl_scalar.specs.declared.answer.ScalarFault.TheVariants.{BadIndentation}
+use Rattle.yl_scalar.specs.declared.answer.ScalarFault.TheVariants.{BadHeader, BadIndentation}
 
 -- how many of the lines belong to content that is indented to this column
 abbrev pub content_line_count : ℕ → List (List ℕ) → ℕ
@@ -31,6 +30,11 @@ bad_content down (line ∷ lines) = first_of (if is_blank line then None else pl
 abbrev pub of_content : ℕ → ℕ → List (List ℕ) → ScalarOutcomeValue
 of_content column down lines = unless_refused (bad_content 1 lines) (Whole (record { down = down; column = last_end column lines; value = [] }))
 
+-- the first of these numbers of leading spaces that is greater than the column, with its line
+abbrev pub deeper : ℕ → ℕ → List ℕ → Option (ℕ × ℕ)
+deeper column place [] = None
+deeper column place (n ∷ ns) = if nat_lt column n then Some (place, n) else deeper column (place + 1) ns
+
 abbrev pub unless_deeper : Option (ℕ × ℕ) → ScalarOutcomeValue → ScalarOutcomeValue
 unless_deeper None more = more
 unless_deeper (Some p) more = Refused BadIndentation p.0 p.1
@@ -49,7 +53,15 @@ below_header least column lines None =
     (λ content. of_content column (content_line_count content lines) (take (content_line_count content lines) lines))
     (drop (prefix_len is_blank lines) lines)
 
--- a block scalar with a header that fits is what the lines that it takes make of it
-abbrev pub BlockLaw : Type 0
-BlockLaw = (least at : ℕ) (header : List ℕ) (lines : List (List ℕ)) → misfit header ≡ None → first_bad header ≡ None →
-    block least at header lines ≡ below_header least (at + 1 + length header) lines (explicit_content least (indicators header).0)
+-- a character that does not fit, so many characters after this column, is a fault
+abbrev pub unless_misfit : ℕ → Option ℕ → ScalarOutcomeValue → ScalarOutcomeValue
+unless_misfit column None more = more
+unless_misfit column (Some place) more = Refused BadHeader 0 (column + place)
+
+-- the scalar whose indicator stands at this column, with this header after it, and the lines below. A character that is not
+-- allowed is looked for in the header up to the first one that does not fit
+unfoldable pub block_scalar : ℕ → ℕ → List ℕ → List (List ℕ) → ScalarOutcomeValue
+block_scalar least at header lines =
+    unless_refused (place_at 0 (at + 1) (first_bad (up_to_misfit header)))
+    (unless_misfit (at + 1) (misfit header)
+    (below_header least (at + 1 + length header) lines (explicit_content least (indicators header).0)))

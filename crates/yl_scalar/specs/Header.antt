@@ -1,6 +1,7 @@
 -- Meaning: the header of a block scalar, from behind its `|` or `>` on: YAML 1.2.2, 8.1.1.
-use Rattle.std.specs.Prelude.{ℕ, Bool, ◌&&◌, ◌||◌, ◌==◌, nat_lt, nat_le, if◌then◌else◌, List, [], ◌∷◌, ◌+◌, ◌-◌, drop, slice_index, Option, Some, None, option_map}
+use Rattle.std.specs.Prelude.{ℕ, Bool, ◌&&◌, ◌||◌, ◌==◌, nat_lt, nat_le, if◌then◌else◌, List, [], ◌∷◌, ◌+◌, ◌-◌, take, drop, slice_index, Option, Some, None, option_map}
 use Rattle.std.specs.List.{prefix_len}
+use Rattle.std.specs.Option.{option_map_or}
 use Prim.Native.Char.{code}
 use Rattle.yl_text.specs.Character.{is_white, is_blank, without_front}
 
@@ -20,6 +21,10 @@ indicators (c ∷ cs) =
     else if is_chomping c then (if is_indicator_digit (slice_index cs 0) then (slice_index cs 0 - code "0", 2) else (0, 1))
     else (0, 0)
 
+-- the content column that an indentation indicator gives, or 0 for none: n + digit, where `least` is n + 1
+abbrev pub explicit_content : ℕ → ℕ → Option ℕ
+explicit_content least digit = if nat_lt 0 digit then Some ((least - 1) + digit) else None
+
 -- where the text behind the indicators is no white space, or a comment behind it (s-b-comment), if there is such a place
 abbrev pub misfit_behind : List ℕ → Option ℕ
 misfit_behind cs =
@@ -30,3 +35,7 @@ misfit_behind cs =
 -- the first character of the header that does not fit
 abbrev pub misfit : List ℕ → Option ℕ
 misfit header = option_map (λ place. (indicators header).1 + place) (misfit_behind (drop (indicators header).1 header))
+
+-- the header up to its first character that does not fit, and with that, or all of it
+abbrev pub up_to_misfit : List ℕ → List ℕ
+up_to_misfit header = option_map_or (λ place. take (place + 1) header) (misfit header) header

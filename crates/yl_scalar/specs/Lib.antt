@@ -7,10 +7,11 @@ pub mod Escape
 pub mod Quoted
 pub mod QuotedSteps
 pub mod Header
-pub mod Block
 pub mod Reader
 pub mod Part
 pub mod PlainLines
 pub mod Written
 pub mod BlockLines
+pub mod Block
 pub mod QuotedRows
+pub mod Laws

@@ -1,12 +1,11 @@
 -- Meaning: a plain scalar as the lines that it takes: YAML 1.2.2, 7.3.3 and 6.5.
-use Rattle.std.specs.Prelude.{ℕ, Bool, true, false, ◌==◌, if◌then◌else◌, List, [], ◌∷◌, ◌++◌, ◌+◌, take, length, Option, Some, None, option_map, ◌≡◌}
+use Rattle.std.specs.Prelude.{ℕ, Bool, true, false, ◌==◌, if◌then◌else◌, List, [], ◌∷◌, ◌++◌, ◌+◌, take, length, Option, Some, None, option_map}
 use Rattle.std.specs.List.{prefix_len}
 use Rattle.yl_text.specs.Character.{is_white, is_blank, without_front}
 use Rattle.yl_scalar.specs.Allowed.{first_bad}
 use Rattle.yl_scalar.specs.Reading.{ScalarOutcomeValue, Whole, Refused}
 use Rattle.yl_scalar.specs.Folding.{joint}
 use Rattle.yl_scalar.specs.Plain.{part, reaches_end, continues}
-use Rattle.yl_scalar.specs.PlainSteps.{plain}
 use Rattle.yl_scalar.specs.declared.answer.ScalarFault.TheVariants.{NotAllowed}
 
 -- how many of the lines below its first one belong to the scalar, where its first reaches its end
@@ -58,8 +57,8 @@ of_lines flow at first down lines =
     unless_refused (first_of (place_at 0 at (first_bad (part flow false first))) (bad_below flow 1 lines))
     (Whole (record { down = down; column = end_column flow (at + length (part flow false first)) lines; value = part flow false first ++ folded_value flow 0 lines }))
 
--- a plain scalar is what the lines that it takes make of it
-abbrev pub PlainLaw : Type 0
-PlainLaw = (flow : Bool) (least at : ℕ) (first : List ℕ) (lines : List (List ℕ)) →
-    plain flow least at first lines
-    ≡ of_lines flow at first (lines_below flow least first lines) (take (lines_below flow least first lines) lines)
+-- the scalar whose first line has this text from this column on, with the lines below. The further ones that it takes outside
+-- brackets are indented to `least` or more
+unfoldable pub plain_scalar : Bool → ℕ → ℕ → List ℕ → List (List ℕ) → ScalarOutcomeValue
+plain_scalar flow least at first lines =
+    of_lines flow at first (lines_below flow least first lines) (take (lines_below flow least first lines) lines)

@@ -2,7 +2,8 @@
 ghost use Rattle.std.specs.Prelude.{◌≡◌, ◌≤◌, ◌<◌, ◌+◌, ◌^◌, ℕ, [], IfOk, OnErr, OnOk, IsErr, None, true, false, length};
 ghost use Rattle.yl_scalar.specs.Reading.{Whole};
 ghost use Rattle.yl_scalar.specs.Header.{indicators, misfit};
-ghost use Rattle.yl_scalar.specs.Block.{block_begin, block_step, block_finish, deeper, with_content, text_line, header_end, header_read};
+ghost use Rattle.yl_scalar.specs.BlockLines.{deeper};
+ghost use Rattle.yl_scalar.specs.Block.{block_begin, block_step, block_finish, with_content, text_line, header_end, header_read};
 ghost use Rattle.yl_text.specs.Character.{is_blank};
 ghost use Rattle.yl_scalar.specs.Reader.{step_value, extent_at, block_reader_value, block_rows, is_block_refused};
 

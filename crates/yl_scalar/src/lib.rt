@@ -15,8 +15,7 @@ mod plain;
 mod quoted;
 mod whole;
 
-ghost use Rattle.yl_scalar.specs.BlockLines.{BlockLaw};
-ghost use Rattle.yl_scalar.specs.PlainLines.{PlainLaw};
+ghost use Rattle.yl_scalar.specs.Laws.{BlockLaw, PlainLaw};
 ghost use Rattle.yl_scalar.specs.QuotedRows.{QuotedRowsLaw};
 ghost use Rattle.yl_scalar.specs.Written.{QuotedLaw};
 

@@ -4,9 +4,11 @@ use Rattle.std.specs.Prelude.{unwrap_or}
 use Rattle.std.specs.Option.{option_or}
 use Rattle.yl_text.specs.Character.{is_white, is_blank}
 use Rattle.yl_scalar.specs.Reading.{ScalarOutcomeValue, Whole, Refused, ScalarStepValue, GoesOn, EndsIn, EndedAbove, Fails, outcome_of_step, outcome_of_lines}
-use Rattle.yl_scalar.specs.PlainSteps.{plain_begin, plain}
+use Rattle.yl_scalar.specs.PlainSteps.{plain_begin}
+use Rattle.yl_scalar.specs.PlainLines.{plain_scalar}
 use Rattle.yl_scalar.specs.QuotedSteps.{quoted_begin, quoted}
-use Rattle.yl_scalar.specs.Block.{block_begin, block}
+use Rattle.yl_scalar.specs.Block.{block_begin}
+use Rattle.yl_scalar.specs.BlockLines.{block_scalar}
 use Rattle.yl_lexeme.specs.declared.lexeme.Style.{Style}
 use Rattle.yl_lexeme.specs.declared.lexeme.Style.TheVariants.{Plain, Single, Double, Literal, Folded}
 use Rattle.yl_lexeme.specs.declared.lexeme.Kind.TheVariants.{Scalar}
@@ -94,14 +96,14 @@ module _ (P : FoundLexemeValue → FoundLexemeValue → Type 0) (n at : ℕ) (sa
       (subst (λ r. P (scalar_found style at (read_from (above ++ row ∷ below))) (scalar_found style at r)) (sym (is (above ++ row ∷ below')))
       (begun_alike (λ r r'. P (scalar_found style at r) (scalar_found style at r')) n (λ r. same (scalar_found style at r)) (λ r r'. both style r r') row below below' text above here at begin t rests))
 
-  plain_same : (flow : Bool) (least : ℕ) (cs : List ℕ) → P (scalar_found Plain at (plain flow least at cs (above ++ row ∷ below))) (scalar_found Plain at (plain flow least at cs (above ++ row ∷ below')))
-  plain_same flow least cs = scalar_alike Plain cs (map_step InPlain (plain_begin flow least at cs)) (plain_begins flow least at cs) (plain flow least at cs) (plain_alike flow least at cs)
+  plain_same : (flow : Bool) (least : ℕ) (cs : List ℕ) → P (scalar_found Plain at (plain_scalar flow least at cs (above ++ row ∷ below))) (scalar_found Plain at (plain_scalar flow least at cs (above ++ row ∷ below')))
+  plain_same flow least cs = scalar_alike Plain cs (map_step InPlain (plain_begin flow least at cs)) (plain_begins flow least at cs) (plain_scalar flow least at cs) (plain_alike flow least at cs)
 
   quoted_same : (style : Style) (double : Bool) (cs : List ℕ) → P (scalar_found style at (quoted double at cs (above ++ row ∷ below))) (scalar_found style at (quoted double at cs (above ++ row ∷ below')))
   quoted_same style double cs = scalar_alike style [] (map_step InQuoted (quoted_begin double at cs)) (quoted_begins double at cs []) (quoted double at cs) (quoted_alike double at cs)
 
-  block_same : (style : Style) (least : ℕ) (cs : List ℕ) → P (scalar_found style at (block least at cs (above ++ row ∷ below))) (scalar_found style at (block least at cs (above ++ row ∷ below')))
-  block_same style least cs = scalar_alike style (0 ∷ cs) (map_step InBlock (block_begin least at cs)) (block_begins least at 0 cs) (block least at cs) (block_alike least at cs)
+  block_same : (style : Style) (least : ℕ) (cs : List ℕ) → P (scalar_found style at (block_scalar least at cs (above ++ row ∷ below))) (scalar_found style at (block_scalar least at cs (above ++ row ∷ below')))
+  block_same style least cs = scalar_alike style (0 ∷ cs) (map_step InBlock (block_begin least at cs)) (block_begins least at 0 cs) (block_scalar least at cs) (block_alike least at cs)
 
   word_same : (a : Context) (c : ℕ) (cs : List ℕ) → P (word_at (above ++ row ∷ below) at a c cs) (word_at (above ++ row ∷ below') at a c cs)
   word_same a c cs =

@@ -10,13 +10,13 @@ use Rattle.yl_lexeme.specs.declared.lexeme.Kind.{Kind}
 use Rattle.yl_lexeme.specs.Lexeme.{LexemeValue, CommentValue}
 use Rattle.yl_row.specs.Step.{FoundLexemeValue, found_at, place_fault, bad_in, first_tab}
 use Rattle.yl_lexeme.specs.Past.{Context, past_lexeme}
-use Rattle.yl_lexeme.specs.Known.{SurroundingsValue, context_of, new_row, surroundings_at, surroundings_behind, no_surroundings}
+use Rattle.yl_lexeme.specs.Known.{SurroundingsValue, context_of, new_row, row_start, surroundings_at, surroundings_behind, no_surroundings}
 use Rattle.yl_row.specs.Entries.{RowEntry, LineStateValue, Stopped, Stands, RowReading, state_of, entry_of, entries_below, fault_reading, with_lexeme, reading_or_fault, comment_or, comment_of, lexeme_of, after_lexeme, ends_document, lexemes_up_to_fault, stopped_rows, entries}
 use Rattle.yl_row.specs.Run.{row_reading_by, entries_by}
 use Rattle.yl_row.proofs.Agree.{run-entries}
-use Rattle.yl_scan.specs.Restart.{state_at, IsQuiet}
+use Rattle.yl_scan.specs.Restart.{from_state, state_at, IsQuiet}
 use Rattle.yl_scan.proofs.Restarts.{shift}
-use Rattle.yl_record.specs.Records.{records_with}
+use Rattle.yl_record.specs.Records.{records_from, records_with}
 use Rattle.yl_sections.specs.Sections.{last_kind_from}
 use Rattle.yl_sections.specs.Local.{kind_after}
 use Rattle.yl_sections.specs.Last.{HasNoLexeme, LastLaw, StoppedLaw}
@@ -156,3 +156,11 @@ quiet_records (suc i) (n ∷ ns) (e ∷ es) h = quiet_records i ns es h
 
 pub stopped_empty : StoppedLaw
 stopped_empty t i h = quiet_records i (map indentation t) (entries t) ((shift t t i i Stopped h h refl).quiet refl)
+
+-- the same for the rows from one on that stands so
+pub last_from : (levels : List ℕ) (brackets : List Kind) (last : Option Kind) (rows : List (List ℕ)) (i : ℕ) (levels' : List ℕ) (brackets' : List Kind) (z : Option Kind)
+    → state_at (from_state (Stands levels brackets last) rows) i ≡ Some (Stands levels' brackets' z) → kind_after last (take i (records_from (Stands levels brackets last) rows)) ≡ z
+last_from levels brackets last rows i levels' brackets' z h =
+    let k = row_start levels brackets last in
+    let many : length (entries_by true 0 0 k rows) ≡ length (map indentation rows) = run_count true 0 0 k rows ∙ sym (length-map rows indentation) in
+    kind_of_records last i (map indentation rows) (entries_by true 0 0 k rows) (omega (arith, many)) ∙ run_keep true 0 0 k rows i levels' brackets' z h

@@ -11,6 +11,9 @@ pub mod Last
 pub mod Fronts
 pub mod Stateless
 pub mod LineByLine
+pub mod Inside
+pub mod Groups
+pub mod SectionDocuments
 pub mod Quiet
 pub mod QuietSections
 mod Examples

@@ -9,7 +9,7 @@ use Rattle.yl_events.specs.Parsing.{parser_at_start, start_events, document_outc
 use Rattle.yl_config.specs.declared.config.Config.{Config}
 use Rattle.yl_record.specs.Records.{RecordValue}
 use Rattle.yl_sections.specs.Sections.{lexemes_of}
-use Rattle.yl_sections.specs.Kept.{BuiltValue, KeptValue, kept_of}
+use Rattle.yl_sections.specs.Kept.{BuiltValue, IsKept, KeptValue, kept_of}
 
 abbrev pub built_by : List LexemeValue → DocumentOutcome → BuiltValue
 built_by xs (Events es) = record { events = map (event_of_outline xs) es; fault = None }
@@ -23,3 +23,7 @@ document_of (x ∷ xs) = built_by (x ∷ xs) (document_outcome_of_lines parser_a
 -- what is kept of the section of these rows
 unfoldable pub kept_of_section : Config → List RecordValue → KeptValue
 kept_of_section config rs = kept_of config rs (document_of (lexemes_of rs))
+
+-- what is computed is what is kept
+abbrev pub KeptIsComputed : Type 0
+KeptIsComputed = (config : Config) (rs : List RecordValue) → IsKept config rs (kept_of_section config rs)

@@ -171,6 +171,11 @@ pub record KeptValue : Type 0 where
   -- the fault without a scan fault in these rows
   pub parse_fault : Option SectionFaultValue
 
+-- how many rows these sections have
+abbrev pub rows_kept : List KeptValue → ℕ
+rows_kept [] = 0
+rows_kept (k ∷ ks) = k.rows + rows_kept ks
+
 abbrev pub facts_of : Config → List RecordValue → List LexemeValue → ℕ → List Fact
 facts_of config rs xs counted =
     items_if (is_on config Indentation) (indent_facts (map token_of xs) (marked_lexemes xs) counted (map (λ r. r.indentation) rs))

@@ -4,11 +4,6 @@ use Rattle.yl_config.specs.declared.config.Config.{Config}
 use Rattle.yl_record.specs.Records.{RecordValue}
 use Rattle.yl_sections.specs.Sections.{sections, row_count, later_sections}
 use Rattle.yl_sections.specs.Kept.{KeptValue, IsKept}
-use Rattle.yl_sections.specs.Judge.{kept_of_section}
-
--- what is computed is what is kept
-abbrev pub KeptIsComputed : Type 0
-KeptIsComputed = (config : Config) (rs : List RecordValue) → IsKept config rs (kept_of_section config rs)
 
 -- of a section one value is kept
 abbrev pub OneKept : Type 0

@@ -1,4 +1,5 @@
 pub mod Sections
+pub mod Documents
 pub mod Kept
 pub mod Judge
 pub mod Owned

@@ -1,8 +1,10 @@
 //! What the definitions say of each section. No function here calls anything.
+ghost use Rattle.yl_sections.specs.Documents.{SectionsAreDocuments};
 ghost use Rattle.yl_sections.specs.Front.{LostLaw};
 ghost use Rattle.yl_sections.specs.Last.{LastLaw, StoppedLaw};
 ghost use Rattle.yl_sections.specs.Local.{SectionsAreLocal, SectionsAreRows};
-ghost use Rattle.yl_sections.specs.Laws.{FirstSection, KeptIsComputed, OneKept};
+ghost use Rattle.yl_sections.specs.Judge.{KeptIsComputed};
+ghost use Rattle.yl_sections.specs.Laws.{FirstSection, OneKept};
 
 /// A section has one value that is kept, and it can be computed.
 pub fn one_kept()
@@ -19,6 +21,11 @@ pub fn first_section()
 pub fn sections_are_local()
     ensures rows { SectionsAreRows }
     ensures local { SectionsAreLocal }
+{}
+
+/// The documents of a text's sections are those of all its lexemes.
+pub fn sections_are_documents()
+    ensures { SectionsAreDocuments }
 {}
 
 /// The state of a sound row says of which kind the last lexeme above it is, or that no lexeme follows.

@@ -21,5 +21,8 @@ pub use fault::SectionFault;
 pub use front::kept_of_front;
 pub use judging::{judge_all, judge_whole};
 pub use kept::{Kept, KeptComment};
-pub use laws::{first_section, lost_rows, one_kept, sections_are_local, states_tell_kinds};
+pub use laws::{
+    first_section, lost_rows, one_kept, sections_are_documents, sections_are_local,
+    states_tell_kinds,
+};
 pub use sections::{is_section_start, last_kind, section_len};

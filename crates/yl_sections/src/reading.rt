@@ -219,12 +219,15 @@ fn rules_at_start<'a, A: Allocator + Copy>(alloc: A, config: &Config) -> TreeRul
     TreeRules::new(alloc, &tree_options(config))
 }
 
-/// The document of these lexemes begins. The only error is out of memory.
+/// The document of these lexemes begins, and is counted, also where memory is refused. The only error is out of memory.
 fn begin<'a, A: Allocator + Copy>(
     alloc: A,
     config: &Config,
     lexemes: &[LexemeAtLine<'a, A>],
+    meter: &mut Meter,
 ) -> Result<LineByLine<'a, A>, AllocError>
+    requires { meter.old.documents < 2 ^ 32 - 1 }
+    ensures counted { meter.new ≡ record meter.old { documents = meter.old.documents + 1 } }
     ensures marker { IfOk result (λ r. r.marker ≡ key_marker_at_start) }
     ensures told { IfOk result (λ r. (ws : List Symbol) → Gives config.now (map (λ x. lexeme_at_line x.line x.lexeme.now) lexemes.now) r.tree (outcome_of_symbols r.parser 0 [] ws)
         (built_by (map (λ x. lexeme_at_line x.line x.lexeme.now) lexemes.now) (outcome_of_symbols symbols_at_start 0 start_events ws))) }
@@ -232,7 +235,7 @@ fn begin<'a, A: Allocator + Copy>(
     let mut parser = SymbolParser::new(alloc);
     let mut tree = rules_at_start(alloc, config);
     let mut outlines = Vec::new(alloc);
-    parser.begin(&mut outlines)?;
+    parser.begin(&mut outlines, meter)?;
     push_events(lexemes, &outlines, &mut tree)?;
     Ok(LineByLine {
         marker: KeyMarker::new(alloc),
@@ -280,21 +283,24 @@ fn end<'a, A: Allocator + Copy>(
     }
 }
 
-/// What is read of the document of these lexemes, of which there are some, in these rows.
+/// What is read of the document of these lexemes, of which there are some, in these rows. Counts it in the meter.
 fn read_some<'a, A: Allocator + Copy>(
     alloc: A,
     config: &Config,
     records: &[&'a Record<A>],
     lexemes: &[LexemeAtLine<'a, A>],
+    meter: &mut Meter,
 ) -> Result<DocumentReading<A>, AllocError>
-    requires { 0 < length lexemes.now }
-    ensures { IfOk result (λ r. IsReading config.now (map (λ r. r.now) records.now) (map (λ x. lexeme_at_line x.line x.lexeme.now) lexemes.now)
+    requires some { 0 < length lexemes.now }
+    requires meter { meter.old.documents < 2 ^ 32 - 1 }
+    ensures counted { meter.new ≡ record meter.old { documents = meter.old.documents + 1 } }
+    ensures read { IfOk result (λ r. IsReading config.now (map (λ r. r.now) records.now) (map (λ x. lexeme_at_line x.line x.lexeme.now) lexemes.now)
         (document_of (map (λ x. lexeme_at_line x.line x.lexeme.now) lexemes.now)) r) }
 {
+    let mut reader = begin(alloc, config, lexemes, meter)?;
     let indentations = indentations(alloc, records)?;
     let mut keys = Vec::with_capacity(alloc, lexemes.len())?;
     let mut facts = Vec::new(alloc);
-    let mut reader = begin(alloc, config, lexemes)?;
     let fault = read_lines(
         alloc,
         lexemes,
@@ -345,6 +351,5 @@ pub fn read_document<'a, A: Allocator + Copy>(
             fault: None,
         });
     }
-    meter.documents += 1;
-    read_some(alloc, config, records, lexemes)
+    read_some(alloc, config, records, lexemes, meter)
 }

@@ -5,13 +5,15 @@ use Rattle.std.specs.List.{AllByRecursion}
 use Rattle.yl_text.specs.declared.position.Pos.{Pos}
 use Rattle.yl_text.specs.Finding.{FindingValue}
 use Rattle.yl_text.specs.Lines.{RowValue}
+use Rattle.yl_text.specs.Store.{end_of_lines}
 use Rattle.yl_config.specs.declared.config.Config.{Config}
 use Rattle.yl_config.specs.Config.{options_of}
 use Rattle.yl_record.specs.Records.{RecordValue, characters_in, records}
 use Rattle.yl_sections.specs.Sections.{sections}
 use Rattle.yl_sections.specs.Kept.{KeptValue}
 use Rattle.yl_sections.specs.Judge.{kept_of_section}
-use Rattle.yl_lint.specs.TextReport.{end_of_lines, findings_in_lines, first_text, report, report_of_kept}
+use Rattle.yl_lint.specs.TextReport.{findings_in_lines, first_text, report_of_kept}
+use Rattle.yl_lint.specs.Computed.{report}
 use Rattle.yl_rescan.specs.Held.{AreHeld, IsCutAt}
 use Rattle.yl_rescan.proofs.Cut.{fails, held_sections, quiet, stops_at, true_sections}
 use Rattle.yl_sections.proofs.Quiet.{IsQuietRow, kept_longer}

@@ -4,6 +4,7 @@ use Rattle.std.specs.Prelude.{Option, Some, None, Vec, MatchOption, slice_get}
 use Rattle.yl_text.specs.declared.position.Pos.{Pos}
 use Rattle.yl_text.specs.Finding.{FindingValue}
 use Rattle.yl_text.specs.Lines.{RowValue}
+use Rattle.yl_text.specs.Store.{end_of_lines}
 use Rattle.yl_config.specs.declared.config.Config.{Config}
 use Rattle.yl_config.specs.Config.{levels_of, options_of}
 use Rattle.yl_report.specs.Directive.{disables_file, is_silenced}
@@ -15,7 +16,8 @@ use Rattle.yl_sections.specs.Kept.{KeptValue}
 use Rattle.yl_sections.specs.Sections.{sections}
 use Rattle.yl_rescan.specs.Held.{AreHeld}
 use Rattle.yl_rejudge.specs.Places.{rows_kept}
-use Rattle.yl_lint.specs.TextReport.{comments_in_sections, end_of_lines, fault_in_sections, findings_in_lines, first_text, report, report_by, shown}
+use Rattle.yl_lint.specs.TextReport.{comments_in_sections, fault_in_sections, findings_in_lines, first_text, report_by, shown}
+use Rattle.yl_lint.specs.Computed.{report}
 use Rattle.yl_lint.specs.Unsilenced.{unsilenced_of_kept}
 use Rattle.yl_overview.specs.Overview.{AreOverviews}
 use Rattle.yl_overview.specs.declared.overview.Overview.{Overview}

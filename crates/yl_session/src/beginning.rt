@@ -1,7 +1,8 @@
 //! What a session keeps of a text that it opens.
 ghost use Rattle.std.specs.Prelude.{◌≡◌, IfOk};
 ghost use Rattle.yl_text.specs.Store.{AreLines};
-ghost use Rattle.yl_lint.specs.TextReport.{kept_of_text, records_of};
+ghost use Rattle.yl_lint.specs.TextReport.{records_of};
+ghost use Rattle.yl_lint.specs.Computed.{kept_of_text};
 ghost use Rattle.yl_parting.specs.Changes.{parts_in};
 ghost use Rattle.yl_overview.specs.Overview.{AreOverviews};
 ghost use Rattle.yl_found.specs.Found.{all_parts};

@@ -6,7 +6,8 @@ ghost use Rattle.std.specs.Prelude.{◌≡◌, ◌+◌, ◌-◌, ◌<◌, ◌≤
 ghost use Rattle.yl_text.specs.Store.{AreLines};
 ghost use Rattle.yl_sections.specs.Judge.{kept_of_section};
 ghost use Rattle.yl_sections.specs.Sections.{sections};
-ghost use Rattle.yl_lint.specs.TextReport.{kept_of_text, records_of};
+ghost use Rattle.yl_lint.specs.TextReport.{records_of};
+ghost use Rattle.yl_lint.specs.Computed.{kept_of_text};
 ghost use Rattle.yl_session.specs.Reading.{IsReadTo};
 
 use std::alloc::{AllocError, Allocator};

@@ -1,4 +1,4 @@
-//! Tests of lists and stores in chunks, of random edits, and of what asks for no memory. What is shown of texts is told by the rows of `yl_session_rows`.
+//! Tests of lists and stores in chunks, of random edits, of what asks for no memory, and of the first byte that is not printable ASCII. What is shown of texts is told by the rows of `yl_session_rows`.
 #![tactic(auto)]
 
 #[cfg(test)]
@@ -7,6 +7,8 @@ mod chunks;
 mod growths;
 #[cfg(test)]
 mod random_edits;
+#[cfg(test)]
+mod special;
 #[cfg(test)]
 mod stores;
 #[cfg(test)]

@@ -1,12 +1,13 @@
 use Rattle.std.proofs.Common.{◌≡◌, ◌≤◌, ◌∙◌, List, length, None, ap, sym, subst, rules}
 use Rattle.std.specs.Prelude.{Bool, slice_get}
+use Rattle.yl_text.specs.Store.{end_of_lines}
 use Rattle.yl_rules.specs.LevelOf.{level_of}
 use Rattle.yl_config.specs.Config.{levels_of}
 use Rattle.yl_report.specs.Directive.{disables_file}
 use Rattle.yl_report.specs.Heard.{nothing_silenced}
 use Rattle.yl_report.specs.Report.{ProblemValue, report_of}
 use Rattle.yl_report.specs.Silence.{is_file_silenced_by, is_silenced_at}
-use Rattle.yl_lint.specs.TextReport.{end_of_lines, fault_in_sections, first_text}
+use Rattle.yl_lint.specs.TextReport.{fault_in_sections, first_text}
 use Rattle.yl_found.proofs.FaultFound.{fault_few, popped, told_as, told_few}
 use Rattle.yl_found.proofs.fault.fault_of.Goals as goal
 

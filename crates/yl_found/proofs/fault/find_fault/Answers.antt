@@ -1,7 +1,8 @@
 use Rattle.std.proofs.Common.{List, [], ◌∷◌, ◌++◌, arith, ap, sym, ◌∙◌}
 use Rattle.yl_text.specs.Finding.{FindingValue}
+use Rattle.yl_text.specs.Store.{end_of_lines}
 use Rattle.yl_text.specs.declared.position.Pos.{Pos}
-use Rattle.yl_lint.specs.TextReport.{end_of_lines, fault_in_sections}
+use Rattle.yl_lint.specs.TextReport.{fault_in_sections}
 use Rattle.yl_found.proofs.FaultFound.{fault_none, no_such}
 use Rattle.yl_found.proofs.fault.find_fault.Goals as goal
 

@@ -1,6 +1,7 @@
+use Rattle.yl_text.specs.Store.{end_of_lines}
 use Rattle.yl_config.specs.Config.{levels_of, options_of}
 use Rattle.yl_report.specs.Directive.{disables_file, is_silenced}
-use Rattle.yl_lint.specs.TextReport.{comments_in_sections, end_of_lines, findings_in_lines, first_text, found_of_kept, report_of_kept, shown}
+use Rattle.yl_lint.specs.TextReport.{comments_in_sections, findings_in_lines, first_text, found_of_kept, report_of_kept, shown}
 use Rattle.yl_lint.specs.Unsilenced.{unsilenced_of_kept}
 use Rattle.yl_lint.proofs.laws.heard_of_text.Goals as goal
 

@@ -1,5 +1,6 @@
 use Rattle.std.proofs.Common.{rules, ◌≡◌, ◌≢◌, ◌∙◌, ◌∷◌, [], refl, ℕ, List, ap, sym, length, arith}
 use denote.Enum.Bare.{same_true}
+use Rattle.std.specs.Prelude.{IfOk}
 use Rattle.yl_text.specs.contracts.row.Break.{the_type}
 use Rattle.yl_text.specs.declared.row.Break.TheVariants.{No}
 use Rattle.yl_text.specs.Lines.{RowValue, lines_from, lines_of}
@@ -7,7 +8,9 @@ use Rattle.yl_text.proofs.Computed.{line}
 use Rattle.yl_text.proofs.Cut.{behind_break, behind_none}
 use Rattle.yl_record.specs.Records.{characters_in}
 use Rattle.yl_lint.specs.Left.{kept_left, lines_left}
-use Rattle.yl_lint.specs.TextReport.{first_text, report}
+use Rattle.yl_lint.specs.TextReport.{first_text}
+use Rattle.yl_lint.specs.Computed.{report}
+use Rattle.yl_lint.proofs.Reported.{if_report}
 use Rattle.yl_lint.proofs.Passed.{end_more, first_fits, first_short, if_same, report_so, start_end}
 use Rattle.yl_lint.proofs.lint.report_of_text.Goals as goal
 
@@ -56,7 +59,8 @@ returns-then-eq g c =
     ∙ (ap (Rattle.yl_lint.proofs.Passed.end_left old.lines.runs.count old.lines.runs.last) (sym one) ∙ old.invariant.end) in
     let kept = c.in_ok-pass-2.ensures.kept []
     ∙ (ap (λ (rs : List RowValue). kept_left config old.sections.kept.items old.sections.recorder (characters_in rs)) (sym one) ∙ old.invariant.kept) in
-    if_same c.report_of_read.result (λ v. v.items) _ (report config rows) (report_so config rows _ _ _ _ found first end kept) c.report_of_read.ensures
+    let is : IfOk c.report_of_read.result (λ v. v.items ≡ report config rows) = if_same c.report_of_read.result (λ v. v.items) _ (report config rows) (report_so config rows _ _ _ _ found first end kept) c.report_of_read.ensures in
+    if_report config rows (λ v. v.items) c.report_of_read.result (c.one_report.ensures.computed config rows) is
 
 pub loop-sections-smaller : goal.loop-sections-smaller
 loop-sections-smaller g c =

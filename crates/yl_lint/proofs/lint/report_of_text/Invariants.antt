@@ -2,10 +2,12 @@ use Rattle.std.proofs.Common.{◌≡◌, ◌≤◌, ◌+◌, false, length}
 use denote.Text.{Utf8}
 use denote.Shadow.{shadow}
 use Rattle.yl_text.specs.Lines.{lines_of}
+use Rattle.yl_text.specs.Store.{end_of_lines}
 use Rattle.yl_config.specs.Config.{options_of}
 use Rattle.yl_record.specs.Records.{characters_in}
 use Rattle.yl_lint.specs.Left.{kept_left, lines_left}
-use Rattle.yl_lint.specs.TextReport.{end_of_lines, findings_in_lines, kept_of_text}
+use Rattle.yl_lint.specs.TextReport.{findings_in_lines}
+use Rattle.yl_lint.specs.Computed.{kept_of_text}
 use Rattle.yl_lint.proofs.Passed.{end_left}
 use Rattle.yl_lint.proofs.lint.report_of_text.Given as goal
 

@@ -13,7 +13,7 @@ returns-then-branch-clause-kept g c =
     nothing_put c.args.kept.now.items c.new.result.items c.section_of-begin.result.section c.new.ensures.items ∙ (c.requires.kept ∙ c.in_ok-keep_sections.ensures c.if-branch.true)
 
 pub returns-then-branch-clause-documents : goal.returns-then-branch-clause-documents
-returns-then-branch-clause-documents g c = λ h m l. c.count_kept.ensures.documents m l
+returns-then-branch-clause-documents g c = λ h m l. omega arith
 
 pub returns-then-branch-clause-around : goal.returns-then-branch-clause-around
 returns-then-branch-clause-around g c =

@@ -1,15 +1,16 @@
-use Rattle.std.proofs.Common.{◌+◌, ◌-◌, List, None, option_map, length, drop, refl, ap, sym, ◌∙◌, subst, arith}
+use Rattle.std.proofs.Common.{◌+◌, ◌-◌, List, None, option_map, length, drop, take, refl, ap, sym, ◌∙◌, subst, arith, inl, inr}
 use Rattle.std.specs.List.{splice}
 use Rattle.std.proofs.lemmas.List.{length-take, length-drop}
 use Rattle.yl_text.specs.Lines.{RowValue}
 use Rattle.yl_text.specs.Store.{AreLines}
 use Rattle.yl_record.specs.Records.{RecordValue, characters_in, records}
-use Rattle.yl_rescan.specs.Agree.{counterpart, next_cut}
+use Rattle.yl_sections.specs.Local.{kind_after}
+use Rattle.yl_rescan.specs.Agree.{MayKeep, StopsPassed, counterpart, next_cut}
 use Rattle.yl_rescan.proofs.Edits.{characters_length, few_rows, length-spliced}
 use Rattle.yl_rescan.proofs.Held.{held_length}
 use Rattle.yl_rescan.proofs.Made.{WasScanned}
 use Rattle.yl_rescan.proofs.Rows.{records_length}
-use Rattle.yl_rescan.proofs.Stores.{above_edit, begins_patched, below_length, by_end, cut_there, few_there, kept_rows, may_the_same, passed_rows, refused_the_same, the_same}
+use Rattle.yl_rescan.proofs.Stores.{above_edit, begins_patched, below_length, by_end, cut_there, few_there, counterpart_range, kept_rows, kept_under_rows, may_the_same, passed_rows, refused_the_same, renamed, the_same}
 use Rattle.yl_rescan.proofs.rescanning.rescan_above.Goals as goal
 
 pub last_sound-from-requires : goal.last_sound-from-requires
@@ -99,6 +100,37 @@ may_keep-requires-clause-few g c =
     let many = ap (λ (rs : List RecordValue). length rs) (c.deref.ensures.value ∙ c.in_ok-found.ensures.records) in
     omega (arith, few.0, few.2, same, count, characters_length ps, many, length-take (c.in_ok-found.found.end - row) (drop row all), length-drop row all, records_length (characters_in us), characters_length us)
 
+pub with_passed-rescanned-requires : goal.with_passed-rescanned-requires
+with_passed-rescanned-requires g c =
+    let ps = g.S.Lines.rows c.args.store.now in
+    let ns = c.args.rows.now in
+    let us = c.new-patched.result in
+    let es = c.args.old.now.items in
+    let found = c.in_ok-found.found in
+    let e = c.in_ok-found.ensures in
+    let row = c.last_sound-from.result.row in
+    let all = records (characters_in us) in
+    let state = option_map (λ s. s.now) c.last_sound-from.result.state in
+    let few = few_rows ps ns c.args.a c.args.b c.requires.range c.requires.old_lines c.requires.lines in
+    let above = above_edit ps ns us c.args.a c.args.b c.requires.range c.new-patched.ensures c.args.cut es c.requires.held c.requires.above row state c.last_sound-from.ensures.place in
+    let same = ap (λ (rows : List RowValue). length rows) c.new-patched.ensures in
+    let grown = length-spliced ps ns c.args.a c.args.b c.requires.range.ordered c.requires.range.within in
+    let count = held_length (characters_in ps) c.args.cut es c.requires.held in
+    let at_is = c.counterpart-at.ensures ∙ ap (λ k. counterpart found.why found.end (c.args.a + length ns) c.args.b k) c.len.ensures in
+    let range = counterpart_range found.why found.end (c.args.a + length ns) c.args.b (length es) (length us) (omega (arith, count, characters_length ps, c.requires.range.within))
+    (omega (arith, count, characters_length ps, same, grown)) (λ is. (e.agrees is).0) (λ is. (e.stopped is).0) (λ is. e.whole is) in
+    let many = ap (λ (rs : List RecordValue). length rs) e.records in
+    let least = range.0 in
+    let most = range.1 in
+    record {
+      lines = subst AreLines (sym c.new-patched.ensures) c.requires.lines;
+      within = e.end.1;
+      rows = ap (λ k. length es - k + found.end) at_is ∙ range.2;
+      range = record { ordered = omega (arith, at_is, least, above, c.requires.range.ordered); within = omega (arith, at_is, most) };
+      len = omega (arith, many, e.end.0, e.end.1, length-take (found.end - row) (drop row all), length-drop row all, records_length (characters_in us), characters_length us);
+      few = omega (arith, few.0, few.2, same, count, characters_length ps);
+    }
+
 pub returns-then-not-may_keep-clause-made : goal.returns-then-not-may_keep-clause-made
 returns-then-not-may_keep-clause-made g c =
     let ps = g.S.Lines.rows c.args.store.now in
@@ -130,9 +162,11 @@ returns-then-not-may_keep-clause-made g c =
     let not = refused_the_same (may_the_same es row _ _ _ _ found.why _ _ at_is c.deref.ensures.value next_is) refused in
     let r = c.in_ok-rescanned in
     let more = r.ensures in
-    the_same es _ _ c.args.a c.args.b (length ns) n r.rescanned.cut None r.rescanned.from row r.rescanned.old_end (length es) r.rescanned.end (length us) r.rescanned.records.items _
-    more.cut more.from (more.old_end ∙ c.len-then-not-may_keep.ensures) more.end more.records
-    (passed_rows ps ns us c.args.a c.args.b c.requires.range c.new-patched.ensures c.args.cut es c.requires.held c.requires.above c.requires.lines row state found.why found.end n found.records.items scanned _ not refl)
+    let ends =
+    subst (λ k. StopsPassed es c.args.cut (kind_after None (take found.end (splice es row k found.records.items))) k found.end r.rescanned.old_end r.rescanned.end (length us) r.rescanned.cut) at_is more.stops in
+    renamed es _ _ c.args.a c.args.b (length ns) r.rescanned.cut r.rescanned.from row r.rescanned.old_end r.rescanned.end n n r.rescanned.records.items more.from refl
+    (passed_rows ps ns us c.args.a c.args.b c.requires.range c.new-patched.ensures c.args.cut es c.requires.held c.requires.above c.requires.lines row state found.why found.end n found.records.items scanned
+    r.rescanned.cut r.rescanned.old_end r.rescanned.end r.rescanned.records.items not ends more.records)
 
 pub returns-clause-made : goal.returns-clause-made
 returns-clause-made g c =
@@ -161,6 +195,13 @@ returns-clause-made g c =
     } in
     let at_is = c.counterpart-at.ensures ∙ ap (λ k. counterpart found.why found.end (c.args.a + length ns) c.args.b k) c.len.ensures in
     let next_is = c.next_cut-next.ensures ∙ ap (λ k. next_cut found.why c.args.cut k found.end) at_is in
-    let may = subst (λ (T : Type 0). T) (may_the_same es row _ _ _ _ found.why _ _ at_is c.deref.ensures.value next_is) (c.may_keep.ensures.kept c.if-not-may_keep.false) in
+    let at = counterpart found.why found.end (c.args.a + length ns) c.args.b (length es) in
+    let may : MayKeep (splice es row at found.records.items) found.why (next_cut found.why c.args.cut at found.end) =
+    elim (c.may_keep.ensures.kept c.if-not-may_keep.false) [
+      | inl p ↦
+          kept_under_rows ps ns us c.args.a c.args.b c.requires.range c.new-patched.ensures c.args.cut es c.requires.held c.requires.above c.requires.lines row state found.why found.end n found.records.items scanned p.0
+          (c.is_stopped-is_below_fault.ensures.0 p.1)
+      | inr m ↦ subst (λ (T : Type 0). T) (may_the_same es row _ _ _ _ found.why _ _ at_is c.deref.ensures.value next_is) m
+    ] in
     the_same es _ _ c.args.a c.args.b (length ns) n c.next_cut-next.result _ row row c.counterpart-at.result _ found.end found.end found.records.items found.records.items next_is refl at_is refl refl
     (kept_rows ps ns us c.args.a c.args.b c.requires.range c.new-patched.ensures c.args.cut es c.requires.held c.requires.above c.requires.lines row state found.why found.end n found.records.items scanned may)

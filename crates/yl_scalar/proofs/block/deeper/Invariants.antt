@@ -1,5 +1,5 @@
 use Rattle.std.proofs.Common.{◌≡◌, ◌+◌, drop}
-use Rattle.yl_scalar.specs.Block.{deeper}
+use Rattle.yl_scalar.specs.BlockLines.{deeper}
 use Rattle.yl_scalar.proofs.block.deeper.Given as goal
 
 abbrev pub invariant-loop-i : goal.invariant-loop-i

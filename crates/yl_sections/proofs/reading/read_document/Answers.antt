@@ -15,4 +15,4 @@ returns-clause-counted g c =
     let xs = map (λ x. lexeme_at_line x.line x.lexeme.now) c.args.lexemes.now in
     let left : 0 < length c.args.lexemes.now = not_zero (length c.args.lexemes.now) (sym c.is_empty.ensures ∙ c.if-is_empty.false) in
     let some : 0 < length xs = omega (arith, left, length-map c.args.lexemes.now (λ x. lexeme_at_line x.line x.lexeme.now)) in
-    ap (λ n. record c.args.meter.now { documents = c.args.meter.now.documents + n }) (sym (one_document xs some))
+    c.read_some.ensures.counted ∙ ap (λ n. record c.args.meter.now { documents = c.args.meter.now.documents + n }) (sym (one_document xs some))

@@ -7,13 +7,13 @@ use Rattle.yl_sections.proofs.LineByLine.{facts_read, gives_document, keys_read,
 use Rattle.yl_sections.proofs.Rows.{seen}
 use Rattle.yl_sections.proofs.reading.read_some.Goals as goal
 
-pub returns : goal.returns
-returns g c =
+pub returns-clause-read : goal.returns-clause-read
+returns-clause-read g c =
     let config = c.args.config.now in
     let rs = seen c.args.records.now in
     let xs = map (λ x. lexeme_at_line x.line x.lexeme.now) c.args.lexemes.now in
     let m = c.in_ok-reader.reader.marker in
-    let some : 0 < length xs = omega (arith, c.requires, length-map c.args.lexemes.now (λ x. lexeme_at_line x.line x.lexeme.now)) in
+    let some : 0 < length xs = omega (arith, c.requires.some, length-map c.args.lexemes.now (λ x. lexeme_at_line x.line x.lexeme.now)) in
     let b = document_of xs in
     let gives = c.in_ok-fault.ensures.told config b (gives_document config xs c.in_ok-reader.reader.tree c.in_ok-reader.reader.parser m c.in_ok-reader.ensures.marker some c.in_ok-reader.ensures.told) in
     let ends = c.in_ok-ending.ensures config b (quiet_document xs some) gives in

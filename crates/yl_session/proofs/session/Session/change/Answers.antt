@@ -10,7 +10,7 @@ use Rattle.yl_sections.specs.Judge.{kept_of_section}
 use Rattle.yl_sections.specs.Kept.{KeptValue}
 use Rattle.yl_sections.specs.Sections.{sections}
 use Rattle.yl_rescan.specs.Held.{AreHeld}
-use Rattle.yl_lint.specs.TextReport.{report}
+use Rattle.yl_lint.specs.Computed.{report}
 use Rattle.yl_parting.specs.Changes.{parts_in, renewed}
 use Rattle.yl_parting.specs.Parts.{PartsValue}
 use Rattle.yl_parting.specs.Rooms.{IsReady}
