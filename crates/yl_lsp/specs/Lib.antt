@@ -1,0 +1,3 @@
+pub mod Params
+pub mod Read
+pub mod Words
