@@ -1,7 +1,7 @@
 //! A text that is kept open, with its report.
 ghost use Rattle.std.specs.Prelude.{◌≡◌, ◌<◌, ◌≤◌, ◌+◌, ◌^◌, ◌↔◌, IsTrue, length, slice_get, Some, Ok, MatchResult, IfOk, OnOk, OnErr};
 ghost use Rattle.std.specs.List.{splice};
-ghost use Rattle.yl_text.specs.Lines.{RowValue};
+ghost use Rattle.yl_text.specs.Lines.{RowValue, IsLines, text_of};
 ghost use Rattle.yl_text.specs.Fault.{IsText, IsFaultOf};
 ghost use Rattle.yl_text.specs.Store.{AreLines, IsRange};
 ghost use Rattle.yl_text.specs.Edit.{CanEdit, IsInText, IsEditRange, edited_text};
@@ -20,7 +20,7 @@ use std::alloc::{AllocError, Allocator};
 use std::marker::Model;
 use yl_chunks::Chunks;
 use yl_config::Config;
-use yl_lint::TextEdit;
+use yl_lint::{TextEdit, one_report};
 use yl_parting::FoundProblems;
 use yl_record::Record;
 use yl_report::{Problem, status};
@@ -70,6 +70,7 @@ impl<S: LineStore> Model for Session<S> {
 impl<S: LineStore> Session<S> {
     ghost use Rattle.yl_session.specs.State.{Shows};
     ghost use Rattle.yl_lint.specs.Computed.{report};
+    ghost use Rattle.yl_lint.specs.TextReport.{IsReport};
     ghost use Rattle.yl_report.specs.Report.{status_of};
     ghost use Rattle.yl_session.specs.Runs.{IsAnswer, IsEditWork};
 
@@ -91,6 +92,7 @@ impl<S: LineStore> Session<S> {
             known,
             found,
         } = begun;
+        one_report();
         Ok(Session {
             alloc,
             config,
@@ -110,6 +112,28 @@ impl<S: LineStore> Session<S> {
         self.store.len()
     }
 
+    /// The configuration.
+    pub fn config(&self) -> Config
+        ensures { result ≡ self.now.config }
+    {
+        self.config
+    }
+
+    /// The lines of the text.
+    pub fn lines(&self) -> &S
+        ensures rows { S.rows result.now ≡ self.now.rows }
+        ensures lines { AreLines self.now.rows }
+    {
+        &self.store
+    }
+
+    /// The bytes of the text, breaks included.
+    pub fn text<A: Allocator>(&self, alloc: A) -> Result<Vec<u8, A>, AllocError>
+        ensures { IfOk result (λ text. IsLines text.items self.now.rows) }
+    {
+        text_in(alloc, &self.store)
+    }
+
     /// A line without its break, counted from 0.
     pub fn line(&self, i: usize) -> &str
         requires { i < length self.now.rows }
@@ -121,14 +145,15 @@ impl<S: LineStore> Session<S> {
     /// The report of the text.
     pub fn problems(&self) -> &[Problem<S::Alloc>]
         ensures shown { result.now ≡ self.now.problems }
-        ensures report { self.now.problems ≡ report self.now.config self.now.rows }
+        ensures report { IsReport self.now.config self.now.rows self.now.problems }
     {
+        one_report();
         self.found.shown.as_slice()
     }
 
     /// 1 if the report has an error, else 2 if it has a warning and `strict` is asked, else 0.
     pub fn status(&self, strict: bool) -> u8
-        ensures { result ≡ status_of (report self.now.config self.now.rows) strict }
+        ensures { result ≡ status_of self.now.problems strict }
     {
         status(self.found.shown.as_slice(), strict)
     }
@@ -195,6 +220,7 @@ impl<S: LineStore> Session<S> {
         let Ok(mut rows) = incoming(self.alloc, before, bytes) else {
             return Err(AllocError);
         };
+        one_report();
         self.change(a, b, &mut rows)
     }
 
@@ -225,6 +251,7 @@ impl<S: LineStore> Session<S> {
             return Err(fault);
         }
         if is_nothing(&self.store, from, to, bytes) {
+            one_report();
             return Ok(Work {
                 scanned: 0,
                 documents: 0,
@@ -242,7 +269,23 @@ impl<S: LineStore> Session<S> {
 /// left, and sessions over two stores show the same of one text.
 pub fn one_state()
     ensures { OneState }
-{}
+{
+    one_report();
+}
+
+/// The bytes of the lines of a store, breaks included.
+fn text_in<S: LineStore, A: Allocator>(alloc: A, store: &S) -> Result<Vec<u8, A>, AllocError>
+    requires { AreLines (S.rows store.now) }
+    ensures { IfOk result (λ text. text.items ≡ text_of (S.rows store.now)) }
+{
+    let mut text = Vec::with_capacity(alloc, store.bytes() as usize)?;
+    for i in 0..store.len() {
+        let row = store.row(i);
+        text.extend_from_slice(row.as_str().as_bytes())?;
+        text.extend_from_slice(row.end().as_bytes())?;
+    }
+    Ok(text)
+}
 
 /// Whether the two places are one, and there are no bytes.
 fn is_nothing<S: Lines>(lines: &S, from: Pos, to: Pos, bytes: &[u8]) -> bool
