@@ -3,7 +3,7 @@
 ghost use Rattle.std.specs.Prelude.{◌≡◌, IfOk};
 ghost use Rattle.yl_row.specs.Entries.{entries};
 ghost use Rattle.yl_scan.specs.Output.{output_of_entries};
-ghost use Rattle.yl_scan.specs.Scanner.{characters_of};
+ghost use Rattle.yl_scan.specs.Step.{characters_of};
 ghost use Rattle.yl_scan.specs.Whole.{scanned_text_value, text_value_of_output};
 ghost use Rattle.yl_text.specs.Store.{AreLines};
 

@@ -6,7 +6,7 @@ use Rattle.yl_text.specs.declared.TheConstants.{MAX_BYTES}
 use Rattle.yl_text.specs.Fault.{IsText}
 use Rattle.yl_text.specs.Lines.{lines_of}
 use Rattle.yl_documents.proofs.OneBuilding.{all_same}
-use Rattle.yl_scan.specs.Scanner.{characters_of}
+use Rattle.yl_scan.specs.Step.{characters_of}
 use Rattle.yl_config.specs.declared.fault.ConfigFault.{ConfigFault}
 use Rattle.yl_config.specs.declared.fault.ConfigFault.TheVariants as fault
 use Rattle.yl_config.specs.declared.misfit.Misfit.{Misfit}

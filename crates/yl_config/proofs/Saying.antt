@@ -12,7 +12,7 @@ use Rattle.yl_lexeme.specs.Lexeme.{LexemeValue}
 use Rattle.yl_row.specs.declared.fault.PlacedScanFault.{PlacedScanFault}
 use Rattle.yl_row.specs.Entries.{entries}
 use Rattle.yl_scan.specs.Output.{output_of_entries}
-use Rattle.yl_scan.specs.Scanner.{characters_of}
+use Rattle.yl_scan.specs.Step.{characters_of}
 use Rattle.yl_scan.specs.Whole.{ScannedTextValue, text_value_of_output}
 use Rattle.yl_config.specs.declared.fault.ConfigFault.{ConfigFault}
 use Rattle.yl_config.specs.declared.fault.ConfigFault.TheVariants as fault

@@ -9,7 +9,7 @@ use Rattle.yl_text.specs.Lines.{lines_of}
 use Rattle.yl_lexeme.specs.Lexeme.{LexemeValue}
 use Rattle.yl_events.specs.Documents.{is_document_end}
 use Rattle.yl_events.specs.Event.{EventValue}
-use Rattle.yl_scan.specs.Scanner.{characters_of}
+use Rattle.yl_scan.specs.Step.{characters_of}
 use Rattle.yl_config.specs.declared.fault.ConfigFault.{ConfigFault}
 use Rattle.yl_config.specs.declared.fault.ConfigFault.TheVariants as fault
 use Rattle.yl_config.specs.Document.{document_judgement}

@@ -1,7 +1,7 @@
 //! A configuration from its bytes.
 ghost use Rattle.std.specs.Prelude.{◌≡◌, ◌<◌, ◌^◌, All, IfOk, length, ◌-◌};
 ghost use Rattle.std.specs.Str.{chars};
-ghost use Rattle.yl_scan.specs.Scanner.{characters_of};
+ghost use Rattle.yl_scan.specs.Step.{characters_of};
 ghost use Rattle.yl_config.specs.Answered.{settings_answer};
 ghost use Rattle.yl_config.specs.Outcome.{IsConfigOf, Says, from_own, is_lone_end, judged_own};
 ghost use Rattle.yl_documents.specs.TextReading.{reading_of};

@@ -5,7 +5,7 @@ use Rattle.std.proofs.lemmas.Option.{get_or_from_slice_get, slice_get_within, sl
 use Rattle.std.specs.Str.{chars}
 use Rattle.yl_text.specs.declared.position.Pos.{Pos}
 use Rattle.yl_text.specs.Lines.{RowValue}
-use Rattle.yl_scan.specs.Scanner.{characters_of}
+use Rattle.yl_scan.specs.Step.{characters_of}
 use Rattle.yl_documents.specs.TextReading.{end_of, width_of}
 
 pub short_at : (rows : List RowValue) (i : ℕ) (row : RowValue) → All (λ r. length (chars r.text) < 2 ^ 31) rows → slice_get rows i ≡ Some row → length (chars row.text) < 2 ^ 31

@@ -2,7 +2,7 @@
 ghost use Rattle.std.specs.Prelude.{◌≡◌, ◌<◌, ◌-◌, ◌^◌, All, IfOk, length, map, option_map};
 ghost use Rattle.std.specs.Str.{chars};
 ghost use Rattle.yl_marks.specs.Keys.{lexeme_at_line};
-ghost use Rattle.yl_scan.specs.Scanner.{characters_of};
+ghost use Rattle.yl_scan.specs.Step.{characters_of};
 ghost use Rattle.yl_scan.specs.Whole.{fault_of, lexeme_in};
 ghost use Rattle.yl_documents.specs.TextReading.{end_of, lexeme_in_text, place_of_fault};
 

@@ -2,7 +2,7 @@
 use Rattle.std.proofs.Common.{◌≡◌, ℕ, ◌+◌, ◌<◌, Bool, true, false, List, [], ◌∷◌, length, drop, refl, sym, ap, ◌∙◌, arith}
 use Rattle.std.specs.Str.{chars}
 use Rattle.yl_text.specs.Lines.{RowValue, lines_of}
-use Rattle.yl_scan.specs.Scanner.{characters_of}
+use Rattle.yl_scan.specs.Step.{characters_of}
 use Rattle.yl_dump.specs.TextScan.{rows_of, IsInText}
 use Rattle.yl_dump.proofs.Bounds.{first_fits}
 

@@ -2,7 +2,7 @@
 use Rattle.std.specs.Prelude.{◌≡◌, ◌+◌, ◌≤◌, ℕ, Bool, true, false, List, [], length}
 use Rattle.yl_text.specs.declared.TheConstants.{MAX_BYTES}
 use Rattle.yl_text.specs.Lines.{RowValue, lines_of}
-use Rattle.yl_scan.specs.Output.{PhaseValue}
+use Rattle.yl_scan.specs.Remaining.{PhaseValue}
 
 pub record TextScannerValue : Type 0 where
   pub line : ℕ  -- how many lines were read

@@ -4,7 +4,7 @@ ghost use Rattle.yl_text.specs.declared.TheConstants.{MAX_BYTES};
 ghost use Rattle.std.specs.List.{flat_map};
 ghost use Rattle.std.specs.Option.{option_map};
 ghost use Rattle.yl_row.specs.Entries.{Stopped};
-ghost use Rattle.yl_scan.specs.Scanner.{lexeme_above_at, fault_above_at, step_value};
+ghost use Rattle.yl_scan.specs.Step.{lexeme_above_at, fault_above_at, step_value};
 ghost use Rattle.yl_dump.specs.StepLines.{above_lines, lines_of_comment, failed_lines, step_lines};
 ghost use Rattle.yl_dump.specs.LexemeLine.{lexeme_line};
 

@@ -2,8 +2,10 @@
 ghost use Rattle.std.specs.Prelude.{◌≡◌, ◌≢◌, ◌≤◌, ◌↔◌, [], drop, length, true, IsTrue, IfOk, OnErr, OnOk};
 ghost use Rattle.yl_text.specs.declared.TheConstants.{MAX_BYTES};
 ghost use Rattle.yl_text.specs.Lines.{lines_of};
-ghost use Rattle.yl_scan.specs.Output.{Fresh, output_with_step, remaining_output};
-ghost use Rattle.yl_scan.specs.Scanner.{state_before, step_value, characters_of};
+ghost use Rattle.yl_scan.specs.Output.{output_with_step};
+ghost use Rattle.yl_scan.specs.Remaining.{Fresh, remaining_output};
+ghost use Rattle.yl_scan.specs.Scanner.{state_before};
+ghost use Rattle.yl_scan.specs.Step.{step_value, characters_of};
 ghost use Rattle.yl_lexeme.specs.Known.{no_surroundings};
 
 use crate::characters::character_count;

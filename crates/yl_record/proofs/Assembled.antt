@@ -11,7 +11,8 @@ use Rattle.yl_row.specs.Step.{FoundLexemeValue}
 use Rattle.yl_row.specs.ScalarReader.{open_found}
 use Rattle.yl_row.specs.Entries.{RowEntry, lexeme_of, stopped_rows}
 use Rattle.yl_row.specs.Run.{entries_by}
-use Rattle.yl_scan.specs.Output.{ScanOutput, StepValue, PhaseValue, Fresh, Within, Halted, at_line, with_comment, first_fault, fault_in, entry_step, rows_to, output_with_step, output_with_lexeme_above, output_with_fault_above, no_output, output_of_entries, output_of_scalar, remaining_output}
+use Rattle.yl_scan.specs.Output.{ScanOutput, StepValue, at_line, with_comment, first_fault, fault_in, entry_step, output_with_step, no_output, output_of_entries}
+use Rattle.yl_scan.specs.Remaining.{PhaseValue, Fresh, Within, Halted, rows_to, output_with_lexeme_above, output_with_fault_above, output_of_scalar, remaining_output}
 use Rattle.yl_scan.specs.Scanner.{begun_at, is_halted}
 use Rattle.yl_scan.specs.Settled.{output_then, with_last}
 use Rattle.yl_scan.proofs.Settling.{in_turn, puts_last}

@@ -11,7 +11,7 @@ use Rattle.yl_row.specs.Step.{FoundLexemeValue}
 use Rattle.yl_row.specs.ScalarReader.{open_found}
 use Rattle.yl_row.specs.Entries.{RowEntry, lexeme_of, stopped_rows}
 use Rattle.yl_row.specs.Run.{entries_by}
-use Rattle.yl_scan.specs.Output.{PhaseValue, Fresh, Within, Halted, rows_to}
+use Rattle.yl_scan.specs.Remaining.{PhaseValue, Fresh, Within, Halted, rows_to}
 use Rattle.yl_scan.specs.Scanner.{begun_at, is_halted}
 use Rattle.yl_scan.specs.Settled.{with_last}
 use Rattle.yl_record.specs.Parts.{entries_in, with_fault_in}

@@ -8,7 +8,8 @@ use Rattle.yl_row.specs.Step.{FoundLexemeValue, first_tab}
 use Rattle.yl_row.specs.ScalarReader.{open_found}
 use Rattle.yl_row.specs.Entries.{RowEntry, RowReading, LineStateValue, lexeme_of, entry_of, entries_below, sound_state, stopped_rows}
 use Rattle.yl_row.specs.Run.{row_reading_by, entries_by}
-use Rattle.yl_scan.specs.Output.{PhaseValue, Fresh, Within, Halted, ScanOutput, first_fault, fault_in, rows_to, output_of_entries, output_of_scalar, remaining_output}
+use Rattle.yl_scan.specs.Output.{ScanOutput, first_fault, fault_in, output_of_entries}
+use Rattle.yl_scan.specs.Remaining.{PhaseValue, Fresh, Within, Halted, rows_to, output_of_scalar, remaining_output}
 use Rattle.yl_scan.specs.Scanner.{is_halted}
 use Rattle.yl_scan.specs.Settled.{BeginsFrom, with_last, stored_row}
 use Rattle.yl_scan.proofs.Settling.{tells}

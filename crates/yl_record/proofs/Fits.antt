@@ -9,9 +9,11 @@ use Rattle.yl_row.specs.Entries.{RowEntry, LineStateValue, Stopped, Stands}
 use Rattle.yl_scan.specs.declared.step.LexemeAbove.{LexemeAbove}
 use Rattle.yl_scan.specs.declared.step.FaultAbove.{FaultAbove}
 use Rattle.yl_scan.specs.declared.step.Step.{Step}
-use Rattle.yl_scan.specs.Output.{ScanOutput, StepValue, PhaseValue, output_with_step, remaining_output, silent_step}
-use Rattle.yl_scan.specs.Restart.{phase_at}
-use Rattle.yl_scan.specs.Scanner.{BeginsInText, EndsOpen, ScannerValue, IsAbove, IsInOrder, IsNotBelow, at_end, begun_at, fault_above_at, is_halted, lexeme_above_at, step_value}
+use Rattle.yl_scan.specs.Output.{ScanOutput, StepValue, output_with_step, silent_step}
+use Rattle.yl_scan.specs.Remaining.{PhaseValue, remaining_output}
+use Rattle.yl_scan.specs.Resume.{phase_at}
+use Rattle.yl_scan.specs.Scanner.{EndsOpen, ScannerValue, IsInOrder, begun_at, is_halted}
+use Rattle.yl_scan.specs.Step.{BeginsInText, IsAbove, IsNotBelow, at_end, fault_above_at, lexeme_above_at, step_value}
 use Rattle.yl_record.specs.Parts.{LiesIn, entries_in, entries_with_step, entry_of_step, with_lexeme_above, with_state}
 use Rattle.yl_record.specs.Records.{RecordValue}
 use Rattle.yl_record.specs.Recorded.{RecorderValue, if_wanted, recorded, recorded_of}

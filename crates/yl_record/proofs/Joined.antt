@@ -8,11 +8,14 @@ use Rattle.yl_lexeme.specs.Lexeme.{LexemeValue}
 use Rattle.yl_lexeme.specs.Known.{no_surroundings}
 use Rattle.yl_row.specs.Entries.{RowEntry, LineStateValue, Stopped, Stands, entries}
 use Rattle.yl_row.proofs.Agree.{run-entries}
-use Rattle.yl_scan.specs.Restart.{from_state, phase_at}
-use Rattle.yl_scan.specs.Output.{StepValue, PhaseValue, Fresh, remaining_output}
-use Rattle.yl_scan.specs.Scanner.{at_end, begun_at}
+use Rattle.yl_scan.specs.Resume.{from_state, phase_at}
+use Rattle.yl_scan.specs.Output.{StepValue}
+use Rattle.yl_scan.specs.Remaining.{PhaseValue, Fresh, remaining_output}
+use Rattle.yl_scan.specs.Scanner.{begun_at}
+use Rattle.yl_scan.specs.Step.{at_end}
 use Rattle.yl_record.specs.Parts.{entries_in, indentations_in, entries_with_step, entries_with_end, with_state}
-use Rattle.yl_record.specs.Records.{RecordValue, records_from, records_with}
+use Rattle.yl_record.specs.Records.{RecordValue, records_with}
+use Rattle.yl_record.specs.Recorded.{records_from}
 use Rattle.yl_record.specs.Recorded.{RecorderValue, entries_with_rest, if_wanted, recorded, recorded_of}
 use Rattle.yl_record.specs.Recorder.{IsOpenSince, IsRecording, state_in}
 use Rattle.yl_record.proofs.Steps.{IsStep}

@@ -11,8 +11,10 @@ use Rattle.yl_row.specs.ScalarReader.{open_found}
 use Rattle.yl_lexeme.specs.Lexeme.{LexemeValue}
 use Rattle.yl_row.specs.Entries.{RowEntry, LineStateValue, stopped_rows}
 use Rattle.yl_row.specs.Run.{entries_by}
-use Rattle.yl_scan.specs.Output.{ScanOutput, StepValue, PhaseValue, Fresh, Within, Halted, rows_to, output_of_scalar, output_with_step, no_output, output_of_entries, remaining_output, silent_step}
-use Rattle.yl_scan.specs.Scanner.{at_end, begun_at, is_halted}
+use Rattle.yl_scan.specs.Output.{ScanOutput, StepValue, output_with_step, no_output, output_of_entries, silent_step}
+use Rattle.yl_scan.specs.Remaining.{PhaseValue, Fresh, Within, Halted, rows_to, output_of_scalar, remaining_output}
+use Rattle.yl_scan.specs.Scanner.{begun_at, is_halted}
+use Rattle.yl_scan.specs.Step.{at_end}
 use Rattle.yl_scan.specs.Settled.{output_then}
 use Rattle.yl_record.specs.Parts.{with_lexeme_above, with_fault_above, entry_of_step, entries_with_step, entries_with_end, with_state}
 use Rattle.yl_record.specs.Recorded.{entries_with_rest, without_state, if_wanted}

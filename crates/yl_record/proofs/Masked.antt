@@ -9,7 +9,8 @@ use Rattle.yl_row.specs.Step.{FoundLexemeValue}
 use Rattle.yl_row.specs.ScalarReader.{open_found}
 use Rattle.yl_row.specs.Entries.{RowEntry, lexeme_of, stopped_rows}
 use Rattle.yl_row.specs.Run.{entries_by}
-use Rattle.yl_scan.specs.Output.{StepValue, PhaseValue, Fresh, Within, Halted, rows_to}
+use Rattle.yl_scan.specs.Output.{StepValue}
+use Rattle.yl_scan.specs.Remaining.{PhaseValue, Fresh, Within, Halted, rows_to}
 use Rattle.yl_scan.specs.Settled.{with_last}
 use Rattle.yl_record.specs.Parts.{with_fault_in, with_lexeme_above, with_fault_above, entry_of_step, entries_with_step, entries_with_end, with_state}
 use Rattle.yl_record.specs.Recorded.{entries_with_scalar, entries_with_rest, without_state, if_wanted}

@@ -7,8 +7,10 @@ use Rattle.std.proofs.lemmas.List.{append-nil, length-append, drop_all, drop-app
 use Rattle.yl_lexeme.specs.Lexeme.{LexemeValue}
 use Rattle.yl_row.specs.declared.fault.PlacedScanFault.{PlacedScanFault}
 use Rattle.yl_row.specs.Entries.{RowEntry, LineStateValue, stopped_rows}
-use Rattle.yl_scan.specs.Output.{ScanOutput, StepValue, PhaseValue, Fresh, Within, Halted, at_line, with_comment, first_fault, output_with_step, no_output, output_of_entries, remaining_output, silent_step}
-use Rattle.yl_scan.specs.Scanner.{at_end, begun_at, is_halted}
+use Rattle.yl_scan.specs.Output.{ScanOutput, StepValue, at_line, with_comment, first_fault, output_with_step, no_output, output_of_entries, silent_step}
+use Rattle.yl_scan.specs.Remaining.{PhaseValue, Fresh, Within, Halted, remaining_output}
+use Rattle.yl_scan.specs.Scanner.{begun_at, is_halted}
+use Rattle.yl_scan.specs.Step.{at_end}
 use Rattle.yl_scan.specs.Settled.{BeginsFrom, output_then, with_last}
 use Rattle.yl_scan.proofs.Settling.{in_turn}
 use Rattle.yl_record.specs.Parts.{with_fault_in, with_lexeme_above, with_fault_above, entry_of_step, entries_with_step, entries_with_end}

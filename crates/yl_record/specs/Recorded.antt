@@ -6,12 +6,17 @@ use Rattle.yl_row.specs.declared.fault.PlacedScanFault.{PlacedScanFault}
 use Rattle.yl_row.specs.Fault.{is_unclosed}
 use Rattle.yl_row.specs.Step.{FoundLexemeValue}
 use Rattle.yl_row.specs.ScalarReader.{open_found}
-use Rattle.yl_row.specs.Entries.{RowEntry, lexeme_of, entries, stopped_rows}
+use Rattle.yl_row.specs.Entries.{RowEntry, LineStateValue, lexeme_of, entries, stopped_rows}
 use Rattle.yl_row.specs.Run.{entries_by}
-use Rattle.yl_scan.specs.Output.{PhaseValue, Fresh, Within, Halted, rows_to}
+use Rattle.yl_scan.specs.Remaining.{PhaseValue, Fresh, Within, Halted, rows_to}
+use Rattle.yl_scan.specs.Resume.{from_state}
 use Rattle.yl_scan.specs.Settled.{with_last}
 use Rattle.yl_record.specs.Parts.{entries_in, indentations_in, with_fault_in}
 use Rattle.yl_record.specs.Records.{RecordValue, records_with}
+
+-- the records of the rows of a text from a sound one on, by its state
+abbrev pub records_from : LineStateValue → List (List ℕ) → List RecordValue
+records_from state rows = records_with (map indentation rows) (from_state state rows)
 
 -- a recorder: the records of the rows that it was fed and that were not taken, without the scalar in progress; how many rows were taken;
 -- where its scanner stands; whether records are to hold states; and whether it was refused memory

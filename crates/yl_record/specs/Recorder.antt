@@ -3,7 +3,7 @@ use Rattle.std.specs.Prelude.{◌≡◌, ◌≤◌, ◌<◌, ◌⊎◌, ◌^◌,
 use Rattle.std.specs.List.{AllByRecursion}
 use Rattle.std.specs.Option.{ForSome}
 use Rattle.yl_row.specs.Entries.{RowEntry, LineStateValue}
-use Rattle.yl_scan.specs.Output.{PhaseValue}
+use Rattle.yl_scan.specs.Remaining.{PhaseValue}
 use Rattle.yl_scan.specs.Scanner.{ScannerValue, begun_at, is_halted}
 use Rattle.yl_record.specs.Records.{RecordValue}
 use Rattle.yl_record.specs.Parts.{entries_in}

@@ -3,8 +3,7 @@ use Rattle.std.specs.Prelude.{ℕ, List, [], ◌∷◌, map}
 use Rattle.std.specs.Str.{chars}
 use Rattle.yl_text.specs.Character.{indentation}
 use Rattle.yl_text.specs.Lines.{RowValue}
-use Rattle.yl_row.specs.Entries.{RowEntry, LineStateValue, entries}
-use Rattle.yl_scan.specs.Restart.{from_state}
+use Rattle.yl_row.specs.Entries.{RowEntry, entries}
 
 abbrev pub characters_in : List RowValue → List (List ℕ)
 characters_in rows = map (λ row. chars row.text) rows
@@ -21,7 +20,3 @@ records_with _ _ = []
 -- the records of a text of these rows, each given as its characters
 abbrev pub records : List (List ℕ) → List RecordValue
 records rows = records_with (map indentation rows) (entries rows)
-
--- the records of the rows of a text from a sound one on, by its state
-abbrev pub records_from : LineStateValue → List (List ℕ) → List RecordValue
-records_from state rows = records_with (map indentation rows) (from_state state rows)

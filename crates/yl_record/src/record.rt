@@ -6,7 +6,7 @@ ghost use Rattle.yl_text.specs.Character.{indentation, is_blank, is_white};
 ghost use Rattle.yl_row.specs.Entries.{Stopped};
 ghost use Rattle.yl_record.specs.Beside.{comment_beside, fault_beside, indentation_beside, state_beside};
 ghost use Rattle.yl_record.specs.Parts.{entry_with_last, entry_with_fault};
-ghost use Rattle.yl_record.specs.Records.{records_from};
+ghost use Rattle.yl_record.specs.Recorded.{records_from};
 
 use crate::white::{is_blank, spaces_before};
 use std::alloc::{AllocError, Allocator};

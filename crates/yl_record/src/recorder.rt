@@ -5,10 +5,11 @@ ghost use Rattle.std.specs.Str.{chars};
 ghost use Rattle.std.specs.List.{remove_range};
 ghost use Rattle.yl_text.specs.Store.{IsRange};
 ghost use Rattle.yl_lexeme.specs.Known.{no_surroundings};
-ghost use Rattle.yl_scan.specs.Output.{Fresh};
-ghost use Rattle.yl_scan.specs.Restart.{phase_at};
+ghost use Rattle.yl_scan.specs.Remaining.{Fresh};
+ghost use Rattle.yl_scan.specs.Resume.{phase_at};
 ghost use Rattle.yl_scan.specs.Scanner.{begun_at};
-ghost use Rattle.yl_record.specs.Records.{records, records_from};
+ghost use Rattle.yl_record.specs.Records.{records};
+ghost use Rattle.yl_record.specs.Recorded.{records_from};
 ghost use Rattle.yl_record.specs.Recorded.{recorded, recorded_of, records_without_states};
 ghost use Rattle.yl_record.specs.Recorder.{KeepsStep, complete_before, complete_count, state_in};
 

@@ -5,7 +5,7 @@ ghost use Rattle.std.specs.Option.{ForSome};
 ghost use Rattle.std.specs.Str.{chars};
 ghost use Rattle.yl_text.specs.Character.{indentation};
 ghost use Rattle.yl_row.specs.Entries.{LineStateValue};
-ghost use Rattle.yl_scan.specs.Scanner.{fault_above_at, lexeme_above_at, step_value};
+ghost use Rattle.yl_scan.specs.Step.{fault_above_at, lexeme_above_at, step_value};
 ghost use Rattle.yl_scan.specs.Settled.{with_last};
 ghost use Rattle.yl_record.specs.Parts.{LiesIn, entries_in, entries_with_end, entries_with_step, indentations_in, with_fault_above, with_fault_in, with_lexeme_above, with_state};
 

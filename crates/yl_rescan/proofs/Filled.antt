@@ -12,8 +12,9 @@ use Rattle.yl_row.specs.Entries.{LineStateValue, RowEntry, RowReading, Stands, S
 use Rattle.yl_row.specs.Run.{entries_by, row_reading_by}
 use Rattle.yl_row.specs.Step.{first_tab}
 use Rattle.yl_row.proofs.Agree.{run-entries}
-use Rattle.yl_scan.specs.Restart.{from_state}
-use Rattle.yl_record.specs.Records.{RecordValue, records, records_from, records_with}
+use Rattle.yl_scan.specs.Resume.{from_state}
+use Rattle.yl_record.specs.Records.{RecordValue, records, records_with}
+use Rattle.yl_record.specs.Recorded.{records_from}
 use Rattle.yl_sections.specs.Local.{begins_section, is_start_at, kind_after}
 use Rattle.yl_sections.specs.Sections.{is_section_start}
 use Rattle.yl_rescan.specs.Held.{AreHeld}

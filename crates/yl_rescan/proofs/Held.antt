@@ -5,7 +5,8 @@ use Rattle.std.specs.List.{splice}
 use Rattle.std.proofs.lemmas.List.{same_lists, places, length-drop}
 use Rattle.yl_lexeme.specs.declared.lexeme.Kind.{Kind}
 use Rattle.yl_row.specs.Entries.{LineStateValue, Stopped, Stands}
-use Rattle.yl_record.specs.Records.{RecordValue, records, records_from}
+use Rattle.yl_record.specs.Records.{RecordValue, records}
+use Rattle.yl_record.specs.Recorded.{records_from}
 use Rattle.yl_sections.specs.Local.{begins_section, is_start_at, kind_after}
 use Rattle.yl_sections.proofs.Last.{last_kept, stopped_empty}
 use Rattle.yl_rejudge.proofs.SectionStarts.{from_row, quiet}

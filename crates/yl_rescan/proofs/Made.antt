@@ -8,7 +8,8 @@ use Rattle.std.proofs.lemmas.List.{length-drop, length-take}
 use Rattle.yl_text.specs.Store.{IsRange}
 use Rattle.yl_row.specs.Entries.{LineStateValue, Stopped, entries}
 use Rattle.yl_scan.specs.Restart.{state_at}
-use Rattle.yl_record.specs.Records.{RecordValue, records, records_from}
+use Rattle.yl_record.specs.Records.{RecordValue, records}
+use Rattle.yl_record.specs.Recorded.{records_from}
 use Rattle.yl_sections.specs.Front.{IsFront}
 use Rattle.yl_sections.specs.Local.{is_start_at, kind_after}
 use Rattle.yl_sections.proofs.Lost.{lost_rows}

@@ -6,7 +6,8 @@ use Rattle.std.proofs.lemmas.List.{same_lists, places}
 use Rattle.std.proofs.Math.ListN.{drop_of_length-le}
 use Rattle.yl_lexeme.specs.declared.lexeme.Kind.{Kind}
 use Rattle.yl_row.specs.Entries.{LineStateValue, Stopped, Stands}
-use Rattle.yl_record.specs.Records.{RecordValue, records, records_from}
+use Rattle.yl_record.specs.Records.{RecordValue, records}
+use Rattle.yl_record.specs.Recorded.{records_from}
 use Rattle.yl_sections.specs.Last.{HasNoLexeme}
 use Rattle.yl_sections.specs.Local.{begins_section, is_start_at, kind_after}
 use Rattle.yl_sections.proofs.Last.{last_kept, stopped_empty}

@@ -18,9 +18,11 @@ use Rattle.yl_row.specs.Entries.{LineStateValue, RowEntry, RowReading, Stands, S
 use Rattle.yl_row.specs.Run.{entries_by, row_reading_by}
 use Rattle.yl_row.specs.Step.{first_tab}
 use Rattle.yl_row.proofs.Agree.{run-entries}
-use Rattle.yl_scan.specs.Restart.{from_state, state_at}
+use Rattle.yl_scan.specs.Restart.{state_at}
+use Rattle.yl_scan.specs.Resume.{from_state}
 use Rattle.yl_scan.proofs.Resumed.{run_resumed, stopped_resumed}
-use Rattle.yl_record.specs.Records.{RecordValue, characters_in, records, records_from, records_with}
+use Rattle.yl_record.specs.Records.{RecordValue, characters_in, records, records_with}
+use Rattle.yl_record.specs.Recorded.{records_from}
 use Rattle.yl_sections.specs.Last.{HasNoLexeme}
 use Rattle.yl_sections.specs.Local.{begins_section, is_start_at, kind_after}
 use Rattle.yl_sections.specs.Sections.{last_kind_from}

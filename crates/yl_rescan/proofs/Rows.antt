@@ -8,9 +8,11 @@ use Rattle.yl_row.specs.Step.{first_tab}
 use Rattle.yl_lexeme.specs.Past.{PastLexeme}
 use Rattle.yl_row.specs.Entries.{RowEntry, RowReading, LineStateValue, Stopped, Stands, entries, entries_from, entries_below, stopped_rows, row_reading}
 use Rattle.yl_lexeme.specs.Known.{row_start}
-use Rattle.yl_scan.specs.Restart.{state_at, from_state}
+use Rattle.yl_scan.specs.Restart.{state_at}
+use Rattle.yl_scan.specs.Resume.{from_state}
 use Rattle.yl_scan.proofs.Resumed.{resumed}
-use Rattle.yl_record.specs.Records.{RecordValue, records, records_from, records_with}
+use Rattle.yl_record.specs.Records.{RecordValue, records, records_with}
+use Rattle.yl_record.specs.Recorded.{records_from}
 use Rattle.yl_sections.proofs.Last.{run_count}
 use Rattle.yl_rescan.specs.Agree.{state_of_row}
 

@@ -8,7 +8,8 @@ use Rattle.yl_text.specs.Store.{IsRange}
 use Rattle.yl_text.specs.Character.{is_blank}
 use Rattle.yl_lexeme.specs.declared.lexeme.Kind.{Kind}
 use Rattle.yl_row.specs.Entries.{LineStateValue, Stopped}
-use Rattle.yl_record.specs.Records.{RecordValue, records, records_from}
+use Rattle.yl_record.specs.Records.{RecordValue, records}
+use Rattle.yl_record.specs.Recorded.{records_from}
 use Rattle.yl_sections.specs.Local.{begins_section, is_start_at, kind_after}
 use Rattle.yl_rejudge.specs.Alike.{GoOnAlike}
 use Rattle.yl_rejudge.specs.Documents.{TakesNothing}

@@ -18,11 +18,12 @@ use Rattle.yl_row.specs.Step.{FoundLexemeValue}
 use Rattle.yl_row.specs.ScalarReader.{open_found}
 use Rattle.yl_row.specs.Entries.{RowEntry, LineStateValue, lexeme_of, stopped_rows}
 use Rattle.yl_row.specs.Run.{entries_by}
-use Rattle.yl_scan.specs.Output.{PhaseValue, Fresh, Within, Halted, rows_to}
+use Rattle.yl_scan.specs.Remaining.{PhaseValue, Fresh, Within, Halted, rows_to}
 use Rattle.yl_scan.specs.Restart.{state_at}
 use Rattle.yl_scan.specs.Settled.{with_last}
 use Rattle.yl_record.specs.Parts.{entries_in, indentations_in, with_fault_in}
-use Rattle.yl_record.specs.Records.{RecordValue, characters_in, records, records_from, records_with}
+use Rattle.yl_record.specs.Records.{RecordValue, characters_in, records, records_with}
+use Rattle.yl_record.specs.Recorded.{records_from}
 use Rattle.yl_record.specs.Recorded.{RecorderValue, entries_with_scalar, entries_with_rest, if_wanted, recorded}
 use Rattle.yl_rescan.specs.Agree.{state_of_row, BeginsAt, GoesOn}
 use Rattle.yl_rescan.proofs.Rows.{records_length, sound_behind, state_behind}

@@ -5,7 +5,8 @@ use Rattle.std.specs.List.{splice}
 use Rattle.yl_text.specs.Lines.{RowValue}
 use Rattle.yl_text.specs.Store.{AreLines, IsRange}
 use Rattle.yl_row.specs.Entries.{LineStateValue, Stopped}
-use Rattle.yl_record.specs.Records.{RecordValue, characters_in, records, records_from}
+use Rattle.yl_record.specs.Records.{RecordValue, characters_in, records}
+use Rattle.yl_record.specs.Recorded.{records_from}
 use Rattle.yl_lexeme.specs.declared.lexeme.Kind.{Kind}
 use Rattle.yl_sections.specs.Local.{begins_section, is_start_at, kind_after}
 use Rattle.yl_rescan.specs.Agree.{BeginsAt, BeginsBelow, MayKeep, StopsPassed, counterpart, next_cut, state_of_row}

@@ -3,7 +3,8 @@
 use Rattle.std.specs.Prelude.{◌≡◌, ℕ, true, List, take, drop, Option, Some, None}
 use Rattle.yl_lexeme.specs.declared.lexeme.Kind.{Kind}
 use Rattle.yl_row.specs.Entries.{LineStateValue, Stopped, Stands}
-use Rattle.yl_record.specs.Records.{RecordValue, records, records_from}
+use Rattle.yl_record.specs.Records.{RecordValue, records}
+use Rattle.yl_record.specs.Recorded.{records_from}
 use Rattle.yl_sections.specs.Local.{begins_section, is_start_at}
 use Rattle.yl_rescan.specs.Agree.{state_of_row}
 

@@ -2,7 +2,8 @@
 ghost use Rattle.std.specs.Prelude.{◌≡◌, ◌≤◌, ◌<◌, ◌+◌, ◌-◌, ◌^◌, ◌++◌, true, IsSome, IfSome, OnOk, length, take, drop};
 ghost use Rattle.yl_text.specs.Store.{AreLines};
 ghost use Rattle.yl_row.specs.Entries.{Stopped};
-ghost use Rattle.yl_record.specs.Records.{characters_in, records_from};
+ghost use Rattle.yl_record.specs.Records.{characters_in};
+ghost use Rattle.yl_record.specs.Recorded.{records_from};
 ghost use Rattle.yl_sections.specs.Local.{begins_section, is_start_at};
 ghost use Rattle.yl_rescan.specs.Agree.{state_of_row};
 

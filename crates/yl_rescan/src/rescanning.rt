@@ -3,7 +3,8 @@ ghost use Rattle.std.specs.Prelude.{◌≡◌, ◌⊎◌, ◌≤◌, ◌<◌, �
 ghost use Rattle.std.specs.List.{splice};
 ghost use Rattle.yl_text.specs.Store.{AreLines, IsRange};
 ghost use Rattle.yl_row.specs.Entries.{Stopped};
-ghost use Rattle.yl_record.specs.Records.{characters_in, records_from};
+ghost use Rattle.yl_record.specs.Records.{characters_in};
+ghost use Rattle.yl_record.specs.Recorded.{records_from};
 ghost use Rattle.yl_sections.specs.Local.{is_start_at, kind_after};
 ghost use Rattle.yl_rejudge.specs.Alike.{GoOnAlike};
 ghost use Rattle.yl_rejudge.specs.Documents.{TakesNothing};

@@ -2,7 +2,8 @@
 ghost use Rattle.std.specs.Prelude.{◌≡◌, ◌↔◌, ◌≤◌, ◌<◌, ◌+◌, ◌-◌, ◌^◌, ℕ, List, [], true, IsTrue, IsSome, Some, None, IfOk, IfSome, OnOk, false, option_map, length, take, drop};
 ghost use Rattle.yl_text.specs.Store.{AreLines};
 ghost use Rattle.yl_row.specs.Entries.{LineStateValue, Stopped};
-ghost use Rattle.yl_record.specs.Records.{characters_in, records, records_from};
+ghost use Rattle.yl_record.specs.Records.{characters_in, records};
+ghost use Rattle.yl_record.specs.Recorded.{records_from};
 ghost use Rattle.yl_record.specs.Recorded.{recorded};
 ghost use Rattle.yl_sections.specs.Local.{is_start_at};
 ghost use Rattle.yl_rescan.specs.Agree.{agree, agrees, state_of_row, read_beyond, BeginsAt, BeginsBelow, EndsAt, GoesOn, StopsAt};

@@ -2,7 +2,8 @@
 use Rattle.std.proofs.Common.{◌≡◌, ℕ, zero, suc, ◌+◌, ◌-◌, ◌≤◌, ◌<◌, inl, inr, List, [], ◌∷◌, ◌++◌, length, take, drop, Option, Some, refl, ap, sym, subst, ◌∙◌, arith, add-one}
 use Rattle.std.specs.Prelude.{IsSome}
 use Rattle.yl_row.specs.Entries.{LineStateValue, entries}
-use Rattle.yl_scan.specs.Restart.{state_at, from_state, AreSameAbove, RestartLaw, ConvergenceLaw, CounterpartLaw, AboveLaw}
+use Rattle.yl_scan.specs.Restart.{state_at, AreSameAbove, CounterpartLaw, AboveLaw}
+use Rattle.yl_scan.specs.Resume.{from_state, RestartLaw, ConvergenceLaw}
 use Rattle.yl_scan.proofs.Resumed.{resumed}
 use Rattle.yl_scan.proofs.Restarts.{prefix, shift}
 

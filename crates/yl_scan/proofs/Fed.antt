@@ -5,7 +5,8 @@ use Rattle.yl_row.specs.Step.{first_tab}
 use Rattle.yl_lexeme.specs.Known.{SurroundingsValue, context_of, new_row}
 use Rattle.yl_row.specs.Entries.{LineStateValue, Stopped, state_of, reading_below, sound_state, stopped_rows}
 use Rattle.yl_row.specs.Run.{row_reading_by, entries_by}
-use Rattle.yl_scan.specs.Output.{ScanOutput, output_with_step, output_of_entries, output_of_row, silent_step}
+use Rattle.yl_scan.specs.Output.{ScanOutput, output_with_step, output_of_entries, silent_step}
+use Rattle.yl_scan.specs.Remaining.{output_of_row}
 
 -- ---- where nothing but white space follows, a row is at its end
 

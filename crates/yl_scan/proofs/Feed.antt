@@ -18,7 +18,8 @@ use Rattle.yl_lexeme.specs.Known.{no_surroundings}
 use Rattle.yl_row.specs.Entries.{LineStateValue, RowReading, lexeme_of, stopped_rows, lexemes_up_to_fault, reading_below, fault_reading, with_lexeme, reading_or_fault, after_lexeme}
 use Rattle.yl_row.specs.Rows.{reading_with_lexemes, comment_end}
 use Rattle.yl_row.specs.Run.{entries_by}
-use Rattle.yl_scan.specs.Output.{ScanOutput, StepValue, silent_step, output_with_step, output_of_entries, at_line, fault_in, output_of_row, Fresh, Within, Halted, output_with_lexeme_above, output_with_fault_above, rows_to, output_of_scalar, remaining_output}
+use Rattle.yl_scan.specs.Output.{ScanOutput, StepValue, silent_step, output_with_step, output_of_entries, at_line, fault_in}
+use Rattle.yl_scan.specs.Remaining.{output_of_row, Fresh, Within, Halted, output_with_lexeme_above, output_with_fault_above, rows_to, output_of_scalar, remaining_output}
 use Rattle.yl_scan.proofs.Fed.{any_column, goes_on, reach_goes_on}
 use Rattle.yl_row.proofs.Carry.{Carries, Facts, mode_ends_at, facts}
 

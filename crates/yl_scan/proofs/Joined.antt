@@ -10,8 +10,10 @@ use Rattle.yl_lexeme.specs.Known.{no_surroundings}
 use Rattle.yl_lexeme.specs.declared.meter.Meter.{Meter}
 use Rattle.yl_row.specs.Entries.{entries}
 use Rattle.yl_row.proofs.Agree.{run-entries}
-use Rattle.yl_scan.specs.Output.{ScanOutput, StepValue, PhaseValue, Fresh, at_line, first_fault, with_comment, output_with_step, remaining_output, no_output, output_of_entries}
-use Rattle.yl_scan.specs.Scanner.{ScannerValue, at_end, characters_of}
+use Rattle.yl_scan.specs.Output.{ScanOutput, StepValue, at_line, first_fault, with_comment, output_with_step, no_output, output_of_entries}
+use Rattle.yl_scan.specs.Remaining.{PhaseValue, Fresh, remaining_output}
+use Rattle.yl_scan.specs.Scanner.{ScannerValue}
+use Rattle.yl_scan.specs.Step.{at_end, characters_of}
 use Rattle.yl_scan.specs.Whole.{ScannedTextValue, text_value_of_output, text_value_then}
 
 lexemes_joined : (xs : List (ℕ × LexemeValue)) (above row below : List (ℕ × LexemeValue)) → (xs ++ (above ++ (row ++ []))) ++ below ≡ xs ++ (above ++ (row ++ below))

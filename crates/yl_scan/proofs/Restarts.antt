@@ -3,7 +3,8 @@ use Rattle.std.proofs.Common.{◌≡◌, ℕ, zero, suc, false, List, [], ◌∷
 use Rattle.std.specs.Prelude.{IsSome}
 use Rattle.std.specs.List.{AllByRecursion}
 use Rattle.yl_row.specs.Entries.{RowEntry, LineStateValue, entries}
-use Rattle.yl_scan.specs.Restart.{state_at, from_state, IsQuiet, PrefixLaw, ShiftLaw}
+use Rattle.yl_scan.specs.Restart.{state_at, IsQuiet, PrefixLaw, ShiftLaw}
+use Rattle.yl_scan.specs.Resume.{from_state}
 use Rattle.yl_scan.proofs.Resumed.{resumed, stopped_quiet}
 use Rattle.yl_scan.proofs.Prefix.{Agrees, entries_agree}
 

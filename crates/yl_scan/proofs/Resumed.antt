@@ -12,7 +12,8 @@ use Rattle.yl_lexeme.specs.Known.{SurroundingsValue, context_of, new_row, surrou
 use Rattle.yl_row.specs.Entries.{RowEntry, LineStateValue, Stopped, RowReading, state_of, entry_of, entries_below, fault_reading, with_lexeme, reading_or_fault, comment_or, comment_of, lexeme_of, after_lexeme, ends_document, stopped_rows, entries}
 use Rattle.yl_row.specs.Run.{row_reading_by, entries_by}
 use Rattle.yl_row.proofs.Agree.{run-entries}
-use Rattle.yl_scan.specs.Restart.{state_at, from_state, IsQuiet}
+use Rattle.yl_scan.specs.Restart.{state_at, IsQuiet}
+use Rattle.yl_scan.specs.Resume.{from_state}
 
 -- ---- behind a row, a new one begins
 

@@ -5,7 +5,8 @@ use Rattle.std.specs.List.{AllByRecursion}
 use Rattle.yl_lexeme.specs.Lexeme.{LexemeValue, CommentValue}
 use Rattle.yl_row.specs.declared.fault.PlacedScanFault.{PlacedScanFault}
 use Rattle.yl_row.specs.Entries.{RowEntry, stopped_rows, entries}
-use Rattle.yl_scan.specs.Output.{ScanOutput, PhaseValue, Fresh, Within, Halted, at_line, with_comment, first_fault, fault_in, entry_step, rows_to, output_with_step, no_output, output_of_entries, output_of_scalar, remaining_output}
+use Rattle.yl_scan.specs.Output.{ScanOutput, at_line, with_comment, first_fault, fault_in, entry_step, output_with_step, no_output, output_of_entries}
+use Rattle.yl_scan.specs.Remaining.{PhaseValue, Fresh, Within, Halted, rows_to, output_of_scalar, remaining_output}
 use Rattle.std.proofs.lemmas.List.{append-nil}
 use Rattle.yl_lexeme.specs.Known.{SurroundingsValue}
 use Rattle.yl_row.specs.Fault.{is_unclosed}

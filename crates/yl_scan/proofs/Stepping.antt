@@ -13,7 +13,8 @@ use Rattle.yl_row.specs.Step.{scalar_found}
 use Rattle.yl_scan.specs.declared.step.LexemeAbove.{LexemeAbove}
 use Rattle.yl_scan.specs.declared.step.FaultAbove.{FaultAbove}
 use Rattle.yl_scan.specs.declared.step.Step.{Step}
-use Rattle.yl_scan.specs.Scanner.{IsUnderWay, IsAbove, IsNotBelow, IsInOrder, BeginsAt, EndsOpen, begun_at, state_by, state_for, step_value, fault_above_at}
+use Rattle.yl_scan.specs.Scanner.{IsUnderWay, IsInOrder, BeginsAt, EndsOpen, begun_at}
+use Rattle.yl_scan.specs.Step.{IsAbove, IsNotBelow, state_by, state_for, step_value, fault_above_at}
 use Rattle.yl_scan.specs.declared.step.Soundness.{Soundness}
 use Rattle.std.specs.Option.{ForSome}
 use Rattle.yl_row.specs.ScalarReader.{ScalarReaderValue, InPlain, InQuoted, InBlock, reader_step, reader_finish, rows_in, KeepsSpaces, StepBy}
@@ -21,7 +22,8 @@ use Rattle.yl_row.specs.Begins.{Rests}
 use Rattle.yl_row.specs.Entries.{LineStateValue, Stopped, stopped_rows}
 use Rattle.yl_row.specs.Rows.{reading_with_lexemes, open_scalar_reading}
 use Rattle.yl_row.specs.Run.{row_reading_by, entries_by}
-use Rattle.yl_scan.specs.Output.{ScanOutput, StepValue, output_with_step, output_of_entries, output_of_row, PhaseValue, Fresh, Within, Halted, silent_step, output_with_lexeme_above, output_with_fault_above, rows_to, output_of_scalar, remaining_output}
+use Rattle.yl_scan.specs.Output.{ScanOutput, StepValue, output_with_step, output_of_entries, silent_step}
+use Rattle.yl_scan.specs.Remaining.{output_of_row, PhaseValue, Fresh, Within, Halted, output_with_lexeme_above, output_with_fault_above, rows_to, output_of_scalar, remaining_output}
 use Rattle.yl_scan.proofs.Fed.{over, any_column}
 use Rattle.yl_scan.proofs.Feed.{row_told_of, opens_told}
 use Rattle.yl_row.proofs.Columns.{step_by, by_more}

@@ -3,7 +3,8 @@ use Rattle.std.specs.Prelude.{◌≡◌, ◌<◌, ℕ, ◌+◌, ◌-◌, List, �
 use Rattle.yl_scalar.specs.Reading.{GoesOn}
 use Rattle.yl_lexeme.specs.declared.lexeme.Style.{Style}
 use Rattle.yl_row.specs.ScalarReader.{ScalarReaderValue, reader_step, rows_in, KeepsSpaces}
-use Rattle.yl_scan.specs.Output.{Within, silent_step, output_with_step, remaining_output}
+use Rattle.yl_scan.specs.Output.{silent_step, output_with_step}
+use Rattle.yl_scan.specs.Remaining.{Within, remaining_output}
 use Rattle.yl_lexeme.specs.Known.{SurroundingsValue, new_row}
 
 -- a row that a scalar goes through tells nothing, and what the rows below it still tell is what they tell from the scalar as it

@@ -1,8 +1,11 @@
 pub mod Laws
 pub mod Output
+pub mod Remaining
 pub mod Restart
+pub mod Resume
 pub mod Scanner
 pub mod Settled
 pub mod Standing
 pub mod State
+pub mod Step
 pub mod Whole

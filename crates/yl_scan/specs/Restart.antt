@@ -1,27 +1,11 @@
--- Meaning: what the rows of a text from a sound one on consist of, by its state; laws of restart.
-use Rattle.std.specs.Prelude.{◌≡◌, ◌∷◌, ◌++◌, ◌+◌, ◌-◌, ◌≤◌, ◌<◌, ◌⊎◌, length, ℕ, false, true, List, [], take, drop, Option, Some, None, IsSome, option_and_then, slice_get}
+-- Meaning: sound rows of a text, and which rows of an edited text stay as they are.
+use Rattle.std.specs.Prelude.{◌≡◌, ◌++◌, ◌+◌, ◌≤◌, ◌<◌, ◌⊎◌, length, ℕ, List, [], take, drop, Option, Some, None, IsSome, option_and_then, slice_get}
 use Rattle.std.specs.List.{AllByRecursion}
-use Rattle.yl_lexeme.specs.Known.{row_start}
-use Rattle.yl_row.specs.Entries.{RowEntry, LineStateValue, Stopped, Stands, stopped_rows, entries}
-use Rattle.yl_row.specs.Run.{entries_by}
-use Rattle.yl_scan.specs.Output.{PhaseValue, Fresh, Halted}
+use Rattle.yl_row.specs.Entries.{RowEntry, LineStateValue, Stopped, entries}
 
 -- the state of the row at a line, if it is there and sound
 abbrev pub state_at : List RowEntry → ℕ → Option LineStateValue
 state_at es n = option_and_then (λ e. e.state) (slice_get es n)
-
--- what the rows from a sound row on consist of, if this is its state
-abbrev pub from_state : LineStateValue → List (List ℕ) → List RowEntry
-from_state Stopped rows = stopped_rows false 0 rows
-from_state (Stands levels brackets last) rows = entries_by true 0 0 (row_start levels brackets last) rows
-
--- where a scanner stands before a sound row with this state
-abbrev pub phase_at : LineStateValue → PhaseValue
-phase_at Stopped = Halted false 0
-phase_at (Stands levels brackets last) = Fresh true (row_start levels brackets last)
-
-abbrev pub ResumeLaw : Type 0
-ResumeLaw = (t : List (List ℕ)) (i : ℕ) (s : LineStateValue) → state_at (entries t) i ≡ Some s → drop i (entries t) ≡ from_state s (drop i t)
 
 -- nothing begins in a row
 pub record IsQuiet (e : RowEntry) : Type 0 where
@@ -48,21 +32,6 @@ ShiftLaw =
 -- two texts are the same above a line, which is sound in both or in none, with the same state
 abbrev pub AreSameAbove : ℕ → List (List ℕ) → List (List ℕ) → Type 0
 AreSameAbove r old new = (r ≡ 0) ⊎ (take (r + 1) old ≡ take (r + 1) new)
-
--- what an edited text consists of: above a sound row that stands above the edit, what the old text did; from it on, what its state and
--- the rows say
-abbrev pub RestartLaw : Type 0
-RestartLaw =
-    (old new : List (List ℕ)) (r : ℕ) (s : LineStateValue) → AreSameAbove r old new → state_at (entries new) r ≡ Some s
-    → entries new ≡ take r (entries old) ++ from_state s (drop r new)
-
--- and from a row on that is sound in both with the same state, where the rows from there on are the same, what the old text did: the
--- rows between are to be read
-abbrev pub ConvergenceLaw : Type 0
-ConvergenceLaw =
-    (old new : List (List ℕ)) (r m n : ℕ) (s z : LineStateValue) → AreSameAbove r old new → state_at (entries new) r ≡ Some s
-    → r ≤ m → drop m new ≡ drop n old → state_at (entries new) m ≡ Some z → state_at (entries old) n ≡ Some z
-    → entries new ≡ take r (entries old) ++ (take (m - r) (from_state s (drop r new)) ++ drop n (entries old))
 
 -- the rows from one on that lies behind the rows that were put in are those from its counterpart on
 abbrev pub CounterpartLaw : Type 0

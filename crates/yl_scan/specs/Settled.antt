@@ -3,7 +3,8 @@ use Rattle.std.specs.Prelude.{◌≡◌, ◌≤◌, ◌<◌, ◌+◌, ◌-◌, �
 use Rattle.std.specs.List.{AllByRecursion}
 use Rattle.yl_lexeme.specs.Lexeme.{LexemeValue, CommentValue}
 use Rattle.yl_row.specs.Entries.{RowEntry, LineStateValue, entries}
-use Rattle.yl_scan.specs.Output.{ScanOutput, PhaseValue, Fresh, Within, Halted, first_fault, output_of_entries, remaining_output}
+use Rattle.yl_scan.specs.Output.{ScanOutput, first_fault, output_of_entries}
+use Rattle.yl_scan.specs.Remaining.{PhaseValue, Fresh, Within, Halted, remaining_output}
 use Rattle.yl_scan.specs.Restart.{state_at}
 
 -- what rows told, and then what further rows tell

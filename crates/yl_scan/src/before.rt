@@ -3,7 +3,8 @@
 ghost use Rattle.std.specs.Prelude.{◌≡◌, if◌then◌else◌, IfOk, Some, None, Bool};
 ghost use Rattle.yl_lexeme.specs.Known.{new_row};
 ghost use Rattle.yl_lexeme.specs.Surroundings.{surroundings_value};
-ghost use Rattle.yl_scan.specs.Scanner.{phase_value, state_before, state_for};
+ghost use Rattle.yl_scan.specs.Scanner.{phase_value, state_before};
+ghost use Rattle.yl_scan.specs.Step.{state_for};
 
 use crate::phase::Phase;
 use crate::state::LineState;

@@ -13,9 +13,11 @@ ghost use Rattle.yl_row.specs.ScalarReader.{reader_finish};
 ghost use Rattle.yl_row.specs.Reader.{scalar_reader_value, value_of};
 ghost use Rattle.yl_row.specs.Run.{row_reading_by, entries_by};
 ghost use Rattle.yl_row.specs.Rows.{EndRests, reading_with_lexemes, row_end_reading};
-ghost use Rattle.yl_scan.specs.Output.{Within, output_with_step, remaining_output, output_of_row, output_of_entries};
+ghost use Rattle.yl_scan.specs.Output.{output_with_step, output_of_entries};
+ghost use Rattle.yl_scan.specs.Remaining.{Within, remaining_output, output_of_row};
 ghost use Rattle.yl_scan.specs.declared.phase.Phase.TheVariants.{Between};
-ghost use Rattle.yl_scan.specs.Scanner.{BeginsAt, BeginsInText, EndsOpen, FailsHere, IsInOrder, IsInStep, IsUnderWay, at_end, begun_at, is_halted, scalar_lexeme, phase_value, state_before, state_by, state_for, step_value};
+ghost use Rattle.yl_scan.specs.Scanner.{BeginsAt, EndsOpen, IsInOrder, IsInStep, IsUnderWay, begun_at, is_halted, scalar_lexeme, phase_value, state_before};
+ghost use Rattle.yl_scan.specs.Step.{BeginsInText, FailsHere, at_end, state_by, state_for, step_value};
 
 use crate::before::state_for;
 use crate::phase::{Phase, Reach};

@@ -5,7 +5,8 @@
 #![tactic(auto)]
 
 ghost use Rattle.yl_scan.specs.Laws.{ScalarsCarry};
-ghost use Rattle.yl_scan.specs.Restart.{ResumeLaw, PrefixLaw, ShiftLaw, RestartLaw, ConvergenceLaw, CounterpartLaw, AboveLaw};
+ghost use Rattle.yl_scan.specs.Restart.{PrefixLaw, ShiftLaw, CounterpartLaw, AboveLaw};
+ghost use Rattle.yl_scan.specs.Resume.{ResumeLaw, RestartLaw, ConvergenceLaw};
 ghost use Rattle.yl_scan.specs.Settled.{PutsLast, Settles, ToldInTurn, ToldMoves, ToldTells};
 ghost use Rattle.yl_scan.specs.State.{EqualsExactly};
 

@@ -6,9 +6,11 @@ ghost use Rattle.std.specs.Str.{chars};
 ghost use Rattle.yl_lexeme.specs.Known.{new_row, no_surroundings};
 ghost use Rattle.yl_lexeme.specs.Surroundings.{surroundings_value};
 ghost use Rattle.yl_row.specs.Entries.{LineStateValue};
-ghost use Rattle.yl_scan.specs.Output.{Fresh, output_with_step, remaining_output, output_of_entries};
-ghost use Rattle.yl_scan.specs.Restart.{from_state, phase_at};
-ghost use Rattle.yl_scan.specs.Scanner.{BeginsInText, EndsOpen, IsInOrder, IsInStep, at_end, begun_at, is_halted, surroundings_in, phase_value, state_before, state_by, step_value};
+ghost use Rattle.yl_scan.specs.Output.{output_with_step, output_of_entries};
+ghost use Rattle.yl_scan.specs.Remaining.{Fresh, remaining_output};
+ghost use Rattle.yl_scan.specs.Resume.{from_state, phase_at};
+ghost use Rattle.yl_scan.specs.Scanner.{EndsOpen, IsInOrder, IsInStep, begun_at, is_halted, surroundings_in, phase_value, state_before};
+ghost use Rattle.yl_scan.specs.Step.{BeginsInText, at_end, state_by, step_value};
 
 use crate::before::state_before;
 use crate::feeding::{ended_text, fed_row};

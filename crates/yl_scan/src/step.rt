@@ -1,7 +1,7 @@
 //! What a row tells.
 
 ghost use Rattle.std.specs.Prelude.{◌≡◌, option_map};
-ghost use Rattle.yl_scan.specs.Scanner.{is_sound};
+ghost use Rattle.yl_scan.specs.Step.{is_sound};
 
 use crate::state::LineState;
 use std::alloc::Allocator;

@@ -5,7 +5,7 @@ ghost use Rattle.std.specs.Option.{ForSome};
 ghost use Rattle.std.specs.Str.{chars};
 ghost use Rattle.yl_row.specs.Entries.{LineStateValue, entries};
 ghost use Rattle.yl_scan.specs.Output.{at_line, first_fault, output_with_step, no_output, output_of_entries};
-ghost use Rattle.yl_scan.specs.Scanner.{BeginsInText, IsAbove, IsNotBelow, at_end, characters_of, lexeme_above_at, fault_above_at, step_value};
+ghost use Rattle.yl_scan.specs.Step.{BeginsInText, IsAbove, IsNotBelow, at_end, characters_of, lexeme_above_at, fault_above_at, step_value};
 ghost use Rattle.yl_scan.specs.Whole.{comments_in, fault_of, text_value_of_output, scanned_text_value, text_value_then, lexeme_in};
 
 use crate::scanner::Scanner;

@@ -14,9 +14,11 @@ use Rattle.yl_lexeme.specs.Known.{SurroundingsValue, context_of, new_row, row_st
 use Rattle.yl_row.specs.Entries.{RowEntry, LineStateValue, Stopped, Stands, RowReading, state_of, entry_of, entries_below, fault_reading, with_lexeme, reading_or_fault, comment_or, comment_of, lexeme_of, after_lexeme, ends_document, lexemes_up_to_fault, stopped_rows, entries}
 use Rattle.yl_row.specs.Run.{row_reading_by, entries_by}
 use Rattle.yl_row.proofs.Agree.{run-entries}
-use Rattle.yl_scan.specs.Restart.{from_state, state_at, IsQuiet}
+use Rattle.yl_scan.specs.Restart.{state_at, IsQuiet}
+use Rattle.yl_scan.specs.Resume.{from_state}
 use Rattle.yl_scan.proofs.Restarts.{shift}
-use Rattle.yl_record.specs.Records.{records_from, records_with}
+use Rattle.yl_record.specs.Records.{records_with}
+use Rattle.yl_record.specs.Recorded.{records_from}
 use Rattle.yl_sections.specs.Sections.{last_kind_from}
 use Rattle.yl_sections.specs.Local.{kind_after}
 use Rattle.yl_sections.specs.Last.{HasNoLexeme, LastLaw, StoppedLaw}

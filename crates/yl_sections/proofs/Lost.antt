@@ -27,7 +27,8 @@ use Rattle.yl_row.specs.Step.{FoundLexemeValue, found_at, found_in_row, document
 use Rattle.yl_row.specs.Entries.{RowEntry, LineStateValue, Stopped, Stands, RowReading, ends_document, entry_of, entries, entries_below, with_lexeme, reading_or_fault, comment_or, comment_of, lexeme_of, after_lexeme, lexemes_up_to_fault, sound_state, stopped_rows}
 use Rattle.yl_row.specs.Run.{lexeme_reading_by, row_reading_by, entries_by}
 use Rattle.yl_row.proofs.Agree.{run-entries}
-use Rattle.yl_scan.specs.Restart.{state_at, from_state}
+use Rattle.yl_scan.specs.Restart.{state_at}
+use Rattle.yl_scan.specs.Resume.{from_state}
 use Rattle.yl_scan.proofs.Resumed.{resumed}
 use Rattle.yl_scan.proofs.Restarts.{prefix}
 use Rattle.yl_events.specs.Documents.{is_document_start, is_document_end, is_directive}

@@ -8,9 +8,10 @@ use Rattle.std.proofs.Math.ListN.{drop_of_length-le}
 use Rattle.yl_text.specs.Lines.{RowValue}
 use Rattle.yl_lexeme.specs.Known.{no_surroundings}
 use Rattle.yl_row.specs.Entries.{LineStateValue}
-use Rattle.yl_scan.specs.Output.{Fresh}
-use Rattle.yl_scan.specs.Restart.{phase_at}
-use Rattle.yl_record.specs.Records.{RecordValue, characters_in, records, records_from}
+use Rattle.yl_scan.specs.Remaining.{Fresh}
+use Rattle.yl_scan.specs.Resume.{phase_at}
+use Rattle.yl_record.specs.Records.{RecordValue, characters_in, records}
+use Rattle.yl_record.specs.Recorded.{records_from}
 use Rattle.yl_record.specs.Recorded.{RecorderValue, recorded}
 use Rattle.yl_record.specs.Recorder.{state_in}
 use Rattle.yl_rescan.specs.Agree.{state_of_row}

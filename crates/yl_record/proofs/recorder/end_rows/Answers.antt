@@ -1,6 +1,7 @@
 use Rattle.std.proofs.Common.{length, ap, sym, subst, ◌∙◌}
 use Rattle.std.specs.Option.{ForSome}
-use Rattle.yl_scan.specs.Scanner.{state_before, step_value}
+use Rattle.yl_scan.specs.Scanner.{state_before}
+use Rattle.yl_scan.specs.Step.{step_value}
 use Rattle.yl_record.specs.Parts.{LiesIn, entries_in, entries_with_end}
 use Rattle.yl_record.proofs.Fits.{end_above, end_failed_lies, ended_lies}
 use Rattle.yl_record.proofs.Joined.{ended_recorded}

@@ -1,7 +1,8 @@
 use Rattle.std.proofs.Common.{◌+◌, length, ap, sym, subst, ◌∙◌}
 use Rattle.std.specs.Option.{ForSome}
 use Rattle.std.specs.Str.{chars}
-use Rattle.yl_scan.specs.Scanner.{state_before, step_value}
+use Rattle.yl_scan.specs.Scanner.{state_before}
+use Rattle.yl_scan.specs.Step.{step_value}
 use Rattle.yl_record.specs.Parts.{LiesIn}
 use Rattle.yl_record.specs.Recorded.{recorded_of}
 use Rattle.yl_record.proofs.Fits.{ended_lies, failed_lies, keeps_on, row_entries, step_is}

@@ -3,7 +3,7 @@ use Rattle.std.specs.Option.{ForSome}
 use Rattle.std.proofs.lemmas.List.{length-append, map-append}
 use Rattle.std.specs.Prelude.{Option, option_map, None}
 use Rattle.yl_row.specs.Entries.{RowEntry, LineStateValue}
-use Rattle.yl_scan.specs.Scanner.{fault_above_at}
+use Rattle.yl_scan.specs.Step.{fault_above_at}
 use Rattle.yl_record.specs.Parts.{LiesIn, entries_in, entry_in, with_fault_above}
 use Rattle.yl_record.specs.Records.{RecordValue}
 use Rattle.yl_record.proofs.Put.{on_ok}

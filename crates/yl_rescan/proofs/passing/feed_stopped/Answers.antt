@@ -2,7 +2,8 @@ use Rattle.std.proofs.Common.{◌≡◌, ◌++◌, ◌∷◌, ◌∙◌, ◌+◌
 use Rattle.std.specs.Str.{chars}
 use Rattle.yl_lexeme.specs.declared.meter.Meter.{Meter}
 use Rattle.yl_row.specs.Entries.{LineStateValue}
-use Rattle.yl_record.specs.Records.{RecordValue, characters_in, records_from}
+use Rattle.yl_record.specs.Records.{RecordValue, characters_in}
+use Rattle.yl_record.specs.Recorded.{records_from}
 use Rattle.yl_record.specs.Recorded.{recorded}
 use Rattle.yl_rescan.proofs.Passed.{all_fed, feed_more, nothing_fed}
 use Rattle.yl_rescan.proofs.passing.feed_stopped.Goals as goal

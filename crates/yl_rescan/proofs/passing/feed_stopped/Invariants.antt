@@ -1,6 +1,7 @@
 use Rattle.std.proofs.Common.{◌≡◌, ◌++◌, ◌+◌, ◌-◌, ℕ, List, false, drop, length, take}
 use Rattle.yl_row.specs.Entries.{Stopped}
-use Rattle.yl_record.specs.Records.{characters_in, records_from}
+use Rattle.yl_record.specs.Records.{characters_in}
+use Rattle.yl_record.specs.Recorded.{records_from}
 use Rattle.yl_record.specs.Recorded.{recorded}
 use Rattle.yl_rescan.proofs.passing.feed_stopped.Given as goal
 

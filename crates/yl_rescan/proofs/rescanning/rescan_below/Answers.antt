@@ -3,7 +3,8 @@ use Rattle.yl_text.specs.Lines.{RowValue}
 use Rattle.yl_text.specs.Store.{AreLines}
 use Rattle.yl_lexeme.specs.declared.meter.Meter.{Meter}
 use Rattle.yl_row.specs.Entries.{Stopped}
-use Rattle.yl_record.specs.Records.{RecordValue, characters_in, records_from}
+use Rattle.yl_record.specs.Records.{RecordValue, characters_in}
+use Rattle.yl_record.specs.Recorded.{records_from}
 use Rattle.std.specs.Prelude.{Some}
 use Rattle.yl_rescan.proofs.Edits.{characters_length, few_rows, length-spliced}
 use Rattle.yl_rescan.proofs.Held.{held_length}

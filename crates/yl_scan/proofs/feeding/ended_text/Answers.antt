@@ -1,5 +1,5 @@
 use Rattle.std.proofs.Common.{[], ap, sym, subst, ◌∙◌}
-use Rattle.yl_scan.specs.Output.{remaining_output}
+use Rattle.yl_scan.specs.Remaining.{remaining_output}
 use Rattle.yl_scan.specs.Scanner.{EndsOpen, begun_at, phase_value}
 use Rattle.yl_scan.proofs.feeding.ended_text.Goals as goal
 

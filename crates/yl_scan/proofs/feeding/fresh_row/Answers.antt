@@ -5,7 +5,7 @@ use Rattle.yl_lexeme.specs.Surroundings.{surroundings_value}
 use Rattle.yl_row.specs.Entries.{state_of}
 use Rattle.yl_row.specs.Run.{row_reading_by}
 use Rattle.yl_row.specs.Step.{first_tab}
-use Rattle.yl_scan.specs.Output.{output_of_row}
+use Rattle.yl_scan.specs.Remaining.{output_of_row}
 use Rattle.yl_scan.proofs.feeding.fresh_row.Goals as goal
 
 pub returns-clause-told : goal.returns-clause-told

@@ -1,7 +1,8 @@
 use Rattle.std.proofs.Common.{◌+◌, ◌-◌, cond, [], Option, Some, None, ap, sym, ◌∙◌}
 use Rattle.yl_row.specs.Entries.{LineStateValue, Stopped, stopped_rows}
-use Rattle.yl_scan.specs.Output.{Halted, StepValue, output_with_step, output_of_entries}
-use Rattle.yl_scan.specs.Scanner.{step_value}
+use Rattle.yl_scan.specs.Output.{StepValue, output_with_step, output_of_entries}
+use Rattle.yl_scan.specs.Remaining.{Halted}
+use Rattle.yl_scan.specs.Step.{step_value}
 use Rattle.yl_scan.proofs.Stepping.{halts, in_order_here}
 use Rattle.yl_scan.proofs.feeding.halted_row.Goals as goal
 

@@ -3,8 +3,9 @@ use Rattle.yl_lexeme.specs.Surroundings.{surroundings_value}
 use Rattle.yl_row.specs.Step.{first_tab}
 use Rattle.yl_row.specs.Run.{row_reading_by}
 use Rattle.yl_row.specs.Rows.{reading_with_lexemes, row_end_reading}
-use Rattle.yl_scan.specs.Output.{output_of_row}
-use Rattle.yl_scan.specs.Scanner.{phase_value, state_by}
+use Rattle.yl_scan.specs.Remaining.{output_of_row}
+use Rattle.yl_scan.specs.Scanner.{phase_value}
+use Rattle.yl_scan.specs.Step.{state_by}
 use Rattle.yl_scan.proofs.Stepping.{in_order_here}
 use Rattle.yl_scan.proofs.feeding.read_on.Goals as goal
 

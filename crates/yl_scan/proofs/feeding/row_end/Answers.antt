@@ -1,8 +1,8 @@
 use Rattle.std.proofs.Common.{ap, subst, ◌∙◌}
 use Rattle.yl_row.specs.Reader.{scalar_reader_value}
 use Rattle.yl_row.specs.Rows.{EndRests, reading_with_lexemes, row_end_reading}
-use Rattle.yl_scan.specs.Output.{output_of_row}
-use Rattle.yl_scan.specs.Scanner.{state_by}
+use Rattle.yl_scan.specs.Remaining.{output_of_row}
+use Rattle.yl_scan.specs.Step.{state_by}
 use Rattle.yl_scan.proofs.Stepping.{row_opens, begins_under_way}
 use Rattle.yl_scan.proofs.feeding.row_end.Goals as goal
 

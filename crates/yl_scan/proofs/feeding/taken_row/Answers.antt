@@ -2,7 +2,7 @@ use Rattle.std.proofs.Common.{◌+◌, ◌∷◌, eqb, ap, sym, ◌∙◌}
 use Rattle.std.proofs.lemmas.Result.{IfOk-weaker}
 use Rattle.yl_lexeme.specs.Known.{new_row}
 use Rattle.yl_lexeme.specs.Surroundings.{surroundings_value}
-use Rattle.yl_scan.specs.Output.{remaining_output}
+use Rattle.yl_scan.specs.Remaining.{remaining_output}
 use Rattle.std.specs.Prelude.{◌||◌, is_some}
 use Rattle.yl_scan.specs.Scanner.{is_halted, phase_value, state_before}
 use Rattle.yl_scan.proofs.feeding.taken_row.Goals as goal

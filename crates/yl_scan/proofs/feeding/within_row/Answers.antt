@@ -5,7 +5,8 @@ use Rattle.yl_lexeme.specs.Surroundings.{surroundings_value}
 use Rattle.yl_row.specs.Reader.{scalar_reader_value, value_of, reader_step_value}
 use Rattle.yl_row.specs.Entries.{LineStateValue, state_of}
 use Rattle.yl_lexeme.specs.Known.{context_of}
-use Rattle.yl_scan.specs.Output.{StepValue, Within, Halted, output_with_lexeme_above, output_with_step, remaining_output}
+use Rattle.yl_scan.specs.Output.{StepValue, output_with_step}
+use Rattle.yl_scan.specs.Remaining.{Within, Halted, output_with_lexeme_above, remaining_output}
 use Rattle.yl_scan.specs.Scanner.{begun_at, scalar_lexeme, phase_value}
 use Rattle.yl_scan.proofs.Feed.{carry_on, carry_ends, carry_above}
 use Rattle.yl_scan.proofs.Stepping.{not_first, carry_fails, goes_under_way, ends_within, ended_within, with_ended, with_failed}

@@ -3,7 +3,8 @@ use Rattle.std.specs.Str.{chars}
 use Rattle.std.proofs.lemmas.List.Elements.{All-get_or}
 use Rattle.yl_text.specs.Lines.{RowValue}
 use Rattle.yl_scan.specs.Output.{output_with_step, no_output}
-use Rattle.yl_scan.specs.Scanner.{at_end, BeginsInText, ScannerValue, characters_of, state_before, step_value}
+use Rattle.yl_scan.specs.Scanner.{ScannerValue, state_before}
+use Rattle.yl_scan.specs.Step.{at_end, BeginsInText, characters_of, step_value}
 use Rattle.yl_scan.specs.Whole.{text_value_then, scanned_text_value}
 use Rattle.yl_scan.proofs.Joined.{start_told, row_told_too, end_told_too, counts}
 use Rattle.yl_scan.proofs.whole.scan.Goals as goal

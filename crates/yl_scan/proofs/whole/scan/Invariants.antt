@@ -1,7 +1,8 @@
 use Rattle.std.proofs.Common.{◌≡◌, ◌+◌, drop}
 use Rattle.yl_row.specs.Entries.{entries}
-use Rattle.yl_scan.specs.Output.{remaining_output, output_of_entries}
-use Rattle.yl_scan.specs.Scanner.{characters_of}
+use Rattle.yl_scan.specs.Output.{output_of_entries}
+use Rattle.yl_scan.specs.Remaining.{remaining_output}
+use Rattle.yl_scan.specs.Step.{characters_of}
 use Rattle.yl_scan.specs.Whole.{text_value_of_output, scanned_text_value, text_value_then}
 use Rattle.yl_scan.proofs.whole.scan.Given as goal
 

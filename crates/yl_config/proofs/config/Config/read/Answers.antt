@@ -3,7 +3,7 @@ use Rattle.std.specs.Str.{chars}
 use Rattle.yl_text.specs.Bounds.{AreFew, IsShort}
 use Rattle.yl_text.specs.Lines.{RowValue, IsLines}
 use Rattle.yl_text.proofs.Fitting.{lines_are_few, lines_are_short}
-use Rattle.yl_scan.specs.Scanner.{characters_of}
+use Rattle.yl_scan.specs.Step.{characters_of}
 use Rattle.yl_documents.specs.TextReading.{reading_of}
 use Rattle.yl_config.specs.Answered.{settings_answer}
 use Rattle.yl_config.specs.Outcome.{Says}

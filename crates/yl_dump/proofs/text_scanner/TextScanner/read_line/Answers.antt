@@ -2,8 +2,10 @@ use Rattle.std.proofs.Common.{arith, ◌≡◌, ℕ, List, ◌∷◌, ap, ◌∙
 use Rattle.std.specs.Str.{chars}
 use Rattle.std.proofs.lemmas.Grind.{common_steps}
 use Rattle.yl_text.proofs.Computed.{line}
-use Rattle.yl_scan.specs.Output.{output_with_step, remaining_output}
-use Rattle.yl_scan.specs.Scanner.{state_before, step_value, characters_of}
+use Rattle.yl_scan.specs.Output.{output_with_step}
+use Rattle.yl_scan.specs.Remaining.{remaining_output}
+use Rattle.yl_scan.specs.Scanner.{state_before}
+use Rattle.yl_scan.specs.Step.{step_value, characters_of}
 use Rattle.yl_dump.specs.TextScan.{TextScannerValue, rows_of}
 use Rattle.yl_dump.proofs.Rows.{next_fits, next_inside, not_done, characters-next}
 use Rattle.yl_text.specs.declared.row.Break.TheVariants.{No}

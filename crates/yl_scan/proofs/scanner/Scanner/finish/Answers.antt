@@ -1,8 +1,9 @@
 use Rattle.std.proofs.Common.{[], ap, sym, subst, ◌∙◌, eqb}
-use Rattle.yl_scan.specs.Output.{remaining_output}
+use Rattle.yl_scan.specs.Remaining.{remaining_output}
 use Rattle.yl_lexeme.specs.Known.{new_row}
 use Rattle.yl_lexeme.specs.Surroundings.{surroundings_value}
-use Rattle.yl_scan.specs.Scanner.{ScannerValue, BeginsInText, EndsOpen, at_end, begun_at, step_value}
+use Rattle.yl_scan.specs.Scanner.{ScannerValue, EndsOpen, begun_at}
+use Rattle.yl_scan.specs.Step.{BeginsInText, at_end, step_value}
 use Rattle.yl_scan.proofs.scanner.Scanner.finish.Goals as goal
 
 pub returns-clause-in_text : goal.returns-clause-in_text

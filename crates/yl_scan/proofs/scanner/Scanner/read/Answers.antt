@@ -5,8 +5,10 @@ use Rattle.std.specs.Prelude.{is_some}
 use Rattle.std.specs.Str.{chars}
 use Rattle.yl_lexeme.specs.Known.{new_row}
 use Rattle.yl_lexeme.specs.Surroundings.{surroundings_value}
-use Rattle.yl_scan.specs.Output.{output_with_step, remaining_output}
-use Rattle.yl_scan.specs.Scanner.{ScannerValue, begun_at, is_halted, phase_value, state_before, state_by, step_value}
+use Rattle.yl_scan.specs.Output.{output_with_step}
+use Rattle.yl_scan.specs.Remaining.{remaining_output}
+use Rattle.yl_scan.specs.Scanner.{ScannerValue, begun_at, is_halted, phase_value, state_before}
+use Rattle.yl_scan.specs.Step.{state_by, step_value}
 use Rattle.yl_scan.proofs.Stepping.{same_order, wanted_told}
 use Rattle.yl_scan.proofs.scanner.Scanner.read.Goals as goal
 

@@ -3,7 +3,7 @@ use Rattle.std.specs.Prelude.{is_some}
 use Rattle.yl_row.specs.Entries.{LineStateValue}
 use Rattle.yl_scan.specs.declared.step.Soundness.{Soundness}
 use Rattle.yl_scan.specs.declared.step.Soundness.TheVariants.{NotSound, Sound, Stopped}
-use Rattle.yl_scan.specs.Scanner.{is_sound, state_by, step_value}
+use Rattle.yl_scan.specs.Step.{is_sound, state_by, step_value}
 use Rattle.yl_scan.specs.Whole.{lexeme_in, scanned_text_value}
 use Rattle.yl_scan.proofs.Joined.{row_added}
 use Rattle.yl_scan.proofs.whole.ScannedText.add_row.Goals as goal

@@ -1,0 +1,69 @@
+-- Meaning: what a scanner's step tells of its row, and of what began in the rows above.
+use Rattle.std.specs.Prelude.{◌≡◌, ◌≤◌, ◌<◌, ℕ, ◌-◌, Bool, true, false, List, [], map, Option, Some, None, option_map, option_to_list}
+use Rattle.std.specs.Option.{ForSome}
+use Rattle.std.specs.Str.{chars}
+use Rattle.yl_text.specs.Lines.{RowValue}
+use Rattle.yl_lexeme.specs.Lexeme.{LexemeValue}
+use Rattle.yl_row.specs.declared.fault.PlacedScanFault.{PlacedScanFault}
+use Rattle.yl_scan.specs.declared.step.LexemeAbove.{LexemeAbove}
+use Rattle.yl_scan.specs.declared.step.FaultAbove.{FaultAbove}
+use Rattle.yl_scan.specs.declared.step.Step.{Step}
+use Rattle.yl_scan.specs.declared.step.Soundness.{Soundness}
+use Rattle.yl_scan.specs.declared.step.Soundness.TheVariants.{NotSound, Sound, Stopped as SoundStopped}
+use Rattle.yl_row.specs.Entries.{LineStateValue, Stopped}
+use Rattle.yl_scan.specs.Output.{ScanOutput, StepValue}
+
+-- what began so many rows before this line
+abbrev pub lexeme_above_at : {A : Type 0} → ℕ → LexemeAbove A → ℕ × LexemeValue
+lexeme_above_at line e = (line - e.ago, e.lexeme)
+
+abbrev pub fault_above_at : ℕ → FaultAbove → ℕ × PlacedScanFault
+fault_above_at line f = (line - f.ago, f.fault)
+
+-- the state of a row, by what stands before it and by whether it is sound
+abbrev pub state_by : LineStateValue → Soundness → Option LineStateValue
+state_by s NotSound = None
+state_by s Sound = Some s
+state_by s SoundStopped = Some Stopped
+
+-- or none, where states are not wanted
+abbrev pub state_for : Option LineStateValue → Soundness → Option LineStateValue
+state_for None _ = None
+state_for (Some s) sound = state_by s sound
+
+abbrev pub is_sound : Soundness → Bool
+is_sound NotSound = false
+is_sound Sound = true
+is_sound SoundStopped = true
+
+-- what a step tells of the row at a line, where this stands before the row
+abbrev pub step_value : {A : Type 0} → ℕ → LineStateValue → Step A → StepValue
+step_value line s step = record {
+  above = option_map (lexeme_above_at line) step.ended;
+  lexemes = step.lexemes.items;
+  comment = step.comment;
+  state = state_by s step.sound;
+  fault = option_map (fault_above_at line) step.failed;
+}
+
+-- what a step tells of the rows above this line began in one of them, and a fault there or in the row itself
+abbrev pub IsAbove : {A : Type 0} → ℕ → LexemeAbove A → Type 0
+IsAbove line e = (0 < e.ago) × (e.ago ≤ line)
+
+abbrev pub IsNotBelow : ℕ → FaultAbove → Type 0
+IsNotBelow line f = f.ago ≤ line
+
+abbrev pub BeginsInText : {A : Type 0} → ℕ → Step A → Type 0
+BeginsInText line s = ForSome s.ended (IsAbove line) × ForSome s.failed (IsNotBelow line)
+
+-- a fault of the row itself, if there is one
+abbrev pub FailsHere : {A : Type 0} → Step A → Type 0
+FailsHere s = ForSome s.failed (λ f. f.ago ≡ 0)
+
+-- what is told at the text's end, of no row
+abbrev pub at_end : StepValue → ScanOutput
+at_end t = record { lexemes = option_to_list t.above; comments = []; states = []; fault = t.fault }
+
+-- the characters of the rows
+abbrev pub characters_of : List RowValue → List (List ℕ)
+characters_of rows = map (λ r. chars r.text) rows
