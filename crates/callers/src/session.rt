@@ -2,7 +2,6 @@
 
 ghost use Rattle.std.specs.Prelude.{◌≡◌, false, IfOk, OnErr, OnOk};
 ghost use Rattle.yl_text.specs.Edit.{edited_text};
-ghost use Rattle.yl_lint.specs.Computed.{report};
 ghost use Rattle.yl_report.specs.Report.{status_of};
 ghost use Rattle.yl_session.specs.State.{Shows};
 
@@ -16,7 +15,7 @@ pub fn type_at<S: LineStore>(
     bytes: &[u8],
 ) -> Result<u8, TextFault>
     ensures shown { OnOk result (Shows session.old.config (edited_text session.old.rows place place bytes.now) session.new) }
-    ensures status { IfOk result (λ status. status ≡ status_of (report session.new.config session.new.rows) false) }
+    ensures status { IfOk result (λ status. status ≡ status_of session.new.problems false) }
     ensures refused { OnErr result (session.new ≡ session.old) }
 {
     session.edit(place, place, bytes)?;

@@ -13,16 +13,19 @@ use Rattle.yl_devices.specs.Written.{AppendsFront}
 use Rattle.yl_session.specs.declared.work.Work.{Work}
 use Rattle.yl_session.specs.Runs.{EditValue, AreAnswers, IsAnswer, text_after, text_after_all}
 use Rattle.yl_session.specs.State.{SessionValue, Shows}
-use Rattle.yl_lint.specs.Computed.{report}
+use Rattle.yl_lint.specs.Computed.{ReportIsComputed, report}
+use Rattle.yl_lint.specs.Laws.{OneReport}
+use Rattle.yl_lint.proofs.Reported.{reporter, same_report}
 use Rattle.yl_report.specs.Report.{status_of}
 use Rattle.yl_session.proofs.Goes.{left_by-push, AreAnswers-push}
 use Rattle.yl_args.specs.declared.answer.Flags.{Flags}
 use Rattle.yl_cli.specs.Command.{Command, Bad, next_command}
 use Rattle.yl_devices.specs.declared.fault.RunFault.{RunFault}
 use Rattle.yl_devices.specs.declared.fault.RunFault.TheVariants as fault
-use Rattle.yl_cli.specs.Run.{Failures, IsCommandFault}
-use Rattle.yl_devices.specs.Text.{without_mark}
-use Rattle.yl_cli.specs.Drive.{AreCommands, WereRead, text_of_run, replies, reply, shown_lines, IsBegun, IsDriven, IsDriveFault, refusal_name, IsAnswered}
+use Rattle.yl_cli.specs.Run.{Failures}
+use Rattle.yl_text.specs.Fault.{IsText}
+use Rattle.yl_devices.specs.Text.{IsCommandFault, without_mark}
+use Rattle.yl_cli.specs.Drive.{AreCommands, WereRead, text_of_run, replies, reply, shown_lines, IsBegun, IsDriven, IsDriveFault, refusal_name, IsAnswered, IsCut}
 use Rattle.yl_cli.specs.Reading.{TakesCommand, IsReply, IsReplyBegun, SoFar}
 
 AreCommands-push : (xs mid rest : List ℕ) (es : List EditValue) (e : EditValue) → AreCommands xs es mid → next_command mid ≡ Command e rest → AreCommands xs (es ++ e ∷ []) rest
@@ -36,21 +39,25 @@ WereRead-push (Some xs) (Some ys) None es e h t = absurd t
 WereRead-push (Some xs) (Some ys) (Some zs) es e h t = AreCommands-push xs ys zs es e h t
 
 replies-push : (c : Config) (name : List ℕ) (flags : Flags) (text : List ℕ) (es : List EditValue) (rs : List (Result Work TextFault)) (e : EditValue) (r : Result Work TextFault) → AreAnswers text es rs
-    → replies c name flags text (es ++ e ∷ []) (rs ++ r ∷ []) ≡ replies c name flags text es rs ++ reply c name flags (text_after (text_after_all text es rs) e r) r
-replies-push c name flags text [] [] e r h = append-nil (reply c name flags (text_after text e r) r)
+    → replies (report c) name flags text (es ++ e ∷ []) (rs ++ r ∷ []) ≡ replies (report c) name flags text es rs ++ reply (report c) name flags (text_after (text_after_all text es rs) e r) r
+replies-push c name flags text [] [] e r h = append-nil (reply (report c) name flags (text_after text e r) r)
 replies-push c name flags text [] (q ∷ rs) e r h = absurd h
 replies-push c name flags text (d ∷ es) [] e r h = absurd h
 replies-push c name flags text (d ∷ es) (q ∷ rs) e r h =
-    ap (λ l. reply c name flags (text_after text d q) q ++ l) (replies-push c name flags (text_after text d q) es rs e r h.1)
-    ∙ sym (append_assoc (reply c name flags (text_after text d q) q) (replies c name flags (text_after text d q) es rs) (reply c name flags (text_after (text_after_all (text_after text d q) es rs) e r) r))
+    ap (λ l. reply (report c) name flags (text_after text d q) q ++ l) (replies-push c name flags (text_after text d q) es rs e r h.1)
+    ∙ sym (append_assoc (reply (report c) name flags (text_after text d q) q) (replies (report c) name flags (text_after text d q) es rs) (reply (report c) name flags (text_after (text_after_all (text_after text d q) es rs) e r) r))
 
 driven-push : (c : Config) (name : List ℕ) (flags : Flags) (text : List ℕ) (es : List EditValue) (rs : List (Result Work TextFault)) (e : EditValue) (r : Result Work TextFault) → AreAnswers text es rs
-    → text_of_run c name flags text (es ++ e ∷ []) (rs ++ r ∷ []) ≡ text_of_run c name flags text es rs ++ reply c name flags (text_after (text_after_all text es rs) e r) r
+    → text_of_run (report c) name flags text (es ++ e ∷ []) (rs ++ r ∷ []) ≡ text_of_run (report c) name flags text es rs ++ reply (report c) name flags (text_after (text_after_all text es rs) e r) r
 driven-push c name flags text es rs e r h =
-    ap (λ l. shown_lines c name flags (lines_of text) None ++ l) (replies-push c name flags text es rs e r h)
-    ∙ sym (append_assoc (shown_lines c name flags (lines_of text) None) (replies c name flags text es rs) (reply c name flags (text_after (text_after_all text es rs) e r) r))
+    ap (λ l. shown_lines (report c) name flags (lines_of text) None ++ l) (replies-push c name flags text es rs e r h)
+    ∙ sym (append_assoc (shown_lines (report c) name flags (lines_of text) None) (replies (report c) name flags text es rs) (reply (report c) name flags (text_after (text_after_all text es rs) e r) r))
 
-pub so_far_opened : (c : Config) (name : List ℕ) (flags : Flags) (text : List ℕ) (given before now : Option (List ℕ)) (s : SessionValue) → Shows c text s → Appends before now (shown_lines c name flags (lines_of text) None)
+read_nothing : (given : Option (List ℕ)) → WereRead given given []
+read_nothing None = tt
+read_nothing (Some xs) = refl
+
+pub so_far_opened : (c : Config) (name : List ℕ) (flags : Flags) (text : List ℕ) (given before now : Option (List ℕ)) (s : SessionValue) → Shows c text s → Appends before now (shown_lines (report c) name flags (lines_of text) None)
     → SoFar 0 c name flags text given given before now s
 so_far_opened c name flags text given before now s h w = record {
   edits = [];
@@ -58,12 +65,8 @@ so_far_opened c name flags text given before now s h w = record {
   counted = refl;
   read = read_nothing given;
   replayed = record { answered = tt; shown = h };
-  written = subst (Appends before now) (sym (append-nil (shown_lines c name flags (lines_of text) None))) w;
+  written = subst (Appends before now) (sym (append-nil (shown_lines (report c) name flags (lines_of text) None))) w;
 }
-  where
-    read_nothing : (given : Option (List ℕ)) → WereRead given given []
-    read_nothing None = tt
-    read_nothing (Some xs) = refl
 
 pub so_far_more : (count : ℕ) (c : Config) (name : List ℕ) (flags : Flags) (text : List ℕ) (given mid rest before then now : Option (List ℕ)) (s new : SessionValue) (e : EditValue)
     → (f : SoFar count c name flags text given mid before then s) → TakesCommand mid rest e → IsReply c name flags (text_after_all text f.edits f.answers) e new then now
@@ -90,35 +93,44 @@ begun_after a b c xs ys p q = record {
 }
 
 -- the answer to the next command is begun
-pub begun_more : (count : ℕ) (c : Config) (name : List ℕ) (flags : Flags) (text : List ℕ) (given mid before then now : Option (List ℕ)) (s : SessionValue) (e : EditValue)
-    → (f : SoFar count c name flags text given mid before then s) → IsReplyBegun c name flags (text_after_all text f.edits f.answers) e then now
-    → IsBegun c name flags text (record { given = given; before = before; now = now })
-begun_more count c name flags text given mid before then now s e f p = record {
+pub begun_more : ReportIsComputed → (count : ℕ) (c : Config) (name : List ℕ) (flags : Flags) (text : List ℕ) (given mid rest left before then now : Option (List ℕ)) (s : SessionValue) (e : EditValue)
+    → (f : SoFar count c name flags text given mid before then s) → TakesCommand mid rest e → IsReplyBegun c name flags (text_after_all text f.edits f.answers) e then now
+    → IsBegun c name flags text (record { given = given; left = left; before = before; now = now })
+begun_more computed count c name flags text given mid rest left before then now s e f t p = record {
+  reporter = reporter computed c;
   edits = f.edits ++ e ∷ [];
   answers = f.answers ++ p.answer ∷ [];
+  place = rest;
+  read = WereRead-push given mid rest f.edits e f.read t;
   answered = AreAnswers-push text f.edits f.answers e p.answer f.replayed.answered p.is;
   written = subst (AppendsFront before now) (sym (driven-push c name flags text f.edits f.answers e p.answer f.replayed.answered))
       (begun_after before then now _ _ f.written p.written);
 }
 
 -- all that was answered is a beginning
-pub begun_so_far : (count : ℕ) (c : Config) (name : List ℕ) (flags : Flags) (text : List ℕ) (given mid before now : Option (List ℕ)) (s : SessionValue)
-    → SoFar count c name flags text given mid before now s → IsBegun c name flags text (record { given = given; before = before; now = now })
-begun_so_far count c name flags text given mid before now s f = record {
+pub begun_so_far : ReportIsComputed → (count : ℕ) (c : Config) (name : List ℕ) (flags : Flags) (text : List ℕ) (given mid left before now : Option (List ℕ)) (s : SessionValue)
+    → SoFar count c name flags text given mid before now s → IsBegun c name flags text (record { given = given; left = left; before = before; now = now })
+begun_so_far computed count c name flags text given mid left before now s f = record {
+  reporter = reporter computed c;
   edits = f.edits;
   answers = f.answers;
+  place = mid;
+  read = f.read;
   answered = f.replayed.answered;
-  written = record { front = text_of_run c name flags text f.edits f.answers; rest = []; whole = sym (append-nil _); appends = f.written };
+  written = record { front = text_of_run (report c) name flags text f.edits f.answers; rest = []; whole = sym (append-nil _); appends = f.written };
 }
 
 -- nothing but a beginning of the first report is out
-pub begun_opened : (c : Config) (name : List ℕ) (flags : Flags) (text : List ℕ) (given before now : Option (List ℕ)) → AppendsFront before now (shown_lines c name flags (lines_of text) None)
-    → IsBegun c name flags text (record { given = given; before = before; now = now })
-begun_opened c name flags text given before now w = record {
+pub begun_opened : ReportIsComputed → (c : Config) (name : List ℕ) (flags : Flags) (text : List ℕ) (given left before now : Option (List ℕ)) → AppendsFront before now (shown_lines (report c) name flags (lines_of text) None)
+    → IsBegun c name flags text (record { given = given; left = left; before = before; now = now })
+begun_opened computed c name flags text given left before now w = record {
+  reporter = reporter computed c;
   edits = [];
   answers = [];
+  place = given;
+  read = read_nothing given;
   answered = tt;
-  written = subst (AppendsFront before now) (sym (append-nil (shown_lines c name flags (lines_of text) None))) w;
+  written = subst (AppendsFront before now) (sym (append-nil (shown_lines (report c) name flags (lines_of text) None))) w;
 }
 
 -- ---- one answer
@@ -146,12 +158,12 @@ shown_after c text e s u h done =
     subst Q h.config (subst P (sym (lines_of-is text s.rows h.lines)) done)
 
 -- what is written of a session is what its text asks for
-pub text_shown : (c : Config) (name : List ℕ) (flags : Flags) (text : List ℕ) (s : SessionValue) (scanned : Option ℕ) → Shows c text s → shown_lines s.config name flags s.rows scanned ≡ shown_lines c name flags (lines_of text) scanned
+pub text_shown : (c : Config) (name : List ℕ) (flags : Flags) (text : List ℕ) (s : SessionValue) (scanned : Option ℕ) → Shows c text s → shown_lines (report s.config) name flags s.rows scanned ≡ shown_lines (report c) name flags (lines_of text) scanned
 text_shown c name flags text s scanned h =
-    ap (λ (o : Config). shown_lines o name flags s.rows scanned) h.config ∙ ap (λ (ps : List RowValue). shown_lines c name flags ps scanned) (sym (lines_of-is text s.rows h.lines))
+    ap (λ (o : Config). shown_lines (report o) name flags s.rows scanned) h.config ∙ ap (λ (ps : List RowValue). shown_lines (report c) name flags ps scanned) (sym (lines_of-is text s.rows h.lines))
 
 pub replied : (c : Config) (name : List ℕ) (flags : Flags) (text : List ℕ) (e : EditValue) (s u : SessionValue) (work : Work) (scanned : Option ℕ) (before now : Option (List ℕ)) → Shows c text s
-    → IsAnswer s.rows e.from e.to e.bytes (Ok work) → Shows s.config (edited_text s.rows e.from e.to e.bytes) u → scanned ≡ then_some flags.work work.scanned → Appends before now (shown_lines u.config name flags u.rows scanned)
+    → IsAnswer s.rows e.from e.to e.bytes (Ok work) → Shows s.config (edited_text s.rows e.from e.to e.bytes) u → scanned ≡ then_some flags.work work.scanned → Appends before now (shown_lines (report u.config) name flags u.rows scanned)
     → IsReply c name flags text e u before now
 replied c name flags text e s u work scanned before now h is done asked w =
     let shows = shown_after c text e s u h done in
@@ -159,18 +171,18 @@ replied c name flags text e s u work scanned before now h is done asked w =
       answer = Ok work;
       is = answered_before c text e (Ok work) s h is;
       shows = shows;
-      written = subst (Appends before now) (text_shown c name flags (edited_text (lines_of text) e.from e.to e.bytes) u scanned shows ∙ ap (shown_lines c name flags (lines_of (edited_text (lines_of text) e.from e.to e.bytes))) asked) w;
+      written = subst (Appends before now) (text_shown c name flags (edited_text (lines_of text) e.from e.to e.bytes) u scanned shows ∙ ap (shown_lines (report c) name flags (lines_of (edited_text (lines_of text) e.from e.to e.bytes))) asked) w;
     }
 
 pub reply_begun : (c : Config) (name : List ℕ) (flags : Flags) (text : List ℕ) (e : EditValue) (s u : SessionValue) (work : Work) (scanned : Option ℕ) (before now : Option (List ℕ)) → Shows c text s
-    → IsAnswer s.rows e.from e.to e.bytes (Ok work) → Shows s.config (edited_text s.rows e.from e.to e.bytes) u → scanned ≡ then_some flags.work work.scanned → AppendsFront before now (shown_lines u.config name flags u.rows scanned)
+    → IsAnswer s.rows e.from e.to e.bytes (Ok work) → Shows s.config (edited_text s.rows e.from e.to e.bytes) u → scanned ≡ then_some flags.work work.scanned → AppendsFront before now (shown_lines (report u.config) name flags u.rows scanned)
     → IsReplyBegun c name flags text e before now
 reply_begun c name flags text e s u work scanned before now h is done asked w =
     let shows = shown_after c text e s u h done in
     record {
       answer = Ok work;
       is = answered_before c text e (Ok work) s h is;
-      written = subst (AppendsFront before now) (text_shown c name flags (edited_text (lines_of text) e.from e.to e.bytes) u scanned shows ∙ ap (shown_lines c name flags (lines_of (edited_text (lines_of text) e.from e.to e.bytes))) asked) w;
+      written = subst (AppendsFront before now) (text_shown c name flags (edited_text (lines_of text) e.from e.to e.bytes) u scanned shows ∙ ap (shown_lines (report c) name flags (lines_of (edited_text (lines_of text) e.from e.to e.bytes))) asked) w;
     }
 
 pub refused : (c : Config) (name : List ℕ) (flags : Flags) (text : List ℕ) (e : EditValue) (s u : SessionValue) (fault : TextFault) (before now : Option (List ℕ)) → Shows c text s
@@ -186,9 +198,10 @@ refusal_begun c name flags text e s fault before now h is w =
 -- ---- how a run ends
 
 -- what was answered so far
-abbrev pub answered_so_far : (count : ℕ) (c : Config) (name : List ℕ) (flags : Flags) (text : List ℕ) (given rest before now : Option (List ℕ)) (s : SessionValue)
-    → SoFar count c name flags text given rest before now s → IsAnswered c name flags text (record { given = given; before = before; now = now })
-answered_so_far count c name flags text given rest before now s so_far = record {
+abbrev pub answered_so_far : ReportIsComputed → (count : ℕ) (c : Config) (name : List ℕ) (flags : Flags) (text : List ℕ) (given rest left before now : Option (List ℕ)) (s : SessionValue)
+    → SoFar count c name flags text given rest before now s → IsAnswered c name flags text (record { given = given; left = left; before = before; now = now })
+answered_so_far computed count c name flags text given rest left before now s so_far = record {
+  reporter = reporter computed c;
   edits = so_far.edits;
   answers = so_far.answers;
   place = rest;
@@ -198,26 +211,28 @@ answered_so_far count c name flags text given rest before now s so_far = record 
 }
 
 -- the reading of the next command ended the run
-pub stopped : (f : RunFault) (count : ℕ) (c : Config) (name : List ℕ) (flags : Flags) (bytes : List ℕ) (given rest before now : Option (List ℕ)) (s : SessionValue) (n : Failures)
-    → SoFar count c name flags (without_mark bytes) given rest before now s → IsCommandFault n.reads_before n.reads_after f → (f ≡ fault.Command → IfSome rest (λ xs. next_command xs ≡ Bad))
-    → IsDriveFault c name flags bytes n (record { given = given; before = before; now = now }) f
-stopped fault.Read count c name flags bytes given rest before now s n so_far h bad =
-    (h, answered_so_far count c name flags (without_mark bytes) given rest before now s so_far)
-stopped fault.Memory count c name flags bytes given rest before now s n so_far h bad = begun_so_far count c name flags (without_mark bytes) given rest before now s so_far
-stopped fault.Command count c name flags bytes given rest before now s n so_far h bad = (answered_so_far count c name flags (without_mark bytes) given rest before now s so_far, inl (bad refl))
-stopped fault.Write count c name flags bytes given rest before now s n so_far h bad = absurd h
-stopped (fault.Text t) count c name flags bytes given rest before now s n so_far h bad = absurd h
+pub stopped : ReportIsComputed → (f : RunFault) (count : ℕ) (c : Config) (name : List ℕ) (flags : Flags) (bytes : List ℕ) (given rest left before now : Option (List ℕ)) (s : SessionValue) (n : Failures)
+    → IsText (without_mark bytes) → SoFar count c name flags (without_mark bytes) given rest before now s → IsCommandFault n.reads_before n.reads_after f
+    → (f ≡ fault.Command → IfSome rest (λ xs. next_command xs ≡ Bad)) → (f ≡ fault.Read → IsCut rest left)
+    → IsDriveFault c name flags bytes n (record { given = given; left = left; before = before; now = now }) f
+stopped computed fault.Read count c name flags bytes given rest left before now s n text so_far h bad cut =
+    (text, h, (answered_so_far computed count c name flags (without_mark bytes) given rest left before now s so_far, cut refl))
+stopped computed fault.Memory count c name flags bytes given rest left before now s n text so_far h bad cut = (text, begun_so_far computed count c name flags (without_mark bytes) given rest left before now s so_far)
+stopped computed fault.Command count c name flags bytes given rest left before now s n text so_far h bad cut =
+    (text, (answered_so_far computed count c name flags (without_mark bytes) given rest left before now s so_far, inl (bad refl)))
+stopped computed fault.Write count c name flags bytes given rest left before now s n text so_far h bad cut = absurd h
+stopped computed (fault.Text t) count c name flags bytes given rest left before now s n text so_far h bad cut = absurd h
 
 -- all commands were answered
-pub all_driven : (count : ℕ) (c : Config) (name : List ℕ) (flags : Flags) (text : List ℕ) (given rest before now : Option (List ℕ)) (s : SessionValue) (status : ℕ)
-    → SoFar count c name flags text given rest before now s → IsAtEnd rest → status ≡ status_of (report s.config s.rows) flags.strict
-    → IsDriven c name flags text (record { given = given; before = before; now = now }) status
-all_driven count c name flags text given rest before now s status so_far end is =
+pub all_driven : OneReport → ReportIsComputed → (count : ℕ) (c : Config) (name : List ℕ) (flags : Flags) (text : List ℕ) (given rest left before now : Option (List ℕ)) (s : SessionValue) (status : ℕ)
+    → SoFar count c name flags text given rest before now s → IsAtEnd rest → status ≡ status_of s.problems flags.strict
+    → IsDriven c name flags text (record { given = given; left = left; before = before; now = now }) status
+all_driven one computed count c name flags text given rest left before now s status so_far end is =
     let shown = so_far.replayed.shown in
-    let same : report s.config s.rows ≡ report c (lines_of (text_after_all text so_far.edits so_far.answers)) =
-    ap (λ (o : Config). report o s.rows) shown.config ∙ ap (report c) (sym (lines_of-is (text_after_all text so_far.edits so_far.answers) s.rows shown.lines)) in
+    let same : s.problems ≡ report c (lines_of (text_after_all text so_far.edits so_far.answers)) =
+    same_report one computed c s.rows s.problems shown.problems ∙ ap (report c) (sym (lines_of-is (text_after_all text so_far.edits so_far.answers) s.rows shown.lines)) in
     record {
-      run = answered_so_far count c name flags text given rest before now s so_far;
+      run = answered_so_far computed count c name flags text given rest left before now s so_far;
       is_end = end;
       is_status = is ∙ ap (λ problems. status_of problems flags.strict) same;
     }

@@ -1,4 +1,4 @@
 pub mod Begun
+pub mod Cut
 pub mod Driven
-pub mod Taken
-pub mod Whole
+pub mod Linted

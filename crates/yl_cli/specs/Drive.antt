@@ -1,22 +1,23 @@
 -- Meaning: what an editing run writes: the report of the text, then what each command is answered.
-use Rattle.std.specs.Prelude.{◌≡◌, ℕ, ◌<◌, ◌-◌, ◌^◌, List, [], ◌∷◌, ◌++◌, length, codes, decimal, Option, Some, None, Result, Ok, Err, IfSome, IsSomeAnd, ◌⊎◌}
+use Rattle.std.specs.Prelude.{◌≡◌, ◌≢◌, ℕ, ◌<◌, ◌-◌, ◌^◌, List, [], ◌∷◌, ◌++◌, length, codes, decimal, Option, Some, None, Result, Ok, Err, IfSome, IsSomeAnd, ◌⊎◌}
 use Rattle.std.specs.Bool.{then_some}
 use Rattle.std.specs.Option.{option_map_or}
-use Rattle.std.specs.Io.KnownBytes.{Appends, IsAtEnd, Keeps}
+use Rattle.std.specs.Io.KnownBytes.{Appends, Consumes, IsAtEnd, Keeps}
+use Rattle.yl_text.specs.Fault.{IsText}
 use Rattle.yl_text.specs.declared.fault.TextFault.{TextFault}
 use Rattle.yl_text.specs.declared.fault.TextFault.TheVariants.{NotUtf8, Range, TooLarge, Memory}
 use Rattle.yl_text.specs.Lines.{RowValue, lines_of}
 use Rattle.yl_config.specs.declared.config.Config.{Config}
-use Rattle.yl_report.specs.Report.{report_text, status_of}
+use Rattle.yl_report.specs.Report.{ProblemValue, report_text, status_of}
 use Rattle.yl_devices.specs.Written.{AppendsFront}
 use Rattle.yl_session.specs.declared.work.Work.{Work}
 use Rattle.yl_session.specs.Runs.{EditValue, text_after, text_after_all, AreAnswers}
-use Rattle.yl_lint.specs.Computed.{report}
+use Rattle.yl_lint.specs.TextReport.{Reporter}
 use Rattle.yl_args.specs.declared.answer.Flags.{Flags}
 use Rattle.yl_devices.specs.declared.fault.RunFault.{RunFault}
 use Rattle.yl_devices.specs.declared.fault.RunFault.TheVariants as fault
 use Rattle.yl_devices.specs.Text.{without_mark, IsBadText}
-use Rattle.yl_cli.specs.Run.{Failures}
+use Rattle.yl_cli.specs.Run.{Devices, Failures}
 use Rattle.yl_cli.specs.Command.{Command, Bad, next_command}
 
 -- ---- what is read
@@ -30,6 +31,16 @@ AreCommands bytes (e ∷ edits) rest = (mid : List ℕ) × (next_command bytes �
 abbrev pub WereRead : Option (List ℕ) → Option (List ℕ) → List EditValue → Type 0
 WereRead given rest edits = IfSome given (λ bytes. IsSomeAnd rest (λ left. AreCommands bytes edits left))
 
+-- no whole command stands first in these bytes
+abbrev pub HasNoCommand : List ℕ → Type 0
+HasNoCommand bytes = (e : EditValue) (rest : List ℕ) → next_command bytes ≢ Command e rest
+
+-- what was taken of the bytes that were given, where they are known, is no whole command
+pub record IsCut (given left : Option (List ℕ)) : Type 0 where
+  pub begun : List ℕ
+  pub consumed : Consumes given left begun
+  pub none : HasNoCommand begun
+
 -- ---- what is written
 
 abbrev pub refusal_name : TextFault → List ℕ
@@ -42,60 +53,60 @@ refusal_name Memory = codes "Memory"
 abbrev pub ok_line : ℕ → Option ℕ → List ℕ
 ok_line status scanned = codes "-- ok " ++ decimal status ++ option_map_or (λ n. codes " " ++ decimal n) scanned [] ++ codes "\n"
 
--- the report of these lines and the line after it
-abbrev pub shown_lines : Config → (name : List ℕ) → Flags → List RowValue → Option ℕ → List ℕ
-shown_lines c name flags rows scanned = report_text name (report c rows) flags.no_warnings ++ ok_line (status_of (report c rows) flags.strict) scanned
+-- what is told of these lines and the line after it
+abbrev pub shown_lines : (tells : List RowValue → List ProblemValue) → (name : List ℕ) → Flags → List RowValue → Option ℕ → List ℕ
+shown_lines tells name flags rows scanned = report_text name (tells rows) flags.no_warnings ++ ok_line (status_of (tells rows) flags.strict) scanned
 
 -- what an edit that left this text is answered
-abbrev pub reply : Config → (name : List ℕ) → Flags → (text : List ℕ) → Result Work TextFault → List ℕ
-reply c name flags text (Ok work) = shown_lines c name flags (lines_of text) (then_some flags.work work.scanned)
-reply c name flags text (Err f) = codes "-- refused " ++ refusal_name f ++ codes "\n"
+abbrev pub reply : (tells : List RowValue → List ProblemValue) → (name : List ℕ) → Flags → (text : List ℕ) → Result Work TextFault → List ℕ
+reply tells name flags text (Ok work) = shown_lines tells name flags (lines_of text) (then_some flags.work work.scanned)
+reply tells name flags text (Err f) = codes "-- refused " ++ refusal_name f ++ codes "\n"
 
 -- what the edits of a text are answered, one after another
-abbrev pub replies : Config → (name : List ℕ) → Flags → (text : List ℕ) → List EditValue → List (Result Work TextFault) → List ℕ
-replies c name flags text (e ∷ edits) (r ∷ answers) = reply c name flags (text_after text e r) r ++ replies c name flags (text_after text e r) edits answers
-replies c name flags text _ _ = []
+abbrev pub replies : (tells : List RowValue → List ProblemValue) → (name : List ℕ) → Flags → (text : List ℕ) → List EditValue → List (Result Work TextFault) → List ℕ
+replies tells name flags text (e ∷ edits) (r ∷ answers) = reply tells name flags (text_after text e r) r ++ replies tells name flags (text_after text e r) edits answers
+replies tells name flags text _ _ = []
 
-abbrev pub text_of_run : Config → (name : List ℕ) → Flags → (text : List ℕ) → List EditValue → List (Result Work TextFault) → List ℕ
-text_of_run c name flags text edits answers =
-    shown_lines c name flags (lines_of text) None ++ replies c name flags text edits answers
+abbrev pub text_of_run : (tells : List RowValue → List ProblemValue) → (name : List ℕ) → Flags → (text : List ℕ) → List EditValue → List (Result Work TextFault) → List ℕ
+text_of_run tells name flags text edits answers =
+    shown_lines tells name flags (lines_of text) None ++ replies tells name flags text edits answers
 
 -- ---- a run
 
--- what the reader was given, and what the writer held before the run and holds after it, where that is known
-pub record Devices : Type 0 where
-  pub given : Option (List ℕ)
-  pub before : Option (List ℕ)
-  pub now : Option (List ℕ)
-
 -- the commands before a place were read, each has the answer that it gets at the text of that moment, and all these are written
 pub record IsAnswered (c : Config) (name : List ℕ) (flags : Flags) (text : List ℕ) (d : Devices) : Type 0 where
+  pub reporter : Reporter c
   pub edits : List EditValue
   pub answers : List (Result Work TextFault)
   pub place : Option (List ℕ)
   pub read : WereRead d.given place edits
   pub answered : AreAnswers text edits answers
-  pub written : Appends d.before d.now (text_of_run c name flags text edits answers)
+  pub written : Appends d.before d.now (text_of_run reporter.tells name flags text edits answers)
 
 -- so were all commands up to the end, and this is the status of the text that they left
 pub record IsDriven (c : Config) (name : List ℕ) (flags : Flags) (text : List ℕ) (d : Devices) (status : ℕ) : Type 0 where
   pub run : IsAnswered c name flags text d
   pub is_end : IsAtEnd run.place
-  pub is_status : status ≡ status_of (report c (lines_of (text_after_all text run.edits run.answers))) flags.strict
+  pub is_status : status ≡ status_of (run.reporter.tells (lines_of (text_after_all text run.edits run.answers))) flags.strict
 
--- what is written is a beginning of what some answers ask for
+-- the commands before a place were read, and what is written is a beginning of what these are answered
 pub record IsBegun (c : Config) (name : List ℕ) (flags : Flags) (text : List ℕ) (d : Devices) : Type 0 where
+  pub reporter : Reporter c
   pub edits : List EditValue
   pub answers : List (Result Work TextFault)
+  pub place : Option (List ℕ)
+  pub read : WereRead d.given place edits
   pub answered : AreAnswers text edits answers
-  pub written : AppendsFront d.before d.now (text_of_run c name flags text edits answers)
+  pub written : AppendsFront d.before d.now (text_of_run reporter.tells name flags text edits answers)
 
--- why a run may end early: for a device only where its failures rose. On a failed read, where no command stands, and once as many
--- commands were read as are counted, all that those before are answered is written
+-- why a run over these bytes may end early: they are no text, which is looked at first; or they are one, and a device failed, whose failures rose,
+-- no command stands next, as many commands were read as are counted, or memory was refused. On a failed read the answers to all commands are
+-- written that stand whole in what was read, and at a bad command those to all commands before it
 abbrev pub IsDriveFault : Config → (name : List ℕ) → Flags → (bytes : List ℕ) → Failures → Devices → RunFault → Type 0
 IsDriveFault c name flags bytes n d (fault.Text f) = IsBadText (without_mark bytes) f × Keeps d.before d.now
-IsDriveFault c name flags bytes n d fault.Read = (n.reads_before < n.reads_after) × IsAnswered c name flags (without_mark bytes) d
-IsDriveFault c name flags bytes n d fault.Write = (n.writes_before < n.writes_after) × IsBegun c name flags (without_mark bytes) d
-IsDriveFault c name flags bytes n d fault.Command = (run : IsAnswered c name flags (without_mark bytes) d)
-    × ((IfSome run.place (λ rest. next_command rest ≡ Bad)) ⊎ (length run.edits ≡ 2 ^ 64 - 1))
-IsDriveFault c name flags bytes n d fault.Memory = IsBegun c name flags (without_mark bytes) d
+IsDriveFault c name flags bytes n d fault.Read = IsText (without_mark bytes) × (n.reads_before < n.reads_after)
+    × ((run : IsAnswered c name flags (without_mark bytes) d) × IsCut run.place d.left)
+IsDriveFault c name flags bytes n d fault.Write = IsText (without_mark bytes) × (n.writes_before < n.writes_after) × IsBegun c name flags (without_mark bytes) d
+IsDriveFault c name flags bytes n d fault.Command = IsText (without_mark bytes) × ((run : IsAnswered c name flags (without_mark bytes) d)
+    × ((IfSome run.place (λ rest. next_command rest ≡ Bad)) ⊎ (length run.edits ≡ 2 ^ 64 - 1)))
+IsDriveFault c name flags bytes n d fault.Memory = IsText (without_mark bytes) × IsBegun c name flags (without_mark bytes) d

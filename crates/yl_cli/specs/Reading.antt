@@ -1,7 +1,7 @@
 -- Bridge: what is taken of the bytes that a reader gives, of which some were read ahead.
 use Rattle.std.specs.Prelude.{◌≡◌, ◌≢◌, ℕ, ◌-◌, ◌≤◌, List, [], ◌++◌, length, Option, Some, None, Result}
 use Rattle.std.specs.Option.{option_map}
-use Rattle.std.specs.Io.KnownBytes.{Appends}
+use Rattle.std.specs.Io.KnownBytes.{Appends, Consumes}
 use Rattle.yl_text.specs.declared.fault.TextFault.{TextFault}
 use Rattle.yl_text.specs.Lines.{lines_of}
 use Rattle.yl_config.specs.declared.config.Config.{Config}
@@ -9,6 +9,7 @@ use Rattle.yl_devices.specs.Written.{AppendsFront}
 use Rattle.yl_session.specs.declared.work.Work.{Work}
 use Rattle.yl_session.specs.Runs.{EditValue, IsAnswer, Replayed, text_after}
 use Rattle.yl_session.specs.State.{SessionValue, Shows}
+use Rattle.yl_lint.specs.Computed.{report}
 use Rattle.yl_args.specs.declared.answer.Flags.{Flags}
 use Rattle.yl_cli.specs.Drive.{WereRead, text_of_run, reply}
 use Rattle.yl_cli.specs.Command.{Command, first_line, next_command}
@@ -25,6 +26,12 @@ abbrev pub LineBegan : Option (List ℕ) → Option (List ℕ) → List ℕ → 
 LineBegan None rest line = Unit {0}
 LineBegan (Some all) None line = ⊥
 LineBegan (Some all) (Some rest) line = HasBegun all rest line
+
+-- what was taken of the bytes that were given, where they are known, has no whole line
+pub record IsLineCut (given left : Option (List ℕ)) : Type 0 where
+  pub begun : List ℕ
+  pub consumed : Consumes given left begun
+  pub none : first_line 62 begun ≡ None
 
 -- a line is read
 abbrev pub TakesLine : Option (List ℕ) → Option (List ℕ) → List ℕ → Type 0
@@ -49,13 +56,13 @@ pub record IsReply (c : Config) (name : List ℕ) (flags : Flags) (text : List �
   pub answer : Result Work TextFault
   pub is : IsAnswer (lines_of text) e.from e.to e.bytes answer
   pub shows : Shows c (text_after text e answer) new
-  pub written : Appends before now (reply c name flags (text_after text e answer) answer)
+  pub written : Appends before now (reply (report c) name flags (text_after text e answer) answer)
 
 -- the edit was answered, and a beginning of that is written
 pub record IsReplyBegun (c : Config) (name : List ℕ) (flags : Flags) (text : List ℕ) (e : EditValue) (before now : Option (List ℕ)) : Type 0 where
   pub answer : Result Work TextFault
   pub is : IsAnswer (lines_of text) e.from e.to e.bytes answer
-  pub written : AppendsFront before now (reply c name flags (text_after text e answer) answer)
+  pub written : AppendsFront before now (reply (report c) name flags (text_after text e answer) answer)
 
 -- all commands so far were answered
 pub record SoFar (count : ℕ) (c : Config) (name : List ℕ) (flags : Flags) (text : List ℕ) (given rest before now : Option (List ℕ)) (s : SessionValue) : Type 0 where
@@ -64,4 +71,4 @@ pub record SoFar (count : ℕ) (c : Config) (name : List ℕ) (flags : Flags) (t
   pub counted : length edits ≡ count
   pub read : WereRead given rest edits
   pub replayed : Replayed c text edits answers s
-  pub written : Appends before now (text_of_run c name flags text edits answers)
+  pub written : Appends before now (text_of_run (report c) name flags text edits answers)

@@ -5,21 +5,23 @@ ghost use Rattle.std.specs.Io.KnownBytes.{Appends, IsAtEnd};
 ghost use Rattle.std.specs.Bool.{then_some};
 ghost use Rattle.yl_text.specs.declared.TheConstants.{MAX_BYTES};
 ghost use Rattle.yl_text.specs.declared.fault.TextFault.{TextFault};
+ghost use Rattle.yl_text.specs.Fault.{IsText};
 ghost use Rattle.yl_text.specs.Watched.{device_of, failures_of};
 ghost use Rattle.yl_config.specs.declared.config.Config.{Config};
 ghost use Rattle.yl_devices.specs.Written.{AppendsFront};
+ghost use Rattle.yl_lint.specs.Computed.{report};
 ghost use Rattle.yl_session.specs.State.{Shows};
 ghost use Rattle.yl_devices.specs.Text.{without_mark};
 ghost use Rattle.yl_cli.specs.Drive.{IsDriveFault, IsDriven, ok_line, refusal_name, shown_lines};
 ghost use Rattle.yl_cli.specs.Reading.{IsReply, IsReplyBegun};
 
-use crate::ahead::Ahead;
 use crate::stream::next_edit;
 use itoa::Buffer;
 use std::io::{Read, Write};
 use yl_args::Flags;
 use yl_config::Config;
-use yl_devices::{RunFault, WriteFault, text_of, write_parts};
+use yl_devices::{Ahead, RunFault, WriteFault, text_of, write_parts};
+use yl_lint::one_report;
 use yl_report::write_report;
 use yl_session::{Edit, Session, Work};
 use yl_text::{LineStore, TextFault, Watched};
@@ -103,12 +105,13 @@ fn show<S: LineStore, W: Write>(
 ) -> Result<(), WriteFault>
     requires { failures_of out.old < 2 ^ 64 - 1 }
     ensures ok { OnOk result (Appends (W.contents (device_of out.old)) (W.contents (device_of out.new))
-        (shown_lines session.now.config name.now flags session.now.rows scanned)) }
+        (shown_lines (report session.now.config) name.now flags session.now.rows scanned)) }
     ensures quiet { OnOk result (failures_of out.new ≡ failures_of out.old) }
     ensures err { OnErr result (AppendsFront (W.contents (device_of out.old)) (W.contents (device_of out.new))
-        (shown_lines session.now.config name.now flags session.now.rows scanned)) }
+        (shown_lines (report session.now.config) name.now flags session.now.rows scanned)) }
     ensures failed { OnErr result (failures_of out.old < failures_of out.new) }
 {
+    one_report();
     write_report(name, session.problems(), flags.no_warnings, out)?;
     write_ok(session.status(flags.strict), scanned, out)
 }
@@ -154,8 +157,12 @@ fn answer<S: LineStore, W: Write>(
 
 /// Shows a text's report, then reads commands and answers each before the next: `replace LINE COLUMN
 /// LINE COLUMN BYTES`, a line feed and that many bytes put these in place of what stands from the
-/// first place to the second, counted from 0. Answers the status of the text that the accepted edits
+/// first place to the second, counted from 0. Returns the status of the text that the accepted edits
 /// leave. One leading byte-order mark of `text` is dropped.
+///
+/// The faults: `Text` where `text` is no text, which is looked at first; then nothing is read or
+/// written. `Write` where the writer failed. `Read` where the reader failed; then each whole command
+/// that it gave before is answered. `Command` where no command stands next. Else `Memory`.
 pub fn drive<S: LineStore, R: Read, W: Write>(
     alloc: S::Alloc,
     name: &str,
@@ -169,9 +176,11 @@ pub fn drive<S: LineStore, R: Read, W: Write>(
     requires writer { failures_of out.old < 2 ^ 64 - 1 }
     ensures done { IfOk result (λ status. IsDriven config name.now flags (without_mark text.now) (record {
       given = R.remaining (device_of input.old);
+      left = R.remaining (device_of input.new);
       before = W.contents (device_of out.old);
       now = W.contents (device_of out.new);
     }) status) }
+    ensures is_text { OnOk result (IsText (without_mark text.now)) }
     ensures end { OnOk result (IsAtEnd (R.remaining (device_of input.new))) }
     ensures reader_quiet { OnOk result (failures_of input.new ≡ failures_of input.old) }
     ensures writer_quiet { OnOk result (failures_of out.new ≡ failures_of out.old) }
@@ -183,10 +192,12 @@ pub fn drive<S: LineStore, R: Read, W: Write>(
     })
         (record {
           given = R.remaining (device_of input.old);
+          left = R.remaining (device_of input.new);
           before = W.contents (device_of out.old);
           now = W.contents (device_of out.new);
         })) }
 {
+    one_report();
     let text = match text_of(text) {
         Ok(text) => text,
         Err(fault) => return Err(RunFault::Text(fault)),

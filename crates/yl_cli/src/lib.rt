@@ -1,13 +1,12 @@
 //! A text linted, or edited by commands: from the bytes that a reader gives to lines on a writer.
 #![tactic(auto)]
 
-mod ahead;
 mod command;
 mod editing;
 mod run;
 mod stream;
 
 pub use editing::drive;
-pub use run::{joined, lint};
-pub use yl_args::{Asked, Flags, Source, Stop, asked};
+pub use run::{joined, lint, lint_bytes};
+pub use yl_args::{Asked, Flags, Source, Stop, asked, asked_edit};
 pub use yl_devices::{BadText, ProgramFault, RunFault, say};

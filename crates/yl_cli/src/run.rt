@@ -1,28 +1,56 @@
 //! A file linted from its bytes to printed lines and a status.
-ghost use Rattle.std.specs.Prelude.{◌≡◌, ◌-◌, ◌^◌, ◌<◌, IfOk, IfErr, IfSome, OnOk, OnErr};
-ghost use Rattle.std.specs.Io.KnownBytes.{Appends};
+ghost use Rattle.std.specs.Prelude.{◌≡◌, ◌-◌, ◌^◌, ◌<◌, IfOk, IfErr, IfSome, OnOk};
 ghost use Rattle.yl_text.specs.Fault.{IsText};
-ghost use Rattle.yl_text.specs.Lines.{lines_of};
 ghost use Rattle.yl_text.specs.Watched.{device_of, failures_of};
-ghost use Rattle.yl_devices.specs.Written.{AppendsFront};
-ghost use Rattle.yl_report.specs.Report.{report_text, status_of};
-ghost use Rattle.yl_lint.specs.Computed.{report};
 ghost use Rattle.yl_devices.specs.Text.{without_mark, TakesAtMost};
-ghost use Rattle.yl_cli.specs.Run.{IsRunFault, joined_status};
+ghost use Rattle.yl_cli.specs.Run.{IsLintBegun, IsLinted, IsLintFault, IsReportFault, joined_status};
 
 use std::alloc::Allocator;
 use std::io::{Read, Write};
 use yl_args::Flags;
 use yl_config::Config;
 use yl_devices::{MOST_READ, RunFault, read_text, text_of};
-use yl_lint::{one_report, report_of_text};
+use yl_lint::report_of_text;
 use yl_report::{status, write_report};
 use yl_text::Watched;
 
-/// Reads a text to its end, writes its report, and answers its status: 1 with an error, else 2 with
-/// a warning where `strict` is asked, else 0. The printed lines begin with `name`. It answers so
-/// only where the bytes, less a leading byte-order mark, are a text. On a fault a beginning of the
-/// report is out.
+/// Writes the report of a file's bytes, less one leading byte-order mark, and returns its status: 1
+/// with an error, else 2 with a warning where `strict` is asked, else 0. The printed lines begin
+/// with `name`.
+///
+/// The faults: `Text` where the bytes are no text, which is looked at first; `Write` where the writer
+/// failed, and then a beginning of the report is out; else `Memory`.
+pub fn lint_bytes<A: Allocator + Copy, W: Write>(
+    alloc: A,
+    name: &str,
+    config: &Config,
+    flags: Flags,
+    bytes: &[u8],
+    out: &mut Watched<W>,
+) -> Result<u8, RunFault>
+    requires { failures_of out.old < 2 ^ 64 - 1 }
+    ensures linted { IfOk result (λ code. IsLinted config.now name.now flags bytes.now (W.contents (device_of out.old)) (W.contents (device_of out.new)) code) }
+    ensures is_text { OnOk result (IsText (without_mark bytes.now)) }
+    ensures quiet { OnOk result (failures_of out.new ≡ failures_of out.old) }
+    ensures fault { IfErr result (IsReportFault bytes.now (IsLintBegun config.now name.now flags bytes.now (W.contents (device_of out.old)) (W.contents (device_of out.new)))
+        (failures_of out.old) (failures_of out.new) (W.contents (device_of out.old)) (W.contents (device_of out.new))) }
+{
+    let text = match text_of(bytes) {
+        Ok(text) => text,
+        Err(fault) => return Err(RunFault::Text(fault)),
+    };
+    let problems = match report_of_text(alloc, config, text) {
+        Ok(problems) => problems,
+        Err(_) => return Err(RunFault::Memory),
+    };
+    match write_report(name, problems.as_slice(), flags.no_warnings, out) {
+        Ok(()) => Ok(status(problems.as_slice(), flags.strict)),
+        Err(_) => Err(RunFault::Write),
+    }
+}
+
+/// Reads a text to its end, or until it is too large, and goes on as `lint_bytes` does. `Read` where
+/// the reader failed. But for a failed write nothing is out on a fault.
 pub fn lint<A: Allocator + Copy, R: Read, W: Write>(
     alloc: A,
     name: &str,
@@ -33,37 +61,31 @@ pub fn lint<A: Allocator + Copy, R: Read, W: Write>(
 ) -> Result<u8, RunFault>
     requires reader { failures_of input.old < 2 ^ 64 - 1 }
     requires writer { failures_of out.old < 2 ^ 64 - 1 }
-    ensures output { OnOk result (IfSome (R.remaining (device_of input.old)) (λ bytes.
-        Appends (W.contents (device_of out.old)) (W.contents (device_of out.new))
-        (report_text name.now (report config.now (lines_of (without_mark bytes))) flags.no_warnings))) }
-    ensures code { IfOk result (λ code. IfSome (R.remaining (device_of input.old)) (λ bytes.
-        code ≡ status_of (report config.now (lines_of (without_mark bytes))) flags.strict)) }
+    ensures linted { IfOk result (λ code. IfSome (R.remaining (device_of input.old)) (λ bytes.
+        IsLinted config.now name.now flags bytes (W.contents (device_of out.old)) (W.contents (device_of out.new)) code)) }
     ensures is_text { OnOk result (IfSome (R.remaining (device_of input.old)) (λ bytes. IsText (without_mark bytes))) }
     ensures read { TakesAtMost MOST_READ (R.remaining (device_of input.old)) (R.remaining (device_of input.new)) }
     ensures reader_quiet { OnOk result (failures_of input.new ≡ failures_of input.old) }
     ensures writer_quiet { OnOk result (failures_of out.new ≡ failures_of out.old) }
-    ensures begun { OnErr result (IfSome (R.remaining (device_of input.old)) (λ bytes.
-        AppendsFront (W.contents (device_of out.old)) (W.contents (device_of out.new))
-        (report_text name.now (report config.now (lines_of (without_mark bytes))) flags.no_warnings))) }
-    ensures fault { IfErr result (IsRunFault (record {
-      reads_before = failures_of input.old;
-      reads_after = failures_of input.new;
-      writes_before = failures_of out.old;
-      writes_after = failures_of out.new;
-    })
-        (R.remaining (device_of input.old))) }
+    ensures fault { IfErr result (IsLintFault
+        (λ bytes. IsLintBegun config.now name.now flags bytes (W.contents (device_of out.old)) (W.contents (device_of out.new))) (record {
+          reads_before = failures_of input.old;
+          reads_after = failures_of input.new;
+          writes_before = failures_of out.old;
+          writes_after = failures_of out.new;
+        })
+        (record {
+          given = R.remaining (device_of input.old);
+          left = R.remaining (device_of input.new);
+          before = W.contents (device_of out.old);
+          now = W.contents (device_of out.new);
+        })) }
 {
-    one_report();
-    let bytes = read_text(alloc, input)?;
-    let text = match text_of(bytes.as_slice()) {
-        Ok(text) => text,
-        Err(fault) => return Err(RunFault::Text(fault)),
+    let bytes = match read_text(alloc, input) {
+        Ok(bytes) => bytes,
+        Err(fault) => return Err(fault),
     };
-    let problems = report_of_text(alloc, config, text)?;
-    match write_report(name, problems.as_slice(), flags.no_warnings, out) {
-        Ok(()) => Ok(status(problems.as_slice(), flags.strict)),
-        Err(_) => Err(RunFault::Write),
-    }
+    lint_bytes(alloc, name, config, flags, bytes.as_slice(), out)
 }
 
 /// The status of two files: 1 if one is 1, else 2 if one is 2, else 0.

@@ -2,56 +2,21 @@
 ghost use Rattle.std.specs.Prelude.{◌≡◌, ◌≢◌, ◌-◌, ◌^◌, ◌<◌, ◌≤◌, [], ◌∷◌, length, IfOk, IfErr, IfSome, IsErrOf, OnOk, MatchOption, MatchBool, vec_len, Err};
 ghost use Rattle.std.specs.Io.KnownBytes.{Consumes, IsAtEnd, Keeps, prepend_known};
 ghost use Rattle.yl_text.specs.Watched.{device_of, failures_of};
+ghost use Rattle.yl_devices.specs.Text.{IsCommandFault};
 ghost use Rattle.yl_cli.specs.Command.{Bad, next_command};
-ghost use Rattle.yl_cli.specs.Reading.{HasNoLine, TakesCommand, TakesLine};
-ghost use Rattle.yl_cli.specs.Run.{IsCommandFault};
+ghost use Rattle.yl_cli.specs.Drive.{IsCut};
+ghost use Rattle.yl_cli.specs.Reading.{HasNoLine, IsLineCut, TakesCommand, TakesLine};
 
-use crate::ahead::Ahead;
 use crate::command::command_line;
 use arrayvec::ArrayVec;
 use std::alloc::Allocator;
 use std::io::Read;
-use yl_devices::RunFault;
+use yl_devices::{Ahead, RunFault};
 use yl_session::Edit;
 use yl_text::Watched;
 
 // The line of a command, which has at most 62 bytes.
 type Line = ArrayVec<u8, 62>;
-
-// Reads more where nothing was read ahead. `false` at the end of the input.
-fn more<R: Read>(ahead: &mut Ahead, input: &mut Watched<R>) -> Result<bool, RunFault>
-    requires { failures_of input.old < 2 ^ 64 - 1 }
-    ensures kept { IfOk result (λ some. Keeps (prepend_known ahead.old (R.remaining (device_of input.old)))
-        (prepend_known ahead.new (R.remaining (device_of input.new)))) }
-    ensures some { IfOk result (λ some. MatchBool some (ahead.new ≢ []) ((ahead.new ≡ []) × IsAtEnd (R.remaining (device_of input.new)))) }
-    ensures quiet { OnOk result (failures_of input.new ≡ failures_of input.old) }
-    ensures fault { IfErr result (λ fault. (fault ≡ RunFault.Read) × (failures_of input.old < failures_of input.new)) }
-{
-    if ahead.as_slice().is_empty() {
-        return ahead.fill(input);
-    }
-    Ok(true)
-}
-
-// The next byte, or `None` at the end of the input.
-fn next_byte<R: Read>(ahead: &mut Ahead, input: &mut Watched<R>) -> Result<Option<u8>, RunFault>
-    requires { failures_of input.old < 2 ^ 64 - 1 }
-    ensures some { IfOk result (λ found. IfSome found (λ byte.
-        Consumes (prepend_known ahead.old (R.remaining (device_of input.old)))
-        (prepend_known ahead.new (R.remaining (device_of input.new))) (byte ∷ []))) }
-    ensures none { IfOk result (λ found. MatchOption found
-        (IsAtEnd (prepend_known ahead.old (R.remaining (device_of input.old))) × IsAtEnd (R.remaining (device_of input.new)))
-        (λ _. Unit {0})) }
-    ensures quiet { OnOk result (failures_of input.new ≡ failures_of input.old) }
-    ensures fault { IfErr result (λ fault. (fault ≡ RunFault.Read) × (failures_of input.old < failures_of input.new)) }
-{
-    if !more(ahead, input)? {
-        return Ok(None);
-    }
-    let byte = ahead.as_slice()[0];
-    ahead.skip(1);
-    Ok(Some(byte))
-}
 
 // Reads a line without its line feed. `false` at the end of the input.
 fn read_line<R: Read>(
@@ -66,11 +31,12 @@ fn read_line<R: Read>(
         (prepend_known ahead.new (R.remaining (device_of input.new))) line.new.items)
         (IsAtEnd (prepend_known ahead.old (R.remaining (device_of input.old))) × IsAtEnd (R.remaining (device_of input.new)))) }
     ensures command { IsErrOf result RunFault.Command → IfSome (prepend_known ahead.old (R.remaining (device_of input.old))) HasNoLine }
+    ensures cut { IsErrOf result RunFault.Read → IsLineCut (prepend_known ahead.old (R.remaining (device_of input.old))) (R.remaining (device_of input.new)) }
     ensures quiet { OnOk result (failures_of input.new ≡ failures_of input.old) }
     ensures fault { IfErr result (IsCommandFault (failures_of input.old) (failures_of input.new)) }
 {
     for i in 0..63u32 {
-        match next_byte(ahead, input)? {
+        match ahead.next_byte(input)? {
             None if i == 0 => return Ok(false),
             None => return Err(RunFault::Command),
             Some(b'\n') => return Ok(true),
@@ -84,35 +50,8 @@ fn read_line<R: Read>(
     Err(RunFault::Command)
 }
 
-// Reads so many bytes, as they come.
-fn read_payload<A: Allocator + Copy, R: Read>(
-    alloc: A,
-    ahead: &mut Ahead,
-    input: &mut Watched<R>,
-    size: usize,
-) -> Result<Vec<u8, A>, RunFault>
-    requires { failures_of input.old < 2 ^ 64 - 1 }
-    ensures read { IfOk result (λ bytes. Consumes (prepend_known ahead.old (R.remaining (device_of input.old)))
-        (prepend_known ahead.new (R.remaining (device_of input.new))) bytes.items) }
-    ensures len { IfOk result (λ bytes. vec_len bytes ≡ size) }
-    ensures command { IsErrOf result RunFault.Command → IfSome (prepend_known ahead.old (R.remaining (device_of input.old))) (λ all. length all < size) }
-    ensures quiet { OnOk result (failures_of input.new ≡ failures_of input.old) }
-    ensures fault { IfErr result (IsCommandFault (failures_of input.old) (failures_of input.new)) }
-{
-    let mut bytes = Vec::new(alloc);
-    while bytes.len() < size {
-        if !more(ahead, input)? {
-            return Err(RunFault::Command);
-        }
-        let room = size - bytes.len();
-        let count = ahead.as_slice().len().min(room);
-        bytes.extend_from_slice(&ahead.as_slice()[..count])?;
-        ahead.skip(count);
-    }
-    Ok(bytes)
-}
-
-/// The next command, or `None` at the end of the input. `Command` where there stands none.
+/// The next command, or `None` at the end of the input. `Command` where there stands none. `Read`
+/// where the reader failed before it had given a whole command.
 pub(crate) fn next_edit<A: Allocator + Copy, R: Read>(
     alloc: A,
     ahead: &mut Ahead,
@@ -126,6 +65,7 @@ pub(crate) fn next_edit<A: Allocator + Copy, R: Read>(
         (IsAtEnd (prepend_known ahead.old (R.remaining (device_of input.old))) × IsAtEnd (R.remaining (device_of input.new)))
         (λ _. Unit {0})) }
     ensures command { IsErrOf result RunFault.Command → IfSome (prepend_known ahead.old (R.remaining (device_of input.old))) (λ all. next_command all ≡ Bad) }
+    ensures cut { IsErrOf result RunFault.Read → IsCut (prepend_known ahead.old (R.remaining (device_of input.old))) (R.remaining (device_of input.new)) }
     ensures quiet { OnOk result (failures_of input.new ≡ failures_of input.old) }
     ensures fault { IfErr result (IsCommandFault (failures_of input.old) (failures_of input.new)) }
 {
@@ -136,7 +76,7 @@ pub(crate) fn next_edit<A: Allocator + Copy, R: Read>(
     let Some(asked) = command_line(line.as_slice()) else {
         return Err(RunFault::Command);
     };
-    let bytes = read_payload(alloc, ahead, input, asked.size as usize)?;
+    let bytes = ahead.read_payload(alloc, input, asked.size as usize)?;
     Ok(Some(Edit {
         from: asked.from,
         to: asked.to,

@@ -9,6 +9,10 @@
 //!     text TEXT       the rows below edit the text that ends so
 //!     drive TEXT      what `drive` answers to these commands, and writes
 //!     work TEXT       the same where each edit tells its work
+//!     standard        the rows below have the default configuration
+//!     data TEXT       they have the configuration that this text says
+//!     file NAME       they have the configuration that this file says
+//!     flags WORDS     they have the flags `strict` and `no-warnings` that stand here
 //!     flood lint N    what `lint` answers to so many bytes 0xFF; with `drive`, to so many letters in place of commands
 //!     joined A B      the status of two files
 //!     faults          the lines of faults

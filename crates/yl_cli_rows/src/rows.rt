@@ -1,21 +1,44 @@
 //! Rows, one after another.
 use crate::devices::{Repeated, make_writer};
 use crate::faults::tell_faults;
-use crate::runs::{Call, Ran, run as run_call};
+use crate::runs::{Call, Ran, Task, run as run_call};
 use crate::trials::{Trial, failure, whole};
 use test_rows::{first_word, push_front, push_unescaped, say, write};
+use yl_args::{Flags, Source};
 use yl_cli::joined;
+use yl_config::Config;
 use yl_devices::RunFault;
+use yl_sources::config_of;
 
 // What is asked of fewer bytes is asked again where devices fail and memory is refused.
 const SMALL: usize = 1000;
 
-// What is kept between rows: how the next text begins, how often it asks for memory at least, and the text that is edited.
+// What is kept between rows: how the next text begins, how often it asks for memory at least, the text that is edited, and what it is linted under.
 #[derive(Drop)]
 struct Kept {
     front: Vec<u8>,
     least: u64,
     text: Vec<u8>,
+    config: Config,
+    flags: Flags,
+}
+
+// No warning is left out, and none counts as an error.
+const NO_FLAGS: Flags = Flags {
+    strict: false,
+    no_warnings: false,
+    work: false,
+};
+
+// A call under what is kept.
+fn call_of<'a>(kept: &Kept, task: Task<'a>, work: bool) -> Call<'a> {
+    let mut flags = kept.flags;
+    flags.work = work;
+    Call {
+        task,
+        config: kept.config,
+        flags,
+    }
 }
 
 // Prints what a run has written, and its status or its fault.
@@ -33,9 +56,9 @@ fn show(rt: &HostRuntime, call: Call<'_>, input: &[u8], least: u64) -> Result<()
     let alloc = rt.alloc();
     let whole = whole(alloc, call, input);
     tell(rt, &whole)?;
-    let opened = match call {
-        Call::Lint => 0,
-        Call::Drive { text, .. } => text.len(),
+    let opened = match call.task {
+        Task::Lint => 0,
+        Task::Drive(text) => text.len(),
     };
     if input.len().saturating_add(opened) < SMALL {
         let trial = Trial {
@@ -68,13 +91,14 @@ fn flood(rt: &HostRuntime, call: Call<'_>, byte: u8, count: usize) -> Result<(),
 fn follow_flood(rt: &HostRuntime, kept: &Kept, rest: &str) -> Result<(), RunFault> {
     let (word, count) = first_word(rest);
     let count = count.parse().unwrap_or(0);
-    let call = Call::Drive {
-        text: kept.text.as_slice(),
-        work: false,
-    };
     match word {
-        "lint" => flood(rt, Call::Lint, 0xFF, count),
-        _ => flood(rt, call, b'r', count),
+        "lint" => flood(rt, call_of(kept, Task::Lint, false), 0xFF, count),
+        _ => flood(
+            rt,
+            call_of(kept, Task::Drive(kept.text.as_slice()), false),
+            b'r',
+            count,
+        ),
     }
 }
 
@@ -89,13 +113,47 @@ fn follow_joined(rt: &HostRuntime, rest: &str) -> Result<(), RunFault> {
 // Calls what a row asks for.
 fn call(rt: &HostRuntime, kept: &Kept, word: &str) -> Result<(), RunFault> {
     let input = kept.front.as_slice();
-    let text = kept.text.as_slice();
+    let edited = Task::Drive(kept.text.as_slice());
     match word {
-        "lint" => show(rt, Call::Lint, input, kept.least),
-        "drive" => show(rt, Call::Drive { text, work: false }, input, 0),
-        "work" => show(rt, Call::Drive { text, work: true }, input, 0),
+        "lint" => show(rt, call_of(kept, Task::Lint, false), input, kept.least),
+        "drive" => show(rt, call_of(kept, edited, false), input, 0),
+        "work" => show(rt, call_of(kept, edited, true), input, 0),
         _ => say(rt, "is no row"),
     }
+}
+
+// The configuration of the rows below, or the exit status where there is none.
+fn follow_source(rt: &HostRuntime, kept: &mut Kept, source: &Source) -> Result<(), RunFault> {
+    match config_of(rt, "yl_cli_rows", source) {
+        Ok(config) => {
+            kept.config = config;
+            Ok(())
+        }
+        Err(status) => {
+            let line = format!(in rt.alloc(); "= {status}")?;
+            say(rt, line.as_str())
+        }
+    }
+}
+
+// A row that says what the rows below are linted under. `false` where it is none.
+fn follow_setting(
+    rt: &HostRuntime,
+    kept: &mut Kept,
+    word: &str,
+    rest: &str,
+) -> Result<bool, RunFault> {
+    match word {
+        "standard" => follow_source(rt, kept, &Source::Standard)?,
+        "file" => follow_source(rt, kept, &Source::File(String::from_str(rt.alloc(), rest)?))?,
+        "data" => follow_source(rt, kept, &Source::Data(String::from_str(rt.alloc(), rest)?))?,
+        "flags" => {
+            kept.flags.strict = rest.contains("strict");
+            kept.flags.no_warnings = rest.contains("no-warnings");
+        }
+        _ => return Ok(false),
+    }
+    Ok(true)
 }
 
 // Does what a row says.
@@ -110,6 +168,9 @@ fn follow(rt: &HostRuntime, kept: &mut Kept, row: &str) -> Result<(), RunFault> 
             return Ok(());
         }
         _ => {}
+    }
+    if follow_setting(rt, kept, word, rest)? {
+        return Ok(());
     }
     if push_front(rt.alloc(), &mut kept.front, word, rest)? {
         return Ok(());
@@ -132,6 +193,8 @@ pub fn run(rt: &HostRuntime, text: &str) -> Result<(), RunFault> {
         front: Vec::new(rt.alloc()),
         least: 0,
         text: Vec::new(rt.alloc()),
+        config: Config::standard(),
+        flags: NO_FLAGS,
     };
     for row in text.lines() {
         if !row.is_empty() && !row.starts_with('#') {

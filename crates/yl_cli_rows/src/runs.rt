@@ -10,9 +10,17 @@ use yl_text::{PlainStore, Watched};
 
 /// What is called: `lint` of what is read, or `drive` of this text by the commands that are read.
 #[derive(Clone, Copy)]
-pub enum Call<'a> {
+pub enum Task<'a> {
     Lint,
-    Drive { text: &'a [u8], work: bool },
+    Drive(&'a [u8]),
+}
+
+/// A call, its configuration and its flags.
+#[derive(Clone, Copy)]
+pub struct Call<'a> {
+    pub task: Task<'a>,
+    pub config: Config,
+    pub flags: Flags,
 }
 
 /// What a run answers, what it has written then, and how often its devices failed.
@@ -24,16 +32,7 @@ pub struct Ran {
     pub write_failures: u64,
 }
 
-// No warning is left out, and none counts as an error.
-fn flags(work: bool) -> Flags {
-    Flags {
-        strict: false,
-        no_warnings: false,
-        work,
-    }
-}
-
-/// A run over the standard configuration.
+/// A run of a call.
 pub fn run<A: Allocator + Copy, R: Read + Drop>(
     taken: A,
     call: Call<'_>,
@@ -41,21 +40,14 @@ pub fn run<A: Allocator + Copy, R: Read + Drop>(
     writer: MemoryWriter,
 ) -> Ran {
     let name = "f.yaml";
-    let config = Config::standard();
+    let config = call.config;
+    let flags = call.flags;
     let mut input = Watched::new(reader);
     let mut out = Watched::new(writer);
-    let answer = match call {
-        Call::Lint => lint(taken, name, &config, flags(false), &mut input, &mut out),
-        Call::Drive { text, work } => {
-            drive::<PlainStore<A>, _, _>(
-                taken,
-                name,
-                config,
-                flags(work),
-                text,
-                &mut input,
-                &mut out,
-            )
+    let answer = match call.task {
+        Task::Lint => lint(taken, name, &config, flags, &mut input, &mut out),
+        Task::Drive(text) => {
+            drive::<PlainStore<A>, _, _>(taken, name, config, flags, text, &mut input, &mut out)
         }
     };
     Ran {

@@ -1,6 +1,6 @@
 //! What a run has to do where its devices give and take little, where they fail, and where memory is refused.
 use crate::devices::{MemoryReader, MemoryWriter, make_failing_writer, make_reader, make_writer};
-use crate::runs::{Call, Ran, run};
+use crate::runs::{Call, Ran, Task, run};
 use refusing::Refusing;
 use std::alloc::Global;
 use yl_devices::RunFault;
@@ -87,9 +87,9 @@ fn stops_at_each_write(trial: &Trial<'_>, fails: bool) -> bool {
 
 // Whether a run ended at a failed read, behind so many bytes, with all out that is answered of these.
 fn is_ended(trial: &Trial<'_>, ran: &Ran, read: &[u8]) -> bool {
-    let is_out = match trial.call {
-        Call::Lint => ran.out.is_empty(),
-        Call::Drive { .. } => {
+    let is_out = match trial.call.task {
+        Task::Lint => ran.out.is_empty(),
+        Task::Drive(_) => {
             let earlier = whole(trial.alloc, trial.call, read);
             earlier.out.as_slice() == ran.out.as_slice()
         }
@@ -103,7 +103,7 @@ fn stops_at_each_read(trial: &Trial<'_>) -> bool {
         let reader = make_reader(trial.input, 1, (calls as u64).saturating_add(1));
         let ran = run(trial.alloc, trial.call, reader, writer(trial.alloc));
         if ran.read_failures == 0 {
-            return matches!(trial.call, Call::Drive { .. }) && did_all(trial, &ran);
+            return matches!(&trial.call.task, Task::Drive(_)) && did_all(trial, &ran);
         }
         let read = trial.input.get(..calls).unwrap_or(&[]);
         if !is_ended(trial, &ran, read) {
@@ -142,8 +142,8 @@ pub fn failure(trial: &Trial<'_>) -> Option<&'static str> {
             return Some("is answered otherwise where a write fails");
         }
     }
-    match trial.call {
-        Call::Lint if !wants_each_growth(trial) => Some(
+    match trial.call.task {
+        Task::Lint if !wants_each_growth(trial) => Some(
             "is answered otherwise where memory is refused",
         ),
         _ => None,

@@ -4,7 +4,7 @@ use Rattle.std.specs.Prelude.{◌≡◌, ℕ, List}
 use Rattle.yl_text.specs.Lines.{RowValue, IsLines}
 use Rattle.yl_config.specs.declared.config.Config.{Config}
 use Rattle.yl_report.specs.Report.{ProblemValue}
-use Rattle.yl_lint.specs.Computed.{report}
+use Rattle.yl_lint.specs.TextReport.{IsReport}
 
 pub record SessionValue : Type 0 where
   pub config : Config
@@ -15,7 +15,7 @@ pub record SessionValue : Type 0 where
 pub record Shows (c : Config) (text : List ℕ) (s : SessionValue) : Type 0 where
   pub config : s.config ≡ c
   pub lines : IsLines text s.rows
-  pub problems : s.problems ≡ report c s.rows
+  pub problems : IsReport c s.rows s.problems
 
 -- a text under a configuration is shown in one way, whatever edits led to it
 abbrev pub OneState : Type 0

@@ -20,7 +20,7 @@ use std::alloc::{AllocError, Allocator};
 use std::marker::Model;
 use yl_chunks::Chunks;
 use yl_config::Config;
-use yl_lint::TextEdit;
+use yl_lint::{TextEdit, one_report};
 use yl_parting::FoundProblems;
 use yl_record::Record;
 use yl_report::{Problem, status};
@@ -70,6 +70,7 @@ impl<S: LineStore> Model for Session<S> {
 impl<S: LineStore> Session<S> {
     ghost use Rattle.yl_session.specs.State.{Shows};
     ghost use Rattle.yl_lint.specs.Computed.{report};
+    ghost use Rattle.yl_lint.specs.TextReport.{IsReport};
     ghost use Rattle.yl_report.specs.Report.{status_of};
     ghost use Rattle.yl_session.specs.Runs.{IsAnswer, IsEditWork};
 
@@ -91,6 +92,7 @@ impl<S: LineStore> Session<S> {
             known,
             found,
         } = begun;
+        one_report();
         Ok(Session {
             alloc,
             config,
@@ -121,14 +123,15 @@ impl<S: LineStore> Session<S> {
     /// The report of the text.
     pub fn problems(&self) -> &[Problem<S::Alloc>]
         ensures shown { result.now ≡ self.now.problems }
-        ensures report { self.now.problems ≡ report self.now.config self.now.rows }
+        ensures report { IsReport self.now.config self.now.rows self.now.problems }
     {
+        one_report();
         self.found.shown.as_slice()
     }
 
     /// 1 if the report has an error, else 2 if it has a warning and `strict` is asked, else 0.
     pub fn status(&self, strict: bool) -> u8
-        ensures { result ≡ status_of (report self.now.config self.now.rows) strict }
+        ensures { result ≡ status_of self.now.problems strict }
     {
         status(self.found.shown.as_slice(), strict)
     }
@@ -195,6 +198,7 @@ impl<S: LineStore> Session<S> {
         let Ok(mut rows) = incoming(self.alloc, before, bytes) else {
             return Err(AllocError);
         };
+        one_report();
         self.change(a, b, &mut rows)
     }
 
@@ -242,7 +246,9 @@ impl<S: LineStore> Session<S> {
 /// left, and sessions over two stores show the same of one text.
 pub fn one_state()
     ensures { OneState }
-{}
+{
+    one_report();
+}
 
 /// Whether the two places are one, and there are no bytes.
 fn is_nothing<S: Lines>(lines: &S, from: Pos, to: Pos, bytes: &[u8]) -> bool

@@ -4,5 +4,5 @@
 mod reading;
 mod saying;
 
-pub use reading::config_of;
+pub use reading::{config_of, read_config};
 pub use saying::say_config;

@@ -1,14 +1,45 @@
 //! The configuration that is asked for.
-ghost use Rattle.std.specs.Prelude.{◌≡◌, IfErr};
+ghost use Rattle.std.specs.Prelude.{◌≡◌, ◌-◌, ◌^◌, ◌<◌, IfOk, IfErr, Ok, Err, MatchResult};
+ghost use Rattle.yl_text.specs.Watched.{device_of, failures_of};
+ghost use Rattle.yl_devices.specs.Text.{IsReadFault};
+ghost use Rattle.yl_sources.specs.Source.{IsConfigRead, IsSourceAnswer};
 
 use crate::saying::say_config;
+use std::alloc::Allocator;
+use std::fs;
+use std::io::Read;
 use yl_args::Source;
 use yl_config::{Config, ConfigFault};
-use yl_devices::{ProgramFault, without_mark};
-use yl_programs::{FAULT, bytes_of, stopped};
+use yl_devices::{ProgramFault, RunFault, read_text, without_mark};
+use yl_programs::{FAULT, stopped};
 use yl_text::Watched;
 
-// Says a configuration's fault on standard error, and answers the exit status.
+/// Reads a configuration's text to its end, and returns what the bytes say, less one leading
+/// byte-order mark. The error is `Read` where the reader failed, else `Memory`.
+pub fn read_config<A: Allocator + Copy, R: Read>(
+    alloc: A,
+    input: &mut Watched<R>,
+) -> Result<Result<Config, ConfigFault>, RunFault>
+    requires { failures_of input.old < 2 ^ 64 - 1 }
+    ensures config { IfOk result (IsConfigRead (R.remaining (device_of input.old))) }
+    ensures fault { IfErr result (IsReadFault (failures_of input.old) (failures_of input.new)) }
+{
+    let bytes = match read_text(alloc, input) {
+        Ok(bytes) => bytes,
+        Err(fault) => return Err(fault),
+    };
+    Ok(Config::read(alloc, without_mark(bytes.as_slice())))
+}
+
+// What the file of this name says.
+fn read_file(rt: &HostRuntime, name: &str) -> Result<Result<Config, ConfigFault>, RunFault> {
+    match fs::open(rt, name) {
+        Ok(opened) => read_config(rt.alloc(), &mut Watched::new(opened)),
+        Err(_) => Err(RunFault::Read),
+    }
+}
+
+// Says a configuration's fault on standard error, and returns the exit status.
 fn refused(rt: &HostRuntime, program: &str, fault: ConfigFault) -> u8
     ensures { result ≡ FAULT }
 {
@@ -17,28 +48,39 @@ fn refused(rt: &HostRuntime, program: &str, fault: ConfigFault) -> u8
     FAULT
 }
 
-/// The configuration that is asked for. One leading byte-order mark of a file is dropped, of a text
-/// that the words give none. Where there is no configuration, that is said on standard error, and
-/// the answer is the exit status.
-pub fn config_of(rt: &HostRuntime, program: &str, source: &Source) -> Result<Config, u8>
-    ensures { IfErr result (λ status. status ≡ FAULT) }
+// The configuration, or the exit status once its fault is said.
+fn accepted(
+    rt: &HostRuntime,
+    program: &str,
+    read: Result<Config, ConfigFault>,
+) -> Result<Config, u8>
+    ensures { MatchResult read (λ config. result ≡ Ok config) (λ _. result ≡ Err FAULT) }
 {
-    let read = match source {
-        Source::Standard => return Ok(Config::standard()),
-        Source::Data(text) => Config::read(rt.alloc(), text.as_bytes()),
-        Source::File(name) => {
-            let bytes = match bytes_of(rt, name.as_str()) {
-                Ok(bytes) => bytes,
-                Err(fault) => {
-                    let fault = ProgramFault::Run(name.as_str(), fault);
-                    return Err(stopped(rt, program, &fault));
-                }
-            };
-            Config::read(rt.alloc(), without_mark(bytes.as_slice()))
-        }
-    };
     match read {
         Ok(config) => Ok(config),
         Err(fault) => Err(refused(rt, program, fault)),
+    }
+}
+
+/// The configuration that is asked for: the default one, what a text says, or what a file says. One
+/// leading byte-order mark of a file is dropped, of a text none. Where there is no configuration,
+/// the fault is said on standard error, and the error is the exit status.
+pub fn config_of(rt: &HostRuntime, program: &str, source: &Source) -> Result<Config, u8>
+    ensures config { IsSourceAnswer source.now result }
+    ensures status { IfErr result (λ status. status ≡ FAULT) }
+{
+    match source {
+        Source::Standard => Ok(Config::standard()),
+        Source::Data(text) => {
+            let read = Config::read(rt.alloc(), text.as_bytes());
+            accepted(rt, program, read)
+        }
+        Source::File(name) => match read_file(rt, name.as_str()) {
+            Ok(read) => accepted(rt, program, read),
+            Err(fault) => {
+                let fault = ProgramFault::Run(name.as_str(), fault);
+                Err(stopped(rt, program, &fault))
+            }
+        },
     }
 }

@@ -1,6 +1,7 @@
-use Rattle.std.proofs.Common.{◌≡◌, length}
-use Rattle.std.specs.Io.KnownBytes.{prepend_known}
+use Rattle.std.proofs.Common.{◌≡◌, length, None}
+use Rattle.std.specs.Io.KnownBytes.{Consumes, prepend_known}
 use Rattle.yl_text.specs.Watched.{device_of, failures_of}
+use Rattle.yl_cli.specs.Command.{first_line}
 use Rattle.yl_cli.specs.Reading.{LineBegan}
 use Rattle.yl_cli.proofs.stream.read_line.Given as goal
 
@@ -10,4 +11,7 @@ invariant-loop-i g l = record {
   begun : LineBegan (prepend_known l.initial.ahead (g.R.Read.remaining (device_of l.initial.input)))
       (prepend_known l.ahead (g.R.Read.remaining (device_of l.input))) l.line.items;
   len : length l.line.items ≡ l.i;
+  taken : Consumes (prepend_known l.initial.ahead (g.R.Read.remaining (device_of l.initial.input)))
+      (prepend_known l.ahead (g.R.Read.remaining (device_of l.input))) l.line.items;
+  unbroken : first_line 62 l.line.items ≡ None;
 }

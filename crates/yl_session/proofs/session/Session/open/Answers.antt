@@ -12,6 +12,7 @@ use Rattle.yl_lint.specs.TextReport.{records_of}
 use Rattle.yl_lint.specs.Computed.{kept_of_text, report}
 use Rattle.yl_parting.specs.Parts.{PartsValue}
 use Rattle.yl_found.specs.Found.{all_parts}
+use Rattle.yl_lint.proofs.Reported.{is_report}
 use Rattle.yl_session.proofs.Parts.{shown_is_report}
 use Rattle.yl_session.proofs.session.Session.open.Goals as goal
 
@@ -46,5 +47,7 @@ invariant_of-result g c =
 pub returns-clause-shown : goal.returns-clause-shown
 returns-clause-shown g c =
     let P : List RowValue → Type 0 = λ rows. IsLines c.args.bytes.now rows in
+    let config = c.args.config in
+    let rows = g.S.Lines.rows c.in-Ok.store in
     let begun = c.in-Ok-begin.ensures in
-    record { config = refl; lines = subst P (sym c.in-Ok.ensures.ok) c.in_ok-rows.ensures.lines; problems = shown_first c.args.config (g.S.Lines.rows c.in-Ok.store) begun.records begun.kept begun.found }
+    record { config = refl; lines = subst P (sym c.in-Ok.ensures.ok) c.in_ok-rows.ensures.lines; problems = is_report config rows c.in-Ok-begin.begun.found.shown.items (c.one_report.ensures.computed config rows) (shown_first config rows begun.records begun.kept begun.found) }

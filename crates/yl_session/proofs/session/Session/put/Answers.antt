@@ -6,7 +6,8 @@ use Rattle.yl_text.specs.Store.{AreLines}
 use Rattle.yl_text.specs.PutLines.{CanPutLines, put_text, inserted_rows, incoming_lines}
 use Rattle.yl_text.proofs.Edited.{AreLines-edited}
 use Rattle.yl_session.specs.State.{SessionValue, Shows}
-use Rattle.yl_lint.specs.Computed.{report}
+use Rattle.yl_lint.specs.Computed.{ReportIsComputed, report}
+use Rattle.yl_lint.proofs.Reported.{is_report}
 use Rattle.yl_config.specs.declared.config.Config.{Config}
 use Rattle.yl_session.proofs.session.Session.put.Goals as goal
 
@@ -25,10 +26,10 @@ both (Ok x) p q f = f p q
 both (Err e) p q f = tt
 
 -- what is shown then
-shown : (s u : SessionValue) (a b : ℕ) (t : List ℕ) (ns : List RowValue) → u.config ≡ s.config → IsLines (put_text s.rows a b t) (splice s.rows a b ns) → u.rows ≡ splice s.rows a b ns → u.problems ≡ report u.config u.rows → Shows s.config (put_text s.rows a b t) u
-shown s u a b t ns config lines rows problems =
+shown : (s u : SessionValue) (a b : ℕ) (t : List ℕ) (ns : List RowValue) → u.config ≡ s.config → IsLines (put_text s.rows a b t) (splice s.rows a b ns) → u.rows ≡ splice s.rows a b ns → u.problems ≡ report u.config u.rows → ReportIsComputed → Shows s.config (put_text s.rows a b t) u
+shown s u a b t ns config lines rows problems computed =
     let P : List RowValue → Type 0 = λ ps. IsLines (put_text s.rows a b t) ps in
-    record { config = config; lines = subst P (sym rows) lines; problems = problems ∙ ap (λ (o : Config). report o u.rows) config }
+    record { config = config; lines = subst P (sym rows) lines; problems = is_report s.config u.rows u.problems (computed s.config u.rows) (problems ∙ ap (λ (o : Config). report o u.rows) config) }
 
 pub change-requires-clause-lines : goal.change-requires-clause-lines
 change-requires-clause-lines g c =
@@ -40,4 +41,4 @@ returns-clause-ok g c =
     let rows = ap (λ (s : SessionValue). s.rows) c.self.view_is in
     let h = arrives c.args.self.now (g.S.Lines.rows c.self.inside.store) c.in-Ok.rows.items c.args.a c.args.b c.len.result c.args.bytes.now rows c.self.invariant.0 c.requires c.len.ensures c.in-Ok.ensures in
     let u = c.change.new.self in
-    both c.change.result c.change.ensures.rows c.change.ensures.problems (λ is told. shown c.args.self.now u c.args.a c.args.b c.args.bytes.now c.in-Ok.rows.items c.change.ensures.config h.1 is told)
+    both c.change.result c.change.ensures.rows c.change.ensures.problems (λ is told. shown c.args.self.now u c.args.a c.args.b c.args.bytes.now c.in-Ok.rows.items c.change.ensures.config h.1 is told c.one_report.ensures.computed)
