@@ -1,0 +1,10 @@
+pub mod Escapes
+pub mod Found
+pub mod Frames
+pub mod Header
+pub mod Laws
+pub mod Reading
+pub mod Sending
+pub use Rattle.json.specs.Print
+pub use Rattle.yl_devices.specs.Written
+pub use Rattle.yl_text.specs.Watched

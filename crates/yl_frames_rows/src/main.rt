@@ -1,0 +1,62 @@
+//! `yl_frames_rows`: reads rows of tests of messages, and prints what comes of each.
+//!
+//! A row is a line as `test_rows` reads it:
+//!
+//!     more, times     how the next bytes begin
+//!     read BYTES      the messages that these bytes are, up to the end or to bytes that are none
+//!     send TEXT       the message whose body is this text as JSON
+//!
+//! Each row is printed before what comes of it; empty lines, and those that begin with `#`, are passed over. Bytes are read again by readers that
+//! give few bytes a call, that fail at each call in turn, and with each allocation refused, and a message is sent again to writers that fail at each
+//! call; where that is answered otherwise than it has to be, a line says so.
+#![tactic(auto)]
+
+mod devices;
+mod reading;
+mod sending;
+
+use reading::show_read;
+use sending::show_sent;
+use std::process::ExitCode;
+use test_rows::{first_word, push_front, push_unescaped, say};
+use yl_devices::{RunFault, read_text, text_of};
+use yl_text::Watched;
+
+// Does what a row says.
+fn follow(rt: &HostRuntime, front: &mut Vec<u8>, row: &str) -> Result<(), RunFault> {
+    let (word, rest) = first_word(row);
+    if push_front(rt.alloc(), front, word, rest)? {
+        return Ok(());
+    }
+    push_unescaped(front, rest)?;
+    match word {
+        "read" => show_read(rt, front.as_slice())?,
+        "send" => show_sent(rt, front.as_slice())?,
+        _ => say(rt, "is no row")?,
+    }
+    front.clear();
+    Ok(())
+}
+
+fn run(rt: &HostRuntime) -> Result<(), RunFault> {
+    let bytes = read_text(rt.alloc(), &mut Watched::new(rt.stdin()))?;
+    let text = match text_of(bytes.as_slice()) {
+        Ok(text) => text,
+        Err(fault) => return Err(RunFault::Text(fault)),
+    };
+    let mut front = Vec::new(rt.alloc());
+    for row in text.lines() {
+        if !row.is_empty() && !row.starts_with('#') {
+            say(rt, row)?;
+            follow(rt, &mut front, row)?;
+        }
+    }
+    Ok(())
+}
+
+fn main(rt: HostRuntime) -> ExitCode {
+    match run(&rt) {
+        Ok(()) => ExitCode::SUCCESS,
+        Err(_) => ExitCode::FAILURE,
+    }
+}

@@ -1,0 +1,137 @@
+//! What an editor can do, and what its user sets.
+ghost use Rattle.std.specs.Prelude.{◌≡◌, codes, option_and_then, ◌∷◌, []};
+ghost use Rattle.std.specs.Option.{option_map};
+ghost use Rattle.json.specs.Find.{as_array, as_bool, as_str, as_number};
+ghost use Rattle.json.specs.Value.{value_view, items_view};
+ghost use Rattle.yl_lsp.specs.Params as spec;
+ghost use Rattle.yl_lsp.specs.Read.{settings_value};
+
+use crate::params::{list_of, whole_number};
+use json::Value;
+use std::alloc::Allocator;
+use yl_units::Encoding;
+
+/// The settings of this program, each where it is said: a configuration's text, a configuration's path, and how many problems of a text
+/// are shown at the most.
+#[derive(Clone, Copy)]
+pub struct Settings<'a> {
+    pub config: Option<&'a str>,
+    pub config_file: Option<&'a str>,
+    pub most: Option<u64>,
+}
+
+/// The encoding that a value names.
+fn encoding_of<A: Allocator>(value: &Value<'_, A>) -> Option<Encoding>
+    ensures { result ≡ option_and_then spec.encoding_named (as_str (value_view value.now)) }
+{
+    match value.as_str()? {
+        "utf-8" => Some(Encoding::Utf8),
+        "utf-16" => Some(Encoding::Utf16),
+        "utf-32" => Some(Encoding::Utf32),
+        _ => None,
+    }
+}
+
+/// The first encoding of a list that is known, else UTF-16.
+fn first_encoding<A: Allocator>(list: &[Value<'_, A>]) -> Encoding
+    ensures { result ≡ spec.first_encoding (items_view list.now) }
+{
+    for value in list {
+        if let Some(encoding) = encoding_of(value) {
+            return encoding;
+        }
+    }
+    Encoding::Utf16
+}
+
+/// The encodings that an editor takes.
+fn encodings_in<'v, 'a, A: Allocator>(params: &'v Value<'a, A>) -> Option<&'v [Value<'a, A>]>
+    ensures { option_map (λ vs. items_view vs.now) result
+        ≡ option_and_then as_array (spec.path (codes "capabilities" ∷ codes "general" ∷ codes "positionEncodings" ∷ []) (value_view params.now)) }
+{
+    list_of(
+        params
+            .get("capabilities")?
+            .get("general")?
+            .get("positionEncodings")?,
+    )
+}
+
+/// The encoding of columns by the params of `initialize`: the first that is known of those that the editor takes, and UTF-16 where it
+/// names none.
+pub fn encoding_in<A: Allocator>(params: &Value<'_, A>) -> Encoding
+    ensures { result ≡ spec.encoding_in (value_view params.now) }
+{
+    match encodings_in(params) {
+        Some(list) => first_encoding(list),
+        None => Encoding::Utf16,
+    }
+}
+
+/// What the params of `initialize` say of links.
+fn links_in<A: Allocator>(params: &Value<'_, A>) -> Option<bool>
+    ensures { result ≡ option_and_then as_bool (spec.path (codes "capabilities" ∷ codes "textDocument" ∷ codes "publishDiagnostics"
+        ∷ codes "codeDescriptionSupport" ∷ []) (value_view params.now)) }
+{
+    params
+        .get("capabilities")?
+        .get("textDocument")?
+        .get("publishDiagnostics")?
+        .get("codeDescriptionSupport")?
+        .as_bool()
+}
+
+/// Whether the editor takes a link for the code of a diagnostic, by the params of `initialize`.
+pub fn takes_links<A: Allocator>(params: &Value<'_, A>) -> bool
+    ensures { result ≡ spec.takes_links (value_view params.now) }
+{
+    links_in(params).unwrap_or(false)
+}
+
+/// A setting that is a text. An inner `None` is one that is not there, an outer one a value of another type.
+fn text_setting<'a, A: Allocator>(value: Option<&Value<'a, A>>) -> Option<Option<&'a str>>
+    ensures { option_map (λ o. option_map (λ t. t.now) o) result ≡ spec.setting as_str (option_map (λ v. value_view v.now) value.entry) }
+{
+    match value {
+        Some(value) => Some(Some(value.as_str()?)),
+        None => Some(None),
+    }
+}
+
+/// The same of one that is a whole number.
+fn number_setting<A: Allocator>(value: Option<&Value<'_, A>>) -> Option<Option<u64>>
+    ensures { result ≡ spec.setting (λ n. option_and_then spec.whole_number (as_number n)) (option_map (λ v. value_view v.now) value.entry) }
+{
+    match value {
+        Some(value) => Some(Some(whole_number(value.as_number()?)?)),
+        None => Some(None),
+    }
+}
+
+/// The settings that an object has, or `None` where it is no object or one of them is of another type.
+pub fn settings_in<'a, A: Allocator>(value: &Value<'a, A>) -> Option<Settings<'a>>
+    ensures { option_map settings_value result ≡ spec.settings_in (value_view value.now) }
+{
+    if !matches!(value, Value::Object(_)) {
+        return None;
+    }
+    Some(Settings {
+        config: text_setting(value.get("config"))?,
+        config_file: text_setting(value.get("configFile"))?,
+        most: number_setting(value.get("maxProblems"))?,
+    })
+}
+
+/// What the params of `initialize` have for this program's settings.
+pub fn first_settings<'v, 'a, A: Allocator>(params: &'v Value<'a, A>) -> Option<&'v Value<'a, A>>
+    ensures { option_map (λ v. value_view v.now) result ≡ spec.first_settings (value_view params.now) }
+{
+    params.get("initializationOptions")?.get("zutkrad")
+}
+
+/// What the params of `workspace/didChangeConfiguration` have for this program's settings.
+pub fn changed_settings<'v, 'a, A: Allocator>(params: &'v Value<'a, A>) -> Option<&'v Value<'a, A>>
+    ensures { option_map (λ v. value_view v.now) result ≡ spec.changed_settings (value_view params.now) }
+{
+    params.get("settings")?.get("zutkrad")
+}

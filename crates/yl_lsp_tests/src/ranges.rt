@@ -1,0 +1,67 @@
+//! Ranges: words, indicators, blanks, and what lasts to the line's end.
+
+use crate::texts::opened;
+use std::alloc::Global;
+use yl_lsp::{Range, next_range};
+use yl_text::{RuleId, TextFault};
+use yl_units::{EditorPlace, Encoding, Reached};
+
+// Whether a rule's problems at these columns of the first line have ranges in UTF-16 from and to these units.
+fn are_ranges(
+    alloc: Global,
+    text: &str,
+    rule: RuleId,
+    rows: &[(u64, u64, u64)],
+) -> Result<bool, TextFault> {
+    let lines = opened(alloc, text)?;
+    let mut walk = Reached::start_of(0);
+    for (col, start, end) in rows {
+        let want = Range {
+            start: EditorPlace {
+                line: 0,
+                units: *start,
+            },
+            end: EditorPlace {
+                line: 0,
+                units: *end,
+            },
+        };
+        if next_range(Encoding::Utf16, &lines, &mut walk, rule, 0, *col) != want {
+            return Ok(false);
+        }
+    }
+    Ok(true)
+}
+
+#[test]
+fn words(rt: HostRuntime) {
+    let text = "key: [\u{1F600}a,b:c]  # d:\nnext";
+    let rows = [
+        (0, 0, 3),
+        (3, 3, 4),
+        (4, 4, 5),
+        (5, 5, 6),
+        (6, 6, 9),
+        (8, 9, 10),
+        (9, 10, 13),
+        (12, 13, 14),
+        (15, 16, 17),
+        (17, 18, 19),
+        (19, 20, 20),
+        (40, 20, 20),
+        (1, 1, 3),
+    ];
+    assert_eq!(rt;
+        are_ranges(rt.alloc(), text, RuleId::Colons, &rows),
+        Ok(true)
+    );
+}
+
+#[test]
+fn line_ends(rt: HostRuntime) {
+    let rows = [(1, 1, 4), (4, 4, 4), (0, 0, 4)];
+    assert_eq!(rt;
+        are_ranges(rt.alloc(), "a b \r\nc", RuleId::TrailingSpaces, &rows),
+        Ok(true)
+    );
+}

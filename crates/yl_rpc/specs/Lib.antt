@@ -1,0 +1,6 @@
+pub mod Answers
+pub mod Calls
+pub mod Surrogates
+pub mod Views
+pub use Rattle.json.specs.Json
+pub use Rattle.json.specs.Value
