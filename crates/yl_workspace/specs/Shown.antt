@@ -1,0 +1,18 @@
+-- Bridge: a session that holds the text of a document.
+use Rattle.std.specs.Prelude.{◌≡◌, ℕ, List, Result, Ok, Err}
+use Rattle.yl_text.specs.Lines.{text_of}
+use Rattle.yl_session.specs.State.{SessionValue, Shows}
+use Rattle.yl_workspace.specs.declared.cause.Cause.{Cause}
+use Rattle.yl_workspace.specs.Changes.{TextValue, Followed, Lost}
+use Rattle.yl_workspace.specs.Documents.{DocumentValue}
+
+-- the text of a session, or why there is none
+abbrev pub text_value : Result SessionValue Cause → TextValue
+text_value (Ok session) = Followed (text_of session.rows)
+text_value (Err cause) = Lost cause
+
+-- the document is followed, and the session shows its text
+pub record IsFollowed (d : DocumentValue) (s : SessionValue) : Type 0 where
+  pub text : List ℕ
+  pub followed : d.text ≡ Followed text
+  pub shown : Shows d.config text s
