@@ -6,7 +6,7 @@ use Rattle.yl_units.specs.declared.encoding.Encoding.TheVariants.{Utf16}
 use Rattle.yl_config.specs.declared.config.Config.{Config}
 use Rattle.yl_rpc.specs.declared.answers.Code.TheVariants.{ParseError, InvalidRequest, MethodNotFound, InvalidParams, InternalError, ServerNotInitialized}
 use Rattle.yl_rpc.specs.Calls.{CallValue, Request, Notification, Response, Invalid, IdValue, Null}
-use Rattle.yl_lsp.specs.declared.TheConstants.{MOST_PROBLEMS}
+use Rattle.yl_lsp.specs.declared.presentation.TheConstants.{MOST_PROBLEMS}
 use Rattle.yl_lsp.specs.declared.presentation.Presentation.{Presentation}
 use Rattle.yl_lsp.specs.Params.{OpenedValue, ChangeValue, encoding_in, takes_links, first_settings}
 use Rattle.yl_workspace.specs.declared.cause.Cause.TheVariants.{BadChange, Missed}
