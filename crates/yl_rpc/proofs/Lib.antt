@@ -1,3 +1,4 @@
+pub mod Deep
 pub mod Digits
 pub mod Mended
 pub mod Texts

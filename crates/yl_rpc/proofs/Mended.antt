@@ -69,3 +69,11 @@ digits_mended body new i p q inside e pair =
     ∙ ap (λ b. front ++ mended_from (Plain b) (drop 4 bytes)) pair
     ∙ append_assoc (take i body) digits (mended_from (Plain (begins_high bytes && has_partner bytes)) (drop 4 bytes))
     ∙ ap (λ l. take i body ++ l) (sym (four p bytes left))
+
+-- digits that stay
+pub digits_kept : (body : List ℕ) (i : ℕ) (p : Bool) → is_lone p (drop i body) ≡ false → body ≡ take i body ++ (digits_read p (drop i body) ++ drop (i + 4) body)
+digits_kept body i p e =
+    let bytes = drop i body in
+    sym (
+    ap (λ b. take i body ++ (cond b (codes "FFFD") (take 4 bytes) ++ drop (i + 4) body)) e ∙ ap (λ l. take i body ++ (take 4 bytes ++ l)) (sym (drop-drop 4 i body))
+    ∙ ap (λ l. take i body ++ l) (take-append-drop 4 bytes) ∙ take-append-drop i body)

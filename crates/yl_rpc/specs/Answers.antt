@@ -1,5 +1,5 @@
 -- Meaning: answers to requests (LSP 3.17, 'Base Protocol', 'Response Message'), as JSON with no space in it.
-use Rattle.std.specs.Prelude.{ℕ, List, codes}
+use Rattle.std.specs.Prelude.{ℕ, ◌++◌, List, codes}
 use Rattle.json.specs.Json.{Json, null, number, string, object, no_members, member}
 use Rattle.json.specs.Print.{print}
 use Rattle.json.specs.Tree.{json_tokens}
@@ -27,6 +27,10 @@ code_text ServerNotInitialized = codes "-32002"
 -- the answer to a request that was met
 abbrev pub answer : IdValue → Json → Json
 answer id result = object (member (codes "id") (id_json id) (member (codes "jsonrpc") (string (codes "2.0")) (member (codes "result") result no_members)))
+
+-- the same, with the result as it is written
+abbrev pub answer_text : IdValue → (result : List ℕ) → List ℕ
+answer_text id result = codes "{\"id\":" ++ (json_text (id_json id) ++ (codes ",\"jsonrpc\":\"2.0\",\"result\":" ++ (result ++ codes "}")))
 
 -- the answer to one that was not
 abbrev pub failure : IdValue → Code → (message : List ℕ) → Json

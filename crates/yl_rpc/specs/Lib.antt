@@ -1,5 +1,7 @@
 pub mod Answers
+pub mod Bodies
 pub mod Calls
+pub mod Depth
 pub mod Surrogates
 pub mod Views
 pub use Rattle.json.specs.Json

@@ -2,7 +2,7 @@
 ghost use Rattle.std.specs.Prelude.{◌≡◌};
 
 use crate::id::Id;
-use crate::parts::{Joined, Plain, Quoted};
+use crate::parts::{Joined, Lent, Plain, Quoted};
 use yl_devices::WriteFault;
 use yl_frames::{Body, Pieces};
 
@@ -32,6 +32,42 @@ impl Code {
             Code::InternalError => "-32603",
             Code::ServerNotInitialized => "-32002",
         }
+    }
+}
+
+/// The answer to a request that is met, with its result as JSON.
+#[derive(Drop)]
+pub struct Answer<'a, R> {
+    id: Id<'a>,
+    outcome: R,
+}
+
+impl<'a, R: Body> Answer<'a, R> {
+    ghost use Rattle.json.specs.Json.{Json};
+    ghost use Rattle.yl_rpc.specs.Answers.{answer, answer_text, json_text};
+    ghost use Rattle.yl_rpc.specs.Views.{id_view};
+
+    /// The answer with this result.
+    pub fn new(id: Id<'a>, outcome: R) -> Answer<'a, R>
+        ensures made { (result.id ≡ id.entry) × (result.outcome ≡ outcome) }
+        ensures json { (j : Json) → R.text result.outcome ≡ json_text j
+            → answer_text (id_view result.id) (R.text result.outcome) ≡ json_text (answer (id_view result.id) j) }
+    {
+        Answer { id, outcome }
+    }
+}
+
+impl<R: Body> Body for Answer<'_, R> {
+    ghost use Rattle.yl_rpc.specs.Answers.{answer_text};
+    ghost use Rattle.yl_rpc.specs.Views.{id_view};
+
+    ghost text = { λ a. answer_text (id_view a.id) (R.text a.outcome) };
+
+    fn put<P: Pieces>(&self, to: &mut P) -> Result<(), WriteFault> {
+        let outcome = Joined(Lent(&self.outcome), Plain("}"));
+        let rest = Joined(Plain(",\"jsonrpc\":\"2.0\",\"result\":"), outcome);
+        let all = Joined(Plain("{\"id\":"), Joined(self.id, rest));
+        all.put(to)
     }
 }
 

@@ -4,12 +4,13 @@
 mod answers;
 mod body;
 mod call;
+mod depth;
 mod id;
 mod parts;
 mod surrogates;
 
-pub use answers::{Code, Failure};
+pub use answers::{Answer, Code, Failure};
 pub use body::{BodyFault, read_body};
 pub use call::{Call, call_of};
 pub use id::Id;
-pub use parts::{Joined, Plain, Quoted};
+pub use parts::{Joined, Lent, Plain, Quoted};

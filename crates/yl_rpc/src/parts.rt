@@ -42,3 +42,15 @@ impl Body for Quoted<'_> {
         put_text(to, self.0)
     }
 }
+
+/// A body that is lent.
+#[derive(Drop)]
+pub struct Lent<'a, B>(pub &'a B);
+
+impl<B: Body> Body for Lent<'_, B> {
+    ghost text = { λ l. B.text l.0.now };
+
+    fn put<P: Pieces>(&self, to: &mut P) -> Result<(), WriteFault> {
+        self.0.put(to)
+    }
+}

@@ -3,6 +3,13 @@
 
 mod laws;
 mod phase;
+mod serving;
+mod server;
+mod settings;
+mod words;
 
 pub use laws::{documents_are_shown, one_answer_to_a_request};
 pub use phase::Phase;
+pub use server::Server;
+pub use serving::{ServeFault, serve};
+pub use settings::{ConfigFiles, Found};

@@ -126,6 +126,14 @@ impl<S: LineStore> Session<S> {
         text_in(alloc, &self.store)
     }
 
+    /// The lines of the text.
+    pub fn lines(&self) -> &S
+        ensures rows { S.rows result.now ≡ self.now.rows }
+        ensures lines { AreLines self.now.rows }
+    {
+        &self.store
+    }
+
     /// A line without its break, counted from 0.
     pub fn line(&self, i: usize) -> &str
         requires { i < length self.now.rows }
