@@ -11,7 +11,9 @@ use Rattle.yl_server.specs.declared.phase.Phase.TheVariants.{Waiting, Running, S
 use Rattle.yl_server.specs.Events.{Came, Read, NoJson, Dropped, Event, asked_id, asked_ids, listed}
 use Rattle.yl_server.specs.Messages.{MessageValue, Published, Told, Shown, answered_id, answered_ids}
 use Rattle.yl_server.specs.Requests.{RequestValue, Initialize, Shutdown, Unknown, request_of, object_of, NoticeValue, Opens, Changes, Spoils, Closes, Sets, Exits, Passed, notice_of}
-use Rattle.yl_server.specs.Settings.{SettingValue, Set, Faulty, NoMemory, setting_of}
+use Rattle.yl_server.specs.declared.settings.Setting.{Setting}
+use Rattle.yl_server.specs.declared.settings.Setting.TheVariants.{Set, Faulty, NoMemory}
+use Rattle.yl_server.specs.Settings.{setting_of}
 use Rattle.yl_server.specs.Machine.{ServerValue, answered, initialized_by, initialized_with, memory_words, noticed, noticed_running, quiet, sent, set_by, set_with, step, stepped, told_of, told_with, with_documents, with_most}
 
 answered_append : (xs ys : List MessageValue) → answered_ids (xs ++ ys) ≡ answered_ids xs ++ answered_ids ys
@@ -24,9 +26,9 @@ none_answered : (how : Presentation) (ds : List DocumentValue) → answered_ids 
 none_answered how [] = refl
 none_answered how (d ∷ ds) = none_answered how ds
 
-by_setting : (e : Event) (id : IdValue) (j : Json) (x : SettingValue) (s : ServerValue) → answered_ids (initialized_by e id j x s).1 ≡ id ∷ []
+by_setting : (e : Event) (id : IdValue) (j : Json) (x : Setting) (s : ServerValue) → answered_ids (initialized_by e id j x s).1 ≡ id ∷ []
 by_setting e id j (Set config most) s = refl
-by_setting e id j (Faulty words) s = refl
+by_setting e id j (Faulty fault) s = refl
 by_setting e id j NoMemory s = refl
 
 by_params : (e : Event) (id : IdValue) (params : Option Json) (s : ServerValue) → answered_ids (initialized_with e id params s).1 ≡ id ∷ []
@@ -51,10 +53,10 @@ if_entered : (uri : List ℕ) (ds : List DocumentValue) (s : ServerValue) (b : B
 if_entered uri ds s true = refl
 if_entered uri ds s false = refl
 
-of_setting : (e : Event) (x : SettingValue) (s : ServerValue) → answered_ids (set_by e x s).1 ≡ []
+of_setting : (e : Event) (x : Setting) (s : ServerValue) → answered_ids (set_by e x s).1 ≡ []
 of_setting e (Set None most) s = none_answered (with_most most s.how) s.documents
 of_setting e (Set (Some c) most) s = none_answered (with_most most s.how) (configured c e.granted s.documents)
-of_setting e (Faulty words) s = refl
+of_setting e (Faulty fault) s = refl
 of_setting e NoMemory s = refl
 
 of_settings : (e : Event) (settings : Option Json) (s : ServerValue) → answered_ids (set_with e settings s).1 ≡ []

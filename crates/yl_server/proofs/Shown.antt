@@ -13,7 +13,9 @@ use Rattle.yl_server.specs.declared.phase.Phase.TheVariants.{Waiting, Running, S
 use Rattle.yl_server.specs.Events.{Came, Read, NoJson, Dropped, Event}
 use Rattle.yl_server.specs.Messages.{ContentValue, Shown, Cleared, MessageValue, Published, Told, content_in, last_content, later}
 use Rattle.yl_server.specs.Requests.{RequestValue, Initialize, Shutdown, Unknown, request_of, object_of, NoticeValue, Opens, Changes, Spoils, Closes, Sets, Exits, Passed, notice_of}
-use Rattle.yl_server.specs.Settings.{SettingValue, Set, Faulty, NoMemory, setting_of}
+use Rattle.yl_server.specs.declared.settings.Setting.{Setting}
+use Rattle.yl_server.specs.declared.settings.Setting.TheVariants.{Set, Faulty, NoMemory}
+use Rattle.yl_server.specs.Settings.{setting_of}
 use Rattle.yl_server.specs.Machine.{ServerValue, Stepped, after, answered, initialized, initialized_by, initialized_with, memory_words, missed, noticed, noticed_running, quiet, sent, set_by, set_with, started, step, stepped, told_of, told_of_all, told_with, with_documents, with_setting}
 use Rattle.yl_server.proofs.Documents.{AreDistinct, AreSame, KeepsOthers, distinct_closed, distinct_opened, distinct_same, distinct_with, keeps_changed, keeps_lost, none_same, others_closed, others_opened, others_with, same_all, same_back, same_configured, same_lost, same_uri}
 
@@ -139,11 +141,11 @@ phase_with_setting : (granted : List Bool) (config : Option Config) (most : Opti
 phase_with_setting granted None most s = refl
 phase_with_setting granted (Some c) most s = refl
 
-shown_set : (e : Event) (x : SettingValue) (s : ServerValue) (told : List MessageValue) → s.phase ≡ Running → AllShown s told → AllShown (set_by e x s).0 (told ++ (set_by e x s).1)
+shown_set : (e : Event) (x : Setting) (s : ServerValue) (told : List MessageValue) → s.phase ≡ Running → AllShown s told → AllShown (set_by e x s).0 (told ++ (set_by e x s).1)
 shown_set e (Set config most) s told run g =
     let t = with_setting e.granted config most s in
     all_told s t told (told_of_all t) (not_waiting t.phase (phase_with_setting e.granted config most s ∙ run)) (same_with_setting e.granted config most s) (λ uri. refl) g
-shown_set e (Faulty words) s told run g = untold s told _ g (λ uri. refl)
+shown_set e (Faulty fault) s told run g = untold s told _ g (λ uri. refl)
 shown_set e NoMemory s told run g = untold s told _ g (λ uri. refl)
 
 shown_set_with : (e : Event) (settings : Option Json) (s : ServerValue) (told : List MessageValue) → s.phase ≡ Running → AllShown s told → AllShown (set_with e settings s).0 (told ++ (set_with e settings s).1)
@@ -166,11 +168,11 @@ none_set : (granted : List Bool) (config : Option Config) (most : Option ℕ) (s
 none_set granted None most s e = e
 none_set granted (Some c) most s e = ap (configured c granted) e
 
-shown_initialized : (e : Event) (id : IdValue) (j : Json) (x : SettingValue) (s : ServerValue) (told : List MessageValue) → s.phase ≡ Waiting → AllShown s told
+shown_initialized : (e : Event) (id : IdValue) (j : Json) (x : Setting) (s : ServerValue) (told : List MessageValue) → s.phase ≡ Waiting → AllShown s told
     → AllShown (initialized_by e id j x s).0 (told ++ (initialized_by e id j x s).1)
 shown_initialized e id j (Set config most) s told w g =
     none_open s (with_setting e.granted config most (initialized j s)) told _ (g.waiting w) (none_set e.granted config most (initialized j s) (g.waiting w)) (λ uri. refl) g
-shown_initialized e id j (Faulty words) s told w g = none_open s (initialized j s) told _ (g.waiting w) (g.waiting w) (λ uri. refl) g
+shown_initialized e id j (Faulty fault) s told w g = none_open s (initialized j s) told _ (g.waiting w) (g.waiting w) (λ uri. refl) g
 shown_initialized e id j NoMemory s told w g = untold s told _ g (λ uri. refl)
 
 shown_initialized_with : (e : Event) (id : IdValue) (params : Option Json) (s : ServerValue) (told : List MessageValue) → s.phase ≡ Waiting → AllShown s told

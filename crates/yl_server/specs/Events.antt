@@ -1,8 +1,7 @@
 -- Meaning: what comes to a server.
-use Rattle.std.specs.Prelude.{Bool, List, [], ◌∷◌, ◌++◌, Option, Some, None, Result}
-use Rattle.yl_config.specs.declared.config.Config.{Config}
-use Rattle.yl_config.specs.declared.fault.ConfigFault.{ConfigFault}
+use Rattle.std.specs.Prelude.{Bool, List, [], ◌∷◌, ◌++◌, Option, Some, None}
 use Rattle.yl_rpc.specs.Calls.{CallValue, Request, Notification, Response, Invalid, IdValue, Null}
+use Rattle.yl_server.specs.declared.settings.Found.{Found}
 
 -- the body of a message
 pub data Came : Type 0 where
@@ -10,17 +9,12 @@ pub data Came : Type 0 where
   NoJson : Came  -- it is no JSON, or nests too deep
   Dropped : Came  -- there was no memory to read it
 
--- what a configuration was found to be
-pub data FoundValue : Type 0 where
-  Said : Result Config ConfigFault → FoundValue
-  Unreadable : FoundValue  -- its file could not be read
-
 -- a body, for which pieces of its work memory was granted, in their order, and what the configuration was found to be that it asks for, if it
 -- asks for one
 pub record Event : Type 0 where
   pub came : Came
   pub granted : List Bool
-  pub found : FoundValue
+  pub found : Found
 
 -- the id that the answer to a body has: its own for a request, and for a message that is none the one that it has. Who sent a body that
 -- was not read is not known

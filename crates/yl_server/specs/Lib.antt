@@ -1,6 +1,15 @@
+pub mod Bodies
 pub mod Events
 pub mod Laws
 pub mod Machine
 pub mod Messages
+pub mod Named
 pub mod Requests
+pub mod Serving
 pub mod Settings
+pub mod SoFar
+pub mod Steps
+pub mod Turns
+pub mod Written
+pub use Rattle.yl_lint.specs.Computed
+pub use Rattle.yl_lint.specs.Laws as report_laws

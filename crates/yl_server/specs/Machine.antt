@@ -16,7 +16,9 @@ use Rattle.yl_server.specs.declared.phase.Phase.TheVariants.{Waiting, Running, S
 use Rattle.yl_server.specs.Events.{Came, Read, NoJson, Dropped, Event}
 use Rattle.yl_server.specs.Messages.{MessageValue, Initialized, Done, Refused, Published, Told, Shown, Cleared}
 use Rattle.yl_server.specs.Requests.{RequestValue, Initialize, Shutdown, Unknown, request_of, object_of, NoticeValue, Opens, Changes, Spoils, Closes, Sets, Exits, Passed, notice_of}
-use Rattle.yl_server.specs.Settings.{SettingValue, Set, Faulty, NoMemory, setting_of}
+use Rattle.yl_server.specs.declared.settings.Setting.{Setting}
+use Rattle.yl_server.specs.declared.settings.Setting.TheVariants.{Set, Faulty, NoMemory}
+use Rattle.yl_server.specs.Settings.{setting_of, setting_words}
 
 pub record ServerValue : Type 0 where
   pub phase : Phase
@@ -97,6 +99,9 @@ opened_by e o s =
 abbrev pub missed : (answer : MessageValue) → ServerValue → Stepped
 missed answer s = let new = with_documents (all_lost Missed s.documents) s in (new, answer ∷ told_of_all new)
 
+abbrev pub missed_for_memory : ServerValue → Stepped
+missed_for_memory = missed (Refused Null InternalError memory_words)
+
 -- ---- settings
 
 abbrev pub with_most : Option ℕ → Presentation → Presentation
@@ -106,9 +111,9 @@ abbrev pub with_setting : List Bool → (config : Option Config) → (most : Opt
 with_setting granted None most s = record s { how = with_most most s.how }
 with_setting granted (Some c) most s = record s { how = with_most most s.how; config = c; documents = configured c granted s.documents }
 
-abbrev pub set_by : Event → SettingValue → ServerValue → Stepped
+abbrev pub set_by : Event → Setting → ServerValue → Stepped
 set_by e (Set config most) s = let new = with_setting e.granted config most s in (new, told_of_all new)
-set_by e (Faulty words) s = (s, Told words ∷ [])
+set_by e (Faulty fault) s = (s, Told (setting_words fault) ∷ [])
 set_by e NoMemory s = (s, Told memory_words ∷ [])
 
 -- other settings than those of this program are passed over
@@ -122,9 +127,9 @@ abbrev pub initialized : Json → ServerValue → ServerValue
 initialized j s = record s { phase = Running; how = record { encoding = encoding_in j; links = takes_links j; most = s.how.most } }
 
 -- no document is open before `initialize`
-abbrev pub initialized_by : Event → (id : IdValue) → Json → SettingValue → ServerValue → Stepped
+abbrev pub initialized_by : Event → (id : IdValue) → Json → Setting → ServerValue → Stepped
 initialized_by e id j (Set config most) s = (with_setting e.granted config most (initialized j s), Initialized id (encoding_in j) ∷ [])
-initialized_by e id j (Faulty words) s = (initialized j s, Initialized id (encoding_in j) ∷ Told words ∷ [])
+initialized_by e id j (Faulty fault) s = (initialized j s, Initialized id (encoding_in j) ∷ Told (setting_words fault) ∷ [])
 initialized_by e id j NoMemory s = (s, Refused id InternalError memory_words ∷ [])
 
 abbrev pub initialized_with : Event → (id : IdValue) → Option Json → ServerValue → Stepped
@@ -173,7 +178,7 @@ called e (Invalid id) s = (s, Refused id InvalidRequest no_request_words ∷ [])
 abbrev pub stepped : Event → Came → ServerValue → Stepped
 stepped e (Read call) s = called e call s
 stepped e NoJson s = missed (Refused Null ParseError no_json_words) s
-stepped e Dropped s = missed (Refused Null InternalError memory_words) s
+stepped e Dropped s = missed_for_memory s
 
 -- an event makes this of a server, and this is sent
 unfoldable pub step : Event → ServerValue → Stepped

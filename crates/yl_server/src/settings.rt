@@ -1,4 +1,13 @@
 //! What the settings of an editor set.
+ghost use Rattle.std.specs.Prelude.{◌≡◌, ◌×◌};
+ghost use Rattle.std.specs.Option.{option_map};
+ghost use Rattle.json.specs.Value.{value_view};
+ghost use Rattle.yl_lsp.specs.Read.{settings_value};
+ghost use Rattle.yl_server.specs.Bodies.{IsFound, text_set};
+ghost use Rattle.yl_server.specs.Named.{IsNamed};
+ghost use Rattle.yl_server.specs.Settings.{setting_words, setting_found};
+ghost use Rattle.yl_server.specs.Settings as spec;
+
 use json::Value;
 use std::alloc::Allocator;
 use yl_config::{Config, ConfigFault};
@@ -11,6 +20,8 @@ pub enum Found {
     Said(Result<Config, ConfigFault>),
     /// Its file could not be read.
     Unreadable,
+    /// There was no memory to read its file.
+    NoMemory,
 }
 
 /// Where the files of configurations are.
@@ -32,7 +43,9 @@ pub(crate) enum SettingFault {
 
 impl SettingFault {
     /// What the user is told.
-    pub(crate) fn words(self) -> &'static str {
+    pub(crate) fn words(self) -> &'static str
+        ensures { result.now ≡ setting_words self }
+    {
         match self {
             SettingFault::Shape => "a setting is of another type than it has",
             SettingFault::Unreadable => "the file of the configuration cannot be read",
@@ -42,7 +55,9 @@ impl SettingFault {
 }
 
 /// What the user is told of a configuration that is refused.
-fn refused_words(fault: ConfigFault) -> &'static str {
+fn refused_words(fault: ConfigFault) -> &'static str
+    ensures { result.now ≡ setting_words (SettingFault.Refused fault) }
+{
     match fault {
         ConfigFault::NotUtf8 => "the configuration is refused: NotUtf8",
         ConfigFault::Syntax(_) => "the configuration is refused: Syntax",
@@ -74,7 +89,9 @@ fn found_by<A: Allocator + Copy, F: ConfigFiles>(
     alloc: A,
     settings: Settings<'_>,
     files: &mut F,
-) -> Option<Found> {
+) -> Option<Found>
+    ensures { IsNamed (settings_value settings.entry) result }
+{
     if let Some(text) = settings.config {
         return Some(Found::Said(Config::read(alloc, text.as_bytes())));
     }
@@ -85,12 +102,15 @@ fn found_by<A: Allocator + Copy, F: ConfigFiles>(
 }
 
 /// What is set where a configuration was found to be this.
-fn setting_found(found: Found, most: Option<u64>) -> Setting {
+fn setting_found(found: Found, most: Option<u64>) -> Setting
+    ensures { result ≡ setting_found found most }
+{
     match found {
         Found::Said(Ok(config)) => Setting::Set(Some(config), most),
         Found::Said(Err(ConfigFault::Memory)) => Setting::NoMemory,
         Found::Said(Err(fault)) => Setting::Faulty(SettingFault::Refused(fault)),
         Found::Unreadable => Setting::Faulty(SettingFault::Unreadable),
+        Found::NoMemory => Setting::NoMemory,
     }
 }
 
@@ -99,7 +119,10 @@ pub(crate) fn setting_of<A: Allocator + Copy, F: ConfigFiles>(
     alloc: A,
     settings: Option<&Value<'_, A>>,
     files: &mut F,
-) -> Setting {
+) -> Setting
+    ensures { (found : Found) × IsFound (text_set (option_map (λ v. value_view v.now) settings.entry)) found
+        × (result ≡ spec.setting_of found (option_map (λ v. value_view v.now) settings.entry)) }
+{
     let Some(settings) = settings else {
         return Setting::Set(None, None);
     };
