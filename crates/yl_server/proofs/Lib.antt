@@ -1,3 +1,7 @@
+mod Absent
 mod Answered
 mod Documents
+mod Lost
+mod Sending
+mod Served
 mod Shown

@@ -1,5 +1,5 @@
 -- Meaning: a run of a server: which messages it reads, and what it sends.
-use Rattle.std.specs.Prelude.{◌≡◌, ℕ, ◌-◌, ◌^◌, ◌<◌, ◌⊎◌, List, [], ◌∷◌, length, Option, Some, None, IfSome, IsSomeAnd}
+use Rattle.std.specs.Prelude.{◌≡◌, ℕ, ◌-◌, ◌^◌, ◌<◌, ◌⊎◌, List, [], ◌∷◌, ◌++◌, length, Option, Some, None, IfSome, IsSomeAnd}
 use Rattle.std.specs.Io.KnownBytes.{Appends}
 use Rattle.yl_devices.specs.Written.{AppendsFront}
 use Rattle.yl_config.specs.declared.config.Config.{Config}
@@ -65,11 +65,15 @@ pub record HasServed (c : Config) (d : Devices) : Type 0 where
 abbrev pub IsLast : Option (List ℕ) → Type 0
 IsLast place = IfSome place (λ rest. next_body rest ≡ End)
 
+-- the next message has this body
+abbrev pub IsNext : Option (List ℕ) → (body : List ℕ) → Type 0
+IsNext place body = IfSome place (λ bytes. (rest : List ℕ) × (next_body bytes ≡ Body body rest))
+
 -- the next message asks for the end, with this status
 pub record Exits (place : Option (List ℕ)) (s : ServerValue) (status : ℕ) : Type 0 where
   pub body : List ℕ
   pub event : Event
-  pub next : IfSome place (λ bytes. (rest : List ℕ) × (next_body bytes ≡ Body body rest))
+  pub next : IsNext place body
   pub is : IsEvent body event s.phase
   pub exits : exit_of event.came s.phase ≡ Some status
 
@@ -78,7 +82,7 @@ pub record IsServed (c : Config) (d : Devices) (status : ℕ) : Type 0 where
   pub run : HasServed c d
   pub ended : (IsLast run.place × (status ≡ 1)) ⊎ Exits run.place (after run.events (started c)) status
 
--- the messages before a place were read, and what is written is a beginning of what the machine sends
+-- the messages before a place were read, and all that the machine sends for them is written, and a beginning of what it sends for the next
 pub record HasBegun (c : Config) (d : Devices) : Type 0 where
   pub reporters : Reporters
   pub bodies : List (List ℕ)
@@ -86,10 +90,14 @@ pub record HasBegun (c : Config) (d : Devices) : Type 0 where
   pub place : Option (List ℕ)
   pub read : WereTaken d.given place bodies
   pub are : AreEvents bodies events (started c)
-  pub begun : AppendsFront d.before d.now (written (tells reporters) (sent events (started c)))
+  pub body : List ℕ
+  pub event : Event
+  pub next : IsNext place body
+  pub is : IsEvent body event (after events (started c)).phase
+  pub begun : AppendsFront d.before d.now (written (tells reporters) (sent events (started c) ++ (step event (after events (started c))).1))
 
 -- why a run may end early: a device failed, whose failures rose; no message comes next, or as many were read as are counted; or a message has
--- more bytes than a header can say. What was read before is answered, and of what is not sent a beginning is out
+-- more bytes than a header can say. All that was read before is answered
 abbrev pub IsServeFault : Config → Failures → Devices → ServeFault → Type 0
 IsServeFault c n d fault.Read = (n.reads_before < n.reads_after) × HasServed c d
 IsServeFault c n d fault.Header = (run : HasServed c d) × (IfSome run.place (λ rest. next_body rest ≡ Bad) ⊎ (length run.events ≡ 2 ^ 64 - 1))

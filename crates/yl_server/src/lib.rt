@@ -8,7 +8,7 @@ mod server;
 mod settings;
 mod words;
 
-pub use laws::{documents_are_shown, one_answer_to_a_request};
+pub use laws::{documents_are_shown, one_answer_to_a_request, texts_are_lost_for_a_cause};
 pub use phase::Phase;
 pub use server::Server;
 pub use serving::{ServeFault, serve};

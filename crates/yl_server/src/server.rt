@@ -1,5 +1,5 @@
 //! A server, and what each message makes of it.
-ghost use Rattle.std.specs.Prelude.{◌≡◌, ◌×◌, ◌-◌, ◌^◌, ◌<◌, [], ◌∷◌, Bool, List, map, Option, OnOk, IfErr, IfOk, option_and_then};
+ghost use Rattle.std.specs.Prelude.{◌≡◌, ◌-◌, ◌^◌, ◌<◌, [], ◌∷◌, Bool, List, map, Option, OnOk, IfErr, IfOk, option_and_then};
 ghost use Rattle.std.specs.Option.{option_map, option_map_or};
 ghost use Rattle.json.specs.Json.{Json};
 ghost use Rattle.json.specs.Value.{value_view};
@@ -374,11 +374,12 @@ impl<S: LineStore> Server<S> {
         let Some(opened) = opened_in(params) else {
             return self.spoil(params, out);
         };
-        let entered = self.workspace.open(self.config, opened);
+        // One that could not be entered is not open after this, and that is told.
+        drop(self.workspace.open(self.config, opened));
         self.tell_of(opened.uri, out)?;
-        match entered {
-            Ok(()) => Ok(()),
-            Err(AllocError) => tell(MEMORY, out),
+        match self.workspace.document(opened.uri) {
+            Some(_) => Ok(()),
+            None => tell(MEMORY, out),
         }
     }
 

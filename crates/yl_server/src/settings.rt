@@ -1,5 +1,5 @@
 //! What the settings of an editor set.
-ghost use Rattle.std.specs.Prelude.{◌≡◌, ◌×◌};
+ghost use Rattle.std.specs.Prelude.{◌≡◌};
 ghost use Rattle.std.specs.Option.{option_map};
 ghost use Rattle.json.specs.Value.{value_view};
 ghost use Rattle.yl_lsp.specs.Read.{settings_value};
