@@ -27,9 +27,12 @@ tail_text r severity =
 abbrev pub diagnostic_text : DiagnosticValue → List ℕ
 diagnostic_text d = head_text d.code ++ (quoted d.message ++ tail_text d.range d.severity)
 
--- a diagnostic of a list, with a comma before it unless it is the first
+-- what stands before a diagnostic of a list
+abbrev pub separator : Bool → List ℕ
+separator is_first = if is_first then [] else codes ","
+
 abbrev pub next_text : Bool → DiagnosticValue → List ℕ
-next_text is_first d = (if is_first then [] else codes ",") ++ diagnostic_text d
+next_text is_first d = separator is_first ++ diagnostic_text d
 
 -- those of a list, of which this is the beginning or not
 abbrev pub diagnostics_text : Bool → List DiagnosticValue → List ℕ
