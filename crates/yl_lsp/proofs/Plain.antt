@@ -12,6 +12,7 @@ use Rattle.yl_text.specs.declared.finding.RuleId.TheVariants.{Anchors, Braces, B
 use Rattle.yl_text.specs.Finding.{rule_name}
 use Rattle.yl_frames.specs.Escapes.{is_special}
 use Rattle.yl_frames.proofs.Escaped.{escape_plain}
+use Rattle.yl_lsp.specs.Diagnostics.{rule_link}
 
 pub name_plain : (rule : RuleId) → escape (rule_name rule) ≡ rule_name rule
 unfolding escape_byte
@@ -34,6 +35,11 @@ name_plain QuotedStrings = refl
 name_plain Syntax = refl
 name_plain TrailingSpaces = refl
 name_plain Truthy = refl
+
+-- where yamllint's documentation describes a rule
+pub link_plain : (rule : RuleId) → escape (rule_link rule) ≡ rule_link rule
+unfolding escape_byte
+link_plain rule = ap (λ l. codes "https://yamllint.readthedocs.io/en/stable/rules.html#" ++ l) (name_plain rule)
 
 digit_plain : (c : ℕ) → digit_value c < 10 → is_special c ≡ false
 digit_plain c h = let d = digit_from_value c h in grind (arith, nat_tests)

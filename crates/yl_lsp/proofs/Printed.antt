@@ -34,8 +34,9 @@ keyed : (k : List ℕ) (xs ys : List ℕ) → xs ≡ ys → (quoted k ++ (58 ∷
 keyed k xs ys e = append_assoc (quoted k) (58 ∷ []) xs ∙ ap (λ l. quoted k ++ (58 ∷ l)) e
 
 mutual
-  json_printed : (after : Bool) (j : Json) (ts : List Token) → print_from after (json_tokens j ++ ts) ≡ comma after ++ json_then j (print_from true ts)
   unfolding print_from
+
+  json_printed : (after : Bool) (j : Json) (ts : List Token) → print_from after (json_tokens j ++ ts) ≡ comma after ++ json_then j (print_from true ts)
   json_printed true null ts = refl
   json_printed false null ts = refl
   json_printed true (boolean true) ts = refl
@@ -52,7 +53,6 @@ mutual
   json_printed false (object ms) ts = ap (λ l. 123 ∷ l) (members_printed false ms ts)
 
   items_printed : (after : Bool) (js : Items) (ts : List Token) → print_from after (items_tokens js ++ ts) ≡ items_then after js (print_from true ts)
-  unfolding print_from
   items_printed true no_items ts = refl
   items_printed false no_items ts = refl
   items_printed after (item j js) ts =
@@ -60,7 +60,6 @@ mutual
       ∙ ap (λ l. comma after ++ json_then j l) (items_printed true js ts)
 
   members_printed : (after : Bool) (ms : Members) (ts : List Token) → print_from after (members_tokens ms ++ ts) ≡ members_then after ms (print_from true ts)
-  unfolding print_from
   members_printed true no_members ts = refl
   members_printed false no_members ts = refl
   members_printed true (member k j ms) ts =

@@ -1,8 +1,10 @@
 -- Messages as they are put, and as they are printed.
 use Rattle.std.proofs.Common.{◌≡◌, ℕ, ◌^◌, ◌<◌, ◌==◌, Bool, true, false, not, cond, List, [], ◌∷◌, ◌++◌, map, codes, decimal, Option, Some, None, refl, sym, ap, ◌∙◌, append-nil, append_assoc}
 use Rattle.json.specs.Json.{Json, number, string, Members, no_members, member, item}
-use Rattle.json.specs.Print.{print, quoted, escape_byte}
+use Rattle.json.specs.Print.{print, quoted, escape, escape_byte}
 use Rattle.json.specs.Tree.{json_tokens}
+use Rattle.yl_text.specs.declared.finding.RuleId.{RuleId}
+use Rattle.yl_text.specs.Finding.{rule_name}
 use Rattle.yl_units.specs.declared.encoding.Encoding.{Encoding}
 use Rattle.yl_units.specs.declared.encoding.Encoding.TheVariants.{Utf8, Utf16, Utf32}
 use Rattle.yl_lsp.specs.declared.range.Range.{Range}
@@ -10,11 +12,11 @@ use Rattle.yl_lsp.specs.declared.diagnostic.Code.{Code}
 use Rattle.yl_lsp.specs.declared.diagnostic.Code.TheVariants.{Rule, Linked, Lost, More}
 use Rattle.yl_lsp.specs.declared.diagnostic.Severity.{Severity}
 use Rattle.yl_lsp.specs.declared.diagnostic.Severity.TheVariants.{Information}
-use Rattle.yl_lsp.specs.Diagnostics.{DiagnosticValue, with_code, range_json, severity_digit, diagnostic_json}
+use Rattle.yl_lsp.specs.Diagnostics.{DiagnosticValue, rule_link, with_code, range_json, severity_digit, diagnostic_json}
 use Rattle.yl_lsp.specs.Messages.{PublicationValue, items_of, version_members, publication, error_message, encoding_name, initialize_result}
 use Rattle.yl_lsp.specs.Reports.{text_start, more_diagnostics}
 use Rattle.yl_lsp.specs.Texts.{head_text, tail_text, diagnostic_text, separator, next_text, diagnostics_text, address_text, publication_text}
-use Rattle.yl_lsp.proofs.Plain.{name_plain, hidden_plain}
+use Rattle.yl_lsp.proofs.Plain.{name_plain, link_plain, hidden_plain}
 use Rattle.yl_lsp.proofs.Printed.{json_then, items_then, members_then, printed}
 
 -- ---- a diagnostic
@@ -23,11 +25,32 @@ use Rattle.yl_lsp.proofs.Printed.{json_then, items_then, members_then, printed}
 abbrev tail_members : Range → Severity → Members
 tail_members range severity = member (codes "range") (range_json range) (member (codes "severity") (number (severity_digit severity)) (member (codes "source") (string (codes "zutkrad")) no_members))
 
+-- a rule's name and its link in their quotes, before what follows
+linked_pieces : (name more : List ℕ)
+    → codes "{\"code\":" ++ ((34 ∷ (name ++ 34 ∷ [])) ++ (codes ",\"codeDescription\":{\"href\":"
+    ++ ((34 ∷ ((codes "https://yamllint.readthedocs.io/en/stable/rules.html#" ++ name) ++ 34 ∷ [])) ++ (codes "},\"message\":" ++ more))))
+    ≡ (codes "{\"code\":\"" ++ (name ++ (codes "\",\"codeDescription\":{\"href\":\"https://yamllint.readthedocs.io/en/stable/rules.html#" ++ (name ++ codes "\"},\"message\":")))) ++ more
+linked_pieces name more = simp append_assoc
+
+-- the same as members
+linked_members : (rule : RuleId) (message : List ℕ) (others : Members) (rest : List ℕ)
+    → 123 ∷ members_then false (with_code (Linked rule) (member (codes "message") (string message) others)) rest
+    ≡ codes "{\"code\":" ++ (quoted (rule_name rule) ++ (codes ",\"codeDescription\":{\"href\":" ++ (quoted (rule_link rule) ++ (codes "},\"message\":" ++ (quoted message ++ members_then true others rest)))))
+unfolding escape_byte
+linked_members rule message others rest = refl
+
 head_printed : (code : Code) (message : List ℕ) (others : Members) (rest : List ℕ)
     → 123 ∷ members_then false (with_code code (member (codes "message") (string message) others)) rest ≡ head_text code ++ (quoted message ++ members_then true others rest)
 unfolding escape_byte
 head_printed (Rule rule) message others rest = simp (name_plain rule, append_assoc)
-head_printed (Linked rule) message others rest = simp (name_plain rule, append_assoc)
+head_printed (Linked rule) message others rest =
+    let more = quoted message ++ members_then true others rest in
+    let in_quotes : List ℕ → List ℕ = λ l. 34 ∷ (l ++ 34 ∷ []) in
+    let pieces : List ℕ → List ℕ → List ℕ =
+    λ name link. codes "{\"code\":" ++ (in_quotes name ++ (codes ",\"codeDescription\":{\"href\":" ++ (in_quotes link ++ (codes "},\"message\":" ++ more)))) in
+    linked_members rule message others rest
+    ∙ ap (λ l. pieces l (escape (rule_link rule))) (name_plain rule) ∙ ap (pieces (rule_name rule)) (link_plain rule)
+    ∙ linked_pieces (rule_name rule) more
 head_printed Lost message others rest = refl
 head_printed More message others rest = refl
 
@@ -76,19 +99,19 @@ one_diagnostic is_first d = sym (append-nil (next_text is_first d))
 -- ---- how many problems are not shown
 
 -- the pieces before the range
-abbrev pub more_head : Bool → ℕ → List ℕ
-more_head is_first hidden = separator is_first ++ (codes "{\"code\":\"more\",\"message\":\"" ++ (decimal hidden ++ (codes " more problems\"" ++ [])))
+abbrev pub more_front : (front digits : List ℕ) → List ℕ
+more_front front digits = front ++ (codes "{\"code\":\"more\",\"message\":\"" ++ (digits ++ (codes " more problems\"" ++ [])))
 
 more_message : (n : ℕ) → n < 2 ^ 64 → quoted (decimal n ++ codes " more problems") ≡ 34 ∷ ((decimal n ++ codes " more problems") ++ 34 ∷ [])
 more_message n small = ap (λ l. 34 ∷ (l ++ 34 ∷ [])) (hidden_plain n small)
 
 more_pieces : (front digits tail : List ℕ)
-    → (front ++ (codes "{\"code\":\"more\",\"message\":\"" ++ (digits ++ (codes " more problems\"" ++ [])))) ++ tail
+    → more_front front digits ++ tail
     ≡ front ++ (head_text More ++ ((34 ∷ ((digits ++ codes " more problems") ++ 34 ∷ [])) ++ tail))
 more_pieces front digits tail = simp append_assoc
 
 pub more_written : (is_first : Bool) (hidden : ℕ) → hidden < 2 ^ 64 → (hidden == 0) ≡ false
-    → more_head is_first hidden ++ tail_text text_start Information ≡ diagnostics_text is_first (more_diagnostics hidden)
+    → more_front (separator is_first) (decimal hidden) ++ tail_text text_start Information ≡ diagnostics_text is_first (more_diagnostics hidden)
 more_written is_first hidden small some =
     let tail = tail_text text_start Information in
     let d : DiagnosticValue = record { range = text_start; severity = Information; code = More; message = decimal hidden ++ codes " more problems" } in
@@ -127,16 +150,16 @@ pub error_written : (text : List ℕ)
 error_written text = sym (printed (error_message text) ∙ error_then text)
 
 -- the pieces before the version
-abbrev pub result_head : Encoding → List ℕ
-result_head e =
-    codes "{\"capabilities\":{\"positionEncoding\":\"" ++ (encoding_name e
+abbrev pub result_front : (name : List ℕ) → List ℕ
+result_front name =
+    codes "{\"capabilities\":{\"positionEncoding\":\"" ++ (name
     ++ (codes "\",\"textDocumentSync\":{\"change\":2,\"openClose\":true,\"save\":true}},\"serverInfo\":{\"name\":\"zutkrad\",\"version\":" ++ []))
 
-result_then : (e : Encoding) (version : List ℕ) → json_then (initialize_result e version) [] ≡ result_head e ++ (quoted version ++ codes "}}")
+result_then : (e : Encoding) (version : List ℕ) → json_then (initialize_result e version) [] ≡ result_front (encoding_name e) ++ (quoted version ++ codes "}}")
 unfolding escape_byte
 result_then Utf8 version = refl
 result_then Utf16 version = refl
 result_then Utf32 version = refl
 
-pub result_written : (e : Encoding) (version : List ℕ) → result_head e ++ (quoted version ++ codes "}}") ≡ print (json_tokens (initialize_result e version))
+pub result_written : (e : Encoding) (version : List ℕ) → result_front (encoding_name e) ++ (quoted version ++ codes "}}") ≡ print (json_tokens (initialize_result e version))
 result_written e version = sym (printed (initialize_result e version) ∙ result_then e version)
