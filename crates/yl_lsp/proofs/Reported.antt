@@ -14,23 +14,25 @@ still_first f xs zero h = refl
 still_first f [] (suc i) h = absurd (omega arith)
 still_first f (x ∷ xs) (suc i) h = sym (ne_eqb (suc i) 0 (λ e. omega arith))
 
-module _ (f : ProblemValue → DiagnosticValue) (xs : List ProblemValue) (i : ℕ) (d : ProblemValue) (inside : i < length xs) where
+-- the diagnostics after so many problems
+abbrev pub later_text : (ProblemValue → DiagnosticValue) → List ProblemValue → ℕ → List ℕ
+later_text f xs i = diagnostics_text (is_still_first true (map f (take (i + 1) xs))) (map f (drop (i + 1) xs))
+
+module _ (f : ProblemValue → DiagnosticValue) (xs : List ProblemValue) (i : ℕ) (x : ProblemValue) (is : x ≡ get_or xs i x) (inside : i < length xs) (y : DiagnosticValue) (shown : y ≡ f x) where
   -- the problems before one, and that one
-  pub problem_put : diagnostics_text true (map f (take i xs)) ++ next_text (i == 0) (f (get_or xs i d)) ≡ diagnostics_text true (map f (take (i + 1) xs))
+  pub problem_put : diagnostics_text true (map f (take i xs)) ++ next_text (i == 0) y ≡ diagnostics_text true (map f (take (i + 1) xs))
   problem_put =
       let front = map f (take i xs) in
-      let here = f (get_or xs i d) in
-      ap (λ b. diagnostics_text true front ++ next_text b here) (sym (still_first f xs i (omega (arith, inside))))
+      let here = f (get_or xs i x) in
+      ap (λ z. diagnostics_text true front ++ next_text (i == 0) z) (shown ∙ ap f is)
+      ∙ ap (λ b. diagnostics_text true front ++ next_text b here) (sym (still_first f xs i (omega (arith, inside))))
       ∙ ap (λ l. diagnostics_text true front ++ l) (one_diagnostic (is_still_first true front) here)
-      ∙ sym (ap (diagnostics_text true) (ap (map f) (take_more xs i d inside) ∙ map-append f (take i xs) (get_or xs i d ∷ [])) ∙ diagnostics-append true front (here ∷ []))
+      ∙ sym (ap (diagnostics_text true) (ap (map f) (take_more xs i x inside) ∙ map-append f (take i xs) (get_or xs i x ∷ [])) ∙ diagnostics-append true front (here ∷ []))
 
   -- and those after it
-  abbrev pub later_text : List ℕ
-  later_text = diagnostics_text (is_still_first true (map f (take (i + 1) xs))) (map f (drop (i + 1) xs))
-
-  pub problem_whole : (diagnostics_text true (map f (take i xs)) ++ next_text (i == 0) (f (get_or xs i d))) ++ later_text ≡ diagnostics_text true (map f xs)
+  pub problem_whole : (diagnostics_text true (map f (take i xs)) ++ next_text (i == 0) y) ++ later_text f xs i ≡ diagnostics_text true (map f xs)
   problem_whole =
-      ap (λ l. l ++ later_text) problem_put ∙ sym (diagnostics-append true (map f (take (i + 1) xs)) (map f (drop (i + 1) xs)))
+      ap (λ l. l ++ later_text f xs i) problem_put ∙ sym (diagnostics-append true (map f (take (i + 1) xs)) (map f (drop (i + 1) xs)))
       ∙ ap (diagnostics_text true) (sym (map-append f (take (i + 1) xs) (drop (i + 1) xs)) ∙ ap (map f) (take-append-drop (i + 1) xs))
 
 -- the problems that are shown, and how many are not
