@@ -1,6 +1,6 @@
 -- Messages as they are put, and as they are printed.
 use Rattle.std.proofs.Common.{◌≡◌, ℕ, ◌^◌, ◌<◌, ◌==◌, Bool, true, false, not, cond, List, [], ◌∷◌, ◌++◌, map, codes, decimal, Option, Some, None, refl, sym, ap, ◌∙◌, append-nil, append_assoc}
-use Rattle.json.specs.Json.{Json, number, string, Members, no_members, member, item}
+use Rattle.json.specs.Json.{number, string, Members, no_members, member}
 use Rattle.json.specs.Print.{print, quoted, escape, escape_byte}
 use Rattle.json.specs.Tree.{json_tokens}
 use Rattle.yl_text.specs.declared.finding.RuleId.{RuleId}

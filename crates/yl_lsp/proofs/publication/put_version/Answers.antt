@@ -1,4 +1,4 @@
-use Rattle.std.proofs.Common.{◌≡◌, ℕ, List, ◌++◌, Bor, Option, codes, sym, ap, ◌∙◌, subst}
+use Rattle.std.proofs.Common.{ℕ, List, ◌++◌, Bor, Option, codes, sym, ap, ◌∙◌, subst}
 use Rattle.std.specs.Option.{option_map}
 use Rattle.yl_frames.proofs.Outcomes.{fault_then, ok_then}
 use Rattle.yl_lsp.specs.Texts.{version_text}

@@ -1,4 +1,4 @@
-use Rattle.std.proofs.Common.{◌≡◌, ℕ, List, ◌++◌, ◌==◌, ◌^◌, ◌<◌, false, decimal, arith, ap, ◌∙◌, subst}
+use Rattle.std.proofs.Common.{◌≡◌, ℕ, List, ◌++◌, ◌^◌, ◌<◌, decimal, arith, ap, ◌∙◌, subst}
 use Rattle.std.proofs.lemmas.Bool.{ne_eqb}
 use Rattle.yl_devices.proofs.Pieces.{on_err}
 use Rattle.yl_frames.proofs.Outcomes.{fault_then, ok_then}

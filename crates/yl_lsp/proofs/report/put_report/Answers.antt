@@ -1,7 +1,7 @@
-use Rattle.std.proofs.Common.{◌≡◌, ℕ, List, ◌-◌, ◌++◌, ◌==◌, length, take, map, min, true, rules, refl, ap, ◌∙◌, subst}
+use Rattle.std.proofs.Common.{◌≡◌, ℕ, List, ◌-◌, ◌==◌, length, min, true, rules, refl, ap, ◌∙◌, subst}
 use Rattle.yl_devices.proofs.Pieces.{on_err}
 use Rattle.yl_frames.proofs.Outcomes.{fault_then, ok_then}
-use Rattle.yl_lsp.specs.Reports.{ReportValue, problem_diagnostic, more_diagnostics, report_diagnostics}
+use Rattle.yl_lsp.specs.Reports.{ReportValue, more_diagnostics, report_diagnostics}
 use Rattle.yl_lsp.specs.Texts.{diagnostics_text}
 use Rattle.yl_lsp.proofs.Reported.{report_put}
 use Rattle.yl_lsp.proofs.report.put_report.Goals as goal
