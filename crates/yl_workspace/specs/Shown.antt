@@ -1,8 +1,12 @@
--- Bridge: a session that holds the text of a document.
+-- Bridge: a session that holds the text of a document, and what its faults are.
 use Rattle.std.specs.Prelude.{◌≡◌, ℕ, List, Result, Ok, Err}
 use Rattle.yl_text.specs.Lines.{text_of}
+use Rattle.yl_text.specs.declared.fault.TextFault.{TextFault}
+use Rattle.yl_text.specs.declared.fault.TextFault.TheVariants.{NotUtf8, Range, TooLarge, Memory}
 use Rattle.yl_session.specs.State.{SessionValue, Shows}
 use Rattle.yl_workspace.specs.declared.cause.Cause.{Cause}
+use Rattle.yl_workspace.specs.declared.cause.Cause.TheVariants.{OutOfMemory, BadChange}
+use Rattle.yl_workspace.specs.declared.cause.Cause.TheVariants as C
 use Rattle.yl_workspace.specs.Changes.{TextValue, Followed, Lost}
 use Rattle.yl_workspace.specs.Documents.{DocumentValue}
 
@@ -16,3 +20,10 @@ pub record IsFollowed (d : DocumentValue) (s : SessionValue) : Type 0 where
   pub text : List ℕ
   pub followed : d.text ≡ Followed text
   pub shown : Shows d.config text s
+
+-- why a text is not followed, where this is why it was refused
+abbrev pub cause_of : TextFault → Cause
+cause_of (NotUtf8 n) = BadChange
+cause_of Range = BadChange
+cause_of TooLarge = C.TooLarge
+cause_of Memory = OutOfMemory

@@ -75,13 +75,7 @@ impl<S: LineStore> Workspace<S> {
 
     /// Makes the changes of one message in their order (`textDocument/didChange`). One that can't be made makes the text lost, with its
     /// cause; of a document that is not open nothing changes.
-    pub fn change(
-        &mut self,
-        encoding: Encoding,
-        uri: &str,
-        version: &str,
-        changes: &[Change<'_>],
-    )
+    pub fn change(&mut self, encoding: Encoding, uri: &str, version: &str, changes: &[Change<'_>])
         ensures { (grants : List Bool) × (self.new ≡ changed encoding grants uri.now version.now (map change_value changes.now) self.old) }
     {
         let alloc = self.alloc;
