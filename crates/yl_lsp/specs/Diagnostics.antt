@@ -1,7 +1,6 @@
--- Meaning: a diagnostic (LSP 3.17, `Diagnostic`) as it is written: its members in the order of their names, with no space between. A
--- message is in UTF-8.
-use Rattle.std.specs.Prelude.{ℕ, ◌++◌, List, Bool, true, false, codes, decimal}
-use Rattle.json.specs.Print.{quoted}
+-- Meaning: a diagnostic (LSP 3.17, `Diagnostic`) as JSON, its members in the order of their names. A text is in UTF-8.
+use Rattle.std.specs.Prelude.{ℕ, ◌++◌, List, codes, decimal}
+use Rattle.json.specs.Json.{Json, number, string, object, Members, no_members, member}
 use Rattle.yl_text.specs.declared.finding.RuleId.{RuleId}
 use Rattle.yl_text.specs.Finding.{rule_name}
 use Rattle.yl_units.specs.declared.place.EditorPlace.{EditorPlace}
@@ -23,25 +22,28 @@ severity_digit Error = codes "1"
 severity_digit Warning = codes "2"
 severity_digit Information = codes "3"
 
--- what stands before the message: a rule's name, with where yamllint's documentation describes it if the editor takes links; or that the
--- text is lost, or that there are more problems
-abbrev pub head_text : Code → List ℕ
-head_text (Rule rule) = codes "{\"code\":\"" ++ rule_name rule ++ codes "\",\"message\":"
-head_text (Linked rule) =
-    codes "{\"code\":\"" ++ rule_name rule ++ codes "\",\"codeDescription\":{\"href\":\"https://yamllint.readthedocs.io/en/stable/rules.html#"
-    ++ rule_name rule ++ codes "\"},\"message\":"
-head_text Lost = codes "{\"code\":\"lost\",\"message\":"
-head_text More = codes "{\"code\":\"more\",\"message\":"
+-- where yamllint's documentation describes a rule
+abbrev pub rule_link : RuleId → List ℕ
+rule_link rule = codes "https://yamllint.readthedocs.io/en/stable/rules.html#" ++ rule_name rule
 
-abbrev pub place_text : EditorPlace → List ℕ
-place_text p = codes "{\"character\":" ++ decimal p.units ++ codes ",\"line\":" ++ decimal p.line ++ codes "}"
+abbrev pub description : RuleId → Json
+description rule = object (member (codes "href") (string (rule_link rule)) no_members)
 
-abbrev pub range_text : Range → List ℕ
-range_text r = codes "{\"end\":" ++ place_text r.end ++ codes ",\"start\":" ++ place_text r.start ++ codes "}"
+-- what a diagnostic is of, before its other members: a rule, with where it is described if the editor takes links; or a text that is not
+-- followed, or problems that are not shown
+abbrev pub with_code : Code → Members → Members
+with_code (Rule rule) others = member (codes "code") (string (rule_name rule)) others
+with_code (Linked rule) others = member (codes "code") (string (rule_name rule)) (member (codes "codeDescription") (description rule) others)
+with_code Lost others = member (codes "code") (string (codes "lost")) others
+with_code More others = member (codes "code") (string (codes "more")) others
 
--- and what stands after it
-abbrev pub tail_text : Range → Severity → List ℕ
-tail_text range severity = codes ",\"range\":" ++ range_text range ++ (codes ",\"severity\":" ++ severity_digit severity ++ codes ",\"source\":\"zutkrad\"}")
+abbrev pub place_json : EditorPlace → Json
+place_json p = object (member (codes "character") (number (decimal p.units)) (member (codes "line") (number (decimal p.line)) no_members))
 
-abbrev pub diagnostic_text : DiagnosticValue → List ℕ
-diagnostic_text d = head_text d.code ++ quoted d.message ++ tail_text d.range d.severity
+abbrev pub range_json : Range → Json
+range_json r = object (member (codes "end") (place_json r.end) (member (codes "start") (place_json r.start) no_members))
+
+abbrev pub diagnostic_json : DiagnosticValue → Json
+diagnostic_json d =
+    object (with_code d.code (member (codes "message") (string d.message) (member (codes "range") (range_json d.range)
+    (member (codes "severity") (number (severity_digit d.severity)) (member (codes "source") (string (codes "zutkrad")) no_members)))))

@@ -1,7 +1,7 @@
 //! Diagnostics as they are written.
-ghost use Rattle.std.specs.Prelude.{◌≡◌, ◌++◌, codes, OnOk, OnErr};
-ghost use Rattle.json.specs.Print.{quoted};
-ghost use Rattle.yl_lsp.specs.Diagnostics.{head_text, tail_text, severity_digit, place_text, range_text, diagnostic_text};
+ghost use Rattle.std.specs.Prelude.{◌≡◌, codes, OnOk, OnErr};
+ghost use Rattle.yl_lsp.specs.Diagnostics.{severity_digit};
+ghost use Rattle.yl_lsp.specs.Texts.{head_text, tail_text, diagnostic_text, next_text};
 ghost use Rattle.yl_lsp.specs.Shown.{diagnostic_value};
 
 use crate::Range;
@@ -9,9 +9,8 @@ use itoa::Buffer;
 use yl_devices::WriteFault;
 use yl_frames::{Pieces, put_parts, put_text};
 use yl_text::RuleId;
-use yl_units::EditorPlace;
 
-/// How grave a diagnostic is.
+/// How grave a diagnostic is (LSP's `DiagnosticSeverity`).
 #[derive(Clone, Copy, Debug, PartialEq, Eq)]
 pub enum Severity {
     Error,
@@ -47,14 +46,14 @@ pub enum Code {
 
 /// A diagnostic.
 #[derive(Clone, Copy)]
-pub struct Diagnostic<'a> {
-    pub range: Range,
-    pub severity: Severity,
-    pub code: Code,
-    pub message: &'a str,
+pub(crate) struct Diagnostic<'a> {
+    pub(crate) range: Range,
+    pub(crate) severity: Severity,
+    pub(crate) code: Code,
+    pub(crate) message: &'a str,
 }
 
-// Puts what stands before a diagnostic's message.
+/// Puts what stands before a diagnostic's message.
 fn put_head<P: Pieces>(to: &mut P, code: Code) -> Result<(), WriteFault>
     requires { P.can_put to.old }
     ensures ok { OnOk result (P.puts to.old (head_text code) to.new) }
@@ -79,61 +78,40 @@ fn put_head<P: Pieces>(to: &mut P, code: Code) -> Result<(), WriteFault>
     }
 }
 
-// Puts a place.
-fn put_place<P: Pieces>(to: &mut P, place: EditorPlace) -> Result<(), WriteFault>
-    requires { P.can_put to.old }
-    ensures ok { OnOk result (P.puts to.old (place_text place) to.new) }
-    ensures err { OnErr result (P.breaks to.old (place_text place) to.new) }
-{
-    let mut line = Buffer::new();
-    let mut units = Buffer::new();
-    let line = line.format(place.line);
-    let units = units.format(place.units);
-    put_parts(
-        to,
-        &[
-            b"{\"character\":",
-            units.as_bytes(),
-            b",\"line\":",
-            line.as_bytes(),
-            b"}",
-        ],
-    )
-}
-
-// Puts a range.
-fn put_range<P: Pieces>(to: &mut P, range: Range) -> Result<(), WriteFault>
-    requires { P.can_put to.old }
-    ensures ok { OnOk result (P.puts to.old (range_text range) to.new) }
-    ensures err { OnErr result (P.breaks to.old (range_text range) to.new) }
-{
-    to.put(b"{\"end\":")?;
-    put_place(to, range.end)?;
-    to.put(b",\"start\":")?;
-    put_place(to, range.start)?;
-    to.put(b"}")
-}
-
-// Puts what stands after a diagnostic's message.
-fn put_tail<P: Pieces>(to: &mut P, range: Range, severity: Severity) -> Result<(), WriteFault>
+/// Puts what stands after a diagnostic's message.
+pub(crate) fn put_tail<P: Pieces>(
+    to: &mut P,
+    range: Range,
+    severity: Severity,
+) -> Result<(), WriteFault>
     requires { P.can_put to.old }
     ensures ok { OnOk result (P.puts to.old (tail_text range severity) to.new) }
     ensures err { OnErr result (P.breaks to.old (tail_text range severity) to.new) }
 {
-    to.put(b",\"range\":")?;
-    put_range(to, range)?;
+    let mut end_units = Buffer::new();
+    let mut end_line = Buffer::new();
+    let mut start_units = Buffer::new();
+    let mut start_line = Buffer::new();
     put_parts(
         to,
         &[
-            b",\"severity\":",
+            b",\"range\":{\"end\":{\"character\":",
+            end_units.format(range.end.units).as_bytes(),
+            b",\"line\":",
+            end_line.format(range.end.line).as_bytes(),
+            b"},\"start\":{\"character\":",
+            start_units.format(range.start.units).as_bytes(),
+            b",\"line\":",
+            start_line.format(range.start.line).as_bytes(),
+            b"}},\"severity\":",
             severity.digit(),
             b",\"source\":\"zutkrad\"}",
         ],
     )
 }
 
-/// Puts a diagnostic as JSON. It takes no memory.
-pub fn put_diagnostic<P: Pieces>(to: &mut P, diagnostic: &Diagnostic<'_>) -> Result<(), WriteFault>
+/// Puts a diagnostic.
+fn put_diagnostic<P: Pieces>(to: &mut P, diagnostic: &Diagnostic<'_>) -> Result<(), WriteFault>
     requires { P.can_put to.old }
     ensures ok { OnOk result (P.puts to.old (diagnostic_text (diagnostic_value diagnostic.now)) to.new) }
     ensures err { OnErr result (P.breaks to.old (diagnostic_text (diagnostic_value diagnostic.now)) to.new) }
@@ -141,4 +119,20 @@ pub fn put_diagnostic<P: Pieces>(to: &mut P, diagnostic: &Diagnostic<'_>) -> Res
     put_head(to, diagnostic.code)?;
     put_text(to, diagnostic.message)?;
     put_tail(to, diagnostic.range, diagnostic.severity)
+}
+
+/// Puts a diagnostic of a list.
+pub(crate) fn put_next<P: Pieces>(
+    to: &mut P,
+    is_first: bool,
+    diagnostic: &Diagnostic<'_>,
+) -> Result<(), WriteFault>
+    requires { P.can_put to.old }
+    ensures ok { OnOk result (P.puts to.old (next_text is_first (diagnostic_value diagnostic.now)) to.new) }
+    ensures err { OnErr result (P.breaks to.old (next_text is_first (diagnostic_value diagnostic.now)) to.new) }
+{
+    if !is_first {
+        to.put(b",")?;
+    }
+    put_diagnostic(to, diagnostic)
 }

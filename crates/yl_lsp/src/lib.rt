@@ -1,14 +1,22 @@
-//! The shapes of LSP's messages: what an editor asks for, and the diagnostics that it is told.
+//! The shapes of LSP's messages: what an editor asks for, and what it is told.
 #![tactic(auto)]
 
 mod diagnostic;
+mod message;
 mod params;
+mod presentation;
+mod publication;
 mod range;
+mod report;
 mod settings;
 
-pub use diagnostic::{Code, Diagnostic, Severity, put_diagnostic};
+pub use diagnostic::{Code, Severity};
+pub use message::{ErrorMessage, InitializeResult};
 pub use params::{Change, Opened, change_of, changes_in, document_in, opened_in, version_in};
+pub use presentation::{MOST_PROBLEMS, Presentation};
+pub use publication::{Content, Publication};
 pub use range::{Range, next_range};
+pub use report::Report;
 pub use settings::{
     Settings, changed_settings, encoding_in, first_settings, settings_in, takes_links,
 };

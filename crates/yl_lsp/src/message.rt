@@ -1,0 +1,66 @@
+//! What a server says of itself.
+ghost use Rattle.std.specs.Prelude.{◌≡◌};
+ghost use Rattle.yl_lsp.specs.Messages.{encoding_name};
+
+use yl_devices::WriteFault;
+use yl_frames::{Body, Pieces, put_parts, put_text};
+use yl_units::Encoding;
+
+/// LSP's `window/showMessage` of type `Error`.
+#[derive(Clone, Copy)]
+pub struct ErrorMessage<'a> {
+    pub text: &'a str,
+}
+
+/// LSP's `InitializeResult`: what the server can do, and its version.
+#[derive(Clone, Copy)]
+pub struct InitializeResult<'a> {
+    pub encoding: Encoding,
+    pub version: &'a str,
+}
+
+/// LSP's `PositionEncodingKind`.
+fn encoding_name(encoding: Encoding) -> &'static str
+    ensures { result.now ≡ encoding_name encoding }
+{
+    match encoding {
+        Encoding::Utf8 => "utf-8",
+        Encoding::Utf16 => "utf-16",
+        Encoding::Utf32 => "utf-32",
+    }
+}
+
+impl Body for ErrorMessage<'_> {
+    ghost use Rattle.json.specs.Print.{print};
+    ghost use Rattle.json.specs.Tree.{json_tokens};
+    ghost use Rattle.yl_lsp.specs.Messages.{error_message};
+
+    ghost text = { λ m. print (json_tokens (error_message m.text.now)) };
+
+    fn put<P: Pieces>(&self, to: &mut P) -> Result<(), WriteFault> {
+        to.put(b"{\"jsonrpc\":\"2.0\",\"method\":\"window/showMessage\",\"params\":{\"message\":")?;
+        put_text(to, self.text)?;
+        to.put(b",\"type\":1}}")
+    }
+}
+
+impl Body for InitializeResult<'_> {
+    ghost use Rattle.json.specs.Print.{print};
+    ghost use Rattle.json.specs.Tree.{json_tokens};
+    ghost use Rattle.yl_lsp.specs.Messages.{initialize_result};
+
+    ghost text = { λ r. print (json_tokens (initialize_result r.encoding r.version.now)) };
+
+    fn put<P: Pieces>(&self, to: &mut P) -> Result<(), WriteFault> {
+        put_parts(
+            to,
+            &[
+                b"{\"capabilities\":{\"positionEncoding\":\"",
+                encoding_name(self.encoding).as_bytes(),
+                b"\",\"textDocumentSync\":{\"change\":2,\"openClose\":true,\"save\":true}},\"serverInfo\":{\"name\":\"zutkrad\",\"version\":",
+            ],
+        )?;
+        put_text(to, self.version)?;
+        to.put(b"}}")
+    }
+}
