@@ -1,19 +1,19 @@
 -- What is left of a text from a line on, and places in it.
-use Rattle.std.proofs.Common.{◌≡◌, ◌≢◌, ℕ, ◌+◌, ◌-◌, ◌<◌, ◌≤◌, List, [], ◌∷◌, ◌++◌, length, take, drop, get_or, refl, sym, ◌∙◌, ap, subst, arith, length-append}
+use Rattle.std.proofs.Common.{◌≡◌, ◌≢◌, ℕ, ◌+◌, ◌-◌, ◌<◌, ◌≤◌, List, [], ◌∷◌, ◌++◌, length, take, drop, get_or, refl, sym, ◌∙◌, ap, subst, arith, length-append, append_assoc, inl, inr}
+use Rattle.std.proofs.lemmas.Bool.{cases_lt}
 use Rattle.std.proofs.Math.Seq.{take-add, drop-append-add}
 use Rattle.std.proofs.lemmas.List.{append-nil, take-append-drop, take_at, drop_at, drop-drop, drop_all, take_all, drop_more, length-drop}
 use Rattle.std.proofs.lemmas.List.Concat.{flat_map-append}
 use Rattle.std.proofs.lemmas.Str.{encodes-chars, IsCharBoundary-from_drop}
 use Rattle.std.specs.Str.{IsUtf8, IsCharBoundary, chars, encode_utf8_all}
-use Rattle.yl_text.specs.declared.TheConstants.{MAX_BYTES}
 use Rattle.yl_text.specs.declared.position.Pos.{Pos}
 use Rattle.yl_text.specs.declared.row.Break.{Break}
 use Rattle.yl_text.specs.declared.row.Break.TheVariants.{No}
 use Rattle.yl_text.specs.Lines.{RowValue, row_bytes, text_of, lines_of}
 use Rattle.yl_text.specs.Split.{lines_behind}
 use Rattle.yl_text.specs.Places.{line_bytes}
-use Rattle.yl_text.specs.PutLines.{front_of, back_of}
-use Rattle.yl_text.specs.Edit.{IsInText, IsEditRange, line_chars, offset, front_at, back_at, edited_text}
+use Rattle.yl_text.specs.PutLines.{front_of}
+use Rattle.yl_text.specs.Edit.{line_chars, offset, front_at, back_at}
 use Rattle.yl_text.proofs.ByBytes.{text_parts, front_parts}
 use Rattle.yl_text.proofs.Computed.{lines_of-IsLines}
 use Rattle.yl_text.proofs.Cut.{behind_break, behind_none}
@@ -66,7 +66,7 @@ front_more old new i left right row e f left2 right2 h is first second more =
     let x = front_of ps i in
     let line : line_bytes ps i ≡ row_bytes row = ap (λ (l : List RowValue). text_of (take 1 l)) (h ∙ first) ∙ append-nil (row_bytes row) in
     ap (λ (u : List ℕ). u ++ right2) (front_parts ps i ∙ ap (λ (u : List ℕ). x ++ u) line)
-    ∙ Rattle.std.proofs.Common.append_assoc x (row_bytes row) right2
+    ∙ append_assoc x (row_bytes row) right2
     ∙ ap (λ (u : List ℕ). x ++ u) (sym (cut_is right row f right2 second more)) ∙ is
 
 -- ---- places
@@ -150,9 +150,9 @@ alike_less xs ys n m h l =
 
 -- what stands from a place on is as many of the last bytes
 last_bytes : (t : List ℕ) (k : ℕ) (tail : List ℕ) → drop k t ≡ tail → drop (length t - length tail) t ≡ tail
-last_bytes t k tail h = elim (Rattle.std.proofs.lemmas.Bool.cases_lt k (length t)) [
-  | Rattle.std.proofs.Common.inl less ↦ let e : length t - length tail ≡ k = omega (arith, ap length h, length-drop k t) in ap (λ j. drop j t) e ∙ h
-  | Rattle.std.proofs.Common.inr more ↦
+last_bytes t k tail h = elim (cases_lt k (length t)) [
+  | inl less ↦ let e : length t - length tail ≡ k = omega (arith, ap length h, length-drop k t) in ap (λ j. drop j t) e ∙ h
+  | inr more ↦
       let none : tail ≡ [] = sym h ∙ drop_all k t (omega arith) in
       drop_all (length t - length tail) t (omega (arith, ap length none)) ∙ sym none
 ]
@@ -191,3 +191,6 @@ pub row_is : (xs ys : List ℕ) (e f : Break) → xs ≡ ys → e ≡ f → ◌�
 row_is xs ys e f p q =
     let line : List ℕ → Break → RowValue = λ zs g. record { text = zs; end = g } in
     ap (λ zs. line zs e) p ∙ ap (λ g. line ys g) q
+
+pub both_alike : (xs ys zs ws : List ℕ) (n : ℕ) → xs ≡ zs → ys ≡ ws → AreAlike xs ys n → AreAlike zs ws n
+both_alike xs ys zs ws n p q h = subst (λ (t : List ℕ). AreAlike t ws n) p (subst (λ (t : List ℕ). AreAlike xs t n) q h)

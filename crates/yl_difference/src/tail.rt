@@ -1,6 +1,6 @@
 //! The end that two texts have in common.
 ghost use Rattle.std.specs.Prelude.{◌≡◌, ◌≤◌, length};
-ghost use Rattle.std.specs.Str.{chars};
+ghost use Rattle.std.specs.Str.{IsUtf8, chars};
 ghost use Rattle.yl_text.specs.declared.TheConstants.{MAX_BYTES};
 ghost use Rattle.yl_difference.specs.Rest.{AreAlike, IsFrom};
 
@@ -36,6 +36,7 @@ fn length_of(text: &str) -> usize
 pub(crate) fn tail_of(text: &str, bytes: usize) -> Tail<'_>
     requires { length text.now ≤ MAX_BYTES }
     ensures from { IsFrom text.now result.place result.rest.now }
+    ensures utf8 { IsUtf8 result.rest.now }
     ensures few { length result.rest.now ≤ bytes }
 {
     let mut line = 0;

@@ -1,5 +1,4 @@
-use Rattle.std.proofs.Common.{rules, ◌≡◌, ◌≢◌, ◌+◌, ◌∷◌, ap, subst, ◌∙◌, arith}
-use Rattle.yl_text.specs.declared.row.Break.{Break}
+use Rattle.std.proofs.Common.{rules, ◌≡◌, ◌≢◌, ◌+◌, ◌∷◌, ap, subst, ◌∙◌, arith, sym}
 use Rattle.yl_text.specs.declared.row.Break.TheVariants.{No}
 use Rattle.yl_text.specs.Lines.{RowValue, lines_of}
 use Rattle.yl_text.specs.Split.{lines_behind}
@@ -29,5 +28,5 @@ loop-first-preserved c =
       left = c.cut_line-first.ensures.utf8;
       right = c.cut_line-second.ensures.utf8;
       old = rest_more c.args.old.now c.loop-first.lines c.loop-first.left.now row first.end first.rest.now c.loop-first.invariant.old c.cut_line-first.ensures.first more;
-      new = front_more c.args.old.now c.args.new.now c.loop-first.lines c.loop-first.left.now c.loop-first.right.now row first.end second.end first.rest.now second.rest.now c.loop-first.invariant.old c.loop-first.invariant.new c.cut_line-first.ensures.first same (λ e. more (Rattle.std.proofs.Common.sym ends ∙ e));
+      new = front_more c.args.old.now c.args.new.now c.loop-first.lines c.loop-first.left.now c.loop-first.right.now row first.end second.end first.rest.now second.rest.now c.loop-first.invariant.old c.loop-first.invariant.new c.cut_line-first.ensures.first same (λ e. more (sym ends ∙ e));
     }

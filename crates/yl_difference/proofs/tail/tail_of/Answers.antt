@@ -1,9 +1,9 @@
-use Rattle.std.proofs.Common.{rules, ◌≡◌, ◌≢◌, ◌+◌, ◌≤◌, ◌∷◌, [], length, ap, subst, sym, ◌∙◌, arith}
-use Rattle.std.specs.Str.{IsUtf8, chars}
+use Rattle.std.proofs.Common.{rules, ◌≡◌, ◌≢◌, ◌+◌, ◌∷◌, [], length, arith}
+use Rattle.std.specs.Str.{chars}
 use Rattle.yl_text.specs.declared.row.Break.TheVariants.{No}
 use Rattle.yl_text.specs.Lines.{RowValue, lines_of}
 use Rattle.yl_text.proofs.Fitting.{length-chars}
-use Rattle.yl_difference.specs.Rest.{IsRest, IsFrom}
+use Rattle.yl_difference.specs.Rest.{IsRest}
 use Rattle.yl_difference.proofs.Rests.{rest_more, rest_inside, rest_short, few, last_is, start_from, end_from}
 use Rattle.yl_difference.proofs.tail.tail_of.Goals as goal
 
