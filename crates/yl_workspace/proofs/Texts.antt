@@ -31,12 +31,14 @@ use Rattle.yl_workspace.specs.Shown.{text_value, cause_of}
 pub within : (t : List ℕ) → length t ≤ MAX_BYTES → within_bounds t ≡ Ok t
 within t h =
     let test : nat_le (length t) MAX_BYTES ≡ true = grind (arith, nat_tests) in
-    ap (λ b. cond b (Ok {E = Cause} t) (Err C.TooLarge)) test
+    let F : Bool → Result (List ℕ) Cause = λ b. cond b (Ok t) (Err C.TooLarge) in
+    ap F test
 
 pub too_large : (t : List ℕ) → MAX_BYTES < length t → within_bounds t ≡ Err C.TooLarge
 too_large t h =
     let test : nat_le (length t) MAX_BYTES ≡ false = grind (arith, nat_tests) in
-    ap (λ b. cond b (Ok {E = Cause} t) (Err C.TooLarge)) test
+    let F : Bool → Result (List ℕ) Cause = λ b. cond b (Ok t) (Err C.TooLarge) in
+    ap F test
 
 pub not_cut : (t : List ℕ) (n : ℕ) → IsUtf8 t → ¬ (IsValidUpTo t n)
 not_cut t n u h = h.longest (length t) h.short (subst IsUtf8 (sym (take_all (length t) t (omega arith))) u)

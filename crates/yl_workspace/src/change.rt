@@ -1,5 +1,5 @@
 //! Changes of a text that is followed, or is not.
-ghost use Rattle.std.specs.Prelude.{◌≡◌, ◌×◌, ◌≤◌, Bool, List, Ok, IfOk, length, map};
+ghost use Rattle.std.specs.Prelude.{◌≡◌, ◌≤◌, Bool, List, Ok, IfOk, length, map};
 ghost use Rattle.yl_text.specs.Lines.{text_of};
 ghost use Rattle.yl_text.specs.Edit.{IsInText};
 ghost use Rattle.yl_text.specs.declared.TheConstants.{MAX_BYTES};

@@ -1,5 +1,5 @@
 //! A document that an editor has open.
-ghost use Rattle.std.specs.Prelude.{◌≡◌, ◌×◌, Bool, List, Err, IfOk, MatchResult, map};
+ghost use Rattle.std.specs.Prelude.{◌≡◌, Bool, List, Err, IfOk, MatchResult, map};
 ghost use Rattle.yl_lsp.specs.Read.{change_value, opened_value};
 
 use crate::Cause;

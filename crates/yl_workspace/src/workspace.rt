@@ -1,6 +1,8 @@
 //! The documents that an editor has open.
-ghost use Rattle.std.specs.Prelude.{◌≡◌, ◌×◌, Bool, List, [], None, OnOk, OnErr, option_copied, map};
+ghost use Rattle.std.specs.Prelude.{◌≡◌, Bool, List, [], None, OnOk, OnErr, bytes_eq, option_copied, map};
+ghost use Rattle.std.specs.List as list;
 ghost use Rattle.yl_lsp.specs.Read.{change_value, opened_value};
+ghost use Rattle.yl_workspace.specs.Documents.{all_lost, changed, closed, configured, document_at, lost, opened};
 
 use crate::{Cause, Document};
 use std::alloc::AllocError;
@@ -27,8 +29,6 @@ impl<S: LineStore> Model for Workspace<S> {
 }
 
 impl<S: LineStore> Workspace<S> {
-    ghost use Rattle.yl_workspace.specs.Documents.{all_lost, changed, closed, configured, document_at, lost, opened};
-
     /// No document is open. It takes no memory.
     pub fn new(alloc: S::Alloc) -> Workspace<S>
         ensures { result ≡ [] }
@@ -88,7 +88,7 @@ impl<S: LineStore> Workspace<S> {
     pub fn close(&mut self, uri: &str)
         ensures { self.new ≡ closed uri.now self.old }
     {
-        self.documents.retain(|document| document.uri() != uri);
+        remove_each(&mut self.documents, uri);
     }
 
     /// Lets the text of a document go, if that is open. It takes no memory.
@@ -118,9 +118,16 @@ impl<S: LineStore> Workspace<S> {
 
 /// The place of the first document of a URI, counted from 0.
 fn position<S: LineStore>(documents: &[Document<S>], uri: &str) -> Option<usize>
-    ensures { result ≡ List.position (λ d. bytes_eq d.uri uri.now) documents.now }
+    ensures { result ≡ list.position (λ d. bytes_eq d.uri uri.now) documents.now }
 {
     documents.iter().position(|document| document.uri() == uri)
+}
+
+/// Removes the documents of a URI.
+fn remove_each<S: LineStore>(documents: &mut Vec<Document<S>, S::Alloc>, uri: &str)
+    ensures { documents.new.items ≡ closed uri.now documents.old.items }
+{
+    documents.retain(|document| document.uri() != uri);
 }
 
 /// Lets the texts of these documents go.
