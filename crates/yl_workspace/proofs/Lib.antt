@@ -1,3 +1,4 @@
 pub mod Lists
+pub mod Opening
 pub mod Places
 pub mod Texts

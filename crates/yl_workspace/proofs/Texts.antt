@@ -2,7 +2,7 @@
 use Rattle.std.proofs.Common.{◌≡◌, ◌≢◌, ℕ, ◌+◌, ◌-◌, ◌<◌, ◌≤◌, ◌⊎◌, inl, inr, Bool, true, false, cond, nat_le, nat_lt, List, [], ◌∷◌, length, take, drop, get_or, map, refl, sym, ◌∙◌, ap, subst, arith, Option, Some, None, Result, Ok, Err, IfOk}
 use Rattle.std.proofs.lemmas.Bool.{cases_lt}
 use Rattle.std.proofs.lemmas.Bool.Decides.{nat_tests}
-use Rattle.std.proofs.lemmas.List.{take_all, drop_more}
+use Rattle.std.proofs.lemmas.List.{take_all, drop_all, drop_more}
 use Rattle.std.specs.Str.{IsUtf8, IsValidUpTo}
 use Rattle.yl_text.specs.declared.TheConstants.{MAX_BYTES}
 use Rattle.yl_text.specs.declared.position.Pos.{Pos}
@@ -137,3 +137,16 @@ only_memory ps from to new (NotUtf8 n) can f = absurd (no_fault_beside ps from t
 only_memory ps from to new Range can f = absurd (no_fault_beside ps from to new Range can f)
 only_memory ps from to new TooLarge can f = absurd (no_fault_beside ps from to new TooLarge can f)
 only_memory ps from to new Memory can f = refl
+
+-- ---- changes in their order
+
+-- a change more is made: those that are left leave what it and they leave
+pub one_more : (e : Encoding) (granted : Bool) (rest : List Bool) (old new : TextValue) (cs : List ChangeValue) (i : ℕ) (c : ChangeValue) → i < length cs → c ≡ get_or cs i Unread → new ≡ text_after_change e granted old c
+    → text_after_changes e rest new (drop (i + 1) cs) ≡ text_after_changes e (granted ∷ rest) old (drop i cs)
+one_more e granted rest old new cs i c l is made =
+    ap (λ t. text_after_changes e rest t (drop (i + 1) cs)) (made ∙ ap (λ d. text_after_change e granted old d) is)
+    ∙ ap (λ (ds : List ChangeValue). text_after_changes e (granted ∷ rest) old ds) (sym (drop_more cs i Unread l))
+
+-- none is left
+pub no_more : (e : Encoding) (text : TextValue) (cs : List ChangeValue) (i : ℕ) → length cs ≤ i → text ≡ text_after_changes e [] text (drop i cs)
+no_more e text cs i l = ap (λ (ds : List ChangeValue). text_after_changes e [] text ds) (sym (drop_all i cs l))

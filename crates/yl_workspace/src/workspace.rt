@@ -1,5 +1,5 @@
 //! The documents that an editor has open.
-ghost use Rattle.std.specs.Prelude.{◌≡◌, Bool, List, [], None, OnOk, OnErr, bytes_eq, option_copied, map};
+ghost use Rattle.std.specs.Prelude.{◌≡◌, Bool, List, [], IsSome, None, OnOk, OnErr, bytes_eq, option_copied, map};
 ghost use Rattle.std.specs.List as list;
 ghost use Rattle.yl_lsp.specs.Read.{change_value, opened_value};
 ghost use Rattle.yl_workspace.specs.Documents.{all_lost, changed, closed, configured, document_at, lost, opened};
@@ -54,21 +54,21 @@ impl<S: LineStore> Workspace<S> {
         Some(&self.documents[i])
     }
 
-    /// Opens a document, or opens it anew (`textDocument/didOpen`). Where there is no memory for its text, the text is lost; where there is
-    /// none to enter a new document, that is an error, and nothing changes.
+    /// Opens a document, or opens it anew (`textDocument/didOpen`). Where there is no memory for its text, or to note that it is opened anew,
+    /// its text is lost; where there is none to enter a document that is not open, that is an error, and nothing changes.
     pub fn open(&mut self, config: Config, document: Opened<'_>) -> Result<(), AllocError>
-        ensures ok { OnOk result ((grants : List Bool) × (self.new ≡ opened config grants (opened_value document.entry) self.old)) }
+        ensures opened { (grants : List Bool) × (self.new ≡ opened config grants (opened_value document.entry) self.old) }
+        ensures ok { OnOk result (IsSome (document_at document.entry.uri.now self.new)) }
         ensures err { OnErr result (self.new ≡ self.old) }
         ensures absent { OnErr result (document_at document.entry.uri.now self.old ≡ None) }
     {
-        let uri = document.uri;
-        let document = Document::opened(self.alloc, config, document);
-        match position(self.documents.as_slice(), uri) {
-            Some(i) => match document {
-                Ok(document) => self.documents[i] = document,
-                Err(AllocError) => self.documents[i].lose(Cause::OutOfMemory),
-            },
-            None => self.documents.push(document?)?,
+        let alloc = self.alloc;
+        match position(self.documents.as_slice(), document.uri) {
+            Some(i) => self.documents[i].open_again(alloc, config, document),
+            None => {
+                let document = Document::opened(alloc, config, document)?;
+                self.documents.push(document)?;
+            }
         }
         Ok(())
     }
