@@ -1,5 +1,5 @@
 //! Changes of a text that is followed, or is not.
-ghost use Rattle.std.specs.Prelude.{◌≡◌, ◌×◌, ◌≤◌, Bool, List, Ok, IfOk, length, map};
+ghost use Rattle.std.specs.Prelude.{◌≡◌, ◌≤◌, Bool, List, Ok, IfOk, length, map};
 ghost use Rattle.yl_text.specs.Lines.{text_of};
 ghost use Rattle.yl_text.specs.Edit.{IsInText};
 ghost use Rattle.yl_text.specs.declared.TheConstants.{MAX_BYTES};
@@ -9,17 +9,20 @@ ghost use Rattle.yl_session.specs.State.{Shows};
 ghost use Rattle.yl_workspace.specs.Changes.{changed_text, followed_if, text_after_change, text_after_changes, within_bounds};
 ghost use Rattle.yl_workspace.specs.Documents.{text_judged};
 ghost use Rattle.yl_workspace.specs.Shown.{text_value};
+ghost use Rattle.yl_workspace.specs.Shown as spec;
 
 use crate::Cause;
 use yl_config::Config;
-use yl_difference::difference;
+use yl_difference::Difference;
 use yl_lsp::{Change, Range};
 use yl_session::Session;
 use yl_text::{LineStore, MAX_BYTES, Pos, TextFault};
 use yl_units::{EditorPlace, Encoding, column_of};
 
 /// Why a text is not followed where this is why it was refused.
-fn cause_of(fault: TextFault) -> Cause {
+fn cause_of(fault: TextFault) -> Cause
+    ensures { result ≡ spec.cause_of fault }
+{
     match fault {
         TextFault::Memory => Cause::OutOfMemory,
         TextFault::TooLarge => Cause::TooLarge,
@@ -93,7 +96,7 @@ fn replaced<S: LineStore>(
     let Ok(old) = session.text(alloc) else {
         return Err(Cause::OutOfMemory);
     };
-    let Some(edit) = difference(old.as_slice(), new) else {
+    let Some(edit) = Difference::between(old.as_slice(), new) else {
         return opened_text(alloc, session.config(), new);
     };
     match session.edit(edit.from, edit.to, edit.text.as_bytes()) {

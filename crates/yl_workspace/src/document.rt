@@ -1,5 +1,5 @@
 //! A document that an editor has open.
-ghost use Rattle.std.specs.Prelude.{◌≡◌, ◌×◌, Bool, List, Err, IfOk, MatchResult, map};
+ghost use Rattle.std.specs.Prelude.{◌≡◌, Bool, List, Err, IfOk, MatchResult, map};
 ghost use Rattle.yl_lsp.specs.Read.{change_value, opened_value};
 
 use crate::Cause;
@@ -40,7 +40,7 @@ impl<S: LineStore> Model for Document<S> {
 impl<S: LineStore> Document<S> {
     ghost use Rattle.yl_workspace.specs.Changes.{Lost};
     ghost use Rattle.yl_workspace.specs.Documents.{changed_document, configured_document, lost_document, opened_document};
-    ghost use Rattle.yl_workspace.specs.Shown.{IsFollowed};
+    ghost use Rattle.yl_workspace.specs.Shown.{IsFollowed, opened_again};
 
     /// A document that is opened. It fails where there is no memory for its URI or its version; where there is none for its text, the text
     /// is lost.
@@ -60,6 +60,16 @@ impl<S: LineStore> Document<S> {
             config,
             text,
         })
+    }
+
+    /// Opens the document anew. Where there is no memory for that, its text is lost.
+    pub(crate) fn open_again(&mut self, alloc: S::Alloc, config: Config, document: Opened<'_>)
+        ensures { (grants : List Bool) × (self.new ≡ opened_again config grants (opened_value document.entry) self.old) }
+    {
+        match Document::opened(alloc, config, document) {
+            Ok(anew) => *self = anew,
+            Err(AllocError) => self.lose(Cause::OutOfMemory),
+        }
     }
 
     /// The URI, as it came.

@@ -1,6 +1,8 @@
 //! The documents that an editor has open.
-ghost use Rattle.std.specs.Prelude.{◌≡◌, ◌×◌, Bool, List, [], None, OnOk, OnErr, option_copied, map};
+ghost use Rattle.std.specs.Prelude.{◌≡◌, Bool, List, [], IsSome, None, OnOk, OnErr, bytes_eq, option_copied, map};
+ghost use Rattle.std.specs.List as list;
 ghost use Rattle.yl_lsp.specs.Read.{change_value, opened_value};
+ghost use Rattle.yl_workspace.specs.Documents.{all_lost, changed, closed, configured, document_at, lost, opened};
 
 use crate::{Cause, Document};
 use std::alloc::AllocError;
@@ -27,8 +29,6 @@ impl<S: LineStore> Model for Workspace<S> {
 }
 
 impl<S: LineStore> Workspace<S> {
-    ghost use Rattle.yl_workspace.specs.Documents.{all_lost, changed, closed, configured, document_at, lost, opened};
-
     /// No document is open. It takes no memory.
     pub fn new(alloc: S::Alloc) -> Workspace<S>
         ensures { result ≡ [] }
@@ -54,34 +54,28 @@ impl<S: LineStore> Workspace<S> {
         Some(&self.documents[i])
     }
 
-    /// Opens a document, or opens it anew (`textDocument/didOpen`). Where there is no memory for its text, the text is lost; where there is
-    /// none to enter a new document, that is an error, and nothing changes.
+    /// Opens a document, or opens it anew (`textDocument/didOpen`). Where there is no memory for its text, or to note that it is opened anew,
+    /// its text is lost; where there is none to enter a document that is not open, that is an error, and nothing changes.
     pub fn open(&mut self, config: Config, document: Opened<'_>) -> Result<(), AllocError>
-        ensures ok { OnOk result ((grants : List Bool) × (self.new ≡ opened config grants (opened_value document.entry) self.old)) }
+        ensures opened { (grants : List Bool) × (self.new ≡ opened config grants (opened_value document.entry) self.old) }
+        ensures ok { OnOk result (IsSome (document_at document.entry.uri.now self.new)) }
         ensures err { OnErr result (self.new ≡ self.old) }
         ensures absent { OnErr result (document_at document.entry.uri.now self.old ≡ None) }
     {
-        let uri = document.uri;
-        let document = Document::opened(self.alloc, config, document);
-        match position(self.documents.as_slice(), uri) {
-            Some(i) => match document {
-                Ok(document) => self.documents[i] = document,
-                Err(AllocError) => self.documents[i].lose(Cause::OutOfMemory),
-            },
-            None => self.documents.push(document?)?,
+        let alloc = self.alloc;
+        match position(self.documents.as_slice(), document.uri) {
+            Some(i) => self.documents[i].open_again(alloc, config, document),
+            None => {
+                let document = Document::opened(alloc, config, document)?;
+                self.documents.push(document)?;
+            }
         }
         Ok(())
     }
 
     /// Makes the changes of one message in their order (`textDocument/didChange`). One that can't be made makes the text lost, with its
     /// cause; of a document that is not open nothing changes.
-    pub fn change(
-        &mut self,
-        encoding: Encoding,
-        uri: &str,
-        version: &str,
-        changes: &[Change<'_>],
-    )
+    pub fn change(&mut self, encoding: Encoding, uri: &str, version: &str, changes: &[Change<'_>])
         ensures { (grants : List Bool) × (self.new ≡ changed encoding grants uri.now version.now (map change_value changes.now) self.old) }
     {
         let alloc = self.alloc;
@@ -94,7 +88,7 @@ impl<S: LineStore> Workspace<S> {
     pub fn close(&mut self, uri: &str)
         ensures { self.new ≡ closed uri.now self.old }
     {
-        self.documents.retain(|document| document.uri() != uri);
+        remove_each(&mut self.documents, uri);
     }
 
     /// Lets the text of a document go, if that is open. It takes no memory.
@@ -124,9 +118,16 @@ impl<S: LineStore> Workspace<S> {
 
 /// The place of the first document of a URI, counted from 0.
 fn position<S: LineStore>(documents: &[Document<S>], uri: &str) -> Option<usize>
-    ensures { result ≡ List.position (λ d. bytes_eq d.uri uri.now) documents.now }
+    ensures { result ≡ list.position (λ d. bytes_eq d.uri uri.now) documents.now }
 {
     documents.iter().position(|document| document.uri() == uri)
+}
+
+/// Removes the documents of a URI.
+fn remove_each<S: LineStore>(documents: &mut Vec<Document<S>, S::Alloc>, uri: &str)
+    ensures { documents.new.items ≡ closed uri.now documents.old.items }
+{
+    documents.retain(|document| document.uri() != uri);
 }
 
 /// Lets the texts of these documents go.

@@ -1,0 +1,4 @@
+pub mod Lists
+pub mod Opening
+pub mod Places
+pub mod Texts
