@@ -1,5 +1,5 @@
 -- What the bytes at the front of a list say of its escapes.
-use Rattle.std.proofs.Common.{◌≡◌, ℕ, ◌<◌, ◌≤◌, Bool, false, List, [], ◌∷◌, length, drop, get_or, Option, None, refl, arith}
+use Rattle.std.proofs.Common.{◌≡◌, ℕ, ◌<◌, ◌≤◌, false, List, [], ◌∷◌, length, drop, get_or, None, refl, arith}
 use Rattle.std.specs.Prelude.{◌&&◌, ◌==◌}
 use Rattle.json.specs.Text.{code_unit}
 use Rattle.yl_rpc.specs.Surrogates.{begins_low, has_partner, unit_of}

@@ -1,8 +1,8 @@
 -- Laws of a body that is mended in place.
-use Rattle.std.proofs.Common.{◌≡◌, ℕ, suc, ◌+◌, ◌<◌, ◌≤◌, true, false, List, [], ◌∷◌, ◌++◌, length, take, drop, get_or, cond, refl, sym, ap, ◌∙◌, subst, arith, append_assoc, take-append-drop, length-append, length-take, length-drop}
+use Rattle.std.proofs.Common.{◌≡◌, ℕ, suc, ◌+◌, ◌-◌, ◌<◌, ◌≤◌, true, false, List, [], ◌∷◌, ◌++◌, length, take, drop, get_or, cond, refl, sym, ap, ◌∙◌, arith, append-nil, append_assoc, take-append-drop, length-append, length-take, length-drop}
 use Rattle.std.specs.Prelude.{Bool, ◌&&◌, codes}
 use Rattle.std.proofs.Math.Seq.{drop-cons, take-append_seam, drop-append_seam}
-use Rattle.std.proofs.lemmas.List.{take_more, drop-drop}
+use Rattle.std.proofs.lemmas.List.{at_drop_all, drop-drop, take_all, take_more}
 use Rattle.yl_rpc.specs.declared.surrogates.Within.{Within}
 use Rattle.yl_rpc.specs.declared.surrogates.Within.TheVariants.{Plain, AfterBackslash, AfterU}
 use Rattle.yl_rpc.specs.Surrogates.{begins_high, digits_read, has_partner, is_lone, mended_from, next_within}
@@ -77,3 +77,21 @@ digits_kept body i p e =
     sym (
     ap (λ b. take i body ++ (cond b (codes "FFFD") (take 4 bytes) ++ drop (i + 4) body)) e ∙ ap (λ l. take i body ++ (take 4 bytes ++ l)) (sym (drop-drop 4 i body))
     ∙ ap (λ l. take i body ++ l) (take-append-drop 4 bytes) ∙ take-append-drop i body)
+
+-- what is seen of the bytes from a place on
+pub all_from : (body : List ℕ) (i : ℕ) → take (length body - i) (drop i body) ≡ drop i body
+all_from body i = take_all (length body - i) (drop i body) (omega (arith, length-drop i body))
+
+pub single_of : (w : Within) → ((p : Bool) → w ≡ AfterU p → ⊥) → IsSingle w
+single_of (Plain p) h = tt
+single_of (AfterBackslash p) h = tt
+single_of (AfterU p) h = h p refl
+
+none_left : (w : Within) → mended_from w [] ≡ []
+unfolding mended_from
+none_left (Plain p) = refl
+none_left (AfterBackslash p) = refl
+none_left (AfterU p) = refl
+
+pub all_mended : (body : List ℕ) (i : ℕ) (w : Within) → length body ≤ i → take i body ++ mended_from w (drop i body) ≡ body
+all_mended body i w h = ap (λ l. take i body ++ l) (at_drop_all (mended_from w) body i h ∙ none_left w) ∙ append-nil (take i body) ∙ take_all i body h

@@ -3,7 +3,7 @@ use Rattle.std.proofs.Common.{◌≡◌, ℕ, List, [], ◌∷◌, ◌++◌, ref
 use Rattle.std.specs.Prelude.{codes, fold, Bool, true, false}
 use Rattle.std.proofs.lemmas.List.Sums.{fold-append}
 use Rattle.json.specs.Json.{Json, null, boolean, number, string, array, object, Items, no_items, item, Members, no_members, member}
-use Rattle.json.specs.Print.{print, print_from, ends, escape_byte, quoted}
+use Rattle.json.specs.Print.{print_from, ends, escape_byte, quoted}
 use Rattle.json.specs.Token.{end_object}
 use Rattle.json.specs.Tree.{items_tokens, json_tokens, members_tokens}
 use Rattle.json.proofs.Printed.Tokens.{print_from-append}

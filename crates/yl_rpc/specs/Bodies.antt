@@ -8,7 +8,7 @@ use Rattle.yl_rpc.specs.Depth.{is_too_deep}
 use Rattle.yl_rpc.specs.declared.body.BodyFault.{BodyFault}
 use Rattle.yl_rpc.specs.declared.body.BodyFault.TheVariants.{NoJson, TooDeep, Memory}
 
--- a text is no JSON value of at most 128 levels
+-- a text is no UTF-8, or no JSON value of at most 128 levels
 abbrev pub IsNoValue : List ℕ → Type 0
 IsNoValue text = IsUtf8 text → document text ≡ None
 

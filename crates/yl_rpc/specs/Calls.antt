@@ -1,7 +1,7 @@
 -- Meaning: what a JSON value is as a message of JSON-RPC 2.0, as LSP uses it (3.17, 'Base Protocol', 'Abstract Message').
-use Rattle.std.specs.Prelude.{ℕ, ◌||◌, if◌then◌else◌, Bool, true, false, List, bytes_eq, codes, is_some, Option, Some, None, option_and_then}
+use Rattle.std.specs.Prelude.{ℕ, ◌||◌, if◌then◌else◌, Bool, true, false, List, bytes_eq, codes, is_some, Option, Some, None}
 use Rattle.std.specs.Option.{option_map_or}
-use Rattle.json.specs.Json.{Json, null, boolean, number, string, array, object}
+use Rattle.json.specs.Json.{Json, number, string}
 use Rattle.json.specs.Find.{as_str, get}
 
 -- what tells a request from others: a number, by its digits, or a text. None where an answer has no request

@@ -1,6 +1,6 @@
 -- Meaning: escapes of surrogates in a body. RFC 8259 (chapter 8.2) leaves open what `\uD800` to `\uDFFF` mean without their partner. An editor that
 -- holds its text in UTF-16 sends them while a pair is typed. Here each of these is read as U+FFFD.
-use Rattle.std.specs.Prelude.{ℕ, ◌&&◌, ◌||◌, ◌==◌, not, if◌then◌else◌, Bool, true, false, List, [], ◌∷◌, ◌++◌, codes, take, Option, Some, None}
+use Rattle.std.specs.Prelude.{ℕ, ◌&&◌, ◌||◌, ◌==◌, not, if◌then◌else◌, Bool, false, List, [], ◌∷◌, ◌++◌, codes, take, Option, None}
 use Rattle.std.specs.Option.{option_map_or}
 use Prim.Native.Char.{code}
 use Rattle.json.specs.Text.{code_unit, is_high_surrogate, is_low_surrogate}

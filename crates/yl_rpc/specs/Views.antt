@@ -1,5 +1,4 @@
 -- Bridge: what a clause sees of ids and calls.
-use Rattle.std.specs.Prelude.{Option}
 use Rattle.std.specs.Option.{option_map}
 use Rattle.json.specs.Value.{value_view}
 use Rattle.yl_rpc.specs.Calls.{IdValue, CallValue}

@@ -46,7 +46,11 @@ impl Told {
         method: &str,
         params: Option<&Value<'_, A>>,
     ) -> Result<(), RunFault> {
-        let with: &[u8] = if params.is_some() { b", with params" } else { b"" };
+        let with: &[u8] = if params.is_some() {
+            b", with params"
+        } else {
+            b""
+        };
         self.say(&[kind, method.as_bytes(), with])
     }
 

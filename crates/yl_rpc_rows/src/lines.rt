@@ -13,7 +13,8 @@ pub fn push_line(out: &mut Vec<u8>, line: &[u8]) -> Result<(), AllocError> {
         out.extend_from_slice(b" .. ")?;
         out.extend_from_slice(&line[line.len() - 40..])?;
     }
-    out.push(b'\n')
+    out.push(b'\n')?;
+    Ok(())
 }
 
 /// Puts a line for each part of a text between line feeds.

@@ -26,7 +26,11 @@ fn told<A: Allocator + Copy>(heap: A, alloc: Global, bytes: &[u8]) -> Result<Tol
 }
 
 // Whether a body is not read for want of memory.
-fn is_refused<A: Allocator + Copy>(heap: A, alloc: Global, bytes: &[u8]) -> Result<bool, AllocError> {
+fn is_refused<A: Allocator + Copy>(
+    heap: A,
+    alloc: Global,
+    bytes: &[u8],
+) -> Result<bool, AllocError> {
     let mut body = bytes.to_vec(alloc)?;
     let mut scratch = Scratch::new(heap);
     match read_body(heap, body.as_mut_slice(), &mut scratch) {

@@ -5,6 +5,7 @@ use Rattle.yl_rpc.proofs.surrogates.mend.Given as goal
 abbrev pub invariant-loop-i : goal.invariant-loop-i
 invariant-loop-i l = record {
   within : l.i ≤ length l.body;
+  size : length l.body ≡ length l.initial.body;
   so_far : take l.i l.body ++ mended_from l.within (drop l.i l.body) ≡ mended l.initial.body;
 }
 

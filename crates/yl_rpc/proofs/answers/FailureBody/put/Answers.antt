@@ -1,6 +1,6 @@
 use Rattle.std.proofs.Common.{◌≡◌, ◌∙◌, ◌++◌, List, ℕ, OnOk, OnErr, ap, codes, subst}
 use Rattle.json.specs.Print.{quoted}
-use Rattle.yl_rpc.specs.Answers.{code_text, failure, id_json, json_text}
+use Rattle.yl_rpc.specs.Answers.{failure, id_json, json_text}
 use Rattle.yl_rpc.specs.Views.{id_view}
 use Rattle.yl_rpc.proofs.Texts.{failure_written}
 use Rattle.yl_rpc.proofs.answers.FailureBody.put.Goals as goal

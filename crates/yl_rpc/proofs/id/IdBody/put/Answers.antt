@@ -1,7 +1,3 @@
-use Rattle.std.proofs.Common.{◌≡◌, ◌∙◌, List, ℕ, OnOk, OnErr, ap, subst, sym}
-use Rattle.json.specs.Print.{quoted}
-use Rattle.yl_rpc.specs.Answers.{id_json, json_text}
-use Rattle.yl_rpc.specs.Views.{id_view}
 use Rattle.yl_rpc.proofs.Texts.{null_written, number_written, string_written}
 use Rattle.yl_rpc.proofs.id.IdBody.put.Goals as goal
 
