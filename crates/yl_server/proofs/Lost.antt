@@ -148,27 +148,27 @@ each_map P Q f (d ∷ ds) h = (f d h.0, each_map P Q f ds h.1)
 each_with : (P Q : DocumentValue → Type 0) (uri : List ℕ) (other : DocumentValue → DocumentValue) → ((d : DocumentValue) → P d → Q d) → ((d : DocumentValue) → d.uri ≡ uri → P d → Q (other d))
     → (ds : List DocumentValue) → Each P ds → Each Q (with_document uri other ds)
 each_with P Q uri other f g [] h = tt
-each_with P Q uri other f g (d ∷ ds) h = of (bytes_eq d.uri uri) refl
+each_with P Q uri other f g (d ∷ ds) h = of (bytes_eq d.uri uri) refl (each_with P Q uri other f g ds h.1)
   where
-    of : (b : Bool) → bytes_eq d.uri uri ≡ b → Each Q (cond b (other d ∷ ds) (d ∷ with_document uri other ds))
-    of true e = (g d ((bytes_eq-Decides d.uri uri).0 e) h.0, each_map P Q f ds h.1)
-    of false e = (f d h.0, each_with P Q uri other f g ds h.1)
+    of : (b : Bool) → bytes_eq d.uri uri ≡ b → Each Q (with_document uri other ds) → Each Q (cond b (other d ∷ ds) (d ∷ with_document uri other ds))
+    of true e rest = (g d ((bytes_eq-Decides d.uri uri).0 e) h.0, each_map P Q f ds h.1)
+    of false e rest = (f d h.0, rest)
 
 each_put : (P Q : DocumentValue → Type 0) (new : DocumentValue) → ((d : DocumentValue) → P d → Q d) → Q new → (ds : List DocumentValue) → Each P ds → Each Q (put_document new ds)
 each_put P Q new f q [] h = (q, tt)
-each_put P Q new f q (d ∷ ds) h = of (bytes_eq d.uri new.uri)
+each_put P Q new f q (d ∷ ds) h = of (bytes_eq d.uri new.uri) (each_put P Q new f q ds h.1)
   where
-    of : (b : Bool) → Each Q (cond b (new ∷ ds) (d ∷ put_document new ds))
-    of true = (q, each_map P Q f ds h.1)
-    of false = (f d h.0, each_put P Q new f q ds h.1)
+    of : (b : Bool) → Each Q (put_document new ds) → Each Q (cond b (new ∷ ds) (d ∷ put_document new ds))
+    of true rest = (q, each_map P Q f ds h.1)
+    of false rest = (f d h.0, rest)
 
 each_closed : (P : DocumentValue → Type 0) (uri : List ℕ) (ds : List DocumentValue) → Each P ds → Each P (closed uri ds)
 each_closed P uri [] h = tt
-each_closed P uri (d ∷ ds) h = of (bytes_eq d.uri uri)
+each_closed P uri (d ∷ ds) h = of (bytes_eq d.uri uri) (each_closed P uri ds h.1)
   where
-    of : (b : Bool) → Each P (cond (not b) (d ∷ closed uri ds) (closed uri ds))
-    of true = each_closed P uri ds h.1
-    of false = (h.0, each_closed P uri ds h.1)
+    of : (b : Bool) → Each P (closed uri ds) → Each P (cond (not b) (d ∷ closed uri ds) (closed uri ds))
+    of true rest = rest
+    of false rest = (h.0, rest)
 
 each_lost : (Q : DocumentValue → Type 0) (c : Cause) → ((d : DocumentValue) → Q (lost_document c d)) → (ds : List DocumentValue) → Each Q (all_lost c ds)
 each_lost Q c f [] = tt

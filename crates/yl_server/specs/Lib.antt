@@ -4,6 +4,7 @@ pub mod Laws
 pub mod Machine
 pub mod Messages
 pub mod Named
+pub mod Replies
 pub mod Requests
 pub mod Serving
 pub mod Settings

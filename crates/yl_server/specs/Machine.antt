@@ -4,6 +4,7 @@ use Rattle.std.specs.Option.{option_map_or}
 use Rattle.json.specs.Json.{Json}
 use Rattle.yl_units.specs.declared.encoding.Encoding.TheVariants.{Utf16}
 use Rattle.yl_config.specs.declared.config.Config.{Config}
+use Rattle.yl_rpc.specs.declared.answers.Code.{Code}
 use Rattle.yl_rpc.specs.declared.answers.Code.TheVariants.{ParseError, InvalidRequest, MethodNotFound, InvalidParams, InternalError, ServerNotInitialized}
 use Rattle.yl_rpc.specs.Calls.{CallValue, Request, Notification, Response, Invalid, IdValue, Null}
 use Rattle.yl_lsp.specs.declared.presentation.TheConstants.{MOST_PROBLEMS}
@@ -99,8 +100,11 @@ opened_by e o s =
 abbrev pub missed : (answer : MessageValue) → ServerValue → Stepped
 missed answer s = let new = with_documents (all_lost Missed s.documents) s in (new, answer ∷ told_of_all new)
 
+abbrev pub not_read : Code → (words : List ℕ) → MessageValue
+not_read code words = Refused Null code words
+
 abbrev pub missed_for_memory : ServerValue → Stepped
-missed_for_memory = missed (Refused Null InternalError memory_words)
+missed_for_memory = missed (not_read InternalError memory_words)
 
 -- ---- settings
 
@@ -177,7 +181,7 @@ called e (Invalid id) s = (s, Refused id InvalidRequest no_request_words ∷ [])
 
 abbrev pub stepped : Event → Came → ServerValue → Stepped
 stepped e (Read call) s = called e call s
-stepped e NoJson s = missed (Refused Null ParseError no_json_words) s
+stepped e NoJson s = missed (not_read ParseError no_json_words) s
 stepped e Dropped s = missed_for_memory s
 
 -- an event makes this of a server, and this is sent

@@ -13,6 +13,8 @@ use Rattle.yl_server.specs.Bodies.{IsEvent, IsFound, settings_taken, text_set}
 use Rattle.yl_server.specs.Events.{Came, Event}
 use Rattle.yl_server.specs.Machine.{ServerValue, Stepped, exit_of, step}
 use Rattle.yl_server.specs.Messages.{MessageValue}
+use Rattle.yl_server.specs.declared.reply.Reply.{Reply}
+use Rattle.yl_server.specs.Replies.{IsReplied}
 use Rattle.yl_server.specs.Written.{written}
 
 -- an output before a call and after it
@@ -48,18 +50,12 @@ pub record IsTaken (came : Came) (phase : Phase) (e : Event) : Type 0 where
   pub came_is : e.came ≡ came
   pub found : IsFound (text_set (settings_taken came phase)) e.found
 
--- what came is done
-pub record IsMet (came : Came) (old new : ServerValue) (d : Sink) (ended : Option ℕ) : Type 0 where
+-- a call is met: a server became what the machine says, and the reply is what that sends
+pub record IsMet (came : Came) (old new : ServerValue) (r : Reply) (ended : Option ℕ) : Type 0 where
   pub event : Event
   pub taken : IsTaken came old.phase event
-  pub does : IsDone new d (step event old)
+  pub replied : IsReplied new r (step event old)
   pub ends : ended ≡ exit_of came old.phase
-
--- or begun
-pub record IsMeetingCut (came : Came) (old : ServerValue) (d : Sink) (fault : SendFault) : Type 0 where
-  pub event : Event
-  pub taken : IsTaken came old.phase event
-  pub cut : AreCut d (step event old).1 fault
 
 -- a body was an event, and that is done
 pub record IsHandled (body : List ℕ) (old new : ServerValue) (d : Sink) (ended : Option ℕ) : Type 0 where

@@ -3,6 +3,7 @@
 
 mod laws;
 mod phase;
+mod reply;
 mod serving;
 mod server;
 mod settings;

@@ -1,23 +1,24 @@
 //! A server, and what each message makes of it.
-ghost use Rattle.std.specs.Prelude.{◌≡◌, ◌-◌, ◌^◌, ◌<◌, [], ◌∷◌, Bool, List, map, Option, OnOk, IfErr, IfOk, option_and_then};
+ghost use Rattle.std.specs.Prelude.{◌≡◌, ◌-◌, ◌^◌, ◌<◌, ◌∷◌, [], Bool, List, map, Option, IfErr, IfOk, Some, option_and_then, option_copied};
 ghost use Rattle.std.specs.Option.{option_map, option_map_or};
 ghost use Rattle.json.specs.Json.{Json};
 ghost use Rattle.json.specs.Value.{value_view};
 ghost use Rattle.yl_text.specs.Watched.{failures_of};
 ghost use Rattle.yl_frames.specs.Sending.{watched_of};
-ghost use Rattle.yl_rpc.specs.Calls.{Request, Null as NoId};
 ghost use Rattle.yl_rpc.specs.Views.{call_view, id_view};
-ghost use Rattle.yl_lsp.specs.Params.{change_in, changed_settings as settings_said, Unread, first_settings as settings_first};
+ghost use Rattle.yl_lsp.specs.Params.{change_in, Unread};
+ghost use Rattle.yl_lsp.specs.Params as params_spec;
 ghost use Rattle.yl_lsp.specs.Read.{change_value};
 ghost use Rattle.yl_workspace.specs.Documents as docs;
-ghost use Rattle.yl_server.specs.Bodies.{IsFound, noticed_settings, text_set};
+ghost use Rattle.yl_server.specs.Bodies.{IsFound, noticed_settings, requested_settings, settings_of_notice, text_set};
 ghost use Rattle.yl_server.specs.Events.{Event, Read as Came};
-ghost use Rattle.yl_server.specs.Messages.{Initialized, Refused, Published, Told, Shown};
 ghost use Rattle.yl_server.specs.Requests as spec;
 ghost use Rattle.yl_server.specs.Machine as machine;
-ghost use Rattle.yl_server.specs.Steps.{AreCut, AreSent, IsDone, IsHandled, IsHandlingCut, IsMeetingCut, IsMet, IsTaken, sink};
-ghost use Rattle.yl_server.specs.Written.{lost_words};
+ghost use Rattle.yl_server.specs.Replies.{IsReplied};
+ghost use Rattle.yl_server.specs.Steps.{AreCut, IsDone, IsHandled, IsHandlingCut, IsMet, sink};
+
 use crate::phase::Phase;
+use crate::reply::Reply;
 use crate::settings::{ConfigFiles, Setting, setting_of};
 use crate::words::{
     INITIALIZED, MEMORY, NO_JSON, NO_REQUEST, PARAMS, STOPPED, UNKNOWN, WAITING,
@@ -29,17 +30,13 @@ use std::marker::Model;
 use yl_config::Config;
 use yl_frames::{Output, SendFault};
 use yl_lsp::{
-    Change, Content, ErrorMessage, InitializeResult, MOST_PROBLEMS, Presentation, Publication,
-    Report, change_of, changed_settings, changes_in, document_in, encoding_in, first_settings,
-    opened_in, takes_links, version_in,
+    Change, MOST_PROBLEMS, Presentation, change_of, changed_settings, changes_in, document_in,
+    encoding_in, first_settings, opened_in, takes_links, version_in,
 };
-use yl_rpc::{Answer, BodyFault, Call, Code, Failure, Id, Plain, call_of, read_body};
+use yl_rpc::{BodyFault, Call, Code, Id, call_of, read_body};
 use yl_text::LineStore;
 use yl_units::Encoding;
 use yl_workspace::{Cause, Document, Workspace};
-
-/// The version that an editor is told.
-const VERSION: &str = "0.1.0";
 
 /// A server: how far it is, how it shows problems, the configuration in force, and the documents that are open.
 #[derive(Drop)]
@@ -51,29 +48,6 @@ pub struct Server<S: LineStore> {
     workspace: Workspace<S>,
 }
 
-/// Answers a request that is not met.
-fn refuse<W: Write>(
-    id: Id<'_>,
-    code: Code,
-    message: &str,
-    out: &mut Output<W>,
-) -> Result<(), SendFault>
-    requires { failures_of (watched_of out.old) < 2 ^ 64 - 1 }
-    ensures ok { OnOk result (AreSent (sink W.contents out.old out.new) (Refused (id_view id.entry) code message.now ∷ [])) }
-    ensures err { IfErr result (AreCut (sink W.contents out.old out.new) (Refused (id_view id.entry) code message.now ∷ [])) }
-{
-    out.send(&Failure { id, code, message })
-}
-
-/// Tells the user of an error.
-fn tell<W: Write>(text: &str, out: &mut Output<W>) -> Result<(), SendFault>
-    requires { failures_of (watched_of out.old) < 2 ^ 64 - 1 }
-    ensures ok { OnOk result (AreSent (sink W.contents out.old out.new) (Told text.now ∷ [])) }
-    ensures err { IfErr result (AreCut (sink W.contents out.old out.new) (Told text.now ∷ [])) }
-{
-    out.send(&ErrorMessage { text })
-}
-
 /// The params that are an object.
 fn object_of<'v, 'a, A: Allocator>(
     params: Option<&'v Value<'a, A>>,
@@ -83,18 +57,6 @@ fn object_of<'v, 'a, A: Allocator>(
     match params {
         Some(value) if matches!(value, Value::Object(_)) => Some(value),
         _ => None,
-    }
-}
-
-/// Why a text is not followed, for people.
-fn lost_words(cause: Cause) -> &'static str
-    ensures { result.now ≡ lost_words cause }
-{
-    match cause {
-        Cause::OutOfMemory => "out of memory: the text is not followed until it is opened again",
-        Cause::TooLarge => "too large: the text is not followed until it is opened again",
-        Cause::BadChange => "a change that cannot be made: the text is not followed until it is opened again",
-        Cause::Missed => "a message was not read: the text is not followed until it is opened again",
     }
 }
 
@@ -138,6 +100,34 @@ impl<S: LineStore> Server<S> {
         }
     }
 
+    /// How problems are shown.
+    pub(crate) fn how(&self) -> Presentation
+        ensures { result ≡ self.now.how }
+    {
+        self.how
+    }
+
+    /// In what columns are counted.
+    pub(crate) fn encoding(&self) -> Encoding
+        ensures { result ≡ self.now.how.encoding }
+    {
+        self.how.encoding
+    }
+
+    /// The documents that are open.
+    pub(crate) fn documents(&self) -> &[Document<S>]
+        ensures { result.now ≡ self.now.documents }
+    {
+        self.workspace.documents()
+    }
+
+    /// The document of a URI, if it is open.
+    pub(crate) fn document(&self, uri: &str) -> Option<&Document<S>>
+        ensures { option_copied result ≡ docs.document_at uri.now self.now.documents }
+    {
+        self.workspace.document(uri)
+    }
+
     /// Does what a body asks for, and sends what it is answered and what is told of documents. Returns the exit
     /// status where the body asks for the end.
     pub fn handle<F: ConfigFiles, W: Write>(
@@ -151,66 +141,54 @@ impl<S: LineStore> Server<S> {
         ensures err { IfErr result (IsHandlingCut body.old self.old (sink W.contents out.old out.new)) }
     {
         let mut scratch = Scratch::new(self.alloc);
-        match read_body(self.alloc, body, &mut scratch) {
-            Ok(message) => self.call(call_of(&message), files, out),
+        let (reply, ended) = match read_body(self.alloc, body, &mut scratch) {
+            Ok(message) => self.meet(call_of(&message), files),
             Err(BodyFault::NoJson) | Err(BodyFault::TooDeep) => {
-                self.miss(Code::ParseError, NO_JSON, out)?;
-                Ok(None)
+                (self.miss(Code::ParseError, NO_JSON), None)
             }
-            Err(BodyFault::Memory) => {
-                self.drop_body(out)?;
-                Ok(None)
-            }
-        }
+            Err(BodyFault::Memory) => (self.miss(Code::InternalError, MEMORY), None),
+        };
+        self.send(reply, out)?;
+        Ok(ended)
     }
 
     /// A body came for which there was no memory.
     pub fn drop_body<W: Write>(&mut self, out: &mut Output<W>) -> Result<(), SendFault>
         requires { failures_of (watched_of out.old) < 2 ^ 64 - 1 }
-        ensures ok { OnOk result (IsDone self.new (sink W.contents out.old out.new) (machine.missed_for_memory self.old)) }
-        ensures err { IfErr result (AreCut (sink W.contents out.old out.new) (machine.missed_for_memory self.old).1) }
+        ensures ok { IfOk result (λ _. IsDone self.new (sink W.contents out.old out.new) (machine.missed_for_memory self.old)) }
+        ensures err { IfErr result (AreCut (sink W.contents out.old out.new) ((machine.missed_for_memory self.old).1)) }
     {
-        self.miss(Code::InternalError, MEMORY, out)
+        let reply = self.miss(Code::InternalError, MEMORY);
+        self.send(reply, out)
     }
 
     // A body was not read: it may have been a change.
-    fn miss<W: Write>(
-        &mut self,
-        code: Code,
-        words: &str,
-        out: &mut Output<W>,
-    ) -> Result<(), SendFault>
-        requires { failures_of (watched_of out.old) < 2 ^ 64 - 1 }
-        ensures ok { OnOk result (IsDone self.new (sink W.contents out.old out.new) (machine.missed (Refused NoId code words.now) self.old)) }
-        ensures err { IfErr result (AreCut (sink W.contents out.old out.new) (machine.missed (Refused NoId code words.now) self.old).1) }
+    fn miss<'a>(&mut self, code: Code, words: &'a str) -> Reply<'a>
+        ensures { IsReplied self.new result (machine.missed (machine.not_read code words.entry.now) self.old) }
     {
         self.workspace.lose_all(Cause::Missed);
-        refuse(Id::Null, code, words, out)?;
-        self.tell_of_all(out)
+        Reply::Missed(code, words)
     }
 
-    fn call<F: ConfigFiles, W: Write>(
+    // Does what a call asks for. Returns the exit status where it asks for the end.
+    fn meet<'a, F: ConfigFiles>(
         &mut self,
-        call: Call<'_, '_, S::Alloc>,
+        call: Call<'_, 'a, S::Alloc>,
         files: &mut F,
-        out: &mut Output<W>,
-    ) -> Result<Option<u8>, SendFault>
-        requires { failures_of (watched_of out.old) < 2 ^ 64 - 1 }
-        ensures ok { IfOk result (IsMet (Came (call_view call.entry)) self.old self.new (sink W.contents out.old out.new)) }
-        ensures err { IfErr result (IsMeetingCut (Came (call_view call.entry)) self.old (sink W.contents out.old out.new)) }
+    ) -> (Reply<'a>, Option<u8>)
+        ensures { IsMet (Came (call_view call.entry)) self.old self.new result.0 result.1 }
     {
         match call {
-            Call::Request { id, method, params } => self.answer(id, method, params, files, out)?,
+            Call::Request { id, method, params } => (self.answer(id, method, params, files), None),
             Call::Notification { method, params } => {
                 if method == "exit" {
-                    return Ok(Some(self.status()));
+                    return (Reply::Nothing, Some(self.status()));
                 }
-                self.notice(method, params, files, out)?;
+                (self.notice(method, params, files), None)
             }
-            Call::Response => {}
-            Call::Invalid { id } => refuse(id, Code::InvalidRequest, NO_REQUEST, out)?,
+            Call::Response => (Reply::Nothing, None),
+            Call::Invalid { id } => (Reply::Refused(id, Code::InvalidRequest, NO_REQUEST), None),
         }
-        Ok(None)
     }
 
     // The exit status.
@@ -225,77 +203,77 @@ impl<S: LineStore> Server<S> {
 
     // ---- requests
 
-    fn answer<F: ConfigFiles, W: Write>(
+    fn answer<'a, F: ConfigFiles>(
         &mut self,
-        id: Id<'_>,
+        id: Id<'a>,
         method: &str,
-        params: Option<&Value<'_, S::Alloc>>,
+        params: Option<&Value<'a, S::Alloc>>,
         files: &mut F,
-        out: &mut Output<W>,
-    ) -> Result<(), SendFault>
-        requires { failures_of (watched_of out.old) < 2 ^ 64 - 1 }
-        ensures ok { OnOk result ((e : Event) × IsTaken (Came (Request (id_view id.entry) method.entry.now (option_map (λ v. value_view v.now) params.entry))) self.old.phase e × IsDone self.new (sink W.contents out.old out.new) (machine.answered e (id_view id.entry) (spec.request_of method.entry.now (option_map (λ v. value_view v.now) params.entry)) self.old.phase self.old)) }
-        ensures err { IfErr result (λ fault. (e : Event) × IsTaken (Came (Request (id_view id.entry) method.entry.now (option_map (λ v. value_view v.now) params.entry))) self.old.phase e × AreCut (sink W.contents out.old out.new) ((machine.answered e (id_view id.entry) (spec.request_of method.entry.now (option_map (λ v. value_view v.now) params.entry)) self.old.phase self.old).1) fault) }
+    ) -> Reply<'a>
+        ensures { (e : Event) × IsFound (text_set (requested_settings (spec.request_of method.now (option_map (λ v. value_view v.now) params.entry)) self.old.phase)) e.found
+            × IsReplied self.new result (machine.answered e (id_view id.entry) (spec.request_of method.now (option_map (λ v. value_view v.now) params.entry)) self.old.phase self.old) }
     {
         match self.phase {
             Phase::Waiting => {
                 if method == "initialize" {
-                    self.initialize(id, params, files, out)
+                    self.initialize(id, params, files)
                 } else {
-                    refuse(id, Code::ServerNotInitialized, WAITING, out)
+                    Reply::Refused(id, Code::ServerNotInitialized, WAITING)
                 }
             }
-            Phase::Running => self.answer_running(id, method, out),
-            Phase::Stopped => refuse(id, Code::InvalidRequest, STOPPED, out),
+            Phase::Running => self.answer_running(id, method),
+            Phase::Stopped => Reply::Refused(id, Code::InvalidRequest, STOPPED),
         }
     }
 
-    fn answer_running<W: Write>(
-        &mut self,
-        id: Id<'_>,
-        method: &str,
-        out: &mut Output<W>,
-    ) -> Result<(), SendFault>
-        requires { failures_of (watched_of out.old) < 2 ^ 64 - 1 }
-        ensures ok { OnOk result ((params : Option Json) → IsDone self.new (sink W.contents out.old out.new) (machine.answered_running (id_view id.entry) (spec.request_of method.entry.now params) self.old)) }
-        ensures err { IfErr result (λ fault. (params : Option Json) → AreCut (sink W.contents out.old out.new) ((machine.answered_running (id_view id.entry) (spec.request_of method.entry.now params) self.old).1) fault) }
+    fn answer_running<'a>(&mut self, id: Id<'a>, method: &str) -> Reply<'a>
+        ensures { (params : Option Json) → IsReplied self.new result (machine.answered_running (id_view id.entry) (spec.request_of method.now params) self.old) }
     {
-        match method {
-            "initialize" => refuse(id, Code::InvalidRequest, INITIALIZED, out),
-            "shutdown" => {
-                self.phase = Phase::Stopped;
-                out.send(&Answer::new(id, Plain("null")))
-            }
-            _ => refuse(id, Code::MethodNotFound, UNKNOWN, out),
+        if method == "initialize" {
+            return Reply::Refused(id, Code::InvalidRequest, INITIALIZED);
         }
+        if method == "shutdown" {
+            self.phase = Phase::Stopped;
+            return Reply::Done(id);
+        }
+        Reply::Refused(id, Code::MethodNotFound, UNKNOWN)
     }
 
-    fn initialize<F: ConfigFiles, W: Write>(
+    fn initialize<'a, F: ConfigFiles>(
         &mut self,
-        id: Id<'_>,
-        params: Option<&Value<'_, S::Alloc>>,
+        id: Id<'a>,
+        params: Option<&Value<'a, S::Alloc>>,
         files: &mut F,
-        out: &mut Output<W>,
-    ) -> Result<(), SendFault>
-        requires { failures_of (watched_of out.old) < 2 ^ 64 - 1 }
-        ensures ok { OnOk result ((e : Event) × IsFound (text_set (option_and_then settings_first (spec.object_of (option_map (λ v. value_view v.now) params.entry)))) e.found × IsDone self.new (sink W.contents out.old out.new) (machine.initialized_with e (id_view id.entry) (spec.object_of (option_map (λ v. value_view v.now) params.entry)) self.old)) }
-        ensures err { IfErr result (λ fault. (e : Event) × IsFound (text_set (option_and_then settings_first (spec.object_of (option_map (λ v. value_view v.now) params.entry)))) e.found × AreCut (sink W.contents out.old out.new) ((machine.initialized_with e (id_view id.entry) (spec.object_of (option_map (λ v. value_view v.now) params.entry)) self.old).1) fault) }
+    ) -> Reply<'a>
+        ensures { (e : Event) × IsFound (text_set (option_and_then params_spec.first_settings (spec.object_of (option_map (λ v. value_view v.now) params.entry)))) e.found
+            × IsReplied self.new result (machine.initialized_with e (id_view id.entry) (spec.object_of (option_map (λ v. value_view v.now) params.entry)) self.old) }
     {
-        let Some(params) = object_of(params) else {
-            return refuse(id, Code::InvalidParams, PARAMS, out);
-        };
+        match object_of(params) {
+            Some(params) => self.initialize_with(id, params, files),
+            None => Reply::Refused(id, Code::InvalidParams, PARAMS),
+        }
+    }
+
+    fn initialize_with<'a, F: ConfigFiles>(
+        &mut self,
+        id: Id<'a>,
+        params: &Value<'a, S::Alloc>,
+        files: &mut F,
+    ) -> Reply<'a>
+        ensures { (e : Event) × IsFound (text_set (params_spec.first_settings (value_view params.now))) e.found
+            × IsReplied self.new result (machine.initialized_with e (id_view id.entry) (Some (value_view params.now)) self.old) }
+    {
         match setting_of(self.alloc, first_settings(params), files) {
             Setting::Set(config, most) => {
                 self.begin(params);
                 self.set(config, most);
-                self.welcome(id, out)
+                Reply::Welcome(id)
             }
             Setting::Faulty(fault) => {
                 self.begin(params);
-                self.welcome(id, out)?;
-                tell(fault.words(), out)
+                Reply::WelcomeTold(id, fault)
             }
-            Setting::NoMemory => refuse(id, Code::InternalError, MEMORY, out),
+            Setting::NoMemory => Reply::Refused(id, Code::InternalError, MEMORY),
         }
     }
 
@@ -306,19 +284,6 @@ impl<S: LineStore> Server<S> {
         self.phase = Phase::Running;
         self.how.encoding = encoding_in(params);
         self.how.links = takes_links(params);
-    }
-
-    // Answers `initialize`.
-    fn welcome<W: Write>(&self, id: Id<'_>, out: &mut Output<W>) -> Result<(), SendFault>
-        requires { failures_of (watched_of out.old) < 2 ^ 64 - 1 }
-        ensures ok { OnOk result (AreSent (sink W.contents out.old out.new) (Initialized (id_view id.entry) self.now.how.encoding ∷ [])) }
-        ensures err { IfErr result (AreCut (sink W.contents out.old out.new) (Initialized (id_view id.entry) self.now.how.encoding ∷ [])) }
-    {
-        let outcome = InitializeResult {
-            encoding: self.how.encoding,
-            version: VERSION,
-        };
-        out.send(&Answer::new(id, outcome))
     }
 
     // Puts a configuration and a number of problems in force, each where it is set.
@@ -336,75 +301,76 @@ impl<S: LineStore> Server<S> {
 
     // ---- notifications
 
-    fn notice<F: ConfigFiles, W: Write>(
+    fn notice<'a, F: ConfigFiles>(
         &mut self,
         method: &str,
-        params: Option<&Value<'_, S::Alloc>>,
+        params: Option<&Value<'a, S::Alloc>>,
         files: &mut F,
-        out: &mut Output<W>,
-    ) -> Result<(), SendFault>
-        requires { failures_of (watched_of out.old) < 2 ^ 64 - 1 }
-        ensures ok { OnOk result ((e : Event) × IsFound (text_set (noticed_settings (option_map_or (spec.notice_with method.entry.now) (option_map (λ v. value_view v.now) params.entry) spec.Passed) self.old.phase)) e.found × IsDone self.new (sink W.contents out.old out.new) (machine.noticed e (option_map_or (spec.notice_with method.entry.now) (option_map (λ v. value_view v.now) params.entry) spec.Passed) self.old.phase self.old)) }
-        ensures err { IfErr result (λ fault. (e : Event) × IsFound (text_set (noticed_settings (option_map_or (spec.notice_with method.entry.now) (option_map (λ v. value_view v.now) params.entry) spec.Passed) self.old.phase)) e.found × AreCut (sink W.contents out.old out.new) ((machine.noticed e (option_map_or (spec.notice_with method.entry.now) (option_map (λ v. value_view v.now) params.entry) spec.Passed) self.old.phase self.old).1) fault) }
+    ) -> Reply<'a>
+        ensures { (e : Event) × IsFound (text_set (noticed_settings (option_map_or (spec.notice_with method.now) (option_map (λ v. value_view v.now) params.entry) spec.Passed) self.old.phase)) e.found
+            × IsReplied self.new result (machine.noticed e (option_map_or (spec.notice_with method.now) (option_map (λ v. value_view v.now) params.entry) spec.Passed) self.old.phase self.old) }
     {
-        let Phase::Running = self.phase else {
-            return Ok(());
-        };
-        let Some(params) = params else {
-            return Ok(());
-        };
-        match method {
-            "textDocument/didOpen" => self.open(params, out),
-            "textDocument/didChange" => self.change(params, out),
-            "textDocument/didClose" => self.close(params, out),
-            "workspace/didChangeConfiguration" => self.configure(params, files, out),
-            _ => Ok(()),
+        match (self.phase, params) {
+            (Phase::Running, Some(params)) => self.notice_running(method, params, files),
+            _ => Reply::Nothing,
         }
     }
 
-    fn open<W: Write>(
+    fn notice_running<'a, F: ConfigFiles>(
         &mut self,
-        params: &Value<'_, S::Alloc>,
-        out: &mut Output<W>,
-    ) -> Result<(), SendFault>
-        requires { failures_of (watched_of out.old) < 2 ^ 64 - 1 }
-        ensures ok { OnOk result ((e : Event) × IsDone self.new (sink W.contents out.old out.new) (machine.noticed_running e (spec.opens (value_view params.now)) self.old)) }
-        ensures err { IfErr result (λ fault. (e : Event) × AreCut (sink W.contents out.old out.new) ((machine.noticed_running e (spec.opens (value_view params.now)) self.old).1) fault) }
+        method: &str,
+        params: &Value<'a, S::Alloc>,
+        files: &mut F,
+    ) -> Reply<'a>
+        ensures { (e : Event) × IsFound (text_set (settings_of_notice (spec.notice_with method.now (value_view params.now)))) e.found
+            × IsReplied self.new result (machine.noticed_running e (spec.notice_with method.now (value_view params.now)) self.old) }
+    {
+        if method == "textDocument/didOpen" {
+            return self.open(params);
+        }
+        if method == "textDocument/didChange" {
+            return self.change(params);
+        }
+        if method == "textDocument/didClose" {
+            return self.close(params);
+        }
+        if method == "workspace/didChangeConfiguration" {
+            return self.configure(params, files);
+        }
+        Reply::Nothing
+    }
+
+    fn open<'a>(&mut self, params: &Value<'a, S::Alloc>) -> Reply<'a>
+        ensures { (granted : List Bool) × ((e : Event) → e.granted ≡ granted → IsReplied self.new result (machine.noticed_running e (spec.opens (value_view params.now)) self.old)) }
     {
         let Some(opened) = opened_in(params) else {
-            return self.spoil(params, out);
+            return self.spoil(params);
         };
         // One that could not be entered is not open after this, and that is told.
         drop(self.workspace.open(self.config, opened));
-        self.tell_of(opened.uri, out)?;
-        match self.workspace.document(opened.uri) {
-            Some(_) => Ok(()),
-            None => tell(MEMORY, out),
+        if self.workspace.document(opened.uri).is_some() {
+            Reply::Document(opened.uri)
+        } else {
+            Reply::NotEntered(opened.uri)
         }
     }
 
-    fn change<W: Write>(
-        &mut self,
-        params: &Value<'_, S::Alloc>,
-        out: &mut Output<W>,
-    ) -> Result<(), SendFault>
-        requires { failures_of (watched_of out.old) < 2 ^ 64 - 1 }
-        ensures ok { OnOk result ((e : Event) × IsDone self.new (sink W.contents out.old out.new) (machine.noticed_running e (spec.changes (value_view params.now)) self.old)) }
-        ensures err { IfErr result (λ fault. (e : Event) × AreCut (sink W.contents out.old out.new) ((machine.noticed_running e (spec.changes (value_view params.now)) self.old).1) fault) }
+    fn change<'a>(&mut self, params: &Value<'a, S::Alloc>) -> Reply<'a>
+        ensures { (granted : List Bool) × ((e : Event) → e.granted ≡ granted → IsReplied self.new result (machine.noticed_running e (spec.changes (value_view params.now)) self.old)) }
     {
         let (Some(uri), Some(version)) = (document_in(params), version_in(params)) else {
-            return self.spoil(params, out);
+            return self.spoil(params);
         };
         if self.workspace.document(uri).is_none() {
-            return Ok(());
+            return Reply::Nothing;
         }
         self.change_text(uri, version, changes_in(params));
-        self.tell_of(uri, out)
+        Reply::Document(uri)
     }
 
     // Makes the changes that values are. None are one of another shape.
     fn change_text(&mut self, uri: &str, version: &str, values: Option<&[Value<'_, S::Alloc>]>)
-        ensures { (grants : List Bool) × (self.new ≡ machine.with_documents (docs.changed self.old.how.encoding grants uri.now version.now
+        ensures { (granted : List Bool) × (self.new ≡ machine.with_documents (docs.changed self.old.how.encoding granted uri.now version.now
             (option_map_or (λ vs. map (λ v. change_in (value_view v)) vs.now) values.entry (Unread ∷ [])) self.old.documents) self.old) }
     {
         let encoding = self.how.encoding;
@@ -419,120 +385,50 @@ impl<S: LineStore> Server<S> {
     }
 
     // A message changed a text, and has the shape of no change.
-    fn spoil<W: Write>(
-        &mut self,
-        params: &Value<'_, S::Alloc>,
-        out: &mut Output<W>,
-    ) -> Result<(), SendFault>
-        requires { failures_of (watched_of out.old) < 2 ^ 64 - 1 }
-        ensures ok { OnOk result ((e : Event) → IsDone self.new (sink W.contents out.old out.new) (machine.noticed_running e (spec.spoils (value_view params.now)) self.old)) }
-        ensures err { IfErr result (λ fault. (e : Event) → AreCut (sink W.contents out.old out.new) ((machine.noticed_running e (spec.spoils (value_view params.now)) self.old).1) fault) }
+    fn spoil<'a>(&mut self, params: &Value<'a, S::Alloc>) -> Reply<'a>
+        ensures { (e : Event) → IsReplied self.new result (machine.noticed_running e (spec.spoils (value_view params.now)) self.old) }
     {
         let Some(uri) = document_in(params) else {
-            return Ok(());
+            return Reply::Nothing;
         };
         if self.workspace.document(uri).is_none() {
-            return Ok(());
+            return Reply::Nothing;
         }
         self.workspace.lose(uri, Cause::BadChange);
-        self.tell_of(uri, out)
+        Reply::Document(uri)
     }
 
-    fn close<W: Write>(
-        &mut self,
-        params: &Value<'_, S::Alloc>,
-        out: &mut Output<W>,
-    ) -> Result<(), SendFault>
-        requires { failures_of (watched_of out.old) < 2 ^ 64 - 1 }
-        ensures ok { OnOk result ((e : Event) → IsDone self.new (sink W.contents out.old out.new) (machine.noticed_running e (spec.closes (value_view params.now)) self.old)) }
-        ensures err { IfErr result (λ fault. (e : Event) → AreCut (sink W.contents out.old out.new) ((machine.noticed_running e (spec.closes (value_view params.now)) self.old).1) fault) }
+    fn close<'a>(&mut self, params: &Value<'a, S::Alloc>) -> Reply<'a>
+        ensures { (e : Event) → IsReplied self.new result (machine.noticed_running e (spec.closes (value_view params.now)) self.old) }
     {
         let Some(uri) = document_in(params) else {
-            return Ok(());
+            return Reply::Nothing;
         };
         if self.workspace.document(uri).is_none() {
-            return Ok(());
+            return Reply::Nothing;
         }
         self.workspace.close(uri);
-        self.tell_of(uri, out)
+        Reply::Document(uri)
     }
 
-    fn configure<F: ConfigFiles, W: Write>(
+    fn configure<'a, F: ConfigFiles>(
         &mut self,
-        params: &Value<'_, S::Alloc>,
+        params: &Value<'a, S::Alloc>,
         files: &mut F,
-        out: &mut Output<W>,
-    ) -> Result<(), SendFault>
-        requires { failures_of (watched_of out.old) < 2 ^ 64 - 1 }
-        ensures ok { OnOk result ((e : Event) × IsFound (text_set (settings_said (value_view params.now))) e.found × IsDone self.new (sink W.contents out.old out.new) (machine.set_with e (settings_said (value_view params.now)) self.old)) }
-        ensures err { IfErr result (λ fault. (e : Event) × IsFound (text_set (settings_said (value_view params.now))) e.found × AreCut (sink W.contents out.old out.new) ((machine.set_with e (settings_said (value_view params.now)) self.old).1) fault) }
+    ) -> Reply<'a>
+        ensures { (e : Event) × IsFound (text_set (params_spec.changed_settings (value_view params.now))) e.found
+            × IsReplied self.new result (machine.set_with e (params_spec.changed_settings (value_view params.now)) self.old) }
     {
         let Some(settings) = changed_settings(params) else {
-            return Ok(());
+            return Reply::Nothing;
         };
         match setting_of(self.alloc, Some(settings), files) {
             Setting::Set(config, most) => {
                 self.set(config, most);
-                self.tell_of_all(out)
+                Reply::All
             }
-            Setting::Faulty(fault) => tell(fault.words(), out),
-            Setting::NoMemory => tell(MEMORY, out),
+            Setting::Faulty(fault) => Reply::Told(fault.words()),
+            Setting::NoMemory => Reply::Told(MEMORY),
         }
-    }
-
-    // ---- what is told of documents
-
-    // Publishes the problems of a document that is open, or that one has none which is not.
-    fn tell_of<W: Write>(&self, uri: &str, out: &mut Output<W>) -> Result<(), SendFault>
-        requires { failures_of (watched_of out.old) < 2 ^ 64 - 1 }
-        ensures ok { OnOk result (AreSent (sink W.contents out.old out.new) (machine.told_of uri.now self.now ∷ [])) }
-        ensures err { IfErr result (AreCut (sink W.contents out.old out.new) (machine.told_of uri.now self.now ∷ [])) }
-    {
-        match self.workspace.document(uri) {
-            Some(document) => self.show(uri, document, out),
-            None => {
-                let cleared: Publication<'_, S> = Publication {
-                    uri,
-                    version: None,
-                    content: Content::Nothing,
-                };
-                out.send(&cleared)
-            }
-        }
-    }
-
-    fn tell_of_all<W: Write>(&self, out: &mut Output<W>) -> Result<(), SendFault>
-        requires { failures_of (watched_of out.old) < 2 ^ 64 - 1 }
-        ensures ok { OnOk result (AreSent (sink W.contents out.old out.new) (machine.told_of_all self.now)) }
-        ensures err { IfErr result (AreCut (sink W.contents out.old out.new) (machine.told_of_all self.now)) }
-    {
-        for document in self.workspace.documents() {
-            self.show(document.uri(), document, out)?;
-        }
-        Ok(())
-    }
-
-    fn show<W: Write>(
-        &self,
-        uri: &str,
-        document: &Document<S>,
-        out: &mut Output<W>,
-    ) -> Result<(), SendFault>
-        requires { failures_of (watched_of out.old) < 2 ^ 64 - 1 }
-        ensures ok { OnOk result (AreSent (sink W.contents out.old out.new) (Published uri.now (Shown self.now.how document.now) ∷ [])) }
-        ensures err { IfErr result (AreCut (sink W.contents out.old out.new) (Published uri.now (Shown self.now.how document.now) ∷ [])) }
-    {
-        let content = match document.session() {
-            Ok(session) => {
-                let report = Report::new(self.how, session.lines(), session.problems());
-                Content::Problems(report)
-            }
-            Err(cause) => Content::Lost(lost_words(cause)),
-        };
-        out.send(&Publication {
-            uri,
-            version: Some(document.version()),
-            content,
-        })
     }
 }
