@@ -2,6 +2,8 @@ mod Absent
 mod Answered
 mod Documents
 mod Lost
+mod Methods
+mod Replied
 mod Sending
 mod Served
 mod Shown

@@ -11,7 +11,10 @@ use Rattle.yl_frames.specs.declared.output.SendFault.TheVariants.{Write, TooLong
 use Rattle.yl_server.specs.declared.phase.Phase.{Phase}
 use Rattle.yl_server.specs.Bodies.{IsEvent, IsFound, settings_taken, text_set}
 use Rattle.yl_server.specs.Events.{Came, Event}
-use Rattle.yl_server.specs.Machine.{ServerValue, Stepped, exit_of, step}
+use Rattle.yl_rpc.specs.declared.answers.Code.TheVariants.{ParseError, InternalError}
+use Rattle.yl_rpc.specs.declared.body.BodyFault.{BodyFault}
+use Rattle.yl_rpc.specs.declared.body.BodyFault.TheVariants.{NoJson, TooDeep, Memory}
+use Rattle.yl_server.specs.Machine.{ServerValue, Stepped, exit_of, memory_words, no_json_words, not_read, step}
 use Rattle.yl_server.specs.Messages.{MessageValue}
 use Rattle.yl_server.specs.declared.reply.Reply.{Reply}
 use Rattle.yl_server.specs.Replies.{IsReplied}
@@ -56,6 +59,19 @@ pub record IsMet (came : Came) (old new : ServerValue) (r : Reply) (ended : Opti
   pub taken : IsTaken came old.phase event
   pub replied : IsReplied new r (step event old)
   pub ends : ended ≡ exit_of came old.phase
+
+-- a body is met
+pub record IsBodyMet (body : List ℕ) (old new : ServerValue) (r : Reply) (ended : Option ℕ) : Type 0 where
+  pub event : Event
+  pub is : IsEvent body event old.phase
+  pub replied : IsReplied new r (step event old)
+  pub ends : ended ≡ exit_of event.came old.phase
+
+-- how a body is answered that was not read
+abbrev pub unread_answer : BodyFault → MessageValue
+unread_answer NoJson = not_read ParseError no_json_words
+unread_answer TooDeep = not_read ParseError no_json_words
+unread_answer Memory = not_read InternalError memory_words
 
 -- a body was an event, and that is done
 pub record IsHandled (body : List ℕ) (old new : ServerValue) (d : Sink) (ended : Option ℕ) : Type 0 where

@@ -14,6 +14,7 @@ use crate::settings::SettingFault;
 use crate::words::MEMORY;
 use std::io::Write;
 use yl_frames::{Output, SendFault};
+use yl_lint::one_report;
 use yl_lsp::{Content, ErrorMessage, InitializeResult, Publication, Report};
 use yl_rpc::{Answer, Code, Failure, Id, Plain};
 use yl_text::LineStore;
@@ -184,6 +185,7 @@ impl<S: LineStore> Server<S> {
         ensures ok { OnOk result (AreSent (sink W.contents out.old out.new) (Published uri.now (Shown self.now.how document.now) ∷ [])) }
         ensures err { IfErr result (AreCut (sink W.contents out.old out.new) (Published uri.now (Shown self.now.how document.now) ∷ [])) }
     {
+        one_report();
         let content = match document.session() {
             Ok(session) => {
                 let report = Report::new(self.how(), session.lines(), session.problems());

@@ -15,7 +15,7 @@ ghost use Rattle.yl_server.specs.Events.{Event, Read as Came};
 ghost use Rattle.yl_server.specs.Requests as spec;
 ghost use Rattle.yl_server.specs.Machine as machine;
 ghost use Rattle.yl_server.specs.Replies.{IsReplied};
-ghost use Rattle.yl_server.specs.Steps.{AreCut, IsDone, IsHandled, IsHandlingCut, IsMet, sink};
+ghost use Rattle.yl_server.specs.Steps.{AreCut, IsBodyMet, IsDone, IsHandled, IsHandlingCut, IsMet, sink, unread_answer};
 
 use crate::phase::Phase;
 use crate::reply::Reply;
@@ -141,15 +141,34 @@ impl<S: LineStore> Server<S> {
         ensures err { IfErr result (IsHandlingCut body.old self.old (sink W.contents out.old out.new)) }
     {
         let mut scratch = Scratch::new(self.alloc);
-        let (reply, ended) = match read_body(self.alloc, body, &mut scratch) {
-            Ok(message) => self.meet(call_of(&message), files),
-            Err(BodyFault::NoJson) | Err(BodyFault::TooDeep) => {
-                (self.miss(Code::ParseError, NO_JSON), None)
-            }
-            Err(BodyFault::Memory) => (self.miss(Code::InternalError, MEMORY), None),
-        };
+        let (reply, ended) = self.meet_body(body, &mut scratch, files);
         self.send(reply, out)?;
         Ok(ended)
+    }
+
+    // Does what a body asks for. Returns the exit status where it asks for the end.
+    fn meet_body<'a, F: ConfigFiles>(
+        &mut self,
+        body: &'a mut [u8],
+        scratch: &'a mut Scratch<S::Alloc>,
+        files: &mut F,
+    ) -> (Reply<'a>, Option<u8>)
+        ensures { IsBodyMet body.old self.old self.new result.0 result.1 }
+    {
+        match read_body(self.alloc, body, scratch) {
+            Ok(message) => self.meet(call_of(&message), files),
+            Err(fault) => (self.miss_body(fault), None),
+        }
+    }
+
+    // A body was not read.
+    fn miss_body<'a>(&mut self, fault: BodyFault) -> Reply<'a>
+        ensures { IsReplied self.new result (machine.missed (unread_answer fault) self.old) }
+    {
+        match fault {
+            BodyFault::NoJson | BodyFault::TooDeep => self.miss(Code::ParseError, NO_JSON),
+            BodyFault::Memory => self.miss(Code::InternalError, MEMORY),
+        }
     }
 
     /// A body came for which there was no memory.
