@@ -1,9 +1,12 @@
 mod Absent
 mod Answered
+mod Decided
 mod Documents
+mod Handled
 mod Lost
 mod Methods
 mod Replied
 mod Sending
 mod Served
 mod Shown
+mod Turned

@@ -1,6 +1,7 @@
 -- What is written of one message.
 use Rattle.std.proofs.Common.{◌≡◌, ℕ, List, [], ◌∷◌, ◌++◌, map, take, Option, None, Some, Result, Ok, Err, refl, sym, ap, ◌∙◌, subst}
 use Rattle.std.specs.Prelude.{OnOk, IfErr, IfOk, codes}
+use Rattle.std.specs.Option.{option_map_or}
 use Rattle.std.specs.Io.KnownBytes.{Appends}
 use Rattle.json.specs.Json.{Json, null}
 use Rattle.json.specs.Print.{print_from}
@@ -18,11 +19,13 @@ use Rattle.yl_rpc.specs.Answers.{answer, answer_text, json_text}
 use Rattle.yl_rpc.specs.Calls.{IdValue}
 use Rattle.yl_lsp.specs.declared.presentation.Presentation.{Presentation}
 use Rattle.yl_lsp.specs.Diagnostics.{DiagnosticValue}
+use Rattle.yl_lsp.specs.Messages.{publication}
 use Rattle.yl_lsp.specs.Reports.{ReportValue, report_diagnostics}
 use Rattle.yl_session.specs.State.{SessionValue}
-use Rattle.yl_workspace.specs.Documents.{DocumentValue}
+use Rattle.yl_workspace.specs.Documents.{DocumentValue, document_at}
 use Rattle.yl_workspace.specs.Shown.{IsFollowed}
-use Rattle.yl_server.specs.Messages.{MessageValue}
+use Rattle.yl_server.specs.Messages.{MessageValue, Published, Shown, Cleared}
+use Rattle.yl_server.specs.Machine.{ServerValue, told_of}
 use Rattle.yl_server.specs.Steps.{AreCut, AreSent}
 use Rattle.yl_server.specs.Written.{text_diagnostics}
 use Rattle.yl_server.proofs.Sending.{one_cut, one_sent, text_of}
@@ -68,3 +71,14 @@ followed_shown one computed how d s r h e =
     ∙ (ap (λ (ps : List RowValue). report_diagnostics (record { how = how; rows = ps; problems = s.problems })) (sym rows)
     ∙ (ap (λ (ps : List ProblemValue). report_diagnostics (record { how = how; rows = lines_of h.text; problems = ps })) problems
     ∙ ap (text_diagnostics report how d.config) (sym h.followed)))
+
+-- of a document that is not open nothing is shown
+pub told_none : (uri : List ℕ) (s : ServerValue) → None ≡ document_at uri s.documents → json_text (publication (record { uri = uri; version = None; diagnostics = [] })) ≡ text_of (told_of uri s)
+told_none uri s h = ap (λ (o : Option DocumentValue). text_of (Published uri (option_map_or (Shown s.how) o Cleared))) h
+
+-- a document as it is shown
+pub shown_text : (uri : List ℕ) (how : Presentation) (d : DocumentValue) (version : List ℕ) (ds : List DiagnosticValue) → version ≡ d.version → ds ≡ text_diagnostics report how d.config d.text
+    → json_text (publication (record { uri = uri; version = Some version; diagnostics = ds })) ≡ text_of (Published uri (Shown how d))
+shown_text uri how d version ds e f =
+    ap (λ (v : List ℕ). json_text (publication (record { uri = uri; version = Some v; diagnostics = ds }))) e
+    ∙ ap (λ (xs : List DiagnosticValue). json_text (publication (record { uri = uri; version = Some d.version; diagnostics = xs }))) f

@@ -107,7 +107,7 @@ quiet_more place left s new a b m n ended h = h.does.messages.quiet
 
 -- ---- the end
 
-has_served : ReportIsComputed → (count : ℕ) (c : Config) (given place before now : Option (List ℕ)) (s : ServerValue) → SoFar count c given place before now s → HasServed c (record { given = given; before = before; now = now })
+abbrev has_served : ReportIsComputed → (count : ℕ) (c : Config) (given place before now : Option (List ℕ)) (s : ServerValue) → SoFar count c given place before now s → HasServed c (record { given = given; before = before; now = now })
 has_served computed count c given place before now s f = record {
   reporters = λ config. reporter computed config;
   bodies = f.bodies;
@@ -119,7 +119,7 @@ has_served computed count c given place before now s f = record {
 }
 
 -- what sends nothing leaves a run as it was
-same_so_far : (count : ℕ) (c : Config) (given place before then now : Option (List ℕ)) (s : ServerValue) → SoFar count c given place before then s → Appends then now [] → SoFar count c given place before now s
+abbrev same_so_far : (count : ℕ) (c : Config) (given place before then now : Option (List ℕ)) (s : ServerValue) → SoFar count c given place before then s → Appends then now [] → SoFar count c given place before now s
 same_so_far count c given place before then now s f h = record {
   bodies = f.bodies;
   events = f.events;
@@ -153,22 +153,27 @@ exit_is_quiet : (e : Event) (s : ServerValue) (status : ℕ) → exit_of e.came 
 unfolding step
 exit_is_quiet e s status h = by_came e e.came s status h
 
+exited : ReportIsComputed → (count : ℕ) (c : Config) (given place left before then now : Option (List ℕ)) (m n : ℕ) (s new : ServerValue) (status : ℕ) → (f : SoFar count c given place before then s)
+    → IsMessage place left (after f.events (started c)) new (sink_of then now m n) (Some status) → IsServed c (record { given = given; before = before; now = now }) status
+exited computed count c given place left before then now m n s new status f g =
+    let quiet : Appends then now [] = subst (Appends then now) (ap (written report) (exit_is_quiet g.event (after f.events (started c)) status (sym g.ends))) g.does.messages.appends in
+    record {
+      run = has_served computed count c given place before now s (same_so_far count c given place before then now s f quiet);
+      ended = inr (record { body = g.body; event = g.event; next = next_of place left g.body g.taken; is = g.is; exits = sym g.ends });
+    }
+
+one_status : (status : ℕ) → (let a : Option ℕ = Some status in a ≡ Some 1) → status ≡ 1
+one_status status e = cc
+
 pub all_served : ReportIsComputed → (count : ℕ) (c : Config) (given place left before then now : Option (List ℕ)) (m n : ℕ) (s new : ServerValue) (status : ℕ) → SoFar count c given place before then s
     → IsTurn place left s new (sink_of then now m n) (Some status) → IsServed c (record { given = given; before = before; now = now }) status
 all_served computed count c given place left before then now m n s new status f turn = elim turn [
-  | inl h ↦ exits (met_there place left s (after f.events (started c)) new (sink_of then now m n) (Some status) f.server h)
-  | inr h ↦ record { run = has_served computed count c given place before now s (same_so_far count c given place before then now s f h.sent.appends); ended = inl (h.last, same h.ends) }
+  | inl h ↦ exited computed count c given place left before then now m n s new status f (met_there place left s (after f.events (started c)) new (sink_of then now m n) (Some status) f.server h)
+  | inr h ↦ record {
+    run = has_served computed count c given place before now s (same_so_far count c given place before then now s f h.sent.appends);
+    ended = inl (h.last, one_status status h.ends);
+  }
 ]
-  where
-    same : Some status ≡ Some 1 → status ≡ 1
-    same e = cc
-    exits : IsMessage place left (after f.events (started c)) new (sink_of then now m n) (Some status) → IsServed c (record { given = given; before = before; now = now }) status
-    exits g =
-        let quiet : Appends then now [] = subst (Appends then now) (ap (written report) (exit_is_quiet g.event (after f.events (started c)) status (sym g.ends))) g.does.messages.appends in
-        record {
-          run = has_served computed count c given place before now s (same_so_far count c given place before then now s f quiet);
-          ended = inr (record { body = g.body; event = g.event; next = next_of place left g.body g.taken; is = g.is; exits = sym g.ends });
-        }
 
 has_begun : ReportIsComputed → (count : ℕ) (c : Config) (given place left before then now : Option (List ℕ)) (m n : ℕ) (s : ServerValue) (f : SendFault) → SoFar count c given place before then s
     → IsMessageCut place left s (sink_of then now m n) f → HasBegun c (record { given = given; before = before; now = now })

@@ -367,11 +367,10 @@ impl<S: LineStore> Server<S> {
         };
         // One that could not be entered is not open after this, and that is told.
         drop(self.workspace.open(self.config, opened));
-        if self.workspace.document(opened.uri).is_some() {
-            Reply::Document(opened.uri)
-        } else {
-            Reply::NotEntered(opened.uri)
+        if self.workspace.document(opened.uri).is_none() {
+            return Reply::NotEntered(opened.uri);
         }
+        Reply::Document(opened.uri)
     }
 
     fn change<'a>(&mut self, params: &Value<'a, S::Alloc>) -> Reply<'a>

@@ -1,0 +1,70 @@
+-- What the next message has done.
+use Rattle.std.proofs.Common.{◌≡◌, ℕ, ◌<◌, List, [], Option, None, Some, inl, inr, refl}
+use Rattle.yl_frames.specs.Found.{IsNext, TakesBody}
+use Rattle.yl_frames.specs.Frames.{Bad, next_body}
+use Rattle.yl_frames.specs.Sending.{Sink}
+use Rattle.yl_frames.specs.declared.reading.NextBody.{NextBody}
+use Rattle.yl_frames.specs.declared.reading.NextBody.TheVariants as found
+use Rattle.yl_frames.specs.declared.output.SendFault.{SendFault}
+use Rattle.yl_frames.specs.declared.output.SendFault.TheVariants as send
+use Rattle.yl_server.specs.declared.serving.ServeFault.{ServeFault}
+use Rattle.yl_server.specs.declared.serving.ServeFault.TheVariants as fault
+use Rattle.yl_server.specs.declared.settings.Found.TheVariants.{Unreadable}
+use Rattle.yl_server.specs.Events.{Dropped}
+use Rattle.yl_server.specs.Machine.{ServerValue, missed_for_memory, step}
+use Rattle.yl_server.specs.Serving.{IsLast}
+use Rattle.yl_server.specs.Steps.{AreCut, AreSent, IsDone, IsHandled, IsHandlingCut}
+use Rattle.yl_server.specs.Turns.{Takes, IsMessage, IsMessageCut, IsTurn, IsTurnFault, fault_of}
+
+-- ---- what was found
+
+pub takes_dropped : {A : Type 0} (place left : Option (List ℕ)) (next : NextBody A) → next ≡ found.Dropped → IsNext place left next → (body : List ℕ) × Takes place left body
+takes_dropped None left next e h = ([], tt)
+takes_dropped (Some bytes) left found.Dropped e h = h
+takes_dropped (Some bytes) left (found.Body b) e h = cc
+takes_dropped (Some bytes) left found.End e h = cc
+takes_dropped (Some bytes) left found.Bad e h = cc
+
+pub is_last : {A : Type 0} (place left : Option (List ℕ)) (next : NextBody A) → next ≡ found.End → IsNext place left next → IsLast place
+is_last None left next e h = tt
+is_last (Some bytes) left found.End e h = h
+is_last (Some bytes) left (found.Body b) e h = cc
+is_last (Some bytes) left found.Dropped e h = cc
+is_last (Some bytes) left found.Bad e h = cc
+
+-- ---- what was done
+
+pub message_done : (place left : Option (List ℕ)) (old new : ServerValue) (d : Sink) (ended : Option ℕ) (body : List ℕ) → Takes place left body → IsHandled body old new d ended → IsTurn place left old new d ended
+message_done place left old new d ended body t h = inl (record { body = body; event = h.event; taken = t; is = h.is; does = h.does; ends = h.ends })
+
+pub dropped_done : (place left : Option (List ℕ)) (old new : ServerValue) (d : Sink) → (body : List ℕ) × Takes place left body → IsDone new d (missed_for_memory old) → IsTurn place left old new d None
+unfolding step
+dropped_done place left old new d t h = inl (record {
+  body = t.0;
+  event = record { came = Dropped; granted = []; found = Unreadable };
+  taken = t.1;
+  is = record { came = tt; found = tt };
+  does = h;
+  ends = refl;
+})
+
+pub none_done : (place left : Option (List ℕ)) (old new : ServerValue) (d : Sink) → IsLast place → AreSent d [] → IsTurn place left old new d (Some 1)
+none_done place left old new d l s = inr (record { last = l; sent = s; ends = refl })
+
+pub message_cut : (place left : Option (List ℕ)) (m n : ℕ) (old : ServerValue) (d : Sink) (f : SendFault) (body : List ℕ) → Takes place left body → IsHandlingCut body old d f → IsTurnFault place left m n old d (fault_of f)
+message_cut place left m n old d send.Write body t h = record { body = body; event = h.event; taken = t; is = h.is; cut = h.cut }
+message_cut place left m n old d send.TooLong body t h = record { body = body; event = h.event; taken = t; is = h.is; cut = h.cut }
+
+dropped_message_cut : (place left : Option (List ℕ)) (old : ServerValue) (d : Sink) (f : SendFault) → (body : List ℕ) × Takes place left body → AreCut d (missed_for_memory old).1 f → IsMessageCut place left old d f
+unfolding step
+dropped_message_cut place left old d f t h = record {
+  body = t.0;
+  event = record { came = Dropped; granted = []; found = Unreadable };
+  taken = t.1;
+  is = record { came = tt; found = tt };
+  cut = h;
+}
+
+pub dropped_cut : (place left : Option (List ℕ)) (m n : ℕ) (old : ServerValue) (d : Sink) (f : SendFault) → (body : List ℕ) × Takes place left body → AreCut d (missed_for_memory old).1 f → IsTurnFault place left m n old d (fault_of f)
+dropped_cut place left m n old d send.Write t h = dropped_message_cut place left old d send.Write t h
+dropped_cut place left m n old d send.TooLong t h = dropped_message_cut place left old d send.TooLong t h
