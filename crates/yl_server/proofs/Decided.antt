@@ -71,17 +71,23 @@ begun_set id j o q found config most granted old mid new h f s b n =
     let e : Event = event_of granted found in
     let ms = Initialized id new.how.encoding ∷ [] in
     let is : new ≡ with_setting granted config most (initialized j old) = n ∙ ap (with_setting granted config most) b in
-    subst (λ (r : Option Json). IsBegun id j r old new (Initialized id new.how.encoding ∷ [])) h
-    (e, f, subst (λ (x : Setting). Becomes new (Initialized id new.how.encoding ∷ []) (initialized_by e id j x old)) s
-    (is, ap (λ x. Initialized id x ∷ []) (ap (λ (t : ServerValue). t.how.encoding) is ∙ same_encoding granted config most (initialized j old))))
+    subst (λ (r : Option Json). IsBegun id j r old new (Initialized id new.how.encoding ∷ [])) h (
+      e,
+      f,
+      subst (λ (x : Setting). Becomes new (Initialized id new.how.encoding ∷ []) (initialized_by e id j x old)) s
+          (is, ap (λ x. Initialized id x ∷ []) (ap (λ (t : ServerValue). t.how.encoding) is ∙ same_encoding granted config most (initialized j old))),
+    )
 
 pub begun_faulty : (id : IdValue) (j : Json) (o q : Option Json) (found : Found) (fault : SettingFault) (old new : ServerValue) → o ≡ q → IsFound (text_set o) found → Faulty fault ≡ setting_of found o
     → new ≡ initialized j old → IsBegun id j q old new (Initialized id new.how.encoding ∷ Told (setting_words fault) ∷ [])
 begun_faulty id j o q found fault old new h f s b =
     let e : Event = event_of [] found in
-    subst (λ (r : Option Json). IsBegun id j r old new (Initialized id new.how.encoding ∷ Told (setting_words fault) ∷ [])) h
-    (e, f, subst (λ (x : Setting). Becomes new (Initialized id new.how.encoding ∷ Told (setting_words fault) ∷ []) (initialized_by e id j x old)) s
-    (b, ap (λ (t : ServerValue). Initialized id t.how.encoding ∷ Told (setting_words fault) ∷ []) b))
+    subst (λ (r : Option Json). IsBegun id j r old new (Initialized id new.how.encoding ∷ Told (setting_words fault) ∷ [])) h (
+      e,
+      f,
+      subst (λ (x : Setting). Becomes new (Initialized id new.how.encoding ∷ Told (setting_words fault) ∷ []) (initialized_by e id j x old)) s
+          (b, ap (λ (t : ServerValue). Initialized id t.how.encoding ∷ Told (setting_words fault) ∷ []) b),
+    )
 
 pub begun_no_memory : (id : IdValue) (j : Json) (o q : Option Json) (found : Found) (old : ServerValue) → o ≡ q → IsFound (text_set o) found → NoMemory ≡ setting_of found o
     → IsBegun id j q old old (Refused id InternalError memory_words ∷ [])

@@ -5,18 +5,15 @@ ghost use Rattle.yl_server.specs.Laws.{AreAnswered, AreLostForCause, AreShown};
 /// answers come in order.
 pub fn one_answer_to_a_request()
     ensures { AreAnswered }
-{
-}
+{}
 
 /// A law: what was published last of an open document is what is found in it as it is now, and a document
 /// that was closed was cleared.
 pub fn documents_are_shown()
     ensures { AreShown }
-{
-}
+{}
 
 /// A law: the text of an open document is lost only where an event came that may lose it for that cause.
 pub fn texts_are_lost_for_a_cause()
     ensures { AreLostForCause }
-{
-}
+{}

@@ -4,8 +4,8 @@
 mod laws;
 mod phase;
 mod reply;
-mod serving;
 mod server;
+mod serving;
 mod settings;
 mod words;
 

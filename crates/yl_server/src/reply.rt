@@ -70,11 +70,7 @@ fn tell<W: Write>(text: &str, out: &mut Output<W>) -> Result<(), SendFault>
 }
 
 // Answers `initialize`.
-fn welcome<W: Write>(
-    id: Id<'_>,
-    encoding: Encoding,
-    out: &mut Output<W>,
-) -> Result<(), SendFault>
+fn welcome<W: Write>(id: Id<'_>, encoding: Encoding, out: &mut Output<W>) -> Result<(), SendFault>
     requires { failures_of (watched_of out.old) < 2 ^ 64 - 1 }
     ensures ok { OnOk result (AreSent (sink W.contents out.old out.new) (Initialized (id_view id.entry) encoding ∷ [])) }
     ensures err { IfErr result (AreCut (sink W.contents out.old out.new) (Initialized (id_view id.entry) encoding ∷ [])) }

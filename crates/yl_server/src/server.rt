@@ -20,9 +20,7 @@ ghost use Rattle.yl_server.specs.Steps.{AreCut, IsBodyMet, IsDone, IsHandled, Is
 use crate::phase::Phase;
 use crate::reply::Reply;
 use crate::settings::{ConfigFiles, Setting, setting_of};
-use crate::words::{
-    INITIALIZED, MEMORY, NO_JSON, NO_REQUEST, PARAMS, STOPPED, UNKNOWN, WAITING,
-};
+use crate::words::{INITIALIZED, MEMORY, NO_JSON, NO_REQUEST, PARAMS, STOPPED, UNKNOWN, WAITING};
 use json::{Scratch, Value};
 use std::alloc::{AllocError, Allocator};
 use std::io::Write;
@@ -49,9 +47,7 @@ pub struct Server<S: LineStore> {
 }
 
 /// The params that are an object.
-fn object_of<'v, 'a, A: Allocator>(
-    params: Option<&'v Value<'a, A>>,
-) -> Option<&'v Value<'a, A>>
+fn object_of<'v, 'a, A: Allocator>(params: Option<&'v Value<'a, A>>) -> Option<&'v Value<'a, A>>
     ensures { option_map (λ v. value_view v.now) result ≡ spec.object_of (option_map (λ v. value_view v.now) params.entry) }
 {
     match params {
@@ -393,11 +389,14 @@ impl<S: LineStore> Server<S> {
     {
         let encoding = self.how.encoding;
         let Some(values) = values else {
-            self.workspace.change(encoding, uri, version, &[Change::Unread]);
+            self.workspace
+                .change(encoding, uri, version, &[Change::Unread]);
             return;
         };
         match changes_of(self.alloc, values) {
-            Ok(changes) => self.workspace.change(encoding, uri, version, changes.as_slice()),
+            Ok(changes) => self
+                .workspace
+                .change(encoding, uri, version, changes.as_slice()),
             Err(AllocError) => self.workspace.lose(uri, Cause::OutOfMemory),
         }
     }
