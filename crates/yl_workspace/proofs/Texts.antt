@@ -17,6 +17,7 @@ use Rattle.yl_units.specs.declared.encoding.Encoding.{Encoding}
 use Rattle.yl_units.specs.Places.{place_of}
 use Rattle.yl_lsp.specs.declared.range.Range as R
 use Rattle.yl_lsp.specs.Params.{ChangeValue, Whole, Within, Unread}
+use Rattle.yl_difference.specs.Difference.{IsDifference}
 use Rattle.yl_config.specs.declared.config.Config.{Config}
 use Rattle.yl_session.specs.declared.work.Work.{Work}
 use Rattle.yl_session.specs.State.{SessionValue, Shows}
@@ -150,3 +151,17 @@ one_more e granted rest old new cs i c l is made =
 -- none is left
 pub no_more : (e : Encoding) (text : TextValue) (cs : List ChangeValue) (i : ℕ) → length cs ≤ i → text ≡ text_after_changes e [] text (drop i cs)
 no_more e text cs i l = ap (λ (ds : List ChangeValue). text_after_changes e [] text ds) (sym (drop_all i cs l))
+
+-- ---- an edit that makes one text of another
+pub replaced_text : (ps : List RowValue) (old new bytes : List ℕ) (from to : Pos) → IsLines old ps → IsDifference old new from to bytes → edited_text ps from to bytes ≡ new
+replaced_text ps old new bytes from to h d = subst (λ (qs : List RowValue). edited_text qs from to bytes ≡ new) (lines_of-is old ps h) d.made
+
+pub replaced_can : (ps : List RowValue) (old new bytes : List ℕ) (from to : Pos) → IsLines old ps → IsDifference old new from to bytes → IsUtf8 bytes → length new ≤ MAX_BYTES → CanEdit ps from to bytes
+replaced_can ps old new bytes from to h d u l = record {
+  utf8 = u;
+  range = subst (λ (qs : List RowValue). IsEditRange qs from to) (lines_of-is old ps h) d.range;
+  short = subst (λ (t : List ℕ). length t ≤ MAX_BYTES) (sym (replaced_text ps old new bytes from to h d)) l;
+}
+
+pub difference_of : (old new xs ys : List ℕ) (from to : Pos) → xs ≡ ys → IsDifference old new from to xs → IsDifference old new from to ys
+difference_of old new xs ys from to e d = subst (λ (t : List ℕ). IsDifference old new from to t) e d

@@ -1,6 +1,6 @@
 //! Changes of a text that is followed, or is not.
 ghost use Rattle.std.specs.Prelude.{◌≡◌, ◌≤◌, Bool, List, Ok, IfOk, length, map};
-ghost use Rattle.yl_text.specs.Lines.{text_of};
+ghost use Rattle.yl_text.specs.Lines.{IsLines, text_of};
 ghost use Rattle.yl_text.specs.Edit.{IsInText};
 ghost use Rattle.yl_text.specs.declared.TheConstants.{MAX_BYTES};
 ghost use Rattle.yl_units.specs.Places.{place_of};
@@ -72,6 +72,7 @@ fn edited<S: LineStore>(
     range: Range,
     new: &str,
 ) -> Result<Session<S>, Cause>
+    requires { IsLines (text_of session.rows) session.rows }
     ensures shown { IfOk result (λ s. Shows session.config (text_of s.rows) s) }
     ensures text { (granted : Bool) × (text_value result ≡ followed_if granted (changed_text encoding (text_of session.rows) range new.now)) }
 {
