@@ -17,19 +17,25 @@ head_text (Linked rule) =
 head_text Lost = codes "{\"code\":\"lost\",\"message\":"
 head_text More = codes "{\"code\":\"more\",\"message\":"
 
--- and what stands after it
+-- and what stands after it, by the digits of its numbers
+abbrev pub tail_of : (end_units end_line start_units start_line severity : List ℕ) → List ℕ
+tail_of end_units end_line start_units start_line severity =
+    codes ",\"range\":{\"end\":{\"character\":" ++ (end_units ++ (codes ",\"line\":" ++ (end_line
+    ++ (codes "},\"start\":{\"character\":" ++ (start_units ++ (codes ",\"line\":" ++ (start_line
+    ++ (codes "}},\"severity\":" ++ (severity ++ codes ",\"source\":\"zutkrad\"}")))))))))
+
 abbrev pub tail_text : Range → Severity → List ℕ
-tail_text r severity =
-    codes ",\"range\":{\"end\":{\"character\":" ++ (decimal r.end.units ++ (codes ",\"line\":" ++ (decimal r.end.line
-    ++ (codes "},\"start\":{\"character\":" ++ (decimal r.start.units ++ (codes ",\"line\":" ++ (decimal r.start.line
-    ++ (codes "}},\"severity\":" ++ (severity_digit severity ++ codes ",\"source\":\"zutkrad\"}")))))))))
+tail_text r severity = tail_of (decimal r.end.units) (decimal r.end.line) (decimal r.start.units) (decimal r.start.line) (severity_digit severity)
 
 abbrev pub diagnostic_text : DiagnosticValue → List ℕ
 diagnostic_text d = head_text d.code ++ (quoted d.message ++ tail_text d.range d.severity)
 
--- a diagnostic of a list, with a comma before it unless it is the first
+-- what stands before a diagnostic of a list
+abbrev pub separator : Bool → List ℕ
+separator is_first = if is_first then [] else codes ","
+
 abbrev pub next_text : Bool → DiagnosticValue → List ℕ
-next_text is_first d = (if is_first then [] else codes ",") ++ diagnostic_text d
+next_text is_first d = separator is_first ++ diagnostic_text d
 
 -- those of a list, of which this is the beginning or not
 abbrev pub diagnostics_text : Bool → List DiagnosticValue → List ℕ

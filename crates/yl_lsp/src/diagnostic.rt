@@ -1,7 +1,7 @@
 //! Diagnostics as they are written.
 ghost use Rattle.std.specs.Prelude.{◌≡◌, codes, OnOk, OnErr};
 ghost use Rattle.yl_lsp.specs.Diagnostics.{severity_digit};
-ghost use Rattle.yl_lsp.specs.Texts.{head_text, tail_text, diagnostic_text, next_text};
+ghost use Rattle.yl_lsp.specs.Texts.{head_text, tail_text, diagnostic_text, separator, next_text};
 ghost use Rattle.yl_lsp.specs.Shown.{diagnostic_value};
 
 use crate::Range;
@@ -121,6 +121,13 @@ fn put_diagnostic<P: Pieces>(to: &mut P, diagnostic: &Diagnostic<'_>) -> Result<
     put_tail(to, diagnostic.range, diagnostic.severity)
 }
 
+/// What stands before a diagnostic of a list.
+pub(crate) fn separator(is_first: bool) -> &'static [u8]
+    ensures { result.now ≡ separator is_first }
+{
+    if is_first { b"" } else { b"," }
+}
+
 /// Puts a diagnostic of a list.
 pub(crate) fn put_next<P: Pieces>(
     to: &mut P,
@@ -131,8 +138,6 @@ pub(crate) fn put_next<P: Pieces>(
     ensures ok { OnOk result (P.puts to.old (next_text is_first (diagnostic_value diagnostic.now)) to.new) }
     ensures err { OnErr result (P.breaks to.old (next_text is_first (diagnostic_value diagnostic.now)) to.new) }
 {
-    if !is_first {
-        to.put(b",")?;
-    }
+    to.put(separator(is_first))?;
     put_diagnostic(to, diagnostic)
 }

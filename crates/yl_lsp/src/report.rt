@@ -6,7 +6,7 @@ ghost use Rattle.yl_lsp.specs.Texts.{diagnostics_text};
 ghost use Rattle.yl_lsp.specs.Shown.{diagnostic_value};
 ghost use Rattle.yl_lsp.specs.Reports.{code_of, problem_diagnostic, more_diagnostics, report_diagnostics};
 
-use crate::diagnostic::{Code, Diagnostic, Severity, put_next, put_tail};
+use crate::diagnostic::{Code, Diagnostic, Severity, put_next, put_tail, separator};
 use crate::{Presentation, Range, next_range};
 use itoa::Buffer;
 use std::alloc::Allocator;
@@ -134,10 +134,15 @@ fn put_more<P: Pieces>(to: &mut P, is_first: bool, hidden: u64) -> Result<(), Wr
         return Ok(());
     }
     let mut digits = Buffer::new();
-    let comma: &[u8] = if is_first { b"" } else { b"," };
-    let message: &[u8] = b"{\"code\":\"more\",\"message\":\"";
-    let digits = digits.format(hidden).as_bytes();
-    put_parts(to, &[comma, message, digits, b" more problems\""])?;
+    put_parts(
+        to,
+        &[
+            separator(is_first),
+            b"{\"code\":\"more\",\"message\":\"",
+            digits.format(hidden).as_bytes(),
+            b" more problems\"",
+        ],
+    )?;
     put_tail(to, TEXT_START, Severity::Information)
 }
 

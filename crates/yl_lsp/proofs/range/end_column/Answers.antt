@@ -1,8 +1,8 @@
-use Rattle.std.proofs.Common.{◌≡◌, ◌+◌, ◌<◌, ◌≤◌, ◌^◌, min, max, true, false, cond, length, drop, sym, ap, ◌∙◌, arith}
+use Rattle.std.proofs.Common.{◌≡◌, ◌+◌, min, max, true, false, cond, length, drop, sym, ap, ◌∙◌, arith}
 use Rattle.std.specs.Str.{chars}
 use Rattle.yl_units.proofs.Rows.{short_row}
 use Rattle.yl_units.specs.Places.{row_chars}
-use Rattle.yl_lsp.specs.Words.{is_to_line_end, word_len, end_column}
+use Rattle.yl_lsp.specs.Words.{is_to_line_end, word_len}
 use Rattle.yl_lsp.proofs.Spans.{row_past, word_most}
 use Rattle.yl_lsp.proofs.range.end_column.Goals as goal
 
