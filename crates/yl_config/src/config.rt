@@ -1,5 +1,5 @@
 //! The configuration.
-ghost use Rattle.std.specs.Prelude.{◌≡◌, ◌≤◌, length};
+ghost use Rattle.std.specs.Prelude.{◌≡◌, ◌≤◌, None, length};
 ghost use Rattle.yl_rules.specs.LevelOf.{level_of};
 ghost use Rattle.yl_rules.specs.Levels.{default_levels};
 ghost use Rattle.yl_config.specs.Config.{levels_of, options_of, row_options_of, config_settings};
@@ -54,6 +54,16 @@ impl Config {
         ensures { config_settings self.new ≡ at_level rule level (config_settings self.old) }
     {
         self.levels = self.levels.with(rule, level);
+    }
+
+    /// The same configuration with a rule off.
+    pub fn without(self, rule: RuleId) -> Config
+        ensures { config_settings result ≡ at_level rule None (config_settings self) }
+    {
+        Config {
+            levels: self.levels.with(rule, None),
+            options: self.options,
+        }
     }
 
     /// Sets the option of this name of a rule.

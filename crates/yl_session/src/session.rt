@@ -1,7 +1,7 @@
 //! A text that is kept open, with its report.
 ghost use Rattle.std.specs.Prelude.{◌≡◌, ◌<◌, ◌≤◌, ◌+◌, ◌^◌, ◌↔◌, IsTrue, length, slice_get, Some, Ok, MatchResult, IfOk, OnOk, OnErr};
 ghost use Rattle.std.specs.List.{splice};
-ghost use Rattle.yl_text.specs.Lines.{RowValue};
+ghost use Rattle.yl_text.specs.Lines.{RowValue, IsLines, text_of};
 ghost use Rattle.yl_text.specs.Fault.{IsText, IsFaultOf};
 ghost use Rattle.yl_text.specs.Store.{AreLines, IsRange};
 ghost use Rattle.yl_text.specs.Edit.{CanEdit, IsInText, IsEditRange, edited_text};
@@ -110,6 +110,20 @@ impl<S: LineStore> Session<S> {
         ensures lines { AreLines self.now.rows }
     {
         self.store.len()
+    }
+
+    /// The configuration.
+    pub fn config(&self) -> Config
+        ensures { result ≡ self.now.config }
+    {
+        self.config
+    }
+
+    /// The bytes of the text, breaks included.
+    pub fn text<A: Allocator>(&self, alloc: A) -> Result<Vec<u8, A>, AllocError>
+        ensures { IfOk result (λ text. IsLines text.items self.now.rows) }
+    {
+        text_in(alloc, &self.store)
     }
 
     /// A line without its break, counted from 0.
@@ -248,6 +262,20 @@ pub fn one_state()
     ensures { OneState }
 {
     one_report();
+}
+
+/// The bytes of the lines of a store, breaks included.
+fn text_in<S: LineStore, A: Allocator>(alloc: A, store: &S) -> Result<Vec<u8, A>, AllocError>
+    requires { AreLines (S.rows store.now) }
+    ensures { IfOk result (λ text. text.items ≡ text_of (S.rows store.now)) }
+{
+    let mut text = Vec::with_capacity(alloc, store.bytes() as usize)?;
+    for i in 0..store.len() {
+        let row = store.row(i);
+        text.extend_from_slice(row.as_str().as_bytes())?;
+        text.extend_from_slice(row.end().as_bytes())?;
+    }
+    Ok(text)
 }
 
 /// Whether the two places are one, and there are no bytes.
