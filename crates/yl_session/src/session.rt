@@ -119,6 +119,14 @@ impl<S: LineStore> Session<S> {
         self.config
     }
 
+    /// The lines of the text.
+    pub fn lines(&self) -> &S
+        ensures rows { S.rows result.now ≡ self.now.rows }
+        ensures lines { AreLines self.now.rows }
+    {
+        &self.store
+    }
+
     /// The bytes of the text, breaks included.
     pub fn text<A: Allocator>(&self, alloc: A) -> Result<Vec<u8, A>, AllocError>
         ensures { IfOk result (λ text. IsLines text.items self.now.rows) }
