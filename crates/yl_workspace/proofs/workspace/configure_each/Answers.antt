@@ -13,9 +13,8 @@ loop-document-preserved g c = λ rest.
     let d : DocumentValue = c.document-item.result in
     let made = c.configure.ensures in
     let one : DocumentValue → DocumentValue = λ a. configured_document c.args.config made.0 a in
-    let is : d ≡ get_or xs i d = search rules in
     let before = c.loop-document.invariant (made.0 ∷ rest) in
-    let new = ap (λ a. set xs i a) (made.1 ∙ ap one is) in
+    let new = ap (λ a. set xs i a) made.1 in
     (before.0, each_step (configured c.args.config (made.0 ∷ rest)) (configured c.args.config rest) one (λ a ds. refl) xs (set xs i c.configure.new.self) i d c.loop-document-test.true new ∙ before.1)
 
 pub returns : goal.returns
