@@ -1,5 +1,5 @@
 -- A document that is opened, in a list.
-use Rattle.std.proofs.Common.{◌≡◌, ℕ, Bool, true, false, cond, List, [], ◌∷◌, ◌++◌, drop, set, get_or, refl, sym, ◌∙◌, ap, subst, Option, Some, None, Result, Ok, Err}
+use Rattle.std.proofs.Common.{◌≡◌, ℕ, Bool, true, false, cond, List, [], ◌∷◌, ◌++◌, drop, set, get_or, refl, ◌∙◌, ap, Some, None, Result, Ok, Err}
 use Rattle.std.proofs.lemmas.Slice.Eq.{bytes_eq-Decides}
 use Rattle.std.specs.Prelude.{is_some, OnErr}
 use Rattle.std.specs.Str.{bytes_eq}
@@ -7,9 +7,9 @@ use Rattle.yl_config.specs.declared.config.Config.{Config}
 use Rattle.yl_lsp.specs.Params.{OpenedValue}
 use Rattle.yl_workspace.specs.declared.cause.Cause.TheVariants.{OutOfMemory}
 use Rattle.yl_workspace.specs.Changes.{is_granted}
-use Rattle.yl_workspace.specs.Documents.{DocumentValue, document_at, with_document, put_document, lost_document, opened_document, opened, lost}
+use Rattle.yl_workspace.specs.Documents.{DocumentValue, document_at, put_document, lost_document, opened_document, opened, lost}
 use Rattle.yl_workspace.specs.Shown.{opened_again}
-use Rattle.yl_workspace.proofs.Lists.{found, with_found, with_missing, put_found, put_missing, document_found, document_missing}
+use Rattle.yl_workspace.proofs.Lists.{found, with_found, with_missing, put_found, put_missing, document_found}
 
 abbrev Docs : Type 0
 Docs = List DocumentValue

@@ -1,4 +1,4 @@
-use Rattle.std.proofs.Common.{◌≡◌, ℕ, Bool, List, subst, sym, ◌∙◌, ap}
+use Rattle.std.proofs.Common.{◌≡◌, ℕ, Bool, List, subst, ◌∙◌, ap}
 use Rattle.yl_text.specs.Lines.{RowValue, text_of}
 use Rattle.yl_text.specs.Edit.{IsInText}
 use Rattle.yl_units.specs.Places.{place_of}

@@ -1,4 +1,4 @@
-use Rattle.std.proofs.Common.{◌≡◌, ℕ, true, false, List, subst, sym, ◌∙◌, ap}
+use Rattle.std.proofs.Common.{ℕ, true, false, List, subst, sym, ◌∙◌, ap}
 use Rattle.yl_text.specs.Lines.{RowValue, IsLines}
 use Rattle.yl_workspace.specs.Changes.{Followed, Lost}
 use Rattle.yl_workspace.proofs.Texts.{replaced_text, replaced_can, difference_of, only_memory}

@@ -1,4 +1,4 @@
-use Rattle.std.proofs.Common.{rules, ◌≡◌, ◌≤◌, ◌<◌, Bool, List, ◌∷◌, [], get_or, set, length, refl, sym, ◌∙◌, ap, arith}
+use Rattle.std.proofs.Common.{◌<◌, List, ◌∷◌, [], set, length, refl, ◌∙◌, ap, arith}
 use Rattle.yl_workspace.specs.Documents.{DocumentValue, configured, configured_document}
 use Rattle.yl_workspace.proofs.Lists.{each_step, each_done}
 use Rattle.yl_workspace.proofs.workspace.configure_each.Goals as goal
@@ -14,8 +14,9 @@ loop-document-preserved g c = λ rest.
     let made = c.configure.ensures in
     let one : DocumentValue → DocumentValue = λ a. configured_document c.args.config made.0 a in
     let before = c.loop-document.invariant (made.0 ∷ rest) in
+    let within : i < length xs = omega (arith, c.loop-document-test.true, c.loop-document.auto.document-items) in
     let new = ap (λ a. set xs i a) made.1 in
-    (before.0, each_step (configured c.args.config (made.0 ∷ rest)) (configured c.args.config rest) one (λ a ds. refl) xs (set xs i c.configure.new.self) i d c.loop-document-test.true new ∙ before.1)
+    (before.0, each_step (configured c.args.config (made.0 ∷ rest)) (configured c.args.config rest) one (λ a ds. refl) xs (set xs i c.configure.new.self) i d within new ∙ before.1)
 
 pub returns : goal.returns
 returns g c =

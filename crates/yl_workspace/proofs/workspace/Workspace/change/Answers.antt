@@ -1,4 +1,4 @@
-use Rattle.std.proofs.Common.{rules, ◌≡◌, ℕ, List, [], get_or, map, set, sym, ◌∙◌, ap, Some, None}
+use Rattle.std.proofs.Common.{rules, ◌≡◌, List, [], get_or, map, set, sym, ◌∙◌, ap, Some, None}
 use Rattle.yl_lsp.specs.Read.{change_value}
 use Rattle.yl_workspace.specs.Documents.{DocumentValue, changed_document, with_document}
 use Rattle.yl_workspace.proofs.Lists.{found, with_found, with_missing}

@@ -1,4 +1,4 @@
-use Rattle.std.proofs.Common.{rules, ◌≡◌, ℕ, List, get_or, sym, ◌∙◌, ap, Some, None}
+use Rattle.std.proofs.Common.{rules, ◌≡◌, List, get_or, sym, ◌∙◌, ap, Some, None}
 use Rattle.std.specs.Prelude.{option_copied}
 use Rattle.yl_workspace.specs.Documents.{DocumentValue, document_at}
 use Rattle.yl_workspace.proofs.Lists.{found, document_found, document_missing}

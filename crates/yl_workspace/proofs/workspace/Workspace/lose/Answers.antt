@@ -1,4 +1,4 @@
-use Rattle.std.proofs.Common.{rules, ◌≡◌, ℕ, List, get_or, set, sym, ◌∙◌, ap, Some, None}
+use Rattle.std.proofs.Common.{rules, ◌≡◌, List, get_or, set, sym, ◌∙◌, ap, Some, None}
 use Rattle.yl_workspace.specs.Documents.{DocumentValue, lost_document, with_document}
 use Rattle.yl_workspace.proofs.Lists.{found, with_found, with_missing}
 use Rattle.yl_workspace.proofs.workspace.Workspace.lose.Goals as goal

@@ -1,4 +1,4 @@
-use Rattle.std.proofs.Common.{rules, ◌≡◌, ℕ, Bool, true, false, List, [], ◌∷◌, ◌++◌, get_or, set, subst, sym, ◌∙◌, ap, Some, None}
+use Rattle.std.proofs.Common.{rules, ◌≡◌, true, false, List, [], ◌∷◌, ◌++◌, get_or, set, subst, sym, ◌∙◌, ap, Some, None}
 use Rattle.std.specs.Prelude.{IsSome}
 use Rattle.yl_lsp.specs.Read.{opened_value}
 use Rattle.yl_workspace.specs.Documents.{DocumentValue, document_at, opened, opened_document}
