@@ -251,6 +251,7 @@ impl<S: LineStore> Session<S> {
             return Err(fault);
         }
         if is_nothing(&self.store, from, to, bytes) {
+            one_report();
             return Ok(Work {
                 scanned: 0,
                 documents: 0,
