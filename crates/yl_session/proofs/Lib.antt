@@ -5,6 +5,7 @@ mod HeldShown
 mod HeldReport
 mod Read
 mod Renewed
+mod Taken
 mod Parts
 pub mod Between
 pub mod Goes

@@ -119,19 +119,19 @@ impl<S: LineStore> Session<S> {
         self.config
     }
 
-    /// The bytes of the text, breaks included.
-    pub fn text<A: Allocator>(&self, alloc: A) -> Result<Vec<u8, A>, AllocError>
-        ensures { IfOk result (λ text. IsLines text.items self.now.rows) }
-    {
-        text_in(alloc, &self.store)
-    }
-
     /// The lines of the text.
     pub fn lines(&self) -> &S
         ensures rows { S.rows result.now ≡ self.now.rows }
         ensures lines { AreLines self.now.rows }
     {
         &self.store
+    }
+
+    /// The bytes of the text, breaks included.
+    pub fn text<A: Allocator>(&self, alloc: A) -> Result<Vec<u8, A>, AllocError>
+        ensures { IfOk result (λ text. IsLines text.items self.now.rows) }
+    {
+        text_in(alloc, &self.store)
     }
 
     /// A line without its break, counted from 0.
@@ -251,6 +251,7 @@ impl<S: LineStore> Session<S> {
             return Err(fault);
         }
         if is_nothing(&self.store, from, to, bytes) {
+            one_report();
             return Ok(Work {
                 scanned: 0,
                 documents: 0,

@@ -1,10 +1,11 @@
 -- Documents in a list.
-use Rattle.std.proofs.Common.{◌≡◌, ℕ, suc, nat_lt, append_assoc, ◌+◌, ◌-◌, ◌<◌, ◌≤◌, Bool, true, false, not, cond, List, [], ◌∷◌, ◌++◌, length, take, drop, set, get_or, map, refl, sym, ◌∙◌, ap, subst, arith, Option, Some, None}
+use Rattle.std.proofs.Common.{◌≡◌, ℕ, suc, nat_lt, append_assoc, ◌+◌, ◌<◌, ◌≤◌, Bool, true, false, not, cond, List, [], ◌∷◌, ◌++◌, length, take, drop, set, get_or, refl, sym, ◌∙◌, ap, arith, Option, Some, None}
 use Rattle.std.proofs.lemmas.Bool.Decides.{nat_tests}
-use Rattle.std.proofs.lemmas.List.{drop_more, drop-set-lt, take_more_set}
-use Rattle.std.specs.List.{prefix_len, position, position_or_len}
+use Rattle.std.proofs.lemmas.List.{append-nil, take_all, drop_all, drop_more, drop-set-lt, take_more_set}
+use Rattle.std.specs.List.{position, position_or_len}
 use Rattle.std.specs.Str.{bytes_eq}
-use Rattle.yl_workspace.specs.Documents.{DocumentValue, document_at, with_document, put_document}
+use Rattle.yl_config.specs.declared.config.Config.{Config}
+use Rattle.yl_workspace.specs.Documents.{DocumentValue, document_at, with_document, put_document, configured}
 
 -- where the first document of a URI stands, or the length
 abbrev pub place : List ℕ → List DocumentValue → ℕ
@@ -135,3 +136,11 @@ each_step F G f step xs ys i d0 l e =
     let back : drop (i + 1) ys ≡ drop (i + 1) xs = ap (λ (t : Docs). drop (i + 1) t) e ∙ drop-set-lt (i + 1) xs i (f x) (omega arith) in
     let rest : f x ∷ G (drop (i + 1) xs) ≡ F (drop i xs) = sym (step x (drop (i + 1) xs)) ∙ ap F (sym (drop_more xs i d0 l)) in
     ap (λ (t : Docs). t ++ G (drop (i + 1) ys)) front ∙ append_assoc (take i xs) (f x ∷ []) (G (drop (i + 1) ys)) ∙ ap (λ (t : Docs). take i xs ++ f x ∷ G t) back ∙ ap (λ (t : Docs). take i xs ++ t) rest
+
+-- and none is left
+pub each_done : (F : Docs → Docs) → F [] ≡ [] → (xs : Docs) (i : ℕ) → length xs ≤ i → xs ≡ take i xs ++ F (drop i xs)
+each_done F none xs i l = sym (ap (λ (t : Docs). t ++ F (drop i xs)) (take_all i xs l) ∙ ap (λ (t : Docs). xs ++ F t) (drop_all i xs l) ∙ ap (λ (t : Docs). xs ++ t) none ∙ append-nil xs)
+
+pub length-configured : (config : Config) (grants : List Bool) (ds : Docs) → length (configured config grants ds) ≡ length ds
+length-configured config grants [] = refl
+length-configured config grants (d ∷ ds) = ap suc (length-configured config (drop 1 grants) ds)

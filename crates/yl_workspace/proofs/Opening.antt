@@ -1,15 +1,15 @@
 -- A document that is opened, in a list.
-use Rattle.std.proofs.Common.{◌≡◌, ℕ, Bool, true, false, cond, List, [], ◌∷◌, ◌++◌, drop, set, get_or, refl, sym, ◌∙◌, ap, subst, Option, Some, None}
+use Rattle.std.proofs.Common.{◌≡◌, ℕ, Bool, true, false, cond, List, [], ◌∷◌, ◌++◌, drop, set, get_or, refl, ◌∙◌, ap, Some, None, Result, Ok, Err}
 use Rattle.std.proofs.lemmas.Slice.Eq.{bytes_eq-Decides}
-use Rattle.std.specs.Prelude.{is_some}
+use Rattle.std.specs.Prelude.{is_some, OnErr}
 use Rattle.std.specs.Str.{bytes_eq}
 use Rattle.yl_config.specs.declared.config.Config.{Config}
 use Rattle.yl_lsp.specs.Params.{OpenedValue}
 use Rattle.yl_workspace.specs.declared.cause.Cause.TheVariants.{OutOfMemory}
 use Rattle.yl_workspace.specs.Changes.{is_granted}
-use Rattle.yl_workspace.specs.Documents.{DocumentValue, document_at, with_document, put_document, lost_document, opened_document, opened, lost}
+use Rattle.yl_workspace.specs.Documents.{DocumentValue, document_at, put_document, lost_document, opened_document, opened, lost}
 use Rattle.yl_workspace.specs.Shown.{opened_again}
-use Rattle.yl_workspace.proofs.Lists.{found, with_found, with_missing, put_found, put_missing, document_found, document_missing}
+use Rattle.yl_workspace.proofs.Lists.{found, with_found, with_missing, put_found, put_missing, document_found}
 
 abbrev Docs : Type 0
 Docs = List DocumentValue
@@ -59,3 +59,7 @@ opened_there config grants o ds i d0 e =
 
 pub new_there : (config : Config) (granted : Bool) (o : OpenedValue) (ds : Docs) → is_some (document_at o.uri (opened config (true ∷ granted ∷ []) o ds)) ≡ true
 new_there config granted o ds = ap (λ r. is_some r) (put_there (opened_document config granted o) ds)
+
+pub on_err : {T E : Type 0} (r : Result T E) (P : Type 0) → P → OnErr r P
+on_err (Ok x) P p = tt
+on_err (Err e) P p = p

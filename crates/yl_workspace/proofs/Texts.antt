@@ -1,5 +1,5 @@
 -- What opening a text, edits and changes leave.
-use Rattle.std.proofs.Common.{◌≡◌, ◌≢◌, ℕ, ◌+◌, ◌-◌, ◌<◌, ◌≤◌, ◌⊎◌, inl, inr, Bool, true, false, cond, nat_le, nat_lt, List, [], ◌∷◌, length, take, drop, get_or, map, refl, sym, ◌∙◌, ap, subst, arith, Option, Some, None, Result, Ok, Err, IfOk}
+use Rattle.std.proofs.Common.{◌≡◌, ℕ, ◌+◌, ◌<◌, ◌≤◌, inl, inr, Bool, true, false, cond, nat_le, List, [], ◌∷◌, length, drop, get_or, refl, sym, ◌∙◌, ap, subst, arith, Result, Ok, Err}
 use Rattle.std.proofs.lemmas.Bool.{cases_lt}
 use Rattle.std.proofs.lemmas.Bool.Decides.{nat_tests}
 use Rattle.std.proofs.lemmas.List.{take_all, drop_all, drop_more}
@@ -8,23 +8,23 @@ use Rattle.yl_text.specs.declared.TheConstants.{MAX_BYTES}
 use Rattle.yl_text.specs.declared.position.Pos.{Pos}
 use Rattle.yl_text.specs.declared.fault.TextFault.{TextFault}
 use Rattle.yl_text.specs.declared.fault.TextFault.TheVariants.{NotUtf8, Range, TooLarge, Memory}
-use Rattle.yl_text.specs.Fault.{IsText, IsFaultOf}
-use Rattle.yl_text.specs.Lines.{RowValue, text_of, lines_of, IsLines}
+use Rattle.yl_text.specs.Fault.{IsFaultOf}
+use Rattle.yl_text.specs.Lines.{RowValue, text_of, IsLines}
 use Rattle.yl_text.specs.Edit.{CanEdit, IsEditFault, IsEditRange, IsInText, edited_text, offset}
 use Rattle.yl_text.proofs.Computed.{lines_of-is}
 use Rattle.yl_text.proofs.OneAnswer.{no_fault_beside}
 use Rattle.yl_units.specs.declared.encoding.Encoding.{Encoding}
 use Rattle.yl_units.specs.Places.{place_of}
 use Rattle.yl_lsp.specs.declared.range.Range as R
-use Rattle.yl_lsp.specs.Params.{ChangeValue, Whole, Within, Unread}
+use Rattle.yl_lsp.specs.Params.{ChangeValue, Unread}
+use Rattle.yl_difference.specs.Difference.{IsDifference}
 use Rattle.yl_config.specs.declared.config.Config.{Config}
-use Rattle.yl_session.specs.declared.work.Work.{Work}
 use Rattle.yl_session.specs.State.{SessionValue, Shows}
 use Rattle.yl_session.specs.Runs.{IsAnswer}
 use Rattle.yl_workspace.specs.declared.cause.Cause.{Cause}
 use Rattle.yl_workspace.specs.declared.cause.Cause.TheVariants as C
-use Rattle.yl_workspace.specs.Changes.{TextValue, Followed, Lost, within_bounds, changed_text, followed_if, text_after_change, text_after_changes, is_granted}
-use Rattle.yl_workspace.specs.Shown.{text_value, cause_of}
+use Rattle.yl_workspace.specs.Changes.{TextValue, Followed, Lost, within_bounds, changed_text, followed_if, text_after_change, text_after_changes}
+use Rattle.yl_workspace.specs.Shown.{cause_of}
 
 -- ---- bounds
 
@@ -150,3 +150,17 @@ one_more e granted rest old new cs i c l is made =
 -- none is left
 pub no_more : (e : Encoding) (text : TextValue) (cs : List ChangeValue) (i : ℕ) → length cs ≤ i → text ≡ text_after_changes e [] text (drop i cs)
 no_more e text cs i l = ap (λ (ds : List ChangeValue). text_after_changes e [] text ds) (sym (drop_all i cs l))
+
+-- ---- an edit that makes one text of another
+pub replaced_text : (ps : List RowValue) (old new bytes : List ℕ) (from to : Pos) → IsLines old ps → IsDifference old new from to bytes → edited_text ps from to bytes ≡ new
+replaced_text ps old new bytes from to h d = subst (λ (qs : List RowValue). edited_text qs from to bytes ≡ new) (lines_of-is old ps h) d.made
+
+pub replaced_can : (ps : List RowValue) (old new bytes : List ℕ) (from to : Pos) → IsLines old ps → IsDifference old new from to bytes → IsUtf8 bytes → length new ≤ MAX_BYTES → CanEdit ps from to bytes
+replaced_can ps old new bytes from to h d u l = record {
+  utf8 = u;
+  range = subst (λ (qs : List RowValue). IsEditRange qs from to) (lines_of-is old ps h) d.range;
+  short = subst (λ (t : List ℕ). length t ≤ MAX_BYTES) (sym (replaced_text ps old new bytes from to h d)) l;
+}
+
+pub difference_of : (old new xs ys : List ℕ) (from to : Pos) → xs ≡ ys → IsDifference old new from to xs → IsDifference old new from to ys
+difference_of old new xs ys from to e d = subst (λ (t : List ℕ). IsDifference old new from to t) e d

@@ -1,9 +1,7 @@
 //! Changes of a text that is followed, or is not.
 ghost use Rattle.std.specs.Prelude.{◌≡◌, ◌≤◌, Bool, List, Ok, IfOk, length, map};
 ghost use Rattle.yl_text.specs.Lines.{text_of};
-ghost use Rattle.yl_text.specs.Edit.{IsInText};
 ghost use Rattle.yl_text.specs.declared.TheConstants.{MAX_BYTES};
-ghost use Rattle.yl_units.specs.Places.{place_of};
 ghost use Rattle.yl_lsp.specs.Read.{change_value};
 ghost use Rattle.yl_session.specs.State.{Shows};
 ghost use Rattle.yl_workspace.specs.Changes.{changed_text, followed_if, text_after_change, text_after_changes, within_bounds};
@@ -16,8 +14,8 @@ use yl_config::Config;
 use yl_difference::Difference;
 use yl_lsp::{Change, Range};
 use yl_session::Session;
-use yl_text::{LineStore, MAX_BYTES, Pos, TextFault};
-use yl_units::{EditorPlace, Encoding, column_of};
+use yl_text::{LineStore, MAX_BYTES, TextFault};
+use yl_units::{Encoding, place_of};
 
 /// Why a text is not followed where this is why it was refused.
 fn cause_of(fault: TextFault) -> Cause
@@ -45,26 +43,6 @@ pub(crate) fn opened_text<S: LineStore>(
     }
 }
 
-/// The place that an editor names.
-fn place_in<S: LineStore>(session: &Session<S>, encoding: Encoding, place: EditorPlace) -> Pos
-    ensures place { result ≡ place_of encoding session.now.rows place }
-    ensures inside { IsInText session.now.rows result }
-{
-    let lines = session.len();
-    if place.line >= lines as u64 {
-        let last = lines - 1;
-        return Pos {
-            line: last as u32,
-            col: session.line(last).chars().count() as u32,
-        };
-    }
-    let line = place.line as u32;
-    Pos {
-        line,
-        col: column_of(encoding, session.line(line as usize), place.units) as u32,
-    }
-}
-
 /// The session after an edit between two places that an editor names.
 fn edited<S: LineStore>(
     mut session: Session<S>,
@@ -75,8 +53,8 @@ fn edited<S: LineStore>(
     ensures shown { IfOk result (λ s. Shows session.config (text_of s.rows) s) }
     ensures text { (granted : Bool) × (text_value result ≡ followed_if granted (changed_text encoding (text_of session.rows) range new.now)) }
 {
-    let from = place_in(&session, encoding, range.start);
-    let to = place_in(&session, encoding, range.end);
+    let from = place_of(encoding, session.lines(), range.start);
+    let to = place_of(encoding, session.lines(), range.end);
     match session.edit(from, to, new.as_bytes()) {
         Ok(_) => Ok(session),
         Err(fault) => Err(cause_of(fault)),

@@ -9,3 +9,5 @@ mod workspace;
 pub use cause::Cause;
 pub use document::Document;
 pub use workspace::Workspace;
+pub use yl_lint::one_report;
+pub use yl_session::Session;

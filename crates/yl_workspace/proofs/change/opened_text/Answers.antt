@@ -1,5 +1,4 @@
 use Rattle.std.proofs.Common.{◌≡◌, Bool, List, ℕ, subst, sym}
-use Rattle.std.specs.Str.{IsUtf8}
 use Rattle.yl_text.specs.Fault.{IsFaultOf}
 use Rattle.yl_workspace.specs.Changes.{Lost, followed_if, within_bounds}
 use Rattle.yl_workspace.proofs.Texts.{open_fault}

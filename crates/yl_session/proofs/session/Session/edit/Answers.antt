@@ -7,6 +7,7 @@ use Rattle.yl_text.specs.Store.{AreLines}
 use Rattle.yl_text.specs.Edit.{IsEditFault, edited_text}
 use Rattle.yl_session.specs.State.{SessionValue, Shows}
 use Rattle.yl_session.specs.Runs.{IsAnswer, IsNothing}
+use Rattle.yl_lint.proofs.Reported.{is_report}
 use Rattle.yl_session.proofs.Nothing.{IsLines-nothing, IsEditFault-nothing}
 use Rattle.yl_session.proofs.session.Session.edit.Goals as goal
 
@@ -32,5 +33,8 @@ returns-in-Err-clause-nothing g c = λ r n.
 pub returns-then-is_nothing-clause-done : goal.returns-then-is_nothing-clause-done
 returns-then-is_nothing-clause-done g c =
     let n : IsNothing (g.S.Lines.rows c.self.inside.store) c.args.from c.args.to c.args.bytes.now = c.if-is_nothing.ensures.0 refl in
+    let config = c.self.inside.config in
+    let rows = g.S.Lines.rows c.self.inside.store in
+    let told = is_report config rows c.self.inside.found.shown.items (c.one_report.ensures.computed config rows) c.self.invariant.3 in
     let P : SessionValue → Type 0 = λ s. Shows s.config (edited_text s.rows c.args.from c.args.to c.args.bytes.now) s in
-    subst P c.self.view_is (record { config = refl; lines = IsLines-nothing (g.S.Lines.rows c.self.inside.store) c.args.from c.args.to c.args.bytes.now c.self.invariant.0 n; problems = c.self.invariant.3 })
+    subst P c.self.view_is (record { config = refl; lines = IsLines-nothing (g.S.Lines.rows c.self.inside.store) c.args.from c.args.to c.args.bytes.now c.self.invariant.0 n; problems = told })

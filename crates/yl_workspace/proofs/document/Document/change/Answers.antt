@@ -1,4 +1,4 @@
-use Rattle.std.proofs.Common.{◌≡◌, ℕ, Bool, true, false, List, [], ◌∷◌, map, string_bytes, subst, sym, ◌∙◌, ap}
+use Rattle.std.proofs.Common.{◌≡◌, ℕ, true, false, List, [], ◌∷◌, map, string_bytes, subst, ◌∙◌, ap}
 use Rattle.yl_lsp.specs.Read.{change_value}
 use Rattle.yl_workspace.specs.Changes.{TextValue, text_after_changes}
 use Rattle.yl_workspace.specs.Documents.{DocumentValue, changed_document}
