@@ -10,4 +10,6 @@ mod places;
 #[cfg(test)]
 mod ranges;
 #[cfg(test)]
+mod settings;
+#[cfg(test)]
 mod texts;

@@ -74,7 +74,11 @@ fn problems_of_a_text(rt: HostRuntime) {
         ),
     ];
     for (links, most, text) in rows {
-        assert_eq!(rt; are_shown(rt.alloc(), links, most, text), Ok(true), "{text}");
+        assert_eq!(rt;
+            are_shown(rt.alloc(), links, most, text),
+            Ok(true),
+            "{text}"
+        );
     }
 }
 
@@ -107,7 +111,8 @@ fn error_messages(rt: HostRuntime) {
     let message = ErrorMessage {
         text: "a: \"b\"\n\u{e9}\u{1}",
     };
-    let text = "{\"jsonrpc\":\"2.0\",\"method\":\"window/showMessage\",\"params\":{\"message\":\"a: \\\"b\\\"\\n\u{e9}\\u0001\",\"type\":1}}";
+    let text =
+        "{\"jsonrpc\":\"2.0\",\"method\":\"window/showMessage\",\"params\":{\"message\":\"a: \\\"b\\\"\\n\u{e9}\\u0001\",\"type\":1}}";
     assert!(rt; is_sent(rt.alloc(), &message, text));
 }
 

@@ -70,7 +70,7 @@ fn documents(rt: HostRuntime) {
     let text =
         r#"{"textDocument":{"languageId":"yaml","uri":"file:///a%20b","version":-7,"text":"a: \u00e9\n"}}"#;
     let Ok(value) = Value::parse(alloc, text, &mut scratch) else {
-        return;
+        panic!(rt; "it is no JSON");
     };
     assert_eq!(rt; document_in(&value), Some("file:///a%20b"));
     assert_eq!(rt; version_in(&value), Some("-7"));
@@ -83,7 +83,7 @@ fn whole_changes(rt: HostRuntime) {
     let alloc = rt.alloc();
     let mut scratch = Scratch::new(alloc);
     let Ok(value) = Value::parse(alloc, r#"{"text":"a\nb"}"#, &mut scratch) else {
-        return;
+        panic!(rt; "it is no JSON");
     };
     let whole = match change_of(&value) {
         Change::Whole(text) => text,

@@ -1,19 +1,16 @@
 //! Ranges: words, indicators, blanks, and what lasts to the line's end.
+ghost use Rattle.yl_text.specs.Store.{AreLines};
 
 use crate::texts::opened;
 use std::alloc::Global;
 use yl_lsp::{Range, next_range};
-use yl_text::{RuleId, TextFault};
+use yl_text::{Lines, RuleId, TextFault};
 use yl_units::{EditorPlace, Encoding, Reached};
 
-// Whether a rule's problems at these columns of the first line have ranges in UTF-16 from and to these units.
-fn are_ranges(
-    alloc: Global,
-    text: &str,
-    rule: RuleId,
-    rows: &[(u64, u64, u64)],
-) -> Result<bool, TextFault> {
-    let lines = opened(alloc, text)?;
+// Whether a rule's problems at these columns of the first line have ranges in UTF-16 from and to these units, by one walk.
+fn are_ranges_of<S: Lines>(lines: &S, rule: RuleId, rows: &[(u64, u64, u64)]) -> bool
+    requires { AreLines (S.rows lines.now) }
+{
     let mut walk = Reached::start_of(0);
     for (col, start, end) in rows {
         let want = Range {
@@ -26,11 +23,22 @@ fn are_ranges(
                 units: *end,
             },
         };
-        if next_range(Encoding::Utf16, &lines, &mut walk, rule, 0, *col) != want {
-            return Ok(false);
+        if next_range(Encoding::Utf16, lines, &mut walk, rule, 0, *col) != want {
+            return false;
         }
     }
-    Ok(true)
+    true
+}
+
+// The same of the first line of a text.
+fn are_ranges(
+    alloc: Global,
+    text: &str,
+    rule: RuleId,
+    rows: &[(u64, u64, u64)],
+) -> Result<bool, TextFault> {
+    let lines = opened(alloc, text)?;
+    Ok(are_ranges_of(&lines, rule, rows))
 }
 
 #[test]
