@@ -1,17 +1,22 @@
 //! Lines that are printed.
 use std::alloc::AllocError;
 
-// A longer line is shortened.
-const MOST: usize = 200;
+// The first bytes of a line are printed, and of more than so many after them the last.
+const FRONT: usize = 80;
+
+const REST: usize = 120;
+
+const BACK: usize = 40;
 
 /// Puts a line, without its middle where it is long.
 pub fn push_line(out: &mut Vec<u8>, line: &[u8]) -> Result<(), AllocError> {
-    if line.len() <= MOST {
-        out.extend_from_slice(line)?;
-    } else {
-        out.extend_from_slice(&line[..80])?;
+    let (front, rest) = line.split_at(line.len().min(FRONT));
+    out.extend_from_slice(front)?;
+    if rest.len() > REST {
         out.extend_from_slice(b" .. ")?;
-        out.extend_from_slice(&line[line.len() - 40..])?;
+        out.extend_from_slice(&rest[rest.len() - BACK..])?;
+    } else {
+        out.extend_from_slice(rest)?;
     }
     out.push(b'\n')?;
     Ok(())
