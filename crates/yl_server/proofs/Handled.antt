@@ -17,8 +17,9 @@ use Rattle.yl_server.specs.declared.reply.Reply.{Reply}
 use Rattle.yl_server.specs.declared.settings.Found.TheVariants.{Unreadable}
 use Rattle.yl_server.specs.Bodies.{IsFound, IsCame, noticed_settings, requested_settings, settings_taken, text_set}
 use Rattle.yl_server.specs.Events.{Came, Read, NoJson, Dropped, Event}
-use Rattle.yl_server.specs.Machine.{ServerValue, Stepped, answered, exit_by, exit_of, missed, noticed, quiet, status_in, step}
-use Rattle.yl_server.specs.Messages.{MessageValue}
+use Rattle.yl_server.specs.Machine.{ServerValue, Stepped, answered, exit_by, exit_of, missed, no_request_words, noticed, quiet, status_in, step}
+use Rattle.yl_rpc.specs.declared.answers.Code.TheVariants.{InvalidRequest}
+use Rattle.yl_server.specs.Messages.{MessageValue, Refused}
 use Rattle.yl_server.specs.Replies.{IsReplied, messages_of}
 use Rattle.yl_server.specs.Requests.{NoticeValue, Exits, Passed, notice_of, notice_with, request_of}
 use Rattle.yl_server.specs.Steps.{AreCut, AreSent, IsBodyMet, IsDone, IsHandled, IsHandlingCut, IsMet, unread_answer}
@@ -128,6 +129,15 @@ pub response_met : (old new : ServerValue) (r : Reply) → IsReplied new r (quie
 unfolding step
 response_met old new r h = record {
   event = record { came = Read Response; granted = []; found = Unreadable };
+  taken = record { came_is = refl; found = tt };
+  replied = h;
+  ends = refl;
+}
+
+pub invalid_met : (id : IdValue) (old new : ServerValue) (r : Reply) → IsReplied new r (old, Refused id InvalidRequest no_request_words ∷ []) → IsMet (Read (Invalid id)) old new r None
+unfolding step
+invalid_met id old new r h = record {
+  event = record { came = Read (Invalid id); granted = []; found = Unreadable };
   taken = record { came_is = refl; found = tt };
   replied = h;
   ends = refl;

@@ -61,6 +61,13 @@ null_written = refl
 
 -- ---- documents
 
+pub report_value : (r : ReportValue) (h how : Presentation) (p rows : List RowValue) (q problems : List ProblemValue) → r ≡ record { how = h; rows = p; problems = q } → h ≡ how → p ≡ rows → q ≡ problems
+    → r ≡ record { how = how; rows = rows; problems = problems }
+report_value r h how p rows q problems e a b c =
+    e ∙ (ap (λ (x : Presentation). record { how = x; rows = p; problems = q }) a
+    ∙ (ap (λ (x : List RowValue). record { how = how; rows = x; problems = q }) b
+    ∙ ap (λ (x : List ProblemValue). record { how = how; rows = rows; problems = x }) c))
+
 -- the session of a document shows its report
 pub followed_shown : OneReport → ReportIsComputed → (how : Presentation) (d : DocumentValue) (s : SessionValue) (r : ReportValue) → IsFollowed d s → r ≡ record { how = how; rows = s.rows; problems = s.problems }
     → report_diagnostics r ≡ text_diagnostics report how d.config d.text

@@ -3,7 +3,7 @@ use Rattle.yl_server.proofs.Decided.{configured_faulty, configured_no_memory, co
 use Rattle.yl_server.proofs.server.Server.configure.Goals as goal
 
 pub returns-in_default : goal.returns-in_default
-returns-in_default g c = configured_none _ c.args.self.now (cc)
+returns-in_default g c = configured_none _ c.args.self.now c.in_default.ensures
 
 pub returns-in-Set : goal.returns-in-Set
 returns-in-Set g c =
