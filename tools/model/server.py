@@ -38,9 +38,10 @@ Document = namedtuple("Document", "version text cause")
 
 def whole_number(value):
     """A number from 0 on that fits 64 bits, or None."""
-    if not isinstance(value, Number) or not value.digits.isdigit() or int(value.digits) >= 2 ** 64:
+    if not isinstance(value, Number) or not value.digits.isdigit() or len(value.digits) > 20:
         return None
-    return int(value.digits)
+    number = int(value.digits)
+    return number if number < 2 ** 64 else None
 
 
 def _range(value):
@@ -171,22 +172,22 @@ class Server:
     def _opened(self, uri, params):
         version, text = (member(params, "textDocument", name) for name in ("version", "text"))
         if not isinstance(version, Number) or not isinstance(text, str):
-            return self._edited(uri, params, [NULL])
+            return self._edited(uri, None, [NULL])
         self.documents[uri] = _within_bounds(version, text)
         return True
 
     def _changed(self, uri, params):
-        changes = member(params, "contentChanges")
-        return self._edited(uri, params, changes if isinstance(changes, list) else [NULL])
+        version, changes = member(params, "textDocument", "version"), member(params, "contentChanges")
+        if not isinstance(version, Number):
+            return self._edited(uri, None, [NULL])
+        return self._edited(uri, version, changes if isinstance(changes, list) else [NULL])
 
-    def _edited(self, uri, params, changes):
-        """Makes changes of a document, and says whether it is open."""
-        document = self.documents.get(uri)
-        if document is None:
+    def _edited(self, uri, version, changes):
+        """Makes changes of a document, which then has this version or keeps its own, and says whether it is open."""
+        if uri not in self.documents:
             return False
-        version = member(params, "textDocument", "version")
-        if isinstance(version, Number):
-            document = document._replace(version=version)
+        document = self.documents[uri]
+        document = document._replace(version=version or document.version)
         for change in changes:
             document = changed(self.encoding, document, change)
         self.documents[uri] = document
