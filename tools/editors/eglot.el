@@ -57,7 +57,7 @@
 (step "configured"
       (lambda ()
         (setq-default eglot-workspace-configuration
-                      '((:zutkrad . (:config "rules: {colons: enable, trailing-spaces: enable}" :maxProblems 1))))
+                      '(:zutkrad (:config "rules: {colons: enable, trailing-spaces: enable}" :maxProblems 1)))
         (eglot-signal-didChangeConfiguration (eglot-current-server))))
 (let ((server (eglot-current-server)))
   (eglot-shutdown server)
