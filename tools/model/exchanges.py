@@ -5,7 +5,7 @@ from .places import units_of
 from .programs import Run
 from .server import BAD_HEADER, Server
 from .text import MAX_BYTES, split
-from .wire import Number, framed, written
+from .wire import MOST_DEPTH, Number, framed, written
 
 URIS = ["file:///w/a.yaml", "file:///w/b%20c.yaml", "untitled:1", 'x "\\\n\xe9\U0001f600', ""]
 WIDE = ["\xe9", "\u20ac", "\U0001f600", "\U00010000", "\r", "\r\n", "\x7f", "\ud83d", "\ude00", "\u2028"]
@@ -14,7 +14,7 @@ OTHER_NOTIFICATIONS = ["textDocument/didSave", "workspace/didChangeWatchedFiles"
                        "$/cancelRequest", "initialize", "shutdown", "textDocument/willSave", "initialized", ""]
 NUMBERS = ["0", "1", "-1", "-0", "1.0", "1e2", "007", "4294967296", "18446744073709551615", "18446744073709551616", "1E-7"]
 ENCODING_NAMES = ["utf-8", "utf-16", "utf-32", "utf-7", "UTF-8", "", 8, None]
-CONFIG_FILES = ["good", "other", "marked", "bytes", "none", "folder", ""]
+CONFIG_FILES = ["good", "other", "marked", "marked", "bytes", "none", "folder", ""]
 BREAKERS = [b"{", b"}", b'"', b",", b":", b"\\", b"\\ud800", b"\xff", b"\x01", b"\xc3", b"[" * 130, b"0", b"\xef\xbb\xbf"]
 # Fields before the length, and broken ends of the input, which are no messages.
 FIELDS = [b"Content-Type: application/vscode-jsonrpc; charset=utf-8\r\n", b"X:\r\n", b":\r\n", b"a: b\r\n" * 63, b"n:" + b"y" * 254 + b"\r\n"]
@@ -50,22 +50,74 @@ class Exchange:
         return Run(out, BAD_HEADER.encode() if self.end else b"", 1)
 
 
-class TooLarge(Exchange):
-    """Texts of more bytes than a text may have."""
+class Worked(Exchange):
+    """These messages."""
 
-    def __init__(self):
-        super().__init__({})
-        item = {"uri": "a", "version": Number("1")}
-        messages = [
-            {"id": "i", "method": "initialize", "params": {}},
-            _notification("textDocument/didOpen", {"textDocument": {**item, "text": "#" * (MAX_BYTES + 1)}}),
-            *(_notification("textDocument/didChange", {"textDocument": item, "contentChanges": [change]}) for change in (
-                {"text": "a: 1\n"}, _change_at(0, 0, "#" * (MAX_BYTES - 4)), _change_at(0, 0, ""), {"text": "---\n"},
-                _change_at(1, 0, "\xe9" * (MAX_BYTES // 2 - 1)))),
-        ]
+    def __init__(self, files, messages):
+        super().__init__(files)
         for message in messages:
             body = written({"jsonrpc": "2.0", **message}).encode()
             self.give(body, framed(body))
+
+
+def too_large():
+    """Texts of more bytes than a text may have."""
+    return Worked({}, [
+        {"id": "i", "method": "initialize", "params": {}},
+        _opened("a", "#" * (MAX_BYTES + 1)),
+        _changed("a", 2, {"text": "a: 1\n"}),
+        _changed("a", 3, _change_at(0, 0, "#" * (MAX_BYTES - 4))),
+        _changed("a", 4, _change_at(0, 0, "")),
+        _changed("a", 5, {"text": "---\n"}),
+        _changed("a", 6, _change_at(1, 0, "\xe9" * (MAX_BYTES // 2 - 1))),
+    ])
+
+
+def all_kinds():
+    """A message of each kind."""
+    a, b = "file:///a.yaml", "file:///b%20c.yaml"
+    return Worked({"good": b"extends: default\nrules: {colons: disable}\n"}, [
+        {"id": Number("1"), "method": "initialize", "params": {"initializationOptions": {"zutkrad": {"config": "extends: default"}}}},
+        _notification("initialized", {}),
+        _opened(a, "---\na:  1\nk: [1, 2]\nk: 'x'\n"),
+        _opened(b, "- é \n- {a: *b}\n"),
+        _changed(a, 2, _change_at(1, 4, "b\nc: \"d\n")),
+        _changed(a, 3, _change_at(2, 5, '"'), _change_at(3, 2, "&x |\n  long "), _change_at(9, 0, "\r\n")),
+        _changed(b, 4, {"text": "---\nyes:  no\n"}, _change_at(0, 0, "# yamllint disable\n"), _change_at(2, 3, "x")),
+        _notification("workspace/didChangeConfiguration", {"settings": {"zutkrad": {"configFile": "good", "maxProblems": Number("1")}}}),
+        _changed(a, 5, _change_at(0, 0, "")),
+        _opened(a, "a: 1\n"),
+        _notification("workspace/didChangeConfiguration", {"settings": {"zutkrad": {"config": "rules: {a: 1}"}}}),
+        {"id": "x", "method": "textDocument/hover", "params": {}},
+        _notification("textDocument/didClose", {"textDocument": {"uri": b}}),
+        {"id": "y", "method": "shutdown"},
+        _notification("exit", None),
+    ])
+
+
+def _ran(exchange, number, grants):
+    """What comes of an exchange where one body is done with these grants of memory, or with none is dropped, and how many it asks for."""
+    server, out, asked = Server(exchange.files.get), b"", 0
+    for other, body in enumerate(exchange.bodies):
+        if other != number:
+            messages = server.came(body)
+        elif grants is None:
+            messages = server.dropped()
+        else:
+            messages, asked = server.came(body, grants), server.asked
+        out += b"".join(map(message_bytes, messages))
+        if server.status is not None:
+            break
+    return Run(out, b"", 1 if server.status is None else server.status), asked
+
+
+def refused(exchange):
+    """What may come of an exchange where one request for memory is refused: for a body, or for a part of its work."""
+    for number in range(len(exchange.bodies)):
+        yield _ran(exchange, number, None)[0]
+        _, asked = _ran(exchange, number, ())
+        for part in range(asked):
+            yield _ran(exchange, number, [True] * part + [False])[0]
 
 
 class Random(Exchange):
@@ -93,7 +145,7 @@ class Random(Exchange):
         if rng.random() < 0.04:
             value = _of_other_shape(rng, value)
         body = self.style.written(value).encode()
-        if rng.random() < 0.015:
+        if rng.random() < 0.02:
             body = _broken(rng, body)
         self.give(body, _framed(rng, body))
 
@@ -102,7 +154,7 @@ class Random(Exchange):
     def _message(self):
         rng, kind = self.rng, self.rng.random()
         is_open = list(self.server.documents)
-        if kind < 0.14 or (not is_open and kind < 0.6):
+        if kind < 0.18 or (not is_open and kind < 0.6):
             return _notification("textDocument/didOpen", {"textDocument": self._item()})
         if kind < 0.72:
             uri = rng.choice(is_open) if is_open and rng.random() < 0.97 else rng.choice(URIS)
@@ -114,7 +166,7 @@ class Random(Exchange):
             return _notification("workspace/didChangeConfiguration", {"settings": _settings(rng)})
         if kind < 0.89:
             return _request(rng, rng.choice(OTHER_REQUESTS), rng.choice((None, {}, [], {"textDocument": {"uri": rng.choice(URIS)}})))
-        if kind < 0.95:
+        if kind < 0.93:
             return _notification(rng.choice(OTHER_NOTIFICATIONS), rng.choice((None, {}, [], {"textDocument": {"uri": rng.choice(URIS)}})))
         return rng.choice(OTHERS)(rng)
 
@@ -132,8 +184,10 @@ class Random(Exchange):
         return [self._change(text) for _ in range(rng.choice((0, 1, 1, 1, 1, 1, 2, 3)))]
 
     def _change(self, text):
-        rng = self.rng
-        if rng.random() < 0.12:
+        rng, kind = self.rng, self.rng.random()
+        if kind < (0.03 if text else 0.12):
+            return rng.choice(OTHER_VALUES)
+        if kind < 0.15:
             return {"text": _text(rng)}
         rows = split(text)
         a = rng.randrange(len(rows))
@@ -150,6 +204,15 @@ class Random(Exchange):
         return {**change, "rangeLength": rng.randint(0, 9)} if rng.random() < 0.3 else change
 
 
+def _opened(uri, text):
+    return _notification("textDocument/didOpen", {"textDocument": {"uri": uri, "version": Number("1"), "text": text}})
+
+
+def _changed(uri, version, *changes):
+    document = {"uri": uri, "version": Number(str(version))}
+    return _notification("textDocument/didChange", {"textDocument": document, "contentChanges": list(changes)})
+
+
 def _change_at(line, units, text):
     """The change that puts a text in at a place."""
     place = {"line": Number(str(line)), "character": Number(str(units))}
@@ -160,6 +223,8 @@ def _text(rng):
     kind = rng.random()
     if kind < 0.01:
         return "---\n" + "a : 1 \n" * rng.choice((500, 501, 700))
+    if kind < 0.04:
+        return "---\n" + ("k" * rng.randint(254, 260) + ": 1\n") * 2
     text = texts.random_text(rng)
     for _ in range(rng.choice((0, 0, 1, 3, 8))):
         at = rng.randint(0, len(text))
@@ -211,7 +276,14 @@ def _notification(method, params):
     return {"jsonrpc": "2.0", "method": method} if params is None else {"jsonrpc": "2.0", "method": method, "params": params}
 
 
-# Answers, messages that are none, and calls in a wrong order.
+def _nested(depth):
+    value = []
+    for _ in range(depth - 1):
+        value = [value]
+    return value
+
+
+# Answers, messages that are none, deep ones, and calls in a wrong order.
 OTHER_VALUES = [None, True, False, 0, Number("1.5"), "", "x", [], [1], {}, {"text": "x"}, {"line": 0, "character": 0}]
 OTHERS = [
     lambda rng: {"jsonrpc": "2.0", "id": _id(rng), "result": None},
@@ -222,8 +294,9 @@ OTHERS = [
     lambda rng: [_request(rng, "shutdown", None)],
     lambda rng: rng.choice(OTHER_VALUES),
     lambda rng: {"id": _id(rng), "method": "exit"},
+    lambda rng: _notification("$/deep", _nested(rng.choice((MOST_DEPTH - 1, MOST_DEPTH)))),
     _initialize,
-    lambda rng: _request(rng, "shutdown", rng.choice((None, {}, []))) if rng.random() < 0.4 else _initialize(rng),
+    lambda rng: _request(rng, "shutdown", rng.choice((None, {}, []))),
     lambda rng: _notification("exit", rng.choice((None, {}))) if rng.random() < 0.2 else _initialize(rng),
 ]
 

@@ -8,8 +8,8 @@ from .places import ENCODINGS, end_of, place_of, told
 from .programs import MARK
 from .report import SYNTAX
 from .text import MAX_BYTES, split
-from .wire import (INVALID_PARAMS, INVALID_REQUEST, METHOD_NOT_FOUND, NULL, PARSE_ERROR, SERVER_NOT_INITIALIZED, Invalid, NoJson,
-                   Notification, Number, Request, answer, call_of, failure, member, notification, read)
+from .wire import (INTERNAL_ERROR, INVALID_PARAMS, INVALID_REQUEST, METHOD_NOT_FOUND, NULL, PARSE_ERROR, SERVER_NOT_INITIALIZED, Invalid,
+                   NoJson, Notification, Number, Request, answer, call_of, failure, member, notification, read)
 
 NAME, VERSION = "zutkrad", "0.1.0"
 MOST_PROBLEMS = 1000
@@ -19,18 +19,21 @@ RULES_PAGE = "https://yamllint.readthedocs.io/en/stable/rules.html#"
 WAITING, RUNNING, STOPPED = "waiting", "running", "stopped"
 
 # Why a text is not followed, as it is told.
-TOO_LARGE, BAD_CHANGE, MISSED = ("the text is too large", "a change could not be made", "a message could not be read")
+_LOST = ": the text is not followed until it is opened again"
+LOST_MEMORY, TOO_LARGE, BAD_CHANGE, MISSED = (cause + _LOST for cause in (
+    "out of memory", "too large", "a change that cannot be made", "a message was not read"))
 
 # What is told of faults.
+NO_MEMORY = "out of memory"
 NO_JSON = "the message is no JSON"
 NO_REQUEST = "the message is no request and no notification"
 IS_WAITING, IS_INITIALIZED, IS_STOPPED = "the server waits for initialize", "the server is initialized", "the server is shut down"
 UNKNOWN_METHOD = "the server has no such method"
 NO_PARAMS = "the params are no object"
-BAD_SETTINGS = "the settings of zutkrad are not of the types that they have"
+BAD_SETTINGS = "a setting is of another type than it has"
 UNREADABLE_CONFIG = "the file of the configuration cannot be read"
 REFUSED_CONFIG = "the configuration is refused: "
-BAD_HEADER = f"{NAME}: bad header\n"
+BAD_HEADER = f"{NAME}: bad command\n"
 
 # A document: its version as it came, its text, and why it is lost or None.
 Document = namedtuple("Document", "version text cause")
@@ -54,31 +57,39 @@ def _offset(rows, place):
     return sum(len(row.whole()) for row in rows[:place[0]]) + place[1]
 
 
-def _within_bounds(version, text):
-    return Document(version, text, None) if len(text.encode()) <= MAX_BYTES else Document(version, None, TOO_LARGE)
-
-
-def changed(encoding, document, change):
-    """The document after one change."""
-    text, version = member(change, "text"), document.version
+def _changed_text(encoding, document, change):
+    """The text that a change of a followed document makes, or one of the whole text, and why there is none."""
+    text, where = member(change, "text"), member(change, "range")
     if not isinstance(text, str):
-        return Document(version, None, BAD_CHANGE)
-    if member(change, "range") is None:
-        return _within_bounds(version, text)
-    places = _range(member(change, "range"))
-    if places is None:
-        return Document(version, None, BAD_CHANGE)
-    if document.cause is not None:
-        return document
-    rows = split(document.text)
-    begin, end = (_offset(rows, place_of(encoding, rows, *place)) for place in places)
-    if end < begin:
-        return Document(version, None, BAD_CHANGE)
-    return _within_bounds(version, document.text[:begin] + text + document.text[end:])
+        return None, BAD_CHANGE
+    if where is not None:
+        places = _range(where)
+        if places is None:
+            return None, BAD_CHANGE
+        if document.cause is not None:
+            return None, document.cause
+        rows = split(document.text)
+        begin, end = (_offset(rows, place_of(encoding, rows, *place)) for place in places)
+        if end < begin:
+            return None, BAD_CHANGE
+        text = document.text[:begin] + text + document.text[end:]
+    return (text, None) if len(text.encode()) <= MAX_BYTES else (None, TOO_LARGE)
+
+
+def changed(encoding, document, change, is_granted=True):
+    """The document after one change, for which memory is granted or not."""
+    text, cause = _changed_text(encoding, document, change)
+    if cause is None and not is_granted:
+        text, cause = None, LOST_MEMORY
+    return Document(document.version, text, cause)
 
 
 def _place(line, units):
     return {"line": Number(str(line)), "character": Number(str(units))}
+
+
+def _message(words):
+    return notification("window/showMessage", {"type": Number("1"), "message": words})
 
 
 def _diagnostic(start, end, severity, code, message):
@@ -88,6 +99,10 @@ def _diagnostic(start, end, severity, code, message):
 
 class _BadSettings(Exception):
     """Settings set nothing, and this is told of them."""
+
+
+class _NoMemory(Exception):
+    """There was no memory for the configuration of settings."""
 
 
 class Server:
@@ -102,19 +117,33 @@ class Server:
         self.config = Config.standard()
         self.documents = {}
         self.status = None
+        self.grants, self.asked = (), 0
 
-    def came(self, body):
-        """The messages that are sent for a body. After `exit` the server has a status."""
+    def came(self, body, grants=()):
+        """The messages that are sent for a body. After `exit` the server has a status. `grants` say in turn whether memory is granted
+        for a part of the work; past their end it is."""
+        self.grants, self.asked = grants, 0
         try:
             call = call_of(read(body))
         except NoJson:
-            self.documents = {uri: Document(old.version, None, MISSED) for uri, old in self.documents.items()}
-            return [failure(NULL, PARSE_ERROR, NO_JSON), *self._publications()]
+            return self._missed(PARSE_ERROR, NO_JSON)
         if isinstance(call, Invalid):
             return [failure(call.id, INVALID_REQUEST, NO_REQUEST)]
         if isinstance(call, Request):
             return self._request(call)
         return self._notification(call) if isinstance(call, Notification) else []
+
+    def dropped(self):
+        """The messages that are sent for a body for which there was no memory."""
+        return self._missed(INTERNAL_ERROR, NO_MEMORY)
+
+    def _missed(self, code, words):
+        self.documents = {uri: Document(old.version, None, MISSED) for uri, old in self.documents.items()}
+        return [failure(NULL, code, words), *self._publications()]
+
+    def _is_granted(self):
+        self.asked += 1
+        return self.asked > len(self.grants) or self.grants[self.asked - 1]
 
     # ------------------------------------------------------------- requests
 
@@ -125,9 +154,12 @@ class Server:
         if call.method == "shutdown":
             self.phase = STOPPED
             return [answer(call.id, NULL)]
+        try:
+            said = self._set(member(call.params, "initializationOptions", NAME))
+        except _NoMemory:
+            return [failure(call.id, INTERNAL_ERROR, NO_MEMORY)]
         self.phase = RUNNING
         self._take(call.params)
-        said = self._set(member(call.params, "initializationOptions", NAME))
         sync = {"openClose": True, "change": Number("2"), "save": True}
         result = {"capabilities": {"positionEncoding": self.encoding, "textDocumentSync": sync},
                   "serverInfo": {"name": NAME, "version": VERSION}}
@@ -160,21 +192,22 @@ class Server:
         if self.phase != RUNNING:
             return []
         if call.method == "workspace/didChangeConfiguration":
-            settings = member(call.params, "settings", NAME)
-            return [] if settings is None else self._set(settings) or self._publications()
+            return self._configured(member(call.params, "settings", NAME))
         uri = member(call.params, "textDocument", "uri")
         act = {"textDocument/didOpen": self._opened, "textDocument/didChange": self._changed,
                "textDocument/didClose": self._closed}.get(call.method)
-        if act is None or not isinstance(uri, str) or not act(uri, call.params):
-            return []
-        return [self._publication(uri)]
+        return act(uri, call.params) if act is not None and isinstance(uri, str) else []
 
     def _opened(self, uri, params):
         version, text = (member(params, "textDocument", name) for name in ("version", "text"))
         if not isinstance(version, Number) or not isinstance(text, str):
             return self._edited(uri, None, [NULL])
-        self.documents[uri] = _within_bounds(version, text)
-        return True
+        if not self._is_granted():
+            # What was open is not the editor's text any more, and what was not open does not become it.
+            if uri in self.documents:
+                return self._put(uri, Document(self.documents[uri].version, None, LOST_MEMORY))
+            return [self._publication(uri), _message(NO_MEMORY)]
+        return self._put(uri, changed(self.encoding, Document(version, None, None), {"text": text}, self._is_granted()))
 
     def _changed(self, uri, params):
         version, changes = member(params, "textDocument", "version"), member(params, "contentChanges")
@@ -183,20 +216,40 @@ class Server:
         return self._edited(uri, version, changes if isinstance(changes, list) else [NULL])
 
     def _edited(self, uri, version, changes):
-        """Makes changes of a document, which then has this version or keeps its own, and says whether it is open."""
+        """Makes changes of a document, if it is open, which then has this version or keeps its own."""
         if uri not in self.documents:
-            return False
+            return []
         document = self.documents[uri]
+        if version is not None and not self._is_granted():
+            return self._put(uri, Document(document.version, None, LOST_MEMORY))
         document = document._replace(version=version or document.version)
         for change in changes:
-            document = changed(self.encoding, document, change)
-        self.documents[uri] = document
-        return True
+            document = changed(self.encoding, document, change, self._is_granted())
+        return self._put(uri, document)
 
     def _closed(self, uri, _):
-        return self.documents.pop(uri, None) is not None
+        return [self._publication(uri)] if self.documents.pop(uri, None) is not None else []
+
+    def _put(self, uri, document):
+        self.documents[uri] = document
+        return [self._publication(uri)]
 
     # ------------------------------------------------------------- settings
+
+    def _configured(self, settings):
+        """The messages that are sent for the settings of this program, or for none."""
+        if settings is None:
+            return []
+        old = self.config
+        try:
+            said = self._set(settings)
+        except _NoMemory:
+            return [_message(NO_MEMORY)]
+        if self.config is not old:
+            for uri, document in self.documents.items():
+                if not self._is_granted() and document.cause is None:
+                    self.documents[uri] = Document(document.version, None, LOST_MEMORY)
+        return said or self._publications()
 
     def _set(self, settings):
         """Takes the settings of this program, where there are some, and says what is told of their fault."""
@@ -205,7 +258,7 @@ class Server:
         try:
             config, most = self._settings(settings)
         except _BadSettings as fault:
-            return [notification("window/showMessage", {"type": Number("1"), "message": str(fault)})]
+            return [_message(str(fault))]
         self.config = config or self.config
         self.most = self.most if most is None else most
         return []
@@ -226,8 +279,12 @@ class Server:
             if data is None:
                 raise _BadSettings(UNREADABLE_CONFIG)
             data = data.removeprefix(MARK)
+        if data is None:
+            return None, number
+        if not self._is_granted():
+            raise _NoMemory
         try:
-            return data if data is None else Config.read(data), number
+            return Config.read(data), number
         except ConfigFault as fault:
             raise _BadSettings(REFUSED_CONFIG + fault.name) from None
 
