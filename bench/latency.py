@@ -50,7 +50,8 @@ class Editor:
 
     def __init__(self, command, folder):
         start = time.perf_counter_ns()
-        self.process = subprocess.Popen(command, stdin=subprocess.PIPE, stdout=subprocess.PIPE, stderr=subprocess.DEVNULL, bufsize=0, cwd=folder)
+        pipes = {"stdin": subprocess.PIPE, "stdout": subprocess.PIPE, "stderr": subprocess.DEVNULL}
+        self.process = subprocess.Popen(command, **pipes, bufsize=0, cwd=folder)
         self.held, self.version, self.uri = bytearray(), 0, f"file://{folder}/text.yaml"
         options = {"zutkrad": {"config": CONFIG}}
         params = {"processId": None, "rootUri": f"file://{folder}", "capabilities": {}, "initializationOptions": options}
@@ -141,9 +142,9 @@ def most(times):
 
 
 def row(name, what, times, diagnostics="", size="", peak=""):
+    median, high = statistics.median(times) / 1e6, most(times) / 1e6
     peak = f"{peak / MIB:.0f} MiB" if peak else ""
-    print(f"{name:50} {what:13} {len(times):6} {statistics.median(times) / 1e6:10.2f} {most(times) / 1e6:10.2f} {diagnostics!s:>5} {size!s:>8} {peak}",
-          flush=True)
+    print(f"{name:50} {what:14} {len(times):5} {median:10.2f} {high:10.2f} {diagnostics!s:>5} {size!s:>8} {peak}", flush=True)
 
 
 def show_starts(name, command, folder):
@@ -190,7 +191,7 @@ def main():
             servers["efm"] = [words.peer, "-c", peer]
         else:
             print("efm-langserver or yamllint is not installed, so they are left out")
-        print("server and text                                    what            times  median ms    99 % ms shown    bytes peak")
+        print(f"{'server and text':50} {'what':14} times  median ms    99 % ms shown    bytes peak")
         for name, command in servers.items():
             show_starts(name, command, folder)
         for size in SMALL:

@@ -9,19 +9,22 @@ from .wire import MOST_DEPTH, Number, framed, written
 
 URIS = ["file:///w/a.yaml", "file:///w/b%20c.yaml", "untitled:1", 'x "\\\n\xe9\U0001f600', ""]
 WIDE = ["\xe9", "\u20ac", "\U0001f600", "\U00010000", "\r", "\r\n", "\x7f", "\ud83d", "\ude00", "\u2028"]
-OTHER_REQUESTS = ["textDocument/hover", "textDocument/diagnostic", "workspace/symbol", "$/x", "", "initialized", "exit", "textDocument/didOpen"]
+OTHER_REQUESTS = ["textDocument/hover", "textDocument/diagnostic", "workspace/symbol", "$/x", "", "initialized", "exit",
+                  "textDocument/didOpen"]
 OTHER_NOTIFICATIONS = ["textDocument/didSave", "workspace/didChangeWatchedFiles", "workspace/didChangeWorkspaceFolders", "$/setTrace",
                        "$/cancelRequest", "initialize", "shutdown", "textDocument/willSave", "initialized", ""]
 NUMBERS = ["0", "1", "-1", "-0", "1.0", "1e2", "007", "4294967296", "18446744073709551615", "18446744073709551616", "1E-7"]
 ENCODING_NAMES = ["utf-8", "utf-16", "utf-32", "utf-7", "UTF-8", "", 8, None]
 CONFIG_FILES = ["good", "other", "marked", "marked", "bytes", "none", "folder", ""]
 BREAKERS = [b"{", b"}", b'"', b",", b":", b"\\", b"\\ud800", b"\xff", b"\x01", b"\xc3", b"[" * 130, b"0", b"\xef\xbb\xbf"]
-# Fields before the length, and broken ends of the input, which are no messages.
-FIELDS = [b"Content-Type: application/vscode-jsonrpc; charset=utf-8\r\n", b"X:\r\n", b":\r\n", b"a: b\r\n" * 63, b"n:" + b"y" * 254 + b"\r\n"]
-BROKEN_ENDS = [b"\r\n", b"Content-Length: 2\r\nContent-Length: 2\r\n\r\n{}", b"Content-Length: 2\n\n{}", b"Content-Length: 2\r\n",
-               b"Content-Length: -2\r\n\r\n{}", b"Content-Length: 2 2\r\n\r\n{}", b"Content-Length: 12345678901\r\n\r\n{}", b"Content-Length\r\n\r\n{}",
-               b"Content-Length: 9999999999\r\n\r\n{}", b"Content-Length: 3\r\n\r\n{}", b"Content-Length:\r\n\r\n", b"a: b\r\n" * 64 + b"Content-Length: 2\r\n\r\n{}",
-               b"n:" + b"y" * 255 + b"\r\nContent-Length: 2\r\n\r\n{}", b"\xff\xfe", b"C"]
+# Fields beside the length, and broken ends of the input, which are no messages.
+FIELDS = [b"Content-Type: application/vscode-jsonrpc; charset=utf-8\r\n", b"X:\r\n", b":\r\n", b"a: b\r\n" * 63,
+          b"n:" + b"y" * 254 + b"\r\n"]
+BROKEN_HEADS = [b"\r\n", b"Content-Length: 2\r\nContent-Length: 2\r\n\r\n", b"Content-Length: 2\n\n", b"Content-Length: -2\r\n\r\n",
+                b"Content-Length: 2 2\r\n\r\n", b"Content-Length: 12345678901\r\n\r\n", b"Content-Length\r\n\r\n",
+                b"Content-Length:\r\n\r\n", b"Content-Length: 9999999999\r\n\r\n", b"Content-Length: 3\r\n\r\n",
+                b"a: b\r\n" * 64 + b"Content-Length: 2\r\n\r\n", b"n:" + b"y" * 255 + b"\r\nContent-Length: 2\r\n\r\n"]
+BROKEN_ENDS = [head + b"{}" for head in BROKEN_HEADS] + [b"Content-Length: 2\r\n", b"\xff\xfe", b"C"]
 
 
 def message_bytes(message):
