@@ -5,7 +5,7 @@ from .places import units_of
 from .programs import Run
 from .server import BAD_HEADER, Server
 from .text import MAX_BYTES, split
-from .wire import MOST_DEPTH, Number, framed, written
+from .wire import MOST_OPEN, Number, framed, written
 
 URIS = ["file:///w/a.yaml", "file:///w/b%20c.yaml", "untitled:1", 'x "\\\n\xe9\U0001f600', ""]
 WIDE = ["\xe9", "\u20ac", "\U0001f600", "\U00010000", "\r", "\r\n", "\x7f", "\ud83d", "\ude00", "\u2028"]
@@ -297,7 +297,7 @@ OTHERS = [
     lambda rng: [_request(rng, "shutdown", None)],
     lambda rng: rng.choice(OTHER_VALUES),
     lambda rng: {"id": _id(rng), "method": "exit"},
-    lambda rng: _notification("$/deep", _nested(rng.choice((MOST_DEPTH - 1, MOST_DEPTH)))),
+    lambda rng: _notification("$/deep", _nested(rng.choice((MOST_OPEN - 1, MOST_OPEN)))),
     _initialize,
     lambda rng: _request(rng, "shutdown", rng.choice((None, {}, []))),
     lambda rng: _notification("exit", rng.choice((None, {}))) if rng.random() < 0.2 else _initialize(rng),

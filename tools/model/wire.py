@@ -8,7 +8,7 @@ from collections import namedtuple
 
 MOST_FIELDS = 64
 MOST_LINE = 257
-MOST_DEPTH = 128
+MOST_OPEN = 128
 
 # LSP's ErrorCodes.
 PARSE_ERROR, INVALID_REQUEST, METHOD_NOT_FOUND, INVALID_PARAMS = "-32700", "-32600", "-32601", "-32602"
@@ -19,7 +19,11 @@ NULL = type("Null", (), {"__repr__": lambda self: "NULL"})()
 
 
 class NoJson(Exception):
-    """Bytes are no JSON, or nest deeper than is read."""
+    """Bytes are no JSON."""
+
+
+class TooDeep(NoJson):
+    """More brackets are open at once in them than are read."""
 
 
 class NoMessage(Exception):
@@ -34,31 +38,42 @@ def _constant(word):
 
 _DECODER = json.JSONDecoder(parse_int=Number, parse_float=Number, parse_constant=_constant)
 _HALF = re.compile("[\ud800-\udfff]")
+_TEXT = re.compile(rb'"[^"\\]*(?:\\.[^"\\]*)*"?', re.DOTALL)
 
 
-def _taken(value, depth):
-    """A value as Python's decoder has it, in this module's form. It nests at most so deep."""
+def _is_too_deep(body):
+    """Whether more brackets are open at once than are read, those in texts aside."""
+    is_open = 0
+    for byte in _TEXT.sub(b"", body):
+        if byte in b"[{":
+            is_open += 1
+        elif byte in b"]}":
+            is_open = max(is_open - 1, 0)
+        if is_open > MOST_OPEN:
+            return True
+    return False
+
+
+def _taken(value):
+    """A value as Python's decoder has it, in this module's form."""
     if value is None:
         return NULL
     if isinstance(value, str):
         return _HALF.sub("\ufffd", value)
-    if isinstance(value, Number) or not isinstance(value, (dict, list)):
-        return value
-    if depth == 0:
-        raise NoJson
-    if isinstance(value, list):
-        return [_taken(item, depth - 1) for item in value]
-    return {_taken(name, 0): _taken(item, depth - 1) for name, item in value.items()}
+    if isinstance(value, dict):
+        return {_taken(name): _taken(item) for name, item in value.items()}
+    return list(map(_taken, value)) if isinstance(value, list) else value
 
 
 def read(body):
     """The value of a body. An escape of half a pair of surrogates without the other is read as U+FFFD. The last of equal names
     counts."""
+    if _is_too_deep(body):
+        raise TooDeep
     try:
-        value = _DECODER.decode(body.decode())
-    except (ValueError, RecursionError):
+        return _taken(_DECODER.decode(body.decode()))
+    except ValueError:
         raise NoJson from None
-    return _taken(value, MOST_DEPTH)
 
 
 def written(value):
