@@ -38,7 +38,8 @@ server.stdout.on("data", (data) => {
 function change(start, end, text) {
   version += 1;
   const range = { start: { line: start[0], character: start[1] }, end: { line: end[0], character: end[1] } };
-  send({ method: "textDocument/didChange", params: { textDocument: { uri, version }, contentChanges: [{ range, rangeLength: 0, text }] } });
+  const contentChanges = [{ range, rangeLength: 0, text }];
+  send({ method: "textDocument/didChange", params: { textDocument: { uri, version }, contentChanges } });
 }
 
 // Does something, waits for the publication of the text as it is then, and prints what is shown.

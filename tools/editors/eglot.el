@@ -1,4 +1,5 @@
-;;; emacs --batch -l eglot.el: opens f.yaml under the server of $SERVER, edits it, and prints what flymake shows.  -*- lexical-binding: t -*-
+;;; Opens f.yaml under the server of $SERVER, edits it, and prints what flymake shows.  -*- lexical-binding: t -*-
+;; emacs --batch -l eglot.el
 (package-initialize)
 (require 'eglot)
 (require 'flymake)

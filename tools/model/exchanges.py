@@ -326,7 +326,8 @@ def _framed(rng, body):
     if rng.random() < 0.8:
         return framed(body)
     name = rng.choice((b"Content-Length", b"content-length", b"CONTENT-length"))
-    length = name + b":" + rng.choice((b"", b" ", b"\t ")) + b"%0*d" % (rng.choice((1, 10)), len(body)) + rng.choice((b"", b" \t")) + b"\r\n"
+    number = b"%0*d" % (rng.choice((1, 10)), len(body))
+    length = name + b":" + rng.choice((b"", b" ", b"\t ")) + number + rng.choice((b"", b" \t")) + b"\r\n"
     fields = [length, rng.choice(FIELDS)]
     rng.shuffle(fields)
     return b"".join(fields) + b"\r\n" + body
