@@ -178,7 +178,8 @@ class Random(Exchange):
         return self.version if self.rng.random() < 0.95 else Number(self.rng.choice(NUMBERS))
 
     def _item(self):
-        return {"uri": self.rng.choice(URIS), "languageId": "yaml", "version": self._version(), "text": _text(self.rng)}
+        item = {"uri": self.rng.choice(URIS), "languageId": "yaml", "version": self._version(), "text": _text(self.rng)}
+        return {**item, self.rng.choice(("version", "text")): self.rng.choice(OTHER_VALUES)} if self.rng.random() < 0.08 else item
 
     def _changes(self, uri):
         """Changes of a document's text, of which all but the first are made without a look at the ones before."""
