@@ -1,6 +1,6 @@
 #!/usr/bin/env python3
-"""rows.py [--check]: writes the file stdout of yl_text_rows and of yl_session_rows, what the model of tools/model says of the
-rows in their files stdin.
+"""rows.py [--check]: writes the file stdout of yl_text_rows, yl_session_rows, yl_frames_rows and yl_rpc_rows, what the model of
+tools/model says of the rows in their files stdin.
 
 With --check it writes nothing, and ends with 1 where a file says otherwise. So what these programs are to print is never
 taken from a program of this repository."""
@@ -17,12 +17,16 @@ from model.config import Config, ConfigFault  # noqa: E402
 from model.lint import Text, report  # noqa: E402
 from model.report import printed, status  # noqa: E402
 from model.text import TextFault, decode, edited, split  # noqa: E402
+from model.wire import (INVALID_REQUEST, METHOD_NOT_FOUND, NULL, PARSE_ERROR, Invalid, NoJson, NoMessage, Request, Response,  # noqa: E402
+                        TooDeep, answer, call_of, failure, framed, next_body, read, written)
 
 CRATES = os.path.join(os.path.dirname(HERE), "crates")
 ESCAPE = re.compile(r"\\(?:u\{([0-9A-Fa-f]+)\}|x\{([0-9A-Fa-f]+)\}|([nrt\\]))")
 LETTERS = {"n": b"\n", "r": b"\r", "t": b"\t", "\\": b"\\"}
 SHOWN = {"lexemes": dump.lexemes, "events": dump.events, "lines": dump.lines}
 LONG = 2000
+LONG_LINE = 200
+FRONTS = ("more", "times", "keys", "stairs")
 
 
 def unescaped(text):
@@ -126,7 +130,7 @@ def answers(lines):
         word, _, rest = line.partition(" ")
         if word in ("growths", "most", "exactly"):
             continue
-        if word in ("more", "times", "keys", "stairs"):
+        if word in FRONTS:
             front += front_of(word, rest)
             continue
         if word == "edit":
@@ -155,10 +159,71 @@ def answers(lines):
         front = b""
 
 
+def frame_lines(word, data):
+    """The messages that bytes are, or the message of a text."""
+    if word == "send":
+        yield framed(written(data.decode()).encode())
+        return
+    try:
+        while found := next_body(data):
+            body, data = found
+            yield b"= " + body
+        yield b"= end"
+    except NoMessage:
+        yield b"= bad"
+
+
+def call_answers(data):
+    """What bytes are as a call, and what it may be answered."""
+    try:
+        call = call_of(read(data))
+    except NoJson as fault:
+        words = "too deep" if isinstance(fault, TooDeep) else "no JSON"
+        return words, [failure(NULL, PARSE_ERROR, words)]
+    if isinstance(call, Invalid):
+        return "invalid", [failure(call.id, INVALID_REQUEST, "no call")]
+    if isinstance(call, Response):
+        return "response", []
+    params = "" if call.params is None else ", with params"
+    if isinstance(call, Request):
+        return f"request {call.method}{params}", [answer(call.id, NULL), failure(call.id, METHOD_NOT_FOUND, "unknown method")]
+    return f"notification {call.method}{params}", []
+
+
+def call_lines(_, data):
+    """The lines of a call and its answers, long ones without their middle."""
+    what, messages = call_answers(data)
+    lines = [f"= {what}".encode()]
+    for message in messages:
+        lines += framed(written(message).encode()).split(b"\n")
+    for line in lines:
+        yield line if len(line) <= LONG_LINE else line[:80] + b" .. " + line[-40:]
+
+
+def by_bytes(tell):
+    """The answers to rows that are told of by their words and bytes alone."""
+    def answers_of(lines):
+        front = b""
+        for line in lines:
+            if not line or line.startswith("#"):
+                continue
+            yield line + "\n"
+            word, _, rest = line.partition(" ")
+            if word in FRONTS:
+                front += front_of(word, rest)
+                continue
+            yield "".join(told.decode() + "\n" for told in tell(word, front + unescaped(rest)))
+            front = b""
+    return answers_of
+
+
+ROWS = {"yl_text_rows": answers, "yl_session_rows": answers, "yl_frames_rows": by_bytes(frame_lines), "yl_rpc_rows": by_bytes(call_lines)}
+
+
 def is_said(crate, is_check):
     """Whether a crate's stdout says what the model does; it is written unless that is asked alone."""
     with open(os.path.join(CRATES, crate, "stdin"), encoding="utf-8", newline="\n") as file:
-        said = "".join(answers(file.read().split("\n")))
+        said = "".join(ROWS[crate](file.read().split("\n")))
     path = os.path.join(CRATES, crate, "stdout")
     if not is_check:
         with open(path, "w", encoding="utf-8", newline="\n") as file:
@@ -169,7 +234,7 @@ def is_said(crate, is_check):
 
 def main():
     is_check = "--check" in sys.argv
-    return int(not all([is_said(crate, is_check) for crate in ("yl_text_rows", "yl_session_rows")]))
+    return int(not all([is_said(crate, is_check) for crate in ROWS]))
 
 
 if __name__ == "__main__":

@@ -119,7 +119,7 @@ impl<S: LineStore> Session<S> {
         self.config
     }
 
-    /// The lines of the text.
+    /// The lines of the text, as the store that keeps them.
     pub fn lines(&self) -> &S
         ensures rows { S.rows result.now ≡ self.now.rows }
         ensures lines { AreLines self.now.rows }
@@ -127,7 +127,7 @@ impl<S: LineStore> Session<S> {
         &self.store
     }
 
-    /// The bytes of the text, breaks included.
+    /// The bytes of the text, breaks included, in a new `Vec`. The error is want of memory for them.
     pub fn text<A: Allocator>(&self, alloc: A) -> Result<Vec<u8, A>, AllocError>
         ensures { IfOk result (λ text. IsLines text.items self.now.rows) }
     {
