@@ -1,0 +1,4 @@
+pub mod Lists
+pub mod Opening
+pub mod Texts
+pub use Rattle.yl_lint.proofs.Reported

@@ -1,0 +1,133 @@
+//! A document that an editor has open.
+ghost use Rattle.std.specs.Prelude.{◌≡◌, Bool, List, Err, IfOk, MatchResult, map};
+ghost use Rattle.yl_lsp.specs.Read.{change_value, opened_value};
+
+use crate::Cause;
+use crate::change::{changed_by_all, judged_by, opened_text};
+use std::alloc::{AllocError, Allocator};
+use std::marker::Model;
+use std::mem;
+use yl_config::Config;
+use yl_lsp::{Change, Opened};
+use yl_session::Session;
+use yl_text::LineStore;
+use yl_units::Encoding;
+
+/// A document: its URI and its version as they came, the configuration by which it is judged, and a session over its text, or why the text
+/// is not followed any more. A document that is lost keeps no session.
+#[derive(Drop)]
+pub struct Document<S: LineStore> {
+    uri: String<S::Alloc>,
+    version: String<S::Alloc>,
+    config: Config,
+    text: Result<Session<S>, Cause>,
+}
+
+impl<S: LineStore> Model for Document<S> {
+    ghost use Rattle.std.specs.Prelude.{string_bytes, IfOk};
+    ghost use Rattle.yl_text.specs.Lines.{text_of};
+    ghost use Rattle.yl_session.specs.State.{Shows};
+    ghost use Rattle.yl_workspace.specs.Documents.{DocumentValue};
+    ghost use Rattle.yl_workspace.specs.Shown.{text_value};
+
+    ghost Value = { DocumentValue };
+
+    ghost view = { λ d. record { uri = string_bytes d.uri; version = string_bytes d.version; config = d.config; text = text_value d.text } };
+
+    ghost invariant = { λ d. IfOk d.text (λ s. Shows d.config (text_of s.rows) s) };
+}
+
+impl<S: LineStore> Document<S> {
+    ghost use Rattle.yl_workspace.specs.Changes.{Lost};
+    ghost use Rattle.yl_workspace.specs.Documents.{changed_document, configured_document, lost_document, opened_document};
+    ghost use Rattle.yl_workspace.specs.Shown.{IsFollowed, opened_again};
+
+    /// A document that is opened. It fails where there is no memory for its URI or its version; where there is none for its text, the text
+    /// is lost.
+    pub(crate) fn opened(
+        alloc: S::Alloc,
+        config: Config,
+        document: Opened<'_>,
+    ) -> Result<Document<S>, AllocError>
+        ensures { IfOk result (λ d. (granted : Bool) × (d ≡ opened_document config granted (opened_value document.entry))) }
+    {
+        let uri = String::from_str(alloc, document.uri)?;
+        let version = String::from_str(alloc, document.version)?;
+        let text = opened_text(alloc, config, document.text);
+        Ok(Document {
+            uri,
+            version,
+            config,
+            text,
+        })
+    }
+
+    /// Opens the document anew. Where there is no memory for that, its text is lost.
+    pub(crate) fn open_again(&mut self, alloc: S::Alloc, config: Config, document: Opened<'_>)
+        ensures { (grants : List Bool) × (self.new ≡ opened_again config grants (opened_value document.entry) self.old) }
+    {
+        match Document::opened(alloc, config, document) {
+            Ok(anew) => *self = anew,
+            Err(AllocError) => self.lose(Cause::OutOfMemory),
+        }
+    }
+
+    /// The URI, as it came.
+    pub fn uri(&self) -> &str
+        ensures { result.now ≡ self.now.uri }
+    {
+        self.uri.as_str()
+    }
+
+    /// The version, as it came.
+    pub fn version(&self) -> &str
+        ensures { result.now ≡ self.now.version }
+    {
+        self.version.as_str()
+    }
+
+    /// The session over the text, or why the text is not followed any more.
+    pub fn session(&self) -> Result<&Session<S>, Cause>
+        ensures { MatchResult result (λ session. IsFollowed self.now session.now) (λ cause. self.now.text ≡ Lost cause) }
+    {
+        match &self.text {
+            Ok(session) => Ok(session),
+            Err(cause) => Err(*cause),
+        }
+    }
+
+    /// Lets the text go.
+    pub(crate) fn lose(&mut self, cause: Cause)
+        ensures { self.new ≡ lost_document cause self.old }
+    {
+        self.text = Err(cause);
+    }
+
+    /// Makes changes in their order, after which the document has this version.
+    pub(crate) fn change(
+        &mut self,
+        alloc: S::Alloc,
+        encoding: Encoding,
+        version: &str,
+        changes: &[Change<'_>],
+    )
+        ensures { (grants : List Bool) × (self.new ≡ changed_document encoding grants version.now (map change_value changes.now) self.old) }
+    {
+        let Ok(version) = String::from_str(alloc, version) else {
+            self.lose(Cause::OutOfMemory);
+            return;
+        };
+        let text = mem::replace(&mut self.text, Err(Cause::Missed));
+        self.text = changed_by_all(alloc, self.config, encoding, text, changes);
+        self.version = version;
+    }
+
+    /// Judges the text anew, by this configuration.
+    pub(crate) fn configure(&mut self, alloc: S::Alloc, config: Config)
+        ensures { (granted : Bool) × (self.new ≡ configured_document config granted self.old) }
+    {
+        let text = mem::replace(&mut self.text, Err(Cause::Missed));
+        self.text = judged_by(alloc, config, text);
+        self.config = config;
+    }
+}

@@ -1,0 +1,149 @@
+//! The documents that an editor has open.
+ghost use Rattle.std.specs.Prelude.{◌≡◌, Bool, List, [], IsSome, None, OnOk, OnErr, bytes_eq, option_copied, map};
+ghost use Rattle.std.specs.List as list;
+ghost use Rattle.yl_lsp.specs.Read.{change_value, opened_value};
+ghost use Rattle.yl_workspace.specs.Documents.{all_lost, changed, closed, configured, document_at, lost, opened};
+
+use crate::{Cause, Document};
+use std::alloc::AllocError;
+use std::marker::Model;
+use yl_config::Config;
+use yl_lsp::{Change, Opened};
+use yl_text::LineStore;
+use yl_units::Encoding;
+
+/// The documents that are open, in the order in which they were opened. In contracts it is the list of them.
+#[derive(Drop)]
+pub struct Workspace<S: LineStore> {
+    alloc: S::Alloc,
+    documents: Vec<Document<S>, S::Alloc>,
+}
+
+impl<S: LineStore> Model for Workspace<S> {
+    ghost use Rattle.std.specs.Prelude.{List};
+    ghost use Rattle.yl_workspace.specs.Documents.{DocumentValue};
+
+    ghost Value = { List DocumentValue };
+
+    ghost view = { λ w. w.documents.items };
+}
+
+impl<S: LineStore> Workspace<S> {
+    /// No document is open. It takes no memory.
+    pub fn new(alloc: S::Alloc) -> Workspace<S>
+        ensures { result ≡ [] }
+    {
+        Workspace {
+            alloc,
+            documents: Vec::new(alloc),
+        }
+    }
+
+    /// The documents.
+    pub fn documents(&self) -> &[Document<S>]
+        ensures { result.now ≡ self.now }
+    {
+        self.documents.as_slice()
+    }
+
+    /// The document of a URI.
+    pub fn document(&self, uri: &str) -> Option<&Document<S>>
+        ensures { option_copied result ≡ document_at uri.now self.now }
+    {
+        let i = position(self.documents.as_slice(), uri)?;
+        Some(&self.documents[i])
+    }
+
+    /// Opens a document, or opens it anew (`textDocument/didOpen`). Where there is no memory for its text, or to note that it is opened anew,
+    /// its text is lost; where there is none to enter a document that is not open, that is an error, and nothing changes.
+    pub fn open(&mut self, config: Config, document: Opened<'_>) -> Result<(), AllocError>
+        ensures opened { (grants : List Bool) × (self.new ≡ opened config grants (opened_value document.entry) self.old) }
+        ensures ok { OnOk result (IsSome (document_at document.entry.uri.now self.new)) }
+        ensures err { OnErr result (self.new ≡ self.old) }
+        ensures absent { OnErr result (document_at document.entry.uri.now self.old ≡ None) }
+    {
+        let alloc = self.alloc;
+        match position(self.documents.as_slice(), document.uri) {
+            Some(i) => self.documents[i].open_again(alloc, config, document),
+            None => {
+                let document = Document::opened(alloc, config, document)?;
+                self.documents.push(document)?;
+            }
+        }
+        Ok(())
+    }
+
+    /// Makes the changes of one message in their order (`textDocument/didChange`). One that can't be made makes the text lost, with its
+    /// cause; of a document that is not open nothing changes.
+    pub fn change(&mut self, encoding: Encoding, uri: &str, version: &str, changes: &[Change<'_>])
+        ensures { (grants : List Bool) × (self.new ≡ changed encoding grants uri.now version.now (map change_value changes.now) self.old) }
+    {
+        let alloc = self.alloc;
+        if let Some(i) = position(self.documents.as_slice(), uri) {
+            self.documents[i].change(alloc, encoding, version, changes);
+        }
+    }
+
+    /// Closes a document (`textDocument/didClose`). It takes no memory.
+    pub fn close(&mut self, uri: &str)
+        ensures { self.new ≡ closed uri.now self.old }
+    {
+        remove_each(&mut self.documents, uri);
+    }
+
+    /// Lets the text of a document go, if that is open. It takes no memory.
+    pub fn lose(&mut self, uri: &str, cause: Cause)
+        ensures { self.new ≡ lost cause uri.now self.old }
+    {
+        if let Some(i) = position(self.documents.as_slice(), uri) {
+            self.documents[i].lose(cause);
+        }
+    }
+
+    /// Lets the texts of all documents go. It takes no memory.
+    pub fn lose_all(&mut self, cause: Cause)
+        ensures { self.new ≡ all_lost cause self.old }
+    {
+        lose_each(&mut self.documents, cause);
+    }
+
+    /// Judges each text anew, by another configuration. A text for which there is no memory is lost.
+    pub fn configure(&mut self, config: Config)
+        ensures { (grants : List Bool) × (self.new ≡ configured config grants self.old) }
+    {
+        let alloc = self.alloc;
+        configure_each(alloc, config, &mut self.documents);
+    }
+}
+
+/// The place of the first document of a URI, counted from 0.
+fn position<S: LineStore>(documents: &[Document<S>], uri: &str) -> Option<usize>
+    ensures { result ≡ list.position (λ d. bytes_eq d.uri uri.now) documents.now }
+{
+    documents.iter().position(|document| document.uri() == uri)
+}
+
+/// Removes the documents of a URI.
+fn remove_each<S: LineStore>(documents: &mut Vec<Document<S>, S::Alloc>, uri: &str)
+    ensures { documents.new.items ≡ closed uri.now documents.old.items }
+{
+    documents.retain(|document| document.uri() != uri);
+}
+
+/// Lets the texts of these documents go.
+fn lose_each<S: LineStore>(documents: &mut [Document<S>], cause: Cause)
+    ensures { documents.new ≡ all_lost cause documents.old }
+{
+    for document in documents {
+        document.lose(cause);
+    }
+}
+
+/// Judges the texts of these documents anew.
+fn configure_each<S: LineStore>(alloc: S::Alloc, config: Config, documents: &mut [Document<S>])
+    ensures { (grants : List Bool) × (documents.new ≡ configured config grants documents.old) }
+{
+    for document in documents {
+        document.configure(alloc, config);
+    }
+}
