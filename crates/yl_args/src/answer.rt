@@ -53,10 +53,17 @@ pub struct AskedDump {
     pub view: View,
 }
 
+/// What `zutkrad` does.
+#[derive(Clone, Copy, Debug, PartialEq, Eq)]
+pub enum Task {
+    /// It is a Language Server over standard input and output.
+    Server,
+}
+
 /// Why nothing is run.
 #[derive(Drop)]
 pub enum Stop {
-    /// The help is asked for, which is this text.
+    /// The help or the version is asked for, which is this text.
     Help(String),
     /// The words are no command.
     Use,

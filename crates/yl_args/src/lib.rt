@@ -4,5 +4,5 @@
 mod answer;
 mod words;
 
-pub use answer::{Asked, AskedDump, Flags, Source, Stop, View};
-pub use words::{asked, asked_dump, asked_edit};
+pub use answer::{Asked, AskedDump, Flags, Source, Stop, Task, View};
+pub use words::{asked, asked_dump, asked_edit, asked_zutkrad};

@@ -1,5 +1,5 @@
 //! Words read by `clap`.
-use crate::answer::{Asked, AskedDump, Flags, Source, Stop, View};
+use crate::answer::{Asked, AskedDump, Flags, Source, Stop, Task, View};
 use clap::builder::PossibleValue;
 use clap::error::ErrorKind;
 use clap::{Arg, ArgAction, ArgGroup, ArgMatches, Command, Error};
@@ -123,9 +123,30 @@ fn dump_command<'a>(alloc: Global) -> Result<Command<'a>, AllocError> {
         .arg(shown_file(alloc))
 }
 
+// The tasks of `zutkrad`. The help names them, as it does formats.
+fn tasks<'a>() -> [PossibleValue<'a>; 1] {
+    [PossibleValue::new("server").hide(true)]
+}
+
+fn zutkrad_command<'a>(
+    alloc: Global,
+    tasks: &'a [PossibleValue<'a>],
+) -> Result<Command<'a>, AllocError> {
+    let task = Arg::new(alloc, "TASK")
+        .required(true)
+        .action(ArgAction::Set)
+        .value_parser(tasks)
+        .hide_possible_values(true)
+        .help("`server`: a Language Server over standard input and output");
+    Command::new(alloc, "zutkrad")
+        .no_binary_name(true)
+        .version("0.1.0")
+        .arg(task)
+}
+
 fn stop_of(alloc: Global, error: Error) -> Stop {
     match error.kind() {
-        ErrorKind::DisplayHelp => match error.to_string(alloc) {
+        ErrorKind::DisplayHelp | ErrorKind::DisplayVersion => match error.to_string(alloc) {
             Ok(text) => Stop::Help(text),
             Err(_) => Stop::Memory,
         },
@@ -145,6 +166,7 @@ fn is_unknown_option(command: &Command<'_>, word: &str) -> bool {
     };
     !text.is_empty()
         && name != "help"
+        && (name != "version" || command.get_version().is_none())
         && !command
             .get_arguments()
             .iter()
@@ -270,4 +292,13 @@ pub fn asked_dump(alloc: Global, words: &[String]) -> Result<AskedDump, Stop> {
         file: String::from_str(alloc, file)?,
         view: view_of(&matches),
     })
+}
+
+/// What the words after the name `zutkrad` ask for, which are looked at as those of `yamllint`.
+/// `--version` is answered as the help is.
+pub fn asked_zutkrad(alloc: Global, words: &[String]) -> Result<Task, Stop> {
+    let tasks = tasks();
+    let command = zutkrad_command(alloc, &tasks)?;
+    let _ = matches_of(alloc, command, words)?;
+    Ok(Task::Server)
 }

@@ -1,12 +1,14 @@
 //! `yl_args_rows`: reads rows of words, and prints what each asks of a program.
 //!
 //! A row is a line: the name of a program, and its words, a bar before each. It is printed, and then the configuration, the files and the flags
-//! that it asks for, a help, or `use` where the words are no command. Empty lines, and those that begin with `#`, are passed over.
+//! that it asks for, the task of `zutkrad`, a help or a version, or `use` where the words are no command. Empty lines, and those that begin with `#`, are passed over.
 #![tactic(auto)]
 
 use std::alloc::{AllocError, Global};
 use std::process::ExitCode;
-use yl_args::{Asked, AskedDump, Source, Stop, View, asked, asked_dump, asked_edit};
+use yl_args::{
+    Asked, AskedDump, Source, Stop, Task, View, asked, asked_dump, asked_edit, asked_zutkrad,
+};
 use yl_devices::{RunFault, read_text, text_of};
 use yl_text::Watched;
 
@@ -70,6 +72,12 @@ fn answer(alloc: Global, program: &str, words: &[String]) -> Result<String, Allo
     if program == "yldump" {
         return match asked_dump(alloc, words) {
             Ok(asked) => shown_dump(alloc, &asked),
+            Err(stop) => stopped(alloc, stop),
+        };
+    }
+    if program == "zutkrad" {
+        return match asked_zutkrad(alloc, words) {
+            Ok(Task::Server) => String::from_str(alloc, "server"),
             Err(stop) => stopped(alloc, stop),
         };
     }

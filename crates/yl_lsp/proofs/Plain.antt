@@ -13,6 +13,7 @@ use Rattle.yl_text.specs.Finding.{rule_name}
 use Rattle.yl_frames.specs.Escapes.{is_special}
 use Rattle.yl_frames.proofs.Escaped.{escape_plain}
 use Rattle.yl_lsp.specs.Diagnostics.{rule_link}
+use Rattle.yl_lsp.specs.Messages.{placed_words}
 
 pub name_plain : (rule : RuleId) → escape (rule_name rule) ≡ rule_name rule
 unfolding escape_byte
@@ -48,13 +49,30 @@ digits_plain : (ds : List ℕ) → AllDigits 10 ds → escape ds ≡ ds
 digits_plain [] h = refl
 digits_plain (c ∷ cs) h = ap (λ l. l ++ escape cs) (escape_plain c (digit_plain c h.0)) ∙ ap (λ l. c ∷ l) (digits_plain cs h.1)
 
+-- one after another
+plain_then : (xs ys : List ℕ) → escape xs ≡ xs → escape ys ≡ ys → escape (xs ++ ys) ≡ xs ++ ys
+plain_then xs ys p q = flat_map-append escape_byte xs ys ∙ ap (λ l. l ++ escape ys) p ∙ ap (λ l. xs ++ l) q
+
+number_plain : (n : ℕ) → n < 2 ^ 64 → escape (decimal n) ≡ decimal n
+number_plain n h = digits_plain (decimal n) (decimal_is_IsNumeral n h).0.1
+
 more_plain : escape (codes " more problems") ≡ codes " more problems"
 unfolding escape_byte
 more_plain = refl
 
 -- how many problems are not shown
 pub hidden_plain : (n : ℕ) → n < 2 ^ 64 → escape (decimal n ++ codes " more problems") ≡ decimal n ++ codes " more problems"
-hidden_plain n h =
-    flat_map-append escape_byte (decimal n) (codes " more problems")
-    ∙ ap (λ l. l ++ escape (codes " more problems")) (digits_plain (decimal n) (decimal_is_IsNumeral n h).0.1)
-    ∙ ap (λ l. decimal n ++ l) more_plain
+hidden_plain n h = plain_then (decimal n) (codes " more problems") (number_plain n h) more_plain
+
+at_plain : escape (codes " at ") ≡ codes " at "
+unfolding escape_byte
+at_plain = refl
+
+colon_plain : escape (codes ":") ≡ codes ":"
+unfolding escape_byte
+colon_plain = refl
+
+-- what is told of a place of a text
+pub placed_plain : (text : List ℕ) (line column : ℕ) → escape text ≡ text → line < 2 ^ 64 → column < 2 ^ 64 → escape (placed_words text line column) ≡ placed_words text line column
+placed_plain text line column p h k =
+    plain_then text _ p (plain_then (codes " at ") _ at_plain (plain_then (decimal line) _ (number_plain line h) (plain_then (codes ":") (decimal column) colon_plain (number_plain column k))))

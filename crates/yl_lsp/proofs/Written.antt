@@ -13,10 +13,10 @@ use Rattle.yl_lsp.specs.declared.diagnostic.Code.TheVariants.{Rule, Linked, Lost
 use Rattle.yl_lsp.specs.declared.diagnostic.Severity.{Severity}
 use Rattle.yl_lsp.specs.declared.diagnostic.Severity.TheVariants.{Information}
 use Rattle.yl_lsp.specs.Diagnostics.{DiagnosticValue, rule_link, with_code, range_json, severity_digit, diagnostic_json}
-use Rattle.yl_lsp.specs.Messages.{PublicationValue, items_of, version_members, publication, error_message, encoding_name, initialize_result}
+use Rattle.yl_lsp.specs.Messages.{PublicationValue, items_of, version_members, publication, error_message, placed_words, encoding_name, initialize_result}
 use Rattle.yl_lsp.specs.Reports.{text_start, more_diagnostics}
 use Rattle.yl_lsp.specs.Texts.{head_text, tail_text, diagnostic_text, separator, next_text, diagnostics_text, address_text, publication_text}
-use Rattle.yl_lsp.proofs.Plain.{name_plain, link_plain, hidden_plain}
+use Rattle.yl_lsp.proofs.Plain.{name_plain, link_plain, hidden_plain, placed_plain}
 use Rattle.yl_lsp.proofs.Printed.{json_then, items_then, members_then, printed}
 
 -- ---- a diagnostic
@@ -141,13 +141,35 @@ publication_written p =
     let ds = diagnostics_text true p.diagnostics in
     sym (printed (publication p) ∙ front_printed p ∙ ap (λ l. publication_front ++ l) (list_printed true p.diagnostics _ ∙ ap (λ l. ds ++ l) (address_printed p.uri p.version)))
 
-error_then : (text : List ℕ) → json_then (error_message text) [] ≡ codes "{\"jsonrpc\":\"2.0\",\"method\":\"window/showMessage\",\"params\":{\"message\":" ++ (quoted text ++ codes ",\"type\":1}}")
+-- a message of type `Error` before its text, and after it
+abbrev pub error_start : List ℕ
+error_start = codes "{\"jsonrpc\":\"2.0\",\"method\":\"window/showMessage\",\"params\":{\"message\":"
+
+abbrev pub error_end : List ℕ
+error_end = codes ",\"type\":1}}"
+
+error_then : (text : List ℕ) → json_then (error_message text) [] ≡ error_start ++ (quoted text ++ error_end)
 unfolding escape_byte
 error_then text = refl
 
-pub error_written : (text : List ℕ)
-    → codes "{\"jsonrpc\":\"2.0\",\"method\":\"window/showMessage\",\"params\":{\"message\":" ++ (quoted text ++ codes ",\"type\":1}}") ≡ print (json_tokens (error_message text))
+pub error_written : (text : List ℕ) → error_start ++ (quoted text ++ error_end) ≡ print (json_tokens (error_message text))
 error_written text = sym (printed (error_message text) ∙ error_then text)
+
+-- the pieces of one about a place of a text
+abbrev pub placed_pieces : (text line column : List ℕ) → List ℕ
+placed_pieces text line column =
+    error_start ++ (codes "\"" ++ (text ++ (codes " at " ++ (line ++ (codes ":" ++ (column ++ (codes "\"" ++ (error_end ++ []))))))))
+
+placed_joined : (text line column : List ℕ)
+    → placed_pieces text line column ≡ error_start ++ ((34 ∷ ((text ++ (codes " at " ++ (line ++ (codes ":" ++ column)))) ++ 34 ∷ [])) ++ error_end)
+placed_joined text line column = simp append_assoc
+
+pub placed_written : (text : List ℕ) (line column : ℕ) (xs ys zs : List ℕ) → escape text ≡ text → line < 2 ^ 64 → column < 2 ^ 64 → xs ≡ text → ys ≡ decimal line → zs ≡ decimal column
+    → placed_pieces xs ys zs ≡ print (json_tokens (error_message (placed_words text line column)))
+placed_written text line column xs ys zs plain h k p q r =
+    (λ i. placed_pieces (p i) (q i) (r i)) ∙ placed_joined text (decimal line) (decimal column)
+    ∙ ap (λ l. error_start ++ ((34 ∷ (l ++ 34 ∷ [])) ++ error_end)) (sym (placed_plain text line column plain h k))
+    ∙ error_written (placed_words text line column)
 
 -- the pieces before the version
 abbrev pub result_front : (name : List ℕ) → List ℕ

@@ -1,6 +1,6 @@
 -- Meaning: the messages that a server sends of itself, and what it answers to `initialize` (LSP 3.17, 'PublishDiagnostics Notification',
 -- 'ShowMessage Notification', 'Initialize Request'), as JSON, members in the order of their names. A text is in UTF-8.
-use Rattle.std.specs.Prelude.{ℕ, List, [], ◌∷◌, map, true, codes, Option, Some, None}
+use Rattle.std.specs.Prelude.{ℕ, List, [], ◌∷◌, ◌++◌, map, true, codes, decimal, Option, Some, None}
 use Rattle.json.specs.Json.{Json, boolean, number, string, array, object, Items, no_items, item, Members, no_members, member}
 use Rattle.yl_units.specs.declared.encoding.Encoding.{Encoding}
 use Rattle.yl_units.specs.declared.encoding.Encoding.TheVariants.{Utf8, Utf16, Utf32}
@@ -37,6 +37,10 @@ publication p = notification (codes "textDocument/publishDiagnostics") (publicat
 abbrev pub error_message : List ℕ → Json
 error_message text =
     notification (codes "window/showMessage") (object (member (codes "message") (string text) (member (codes "type") (number (codes "1")) no_members)))
+
+-- what is told of a place of a text
+abbrev pub placed_words : (text : List ℕ) → (line column : ℕ) → List ℕ
+placed_words text line column = text ++ (codes " at " ++ (decimal line ++ (codes ":" ++ decimal column)))
 
 -- ---- the result of `initialize`
 

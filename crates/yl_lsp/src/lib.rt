@@ -11,7 +11,7 @@ mod report;
 mod settings;
 
 pub use diagnostic::{Code, Severity};
-pub use message::{ErrorMessage, InitializeResult};
+pub use message::{ErrorMessage, InitializeResult, PlacedError};
 pub use params::{Change, Opened, change_of, changes_in, document_in, opened_in, version_in};
 pub use presentation::{MOST_PROBLEMS, Presentation};
 pub use publication::{Content, Publication};

@@ -1,7 +1,9 @@
 //! What a server says of itself.
 ghost use Rattle.std.specs.Prelude.{◌≡◌};
+ghost use Rattle.json.specs.Print.{escape};
 ghost use Rattle.yl_lsp.specs.Messages.{encoding_name};
 
+use itoa::Buffer;
 use yl_devices::WriteFault;
 use yl_frames::{Body, Pieces, put_parts, put_text};
 use yl_units::Encoding;
@@ -12,12 +14,31 @@ pub struct ErrorMessage<'a> {
     pub text: &'a str,
 }
 
+/// LSP's `window/showMessage` of type `Error` about a place: ` at LINE:COLUMN` follows its text.
+#[derive(Clone, Copy)]
+pub struct PlacedError<'a> {
+    /// What is said of the place. JSON writes it as it is.
+    pub text: &'a str,
+    /// The line, counted from 1.
+    pub line: u64,
+    /// The column in characters, counted from 1.
+    pub column: u64,
+    pub ghost plain: { escape text.now ≡ text.now },
+}
+
 /// LSP's `InitializeResult`: what the server can do, and its version.
 #[derive(Clone, Copy)]
 pub struct InitializeResult<'a> {
     pub encoding: Encoding,
     pub version: &'a str,
 }
+
+/// A message of type `Error` up to its text.
+const ERROR_START: &[u8] =
+    b"{\"jsonrpc\":\"2.0\",\"method\":\"window/showMessage\",\"params\":{\"message\":";
+
+/// And after it.
+const ERROR_END: &[u8] = b",\"type\":1}}";
 
 /// LSP's `PositionEncodingKind`.
 fn encoding_name(encoding: Encoding) -> &'static str
@@ -38,9 +59,36 @@ impl Body for ErrorMessage<'_> {
     ghost text = { λ m. print (json_tokens (error_message m.text.now)) };
 
     fn put<P: Pieces>(&self, to: &mut P) -> Result<(), WriteFault> {
-        to.put(b"{\"jsonrpc\":\"2.0\",\"method\":\"window/showMessage\",\"params\":{\"message\":")?;
+        to.put(ERROR_START)?;
         put_text(to, self.text)?;
-        to.put(b",\"type\":1}}")
+        to.put(ERROR_END)
+    }
+}
+
+impl Body for PlacedError<'_> {
+    ghost use Rattle.json.specs.Print.{print};
+    ghost use Rattle.json.specs.Tree.{json_tokens};
+    ghost use Rattle.yl_lsp.specs.Messages.{error_message, placed_words};
+
+    ghost text = { λ m. print (json_tokens (error_message (placed_words m.text.now m.line m.column))) };
+
+    fn put<P: Pieces>(&self, to: &mut P) -> Result<(), WriteFault> {
+        let mut line = Buffer::new();
+        let mut column = Buffer::new();
+        put_parts(
+            to,
+            &[
+                ERROR_START,
+                b"\"",
+                self.text.as_bytes(),
+                b" at ",
+                line.format(self.line).as_bytes(),
+                b":",
+                column.format(self.column).as_bytes(),
+                b"\"",
+                ERROR_END,
+            ],
+        )
     }
 }
 

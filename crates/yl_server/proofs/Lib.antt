@@ -1,0 +1,15 @@
+mod Absent
+mod Answered
+mod Decided
+mod Documents
+mod Faults
+mod Handled
+mod Joined
+mod Lost
+mod Methods
+mod Noticed
+mod Replied
+mod Sending
+mod Served
+mod Shown
+mod Turned

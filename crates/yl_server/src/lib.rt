@@ -1,0 +1,16 @@
+//! A Language Server (LSP 3.17): what each message makes of it, and what it sends.
+#![tactic(auto)]
+
+mod laws;
+mod phase;
+mod reply;
+mod server;
+mod serving;
+mod settings;
+mod words;
+
+pub use laws::{documents_are_shown, one_answer_to_a_request, texts_are_lost_for_a_cause};
+pub use phase::Phase;
+pub use server::Server;
+pub use serving::{ServeFault, serve};
+pub use settings::{ConfigFiles, Found};

@@ -1,0 +1,218 @@
+//! What a server sends after an event.
+ghost use Rattle.std.specs.Prelude.{◌≡◌, ◌-◌, ◌^◌, ◌<◌, [], ◌∷◌, OnOk, IfErr};
+ghost use Rattle.yl_text.specs.Watched.{failures_of};
+ghost use Rattle.yl_frames.specs.Sending.{watched_of};
+ghost use Rattle.yl_rpc.specs.Views.{id_view};
+ghost use Rattle.yl_server.specs.Messages.{Initialized, Done, Refused, Published, Told, Shown};
+ghost use Rattle.yl_server.specs.Machine.{told_of, told_of_all};
+ghost use Rattle.yl_server.specs.Replies.{messages_of};
+ghost use Rattle.yl_server.specs.Settings.{setting_words};
+ghost use Rattle.yl_server.specs.Steps.{AreCut, AreSent, sink};
+ghost use Rattle.yl_server.specs.Written.{lost_words};
+
+use crate::server::Server;
+use crate::settings::SettingFault;
+use crate::words::MEMORY;
+use std::io::Write;
+use yl_frames::{Output, SendFault};
+use yl_lsp::{Content, ErrorMessage, InitializeResult, PlacedError, Publication, Report};
+use yl_rpc::{Answer, Code, Failure, Id, Plain};
+use yl_text::LineStore;
+use yl_units::Encoding;
+use yl_workspace::{Cause, Document, one_report};
+
+/// The version that an editor is told.
+const VERSION: &str = "0.1.0";
+
+/// What a server sends after an event.
+#[derive(Clone, Copy)]
+pub(crate) enum Reply<'a> {
+    Nothing,
+    /// The answer to `initialize`.
+    Welcome(Id<'a>),
+    /// The same, and what is wrong with the settings.
+    WelcomeTold(Id<'a>, SettingFault),
+    /// The answer to `shutdown`.
+    Done(Id<'a>),
+    /// The answer to a request that is not met.
+    Refused(Id<'a>, Code, &'a str),
+    /// What is told of the document with this URI.
+    Document(&'a str),
+    /// The same of one that could not be entered.
+    NotEntered(&'a str),
+    /// What is told of all documents.
+    All,
+    /// The answer to a body that was not read, and what is told of all documents.
+    Missed(Code, &'a str),
+    /// What the user is told is wrong with the settings.
+    Faulty(SettingFault),
+    /// What the user is told.
+    Told(&'a str),
+}
+
+fn refuse<W: Write>(
+    id: Id<'_>,
+    code: Code,
+    message: &str,
+    out: &mut Output<W>,
+) -> Result<(), SendFault>
+    requires { failures_of (watched_of out.old) < 2 ^ 64 - 1 }
+    ensures ok { OnOk result (AreSent (sink W.contents out.old out.new) (Refused (id_view id.entry) code message.now ∷ [])) }
+    ensures err { IfErr result (AreCut (sink W.contents out.old out.new) (Refused (id_view id.entry) code message.now ∷ [])) }
+{
+    out.send(&Failure { id, code, message })
+}
+
+fn tell<W: Write>(text: &str, out: &mut Output<W>) -> Result<(), SendFault>
+    requires { failures_of (watched_of out.old) < 2 ^ 64 - 1 }
+    ensures ok { OnOk result (AreSent (sink W.contents out.old out.new) (Told text.now ∷ [])) }
+    ensures err { IfErr result (AreCut (sink W.contents out.old out.new) (Told text.now ∷ [])) }
+{
+    out.send(&ErrorMessage { text })
+}
+
+// Tells the user what is wrong with settings, and where, if the fault has a place.
+fn tell_fault<W: Write>(fault: SettingFault, out: &mut Output<W>) -> Result<(), SendFault>
+    requires { failures_of (watched_of out.old) < 2 ^ 64 - 1 }
+    ensures ok { OnOk result (AreSent (sink W.contents out.old out.new) (Told (setting_words fault) ∷ [])) }
+    ensures err { IfErr result (AreCut (sink W.contents out.old out.new) (Told (setting_words fault) ∷ [])) }
+{
+    let text = fault.words();
+    match fault.place() {
+        Some(place) => out.send(&PlacedError {
+            text,
+            line: place.line,
+            column: place.column,
+        }),
+        None => tell(text, out),
+    }
+}
+
+// Answers `initialize`.
+fn welcome<W: Write>(id: Id<'_>, encoding: Encoding, out: &mut Output<W>) -> Result<(), SendFault>
+    requires { failures_of (watched_of out.old) < 2 ^ 64 - 1 }
+    ensures ok { OnOk result (AreSent (sink W.contents out.old out.new) (Initialized (id_view id.entry) encoding ∷ [])) }
+    ensures err { IfErr result (AreCut (sink W.contents out.old out.new) (Initialized (id_view id.entry) encoding ∷ [])) }
+{
+    let outcome = InitializeResult {
+        encoding,
+        version: VERSION,
+    };
+    out.send(&Answer::new(id, outcome))
+}
+
+// Answers `shutdown`.
+fn finish<W: Write>(id: Id<'_>, out: &mut Output<W>) -> Result<(), SendFault>
+    requires { failures_of (watched_of out.old) < 2 ^ 64 - 1 }
+    ensures ok { OnOk result (AreSent (sink W.contents out.old out.new) (Done (id_view id.entry) ∷ [])) }
+    ensures err { IfErr result (AreCut (sink W.contents out.old out.new) (Done (id_view id.entry) ∷ [])) }
+{
+    out.send(&Answer::new(id, Plain("null")))
+}
+
+/// Why a text is not followed, for people.
+fn lost_words(cause: Cause) -> &'static str
+    ensures { result.now ≡ lost_words cause }
+{
+    match cause {
+        Cause::OutOfMemory => "out of memory: the text is not followed until it is opened again",
+        Cause::TooLarge => "too large: the text is not followed until it is opened again",
+        Cause::BadChange => {
+            "a change that cannot be made: the text is not followed until it is opened again"
+        }
+        Cause::Missed => {
+            "a message was not read: the text is not followed until it is opened again"
+        }
+    }
+}
+
+impl<S: LineStore> Server<S> {
+    /// Sends a reply. On a fault a beginning of it is out.
+    pub(crate) fn send<W: Write>(
+        &self,
+        reply: Reply<'_>,
+        out: &mut Output<W>,
+    ) -> Result<(), SendFault>
+        requires { failures_of (watched_of out.old) < 2 ^ 64 - 1 }
+        ensures ok { OnOk result (AreSent (sink W.contents out.old out.new) (messages_of self.now reply.entry)) }
+        ensures err { IfErr result (AreCut (sink W.contents out.old out.new) (messages_of self.now reply.entry)) }
+    {
+        match reply {
+            Reply::Nothing => Ok(()),
+            Reply::Welcome(id) => welcome(id, self.encoding(), out),
+            Reply::WelcomeTold(id, fault) => {
+                welcome(id, self.encoding(), out)?;
+                tell_fault(fault, out)
+            }
+            Reply::Done(id) => finish(id, out),
+            Reply::Refused(id, code, words) => refuse(id, code, words, out),
+            Reply::Document(uri) => self.tell_of(uri, out),
+            Reply::NotEntered(uri) => {
+                self.tell_of(uri, out)?;
+                tell(MEMORY, out)
+            }
+            Reply::All => self.tell_of_all(out),
+            Reply::Missed(code, words) => {
+                refuse(Id::Null, code, words, out)?;
+                self.tell_of_all(out)
+            }
+            Reply::Faulty(fault) => tell_fault(fault, out),
+            Reply::Told(words) => tell(words, out),
+        }
+    }
+
+    // Publishes the problems of a document that is open, or that one has none which is not.
+    fn tell_of<W: Write>(&self, uri: &str, out: &mut Output<W>) -> Result<(), SendFault>
+        requires { failures_of (watched_of out.old) < 2 ^ 64 - 1 }
+        ensures ok { OnOk result (AreSent (sink W.contents out.old out.new) (told_of uri.now self.now ∷ [])) }
+        ensures err { IfErr result (AreCut (sink W.contents out.old out.new) (told_of uri.now self.now ∷ [])) }
+    {
+        match self.document(uri) {
+            Some(document) => self.show(uri, document, out),
+            None => {
+                let cleared: Publication<'_, S> = Publication {
+                    uri,
+                    version: None,
+                    content: Content::Nothing,
+                };
+                out.send(&cleared)
+            }
+        }
+    }
+
+    fn tell_of_all<W: Write>(&self, out: &mut Output<W>) -> Result<(), SendFault>
+        requires { failures_of (watched_of out.old) < 2 ^ 64 - 1 }
+        ensures ok { OnOk result (AreSent (sink W.contents out.old out.new) (told_of_all self.now)) }
+        ensures err { IfErr result (AreCut (sink W.contents out.old out.new) (told_of_all self.now)) }
+    {
+        for document in self.documents() {
+            self.show(document.uri(), document, out)?;
+        }
+        Ok(())
+    }
+
+    fn show<W: Write>(
+        &self,
+        uri: &str,
+        document: &Document<S>,
+        out: &mut Output<W>,
+    ) -> Result<(), SendFault>
+        requires { failures_of (watched_of out.old) < 2 ^ 64 - 1 }
+        ensures ok { OnOk result (AreSent (sink W.contents out.old out.new) (Published uri.now (Shown self.now.how document.now) ∷ [])) }
+        ensures err { IfErr result (AreCut (sink W.contents out.old out.new) (Published uri.now (Shown self.now.how document.now) ∷ [])) }
+    {
+        one_report();
+        let content = match document.session() {
+            Ok(session) => {
+                let report = Report::new(self.how(), session.lines(), session.problems());
+                Content::Problems(report)
+            }
+            Err(cause) => Content::Lost(lost_words(cause)),
+        };
+        out.send(&Publication {
+            uri,
+            version: Some(document.version()),
+            content,
+        })
+    }
+}

@@ -1,0 +1,500 @@
+//! A server, and what each message makes of it.
+ghost use Rattle.std.specs.Prelude.{◌≡◌, ◌-◌, ◌^◌, ◌<◌, ◌∷◌, [], Bool, List, map, Option, IfErr, IfOk, Some, option_and_then, option_copied, string_bytes};
+ghost use Rattle.std.specs.Option.{option_map, option_map_or};
+ghost use Rattle.json.specs.Json.{Json};
+ghost use Rattle.json.specs.Value.{value_view};
+ghost use Rattle.yl_text.specs.Watched.{failures_of};
+ghost use Rattle.yl_frames.specs.Sending.{watched_of};
+ghost use Rattle.yl_rpc.specs.Views.{call_view, id_view};
+ghost use Rattle.yl_lsp.specs.Params.{change_in, Unread};
+ghost use Rattle.yl_lsp.specs.Params as params_spec;
+ghost use Rattle.yl_lsp.specs.Read.{change_value};
+ghost use Rattle.yl_workspace.specs.Documents as docs;
+ghost use Rattle.yl_server.specs.Bodies.{IsFound, noticed_settings, requested_settings, settings_of_notice, text_set};
+ghost use Rattle.yl_server.specs.Events.{Event, Read as Came};
+ghost use Rattle.yl_server.specs.Requests as spec;
+ghost use Rattle.yl_server.specs.Machine as machine;
+ghost use Rattle.yl_server.specs.Replies.{IsReplied};
+ghost use Rattle.yl_server.specs.Steps.{AreCut, IsBodyMet, IsDone, IsHandled, IsHandlingCut, IsMet, sink, unread_answer};
+
+use crate::phase::Phase;
+use crate::reply::Reply;
+use crate::settings::{ConfigFiles, Setting, file_named, setting_found, setting_of};
+use crate::words::{INITIALIZED, MEMORY, NO_JSON, NO_REQUEST, PARAMS, STOPPED, UNKNOWN, WAITING};
+use json::{Scratch, Value};
+use std::alloc::{AllocError, Allocator};
+use std::io::Write;
+use std::marker::Model;
+use yl_config::Config;
+use yl_frames::{Output, SendFault};
+use yl_lsp::{
+    Change, MOST_PROBLEMS, Presentation, change_of, changed_settings, changes_in, document_in,
+    encoding_in, first_settings, opened_in, takes_links, version_in,
+};
+use yl_rpc::{BodyFault, Call, Code, Id, call_of, read_body};
+use yl_text::LineStore;
+use yl_units::Encoding;
+use yl_workspace::{Cause, Document, Workspace};
+
+/// A server: how far it is, how it shows problems, the configuration in force and the file that says it, where settings named one, and the
+/// documents that are open.
+#[derive(Drop)]
+pub struct Server<S: LineStore> {
+    alloc: S::Alloc,
+    phase: Phase,
+    how: Presentation,
+    config: Config,
+    file: Option<String<S::Alloc>>,
+    workspace: Workspace<S>,
+}
+
+/// The params that are an object.
+fn object_of<'v, 'a, A: Allocator>(params: Option<&'v Value<'a, A>>) -> Option<&'v Value<'a, A>>
+    ensures { option_map (λ v. value_view v.now) result ≡ spec.object_of (option_map (λ v. value_view v.now) params.entry) }
+{
+    match params {
+        Some(value) if matches!(value, Value::Object(_)) => Some(value),
+        _ => None,
+    }
+}
+
+/// The changes that values are.
+fn changes_of<'a, A: Allocator + Copy>(
+    alloc: A,
+    values: &[Value<'a, A>],
+) -> Result<Vec<Change<'a>, A>, AllocError>
+    ensures { IfOk result (λ changes. map change_value changes.items ≡ map (λ v. change_in (value_view v)) values.now) }
+{
+    let mut changes = Vec::with_capacity(alloc, values.len())?;
+    for value in values {
+        changes.push(change_of(value))?;
+    }
+    Ok(changes)
+}
+
+impl<S: LineStore> Model for Server<S> {
+    ghost use Rattle.std.specs.Prelude.{string_bytes};
+    ghost use Rattle.std.specs.Option.{option_map};
+    ghost use Rattle.yl_server.specs.Machine.{ServerValue};
+
+    ghost Value = { ServerValue };
+
+    ghost view = { λ s. record { phase = s.phase; how = s.how; config = s.config; file = option_map string_bytes s.file; documents = s.workspace } };
+}
+
+impl<S: LineStore> Server<S> {
+    /// A server that waits for `initialize`, with this configuration in force. It takes no memory.
+    pub fn new(alloc: S::Alloc, config: Config) -> Server<S>
+        ensures { result ≡ machine.started config }
+    {
+        Server {
+            alloc,
+            phase: Phase::Waiting,
+            how: Presentation {
+                encoding: Encoding::Utf16,
+                links: false,
+                most: MOST_PROBLEMS,
+            },
+            config,
+            file: None,
+            workspace: Workspace::new(alloc),
+        }
+    }
+
+    /// How problems are shown.
+    pub(crate) fn how(&self) -> Presentation
+        ensures { result ≡ self.now.how }
+    {
+        self.how
+    }
+
+    /// In what columns are counted.
+    pub(crate) fn encoding(&self) -> Encoding
+        ensures { result ≡ self.now.how.encoding }
+    {
+        self.how.encoding
+    }
+
+    /// The documents that are open.
+    pub(crate) fn documents(&self) -> &[Document<S>]
+        ensures { result.now ≡ self.now.documents }
+    {
+        self.workspace.documents()
+    }
+
+    /// The document of a URI, if it is open.
+    pub(crate) fn document(&self, uri: &str) -> Option<&Document<S>>
+        ensures { option_copied result ≡ docs.document_at uri.now self.now.documents }
+    {
+        self.workspace.document(uri)
+    }
+
+    /// Does what a body asks for, and sends what it is answered and what is told of documents. Returns the exit
+    /// status where the body asks for the end.
+    pub fn handle<F: ConfigFiles, W: Write>(
+        &mut self,
+        body: &mut [u8],
+        files: &mut F,
+        out: &mut Output<W>,
+    ) -> Result<Option<u8>, SendFault>
+        requires { failures_of (watched_of out.old) < 2 ^ 64 - 1 }
+        ensures ok { IfOk result (IsHandled body.old self.old self.new (sink W.contents out.old out.new)) }
+        ensures err { IfErr result (IsHandlingCut body.old self.old (sink W.contents out.old out.new)) }
+    {
+        let mut scratch = Scratch::new(self.alloc);
+        let (reply, ended) = self.meet_body(body, &mut scratch, files);
+        self.send(reply, out)?;
+        Ok(ended)
+    }
+
+    // Does what a body asks for. Returns the exit status where it asks for the end.
+    fn meet_body<'a, F: ConfigFiles>(
+        &mut self,
+        body: &'a mut [u8],
+        scratch: &'a mut Scratch<S::Alloc>,
+        files: &mut F,
+    ) -> (Reply<'a>, Option<u8>)
+        ensures { IsBodyMet body.old self.old self.new result.0 result.1 }
+    {
+        match read_body(self.alloc, body, scratch) {
+            Ok(message) => self.meet(call_of(&message), files),
+            Err(fault) => (self.miss_body(fault), None),
+        }
+    }
+
+    // A body was not read.
+    fn miss_body<'a>(&mut self, fault: BodyFault) -> Reply<'a>
+        ensures { IsReplied self.new result (machine.missed (unread_answer fault) self.old) }
+    {
+        match fault {
+            BodyFault::NoJson | BodyFault::TooDeep => self.miss(Code::ParseError, NO_JSON),
+            BodyFault::Memory => self.miss(Code::InternalError, MEMORY),
+        }
+    }
+
+    /// A body came for which there was no memory.
+    pub fn drop_body<W: Write>(&mut self, out: &mut Output<W>) -> Result<(), SendFault>
+        requires { failures_of (watched_of out.old) < 2 ^ 64 - 1 }
+        ensures ok { IfOk result (λ _. IsDone self.new (sink W.contents out.old out.new) (machine.missed_for_memory self.old)) }
+        ensures err { IfErr result (AreCut (sink W.contents out.old out.new) ((machine.missed_for_memory self.old).1)) }
+    {
+        let reply = self.miss(Code::InternalError, MEMORY);
+        self.send(reply, out)
+    }
+
+    // A body was not read: it may have been a change.
+    fn miss<'a>(&mut self, code: Code, words: &'a str) -> Reply<'a>
+        ensures { IsReplied self.new result (machine.missed (machine.not_read code words.entry.now) self.old) }
+    {
+        self.workspace.lose_all(Cause::Missed);
+        Reply::Missed(code, words)
+    }
+
+    // Does what a call asks for. Returns the exit status where it asks for the end.
+    fn meet<'a, F: ConfigFiles>(
+        &mut self,
+        call: Call<'_, 'a, S::Alloc>,
+        files: &mut F,
+    ) -> (Reply<'a>, Option<u8>)
+        ensures { IsMet (Came (call_view call.entry)) self.old self.new result.0 result.1 }
+    {
+        match call {
+            Call::Request { id, method, params } => (self.answer(id, method, params, files), None),
+            Call::Notification { method, params } => {
+                if method == "exit" {
+                    return (Reply::Nothing, Some(self.status()));
+                }
+                (self.notice(method, params, files), None)
+            }
+            Call::Response => (Reply::Nothing, None),
+            Call::Invalid { id } => (Reply::Refused(id, Code::InvalidRequest, NO_REQUEST), None),
+        }
+    }
+
+    // The exit status.
+    fn status(&self) -> u8
+        ensures { result ≡ machine.status_in self.now.phase }
+    {
+        match self.phase {
+            Phase::Stopped => 0,
+            Phase::Waiting | Phase::Running => 1,
+        }
+    }
+
+    // ---- requests
+
+    fn answer<'a, F: ConfigFiles>(
+        &mut self,
+        id: Id<'a>,
+        method: &str,
+        params: Option<&Value<'a, S::Alloc>>,
+        files: &mut F,
+    ) -> Reply<'a>
+        ensures { (e : Event) × IsFound (text_set (requested_settings (spec.request_of method.now (option_map (λ v. value_view v.now) params.entry)) self.old.phase)) e.found
+            × IsReplied self.new result (machine.answered e (id_view id.entry) (spec.request_of method.now (option_map (λ v. value_view v.now) params.entry)) self.old.phase self.old) }
+    {
+        match self.phase {
+            Phase::Waiting => {
+                if method == "initialize" {
+                    self.initialize(id, params, files)
+                } else {
+                    Reply::Refused(id, Code::ServerNotInitialized, WAITING)
+                }
+            }
+            Phase::Running => self.answer_running(id, method),
+            Phase::Stopped => Reply::Refused(id, Code::InvalidRequest, STOPPED),
+        }
+    }
+
+    fn answer_running<'a>(&mut self, id: Id<'a>, method: &str) -> Reply<'a>
+        ensures { (params : Option Json) → IsReplied self.new result (machine.answered_running (id_view id.entry) (spec.request_of method.now params) self.old) }
+    {
+        if method == "initialize" {
+            return Reply::Refused(id, Code::InvalidRequest, INITIALIZED);
+        }
+        if method == "shutdown" {
+            self.phase = Phase::Stopped;
+            return Reply::Done(id);
+        }
+        Reply::Refused(id, Code::MethodNotFound, UNKNOWN)
+    }
+
+    fn initialize<'a, F: ConfigFiles>(
+        &mut self,
+        id: Id<'a>,
+        params: Option<&Value<'a, S::Alloc>>,
+        files: &mut F,
+    ) -> Reply<'a>
+        ensures { (e : Event) × IsFound (text_set (option_and_then params_spec.first_settings (spec.object_of (option_map (λ v. value_view v.now) params.entry)))) e.found
+            × IsReplied self.new result (machine.initialized_with e (id_view id.entry) (spec.object_of (option_map (λ v. value_view v.now) params.entry)) self.old) }
+    {
+        match object_of(params) {
+            Some(params) => self.initialize_with(id, params, files),
+            None => Reply::Refused(id, Code::InvalidParams, PARAMS),
+        }
+    }
+
+    fn initialize_with<'a, F: ConfigFiles>(
+        &mut self,
+        id: Id<'a>,
+        params: &Value<'a, S::Alloc>,
+        files: &mut F,
+    ) -> Reply<'a>
+        ensures { (e : Event) × IsFound (text_set (params_spec.first_settings (value_view params.now))) e.found
+            × IsReplied self.new result (machine.initialized_with e (id_view id.entry) (Some (value_view params.now)) self.old) }
+    {
+        let settings = first_settings(params);
+        let Ok(file) = file_named(self.alloc, settings) else {
+            return Reply::Refused(id, Code::InternalError, MEMORY);
+        };
+        match setting_of(self.alloc, settings, files) {
+            Setting::Set(config, most) => {
+                self.begin(params);
+                self.set(config, file, most);
+                Reply::Welcome(id)
+            }
+            Setting::Faulty(fault) => {
+                self.begin(params);
+                Reply::WelcomeTold(id, fault)
+            }
+            Setting::NoMemory => Reply::Refused(id, Code::InternalError, MEMORY),
+        }
+    }
+
+    // Begins to run, in the way that the params of `initialize` ask for.
+    fn begin(&mut self, params: &Value<'_, S::Alloc>)
+        ensures { self.new ≡ machine.initialized (value_view params.now) self.old }
+    {
+        self.phase = Phase::Running;
+        self.how.encoding = encoding_in(params);
+        self.how.links = takes_links(params);
+    }
+
+    // Puts a configuration, with the file that says it, and a number of problems in force, each where it is set.
+    fn set(&mut self, config: Option<Config>, file: Option<String<S::Alloc>>, most: Option<u64>)
+        ensures { (granted : List Bool) × (self.new ≡ machine.with_setting granted config (option_map string_bytes file) most self.old) }
+    {
+        if config.is_some() {
+            self.file = file;
+        }
+        self.judge_by(config, most);
+    }
+
+    // Puts a configuration and a number of problems in force, each where it is set. The file stays.
+    fn judge_by(&mut self, config: Option<Config>, most: Option<u64>)
+        ensures { (granted : List Bool) × (self.new ≡ machine.with_setting granted config self.old.file most self.old) }
+    {
+        if let Some(most) = most {
+            self.how.most = most;
+        }
+        if let Some(config) = config {
+            self.config = config;
+            self.workspace.configure(config);
+        }
+    }
+
+    // ---- notifications
+
+    fn notice<'a, F: ConfigFiles>(
+        &mut self,
+        method: &str,
+        params: Option<&Value<'a, S::Alloc>>,
+        files: &mut F,
+    ) -> Reply<'a>
+        ensures { (e : Event) × IsFound (text_set (noticed_settings (option_map_or (spec.notice_with method.now) (option_map (λ v. value_view v.now) params.entry) spec.Passed) self.old.phase)) e.found
+            × IsReplied self.new result (machine.noticed e (option_map_or (spec.notice_with method.now) (option_map (λ v. value_view v.now) params.entry) spec.Passed) self.old.phase self.old) }
+    {
+        let Some(params) = params else {
+            return Reply::Nothing;
+        };
+        match self.phase {
+            Phase::Running => self.notice_running(method, params, files),
+            Phase::Waiting | Phase::Stopped => Reply::Nothing,
+        }
+    }
+
+    fn notice_running<'a, F: ConfigFiles>(
+        &mut self,
+        method: &str,
+        params: &Value<'a, S::Alloc>,
+        files: &mut F,
+    ) -> Reply<'a>
+        ensures { (e : Event) × IsFound (text_set (settings_of_notice (spec.notice_with method.now (value_view params.now)))) e.found
+            × IsReplied self.new result (machine.noticed_running e (spec.notice_with method.now (value_view params.now)) self.old) }
+    {
+        if method == "textDocument/didOpen" {
+            return self.open(params);
+        }
+        if method == "textDocument/didChange" {
+            return self.change(params);
+        }
+        if method == "textDocument/didClose" {
+            return self.close(params);
+        }
+        if method == "workspace/didChangeConfiguration" {
+            return self.configure(params, files);
+        }
+        if method == "textDocument/didSave" {
+            return self.save(files);
+        }
+        Reply::Nothing
+    }
+
+    fn open<'a>(&mut self, params: &Value<'a, S::Alloc>) -> Reply<'a>
+        ensures { (granted : List Bool) × ((e : Event) → e.granted ≡ granted → IsReplied self.new result (machine.noticed_running e (spec.opens (value_view params.now)) self.old)) }
+    {
+        let Some(opened) = opened_in(params) else {
+            return self.spoil(params);
+        };
+        // One that could not be entered is not open after this, and that is told.
+        drop(self.workspace.open(self.config, opened));
+        if self.workspace.document(opened.uri).is_none() {
+            return Reply::NotEntered(opened.uri);
+        }
+        Reply::Document(opened.uri)
+    }
+
+    fn change<'a>(&mut self, params: &Value<'a, S::Alloc>) -> Reply<'a>
+        ensures { (granted : List Bool) × ((e : Event) → e.granted ≡ granted → IsReplied self.new result (machine.noticed_running e (spec.changes (value_view params.now)) self.old)) }
+    {
+        let Some(uri) = document_in(params) else {
+            return self.spoil(params);
+        };
+        let Some(version) = version_in(params) else {
+            return self.spoil(params);
+        };
+        if self.workspace.document(uri).is_none() {
+            return Reply::Nothing;
+        }
+        self.change_text(uri, version, changes_in(params));
+        Reply::Document(uri)
+    }
+
+    // Makes the changes that values are. None are one of another shape.
+    fn change_text(&mut self, uri: &str, version: &str, values: Option<&[Value<'_, S::Alloc>]>)
+        ensures { (granted : List Bool) × (self.new ≡ machine.with_documents (docs.changed self.old.how.encoding granted uri.now version.now
+            (option_map_or (λ vs. map (λ v. change_in (value_view v)) vs.now) values.entry (Unread ∷ [])) self.old.documents) self.old) }
+    {
+        let encoding = self.how.encoding;
+        let Some(values) = values else {
+            self.workspace
+                .change(encoding, uri, version, &[Change::Unread]);
+            return;
+        };
+        match changes_of(self.alloc, values) {
+            Ok(changes) => self
+                .workspace
+                .change(encoding, uri, version, changes.as_slice()),
+            Err(AllocError) => self.workspace.lose(uri, Cause::OutOfMemory),
+        }
+    }
+
+    // A message changed a text, and has the shape of no change.
+    fn spoil<'a>(&mut self, params: &Value<'a, S::Alloc>) -> Reply<'a>
+        ensures { (e : Event) → IsReplied self.new result (machine.noticed_running e (spec.spoils (value_view params.now)) self.old) }
+    {
+        let Some(uri) = document_in(params) else {
+            return Reply::Nothing;
+        };
+        if self.workspace.document(uri).is_none() {
+            return Reply::Nothing;
+        }
+        self.workspace.lose(uri, Cause::BadChange);
+        Reply::Document(uri)
+    }
+
+    fn close<'a>(&mut self, params: &Value<'a, S::Alloc>) -> Reply<'a>
+        ensures { (e : Event) → IsReplied self.new result (machine.noticed_running e (spec.closes (value_view params.now)) self.old) }
+    {
+        let Some(uri) = document_in(params) else {
+            return Reply::Nothing;
+        };
+        if self.workspace.document(uri).is_none() {
+            return Reply::Nothing;
+        }
+        self.workspace.close(uri);
+        Reply::Document(uri)
+    }
+
+    fn configure<'a, F: ConfigFiles>(
+        &mut self,
+        params: &Value<'a, S::Alloc>,
+        files: &mut F,
+    ) -> Reply<'a>
+        ensures { (e : Event) × IsFound (text_set (params_spec.changed_settings (value_view params.now))) e.found
+            × IsReplied self.new result (machine.set_with e (params_spec.changed_settings (value_view params.now)) self.old) }
+    {
+        let Some(settings) = changed_settings(params) else {
+            return Reply::Nothing;
+        };
+        let Ok(file) = file_named(self.alloc, Some(settings)) else {
+            return Reply::Told(MEMORY);
+        };
+        match setting_of(self.alloc, Some(settings), files) {
+            Setting::Set(config, most) => {
+                self.set(config, file, most);
+                Reply::All
+            }
+            Setting::Faulty(fault) => Reply::Faulty(fault),
+            Setting::NoMemory => Reply::Told(MEMORY),
+        }
+    }
+
+    // A document was saved, which may be the file of the configuration: it is read again.
+    fn save<'a, F: ConfigFiles>(&mut self, files: &mut F) -> Reply<'a>
+        ensures { (e : Event) × IsReplied self.new result (machine.saved_by e self.old.file self.old) }
+    {
+        let found = match &self.file {
+            Some(path) => files.read(path.as_str()),
+            None => return Reply::Nothing,
+        };
+        match setting_found(found, None) {
+            Setting::Set(config, most) => {
+                self.judge_by(config, most);
+                Reply::All
+            }
+            Setting::Faulty(fault) => Reply::Faulty(fault),
+            Setting::NoMemory => Reply::Told(MEMORY),
+        }
+    }
+}

@@ -1,0 +1,171 @@
+//! What the settings of an editor set.
+ghost use Rattle.std.specs.Prelude.{◌≡◌, IfOk, IsSome, OnErr, string_bytes};
+ghost use Rattle.std.specs.Option.{option_map};
+ghost use Rattle.json.specs.Value.{value_view};
+ghost use Rattle.yl_lsp.specs.Read.{settings_value};
+ghost use Rattle.yl_server.specs.Bodies.{IsFound, text_set};
+ghost use Rattle.yl_server.specs.Named.{IsNamed};
+ghost use Rattle.yl_server.specs.Settings.{fault_words, place_of, setting_found};
+ghost use Rattle.yl_server.specs.Settings as spec;
+
+use json::Value;
+use std::alloc::{AllocError, Allocator};
+use yl_config::{Config, ConfigFault, FaultPlace};
+use yl_lsp::{Settings, settings_in};
+
+/// What a configuration was found to be.
+#[derive(Clone, Copy)]
+pub enum Found {
+    /// Its text says this.
+    Said(Result<Config, ConfigFault>),
+    /// Its file could not be read.
+    Unreadable,
+    /// There was no memory to read its file.
+    NoMemory,
+}
+
+/// Where the files of configurations are.
+pub trait ConfigFiles {
+    /// What the file of this path says as a configuration.
+    fn read(&mut self, path: &str) -> Found;
+}
+
+/// What is wrong with settings.
+#[derive(Clone, Copy)]
+pub(crate) enum SettingFault {
+    /// One of them is of another type than it has.
+    Shape,
+    /// The file of the configuration could not be read.
+    Unreadable,
+    /// The configuration has a fault.
+    Refused(ConfigFault),
+}
+
+impl SettingFault {
+    /// What the user is told, without the fault's place.
+    pub(crate) fn words(self) -> &'static str
+        ensures { result.now ≡ fault_words self }
+    {
+        match self {
+            SettingFault::Shape => "a setting is of another type than it has",
+            SettingFault::Unreadable => "the file of the configuration cannot be read",
+            SettingFault::Refused(fault) => refused_words(fault),
+        }
+    }
+
+    /// The fault's place in the configuration, if it has one: a line, and a column in characters, both counted from 1.
+    pub(crate) fn place(self) -> Option<FaultPlace>
+        ensures { result ≡ place_of self }
+    {
+        match self {
+            SettingFault::Shape | SettingFault::Unreadable => None,
+            SettingFault::Refused(fault) => fault.place(),
+        }
+    }
+}
+
+/// What the user is told of a configuration that is refused, without the place.
+fn refused_words(fault: ConfigFault) -> &'static str
+    ensures { result.now ≡ fault_words (SettingFault.Refused fault) }
+{
+    match fault {
+        ConfigFault::NotUtf8 => "the configuration is refused: NotUtf8",
+        ConfigFault::Syntax(_) => "the configuration is refused: Syntax",
+        ConfigFault::NotAMapping(_) => "the configuration is refused: NotAMapping",
+        ConfigFault::UnknownKey(_) => "the configuration is refused: UnknownKey",
+        ConfigFault::UnknownRule(_) => "the configuration is refused: UnknownRule",
+        ConfigFault::UnknownOption(_) => "the configuration is refused: UnknownOption",
+        ConfigFault::BadValue(_) => "the configuration is refused: BadValue",
+        ConfigFault::BadLevel(_) => "the configuration is refused: BadLevel",
+        ConfigFault::UnknownExtends(_) => "the configuration is refused: UnknownExtends",
+        ConfigFault::Memory => "the configuration is refused: Memory",
+        ConfigFault::TooLarge => "the configuration is refused: TooLarge",
+    }
+}
+
+/// What settings set.
+#[derive(Clone, Copy)]
+pub(crate) enum Setting {
+    /// A configuration, and how many problems of a text are shown at the most, each where it is set.
+    Set(Option<Config>, Option<u64>),
+    /// Nothing, since they are faulty.
+    Faulty(SettingFault),
+    /// Nothing, for want of memory.
+    NoMemory,
+}
+
+/// The configuration that settings name, if they name one. A text comes before a file.
+fn found_by<A: Allocator + Copy, F: ConfigFiles>(
+    alloc: A,
+    settings: Settings<'_>,
+    files: &mut F,
+) -> Option<Found>
+    ensures { IsNamed (settings_value settings.entry) result }
+{
+    if let Some(text) = settings.config {
+        return Some(Found::Said(Config::read(alloc, text.as_bytes())));
+    }
+    match settings.config_file {
+        Some(path) => Some(files.read(path)),
+        None => None,
+    }
+}
+
+/// The path of the file that settings name, in a new `String`. A text comes before a file. The error is want of memory for it.
+pub(crate) fn file_named<A: Allocator + Copy>(
+    alloc: A,
+    settings: Option<&Value<'_, A>>,
+) -> Result<Option<String<A>>, AllocError>
+    ensures ok { IfOk result (λ file. option_map string_bytes file ≡ spec.file_named (option_map (λ v. value_view v.now) settings.entry)) }
+    ensures err { OnErr result (IsSome (spec.file_named (option_map (λ v. value_view v.now) settings.entry))) }
+{
+    match path_in(settings) {
+        Some(path) => Ok(Some(String::from_str(alloc, path)?)),
+        None => Ok(None),
+    }
+}
+
+/// The path of the file that settings name.
+fn path_in<'a, A: Allocator>(settings: Option<&Value<'a, A>>) -> Option<&'a str>
+    ensures { option_map (λ path. path.now) result ≡ spec.file_named (option_map (λ v. value_view v.now) settings.entry) }
+{
+    let settings = settings_in(settings?)?;
+    match settings.config {
+        Some(_) => None,
+        None => settings.config_file,
+    }
+}
+
+/// What is set where a configuration was found to be this.
+pub(crate) fn setting_found(found: Found, most: Option<u64>) -> Setting
+    ensures { result ≡ setting_found found most }
+{
+    match found {
+        Found::Said(Ok(config)) => Setting::Set(Some(config), most),
+        Found::Said(Err(ConfigFault::Memory)) => Setting::NoMemory,
+        Found::Said(Err(fault)) => Setting::Faulty(SettingFault::Refused(fault)),
+        Found::Unreadable => Setting::Faulty(SettingFault::Unreadable),
+        Found::NoMemory => Setting::NoMemory,
+    }
+}
+
+/// What settings set. Those that are not there set nothing.
+pub(crate) fn setting_of<A: Allocator + Copy, F: ConfigFiles>(
+    alloc: A,
+    settings: Option<&Value<'_, A>>,
+    files: &mut F,
+) -> Setting
+    ensures { (found : Found) × IsFound (text_set (option_map (λ v. value_view v.now) settings.entry)) found
+        × (result ≡ spec.setting_of found (option_map (λ v. value_view v.now) settings.entry)) }
+{
+    let Some(settings) = settings else {
+        return Setting::Set(None, None);
+    };
+    let Some(settings) = settings_in(settings) else {
+        return Setting::Faulty(SettingFault::Shape);
+    };
+    match found_by(alloc, settings, files) {
+        Some(found) => setting_found(found, settings.most),
+        None => Setting::Set(None, settings.most),
+    }
+}
