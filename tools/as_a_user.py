@@ -1,7 +1,7 @@
 #!/usr/bin/env python3
-"""as_a_user.py [YAMLLINT YLEDIT]: runs the built programs as a user does, and tells what is not as it should be.
+"""as_a_user.py [YAMLLINT YLEDIT ZUTKRAD]: runs the built programs as a user does, and tells what is not as it should be.
 
-Without words it takes the programs that `rt run` left in crates/yamllint/out and crates/yledit/out. Each case below has its
+Without words it takes the programs that `rt run` left in crates/NAME/out. Each case below has its
 words and what is to come of it: standard output, standard error and the status. Then each request for memory of some longer
 runs is refused in turn (tools/refusing.c, built by cc and loaded before the C library), up to the first run that meets no
 refusal. It ends with 1 where something is not as it should be."""
@@ -12,7 +12,7 @@ import tempfile
 from collections import namedtuple
 
 HERE = os.path.dirname(os.path.abspath(__file__))
-PROGRAMS = ("yamllint", "yledit")
+PROGRAMS = ("yamllint", "yledit", "zutkrad")
 SECONDS = 60
 
 NO_START = 'f.yaml:1:1: [warning] missing document start "---" (document-start)\n'
@@ -20,6 +20,11 @@ COLON_AND_BLANK = (
     "spaced.yaml:2:4: [error] too many spaces after colon (colons)\n"
     "spaced.yaml:2:6: [error] trailing spaces (trailing-spaces)\n"
 )
+# What an editor sends to end the server, and what that is answered where it was not begun.
+SHUTDOWN = b'Content-Length: 44\r\n\r\n{"jsonrpc":"2.0","id":1,"method":"shutdown"}'
+EXIT = b'Content-Length: 33\r\n\r\n{"jsonrpc":"2.0","method":"exit"}'
+NOT_BEGUN = ('Content-Length: 92\r\n\r\n{"error":{"code":-32002,"message":"the server waits for initialize"},"id":1,'
+             '"jsonrpc":"2.0"}')
 START_IS_ERROR = "{extends: default, rules: {document-start: {level: error}}}"
 MISSPELT = "extends: default\nrules:\n  line-lenght: disable\n"
 FILES = {
@@ -88,6 +93,18 @@ CASES = [
     Case("yledit", ["bytes.yaml"], "", "yledit: bytes.yaml: not UTF-8 at byte 3\n", 255),
     Case("yledit", ["f.yaml"], "", "yledit: output cannot be written\n", 255, b"", ">/dev/full"),
     Case("yledit", ["f.yaml"], "", "yledit: output cannot be written\n", 255, b"", ">&-"),
+    # The server.
+    Case("zutkrad", ["--version"], "zutkrad 0.1.0\n", "", 0),
+    Case("zutkrad", [], "", "zutkrad: fault of use\n", 255),
+    Case("zutkrad", ["check"], "", "zutkrad: fault of use\n", 255),
+    Case("zutkrad", ["server", "f.yaml"], "", "zutkrad: fault of use\n", 255),
+    Case("zutkrad", ["server"], "", "", 1),
+    Case("zutkrad", ["server"], NOT_BEGUN, "", 1, SHUTDOWN + EXIT + b"never read"),
+    Case("zutkrad", ["server"], NOT_BEGUN, "zutkrad: bad command\n", 1, SHUTDOWN + b"\r\n"),
+    Case("zutkrad", ["server"], "", "zutkrad: bad command\n", 1, EXIT[:-1]),
+    Case("zutkrad", ["server"], "", "zutkrad: stdin: cannot be read\n", 1, b"", "<&-"),
+    Case("zutkrad", ["server"], "", "zutkrad: stdin: cannot be read\n", 1, b"", "<folder"),
+    Case("zutkrad", ["server"], "", "zutkrad: output cannot be written\n", 1, SHUTDOWN, ">/dev/full"),
 ]
 
 # What the longer runs lint and edit: lines of each kind, with problems of each kind.
@@ -240,7 +257,7 @@ def refuse_each(runs, case, may_come):
     number, ended = 1, 0
     while (come := runs.refused(case, number)) is not None:
         # A run that ends early has given all answers to the commands before.
-        if ends_without_memory(case, whole, come) and (case.program == "yamllint" or "".join(answers(come[0])) == come[0]):
+        if ends_without_memory(case, whole, come) and (case.program != "yledit" or "".join(answers(come[0])) == come[0]):
             ended += 1
         elif come not in may_come:
             out, err, status = come
@@ -258,6 +275,8 @@ def check_refusals(runs):
         refuse_each(runs, Case("yamllint", words), set())
     for words in (["--strict", "f.yaml"], ["-s", "f.yaml", "long.yaml"]):
         refuse_each(runs, Case("yledit", words), set())
+    for words in (["--help"], ["check"]):
+        refuse_each(runs, Case("zutkrad", words), set())
     for words in (["long.yaml"], ["--work", "-d", LONG_CONFIG, "long.yaml"]):
         case = Case("yledit", words, given=b"".join(COMMANDS))
         refuse_each(runs, case, without_each(runs, case, COMMANDS))
@@ -266,7 +285,7 @@ def check_refusals(runs):
 def main():
     built = [os.path.join(os.path.dirname(HERE), "crates", name, "out", name) for name in PROGRAMS]
     paths = [os.path.abspath(path) for path in sys.argv[1:]] or built
-    if len(paths) != 2:
+    if len(paths) != len(PROGRAMS):
         sys.exit(__doc__)
     with tempfile.TemporaryDirectory() as folder:
         os.mkdir(os.path.join(folder, "folder"))

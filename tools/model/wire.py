@@ -36,6 +36,7 @@ def _constant(word):
     raise ValueError(word)
 
 
+_quoted = json.encoder.encode_basestring
 _DECODER = json.JSONDecoder(parse_int=Number, parse_float=Number, parse_constant=_constant)
 _HALF = re.compile("[\ud800-\udfff]")
 _TEXT = re.compile(rb'"[^"\\]*(?:\\.[^"\\]*)*"?', re.DOTALL)
@@ -80,13 +81,15 @@ def written(value):
     """The text of a value: no spaces, the shortest escapes, and members in the order of their names."""
     if value is NULL:
         return "null"
+    if isinstance(value, bool):
+        return "true" if value else "false"
     if isinstance(value, Number):
         return value.digits
     if isinstance(value, dict):
         return "{" + ",".join(f"{written(name)}:{written(value[name])}" for name in sorted(value)) + "}"
     if isinstance(value, list):
         return "[" + ",".join(map(written, value)) + "]"
-    return json.dumps(value, ensure_ascii=False)
+    return _quoted(value)
 
 
 def member(value, *names):
