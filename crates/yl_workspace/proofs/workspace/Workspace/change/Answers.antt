@@ -1,7 +1,7 @@
-use Rattle.std.proofs.Common.{rules, ◌≡◌, List, [], get_or, map, set, sym, ◌∙◌, ap, Some, None}
+use Rattle.std.proofs.Common.{rules, ◌≡◌, arith, length, List, [], get_or, map, set, sym, ◌∙◌, ap, Some, None}
 use Rattle.yl_lsp.specs.Read.{change_value}
 use Rattle.yl_workspace.specs.Documents.{DocumentValue, changed_document, with_document}
-use Rattle.yl_workspace.proofs.Lists.{found, with_found, with_missing}
+use Rattle.yl_workspace.proofs.Lists.{found, inside_found, with_found, with_missing}
 use Rattle.yl_workspace.proofs.workspace.Workspace.change.Goals as goal
 
 pub returns-in-Some : goal.returns-in-Some
@@ -23,3 +23,11 @@ returns-in_default g c =
     let at : found uri ds ≡ None = ap (λ (l : List DocumentValue). found uri l) (sym c.as_slice.ensures.value) ∙ sym c.in_default.ensures in
     let other : DocumentValue → DocumentValue = λ a. changed_document c.args.encoding [] c.args.version.now (map change_value c.args.changes.now) a in
     ([], sym (ap (λ (l : List DocumentValue). with_document uri other l) (sym c.self.view_is) ∙ with_missing uri other ds at ∙ c.self.view_is))
+
+pub index_mut-requires : goal.index_mut-requires
+index_mut-requires g c =
+    let ds : List DocumentValue = c.self.inside.documents.items in
+    let uri = c.args.uri.now in
+    let at : found uri ds ≡ Some c.in-Some.i = ap (λ (l : List DocumentValue). found uri l) (sym c.as_slice.ensures.value) ∙ sym c.in-Some.ensures in
+    let inside = inside_found uri ds c.in-Some.i at in
+    omega (arith, inside, c.as_slice.ensures.len, ap length c.as_slice.ensures.value)

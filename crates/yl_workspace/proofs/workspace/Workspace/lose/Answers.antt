@@ -1,6 +1,6 @@
-use Rattle.std.proofs.Common.{rules, ◌≡◌, List, get_or, set, sym, ◌∙◌, ap, Some, None}
+use Rattle.std.proofs.Common.{rules, ◌≡◌, arith, length, List, get_or, set, sym, ◌∙◌, ap, Some, None}
 use Rattle.yl_workspace.specs.Documents.{DocumentValue, lost_document, with_document}
-use Rattle.yl_workspace.proofs.Lists.{found, with_found, with_missing}
+use Rattle.yl_workspace.proofs.Lists.{found, inside_found, with_found, with_missing}
 use Rattle.yl_workspace.proofs.workspace.Workspace.lose.Goals as goal
 
 pub returns-in-Some : goal.returns-in-Some
@@ -21,3 +21,11 @@ returns-in_default g c =
     let at : found uri ds ≡ None = ap (λ (l : List DocumentValue). found uri l) (sym c.as_slice.ensures.value) ∙ sym c.in_default.ensures in
     let other : DocumentValue → DocumentValue = λ a. lost_document c.args.cause a in
     sym (ap (λ (l : List DocumentValue). with_document uri other l) (sym c.self.view_is) ∙ with_missing uri other ds at ∙ c.self.view_is)
+
+pub index_mut-requires : goal.index_mut-requires
+index_mut-requires g c =
+    let ds : List DocumentValue = c.self.inside.documents.items in
+    let uri = c.args.uri.now in
+    let at : found uri ds ≡ Some c.in-Some.i = ap (λ (l : List DocumentValue). found uri l) (sym c.as_slice.ensures.value) ∙ sym c.in-Some.ensures in
+    let inside = inside_found uri ds c.in-Some.i at in
+    omega (arith, inside, c.as_slice.ensures.len, ap length c.as_slice.ensures.value)

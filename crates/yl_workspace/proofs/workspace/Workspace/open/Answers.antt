@@ -1,9 +1,9 @@
-use Rattle.std.proofs.Common.{rules, ◌≡◌, true, false, List, [], ◌∷◌, ◌++◌, get_or, set, subst, sym, ◌∙◌, ap, Some, None}
+use Rattle.std.proofs.Common.{rules, ◌≡◌, arith, length, true, false, List, [], ◌∷◌, ◌++◌, get_or, set, subst, sym, ◌∙◌, ap, Some, None}
 use Rattle.std.specs.Prelude.{IsSome}
 use Rattle.yl_lsp.specs.Read.{opened_value}
 use Rattle.yl_workspace.specs.Documents.{DocumentValue, document_at, opened, opened_document}
 use Rattle.yl_workspace.specs.Shown.{opened_again}
-use Rattle.yl_workspace.proofs.Lists.{found, document_missing}
+use Rattle.yl_workspace.proofs.Lists.{found, inside_found, document_missing}
 use Rattle.yl_workspace.proofs.Opening.{opened_found, opened_new, opened_not, opened_there, new_there, on_err}
 use Rattle.yl_workspace.proofs.workspace.Workspace.open.Goals as goal
 
@@ -78,3 +78,16 @@ returns-in_ok-push-in-None-clause-ok g c =
     let pushed : c.push.new.self.items ≡ ds ++ c.in_ok-document-in-None.document ∷ [] = search rules in
     let same = pushed ∙ ap (λ (a : DocumentValue). ds ++ a ∷ []) made.1 ∙ sym (opened_new c.args.config made.0 o ds at) in
     subst (λ (l : List DocumentValue). IsSome (document_at o.uri l)) (sym same) (new_there c.args.config made.0 o ds)
+
+pub index_mut-requires : goal.index_mut-requires
+index_mut-requires g c =
+    let ds : List DocumentValue = c.self.inside.documents.items in
+    let uri = c.args.document.uri.now in
+    let at : found uri ds ≡ Some c.in-Some.i = ap (λ (l : List DocumentValue). found uri l) (sym c.as_slice.ensures.value) ∙ sym c.in-Some.ensures in
+    let inside = inside_found uri ds c.in-Some.i at in
+    omega (arith, inside, c.as_slice.ensures.len, ap length c.as_slice.ensures.value)
+
+pub returns-in_err-push-in-None-clause-err : goal.returns-in_err-push-in-None-clause-err
+returns-in_err-push-in-None-clause-err g c =
+    let same : c.push.new.self.items ≡ c.self.inside.documents.items = search rules in
+    on_err c.from_residual-in_err-push-in-None.result _ (same ∙ c.self.view_is)
