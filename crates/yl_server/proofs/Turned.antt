@@ -8,10 +8,11 @@ use Rattle.yl_frames.specs.declared.reading.NextBody.TheVariants as found
 use Rattle.yl_frames.specs.declared.output.SendFault.{SendFault}
 use Rattle.yl_frames.specs.declared.output.SendFault.TheVariants as send
 use Rattle.yl_server.specs.declared.serving.ServeFault.{ServeFault}
+use Rattle.yl_server.specs.Serving.{IsLast}
 use Rattle.yl_server.specs.declared.settings.Found.TheVariants.{Unreadable}
 use Rattle.yl_server.specs.Events.{Dropped}
 use Rattle.yl_server.specs.Machine.{ServerValue, missed_for_memory, step}
-use Rattle.yl_server.specs.Steps.{AreCut, IsDone, IsHandled, IsHandlingCut}
+use Rattle.yl_server.specs.Steps.{AreCut, AreSent, IsDone, IsHandled, IsHandlingCut}
 use Rattle.yl_server.specs.Turns.{Takes, IsMessage, IsMessageCut, IsTurn, IsTurnFault, fault_of}
 
 -- ---- what was found
@@ -26,6 +27,13 @@ takes_dropped (Some bytes) left found.Dropped e h = h
 takes_dropped (Some bytes) left (found.Body b) e h = cc
 takes_dropped (Some bytes) left found.End e h = cc
 takes_dropped (Some bytes) left found.Bad e h = cc
+
+pub is_last : {A : Type 0} (place left : Option (List ℕ)) (next : NextBody A) → next ≡ found.End → IsNext place left next → IsLast place
+is_last None left next e h = tt
+is_last (Some bytes) left found.End e h = h
+is_last (Some bytes) left (found.Body b) e h = cc
+is_last (Some bytes) left found.Dropped e h = cc
+is_last (Some bytes) left found.Bad e h = cc
 
 -- ---- what was done
 
@@ -42,6 +50,9 @@ dropped_done place left old new d t h = inl (record {
   does = h;
   ends = refl;
 })
+
+pub none_done : (place left : Option (List ℕ)) (old new : ServerValue) (d : Sink) → IsLast place → AreSent d [] → IsTurn place left old new d (Some 1)
+none_done place left old new d l s = inr (record { last = l; sent = s; ends = refl })
 
 pub message_cut : (place left : Option (List ℕ)) (m n : ℕ) (old : ServerValue) (d : Sink) (f : SendFault) (body : List ℕ) → Takes place left body → IsHandlingCut body old d f → IsTurnFault place left m n old d (fault_of f)
 message_cut place left m n old d send.Write body t h = record { body = body; event = h.event; taken = t; is = h.is; cut = h.cut }

@@ -126,6 +126,26 @@ put_found new uri ds i same e =
 pub put_missing : (new : DocumentValue) (uri : List ℕ) (ds : Docs) → new.uri ≡ uri → found uri ds ≡ None → put_document new ds ≡ ds ++ new ∷ []
 put_missing new uri ds same e = put_last new ds (place_missing new.uri ds (ap (λ u. found u ds) same ∙ e))
 
+-- ---- looked for from one document to the next
+pub place_here : (uri : List ℕ) (ds : Docs) (i : ℕ) (d0 : DocumentValue) → i < length ds → bytes_eq (get_or ds i d0).uri uri ≡ true → place uri ds ≡ i + place uri (drop i ds) → found uri ds ≡ Some i
+place_here uri ds i d0 l t h =
+    let zero : place uri (drop i ds) ≡ 0 = ap (λ (xs : Docs). place uri xs) (drop_more ds i d0 l) ∙ ap (λ b. place_if b (place uri (drop (i + 1) ds))) t in
+    let at : place uri ds ≡ i = omega (arith, h, zero) in
+    let test : nat_lt (place uri ds) (length ds) ≡ true = grind (arith, nat_tests, at, l) in
+    ap (λ b. cond b (Some (place uri ds)) None) test ∙ ap (λ n. Some n) at
+
+pub place_later : (uri : List ℕ) (ds : Docs) (i : ℕ) (d0 : DocumentValue) → i < length ds → bytes_eq (get_or ds i d0).uri uri ≡ false → place uri ds ≡ i + place uri (drop i ds)
+    → place uri ds ≡ (i + 1) + place uri (drop (i + 1) ds)
+place_later uri ds i d0 l f h =
+    let more : place uri (drop i ds) ≡ 1 + place uri (drop (i + 1) ds) = ap (λ (xs : Docs). place uri xs) (drop_more ds i d0 l) ∙ ap (λ b. place_if b (place uri (drop (i + 1) ds))) f in
+    omega (arith, h, more)
+
+pub place_nowhere : (uri : List ℕ) (ds : Docs) (i : ℕ) → length ds ≤ i → place uri ds ≡ i + place uri (drop i ds) → found uri ds ≡ None
+place_nowhere uri ds i l h =
+    let zero : place uri (drop i ds) ≡ 0 = ap (λ (xs : Docs). place uri xs) (drop_all i ds l) in
+    let test : nat_lt (place uri ds) (length ds) ≡ false = grind (arith, nat_tests, h, zero, l) in
+    ap (λ b. cond b (Some (place uri ds)) None) test
+
 -- ---- one after another
 -- a document is made another in its place: F is what becomes of those from it on, and G of those after it
 pub each_step : (F G : Docs → Docs) (f : DocumentValue → DocumentValue) → ((d : DocumentValue) (ds : Docs) → F (d ∷ ds) ≡ f d ∷ G ds) → (xs ys : Docs) (i : ℕ) (d0 : DocumentValue) → i < length xs

@@ -120,7 +120,12 @@ impl<S: LineStore> Workspace<S> {
 fn position<S: LineStore>(documents: &[Document<S>], uri: &str) -> Option<usize>
     ensures { result ≡ list.position (λ d. bytes_eq d.uri uri.now) documents.now }
 {
-    documents.iter().position(|document| document.uri() == uri)
+    for (i, document) in documents.iter().enumerate() {
+        if document.uri() == uri {
+            return Some(i);
+        }
+    }
+    None
 }
 
 /// Removes the documents of a URI.

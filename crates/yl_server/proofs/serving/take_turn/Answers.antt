@@ -2,7 +2,9 @@ use Rattle.std.specs.Io.KnownBytes.{prepend_known}
 use Rattle.yl_text.specs.Watched.{device_of, failures_of}
 use Rattle.yl_server.specs.Steps.{sink}
 use Rattle.yl_server.specs.Turns.{fault_of}
-use Rattle.yl_server.proofs.Turned.{dropped_cut, dropped_done, fault_is, message_cut, message_done, takes_body, takes_dropped}
+use Rattle.yl_frames.specs.Sending.{watched_of}
+use Rattle.yl_server.proofs.Sending.{none_sent}
+use Rattle.yl_server.proofs.Turned.{dropped_cut, dropped_done, fault_is, is_last, message_cut, message_done, none_done, takes_body, takes_dropped}
 use Rattle.yl_server.proofs.serving.take_turn.Goals as goal
 
 pub returns-in-Ok-clause-turn : goal.returns-in-Ok-clause-turn
@@ -40,3 +42,11 @@ returns-in-Ok-Dropped-clause-fault g c =
     let f = c.in-Err-drop_body.fault in
     fault_is place left m n c.args.server.now d (fault_of f) c.fault_of-in-Err-drop_body.result c.fault_of-in-Err-drop_body.ensures (dropped_cut place left m n c.args.server.now d f
     (takes_dropped place left c.in-Ok-Dropped.field-0 c.in-Ok-Dropped.field-0-is c.in-Ok-Dropped.ensures.next) c.in-Err-drop_body.ensures.err)
+
+pub returns-in-Ok-End-clause-turn : goal.returns-in-Ok-End-clause-turn
+returns-in-Ok-End-clause-turn g c =
+    let place = prepend_known c.args.ahead.now (g.R.Read.remaining (device_of c.args.input.now)) in
+    let left = prepend_known c.next_body.new.ahead (g.R.Read.remaining (device_of c.next_body.new.input)) in
+    let out = watched_of c.args.out.now in
+    none_done place left c.args.server.now c.args.server.now (sink g.W.Write.contents c.args.out.now c.args.out.now) (is_last place left c.in-Ok-End.field-0 c.in-Ok-End.field-0-is c.in-Ok-End.ensures.next)
+    (none_sent (g.W.Write.contents (device_of out)) (failures_of out))
