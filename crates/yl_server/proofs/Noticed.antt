@@ -1,17 +1,18 @@
 -- What notifications ask for, and what is done for them.
-use Rattle.std.proofs.Common.{◌≡◌, ◌⊎◌, inl, inr, ℕ, Bool, true, false, cond, List, [], Option, None, Some, refl, sym, ap, ◌∙◌, subst}
-use Rattle.std.specs.Prelude.{bytes_eq, codes, unwrap_or}
+use Rattle.std.proofs.Common.{Bor, ◌≡◌, ◌⊎◌, inl, inr, ℕ, Bool, true, false, cond, List, [], Option, None, Some, is_some, refl, sym, ap, ◌∙◌, subst}
+use Rattle.std.specs.Prelude.{bytes_eq, codes, option_copied, unwrap_or}
 use Rattle.std.specs.Option.{option_map_or}
 use Rattle.json.specs.Json.{Json}
 use Rattle.yl_lsp.specs.Params.{ChangeValue, OpenedValue, changed_settings, changes_in, document_in, opened_in, version_in}
+use Rattle.yl_workspace.specs.Documents.{document_at}
 use Rattle.yl_server.specs.declared.phase.Phase.{Phase}
 use Rattle.yl_server.specs.declared.phase.Phase.TheVariants.{Waiting, Running, Stopped}
 use Rattle.yl_server.specs.declared.settings.Found.TheVariants.{Unreadable}
 use Rattle.yl_server.specs.Bodies.{IsFound, noticed_settings, settings_of_notice, text_set}
 use Rattle.yl_server.specs.Events.{Event}
-use Rattle.yl_server.specs.Machine.{ServerValue, exit_by, noticed, noticed_running, saved_by}
+use Rattle.yl_server.specs.Machine.{ServerValue, Stepped, exit_by, noticed, noticed_running, quiet, saved_by}
 use Rattle.yl_server.specs.Messages.{MessageValue}
-use Rattle.yl_server.specs.Requests.{NoticeValue, Opens, Spoils, Closes, Sets, Saves, Passed, changes, changes_to, closes, notice_with, opens, spoils}
+use Rattle.yl_server.specs.Requests.{NoticeValue, Changes, Opens, Spoils, Closes, Sets, Saves, Passed, changes, changes_to, closes, notice_with, opens, spoils}
 use Rattle.yl_server.proofs.Decided.{Becomes, IsConfigured, event_of}
 
 -- ---- what they ask for
@@ -77,6 +78,25 @@ no_version j h = without_version (document_in j) (changes_in j) (spoils j) ∙ a
 pub changed_other : (j : Json) (old new : ServerValue) (ms : List MessageValue) → spoils j ≡ changes j → ((e : Event) → Becomes new ms (noticed_running e (spoils j) old))
     → (granted : List Bool) × ((e : Event) → e.granted ≡ granted → Becomes new ms (noticed_running e (changes j) old))
 changed_other j old new ms is h = ([], λ e g. subst (λ (n : NoticeValue). Becomes new ms (noticed_running e n old)) is (h e))
+
+-- ---- a change of a document that is not open
+
+-- what is looked for and not there
+pub copied_is : {A : Type 0} (o : Option (Bor A)) → is_some (option_copied o) ≡ is_some o
+copied_is None = refl
+copied_is (Some x) = refl
+
+not_open : (t : Stepped) (s : ServerValue) (b : Bool) → b ≡ false → Becomes s [] (cond b t (quiet s))
+not_open t s true h = cc
+not_open t s false h = (refl, refl)
+
+pub changed_unopened : (j : Json) (uri version : List ℕ) (old : ServerValue) → Some uri ≡ document_in j → Some version ≡ version_in j → is_some (document_at uri old.documents) ≡ false
+    → (granted : List Bool) × ((e : Event) → e.granted ≡ granted → Becomes old [] (noticed_running e (changes j) old))
+changed_unopened j uri version old u v n =
+    let cs = changes_in j in
+    let is : Changes uri version cs ≡ changes j =
+    ap (λ d. unwrap_or (changes_to d (Some version) cs) (spoils j)) u ∙ ap (λ w. unwrap_or (changes_to (document_in j) w cs) (spoils j)) v in
+    ([], λ e g. subst (λ (x : NoticeValue). Becomes old [] (noticed_running e x old)) is (not_open _ old (is_some (document_at uri old.documents)) n))
 
 -- ---- what is done while a server runs
 

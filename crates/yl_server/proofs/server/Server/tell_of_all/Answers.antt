@@ -1,8 +1,12 @@
-use Rattle.std.proofs.Common.{◌≡◌, ◌∷◌, [], ◌++◌, ◌<◌, ◌+◌, refl, ap, sym, ◌∙◌, length, get_or, map, take, drop}
+use Rattle.std.proofs.Common.{◌≡◌, ◌∷◌, [], ◌++◌, ◌<◌, ◌≤◌, ◌+◌, refl, subst, List, ap, sym, ◌∙◌, length, get_or, map, take, drop}
 use Rattle.yl_workspace.specs.Documents.{DocumentValue}
 use Rattle.yl_server.specs.Machine.{told_of_all}
-use Rattle.yl_server.specs.Messages.{Published, Shown}
-use Rattle.yl_server.specs.Steps.{sink}
+use Rattle.std.proofs.lemmas.List.{take_all}
+use Rattle.yl_text.specs.Watched.{device_of, failures_of}
+use Rattle.yl_frames.specs.Sending.{watched_of}
+use Rattle.yl_server.specs.Messages.{MessageValue, Published, Shown}
+use Rattle.yl_server.specs.Steps.{AreSent, sink}
+use Rattle.yl_server.proofs.Sending.{none_sent}
 use Rattle.yl_server.proofs.Joined.{both_sent, first_cut, map_more, map_whole, second_cut}
 use Rattle.yl_server.proofs.server.Server.tell_of_all.Goals as goal
 
@@ -34,3 +38,14 @@ loop-document-preserved g c =
     let here : told d ∷ [] ≡ one = ap (λ u. Published u (Shown c.args.self.now.how d) ∷ []) (sym c.uri.ensures) in
     let done = map told (take i ds) in
     both_sent g.W.Write.contents c.args.out.now c.loop-document.out c.show.new.out done one (map told (take (i + 1) ds)) (map_more told ds i d below at ∙ ap (λ l. done ++ l) here) c.loop-document.invariant c.in_ok-show.ensures.ok
+
+pub loop-document-init : goal.loop-document-init
+loop-document-init g c = let out = watched_of c.args.out.now in none_sent (g.W.Write.contents (device_of out)) (failures_of out)
+
+pub returns-clause-ok : goal.returns-clause-ok
+returns-clause-ok g c =
+    let told = λ (d : DocumentValue). Published d.uri (Shown c.args.self.now.how d) in
+    let ds = c.args.self.now.documents in
+    let i = c.loop-document.document-index in
+    let past : length ds ≤ i = rw (← c.documents-document-items.ensures) c.loop-document-test.false in
+    subst (λ (ms : List MessageValue). AreSent (sink g.W.Write.contents c.args.out.now c.loop-document.out) ms) (ap (λ (l : List DocumentValue). map told l) (take_all i ds past)) c.loop-document.invariant
