@@ -1,6 +1,6 @@
 #!/usr/bin/env python3
-"""rows.py [--check]: writes the file stdout of yl_text_rows, yl_session_rows, yl_frames_rows and yl_rpc_rows, what the model of
-tools/model says of the rows in their files stdin.
+"""rows.py [--check] [CRATE..]: writes the file stdout of yl_text_rows, yl_session_rows, yl_frames_rows, yl_rpc_rows and yl_server_rows,
+or of those that are named, what the model of tools/model says of the rows in their files stdin.
 
 With --check it writes nothing, and ends with 1 where a file says otherwise. So what these programs are to print is never
 taken from a program of this repository."""
@@ -14,8 +14,10 @@ sys.path.insert(0, HERE)
 
 from model import dump  # noqa: E402
 from model.config import Config, ConfigFault  # noqa: E402
+from model.exchanges import message_bytes, refused  # noqa: E402
 from model.lint import Text, report  # noqa: E402
 from model.report import printed, status  # noqa: E402
+from model.server import Server  # noqa: E402
 from model.text import TextFault, decode, edited, split  # noqa: E402
 from model.wire import (INVALID_REQUEST, METHOD_NOT_FOUND, NULL, PARSE_ERROR, Invalid, NoJson, NoMessage, Request, Response,  # noqa: E402
                         TooDeep, answer, call_of, failure, framed, next_body, read, written)
@@ -26,6 +28,7 @@ LETTERS = {"n": b"\n", "r": b"\r", "t": b"\t", "\\": b"\\"}
 SHOWN = {"lexemes": dump.lexemes, "events": dump.events, "lines": dump.lines}
 LONG = 2000
 LONG_LINE = 200
+SHOWN_OF_MESSAGE = 80
 FRONTS = ("more", "times", "keys", "stairs")
 
 
@@ -61,15 +64,17 @@ def fault_of(text):
         return None, f"{fault.name}{place}\n"
 
 
-def told(text):
-    """A text, or where it is long a line of it."""
-    data = text.encode()
-    if len(data) <= LONG:
-        return text
+def sum_of(data):
     total = 0
     for byte in data:
         total = (total * 31 + byte) % 2 ** 32
-    return f"{len(data)} bytes, sum {total}\n"
+    return total
+
+
+def told(text):
+    """A text, or where it is long a line of it."""
+    data = text.encode()
+    return text if len(data) <= LONG else f"{len(data)} bytes, sum {sum_of(data)}\n"
 
 
 def name_of(fault):
@@ -217,7 +222,95 @@ def by_bytes(tell):
     return answers_of
 
 
-ROWS = {"yl_text_rows": answers, "yl_session_rows": answers, "yl_frames_rows": by_bytes(frame_lines), "yl_rpc_rows": by_bytes(call_lines)}
+class Files:
+    """Files whose names say what is in them: at the first reading what stands before the first bar, and so on."""
+
+    def __init__(self):
+        self.readings = 0
+
+    def get(self, name):
+        said = name.split("|")[self.readings:]
+        self.readings += 1
+        return said[0].encode() if said else None
+
+
+class Given:
+    """What a server reads, the messages among it, what it sends, and how much of that for the messages before each that it waits
+    for."""
+
+    def __init__(self, data):
+        server = Server(self.files.get)
+        self.bodies, self.sent, self.owed = [], [], []
+        try:
+            while server.status is None:
+                self.owed.append(sum(map(len, self.sent)))
+                found = next_body(data)
+                if found is None:
+                    break
+                body, data = found
+                self.bodies.append(body)
+                self.sent += map(message_bytes, server.came(body))
+            self.end = str(1 if server.status is None else server.status)
+        except NoMessage:
+            self.end = "Header"
+
+    @property
+    def files(self):
+        return Files()
+
+    def lines(self):
+        """The messages that are sent, long ones without their middle, and the end."""
+        for message in self.sent:
+            body, _ = next_body(message)
+            if len(body) <= LONG:
+                yield body.decode()
+            else:
+                yield f"{body[:SHOWN_OF_MESSAGE].decode()} .. {body[-SHOWN_OF_MESSAGE:].decode()}"
+                yield f"= {len(body)} bytes, sum {sum_of(body)}"
+        yield f"= {self.end}"
+
+    def trial_lines(self):
+        """How much is out where it waits, and what else may be sent where memory is refused."""
+        sums = {sum_of(run.out) * 2 + min(run.status, 1): None for run in refused(self)}
+        sums.pop(sum_of(b"".join(self.sent)) * 2 + int(self.end), None)
+        yield "= out " + " ".join(map(str, self.owed))
+        yield "= refused " + " ".join(map(str, sums))
+
+
+def filled(form, front, rest):
+    """What a form stands for in a row."""
+    first, *pieces = form.encode().split(b"$")
+    said = first
+    for piece in pieces[:-1]:
+        word, _, rest = rest.partition(" ")
+        said += unescaped(word) + piece
+    return said + front + unescaped(rest) + pieces[-1] if pieces else said
+
+
+def server_answers(lines):
+    """Of each row the row itself, and then what a server sends for what it was given so far."""
+    forms, front, data = {}, b"", b""
+    for line in lines:
+        if not line or line.startswith("#"):
+            continue
+        yield line + "\n"
+        word, _, rest = line.partition(" ")
+        if word in FRONTS:
+            front += front_of(word, rest)
+        elif word == "form":
+            word, _, rest = rest.partition(" ")
+            forms[word] = rest
+        elif word in ("serve", "try"):
+            given, data = Given(data), b""
+            said = [*given.lines(), *(given.trial_lines() if word == "try" else ())]
+            yield "".join(f"{line}\n" for line in said)
+        else:
+            body, front = filled(forms.get(word, "$"), front, rest), b""
+            data += body if word == "bytes" else framed(body)
+
+
+ROWS = {"yl_text_rows": answers, "yl_session_rows": answers, "yl_frames_rows": by_bytes(frame_lines), "yl_rpc_rows": by_bytes(call_lines),
+        "yl_server_rows": server_answers}
 
 
 def is_said(crate, is_check):
@@ -233,8 +326,10 @@ def is_said(crate, is_check):
 
 
 def main():
-    is_check = "--check" in sys.argv
-    return int(not all([is_said(crate, is_check) for crate in ROWS]))
+    crates = [word for word in sys.argv[1:] if word != "--check"]
+    if not set(crates) <= set(ROWS):
+        sys.exit(__doc__)
+    return int(not all([is_said(crate, "--check" in sys.argv) for crate in crates or ROWS]))
 
 
 if __name__ == "__main__":

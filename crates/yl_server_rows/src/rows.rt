@@ -1,0 +1,135 @@
+//! Rows, one after another.
+use crate::devices::{GOOD, Input};
+use crate::runs::{Ran, run as run_server};
+use crate::telling::{tell, tell_numbers};
+use crate::trials::{Trial, failure, refused};
+use std::alloc::{AllocError, Global};
+use test_rows::{first_word, push_front, push_unescaped, say};
+use yl_devices::RunFault;
+
+// What is kept between rows: the short words for messages with what they stand for, how the next text begins, the bytes that the server reads, and
+// how long their messages are.
+#[derive(Drop)]
+struct Kept<'a> {
+    forms: Vec<(&'a str, &'a str)>,
+    front: Vec<u8>,
+    bytes: Vec<u8>,
+    lengths: Vec<usize>,
+}
+
+// The bytes that a form stands for. What is left of the row stands for the last `$`, and one of its first words for each of the others.
+fn filled(alloc: Global, form: &str, front: &[u8], row: &str) -> Result<Vec<u8>, AllocError> {
+    let mut bytes = Vec::new(alloc);
+    let mut rest = row;
+    let mut left = form.split('$').count();
+    for piece in form.split('$') {
+        bytes.extend_from_slice(piece.as_bytes())?;
+        left = left.saturating_sub(1);
+        if left > 1 {
+            let (word, behind) = first_word(rest);
+            push_unescaped(&mut bytes, word)?;
+            rest = behind;
+        } else if left == 1 {
+            bytes.extend_from_slice(front)?;
+            push_unescaped(&mut bytes, rest)?;
+        }
+    }
+    Ok(bytes)
+}
+
+// What a word stands for.
+fn form_of<'a>(kept: &Kept<'a>, word: &str) -> Option<&'a str> {
+    let (_, form) = kept.forms.iter().find(|form| form.0 == word)?;
+    Some(*form)
+}
+
+// The input goes on with these bytes, behind the header of a message.
+fn push_bytes(kept: &mut Kept<'_>, header: &[u8], bytes: &[u8]) -> Result<(), AllocError> {
+    kept.bytes.extend_from_slice(header)?;
+    kept.bytes.extend_from_slice(bytes)?;
+    kept.lengths.push(header.len().saturating_add(bytes.len()))?;
+    Ok(())
+}
+
+// The input goes on by what a row says.
+fn give(rt: &HostRuntime, kept: &mut Kept<'_>, word: &str, rest: &str) -> Result<(), RunFault> {
+    let alloc = rt.alloc();
+    if word == "bytes" {
+        let bytes = filled(alloc, "$", kept.front.as_slice(), rest)?;
+        push_bytes(kept, b"", bytes.as_slice())?;
+    } else if let Some(form) = form_of(kept, word) {
+        let body = filled(alloc, form, kept.front.as_slice(), rest)?;
+        let header = format!(in alloc; "Content-Length: {}\r\n\r\n", body.len())?;
+        push_bytes(kept, header.as_str().as_bytes(), body.as_slice())?;
+    } else {
+        say(rt, "is no row")?;
+    }
+    kept.front.clear();
+    Ok(())
+}
+
+// Prints what is answered otherwise than it has to be where devices fail and memory is refused.
+fn try_again(rt: &HostRuntime, input: Input<'_>, whole: &Ran) -> Result<(), RunFault> {
+    let trial = Trial { input, whole };
+    tell_numbers(rt, "out", whole.noted.as_slice())?;
+    match refused(&trial)? {
+        Some(sums) => tell_numbers(rt, "refused", sums.as_slice())?,
+        None => say(rt, "is answered otherwise where memory is refused")?,
+    }
+    match failure(&trial) {
+        Some(what) => say(rt, what),
+        None => Ok(()),
+    }
+}
+
+// Prints what comes of the input.
+fn serve(rt: &HostRuntime, kept: &mut Kept<'_>, is_tried: bool) -> Result<(), RunFault> {
+    let alloc = rt.alloc();
+    let input = Input {
+        alloc,
+        bytes: kept.bytes.as_slice(),
+        lengths: kept.lengths.as_slice(),
+    };
+    let whole = run_server(alloc, input, GOOD);
+    tell(rt, &whole)?;
+    if is_tried {
+        try_again(rt, input, &whole)?;
+    }
+    kept.bytes.clear();
+    kept.lengths.clear();
+    Ok(())
+}
+
+// Does what a row says.
+fn follow<'a>(rt: &HostRuntime, kept: &mut Kept<'a>, row: &'a str) -> Result<(), RunFault> {
+    let (word, rest) = first_word(row);
+    if push_front(rt.alloc(), &mut kept.front, word, rest)? {
+        return Ok(());
+    }
+    match word {
+        "form" => {
+            kept.forms.push(first_word(rest))?;
+            Ok(())
+        }
+        "serve" => serve(rt, kept, false),
+        "try" => serve(rt, kept, true),
+        _ => give(rt, kept, word, rest),
+    }
+}
+
+/// Prints each row, and then does what it says.
+pub fn run(rt: &HostRuntime, text: &str) -> Result<(), RunFault> {
+    let mut kept = Kept {
+        forms: Vec::new(rt.alloc()),
+        front: Vec::new(rt.alloc()),
+        bytes: Vec::new(rt.alloc()),
+        lengths: Vec::new(rt.alloc()),
+    };
+    for row in text.lines() {
+        if !row.is_empty() && !row.starts_with('#') {
+            say(rt, row)?;
+            follow(rt, &mut kept, row)?;
+        }
+    }
+    Ok(())
+}
