@@ -39,8 +39,16 @@ impl Config {
         }
     }
 
+    /// These levels and options.
+    pub fn new(levels: RuleLevels, options: RuleOptions) -> Config
+        ensures levels { levels_of result ≡ level_of levels }
+        ensures options { options_of result ≡ options }
+    {
+        Config { levels, options }
+    }
+
     /// No rule is on; the options are those of the default configuration.
-    pub(crate) fn all_off() -> Config
+    pub fn all_off() -> Config
         ensures { config_settings result ≡ all_off }
     {
         Config {
@@ -102,6 +110,13 @@ impl Config {
         ensures { level_of result.now ≡ levels_of self.now }
     {
         &self.levels
+    }
+
+    /// The options of all rules, of those that are off too.
+    pub fn options(&self) -> &RuleOptions
+        ensures { result.now ≡ options_of self.now }
+    {
+        &self.options
     }
 
     /// The options of the rules that look at one line: line-length.

@@ -14,8 +14,8 @@ use yl_events::{Event, EventKind};
 use yl_settings::{Item, first_item};
 use yl_text::Pos;
 
-/// The root of a document; an end where there is none.
-fn root_of<'a>(events: &[Event<'a>]) -> Item<'a>
+/// The root of a document with these events; an end where there is none.
+pub fn root_of<'a>(events: &[Event<'a>]) -> Item<'a>
     ensures root { item_value events.now result ≡ root_of (map event_value events.now) }
     ensures inside { result.inside ≤ length events.now }
 {
@@ -35,8 +35,8 @@ fn root_of<'a>(events: &[Event<'a>]) -> Item<'a>
 
 #[tactic(auto, unfolding(crate::specs::Misfits::earliest))]
 impl Reading {
-    /// Notes a document behind the first one.
-    fn note_next(&mut self, next: Option<Pos>)
+    /// Notes a second document, where it begins at this place, as what does not fit.
+    pub fn note_next(&mut self, next: Option<Pos>)
         ensures first { self.new.first ≡ earliest self.old.first (next_misfits next) }
         ensures config { self.new.config ≡ self.old.config }
     {

@@ -14,7 +14,11 @@ mod read;
 mod reading;
 
 pub use config::Config;
-pub use fault::{ConfigFault, FaultPlace};
+pub use document::root_of;
+pub use fault::{ConfigFault, FaultPlace, fault_of, from_one};
+pub use misfit::{Misfit, MisfitKind};
+pub use read::from_own;
+pub use reading::{Reading, rule_named, turns_off, turns_on};
 pub use yl_settings::RuleOptions;
 
 /// A law: of bytes one thing is said, want of memory apart.

@@ -26,8 +26,8 @@ fn is_lone_end<A: Allocator>(document: &BuiltDocument<'_, '_, A>) -> bool
     }
 }
 
-/// These documents from the first on that is one of a configuration.
-fn from_own<'c, 'a, 'b, A: Allocator>(
+/// These documents from the first on that is one of a configuration: a marker `...` alone is none.
+pub fn from_own<'c, 'a, 'b, A: Allocator>(
     documents: &'c [BuiltDocument<'a, 'b, A>],
 ) -> &'c [BuiltDocument<'a, 'b, A>]
     ensures { result.now ≡ from_own documents.now }

@@ -21,7 +21,7 @@ use yl_text::{Pos, RuleId};
 /// Where a text begins.
 const ORIGIN: Pos = Pos { line: 0, col: 0 };
 
-/// What was read so far.
+/// What was read of a configuration's document so far: what it says, and the first in the text of what does not fit.
 #[derive(Clone, Copy)]
 pub struct Reading {
     pub config: Config,
@@ -44,7 +44,7 @@ fn is_unchecked_rule(name: &str) -> bool
 }
 
 /// The rule of this name, if it is one that is checked.
-fn rule_named(name: &str) -> Option<RuleId>
+pub fn rule_named(name: &str) -> Option<RuleId>
     ensures { result ≡ rule_named name.now }
 {
     match name {
@@ -70,13 +70,15 @@ fn rule_named(name: &str) -> Option<RuleId>
     }
 }
 
-fn turns_on(kind: EventKind<'_>) -> bool
+/// Whether a rule that has this value is on, with the options that it has in what is extended.
+pub fn turns_on(kind: EventKind<'_>) -> bool
     ensures { result ≡ turns_on (kind_value kind.entry) }
 {
     word(kind) == "enable" || is_true_word(plain_word(kind))
 }
 
-fn turns_off(kind: EventKind<'_>) -> bool
+/// Whether a rule that has this value is off.
+pub fn turns_off(kind: EventKind<'_>) -> bool
     ensures { result ≡ turns_off (kind_value kind.entry) }
 {
     word(kind) == "disable" || is_false_word(plain_word(kind))
@@ -92,8 +94,8 @@ impl Reading {
         self.first = Some(earlier(self.first, Misfit { kind, place }));
     }
 
-    /// Notes what does not fit at a value.
-    fn note_value(&mut self, kind: MisfitKind, key: Pos, item: &Item<'_>)
+    /// Notes what does not fit at a value; an alias is always a `BadValue`. Where the value has no place, `key` is told.
+    pub fn note_value(&mut self, kind: MisfitKind, key: Pos, item: &Item<'_>)
         ensures first { self.new.first ≡ earliest self.old.first (at_value kind key (kind_value item.now.kind) item.now.place) }
         ensures config { self.new.config ≡ self.old.config }
     {
@@ -232,8 +234,14 @@ impl Reading {
         }
     }
 
-    /// Reads the value of `rules`.
-    fn read_rules_value(&mut self, base: &Config, key: Pos, events: &[Event<'_>], item: &Item<'_>)
+    /// Reads the value of `rules`, which is laid over the configuration that is extended.
+    pub fn read_rules_value(
+        &mut self,
+        base: &Config,
+        key: Pos,
+        events: &[Event<'_>],
+        item: &Item<'_>,
+    )
         requires { item.now.inside ≤ length events.now }
         ensures first { self.new.first ≡ earliest self.old.first (rules_misfits key (item_value events.now item.now)) }
         ensures said { config_settings self.new.config ≡ (if starts_mapping (kind_value item.now.kind)
