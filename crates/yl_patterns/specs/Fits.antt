@@ -1,7 +1,6 @@
 -- Meaning: whether a path fits the items of a pattern. A path is names with `/` between them. The items are held against its characters
 -- from the first on.
-use Rattle.std.specs.Prelude.{ℕ, Bool, true, false, not, ◌&&◌, ◌||◌, ◌==◌, nat_le, List, [], ◌∷◌}
-use Rattle.std.specs.Bool.{xor}
+use Rattle.std.specs.Prelude.{ℕ, Bool, true, false, not, ◌&&◌, ◌||◌, ◌==◌, nat_le, if◌then◌else◌, List, [], ◌∷◌}
 use Prim.Native.Char.{code}
 use Rattle.yl_patterns.specs.declared.item.Item.{Item}
 use Rattle.yl_patterns.specs.declared.item.Item.TheVariants.{Character, AnyCharacter, Class, Range, Star, Folders}
@@ -23,7 +22,7 @@ is_in_ranges _ c = false
 abbrev pub stands_for : Item → List Item → ℕ → Bool
 stands_for (Character x) is c = c == x
 stands_for AnyCharacter is c = not (is_slash c)
-stands_for (Class negated) is c = not (is_slash c) && xor (is_in_ranges is c) negated
+stands_for (Class negated) is c = not (is_slash c) && (if negated then not (is_in_ranges is c) else is_in_ranges is c)
 stands_for (Range first last) is c = false
 stands_for Star is c = false
 stands_for Folders is c = false

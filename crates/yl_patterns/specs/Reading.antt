@@ -1,5 +1,5 @@
 -- Meaning: the items that a line's pattern is, in the manner of gitignore. A pattern has parts with `/` between them.
-use Rattle.std.specs.Prelude.{ℕ, zero, suc, ◌+◌, ◌-◌, ◌==◌, nat_lt, Bool, true, false, not, ◌&&◌, ◌||◌, if◌then◌else◌, List, [], ◌∷◌, length, drop, slice_index, position, Option, Some, None}
+use Rattle.std.specs.Prelude.{ℕ, zero, suc, ◌+◌, ◌-◌, ◌==◌, nat_lt, Bool, true, false, not, ◌&&◌, ◌||◌, if◌then◌else◌, List, [], ◌∷◌, ◌++◌, length, drop, slice_index, position, Option, Some, None}
 use Rattle.std.specs.Option.{option_map, option_and_then, option_map_or}
 use Prim.Native.Char.{code}
 use Rattle.yl_patterns.specs.declared.item.Item.{Item}
@@ -92,9 +92,16 @@ items_of cs = items_behind Front 0 cs
 abbrev pub is_one_part : List ℕ → Bool
 is_one_part cs = option_map_or (λ k. k + 1 == length cs) (position is_slash cs) true
 
--- a `/` in front binds to the first name of a path. One part alone may lie anywhere
+-- one part alone may lie anywhere
+abbrev pub front_items : List ℕ → List Item
+front_items cs = if is_one_part cs then Folders ∷ [] else []
+
+-- a `/` in front says that it may not
+abbrev pub unanchored : List ℕ → List ℕ
+unanchored cs = if has cs 0 (code "/") then drop 1 cs else cs
+
+-- a `/` alone is a name without characters
 abbrev pub pattern_items : List ℕ → Option (List Item)
 pattern_items cs =
     if length cs == 0 then None else
-    if has cs 0 (code "/") then (if length cs == 1 then Some [] else items_of (drop 1 cs)) else
-    if is_one_part cs then option_map (λ is. Folders ∷ is) (items_of cs) else items_of cs
+    if (length cs == 1) && has cs 0 (code "/") then Some [] else option_map (λ is. front_items cs ++ is) (items_of (unanchored cs))

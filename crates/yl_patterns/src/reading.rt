@@ -2,7 +2,7 @@
 ghost use Rattle.std.specs.Prelude.{◌≡◌, ◌++◌, ◌<◌, IfOk, IfSome, MatchResult, OnOk, Some, None, length, position};
 ghost use Rattle.std.specs.Str.{chars};
 ghost use Rattle.yl_patterns.specs.Fits.{is_slash};
-ghost use Rattle.yl_patterns.specs.Reading.{is_one_part, items_of, last_items, pattern_items};
+ghost use Rattle.yl_patterns.specs.Reading.{front_items, is_one_part, items_of, last_items, pattern_items, unanchored};
 ghost use Rattle.yl_patterns.specs.Answers.{Gives, GivesLine};
 ghost use Rattle.yl_patterns.specs.Patterns.{line_of_chars, said};
 
@@ -85,25 +85,42 @@ fn is_one_part(text: &[char]) -> bool
     }
 }
 
-// The items of a pattern without its `!`.
-fn pattern_items<A: Allocator + Copy>(alloc: A, text: &[char]) -> Result<Vec<Item, A>, PatternFault>
-    ensures { MatchResult result (λ v. pattern_items text.now ≡ Some v.items)
-        (λ e. e ≡ PatternFault.BadPattern → pattern_items text.now ≡ None) }
+// The items that stand before those of a pattern's text.
+fn front_items<A: Allocator>(alloc: A, text: &[char]) -> Result<Vec<Item, A>, AllocError>
+    ensures { IfOk result (λ v. v.items ≡ front_items text.now) }
 {
     let mut items = Vec::new(alloc);
-    if text.is_empty() {
-        return Err(PatternFault::BadPattern);
-    }
-    if text[0] == '/' {
-        if text.len() > 1 {
-            push_items(alloc, &text[1..], &mut items)?;
-        }
-        return Ok(items);
-    }
     if is_one_part(text) {
         items.push(Item::Folders)?;
     }
-    push_items(alloc, text, &mut items)?;
+    Ok(items)
+}
+
+// A pattern without the `/` in front of it.
+fn unanchored(text: &[char]) -> &[char]
+    ensures { result.now ≡ unanchored text.now }
+{
+    match text {
+        ['/', rest @ ..] => rest,
+        _ => text,
+    }
+}
+
+// The items of a pattern without its `!`.
+fn pattern_items<A: Allocator + Copy>(
+    alloc: A,
+    text: &[char],
+) -> Result<Vec<Item, A>, PatternFault>
+    ensures { MatchResult result (λ v. pattern_items text.now ≡ Some v.items)
+        (λ e. e ≡ PatternFault.BadPattern → pattern_items text.now ≡ None) }
+{
+    match text {
+        [] => return Err(PatternFault::BadPattern),
+        ['/'] => return Ok(Vec::new(alloc)),
+        _ => {}
+    }
+    let mut items = front_items(alloc, text)?;
+    push_items(alloc, unanchored(text), &mut items)?;
     Ok(items)
 }
 

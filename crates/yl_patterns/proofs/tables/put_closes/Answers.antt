@@ -9,7 +9,7 @@ loop-k-preserved c =
     let cs = c.args.text.now in
     let table = c.loop-k.table in
     let k = c.loop-k.k in
-    let x = c.index-c.result in
-    let at : IsAt cs table k x = record { some = omega arith; within = omega arith; len = omega (arith, length-set c.args.table.now); read = c.index-c.is } in
+    let x = c.index-text-k.result in
+    let at : IsAt cs table k x = record { some = omega arith; within = omega arith; len = omega (arith, length-set c.args.table.now); read = c.index-text-k.is } in
     from_more has_close cs table k x _ at
     (ap (λ (b : Bool). not (eqb x 47) && (eqb x 93 || b)) (read_from has_close cs table k x at c.loop-k.invariant)) c.loop-k.invariant
