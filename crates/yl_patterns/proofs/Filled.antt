@@ -1,5 +1,5 @@
 -- Tables that are filled from their end.
-use Rattle.std.proofs.Common.{◌≡◌, ◌+◌, ◌-◌, ◌<◌, ◌≤◌, ◌≢◌, ◌⊎◌, ℕ, inl, inr, Bool, false, ◌||◌, ◌&&◌, List, ◌∷◌, length, get_or, set, drop, sym, ap, ◌∙◌, subst, arith}
+use Rattle.std.proofs.Common.{◌≡◌, ◌+◌, ◌-◌, ◌<◌, ◌≤◌, ℕ, inl, inr, Bool, false, List, ◌∷◌, length, get_or, set, drop, sym, ap, ◌∙◌, subst, arith}
 use Rattle.std.proofs.lemmas.Bool.{cases_order}
 use Rattle.std.proofs.lemmas.List.{at_drop_more, get_or-set_same, get_or-set_other, get_or-drop, drop-drop, length-drop}
 use Rattle.yl_patterns.specs.Tables.{IsTable}

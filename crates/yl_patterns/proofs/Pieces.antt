@@ -1,5 +1,5 @@
 -- The items of a text, a piece after another.
-use Rattle.std.proofs.Common.{◌≡◌, ◌+◌, ◌-◌, ◌<◌, ◌≤◌, ℕ, zero, suc, List, [], ◌∷◌, ◌++◌, Option, Some, None, length, get_or, drop, refl, sym, ap, ◌∙◌, arith, append_assoc}
+use Rattle.std.proofs.Common.{◌≡◌, ◌+◌, ◌-◌, ◌<◌, ℕ, zero, suc, List, [], ◌∷◌, ◌++◌, Option, Some, None, length, get_or, drop, refl, sym, ap, ◌∙◌, arith, append_assoc}
 use Rattle.std.proofs.lemmas.List.{drop_more, drop-drop}
 use Rattle.std.specs.Option.{option_map, option_and_then}
 use Rattle.yl_patterns.specs.declared.item.Item.{Item}
@@ -31,8 +31,8 @@ items_more place cs at p xs h some e =
     let here = first_piece place (get_or cs at 0) (drop (at + 1) cs) (Some p) (ap (piece_of place) (sym split) ∙ e) in
     let same : at + 1 + (p.len - 1) ≡ at + p.len = omega arith in
     let rest =
-        skipped p.next (p.len - 1) (drop (at + 1) cs) ∙ ap (λ l. items_behind p.next 0 l) (drop-drop (p.len - 1) (at + 1) cs)
-        ∙ ap (λ (n : ℕ). items_behind p.next 0 (drop n cs)) same in
+    skipped p.next (p.len - 1) (drop (at + 1) cs) ∙ ap (λ l. items_behind p.next 0 l) (drop-drop (p.len - 1) (at + 1) cs)
+    ∙ ap (λ (n : ℕ). items_behind p.next 0 (drop n cs)) same in
     ap (λ l. joined xs (items_behind place 0 l)) split ∙ ap (joined xs) here ∙ join_more xs p.item (items_behind p.next (p.len - 1) (drop (at + 1) cs))
     ∙ ap (joined (xs ++ p.item ∷ [])) rest
 

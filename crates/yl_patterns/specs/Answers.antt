@@ -1,5 +1,5 @@
 -- Bridge: what reading a line answers.
-use Rattle.std.specs.Prelude.{◌≡◌, ◌++◌, List, Option, Some, None, Result, Ok, Err, MatchResult}
+use Rattle.std.specs.Prelude.{◌≡◌, ◌++◌, List, Option, Some, None, Result, MatchResult}
 use Rattle.std.specs.Option.{option_map}
 use Rattle.yl_patterns.specs.declared.item.Item.{Item}
 use Rattle.yl_patterns.specs.declared.fault.PatternFault.{PatternFault}

@@ -1,6 +1,5 @@
 -- Meaning: patterns of paths. Each stands in a line; the last one that a path fits decides.
-use Rattle.std.specs.Prelude.{◌≡◌, ℕ, ◌==◌, Bool, true, false, not, ◌&&◌, ◌||◌, if◌then◌else◌, List, [], ◌∷◌, ◌++◌, length, drop, Option, Some, None}
-use Rattle.std.specs.Option.{option_map_or}
+use Rattle.std.specs.Prelude.{ℕ, ◌==◌, Bool, true, false, not, ◌&&◌, ◌||◌, if◌then◌else◌, List, [], ◌∷◌, ◌++◌, length, drop, Option, Some, None}
 use Rattle.std.specs.Str.{chars, trim}
 use Prim.Native.Char.{code}
 use Rattle.yl_patterns.specs.declared.item.Item.{Item}

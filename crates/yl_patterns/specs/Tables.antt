@@ -1,5 +1,5 @@
 -- Bridge: tables over a text, with an answer for each place of it and for its end.
-use Rattle.std.specs.Prelude.{◌≡◌, ℕ, suc, ◌+◌, ◌≤◌, Bool, false, List, length, drop, slice_index_or}
+use Rattle.std.specs.Prelude.{◌≡◌, ℕ, ◌+◌, ◌≤◌, Bool, false, List, length, drop, slice_index_or}
 
 -- at each place a table has what this test answers of the text from there on
 pub record IsTable (test : List ℕ → Bool) (cs : List ℕ) (table : List Bool) : Type 0 where

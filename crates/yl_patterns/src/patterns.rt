@@ -61,7 +61,11 @@ impl<A: Allocator + Copy> Patterns<A> {
         let mut row = vec![in alloc; false; path.len() + 1]?;
         let mut answer = false;
         for pattern in &self.patterns {
-            if fits(pattern.items.as_slice(), path.as_slice(), row.as_mut_slice()) {
+            if fits(
+                pattern.items.as_slice(),
+                path.as_slice(),
+                row.as_mut_slice(),
+            ) {
                 answer = !pattern.takes_back;
             }
         }

@@ -107,10 +107,7 @@ fn unanchored(text: &[char]) -> &[char]
 }
 
 // The items of a pattern without its `!`.
-fn pattern_items<A: Allocator + Copy>(
-    alloc: A,
-    text: &[char],
-) -> Result<Vec<Item, A>, PatternFault>
+fn pattern_items<A: Allocator + Copy>(alloc: A, text: &[char]) -> Result<Vec<Item, A>, PatternFault>
     ensures { MatchResult result (λ v. pattern_items text.now ≡ Some v.items)
         (λ e. e ≡ PatternFault.BadPattern → pattern_items text.now ≡ None) }
 {
@@ -124,7 +121,11 @@ fn pattern_items<A: Allocator + Copy>(
     Ok(items)
 }
 
-fn pattern_of<A: Allocator + Copy>(alloc: A, takes_back: bool, text: &[char]) -> Result<Option<Pattern<A>>, PatternFault>
+fn pattern_of<A: Allocator + Copy>(
+    alloc: A,
+    takes_back: bool,
+    text: &[char],
+) -> Result<Option<Pattern<A>>, PatternFault>
     ensures { GivesLine result (said takes_back (pattern_items text.now)) }
 {
     let items = pattern_items(alloc, text)?;

@@ -1,4 +1,4 @@
-use Rattle.std.proofs.Common.{◌≡◌, List, ℕ, Bool, sym, subst, inl, inr}
+use Rattle.std.proofs.Common.{List, ℕ, Bool, sym, subst, inl, inr}
 use Rattle.yl_patterns.specs.declared.item.Item.{Item}
 use Rattle.yl_patterns.specs.Fits.{item_fits, one_fits, stands_for}
 use Rattle.yl_patterns.specs.Tables.{IsTable}

@@ -1,4 +1,4 @@
-use Rattle.std.proofs.Common.{◌≡◌, ◌&&◌, Bool, ap, ◌∙◌, arith, drop, ◌-◌, ◌+◌}
+use Rattle.std.proofs.Common.{◌&&◌, Bool, ap, ◌∙◌, arith, ◌-◌}
 use Rattle.std.proofs.lemmas.List.{length-set}
 use Rattle.yl_patterns.specs.Fits.{one_fits, stands_for}
 use Rattle.yl_patterns.proofs.Filled.{IsAt, before_less, from_more, table_from}

@@ -1,4 +1,4 @@
-use Rattle.std.proofs.Common.{◌≡◌, ◌||◌, ◌&&◌, Bool, not, eqb, ap, ◌∙◌, arith, get_or, false, drop, ◌∷◌, ◌-◌, ◌+◌}
+use Rattle.std.proofs.Common.{◌||◌, ◌&&◌, Bool, not, eqb, ap, ◌∙◌, arith, get_or, false, drop, ◌∷◌, ◌-◌, ◌+◌}
 use Rattle.yl_patterns.specs.Fits.{run_fits}
 use Rattle.yl_patterns.proofs.Filled.{IsAt, before_less, from_more, read_before, read_from, table_from}
 use Rattle.yl_patterns.proofs.fitting.put_run.Goals as goal

@@ -1,4 +1,4 @@
-use Rattle.std.proofs.Common.{◌≡◌, ◌∙◌, ◌+◌, length, drop, sym, ap, arith}
+use Rattle.std.proofs.Common.{◌∙◌, ◌+◌, length, drop, sym, ap, arith}
 use Rattle.std.proofs.lemmas.List.{length-drop, take_rest}
 use Rattle.yl_patterns.specs.Reading.{items_behind, piece_of}
 use Rattle.yl_patterns.proofs.Pieces.{items_more, joined}

@@ -1,4 +1,4 @@
-use Rattle.std.proofs.Common.{◌≡◌, Bool, true, false, not, cond, eqb, refl, sym, ap, ◌∙◌, ◌&&◌, subst}
+use Rattle.std.proofs.Common.{◌≡◌, Bool, true, false, not, cond, refl, sym, ap, ◌∙◌, ◌&&◌, subst}
 use Rattle.std.proofs.lemmas.Bool.{ne_eqb}
 use Rattle.std.specs.Bool.{beq}
 use Rattle.yl_patterns.specs.Fits.{is_in_ranges, stands_for}
@@ -18,4 +18,4 @@ returns-then-c-ne47 c =
     let is = c.args.behind.now in
     subst (λ i. not (beq r n) ≡ stands_for i is x) (sym c.in-Class.is)
     (differ r n ∙ ap (λ (b : Bool). cond n (not b) b) c.is_in_ranges.ensures
-     ∙ ap (λ (b : Bool). not b && cond n (not (is_in_ranges is x)) (is_in_ranges is x)) (sym (ne_eqb x 47 c.if-c-ne47.true)))
+    ∙ ap (λ (b : Bool). not b && cond n (not (is_in_ranges is x)) (is_in_ranges is x)) (sym (ne_eqb x 47 c.if-c-ne47.true)))

@@ -1,5 +1,4 @@
 use Rattle.std.proofs.Common.{◌≡◌, ◌+◌, drop, length, map}
-use Rattle.std.specs.Str.{chars}
 use Rattle.yl_patterns.specs.Answers.{pattern_value}
 use Rattle.yl_patterns.specs.Patterns.{answer_after, is_among}
 use Rattle.yl_patterns.proofs.patterns.Patterns.fits.Given as goal
