@@ -19,6 +19,7 @@ pub(crate) fn mark_of(rule: RuleId) -> &'static [u8]
 }
 
 /// A rule's name and what stands before and behind it.
+#[derive(Clone, Copy)]
 pub(crate) struct NameParts {
     pub(crate) before: &'static [u8],
     pub(crate) name: &'static [u8],
