@@ -27,11 +27,7 @@ pub(crate) struct NameParts {
 }
 
 /// A rule's name between two texts, all of them empty for the fault of a text.
-pub(crate) fn name_between(
-    before: &'static [u8],
-    rule: RuleId,
-    after: &'static [u8],
-) -> NameParts
+pub(crate) fn name_between(before: &'static [u8], rule: RuleId, after: &'static [u8]) -> NameParts
     ensures { result.before.now ++ (result.name.now ++ result.after.now) ≡ rule_between before.now rule after.now }
 {
     if is_syntax(rule) {

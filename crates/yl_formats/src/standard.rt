@@ -34,8 +34,10 @@ fn parts_of<'a>(
     let column = column.as_bytes();
     let level = level.as_bytes();
     let before_level: &'a [u8] = spaces_behind(&[start, line, colon, column], 12);
-    let before_message: &'a [u8] =
-        spaces_behind(&[start, line, colon, column, before_level, level], 21);
+    let before_message: &'a [u8] = spaces_behind(
+        &[start, line, colon, column, before_level, level],
+        21,
+    );
     let mark: &'a [u8] = mark_of(rule);
     let rule = name_between(b"  (", rule, b")");
     [

@@ -70,8 +70,16 @@ fn as_yamllint_prints(rt: HostRuntime) -> Result<(), Fail> {
     for (rows, prints) in rows {
         let problems = problems_of(rt.alloc(), rows)?;
         for print in prints {
-            assert!(rt; is_printed(rt.alloc(), problems.as_slice(), print), "{}", print.2);
-            assert!(rt; stops_at_each_write(rt.alloc(), problems.as_slice(), print), "{}", print.2);
+            assert!(rt;
+                is_printed(rt.alloc(), problems.as_slice(), print),
+                "{}",
+                print.2
+            );
+            assert!(rt;
+                stops_at_each_write(rt.alloc(), problems.as_slice(), print),
+                "{}",
+                print.2
+            );
         }
     }
     Ok(())
