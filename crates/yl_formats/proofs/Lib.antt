@@ -1,0 +1,3 @@
+mod Examples
+pub mod Listed
+pub mod Widths

@@ -1,0 +1,98 @@
+//! A problem in columns, with a terminal's colours.
+ghost use Rattle.std.specs.Prelude.{◌≡◌, ◌-◌, ◌^◌, ◌<◌, ◌∷◌, ◌++◌, OnOk, OnErr, codes};
+ghost use Rattle.std.specs.List.{flat_map};
+ghost use Rattle.yl_text.specs.Watched.{device_of, failures_of};
+ghost use Rattle.yl_devices.specs.Written.{AppendsFront, Passes};
+ghost use Rattle.yl_formats.specs.Formats.{colored_level, colored_line, padded, rule_between, syntax_mark, with_attribute};
+
+use crate::rule::{mark_of, name_between};
+use crate::spaces::spaces_behind;
+use itoa::Buffer;
+use std::alloc::Allocator;
+use std::io::Write;
+use yl_devices::{Waiting, WriteFault, put_parts};
+use yl_report::Problem;
+use yl_rules::Level;
+use yl_text::{RuleId, Watched};
+
+// The name of a level in its colour.
+fn colored_name(level: Level) -> &'static [u8]
+    ensures { result.now ≡ colored_level level }
+{
+    match level {
+        Level::Warning => b"\x1b[33mwarning\x1b[0m",
+        Level::Error => b"\x1b[31merror\x1b[0m",
+    }
+}
+
+// The pieces of a printed line.
+fn parts_of<'a>(
+    line: &'a str,
+    column: &'a str,
+    level: Level,
+    message: &'a str,
+    rule: RuleId,
+) -> [&'a [u8]; 14]
+    ensures { flat_map (λ part. part.now) result
+        ≡ padded (padded (codes "  " ++ with_attribute (codes "2") (line.now ++ codes ":" ++ column.now)) 20 ++ colored_level level) 38
+        ++ message.now ++ syntax_mark rule
+        ++ rule_between (codes "  " ++ 27 ∷ codes "[2m(") rule (codes ")" ++ 27 ∷ codes "[0m") ++ codes "\n" }
+{
+    // Each of these is lent for as long as the other pieces, which an array of them asks.
+    let start: &'a [u8] = b"  \x1b[2m";
+    let colon: &'a [u8] = b":";
+    let plain: &'a [u8] = b"\x1b[0m";
+    let end: &'a [u8] = b"\n";
+    let line = line.as_bytes();
+    let column = column.as_bytes();
+    let level: &'a [u8] = colored_name(level);
+    let before_level: &'a [u8] = spaces_behind(&[start, line, colon, column, plain], 20);
+    let before_message: &'a [u8] = spaces_behind(
+        &[start, line, colon, column, plain, before_level, level],
+        38,
+    );
+    let mark: &'a [u8] = mark_of(rule);
+    let rule = name_between(b"  \x1b[2m(", rule, b")\x1b[0m");
+    [
+        start,
+        line,
+        colon,
+        column,
+        plain,
+        before_level,
+        level,
+        before_message,
+        message.as_bytes(),
+        mark,
+        rule.before,
+        rule.name,
+        rule.after,
+        end,
+    ]
+}
+
+/// Puts the line of a problem behind what waits.
+pub(crate) fn put_line<W: Write, A: Allocator>(
+    problem: &Problem<A>,
+    out: &mut Watched<W>,
+    waiting: &mut Waiting,
+) -> Result<(), WriteFault>
+    requires { failures_of out.old < 2 ^ 64 - 1 }
+    ensures ok { OnOk result (Passes (W.contents (device_of out.old)) (W.contents (device_of out.new))
+        waiting.old.items (colored_line problem.now) waiting.new.items) }
+    ensures quiet { OnOk result (failures_of out.new ≡ failures_of out.old) }
+    ensures err { OnErr result (AppendsFront (W.contents (device_of out.old)) (W.contents (device_of out.new))
+        (waiting.old.items ++ colored_line problem.now)) }
+    ensures failed { OnErr result (failures_of out.old < failures_of out.new) }
+{
+    let mut line = Buffer::new();
+    let mut column = Buffer::new();
+    let line = line.format(problem.line());
+    let column = column.format(problem.column());
+    let level = problem.level();
+    put_parts(
+        out,
+        waiting,
+        &parts_of(line, column, level, problem.message(), problem.rule()),
+    )
+}

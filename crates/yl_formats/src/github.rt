@@ -1,0 +1,90 @@
+//! A problem as a command of a workflow of GitHub.
+ghost use Rattle.std.specs.Prelude.{◌≡◌, ◌-◌, ◌^◌, ◌<◌, ◌++◌, OnOk, OnErr, codes};
+ghost use Rattle.std.specs.List.{flat_map};
+ghost use Rattle.yl_text.specs.Watched.{device_of, failures_of};
+ghost use Rattle.yl_devices.specs.Written.{AppendsFront, Passes};
+ghost use Rattle.yl_formats.specs.Formats.{github_line, rule_between, syntax_mark};
+
+use crate::rule::{mark_of, name_between};
+use itoa::Buffer;
+use std::alloc::Allocator;
+use std::io::Write;
+use yl_devices::{Waiting, WriteFault, put_parts};
+use yl_report::Problem;
+use yl_text::{RuleId, Watched};
+
+// The pieces of a printed line.
+fn parts_of<'a>(
+    name: &'a str,
+    line: &'a str,
+    column: &'a str,
+    level: &'a str,
+    message: &'a str,
+    rule: RuleId,
+) -> [&'a [u8]; 19]
+    ensures { flat_map (λ part. part.now) result
+        ≡ codes "::" ++ level.now ++ codes " file=" ++ name.now ++ codes ",line=" ++ line.now ++ codes ",col=" ++ column.now
+        ++ codes "::" ++ (line.now ++ codes ":" ++ column.now) ++ codes " " ++ rule_between (codes "[") rule (codes "] ")
+        ++ message.now ++ syntax_mark rule ++ codes "\n" }
+{
+    // Each of these is lent for as long as the other pieces, which an array of them asks.
+    let colons: &'a [u8] = b"::";
+    let before_name: &'a [u8] = b" file=";
+    let before_line: &'a [u8] = b",line=";
+    let before_column: &'a [u8] = b",col=";
+    let colon: &'a [u8] = b":";
+    let space: &'a [u8] = b" ";
+    let end: &'a [u8] = b"\n";
+    let line = line.as_bytes();
+    let column = column.as_bytes();
+    let mark: &'a [u8] = mark_of(rule);
+    let rule = name_between(b"[", rule, b"] ");
+    [
+        colons,
+        level.as_bytes(),
+        before_name,
+        name.as_bytes(),
+        before_line,
+        line,
+        before_column,
+        column,
+        colons,
+        line,
+        colon,
+        column,
+        space,
+        rule.before,
+        rule.name,
+        rule.after,
+        message.as_bytes(),
+        mark,
+        end,
+    ]
+}
+
+/// Puts the line of a problem of the file of this name behind what waits.
+pub(crate) fn put_line<W: Write, A: Allocator>(
+    name: &str,
+    problem: &Problem<A>,
+    out: &mut Watched<W>,
+    waiting: &mut Waiting,
+) -> Result<(), WriteFault>
+    requires { failures_of out.old < 2 ^ 64 - 1 }
+    ensures ok { OnOk result (Passes (W.contents (device_of out.old)) (W.contents (device_of out.new))
+        waiting.old.items (github_line name.now problem.now) waiting.new.items) }
+    ensures quiet { OnOk result (failures_of out.new ≡ failures_of out.old) }
+    ensures err { OnErr result (AppendsFront (W.contents (device_of out.old)) (W.contents (device_of out.new))
+        (waiting.old.items ++ github_line name.now problem.now)) }
+    ensures failed { OnErr result (failures_of out.old < failures_of out.new) }
+{
+    let mut line = Buffer::new();
+    let mut column = Buffer::new();
+    let line = line.format(problem.line());
+    let column = column.format(problem.column());
+    let level = problem.level().name();
+    put_parts(
+        out,
+        waiting,
+        &parts_of(name, line, column, level, problem.message(), problem.rule()),
+    )
+}

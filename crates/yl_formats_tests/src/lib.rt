@@ -1,0 +1,9 @@
+//! Tests of the formats against what yamllint prints of the same problems, and with a writer that fails.
+#![tactic(auto)]
+
+#[cfg(test)]
+mod printing;
+#[cfg(test)]
+mod rows;
+#[cfg(test)]
+mod writer;

@@ -1,0 +1,86 @@
+//! What is printed.
+use crate::rows::{DIGITS, DIGITS_PRINTS, MIXED, MIXED_PRINTS, Print, Row, WARNED, WARNED_PRINTS};
+use crate::writer::MemoryWriter;
+use std::alloc::{AllocError, Global};
+use std::test::Fail;
+use yl_devices::WriteFault;
+use yl_formats::{Format, write_problems};
+use yl_report::Problem;
+use yl_text::{Finding, Watched};
+
+const NAME: &str = "a b.yaml";
+
+fn problems_of(alloc: Global, rows: &[Row]) -> Result<Vec<Problem<Global>>, AllocError> {
+    let mut problems = Vec::new(alloc);
+    for (line, column, level, rule, message) in rows {
+        let found = Finding::fixed(*line, *column, *rule, message);
+        problems.push(Problem::new(found, *level))?;
+    }
+    Ok(problems)
+}
+
+// What a writer has that takes so many bytes a call and fails at a call, and what the printing answers.
+fn printed(
+    problems: &[Problem<Global>],
+    format: Format,
+    no_warnings: bool,
+    most: usize,
+    fails_at: u64,
+    alloc: Global,
+) -> (Vec<u8>, Result<(), WriteFault>) {
+    let mut out = Watched::new(MemoryWriter {
+        bytes: Vec::new(alloc),
+        most,
+        calls: 0,
+        fails_at,
+    });
+    let answer = write_problems(format, NAME, problems, no_warnings, &mut out);
+    (out.into_inner().bytes, answer)
+}
+
+// Whether a text is what is printed of problems.
+fn is_printed(alloc: Global, problems: &[Problem<Global>], print: &Print) -> bool {
+    let (format, no_warnings, text) = *print;
+    let (bytes, answer) = printed(problems, format, no_warnings, usize::MAX, 0, alloc);
+    answer == Ok(()) && bytes.as_slice() == text.as_bytes()
+}
+
+// Whether a writer that fails at a call, each in turn, has a beginning of the text.
+fn stops_at_each_write(alloc: Global, problems: &[Problem<Global>], print: &Print) -> bool {
+    let (format, no_warnings, text) = *print;
+    for nth in 1..u64::MAX {
+        let (bytes, answer) = printed(problems, format, no_warnings, 7, nth, alloc);
+        if answer == Ok(()) {
+            return bytes.as_slice() == text.as_bytes();
+        }
+        if !text.as_bytes().starts_with(bytes.as_slice()) {
+            return false;
+        }
+    }
+    false
+}
+
+#[test]
+fn as_yamllint_prints(rt: HostRuntime) -> Result<(), Fail> {
+    let rows: [(&[Row], &[Print]); 3] = [
+        (&MIXED, &MIXED_PRINTS),
+        (&WARNED, &WARNED_PRINTS),
+        (&DIGITS, &DIGITS_PRINTS),
+    ];
+    for (rows, prints) in rows {
+        let problems = problems_of(rt.alloc(), rows)?;
+        for print in prints {
+            assert!(rt;
+                is_printed(rt.alloc(), problems.as_slice(), print),
+                "{}",
+                print.2
+            );
+            assert!(rt;
+                stops_at_each_write(rt.alloc(), problems.as_slice(), print),
+                "{}",
+                print.2
+            );
+        }
+    }
+    Ok(())
+}
