@@ -1,3 +1,4 @@
 mod Examples
 pub mod Listed
+pub mod Pieces
 pub mod Widths

@@ -43,8 +43,8 @@ fn parts_of<'a>(
     let colon: &'a [u8] = b":";
     let plain: &'a [u8] = b"\x1b[0m";
     let end: &'a [u8] = b"\n";
-    let line = line.as_bytes();
-    let column = column.as_bytes();
+    let line: &'a [u8] = line.as_bytes();
+    let column: &'a [u8] = column.as_bytes();
     let level: &'a [u8] = colored_name(level);
     let before_level: &'a [u8] = spaces_behind(&[start, line, colon, column, plain], 20);
     let before_message: &'a [u8] = spaces_behind(
@@ -53,6 +53,9 @@ fn parts_of<'a>(
     );
     let mark: &'a [u8] = mark_of(rule);
     let rule = name_between(b"  \x1b[2m(", rule, b")\x1b[0m");
+    let before_rule: &'a [u8] = rule.before;
+    let rule_name: &'a [u8] = rule.name;
+    let after_rule: &'a [u8] = rule.after;
     [
         start,
         line,
@@ -64,9 +67,9 @@ fn parts_of<'a>(
         before_message,
         message.as_bytes(),
         mark,
-        rule.before,
-        rule.name,
-        rule.after,
+        before_rule,
+        rule_name,
+        after_rule,
         end,
     ]
 }

@@ -35,10 +35,13 @@ fn parts_of<'a>(
     let colon: &'a [u8] = b":";
     let space: &'a [u8] = b" ";
     let end: &'a [u8] = b"\n";
-    let line = line.as_bytes();
-    let column = column.as_bytes();
+    let line: &'a [u8] = line.as_bytes();
+    let column: &'a [u8] = column.as_bytes();
     let mark: &'a [u8] = mark_of(rule);
     let rule = name_between(b"[", rule, b"] ");
+    let before_rule: &'a [u8] = rule.before;
+    let rule_name: &'a [u8] = rule.name;
+    let after_rule: &'a [u8] = rule.after;
     [
         colons,
         level.as_bytes(),
@@ -53,9 +56,9 @@ fn parts_of<'a>(
         colon,
         column,
         space,
-        rule.before,
-        rule.name,
-        rule.after,
+        before_rule,
+        rule_name,
+        after_rule,
         message.as_bytes(),
         mark,
         end,

@@ -30,9 +30,9 @@ fn parts_of<'a>(
     let start: &'a [u8] = b"  ";
     let colon: &'a [u8] = b":";
     let end: &'a [u8] = b"\n";
-    let line = line.as_bytes();
-    let column = column.as_bytes();
-    let level = level.as_bytes();
+    let line: &'a [u8] = line.as_bytes();
+    let column: &'a [u8] = column.as_bytes();
+    let level: &'a [u8] = level.as_bytes();
     let before_level: &'a [u8] = spaces_behind(&[start, line, colon, column], 12);
     let before_message: &'a [u8] = spaces_behind(
         &[start, line, colon, column, before_level, level],
@@ -40,6 +40,9 @@ fn parts_of<'a>(
     );
     let mark: &'a [u8] = mark_of(rule);
     let rule = name_between(b"  (", rule, b")");
+    let before_rule: &'a [u8] = rule.before;
+    let rule_name: &'a [u8] = rule.name;
+    let after_rule: &'a [u8] = rule.after;
     [
         start,
         line,
@@ -50,9 +53,9 @@ fn parts_of<'a>(
         before_message,
         message.as_bytes(),
         mark,
-        rule.before,
-        rule.name,
-        rule.after,
+        before_rule,
+        rule_name,
+        after_rule,
         end,
     ]
 }

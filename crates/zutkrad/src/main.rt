@@ -3,7 +3,7 @@
 
 use std::fs;
 use std::process::ExitCode;
-use yl_args::{Stop, Task, asked_zutkrad};
+use yl_args::{Task, asked_zutkrad};
 use yl_chunks::ChunkStore;
 use yl_config::Config;
 use yl_devices::{ProgramFault, RunFault};
@@ -69,7 +69,6 @@ fn answered(rt: &HostRuntime) -> u8 {
     };
     match asked_zutkrad(rt.alloc(), words.as_slice()) {
         Ok(Task::Server) => served(rt),
-        Ok(Task::Check(_)) => ended(rt, NAME, Stop::Use),
         Err(stop) => ended(rt, NAME, stop),
     }
 }
