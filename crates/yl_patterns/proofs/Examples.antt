@@ -1,6 +1,6 @@
 -- Worked rows: what gitignore's documentation says of patterns.
 use Rattle.std.proofs.Common.{◌≡◌, refl, Bool, true, false, List, [], ◌∷◌, ℕ, codes}
-use Rattle.yl_patterns.specs.Patterns.{PatternValue, Line, Nothing, Bad, is_among, line_of_chars, with_line}
+use Rattle.yl_patterns.specs.Patterns.{PatternValue, Nothing, Bad, is_among, line_of_chars, with_line}
 
 abbrev patterns_of : List PatternValue → List (List ℕ) → List PatternValue
 patterns_of ps [] = ps
