@@ -1,2 +1,3 @@
+mod Examples
 pub mod Filled
 pub mod Pieces

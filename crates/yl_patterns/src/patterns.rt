@@ -1,8 +1,7 @@
 //! Lists of patterns.
-ghost use Rattle.std.specs.Prelude.{◌≡◌, ◌≢◌, [], IfOk, OnErr, MatchResult};
+ghost use Rattle.std.specs.Prelude.{◌≡◌, ◌≢◌, [], IfOk, OnOk, OnErr};
 ghost use Rattle.std.specs.Str.{chars};
-ghost use Rattle.yl_patterns.specs.Patterns.{is_among, line_of, with_line};
-ghost use Rattle.yl_patterns.specs.Patterns as spec;
+ghost use Rattle.yl_patterns.specs.Patterns.{Bad, is_among, line_of, with_line};
 
 use crate::PatternFault;
 use crate::fitting::fits;
@@ -40,8 +39,9 @@ impl<A: Allocator + Copy> Patterns<A> {
     /// Adds the pattern of a line, without the white space at both ends. A line that is empty, a comment or `/` says nothing. On a
     /// fault nothing changes.
     pub fn add(&mut self, line: &str) -> Result<(), PatternFault>
-        ensures line { MatchResult result (λ _. (line_of line.now ≢ spec.Line.Bad) × (self.new ≡ with_line self.old (line_of line.now)))
-            (λ e. e ≡ PatternFault.BadPattern → line_of line.now ≡ spec.Line.Bad) }
+        ensures ok { OnOk result (self.new ≡ with_line self.old (line_of line.now)) }
+        ensures good { OnOk result (line_of line.now ≢ Bad) }
+        ensures bad { result ≡ Err PatternFault.BadPattern → line_of line.now ≡ Bad }
         ensures err { OnErr result (self.new ≡ self.old) }
     {
         let alloc = *self.patterns.allocator();
