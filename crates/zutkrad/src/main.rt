@@ -1,9 +1,14 @@
-//! `zutkrad server`: the problems of YAML texts in an editor, as a Language Server over standard input and output.
+//! `zutkrad check`: the problems of files and folders under a project's configuration. `zutkrad server`: the problems of YAML texts in an
+//! editor, as a Language Server over standard input and output.
 #![tactic(auto)]
+
+mod check;
+mod progress;
 
 use std::fs;
 use std::process::ExitCode;
-use yl_args::{Stop, Task, asked_zutkrad};
+use check::check;
+use yl_args::{Task, asked_zutkrad};
 use yl_chunks::ChunkStore;
 use yl_config::Config;
 use yl_devices::{ProgramFault, RunFault};
@@ -69,7 +74,7 @@ fn answered(rt: &HostRuntime) -> u8 {
     };
     match asked_zutkrad(rt.alloc(), words.as_slice()) {
         Ok(Task::Server) => served(rt),
-        Ok(Task::Check(_)) => ended(rt, NAME, Stop::Use),
+        Ok(Task::Check(asked)) => check(rt, &asked),
         Err(stop) => ended(rt, NAME, stop),
     }
 }
