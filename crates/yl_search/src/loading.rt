@@ -187,7 +187,12 @@ pub fn load(
     for _ in 0..layers.len() {
         if let Some(layer) = layers.pop() {
             let bytes = layer.bytes.as_slice();
-            match Project::read(rt.alloc(), bytes, base.as_ref(), layer.ignore_lines.as_str()) {
+            match Project::read(
+                rt.alloc(),
+                bytes,
+                base.as_ref(),
+                layer.ignore_lines.as_str(),
+            ) {
                 Ok(project) => base = Some(project),
                 Err(fault) => return Err(layer.fault(fault)),
             }

@@ -1,9 +1,8 @@
 //! The files that a run lints.
 use std::alloc::{AllocError, Global};
-use std::fs;
 use std::fs::DirEntry;
-use std::io;
 use std::io::ErrorKind;
+use std::{fs, io};
 use yl_project::Project;
 
 /// What a walk comes to.
@@ -158,7 +157,9 @@ impl<'a> Walk<'a> {
         if let Ok(kind) = &kind
             && kind.is_dir()
         {
-            listing.folders.push(String::from_str(self.rt.alloc(), path.as_str())?)?;
+            listing
+                .folders
+                .push(String::from_str(self.rt.alloc(), path.as_str())?)?;
             return Ok(());
         }
         if !self.project.is_yaml(self.rt.alloc(), entry.file_name())? {
@@ -173,7 +174,9 @@ impl<'a> Walk<'a> {
             Err(_) => false,
         };
         if !is_other {
-            listing.files.push(String::from_str(self.rt.alloc(), path.as_str())?)?;
+            listing
+                .files
+                .push(String::from_str(self.rt.alloc(), path.as_str())?)?;
         }
         Ok(())
     }

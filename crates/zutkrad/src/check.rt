@@ -25,7 +25,14 @@ fn said(rt: &HostRuntime, file: &str, text: &str) -> u8 {
     let mut out = Watched::new(rt.stderr());
     let _ = write_parts(
         &mut out,
-        &[NAME.as_bytes(), start, file.as_bytes(), start, text.as_bytes(), end],
+        &[
+            NAME.as_bytes(),
+            start,
+            file.as_bytes(),
+            start,
+            text.as_bytes(),
+            end,
+        ],
     );
     FAULT
 }

@@ -5,9 +5,9 @@
 mod check;
 mod progress;
 
+use check::check;
 use std::fs;
 use std::process::ExitCode;
-use check::check;
 use yl_args::{Task, asked_zutkrad};
 use yl_chunks::ChunkStore;
 use yl_config::Config;
