@@ -1,0 +1,7 @@
+pub mod Texts
+pub mod Misfits
+pub mod Said
+pub mod Named
+pub mod Outcome
+pub mod Answers
+pub mod Paths

@@ -1,0 +1,171 @@
+//! A configuration laid over what it extends.
+ghost use Rattle.std.specs.Prelude.{◌≡◌, ◌≤◌, IfOk, IfSome, length, map, is_some, if◌then◌else◌};
+ghost use Rattle.std.specs.Option.{option_map};
+ghost use Rattle.yl_settings.specs.Item.{item_value, nodes_at};
+ghost use Rattle.yl_settings.specs.Nodes.{entries_of};
+ghost use Rattle.yl_rules.specs.LevelOf.{level_of};
+ghost use Rattle.yl_settings.specs.Options.{with_options_of};
+ghost use Rattle.yl_settings.specs.Standard.{standard_rule_options};
+ghost use Rattle.yl_config.specs.Config.{config_settings};
+ghost use Rattle.yl_project.specs.Said.{ignore_over, ignores_over, patterns_or, put_right, rule_patterns, rules_over, said_over};
+
+use crate::document::Document;
+use crate::entries::{ORIGIN, place_or, value_of};
+use crate::project::{CHECKED_RULES, Project, RuleIgnore, standard_yaml_files};
+use std::alloc::{AllocError, Allocator};
+use yl_config::{Config, Reading, turns_off, turns_on};
+use yl_patterns::Patterns;
+use yl_rules::RuleLevels;
+use yl_settings::{Item, RuleOptions, standard_rule_options, starts_mapping};
+use yl_text::{Pos, RuleId};
+
+/// Options with the standard ones of a rule, where that is off.
+fn right_options(levels: &RuleLevels, rule: RuleId, options: RuleOptions) -> RuleOptions
+    ensures { result ≡ (if is_some (level_of levels.now rule) then options else with_options_of rule standard_rule_options options) }
+{
+    let mut options = options;
+    if levels.level_of(rule).is_none() {
+        options.take(rule, &standard_rule_options());
+    }
+    options
+}
+
+/// The same with the standard options of each rule that is off.
+fn put_right(base: Config) -> Config
+    ensures { config_settings result ≡ put_right (config_settings base) }
+{
+    let mut options = *base.options();
+    for rule in CHECKED_RULES {
+        options = right_options(base.levels(), rule, options);
+    }
+    Config::new(*base.levels(), options)
+}
+
+impl<A: Allocator + Copy> Document<'_, '_, A> {
+    /// The rules of a mapping laid over a configuration.
+    fn rules_over(&self, base: &Config, rules: Option<Item<'_>>) -> Config
+        requires { IfSome rules (λ item. item.inside ≤ length self.now.events.now) }
+        ensures { config_settings result ≡ rules_over (config_settings base.now) (option_map (item_value self.now.events.now) rules) }
+    {
+        let mut reading = Reading {
+            config: *base,
+            first: None,
+        };
+        if let Some(item) = rules {
+            reading.read_rules_value(base, ORIGIN, self.events, &item);
+        }
+        reading.config
+    }
+
+    /// The patterns of a value, in what begins at this place; else, the other ones.
+    fn patterns_or(
+        &self,
+        other: Patterns<A>,
+        holder: Pos,
+        value: Option<Item<'_>>,
+    ) -> Result<Patterns<A>, AllocError>
+        requires { IfSome value (λ item. item.inside ≤ length self.now.events.now) }
+        ensures { IfOk result (λ patterns. patterns ≡ patterns_or other self.now.rows.now holder (option_map (item_value self.now.events.now) value)) }
+    {
+        match value {
+            None => Ok(other),
+            Some(item) => Ok(
+                self.patterns_in(holder, &item)?
+                    .unwrap_or(Patterns::new(self.alloc)),
+            ),
+        }
+    }
+
+    /// The patterns of a rule with this value, over those that it has in what is extended.
+    fn rule_patterns(
+        &self,
+        base: Patterns<A>,
+        value: Option<Item<'_>>,
+    ) -> Result<Patterns<A>, AllocError>
+        requires { IfSome value (λ item. item.inside ≤ length self.now.events.now) }
+        ensures { IfOk result (λ patterns. patterns ≡ rule_patterns self.now.rows.now base (option_map (item_value self.now.events.now) value)) }
+    {
+        let Some(item) = value else {
+            return Ok(base);
+        };
+        if turns_on(item.kind) {
+            Ok(base)
+        } else if turns_off(item.kind) {
+            Ok(Patterns::new(self.alloc))
+        } else if starts_mapping(item.kind) {
+            let ignore = value_of(self.events, item.inside, "ignore");
+            self.patterns_or(base, place_or(ORIGIN, item.place), ignore)
+        } else {
+            Ok(base)
+        }
+    }
+
+    /// A rule's patterns under a mapping of rules, whose entries begin with the event of this index.
+    fn ignore_over(&self, base: RuleIgnore<A>, inside: usize) -> Result<RuleIgnore<A>, AllocError>
+        requires { inside ≤ length self.now.events.now }
+        ensures { IfOk result (λ rule. rule ≡ ignore_over self.now.rows.now (entries_of (nodes_at self.now.events.now inside)) base) }
+    {
+        let value = value_of(self.events, inside, base.rule.name());
+        Ok(RuleIgnore {
+            rule: base.rule,
+            patterns: self.rule_patterns(base.patterns, value)?,
+        })
+    }
+
+    /// The rules' patterns under a mapping of rules, whose entries begin with the event of this index.
+    fn each_ignore_over(
+        &self,
+        base: Vec<RuleIgnore<A>, A>,
+        inside: usize,
+    ) -> Result<Vec<RuleIgnore<A>, A>, AllocError>
+        requires { inside ≤ length self.now.events.now }
+        ensures { IfOk result (λ rules. rules.items ≡ map (ignore_over self.now.rows.now (entries_of (nodes_at self.now.events.now inside))) base.items) }
+    {
+        let mut rules = Vec::with_capacity(self.alloc, base.len())?;
+        for rule in base {
+            rules.push(self.ignore_over(rule, inside)?)?;
+        }
+        Ok(rules)
+    }
+
+    /// The rules' patterns under the value of `rules`.
+    fn ignores_over(
+        &self,
+        base: Vec<RuleIgnore<A>, A>,
+        rules: Option<Item<'_>>,
+    ) -> Result<Vec<RuleIgnore<A>, A>, AllocError>
+        requires { IfSome rules (λ item. item.inside ≤ length self.now.events.now) }
+        ensures { IfOk result (λ all. all.items ≡ ignores_over self.now.rows.now base.items (option_map (item_value self.now.events.now) rules)) }
+    {
+        match rules {
+            Some(item) if starts_mapping(item.kind) => self.each_ignore_over(base, item.inside),
+            _ => Ok(base),
+        }
+    }
+
+    /// What the root says over what is extended, where these patterns stand in the files that it names.
+    pub fn said_over(
+        &self,
+        base: Project<A>,
+        files: Patterns<A>,
+        root: &Item<'_>,
+    ) -> Result<Project<A>, AllocError>
+        requires { root.now.inside ≤ length self.now.events.now }
+        ensures { IfOk result (λ project. project ≡ said_over base files self.now.rows.now (item_value self.now.events.now root.now)) }
+    {
+        let place = place_or(ORIGIN, root.place);
+        let rules = value_of(self.events, root.inside, "rules");
+        let ignored = match value_of(self.events, root.inside, "ignore-from-file") {
+            Some(_) => files,
+            None => base.ignored,
+        };
+        let ignore = value_of(self.events, root.inside, "ignore");
+        let yaml_files = value_of(self.events, root.inside, "yaml-files");
+        Ok(Project {
+            config: self.rules_over(&put_right(base.config), rules),
+            rules: self.ignores_over(base.rules, rules)?,
+            ignored: self.patterns_or(ignored, place, ignore)?,
+            yaml_files: self.patterns_or(standard_yaml_files(self.alloc)?, place, yaml_files)?,
+        })
+    }
+}
