@@ -1,3 +1,4 @@
 pub mod Adding
 pub mod Folding
+pub mod Front
 pub mod Saying

@@ -1,5 +1,5 @@
 -- Meaning: what does not fit in a project's configuration.
-use Rattle.std.specs.Prelude.{ℕ, Bool, true, false, ◌&&◌, ◌||◌, nat_lt, length, if◌then◌else◌, List, [], ◌++◌, ◌∷◌, Option, Some, codes, bytes_eq, is_some}
+use Rattle.std.specs.Prelude.{ℕ, Bool, true, false, not, ◌&&◌, ◌||◌, nat_lt, length, if◌then◌else◌, List, [], ◌++◌, ◌∷◌, Option, Some, codes, bytes_eq, is_some}
 use Rattle.std.specs.List.{flat_map}
 use Rattle.yl_text.specs.declared.position.Pos.{Pos}
 use Rattle.yl_text.specs.Lines.{RowValue}
@@ -36,6 +36,11 @@ sequence_misfits lines key item = texts_misfits lines (place_or key item.place).
 abbrev pub patterns_misfits : List RowValue → Pos → Pos → ItemValue → List Misfit
 patterns_misfits lines holder key item =
     if starts_sequence item.kind then sequence_misfits lines key item else text_misfits lines holder.col key item.kind item.place
+
+-- of a value that is to be a sequence of texts
+abbrev pub yaml_files_misfits : List RowValue → Pos → ItemValue → List Misfit
+yaml_files_misfits lines key item =
+    if starts_sequence item.kind then sequence_misfits lines key item else at_value BadValue key item.kind item.place
 
 -- ---- `ignore` of rules
 
@@ -85,8 +90,7 @@ root_entry_misfits lines are_patterns mapping e =
     else if is_key (codes "rules") e then rules_misfits key e.value ++ rules_ignore_misfits lines key e.value
     else if is_key (codes "ignore") e then patterns_misfits lines mapping key e.value
     else if is_key (codes "ignore-from-file") e then names_misfits key e.value ++ unless are_patterns (at_value BadValue key e.value.kind e.value.place)
-    else if is_key (codes "yaml-files") e
-    then (if starts_sequence e.value.kind then sequence_misfits lines key e.value else at_value BadValue key e.value.kind e.value.place)
+    else if is_key (codes "yaml-files") e then yaml_files_misfits lines key e.value
     else if is_key (codes "locale") e then unless (is_scalar e.value.kind) (at_value BadValue key e.value.kind e.value.place)
     else at_key UnknownKey key
 
@@ -94,7 +98,7 @@ root_entry_misfits lines are_patterns mapping e =
 unfoldable pub beside_misfits : Pos → Bool → Bool → List EntryValue → List Misfit
 beside_misfits mapping ignores names [] = []
 beside_misfits mapping ignores names (e ∷ es) =
-    (if (is_key (codes "ignore") e && names) || (is_key (codes "ignore-from-file") e && ignores) then at_key BadValue (place_or mapping e.key_place) else [])
+    unless (not ((is_key (codes "ignore") e && names) || (is_key (codes "ignore-from-file") e && ignores))) (at_key BadValue (place_or mapping e.key_place))
     ++ beside_misfits mapping (ignores || is_key (codes "ignore") e) (names || is_key (codes "ignore-from-file") e) es
 
 abbrev pub entries_misfits : List RowValue → Bool → Pos → List EntryValue → List Misfit

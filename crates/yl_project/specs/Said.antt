@@ -111,12 +111,8 @@ abbrev pub ignores_over : List RowValue → List RuleIgnoreValue → Option Item
 ignores_over lines base None = base
 ignores_over lines base (Some rules) = if starts_mapping rules.kind then map (ignore_over lines (entries_of rules.inside)) base else base
 
--- what is ignored: what the configuration says; else what the files say that it names; else what is ignored in what is extended
-abbrev pub files_or : List PatternValue → List PatternValue → Option ItemValue → List PatternValue
-files_or base files None = base
-files_or base files (Some names) = files
-
--- the root of a document over what is extended, where these patterns stand in the files that it names
+-- the root of a document over what is extended, where these patterns stand in the files that it names. What is ignored is what the root
+-- says, else what the files say, else what is ignored in what is extended
 abbrev pub said_over : ProjectValue → List PatternValue → List RowValue → ItemValue → ProjectValue
 said_over base files lines root =
     let es = entries_of root.inside in
@@ -124,6 +120,6 @@ said_over base files lines root =
     record {
       settings = rules_over (put_right base.settings) (value_of (codes "rules") es);
       rules = ignores_over lines base.rules (value_of (codes "rules") es);
-      ignored = patterns_or (files_or base.ignored files (value_of (codes "ignore-from-file") es)) lines place (value_of (codes "ignore") es);
+      ignored = patterns_or (if is_some (value_of (codes "ignore-from-file") es) then files else base.ignored) lines place (value_of (codes "ignore") es);
       yaml_files = patterns_or standard_yaml_files lines place (value_of (codes "yaml-files") es);
     }

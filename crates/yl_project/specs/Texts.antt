@@ -63,8 +63,11 @@ unfoldable pub with_texts : List RowValue → ℕ → Nodes → List PatternValu
 with_texts lines column NoNode ps = Some ps
 with_texts lines column (Node kind place inside more) ps = option_and_then (with_texts lines column more) (with_text lines column kind place ps)
 
--- the patterns of a text or of a sequence of texts, in what begins at this place
+-- with those of a text or of a sequence of texts, in what begins at this place
+abbrev pub with_patterns : List RowValue → Pos → ItemValue → List PatternValue → Option (List PatternValue)
+with_patterns lines holder item ps =
+    if starts_sequence item.kind then with_texts lines (place_or holder item.place).col item.inside ps
+    else with_text lines holder.col item.kind item.place ps
+
 abbrev pub patterns_in : List RowValue → Pos → ItemValue → Option (List PatternValue)
-patterns_in lines holder item =
-    if starts_sequence item.kind then with_texts lines (place_or holder item.place).col item.inside []
-    else with_text lines holder.col item.kind item.place []
+patterns_in lines holder item = with_patterns lines holder item []

@@ -1,11 +1,11 @@
 //! What does not fit in a project's configuration.
-ghost use Rattle.std.specs.Prelude.{◌≡◌, ◌≤◌, ◌++◌, length, OnOk, IfOk, is_some, false, []};
+ghost use Rattle.std.specs.Prelude.{◌≡◌, ◌≤◌, ◌++◌, ◌&&◌, ◌||◌, not, length, OnOk, IfOk, bytes_eq, codes, is_some, false, []};
 ghost use Rattle.std.specs.List.{flat_map};
 ghost use Rattle.yl_events.specs.Event.{kind_value};
 ghost use Rattle.yl_settings.specs.Item.{entry_value, item_value, nodes_at};
 ghost use Rattle.yl_settings.specs.Nodes.{entries_of};
-ghost use Rattle.yl_config.specs.Misfits.{at_value, earliest, rules_misfits};
-ghost use Rattle.yl_project.specs.Misfits.{beside_misfits, each_name_misfits, name_misfits, names_misfits, option_misfits, patterns_misfits, root_entry_misfits, root_misfits, rule_ignore_misfits, rules_ignore_misfits, sequence_misfits, text_misfits, texts_misfits, unless};
+ghost use Rattle.yl_config.specs.Misfits.{at_key, at_value, earliest, rules_misfits};
+ghost use Rattle.yl_project.specs.Misfits.{beside_misfits, each_name_misfits, name_misfits, names_misfits, option_misfits, patterns_misfits, root_entry_misfits, root_misfits, rule_ignore_misfits, rules_ignore_misfits, sequence_misfits, text_misfits, texts_misfits, unless, yaml_files_misfits};
 ghost use Rattle.yl_project.specs.Texts.{with_text};
 
 use crate::document::Document;
@@ -22,6 +22,33 @@ fn note_unless(reading: &mut Reading, fits: bool, kind: MisfitKind, key: Pos, it
 {
     if !fits {
         reading.note_value(kind, key, item);
+    }
+}
+
+/// Notes a key that does not stand where it may, if it is one.
+fn note_key_if(reading: &mut Reading, is_misfit: bool, place: Pos)
+    ensures { reading.new.first ≡ earliest reading.old.first (unless (not is_misfit) (at_key MisfitKind.BadValue place)) }
+{
+    if is_misfit {
+        reading.note_key(MisfitKind::BadValue, place);
+    }
+}
+
+/// Whether a key is this one, or one before was.
+fn is_key_or(before: bool, key: &str, name: &str) -> bool
+    ensures { result ≡ (before || bytes_eq key.now name.now) }
+{
+    before || key == name
+}
+
+/// Whether a key stands behind the one that it may not stand beside, where `ignore` and `ignore-from-file` stand before it or not.
+fn is_beside(ignores: bool, names: bool, key: &str) -> bool
+    ensures { result ≡ ((bytes_eq key.now (codes "ignore") && names) || (bytes_eq key.now (codes "ignore-from-file") && ignores)) }
+{
+    match key {
+        "ignore" => names,
+        "ignore-from-file" => ignores,
+        _ => false,
     }
 }
 
@@ -211,18 +238,44 @@ impl<A: Allocator + Copy> Document<'_, '_, A> {
         }
     }
 
-    /// Notes what does not fit in the value of `ignore-from-file`, where the lines of the files are patterns or not.
-    fn note_names(&self, reading: &mut Reading, are_patterns: bool, key: Pos, item: &Item<'_>)
+    /// Notes what does not fit in a value that is to be a name of a file or a sequence of names.
+    fn note_names_value(&self, reading: &mut Reading, key: Pos, item: &Item<'_>)
         requires { item.now.inside ≤ length self.now.events.now }
-        ensures { reading.new.first ≡ earliest reading.old.first (names_misfits key (item_value self.now.events.now item.now)
-            ++ unless are_patterns (at_value MisfitKind.BadValue key (kind_value item.now.kind) item.now.place)) }
+        ensures { reading.new.first ≡ earliest reading.old.first (names_misfits key (item_value self.now.events.now item.now)) }
     {
         if starts_sequence(item.kind) {
             self.note_each_name(reading, place_or(key, item.place), item.inside);
         } else {
             note_name(reading, MisfitKind::BadValue, key, item);
         }
+    }
+
+    /// Notes what does not fit in the value of `ignore-from-file`, where the lines of the files are patterns or not.
+    fn note_names(&self, reading: &mut Reading, are_patterns: bool, key: Pos, item: &Item<'_>)
+        requires { item.now.inside ≤ length self.now.events.now }
+        ensures { reading.new.first ≡ earliest reading.old.first (names_misfits key (item_value self.now.events.now item.now)
+            ++ unless are_patterns (at_value MisfitKind.BadValue key (kind_value item.now.kind) item.now.place)) }
+    {
+        self.note_names_value(reading, key, item);
         note_unless(reading, are_patterns, MisfitKind::BadValue, key, item);
+    }
+
+    /// Notes what does not fit in the value of `yaml-files`.
+    fn note_yaml_files(
+        &self,
+        reading: &mut Reading,
+        key: Pos,
+        item: &Item<'_>,
+    ) -> Result<(), AllocError>
+        requires { item.now.inside ≤ length self.now.events.now }
+        ensures { OnOk result (reading.new.first ≡ earliest reading.old.first (yaml_files_misfits self.now.rows.now key (item_value self.now.events.now item.now))) }
+    {
+        if starts_sequence(item.kind) {
+            self.note_sequence(reading, key, item)
+        } else {
+            reading.note_value(MisfitKind::BadValue, key, item);
+            Ok(())
+        }
     }
 
     /// Notes what does not fit in an entry of the root.
@@ -239,14 +292,17 @@ impl<A: Allocator + Copy> Document<'_, '_, A> {
         let key = place_or(mapping, entry.key_place);
         let item = &entry.value;
         match word(entry.key) {
-            "extends" => note_name(reading, MisfitKind::UnknownExtends, key, item),
-            "rules" => return self.note_rules_value(reading, key, item),
-            "ignore" => return self.note_patterns(reading, mapping, key, item),
-            "ignore-from-file" => self.note_names(reading, are_patterns, key, item),
-            "yaml-files" if starts_sequence(item.kind) => {
-                return self.note_sequence(reading, key, item);
+            "extends" => {
+                note_name(reading, MisfitKind::UnknownExtends, key, item);
+                Ok(())
             }
-            "yaml-files" => reading.note_value(MisfitKind::BadValue, key, item),
+            "rules" => self.note_rules_value(reading, key, item),
+            "ignore" => self.note_patterns(reading, mapping, key, item),
+            "ignore-from-file" => {
+                self.note_names(reading, are_patterns, key, item);
+                Ok(())
+            }
+            "yaml-files" => self.note_yaml_files(reading, key, item),
             "locale" => {
                 note_unless(
                     reading,
@@ -255,10 +311,13 @@ impl<A: Allocator + Copy> Document<'_, '_, A> {
                     key,
                     item,
                 );
+                Ok(())
             }
-            _ => reading.note_key(MisfitKind::UnknownKey, key),
+            _ => {
+                reading.note_key(MisfitKind::UnknownKey, key);
+                Ok(())
+            }
         }
-        Ok(())
     }
 
     /// Notes what does not fit in the entries of the root.
@@ -289,13 +348,11 @@ impl<A: Allocator + Copy> Document<'_, '_, A> {
         let mut names = false;
         let mut rest = inside;
         while let Some(entry) = first_entry(self.events, rest) {
-            let is_ignore = word(entry.key) == "ignore";
-            let is_names = word(entry.key) == "ignore-from-file";
-            if (is_ignore && names) || (is_names && ignores) {
-                reading.note_key(MisfitKind::BadValue, place_or(mapping, entry.key_place));
-            }
-            ignores = ignores || is_ignore;
-            names = names || is_names;
+            let key = word(entry.key);
+            let place = place_or(mapping, entry.key_place);
+            note_key_if(reading, is_beside(ignores, names, key), place);
+            ignores = is_key_or(ignores, key, "ignore");
+            names = is_key_or(names, key, "ignore-from-file");
             rest = entry.more;
         }
     }
@@ -314,9 +371,10 @@ impl<A: Allocator + Copy> Document<'_, '_, A> {
         if starts_mapping(root.kind) {
             self.note_entries(reading, are_patterns, place, root.inside)?;
             self.note_beside(reading, place, root.inside);
+            Ok(())
         } else {
             reading.note_key(MisfitKind::NotAMapping, place);
+            Ok(())
         }
-        Ok(())
     }
 }

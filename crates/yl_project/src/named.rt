@@ -1,10 +1,10 @@
 //! The files that a configuration names.
-ghost use Rattle.std.specs.Prelude.{◌≡◌, ◌≤◌, length, IfOk, map, string_bytes, OnOk};
+ghost use Rattle.std.specs.Prelude.{◌≡◌, ◌≤◌, [], length, IfOk, IfSome, map, string_bytes, OnOk};
 ghost use Rattle.std.specs.Option.{option_map};
 ghost use Rattle.yl_events.specs.Event.{event_value, kind_value};
-ghost use Rattle.yl_settings.specs.Item.{item_value};
+ghost use Rattle.yl_settings.specs.Item.{item_value, nodes_at};
 ghost use Rattle.yl_config.specs.Document.{root_of};
-ghost use Rattle.yl_project.specs.Named.{name_of, named_of, names_of, with_name};
+ghost use Rattle.yl_project.specs.Named.{extends_of, named_of, names_of, with_name, with_names};
 
 use crate::entries::{is_name, starts_sequence, value_of};
 use std::alloc::{AllocError, Allocator};
@@ -63,21 +63,17 @@ fn add_name<A: Allocator + Copy>(
     Ok(())
 }
 
-/// The names that a value is: one, or those of a sequence.
-fn names_of<A: Allocator + Copy>(
+/// The names of a sequence, whose nodes begin with the event of this index.
+fn names_in<A: Allocator + Copy>(
     alloc: A,
     events: &[Event<'_>],
-    item: &Item<'_>,
+    inside: usize,
 ) -> Result<Vec<String<A>, A>, AllocError>
-    requires { item.now.inside ≤ length events.now }
-    ensures { IfOk result (λ names. map string_bytes names.items ≡ names_of (Some (item_value events.now item.now))) }
+    requires { inside ≤ length events.now }
+    ensures { IfOk result (λ names. map string_bytes names.items ≡ with_names [] (nodes_at events.now inside)) }
 {
     let mut names = Vec::new(alloc);
-    if !starts_sequence(item.kind) {
-        add_name(alloc, &mut names, item.kind)?;
-        return Ok(names);
-    }
-    let mut rest = item.inside;
+    let mut rest = inside;
     while let Some(name) = first_item(events, rest) {
         add_name(alloc, &mut names, name.item.kind)?;
         rest = name.more;
@@ -85,14 +81,37 @@ fn names_of<A: Allocator + Copy>(
     Ok(names)
 }
 
-/// The name of what is extended, if the value is one.
-fn extends_of<A: Allocator>(alloc: A, kind: EventKind<'_>) -> Result<Option<String<A>>, AllocError>
-    ensures { IfOk result (λ name. option_map string_bytes name ≡ name_of (kind_value kind.entry)) }
+/// The names that a value is: one, or those of a sequence.
+fn names_of<A: Allocator + Copy>(
+    alloc: A,
+    events: &[Event<'_>],
+    value: Option<Item<'_>>,
+) -> Result<Vec<String<A>, A>, AllocError>
+    requires { IfSome value (λ item. item.inside ≤ length events.now) }
+    ensures { IfOk result (λ names. map string_bytes names.items ≡ names_of (option_map (item_value events.now) value.entry)) }
 {
-    if is_name(kind) {
-        Ok(Some(String::from_str(alloc, word(kind))?))
-    } else {
-        Ok(None)
+    match value {
+        None => Ok(Vec::new(alloc)),
+        Some(item) if starts_sequence(item.kind) => names_in(alloc, events, item.inside),
+        Some(item) => {
+            let mut names = Vec::new(alloc);
+            add_name(alloc, &mut names, item.kind)?;
+            Ok(names)
+        }
+    }
+}
+
+/// The name of what is extended, if the value is one.
+fn extends_of<A: Allocator>(
+    alloc: A,
+    events: &[Event<'_>],
+    value: Option<Item<'_>>,
+) -> Result<Option<String<A>>, AllocError>
+    ensures { IfOk result (λ name. option_map string_bytes name ≡ extends_of (option_map (item_value events.now) value.entry)) }
+{
+    match value {
+        Some(item) if is_name(item.kind) => Ok(Some(String::from_str(alloc, word(item.kind))?)),
+        _ => Ok(None),
     }
 }
 
@@ -101,16 +120,10 @@ pub fn named_of<A: Allocator + Copy>(alloc: A, events: &[Event<'_>]) -> Result<N
     ensures { IfOk result (λ named. named ≡ named_of (root_of (map event_value events.now))) }
 {
     let root = root_of(events);
-    let extends = match value_of(events, root.inside, "extends") {
-        Some(item) => extends_of(alloc, item.kind)?,
-        None => None,
-    };
-    let ignore_from = match value_of(events, root.inside, "ignore-from-file") {
-        Some(item) => names_of(alloc, events, &item)?,
-        None => Vec::new(alloc),
-    };
+    let extends = value_of(events, root.inside, "extends");
+    let names = value_of(events, root.inside, "ignore-from-file");
     Ok(Named {
-        extends,
-        ignore_from,
+        extends: extends_of(alloc, events, extends)?,
+        ignore_from: names_of(alloc, events, names)?,
     })
 }

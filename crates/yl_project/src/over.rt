@@ -7,7 +7,7 @@ ghost use Rattle.yl_rules.specs.LevelOf.{level_of};
 ghost use Rattle.yl_settings.specs.Options.{with_options_of};
 ghost use Rattle.yl_settings.specs.Standard.{standard_rule_options};
 ghost use Rattle.yl_config.specs.Config.{config_settings};
-ghost use Rattle.yl_project.specs.Said.{ignore_over, ignores_over, patterns_or, put_right, rule_patterns, rules_over, said_over};
+ghost use Rattle.yl_project.specs.Said.{ignore_over, ignores_over, patterns_or, put_right, put_right_options, rule_patterns, rules_over, said_over};
 
 use crate::document::Document;
 use crate::entries::{ORIGIN, place_or, value_of};
@@ -30,31 +30,50 @@ fn right_options(levels: &RuleLevels, rule: RuleId, options: RuleOptions) -> Rul
     options
 }
 
+/// Options with the standard ones of each of these rules that is off.
+#[tactic(auto, unfolding(crate::specs::Said::put_right_options))]
+fn put_right_options(levels: &RuleLevels, rules: &[RuleId], from: RuleOptions) -> RuleOptions
+    ensures { result ≡ put_right_options (level_of levels.now) rules.now from }
+{
+    let mut options = from;
+    for rule in rules {
+        options = right_options(levels, *rule, options);
+    }
+    options
+}
+
 /// The same with the standard options of each rule that is off.
 fn put_right(base: Config) -> Config
     ensures { config_settings result ≡ put_right (config_settings base) }
 {
-    let mut options = *base.options();
-    for rule in CHECKED_RULES {
-        options = right_options(base.levels(), rule, options);
-    }
+    let options = put_right_options(base.levels(), &CHECKED_RULES, *base.options());
     Config::new(*base.levels(), options)
+}
+
+/// The patterns of the files that a configuration names, if it names some; else, those of what it extends.
+fn files_or<A: Allocator>(base: Patterns<A>, files: Patterns<A>, are_named: bool) -> Patterns<A>
+    ensures { result ≡ (if are_named then files else base) }
+{
+    if are_named { files } else { base }
 }
 
 impl<A: Allocator + Copy> Document<'_, '_, A> {
     /// The rules of a mapping laid over a configuration.
     fn rules_over(&self, base: &Config, rules: Option<Item<'_>>) -> Config
         requires { IfSome rules (λ item. item.inside ≤ length self.now.events.now) }
-        ensures { config_settings result ≡ rules_over (config_settings base.now) (option_map (item_value self.now.events.now) rules) }
+        ensures { config_settings result ≡ rules_over (config_settings base.now) (option_map (item_value self.now.events.now) rules.entry) }
     {
-        let mut reading = Reading {
-            config: *base,
-            first: None,
-        };
-        if let Some(item) = rules {
-            reading.read_rules_value(base, ORIGIN, self.events, &item);
+        match rules {
+            None => *base,
+            Some(item) => {
+                let mut reading = Reading {
+                    config: *base,
+                    first: None,
+                };
+                reading.read_rules_value(base, ORIGIN, self.events, &item);
+                reading.config
+            }
         }
-        reading.config
     }
 
     /// The patterns of a value, in what begins at this place; else, the other ones.
@@ -65,7 +84,7 @@ impl<A: Allocator + Copy> Document<'_, '_, A> {
         value: Option<Item<'_>>,
     ) -> Result<Patterns<A>, AllocError>
         requires { IfSome value (λ item. item.inside ≤ length self.now.events.now) }
-        ensures { IfOk result (λ patterns. patterns ≡ patterns_or other self.now.rows.now holder (option_map (item_value self.now.events.now) value)) }
+        ensures { IfOk result (λ patterns. patterns ≡ patterns_or other self.now.rows.now holder (option_map (item_value self.now.events.now) value.entry)) }
     {
         match value {
             None => Ok(other),
@@ -83,7 +102,7 @@ impl<A: Allocator + Copy> Document<'_, '_, A> {
         value: Option<Item<'_>>,
     ) -> Result<Patterns<A>, AllocError>
         requires { IfSome value (λ item. item.inside ≤ length self.now.events.now) }
-        ensures { IfOk result (λ patterns. patterns ≡ rule_patterns self.now.rows.now base (option_map (item_value self.now.events.now) value)) }
+        ensures { IfOk result (λ patterns. patterns ≡ rule_patterns self.now.rows.now base (option_map (item_value self.now.events.now) value.entry)) }
     {
         let Some(item) = value else {
             return Ok(base);
@@ -135,7 +154,7 @@ impl<A: Allocator + Copy> Document<'_, '_, A> {
         rules: Option<Item<'_>>,
     ) -> Result<Vec<RuleIgnore<A>, A>, AllocError>
         requires { IfSome rules (λ item. item.inside ≤ length self.now.events.now) }
-        ensures { IfOk result (λ all. all.items ≡ ignores_over self.now.rows.now base.items (option_map (item_value self.now.events.now) rules)) }
+        ensures { IfOk result (λ all. all.items ≡ ignores_over self.now.rows.now base.items (option_map (item_value self.now.events.now) rules.entry)) }
     {
         match rules {
             Some(item) if starts_mapping(item.kind) => self.each_ignore_over(base, item.inside),
@@ -155,10 +174,8 @@ impl<A: Allocator + Copy> Document<'_, '_, A> {
     {
         let place = place_or(ORIGIN, root.place);
         let rules = value_of(self.events, root.inside, "rules");
-        let ignored = match value_of(self.events, root.inside, "ignore-from-file") {
-            Some(_) => files,
-            None => base.ignored,
-        };
+        let names = value_of(self.events, root.inside, "ignore-from-file");
+        let ignored = files_or(base.ignored, files, names.is_some());
         let ignore = value_of(self.events, root.inside, "ignore");
         let yaml_files = value_of(self.events, root.inside, "yaml-files");
         Ok(Project {

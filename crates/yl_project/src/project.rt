@@ -1,5 +1,5 @@
 //! Projects.
-ghost use Rattle.std.specs.Prelude.{◌≡◌, ◌<◌, IfOk, map, [], None, if◌then◌else◌};
+ghost use Rattle.std.specs.Prelude.{◌≡◌, ◌<◌, IfOk, map, [], None, unwrap_or, if◌then◌else◌};
 ghost use Rattle.std.specs.Option.{option_map};
 ghost use Rattle.yl_rules.specs.LevelOf.{level_of};
 ghost use Rattle.yl_config.specs.Config.{config_settings};
@@ -78,20 +78,24 @@ impl<A: Allocator> Model for Project<A> {
 }
 
 /// Each rule, off for no path.
-fn ignored_nowhere<A: Allocator + Copy>(alloc: A) -> Result<Vec<RuleIgnore<A>, A>, AllocError>
-    ensures { IfOk result (λ rules. rules.items ≡ map (λ rule. record { rule = rule; patterns = [] }) checked_rules) }
+fn ignored_nowhere<A: Allocator + Copy>(
+    alloc: A,
+    rules: &[RuleId],
+) -> Result<Vec<RuleIgnore<A>, A>, AllocError>
+    ensures { IfOk result (λ all. all.items ≡ map (λ rule. record { rule = rule; patterns = [] }) rules.now) }
 {
-    let mut rules = Vec::new(alloc);
-    for rule in CHECKED_RULES {
-        rules.push(RuleIgnore {
-            rule,
+    let mut all = Vec::with_capacity(alloc, rules.len())?;
+    for rule in rules {
+        all.push(RuleIgnore {
+            rule: *rule,
             patterns: Patterns::new(alloc),
         })?;
     }
-    Ok(rules)
+    Ok(all)
 }
 
 /// The files that are YAML unless a configuration says it.
+#[tactic(auto, unfolding(crate::specs::Said::standard_yaml_files))]
 pub fn standard_yaml_files<A: Allocator + Copy>(alloc: A) -> Result<Patterns<A>, AllocError>
     ensures { IfOk result (λ patterns. patterns ≡ standard_yaml_files) }
 {
@@ -99,6 +103,7 @@ pub fn standard_yaml_files<A: Allocator + Copy>(alloc: A) -> Result<Patterns<A>,
 }
 
 /// These rules as warnings.
+#[tactic(auto, unfolding(crate::specs::Said::as_warnings))]
 fn as_warnings(from: RuleLevels, rules: &[RuleId]) -> RuleLevels
     ensures { level_of result ≡ as_warnings (level_of from) rules.now }
 {
@@ -110,6 +115,7 @@ fn as_warnings(from: RuleLevels, rules: &[RuleId]) -> RuleLevels
 }
 
 /// These rules off.
+#[tactic(auto, unfolding(crate::specs::Said::switched_off))]
 fn switched_off(from: RuleLevels, rules: &[RuleId]) -> RuleLevels
     ensures { level_of result ≡ switched_off (level_of from) rules.now }
 {
@@ -164,17 +170,23 @@ fn behind_char(path: &str, c: char) -> Option<&str>
     path.strip_prefix(c)
 }
 
+/// What stands behind a `/` at the front; else, the other path.
+fn behind_slash<'a>(path: &'a str, other: &'a str) -> &'a str
+    ensures { result.now ≡ unwrap_or (behind_byte 47 path.now) other.now }
+{
+    match behind_char(path, '/') {
+        Some(rest) => rest,
+        None => other,
+    }
+}
+
 /// A path without one `./` or `/` at its front.
 fn without_front(path: &str) -> &str
     ensures { result.now ≡ without_front path.now }
 {
-    let below = match behind_char(path, '.') {
-        Some(rest) => rest,
-        None => path,
-    };
-    match behind_char(below, '/') {
-        Some(rest) => rest,
-        None => path,
+    match behind_char(path, '.') {
+        Some(rest) => behind_slash(rest, path),
+        None => behind_slash(path, path),
     }
 }
 
@@ -194,6 +206,7 @@ fn without_rule<A: Allocator + Copy>(
 }
 
 /// A configuration without the rules that are off for a path.
+#[tactic(auto, unfolding(crate::specs::Paths::without_ignoring))]
 fn without_ignoring<A: Allocator + Copy>(
     from: Config,
     rules: &[RuleIgnore<A>],
@@ -215,7 +228,7 @@ impl<A: Allocator + Copy> Project<A> {
     {
         Ok(Project {
             config,
-            rules: ignored_nowhere(alloc)?,
+            rules: ignored_nowhere(alloc, &CHECKED_RULES)?,
             ignored: Patterns::new(alloc),
             yaml_files: standard_yaml_files(alloc)?,
         })

@@ -6,7 +6,7 @@ ghost use Rattle.yl_settings.specs.Item.{item_value, nodes_at};
 ghost use Rattle.yl_settings.specs.Nodes.{starts_sequence};
 ghost use Rattle.yl_text.specs.Lines.{lines_of};
 ghost use Rattle.yl_project.specs.Answers.{Gives};
-ghost use Rattle.yl_project.specs.Texts.{block_lines, indentation, is_below, lines_behind, patterns_in, with_line, with_lines, with_text, with_texts};
+ghost use Rattle.yl_project.specs.Texts.{block_lines, indentation, is_below, lines_behind, patterns_in, with_line, with_lines, with_patterns, with_text, with_texts};
 
 use crate::document::Document;
 use crate::entries::{place_or, starts_sequence};
@@ -61,6 +61,7 @@ fn add_line<A: Allocator + Copy>(patterns: &mut Patterns<A>, line: &str) -> Resu
 }
 
 /// Adds the patterns of a block scalar, of which these are the lines behind its header, in what begins at this column.
+#[tactic(auto, unfolding(crate::specs::Texts::block_lines, crate::specs::Texts::with_lines))]
 fn add_block<A: Allocator + Copy>(
     patterns: &mut Patterns<A>,
     column: u32,
@@ -68,13 +69,11 @@ fn add_block<A: Allocator + Copy>(
 ) -> Result<(), PatternFault>
     ensures { Gives result patterns.new (with_lines patterns.old (block_lines column rows.now)) }
 {
-    let mut rest = rows;
-    while let [row, later @ ..] = rest {
+    for row in rows {
         if !is_below(column, row.as_str()) {
             return Ok(());
         }
         add_line(patterns, row.as_str())?;
-        rest = later;
     }
     Ok(())
 }
@@ -150,6 +149,24 @@ impl<A: Allocator + Copy> Document<'_, '_, A> {
         Ok(())
     }
 
+    /// Adds the patterns of a text or of a sequence of texts, in what begins at this place.
+    fn add_patterns(
+        &self,
+        patterns: &mut Patterns<A>,
+        holder: Pos,
+        item: &Item<'_>,
+    ) -> Result<(), PatternFault>
+        requires { item.now.inside ≤ length self.now.events.now }
+        ensures { Gives result patterns.new (with_patterns self.now.rows.now holder (item_value self.now.events.now item.now) patterns.old) }
+    {
+        if starts_sequence(item.kind) {
+            let column = place_or(holder, item.place).col;
+            self.add_texts(patterns, column, item.inside)
+        } else {
+            self.add_text(patterns, holder.col, item.kind, item.place)
+        }
+    }
+
     /// The patterns of a text or of a sequence of texts, in what begins at this place; none where the node is neither or a line is
     /// no pattern.
     pub fn patterns_in(
@@ -161,12 +178,7 @@ impl<A: Allocator + Copy> Document<'_, '_, A> {
         ensures { IfOk result (λ patterns. patterns ≡ patterns_in self.now.rows.now holder (item_value self.now.events.now item.now)) }
     {
         let mut patterns = Patterns::new(self.alloc);
-        let added = if starts_sequence(item.kind) {
-            self.add_texts(&mut patterns, place_or(holder, item.place).col, item.inside)
-        } else {
-            self.add_text(&mut patterns, holder.col, item.kind, item.place)
-        };
-        match added {
+        match self.add_patterns(&mut patterns, holder, item) {
             Ok(()) => Ok(Some(patterns)),
             Err(PatternFault::BadPattern) => Ok(None),
             Err(PatternFault::Memory) => Err(AllocError),

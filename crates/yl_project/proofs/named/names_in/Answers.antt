@@ -5,7 +5,7 @@ use Rattle.yl_settings.specs.Nodes.{NoNode}
 use Rattle.yl_settings.proofs.AtNone.{at_none}
 use Rattle.yl_project.specs.Named.{with_names}
 use Rattle.yl_project.proofs.Folding.{with_names-first, with_names-none}
-use Rattle.yl_project.proofs.named.names_of.Goals as goal
+use Rattle.yl_project.proofs.named.names_in.Goals as goal
 
 pub loop-name-preserved : goal.loop-name-preserved
 loop-name-preserved g c =
@@ -17,3 +17,9 @@ loop-name-preserved g c =
           ∙ (with_names-first (map string_bytes c.loop-name.names.items) (kind_value x.item.kind) x.item.place (nodes_at events x.item.inside) (nodes_at events x.more) (nodes_at events c.loop-name.rest) c.in-Some.ensures.item
           ∙ c.loop-name.invariant.same);
     }
+
+pub returns : goal.returns
+returns g c =
+    let events = c.args.events.now in
+    let nothing : nodes_at events c.loop-name.rest ≡ NoNode = at_none c.first_item.result _ _ c.in_default.not-Some c.first_item.ensures.item in
+    sym (with_names-none (map string_bytes c.loop-name.names.items) (nodes_at events c.loop-name.rest) nothing) ∙ c.loop-name.invariant.same
