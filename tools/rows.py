@@ -1,7 +1,6 @@
 #!/usr/bin/env python3
-"""rows.py [--check] [CRATE..]: writes the file stdout of yl_text_rows, yl_session_rows, yl_frames_rows, yl_rpc_rows, yl_server_rows and
-yl_project_rows,
-or of those that are named, what the model of tools/model says of the rows in their files stdin.
+"""rows.py [--check] [CRATE..]: writes the file stdout of yl_text_rows, yl_session_rows, yl_frames_rows, yl_rpc_rows, yl_server_rows,
+yl_patterns_rows and yl_project_rows, or of those that are named, what the model of tools/model says of the rows in their files stdin.
 
 With --check it writes nothing, and ends with 1 where a file says otherwise. So what these programs are to print is never
 taken from a program of this repository."""
@@ -17,6 +16,7 @@ from model import dump  # noqa: E402
 from model.config import Config, ConfigFault  # noqa: E402
 from model.exchanges import message_bytes, refused  # noqa: E402
 from model.lint import Text, report  # noqa: E402
+from model.patterns import BadPattern, is_among  # noqa: E402
 from model.project import Project, names  # noqa: E402
 from model.project import read as read_project  # noqa: E402
 from model.report import printed, status  # noqa: E402
@@ -208,6 +208,15 @@ def call_lines(_, data):
         yield line if len(line) <= LONG_LINE else line[:80] + b" .. " + line[-40:]
 
 
+def pattern_lines(_, data):
+    """Whether a path is among the patterns of lines."""
+    path, _, lines = data.decode().partition("|")
+    try:
+        yield b"fits" if is_among(lines.split("|"), path) else b"-"
+    except BadPattern:
+        yield b"bad"
+
+
 def by_bytes(tell):
     """The answers to rows that are told of by their words and bytes alone."""
     def answers_of(lines):
@@ -385,7 +394,7 @@ def project_answers(lines):
 
 
 ROWS = {"yl_text_rows": answers, "yl_session_rows": answers, "yl_frames_rows": by_bytes(frame_lines), "yl_rpc_rows": by_bytes(call_lines),
-        "yl_server_rows": server_answers, "yl_project_rows": project_answers}
+        "yl_server_rows": server_answers, "yl_patterns_rows": by_bytes(pattern_lines), "yl_project_rows": project_answers}
 
 
 def is_said(crate, is_check):

@@ -1,122 +1,117 @@
-"""Patterns of paths, in the manner of gitignore."""
+"""Patterns of paths, one a line, in the manner of gitignore. The last one that a path fits decides."""
 
-ANY = "**"          # any number of names
-
-
-class Bad(Exception):
-    pass
+ANY = "**"
+STAR = ("*",)
 
 
-def parse(line):
-    """None where the line says nothing, else (whether it takes back, list of segments)."""
-    p = line.strip()
-    if p == "" or p.startswith("#") or p == "/":
+class BadPattern(Exception):
+    """A line is no pattern."""
+
+
+def pattern_of(line):
+    """Whether a line takes back, and the parts of its pattern; None where it says nothing."""
+    text = line.strip()
+    if not text or text.startswith("#") or text == "/":
         return None
-    back = p.startswith("!")
-    segs = (p[1:] if back else p).split("/")
-    out = segs[:1]
-    for s in segs[1:]:
-        if not (s == ANY and out[-1] == ANY):
-            out.append(s)
-    segs = out
-    anchored = segs[0] == ""
-    if anchored:
-        segs = segs[1:]
-    if segs == [ANY, ""]:
-        return back, [ANY, [("*",)], ANY]     # what lies in some folder
-    if not anchored and (len(segs) == 1 or (len(segs) == 2 and segs[1] == "")):
-        segs = [ANY] + segs if segs[0] != ANY else segs
-    if segs and segs[-1] == "" and len(segs) > 1:
-        segs = segs[:-1] + [ANY]
-    if not segs:
-        raise Bad(line)
-    return back, [s if s == ANY else glob(s) for s in segs]
+    takes_back = text.startswith("!")
+    parts = []
+    for part in (text[1:] if takes_back else text).split("/"):
+        if not (part == ANY and parts[-1:] == [ANY]):
+            parts.append(part)
+    is_anchored = parts[0] == ""
+    if is_anchored:
+        parts = parts[1:]
+    if not parts:
+        raise BadPattern(line)
+    if parts == [ANY, ""]:
+        return takes_back, [ANY, [STAR], ANY]
+    if not is_anchored and parts[1:] in ([], [""]):
+        parts = [ANY, *parts]
+    if parts[-1] == "" and len(parts) > 1:
+        parts[-1] = ANY
+    return takes_back, [part if part == ANY else items_of(part) for part in parts]
 
 
-def glob(s):
-    """A list of items: a character, '*' any run, '?' any one, or (negated, ranges)."""
-    out, i = [], 0
-    while i < len(s):
-        c = s[i]
-        i += 1
-        if c == "\\":
-            if i == len(s):
-                raise Bad(s)
-            out.append(("=", s[i]))
-            i += 1
-        elif c == "*":
-            out.append(("*",))
-        elif c == "?":
-            out.append(("?",))
-        elif c == "[":
-            j = i + (s[i:i + 1] == "!")
-            j += s[j:j + 1] == "]"
-            end = s.find("]", j)
+def items_of(part):
+    """The items of a part: a character, any run, any one, or one of a class."""
+    items, at = [], 0
+    while at < len(part):
+        char = part[at]
+        at += 1
+        if char == "\\":
+            if at == len(part):
+                raise BadPattern(part)
+            items.append(("=", part[at]))
+            at += 1
+        elif char in "*?":
+            items.append((char,))
+        elif char == "[":
+            is_negated = part[at:at + 1] == "!"
+            begin = at + is_negated
+            end = part.find("]", begin + (part[begin:begin + 1] == "]"))
             if end < 0:
-                out.append(("=", "["))
-                continue
-            neg = s[i] == "!"
-            body = s[i + neg:end]
-            out.append(("[", neg, ranges(body)))
-            i = end + 1
+                items.append(("=", "["))
+            else:
+                items.append(("[", is_negated, ranges_of(part[begin:end])))
+                at = end + 1
         else:
-            out.append(("=", c))
-    return out
+            items.append(("=", char))
+    return items
 
 
-def ranges(body):
-    out, i = [], 0
-    while i < len(body):
-        if i + 2 < len(body) and body[i + 1] == "-":
-            if body[i + 2] < body[i]:
-                raise Bad(body)
-            out.append((body[i], body[i + 2]))
-            i += 3
-        else:
-            out.append((body[i], body[i]))
-            i += 1
-    return out
+def ranges_of(body):
+    ranges, at = [], 0
+    while at < len(body):
+        last = at + 2 if at + 2 < len(body) and body[at + 1] == "-" else at
+        if body[last] < body[at]:
+            raise BadPattern(body)
+        ranges.append((body[at], body[last]))
+        at = last + 1
+    return ranges
 
 
-def fits(item, c):
+def stands_for(item, char):
     if item[0] == "=":
-        return item[1] == c
-    if item[0] == "?":
-        return True
-    return any(a <= c <= b for a, b in item[2]) != item[1]
+        return item[1] == char
+    return item[0] == "?" or any(first <= char <= last for first, last in item[2]) != item[1]
+
+
+def behind_stars(items, places):
+    """The places of the items, and those that are reached from them by runs of no character."""
+    more = set()
+    for place in places:
+        while place not in more:
+            more.add(place)
+            place += place < len(items) and items[place] == STAR
+    return more
 
 
 def name_fits(items, name):
-    """Looking at one character after another, with the set of places of the pattern."""
-    def closed(places):
-        more = set(places)
-        for p in sorted(more):
-            q = p
-            while q < len(items) and items[q][0] == "*":
-                q += 1
-                more.add(q)
-        return more
-    at = closed({0})
-    for c in name:
-        at = closed({p if items[p][0] == "*" else p + 1 for p in at if p < len(items) and (items[p][0] == "*" or fits(items[p], c))})
-    return len(items) in at
+    places = behind_stars(items, {0})
+    for char in name:
+        places = behind_stars(items, {place if items[place] == STAR else place + 1
+                                      for place in places if place < len(items) and (items[place] == STAR or stands_for(items[place], char))})
+    return len(items) in places
 
 
-def path_fits(segs, names):
-    if segs == [ANY]:
-        return len(names) > 0
-    if not segs:
-        return True                            # what lies below what fits
-    if segs[0] == ANY:
-        return any(path_fits(segs[1:], names[k:]) for k in range(len(names) + 1)) if len(segs) > 1 else len(names) > 0
-    return bool(names) and name_fits(segs[0], names[0]) and path_fits(segs[1:], names[1:])
+def path_fits(parts, names):
+    """Whether names fit parts, by the sets of the names from which on a part is looked at."""
+    starts = {0}
+    for at, part in enumerate(parts):
+        if part == ANY:
+            first = min(starts, default=len(names) + 1)
+            starts = set(range(first, len(names) + 1))
+            if at == len(parts) - 1:
+                return first < len(names)
+        else:
+            starts = {start + 1 for start in starts if start < len(names) and name_fits(part, names[start])}
+    return bool(starts)
 
 
-def ignored(lines, path):
-    found = False
-    for line in lines:
-        p = parse(line)
-        if p is not None:
-            if path_fits(p[1], path.split("/")):
-                found = not p[0]
-    return found
+def is_among(lines, path):
+    """Whether a path is among the patterns of these lines."""
+    patterns = [pattern for pattern in map(pattern_of, lines) if pattern]
+    for takes_back, parts in reversed(patterns):
+        if path_fits(parts, path.split("/")):
+            return not takes_back
+    return False

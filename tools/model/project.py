@@ -3,7 +3,7 @@
 from . import events as ev
 from .config import (BAD_VALUE, NOT_A_MAPPING, NOT_UTF8, RULES, TOO_LARGE, UNKNOWN_EXTENDS, UNKNOWN_KEY, Config, ConfigFault,
                      FALSE_WORDS, _parsed, _place, _plain, _Reader, _root, _word)
-from .patterns import Bad, parse, path_fits
+from .patterns import BadPattern, path_fits, pattern_of
 from .scan import BLOCKS, DOC_END
 from .text import MAX_BYTES, TextFault, decode, split
 
@@ -13,8 +13,8 @@ YAML_FILES = ["*.yaml", "*.yml", ".yamllint"]
 
 class Patterns:
     def __init__(self, lines):
-        """Raises Bad where a line is no pattern."""
-        self.parsed = [p for p in (parse(line) for line in lines) if p is not None]
+        """Raises BadPattern where a line is no pattern."""
+        self.parsed = [pattern for pattern in map(pattern_of, lines) if pattern]
 
     def fits(self, path):
         found = False
@@ -83,7 +83,7 @@ class _ProjectReader(_Reader):
             if lines is not None:
                 Patterns(lines)
                 return lines
-        except Bad:
+        except BadPattern:
             pass
         self.bad(BAD_VALUE, node, key_place)
         return []
@@ -198,7 +198,7 @@ def read(data, base, ignore_lines=""):
     rows, ats, events, second = _document(data)
     try:
         files = Patterns(row.text for row in split(ignore_lines))
-    except Bad:
+    except BadPattern:
         files = None
     reader = _ProjectReader(rows, ats, files is not None)
     root = _root(events)

@@ -1,0 +1,5 @@
+pub mod Answers
+pub mod Fits
+pub mod Patterns
+pub mod Reading
+pub mod Tables
