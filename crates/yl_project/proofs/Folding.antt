@@ -1,5 +1,5 @@
 -- Folds over nodes and entries, one after another.
-use Rattle.std.proofs.Common.{◌≡◌, ℕ, Bool, true, false, not, List, [], ◌∷◌, ◌++◌, ◌||◌, ◌&&◌, cond, Option, Some, None, IfSome, codes, is_some, refl, ap, sym, ◌∙◌}
+use Rattle.std.proofs.Common.{◌≡◌, ℕ, Bool, true, false, not, List, [], ◌∷◌, ◌++◌, ◌||◌, ◌&&◌, cond, Option, Some, None, IfSome, OnOk, Result, Ok, Err, codes, is_some, refl, ap, sym, ◌∙◌}
 use Rattle.std.specs.Option.{option_map}
 use Rattle.yl_text.specs.declared.position.Pos.{Pos}
 use Rattle.yl_text.specs.Lines.{RowValue}
@@ -12,6 +12,15 @@ use Rattle.yl_project.specs.Misfits.{beside_misfits, each_name_misfits, is_key, 
 use Rattle.yl_config.specs.declared.misfit.MisfitKind.TheVariants.{BadValue}
 use Rattle.yl_project.specs.Named.{with_name, with_names}
 use Rattle.yl_project.specs.Said.{last_value}
+
+-- what is so at one answer is so at the other
+pub at_ok : {T E P Q : Type 0} (r : Result T E) → (P → Q) → OnOk r P → OnOk r Q
+at_ok (Ok x) f h = f h
+at_ok (Err e) f h = h
+
+-- what is noted of one part and then of another
+pub in_turn : (old first last : Option Misfit) (xs ys : List Misfit) → first ≡ earliest old xs → last ≡ earliest first ys → last ≡ earliest old (xs ++ ys)
+in_turn old first last xs ys is then = then ∙ (ap (λ (o : Option Misfit). earliest o ys) is ∙ sym (earliest-++ old xs ys))
 
 -- ---- what does not fit
 

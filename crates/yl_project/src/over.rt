@@ -23,11 +23,13 @@ use yl_text::{Pos, RuleId};
 fn right_options(levels: &RuleLevels, rule: RuleId, options: RuleOptions) -> RuleOptions
     ensures { result ≡ (if is_some (level_of levels.now rule) then options else with_options_of rule standard_rule_options options) }
 {
-    let mut options = options;
-    if levels.level_of(rule).is_none() {
-        options.take(rule, &standard_rule_options());
+    if levels.level_of(rule).is_some() {
+        options
+    } else {
+        let mut right = options;
+        right.take(rule, &standard_rule_options());
+        right
     }
-    options
 }
 
 /// Options with the standard ones of each of these rules that is off.
