@@ -121,15 +121,15 @@ fn results_of_initialize(rt: HostRuntime) {
     let rows = [
         (
             Encoding::Utf8,
-            r#"{"capabilities":{"positionEncoding":"utf-8","textDocumentSync":{"change":2,"openClose":true,"save":true}},"serverInfo":{"name":"zutkrad","version":"1.0"}}"#,
+            r#"{"capabilities":{"positionEncoding":"utf-8","textDocumentSync":{"change":2,"openClose":true,"save":true},"workspace":{"workspaceFolders":{"changeNotifications":true,"supported":true}}},"serverInfo":{"name":"zutkrad","version":"1.0"}}"#,
         ),
         (
             Encoding::Utf16,
-            r#"{"capabilities":{"positionEncoding":"utf-16","textDocumentSync":{"change":2,"openClose":true,"save":true}},"serverInfo":{"name":"zutkrad","version":"1.0"}}"#,
+            r#"{"capabilities":{"positionEncoding":"utf-16","textDocumentSync":{"change":2,"openClose":true,"save":true},"workspace":{"workspaceFolders":{"changeNotifications":true,"supported":true}}},"serverInfo":{"name":"zutkrad","version":"1.0"}}"#,
         ),
         (
             Encoding::Utf32,
-            r#"{"capabilities":{"positionEncoding":"utf-32","textDocumentSync":{"change":2,"openClose":true,"save":true}},"serverInfo":{"name":"zutkrad","version":"1.0"}}"#,
+            r#"{"capabilities":{"positionEncoding":"utf-32","textDocumentSync":{"change":2,"openClose":true,"save":true},"workspace":{"workspaceFolders":{"changeNotifications":true,"supported":true}}},"serverInfo":{"name":"zutkrad","version":"1.0"}}"#,
         ),
     ];
     for (encoding, text) in rows {
