@@ -3,6 +3,7 @@ mod Answered
 mod Decided
 mod Documents
 mod Faults
+mod Governed
 mod Handled
 mod Joined
 mod Lost

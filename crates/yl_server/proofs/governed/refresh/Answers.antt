@@ -1,0 +1,13 @@
+use Rattle.std.proofs.Common.{◌≡◌, ◌<◌, ◌≤◌, ◌∙◌, length, refl, ap, sym, arith}
+use Rattle.yl_server.specs.Governed.{governed_document}
+use Rattle.yl_server.proofs.Governed.{all_found, length-at, one_more}
+use Rattle.yl_server.proofs.governed.refresh.Goals as goal
+
+pub loop-i-init : goal.loop-i-init
+loop-i-init g c = ?
+
+pub loop-i-preserved : goal.loop-i-preserved
+loop-i-preserved g c = ?
+
+pub returns : goal.returns
+returns g c = ?
