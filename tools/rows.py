@@ -17,7 +17,7 @@ from model.config import Config, ConfigFault  # noqa: E402
 from model.exchanges import message_bytes, refused  # noqa: E402
 from model.lint import Text, report  # noqa: E402
 from model.report import printed, status  # noqa: E402
-from model.server import Server  # noqa: E402
+from model.server import IGNORED, UNREADABLE, Server, no_files  # noqa: E402
 from model.text import TextFault, decode, edited, split  # noqa: E402
 from model.wire import (INVALID_REQUEST, METHOD_NOT_FOUND, NULL, PARSE_ERROR, Invalid, NoJson, NoMessage, Request, Response,  # noqa: E402
                         TooDeep, answer, call_of, failure, framed, next_body, read, written)
@@ -223,10 +223,21 @@ def by_bytes(tell):
 
 
 class Files:
-    """Files whose names say what is in them: at the first reading what stands before the first bar, and so on."""
+    """Files whose names say what is in them: at the first reading what stands before the first bar, and so on. Behind the question mark
+    of a URI stands in the same way what files say of its document, each time that a document is asked for: a configuration, or one of
+    these words."""
+
+    WORDS = {"ignored": IGNORED, "unreadable": UNREADABLE}
 
     def __init__(self):
-        self.readings = 0
+        self.readings, self.askings = 0, 0
+
+    def folders(self, uri, is_known):
+        said = uri.partition("?")[2].split("|")[self.askings:]
+        self.askings += 1
+        if not said or not said[0]:
+            return no_files(uri, is_known)
+        return self.WORDS.get(said[0], said[0].encode())
 
     def get(self, name):
         said = name.split("|")[self.readings:]
@@ -239,7 +250,8 @@ class Given:
     for."""
 
     def __init__(self, data):
-        server = Server(self.files.get)
+        files = self.files
+        server = Server(files.get, files.folders)
         self.bodies, self.sent, self.owed = [], [], []
         try:
             while server.status is None:

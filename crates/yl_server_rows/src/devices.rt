@@ -4,7 +4,7 @@ use std::cell::Cell;
 use std::io;
 use std::io::{ErrorKind, Read, Write};
 use yl_config::Config;
-use yl_server::{ConfigFiles, Found};
+use yl_server::{ConfigFiles, Found, Governed};
 
 /// What devices give and take.
 #[derive(Clone, Copy)]
@@ -127,16 +127,22 @@ impl Write for EditorWriter<'_> {
 }
 
 /// Files whose names say what is in them: at the first reading what stands before the first bar, at the next what stands before the next one. At
-/// further readings they are not there.
+/// further readings they are not there. Behind the question mark of a URI stands in the same way what files say of its document, each time that a
+/// document is asked for: a configuration, `ignored` or `unreadable`. Where nothing stands there is no file.
 #[derive(Drop)]
 pub struct Files<A> {
     alloc: A,
     readings: usize,
+    askings: usize,
 }
 
 impl<A> Files<A> {
     pub fn new(alloc: A) -> Files<A> {
-        Files { alloc, readings: 0 }
+        Files {
+            alloc,
+            readings: 0,
+            askings: 0,
+        }
     }
 }
 
@@ -147,6 +153,24 @@ impl<A: Allocator + Copy> ConfigFiles for Files<A> {
         match text {
             Some(text) => Found::Said(Config::read(self.alloc, text.as_bytes())),
             None => Found::Unreadable,
+        }
+    }
+
+    fn of_document(&mut self, uri: &str, is_known: bool) -> Governed {
+        let said = match uri.split_once('?') {
+            Some((_, said)) => said.split('|').nth(self.askings),
+            None => None,
+        };
+        self.askings = self.askings.saturating_add(1);
+        match said {
+            Some("ignored") => Governed::Ignored,
+            Some("unreadable") => Governed::Unreadable,
+            Some(text) if !text.is_empty() => match Config::read(self.alloc, text.as_bytes()) {
+                Ok(config) => Governed::By(config),
+                Err(fault) => Governed::Faulty(fault),
+            },
+            _ if is_known => Governed::Same,
+            _ => Governed::By(Config::standard()),
         }
     }
 }

@@ -9,7 +9,7 @@ use yl_config::Config;
 use yl_devices::{ProgramFault, RunFault};
 use yl_frames::Output;
 use yl_programs::{ended, stopped, words};
-use yl_server::{ConfigFiles, Found, ServeFault, serve};
+use yl_server::{ConfigFiles, Found, Governed, ServeFault, serve};
 use yl_sources::read_config;
 use yl_text::Watched;
 
@@ -35,6 +35,15 @@ impl ConfigFiles for Files<'_> {
             Ok(read) => Found::Said(read),
             Err(RunFault::Memory) => Found::NoMemory,
             Err(_) => Found::Unreadable,
+        }
+    }
+
+    // No file is looked for.
+    fn of_document(&mut self, _uri: &str, is_known: bool) -> Governed {
+        if is_known {
+            Governed::Same
+        } else {
+            Governed::By(Config::standard())
         }
     }
 }
