@@ -58,8 +58,12 @@ pub configured_set : (j : Option Json) (v : Json) (found : Found) (config : Opti
     → IsConfigured j old new (all_told new f)
 configured_set j v found config file most granted governed f old new h x s p n q =
     let e : Event = event_of granted governed found in
-    subst (λ (o : Option Json). IsConfigured o old new (all_told new f)) h (e, x, subst (λ (y : Setting). Becomes new (all_told new f) (set_by e (file_named (Some v)) y old)) s
-    (set_in config (file_named (Some v)) file most granted governed found f old new p n q))
+    subst (λ (o : Option Json). IsConfigured o old new (all_told new f)) h (
+      e,
+      x,
+      subst (λ (y : Setting). Becomes new (all_told new f) (set_by e (file_named (Some v)) y old)) s
+          (set_in config (file_named (Some v)) file most granted governed found f old new p n q),
+    )
 
 pub configured_faulty : (j : Option Json) (v : Json) (found : Found) (f : SettingFault) (old : ServerValue) → Some v ≡ j → IsFound (text_set (Some v)) found → Faulty f ≡ setting_of found (Some v)
     → IsConfigured j old old (Told (setting_words f) ∷ [])
@@ -99,8 +103,11 @@ pub read_set : (path : List ℕ) (found : Found) (config : Option Config) (most 
     → Set config most ≡ setting_found found None → new ≡ with_setting granted governed config old.file most old → f ≡ fault_anew config governed → IsReadAgain old new (all_told new f) old.file
 read_set path found config most granted governed f old new h s n q =
     let e : Event = event_of granted governed found in
-    subst (IsReadAgain old new (all_told new f)) h (e, subst (λ (x : Setting). Becomes new (all_told new f) (set_by e (Some path) x old)) s
-    (set_in config (Some path) old.file most granted governed found f old new (sym h) n q))
+    subst (IsReadAgain old new (all_told new f)) h (
+      e,
+      subst (λ (x : Setting). Becomes new (all_told new f) (set_by e (Some path) x old)) s
+          (set_in config (Some path) old.file most granted governed found f old new (sym h) n q),
+    )
 
 pub read_faulty : (path : List ℕ) (found : Found) (f : SettingFault) (old : ServerValue) → Some path ≡ old.file → Faulty f ≡ setting_found found None → IsReadAgain old old (Told (setting_words f) ∷ []) old.file
 read_faulty path found f old h s =
@@ -255,6 +262,8 @@ opened_with j o old new config f grants found b h c q n k =
     let ms = told_of o.uri new ∷ told_fault (cond b f (Some fault.Memory)) in
     let is : new ≡ with_documents (opened (config_at_first old.standard old.config found) grants o old.documents) old =
     n ∙ ap (λ (x : Option Config). with_documents (opened x grants o old.documents) old) c in
-    let so = opened_so old new o (opened (config_at_first old.standard old.config found) grants o old.documents) (fault_at_first old.config found) b is k in
-    (e, subst (λ (x : Option OpenedValue). Becomes new ms (noticed_running e (option_map_or Opens x (spoils j)) old)) h
-    (subst (λ (x : Option SettingFault). Becomes new (told_of o.uri new ∷ told_fault (cond b x (Some fault.Memory))) (opened_by e o old)) (sym q) so))
+    let so = opened_so old new o (opened (config_at_first old.standard old.config found) grants o old.documents) (fault_at_first old.config found) b is k in (
+      e,
+      subst (λ (x : Option OpenedValue). Becomes new ms (noticed_running e (option_map_or Opens x (spoils j)) old)) h
+          (subst (λ (x : Option SettingFault). Becomes new (told_of o.uri new ∷ told_fault (cond b x (Some fault.Memory))) (opened_by e o old)) (sym q) so),
+    )

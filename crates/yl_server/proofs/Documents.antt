@@ -101,15 +101,12 @@ or_parts : (a b : Bool) → (a || b) ≡ false → (a ≡ false) × (b ≡ false
 or_parts true b h = cc
 or_parts false b h = (refl, h)
 
-same_front_of : (x y : DocumentValue) (xs ys : List DocumentValue) → x ≡ y → xs ≡ ys → x ∷ xs ≡ y ∷ ys
-same_front_of x y xs ys e f = ap (λ (d : DocumentValue). d ∷ xs) e ∙ ap (λ (ds : List DocumentValue). y ∷ ds) f
-
 pub unchanged : (found : List Governed) (grants : List Bool) (ds : List DocumentValue) → is_changed found ≡ false → governed_each found grants ds ≡ ds
 unchanged found grants [] h = refl
-unchanged [] grants (d ∷ ds) h = same_front_of _ _ _ _ refl (unchanged [] (drop 1 grants) ds refl)
+unchanged [] grants (d ∷ ds) h = ap (λ (l : List DocumentValue). d ∷ l) (unchanged [] (drop 1 grants) ds refl)
 unchanged (g ∷ gs) grants (d ∷ ds) h =
     let parts = or_parts (is_some (judged g)) (is_changed gs) h in
-    same_front_of _ _ _ _ (stays (judged g) (is_granted grants) d parts.0) (unchanged gs (drop 1 grants) ds parts.1)
+    ap (λ (x : DocumentValue). x ∷ governed_each gs (drop 1 grants) ds) (stays (judged g) (is_granted grants) d parts.0) ∙ ap (λ (l : List DocumentValue). d ∷ l) (unchanged gs (drop 1 grants) ds parts.1)
 
 same_front : (uri : List ℕ) (other : DocumentValue → DocumentValue) (d : DocumentValue) (ds : List DocumentValue) (a : Bool) → ((x : DocumentValue) → (other x).uri ≡ x.uri)
     → AreSame ds (with_document uri other ds) → AreSame (d ∷ ds) (cond a (other d ∷ ds) (d ∷ with_document uri other ds))

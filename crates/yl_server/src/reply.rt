@@ -88,10 +88,7 @@ fn tell_one<W: Write>(fault: SettingFault, out: &mut Output<W>) -> Result<(), Se
 }
 
 // The same, where something is wrong.
-fn tell_fault<W: Write>(
-    fault: Option<SettingFault>,
-    out: &mut Output<W>,
-) -> Result<(), SendFault>
+fn tell_fault<W: Write>(fault: Option<SettingFault>, out: &mut Output<W>) -> Result<(), SendFault>
     requires { failures_of (watched_of out.old) < 2 ^ 64 - 1 }
     ensures ok { OnOk result (AreSent (sink W.contents out.old out.new) (told_fault fault)) }
     ensures err { IfErr result (AreCut (sink W.contents out.old out.new) (told_fault fault)) }

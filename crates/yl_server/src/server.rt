@@ -21,9 +21,7 @@ ghost use Rattle.yl_server.specs.Steps.{AreCut, IsBodyMet, IsDone, IsHandled, Is
 use crate::governed::{fault_in, judged_at_first, refresh};
 use crate::phase::Phase;
 use crate::reply::Reply;
-use crate::settings::{
-    ConfigFiles, Setting, SettingFault, file_named, setting_found, setting_of,
-};
+use crate::settings::{ConfigFiles, Setting, SettingFault, file_named, setting_found, setting_of};
 use crate::words::{INITIALIZED, MEMORY, NO_JSON, NO_REQUEST, PARAMS, STOPPED, UNKNOWN, WAITING};
 use json::{Scratch, Value};
 use std::alloc::{AllocError, Allocator};
@@ -427,11 +425,7 @@ impl<S: LineStore> Server<S> {
         }
     }
 
-    fn open<'a, F: ConfigFiles>(
-        &mut self,
-        params: &Value<'a, S::Alloc>,
-        files: &mut F,
-    ) -> Reply<'a>
+    fn open<'a, F: ConfigFiles>(&mut self, params: &Value<'a, S::Alloc>, files: &mut F) -> Reply<'a>
         ensures { (e : Event) × IsReplied self.new result (machine.noticed_running e (spec.opens (value_view params.now)) self.old) }
     {
         let Some(opened) = opened_in(params) else {

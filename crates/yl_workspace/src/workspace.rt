@@ -57,11 +57,7 @@ impl<S: LineStore> Workspace<S> {
     /// Opens a document, or opens it anew (`textDocument/didOpen`); with no configuration it is ignored. Where there is no memory for its
     /// text, or to note that it is opened anew, its text is lost; where there is none to enter a document that is not open, that is an error,
     /// and nothing changes.
-    pub fn open(
-        &mut self,
-        config: Option<Config>,
-        document: Opened<'_>,
-    ) -> Result<(), AllocError>
+    pub fn open(&mut self, config: Option<Config>, document: Opened<'_>) -> Result<(), AllocError>
         ensures opened { (grants : List Bool) × (self.new ≡ opened config grants (opened_value document.entry) self.old) }
         ensures ok { OnOk result (IsSome (document_at document.entry.uri.now self.new)) }
         ensures err { OnErr result (self.new ≡ self.old) }
