@@ -164,39 +164,28 @@ begun_set id j o q found config file most granted governed old mid new h f s p b
           (is, ap (λ x. Initialized id x ∷ []) (ap (λ (t : ServerValue). t.how.encoding) is)),
     )
 
--- faults are told, but for want of memory
-abbrev pub IsNoWant : SettingFault → Type 0
-IsNoWant fault.Memory = ⊥
-IsNoWant _ = Unit {0}
-
-faulty_begun : (e : Event) (id : IdValue) (j : Json) (file : Option (List ℕ)) (f : SettingFault) (s : ServerValue) → IsNoWant f
-    → Becomes (initialized j s) (Initialized id (encoding_in j) ∷ Told (setting_words f) ∷ []) (initialized_by e id j file (Faulty f) s)
-faulty_begun e id j file fault.Shape s n = (refl, refl)
-faulty_begun e id j file fault.Unreadable s n = (refl, refl)
-faulty_begun e id j file fault.Memory s n = absurd n
-faulty_begun e id j file (fault.Refused f) s n = (refl, refl)
-
-pub begun_faulty : (id : IdValue) (j : Json) (o q : Option Json) (found : Found) (f : SettingFault) (old new : ServerValue) → o ≡ q → IsFound (text_set o) found → Faulty f ≡ setting_of found o → IsNoWant f
-    → new ≡ initialized j old → IsBegun id j q old new (Initialized id new.how.encoding ∷ Told (setting_words f) ∷ [])
-begun_faulty id j o q found f old new h x s n b =
+pub begun_by : (id : IdValue) (j : Json) (o q : Option Json) (found : Found) (f : SettingFault) (old new : ServerValue) (ms : List MessageValue) → o ≡ q → IsFound (text_set o) found → Faulty f ≡ setting_of found o
+    → ((e : Event) (file : Option (List ℕ)) → Becomes new ms (initialized_by e id j file (Faulty f) old)) → IsBegun id j q old new ms
+begun_by id j o q found f old new ms h x s b =
     let e : Event = event_of [] [] found in
-    let ms : ServerValue → List MessageValue = λ t. Initialized id t.how.encoding ∷ Told (setting_words f) ∷ [] in
-    subst (λ (r : Option Json). IsBegun id j r old new (ms new)) h (
-      e,
-      x,
-      subst (λ (y : Setting). Becomes new (ms new) (initialized_by e id j (file_named o) y old)) s
-          (subst (λ (t : ServerValue). Becomes t (ms t) (initialized_by e id j (file_named o) (Faulty f) old)) (sym b) (faulty_begun e id j (file_named o) f old n)),
-    )
-
-pub begun_no_memory : (id : IdValue) (j : Json) (o q : Option Json) (found : Found) (old : ServerValue) → o ≡ q → IsFound (text_set o) found → Faulty fault.Memory ≡ setting_of found o
-    → IsBegun id j q old old (Refused id InternalError memory_words ∷ [])
-begun_no_memory id j o q found old h f s =
-    let e : Event = event_of [] [] found in
-    subst (λ (r : Option Json). IsBegun id j r old old (Refused id InternalError memory_words ∷ [])) h
-    (e, f, subst (λ (x : Setting). Becomes old (Refused id InternalError memory_words ∷ []) (initialized_by e id j (file_named o) x old)) s (refl, refl))
+    subst (λ (r : Option Json). IsBegun id j r old new ms) h (e, x, subst (λ (y : Setting). Becomes new ms (initialized_by e id j (file_named o) y old)) s (b e (file_named o)))
 
 pub begun_unnamed : (id : IdValue) (j : Json) (o q : Option Json) (old : ServerValue) → o ≡ q → IsSome (file_named o) → IsBegun id j q old old (Refused id InternalError memory_words ∷ [])
-begun_unnamed id j o q old h n = let k = named_no_memory o n in begun_no_memory id j o q found.NoMemory old h k.0 k.1
+begun_unnamed id j o q old h n =
+    let k = named_no_memory o n in
+    begun_by id j o q found.NoMemory fault.Memory old old (Refused id InternalError memory_words ∷ []) h k.0 k.1 (λ e file. (refl, refl))
+
+-- faults are told, but for want of memory
+pub begun_faulty : (e : Event) (id : IdValue) (j : Json) (file : Option (List ℕ)) (f : SettingFault) (old new : ServerValue) → (f ≡ fault.Memory → ⊥) → new ≡ initialized j old
+    → Becomes new (Initialized id new.how.encoding ∷ Told (setting_words f) ∷ []) (initialized_by e id j file (Faulty f) old)
+begun_faulty e id j file f old new n b =
+    subst (λ (t : ServerValue). Becomes t (Initialized id t.how.encoding ∷ Told (setting_words f) ∷ []) (initialized_by e id j file (Faulty f) old)) (sym b) (of f n)
+  where
+    of : (x : SettingFault) → (x ≡ fault.Memory → ⊥) → Becomes (initialized j old) (Initialized id (encoding_in j) ∷ Told (setting_words x) ∷ []) (initialized_by e id j file (Faulty x) old)
+    of fault.Shape m = (refl, refl)
+    of fault.Unreadable m = (refl, refl)
+    of fault.Memory m = absurd (m refl)
+    of (fault.Refused x) m = (refl, refl)
 
 abbrev pub IsInitialized : (id : IdValue) → Option Json → (old new : ServerValue) → List MessageValue → Type 0
 IsInitialized id o old new ms = (e : Event) × IsFound (text_set (option_and_then first_settings o)) e.found × Becomes new ms (initialized_with e id o old)

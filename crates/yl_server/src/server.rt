@@ -1,5 +1,5 @@
 //! A server, and what each message makes of it.
-ghost use Rattle.std.specs.Prelude.{◌≡◌, ◌-◌, ◌^◌, ◌<◌, ◌∷◌, [], Bool, List, map, Option, IfErr, IfOk, Some, option_and_then, option_copied, string_bytes};
+ghost use Rattle.std.specs.Prelude.{◌≡◌, ℕ, ◌-◌, ◌^◌, ◌<◌, ◌∷◌, [], Bool, List, map, Option, IfErr, IfOk, Some, option_and_then, option_copied, string_bytes};
 ghost use Rattle.std.specs.Option.{option_map, option_map_or};
 ghost use Rattle.json.specs.Json.{Json};
 ghost use Rattle.json.specs.Value.{value_view};
@@ -15,6 +15,7 @@ ghost use Rattle.yl_server.specs.Events.{Event, Read as Came};
 ghost use Rattle.yl_server.specs.Governed.{config_at_first, fault_anew, fault_at_first};
 ghost use Rattle.yl_server.specs.Requests as spec;
 ghost use Rattle.yl_server.specs.Machine as machine;
+ghost use Rattle.yl_server.specs.declared.settings.Setting.TheVariants.{Faulty};
 ghost use Rattle.yl_server.specs.Replies.{IsReplied};
 ghost use Rattle.yl_server.specs.Steps.{AreCut, IsBodyMet, IsDone, IsHandled, IsHandlingCut, IsMet, sink, unread_answer};
 
@@ -308,10 +309,22 @@ impl<S: LineStore> Server<S> {
                 self.set(config, file, most, files);
                 Reply::Welcome(id, None)
             }
-            Setting::Faulty(SettingFault::Memory) => {
-                Reply::Refused(id, Code::InternalError, MEMORY)
-            }
-            Setting::Faulty(fault) => {
+            Setting::Faulty(fault) => self.begin_faulty(id, params, fault),
+        }
+    }
+
+    // Begins to run where settings are faulty, but not where there was no memory for them.
+    fn begin_faulty<'a>(
+        &mut self,
+        id: Id<'a>,
+        params: &Value<'_, S::Alloc>,
+        fault: SettingFault,
+    ) -> Reply<'a>
+        ensures { (e : Event) (file : Option (List ℕ)) → IsReplied self.new result (machine.initialized_by e (id_view id.entry) (value_view params.now) file (Faulty fault) self.old) }
+    {
+        match fault {
+            SettingFault::Memory => Reply::Refused(id, Code::InternalError, MEMORY),
+            SettingFault::Shape | SettingFault::Unreadable | SettingFault::Refused(_) => {
                 self.begin(params);
                 Reply::Welcome(id, Some(fault))
             }
