@@ -3,11 +3,11 @@ use Rattle.std.proofs.Common.{◌≡◌, ℕ, ◌+◌, ◌<◌, ◌≤◌, zero,
 use Rattle.std.specs.Prelude.{◌||◌}
 use Rattle.std.specs.Option.{option_map_or, option_or}
 use Rattle.yl_config.specs.declared.config.Config.{Config}
-use Rattle.yl_workspace.specs.Documents.{DocumentValue, configured_document, with_document_at}
+use Rattle.yl_workspace.specs.Documents.{DocumentValue, configured, configured_document, with_document_at}
 use Rattle.yl_workspace.proofs.Lists.{each_done, each_step, with_index}
 use Rattle.yl_server.specs.declared.governed.Governed.{Governed}
 use Rattle.yl_server.specs.declared.settings.SettingFault.{SettingFault}
-use Rattle.yl_server.specs.Governed.{fault_in, first_fault, governed_document, governed_each, is_changed, judged}
+use Rattle.yl_server.specs.Governed.{config_at_first, fault_anew, fault_at_first, fault_in, first_fault, governed_document, governed_each, is_changed, judged, judged_anew}
 
 -- ---- one document
 
@@ -71,3 +71,23 @@ pub all_found : (i : ℕ) (start now : List DocumentValue) (changed : Bool) (f :
 all_found i start now changed f l h =
     let done = h [] [] in
     (done.0, done.1, each_done (governed_each [] []) refl now i l ∙ done.2, sym (or_false changed) ∙ done.3, sym (or_none f) ∙ done.4)
+
+-- ---- where the settings name a configuration, or none
+
+pub first_named : (standard : Config) (config : Option Config) → is_some config ≡ true → (config ≡ config_at_first standard config []) × (None ≡ fault_at_first config [])
+first_named standard None h = cc
+first_named standard (Some c) h = (refl, refl)
+
+pub first_unnamed : (standard : Config) (config : Option Config) (g : Governed) → is_some config ≡ false
+    → (config_at_first standard None (g ∷ []) ≡ config_at_first standard config (g ∷ [])) × (fault_in g ≡ fault_at_first config (g ∷ []))
+first_unnamed standard None g h = (refl, refl)
+first_unnamed standard (Some c) g h = cc
+
+pub anew_named : (config : Option Config) (grants : List Bool) (ds : List DocumentValue) → is_some config ≡ true → (configured config grants ds ≡ judged_anew config [] grants ds) × (None ≡ fault_anew config [])
+anew_named None grants ds h = cc
+anew_named (Some c) grants ds h = (refl, refl)
+
+pub anew_unnamed : (config : Option Config) (found : List Governed) (grants : List Bool) (ds : List DocumentValue) → is_some config ≡ false
+    → (governed_each found grants ds ≡ judged_anew config found grants ds) × (first_fault found ≡ fault_anew config found)
+anew_unnamed None found grants ds h = (refl, refl)
+anew_unnamed (Some c) found grants ds h = cc

@@ -1,5 +1,6 @@
 //! A document that an editor has open.
-ghost use Rattle.std.specs.Prelude.{◌≡◌, Bool, not, List, is_some, Err, IfOk, MatchResult, map};
+ghost use Rattle.std.specs.Prelude.{◌≡◌, Bool, if◌then◌else◌, List, None, Some, Err, IfOk, MatchResult, map};
+ghost use Rattle.std.specs.Option.{is_none};
 ghost use Rattle.yl_lsp.specs.Read.{change_value, opened_value};
 
 use crate::Cause;
@@ -52,10 +53,23 @@ impl<S: LineStore> Document<S> {
     ) -> Result<Document<S>, AllocError>
         ensures { IfOk result (λ d. (granted : Bool) × (d ≡ opened_document config granted (opened_value document.entry))) }
     {
+        match config {
+            Some(config) => Document::judged(alloc, config, false, document),
+            None => Document::judged(alloc, Config::standard(), true, document),
+        }
+    }
+
+    // The same by a configuration, also of one that is ignored.
+    fn judged(
+        alloc: S::Alloc,
+        config: Config,
+        is_ignored: bool,
+        document: Opened<'_>,
+    ) -> Result<Document<S>, AllocError>
+        ensures { IfOk result (λ d. (granted : Bool) × (d ≡ opened_document (if is_ignored then None else Some config) granted (opened_value document.entry))) }
+    {
         let uri = String::from_str(alloc, document.uri)?;
         let version = String::from_str(alloc, document.version)?;
-        let is_ignored = config.is_none();
-        let config = config.unwrap_or(Config::standard());
         let text = opened_text(alloc, config, document.text);
         Ok(Document {
             uri,
@@ -97,7 +111,7 @@ impl<S: LineStore> Document<S> {
 
     /// Whether nothing is told of its text.
     pub fn is_ignored(&self) -> bool
-        ensures { result ≡ not (is_some self.now.config) }
+        ensures { result ≡ is_none self.now.config }
     {
         self.is_ignored
     }
