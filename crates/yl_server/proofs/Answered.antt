@@ -10,7 +10,7 @@ use Rattle.yl_config.specs.declared.config.Config.{Config}
 use Rattle.yl_server.specs.declared.phase.Phase.{Phase}
 use Rattle.yl_server.specs.declared.phase.Phase.TheVariants.{Waiting, Running, Stopped}
 use Rattle.yl_server.specs.Events.{Came, Read, NoJson, Dropped, Event, asked_id, asked_ids, listed}
-use Rattle.yl_server.specs.Governed.{config_at_first, fault_anew, fault_at_first, first_fault, governed_each, is_changed, judged_anew}
+use Rattle.yl_server.specs.Folders.{config_at_first, fault_anew, fault_at_first, first_fault, governed_each, is_changed, judged_anew}
 use Rattle.yl_server.specs.Messages.{MessageValue, Published, Watches, Shown, answered_id, answered_ids}
 use Rattle.yl_server.specs.Requests.{RequestValue, Initialize, Shutdown, Unknown, request_of, object_of, NoticeValue, Opens, Changes, Spoils, Closes, Sets, Starts, Refreshes, Exits, Passed, notice_of}
 use Rattle.yl_server.specs.declared.settings.Setting.{Setting}

@@ -20,7 +20,7 @@ use Rattle.yl_server.specs.declared.settings.SettingFault.{SettingFault}
 use Rattle.yl_server.specs.declared.settings.SettingFault.TheVariants as fault
 use Rattle.yl_server.specs.Bodies.{IsFound, requested_settings, text_set}
 use Rattle.yl_server.specs.Events.{NoJson, Event}
-use Rattle.yl_server.specs.Governed.{config_at_first, fault_anew, fault_at_first, first_fault, governed_each, is_changed}
+use Rattle.yl_server.specs.Folders.{config_at_first, fault_anew, fault_at_first, first_fault, governed_each, is_changed}
 use Rattle.yl_server.specs.Machine.{ServerValue, Stepped, answered, answered_running, governed_by, initialized, initialized_by, initialized_with, memory_words, noticed_running, opened_by, params_words, read_again, refreshed_by, set_by, set_with, stopped_words, told_fault, told_of, told_of_all, waiting_words, with_documents, with_setting}
 use Rattle.yl_server.specs.Messages.{MessageValue, Initialized, Refused, Told}
 use Rattle.yl_server.specs.Requests.{NoticeValue, Opens, RequestValue, opens, request_of, spoils}

@@ -11,7 +11,7 @@ use Rattle.yl_workspace.specs.declared.cause.Cause.TheVariants.{OutOfMemory}
 use Rattle.yl_workspace.specs.Changes.{is_granted, text_after_changes}
 use Rattle.yl_workspace.specs.Documents.{DocumentValue, all_lost, changed_document, closed, configured, configured_document, document_at, lost, lost_document, opened, opened_document, put_document, with_document}
 use Rattle.yl_server.specs.declared.governed.Governed.{Governed}
-use Rattle.yl_server.specs.Governed.{first_found, governed_each, is_changed, judged, judged_anew}
+use Rattle.yl_server.specs.Folders.{first_found, governed_each, is_changed, judged, judged_anew}
 
 -- ---- URIs
 

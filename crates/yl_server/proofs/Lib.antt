@@ -3,7 +3,7 @@ mod Answered
 mod Decided
 mod Documents
 mod Faults
-mod Governed
+mod Folders
 mod Handled
 mod Joined
 mod Lost

@@ -24,7 +24,7 @@ use Rattle.yl_text.specs.declared.TheConstants.{MAX_BYTES}
 use Rattle.yl_text.specs.Lines.{lines_of}
 use Rattle.yl_text.specs.Edit.{offset, edited_text}
 use Rattle.yl_units.specs.Places.{place_of}
-use Rattle.yl_server.specs.Governed.{config_at_first, first_found, governed_each, judged, judged_anew}
+use Rattle.yl_server.specs.Folders.{config_at_first, first_found, governed_each, judged, judged_anew}
 use Rattle.yl_server.specs.Laws.{AreLostForCause, Each, Gives, GivesText, IsCause, IsMissed, IsRefused, SomeEvent}
 use Rattle.yl_server.specs.Requests.{RequestValue, Initialize, Shutdown, Unknown, request_of, object_of, NoticeValue, Opens, Changes, Spoils, Closes, Sets, Starts, Refreshes, Exits, Passed, notice_of}
 use Rattle.yl_server.specs.Settings.{file_named, setting_found, setting_of}

@@ -1,6 +1,6 @@
 pub mod Bodies
 pub mod Events
-pub mod Governed
+pub mod Folders
 pub mod Laws
 pub mod Machine
 pub mod Messages

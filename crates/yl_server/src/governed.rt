@@ -2,7 +2,7 @@
 ghost use Rattle.std.specs.Prelude.{◌≡◌, ◌<◌, ◌||◌, Bool, List, [], ◌∷◌, None, length, is_some};
 ghost use Rattle.std.specs.Option.{option_or};
 ghost use Rattle.yl_workspace.specs.Documents.{with_document_at};
-ghost use Rattle.yl_server.specs.Governed as spec;
+ghost use Rattle.yl_server.specs.Folders as spec;
 
 use crate::settings::{ConfigFiles, SettingFault, refused_by};
 use yl_config::{Config, ConfigFault};

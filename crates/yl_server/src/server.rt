@@ -12,7 +12,7 @@ ghost use Rattle.yl_lsp.specs.Read.{change_value};
 ghost use Rattle.yl_workspace.specs.Documents as docs;
 ghost use Rattle.yl_server.specs.Bodies.{IsFound, noticed_settings, requested_settings, settings_of_notice, text_set};
 ghost use Rattle.yl_server.specs.Events.{Event, Read as Came};
-ghost use Rattle.yl_server.specs.Governed.{config_at_first, fault_anew, fault_at_first};
+ghost use Rattle.yl_server.specs.Folders.{config_at_first, fault_anew, fault_at_first};
 ghost use Rattle.yl_server.specs.Requests as spec;
 ghost use Rattle.yl_server.specs.Machine as machine;
 ghost use Rattle.yl_server.specs.declared.settings.Setting.TheVariants.{Faulty};

@@ -1,5 +1,5 @@
 use Rattle.std.proofs.Common.{true}
-use Rattle.yl_server.proofs.Governed.{governed_at, governed_not}
+use Rattle.yl_server.proofs.Folders.{governed_at, governed_not}
 use Rattle.yl_server.proofs.governed.govern.Goals as goal
 
 pub returns-in-Some : goal.returns-in-Some

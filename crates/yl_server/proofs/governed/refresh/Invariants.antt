@@ -1,5 +1,5 @@
 use Rattle.std.proofs.Common.{◌≡◌, length}
-use Rattle.yl_server.proofs.Governed.{IsRefreshedTo}
+use Rattle.yl_server.proofs.Folders.{IsRefreshedTo}
 use Rattle.yl_server.proofs.governed.refresh.Given as goal
 
 -- whatever is found of the rest, and whatever memory they are granted, all are by then as something is found of all

@@ -1,5 +1,5 @@
 use Rattle.std.proofs.Common.{[]}
-use Rattle.yl_server.proofs.Governed.{anew_named, anew_unnamed}
+use Rattle.yl_server.proofs.Folders.{anew_named, anew_unnamed}
 use Rattle.yl_server.proofs.server.Server.judge_by.Goals as goal
 
 pub returns-then-is_some : goal.returns-then-is_some

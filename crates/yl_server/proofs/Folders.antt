@@ -7,7 +7,7 @@ use Rattle.yl_workspace.specs.Documents.{DocumentValue, configured, configured_d
 use Rattle.yl_workspace.proofs.Lists.{each_done, each_step, with_index}
 use Rattle.yl_server.specs.declared.governed.Governed.{Governed}
 use Rattle.yl_server.specs.declared.settings.SettingFault.{SettingFault}
-use Rattle.yl_server.specs.Governed.{config_at_first, fault_anew, fault_at_first, fault_in, first_fault, governed_document, governed_each, is_changed, judged, judged_anew}
+use Rattle.yl_server.specs.Folders.{config_at_first, fault_anew, fault_at_first, fault_in, first_fault, governed_document, governed_each, is_changed, judged, judged_anew}
 
 -- ---- one document
 
