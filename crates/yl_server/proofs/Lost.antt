@@ -28,7 +28,7 @@ use Rattle.yl_server.specs.Folders.{config_at_first, first_found, governed_each,
 use Rattle.yl_server.specs.Laws.{AreLostForCause, Each, Gives, GivesText, IsCause, IsMissed, IsRefused, SomeEvent}
 use Rattle.yl_server.specs.Requests.{RequestValue, Initialize, Shutdown, Unknown, request_of, object_of, NoticeValue, Opens, Changes, Spoils, Closes, Sets, Starts, Refreshes, Exits, Passed, notice_of}
 use Rattle.yl_server.specs.Settings.{file_named, setting_found, setting_of}
-use Rattle.yl_server.specs.Machine.{ServerValue, Stepped, after, answered, initialized, initialized_by, initialized_with, noticed, noticed_running, read_again, refreshed_by, set_by, set_with, started, step, stepped}
+use Rattle.yl_server.specs.Machine.{ServerValue, Stepped, after, answered, initialized_by, initialized_with, noticed, noticed_running, read_again, refreshed_by, set_by, set_with, started, step, stepped}
 
 -- ---- why a change may lose a text
 
