@@ -16,11 +16,6 @@ same_at i [] = refl
 same_at zero (d ∷ ds) = refl
 same_at (suc i) (d ∷ ds) = ap (λ (l : List DocumentValue). d ∷ l) (same_at i ds)
 
-pub length-at : (i : ℕ) (other : DocumentValue → DocumentValue) (ds : List DocumentValue) → length (with_document_at i other ds) ≡ length ds
-length-at i other [] = refl
-length-at zero other (d ∷ ds) = refl
-length-at (suc i) other (d ∷ ds) = ap suc (length-at i other ds)
-
 abbrev at_by : ℕ → Bool → Option (Option Config) → List DocumentValue → List DocumentValue
 at_by i granted o ds = with_document_at i (λ d. option_map_or (λ c. configured_document c granted d) o d) ds
 

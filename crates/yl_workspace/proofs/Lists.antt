@@ -170,3 +170,8 @@ pub with_index : (i : ℕ) (other : DocumentValue → DocumentValue) (ds : Docs)
 with_index i other [] d0 l = absurd (omega arith)
 with_index zero other (d ∷ ds) d0 l = refl
 with_index (suc i) other (d ∷ ds) d0 l = ap (λ (t : Docs). d ∷ t) (with_index i other ds d0 (omega arith))
+
+pub length-at : (i : ℕ) (other : DocumentValue → DocumentValue) (ds : Docs) → length (with_document_at i other ds) ≡ length ds
+length-at i other [] = refl
+length-at zero other (d ∷ ds) = refl
+length-at (suc i) other (d ∷ ds) = ap suc (length-at i other ds)

@@ -123,7 +123,7 @@ impl<S: LineStore> Workspace<S> {
         ensures { (granted : Bool) × (self.new ≡ configured_at index config granted self.old) }
     {
         let alloc = self.alloc;
-        self.documents[index].configure(alloc, config);
+        configure_one(alloc, index, config, &mut self.documents);
     }
 }
 
@@ -166,4 +166,17 @@ fn configure_each<S: LineStore>(
     for document in documents {
         document.configure(alloc, config);
     }
+}
+
+/// Judges the text of the document at an index anew.
+fn configure_one<S: LineStore>(
+    alloc: S::Alloc,
+    index: usize,
+    config: Option<Config>,
+    documents: &mut [Document<S>],
+)
+    requires { index < length documents.old }
+    ensures { (granted : Bool) × (documents.new ≡ configured_at index config granted documents.old) }
+{
+    documents[index].configure(alloc, config);
 }
