@@ -1,4 +1,4 @@
-use Rattle.std.proofs.Common.{◌≡◌, List, get_or, set, sym, ◌∙◌, ap}
+use Rattle.std.proofs.Common.{List, set, sym, ◌∙◌, ap}
 use Rattle.yl_workspace.specs.Documents.{DocumentValue, configured_document}
 use Rattle.yl_workspace.proofs.Lists.{with_index}
 use Rattle.yl_workspace.proofs.workspace.configure_one.Goals as goal
@@ -10,4 +10,4 @@ returns g c =
     let d : DocumentValue = c.index-documents-index.result in
     let made = c.configure.ensures in
     let other : DocumentValue → DocumentValue = λ a. configured_document c.args.config made.0 a in
-    (made.0, ap (λ a. set ds i a) (made.1 ∙ ap other c.index-documents-index.is) ∙ sym (with_index i other ds d c.requires))
+    (made.0, ap (λ a. set ds i a) made.1 ∙ sym (with_index i other ds d c.requires))
