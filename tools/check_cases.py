@@ -83,6 +83,10 @@ FILES = [
     # What is ignored is not opened.
     case(["-d", "{extends: default, ignore: a.yaml}", ".", "a.yaml"], {"a.yaml": Link("none"), "f.yaml": START}, NO_START("./f.yaml")),
     case(["-d", "{extends: default, ignore: a.yaml}", "a.yaml"], {"a.yaml": b"\xff"}),
+    # Patterns: what stands for characters of a name stands for no `/`, and `/**/` is what lies in some folder.
+    case(["--list-files", "-d", "ignore: ['a[!b]c.yaml', 'a?c.yaml', 'a*c.yaml']", "."], {"a/c.yaml": START, "axc.yaml": START},
+         "./a/c.yaml\n"),
+    case(["--list-files", "-d", "ignore: /**/", "."], {"a/c.yaml": START, "f.yaml": START}, "./f.yaml\n"),
     # Links to folders.
     case(["--list-files", "."], {"a/f.yaml": START, "b": Link("a")}, "./a/f.yaml\n"),
     case(["--list-files", "b", "b/"], {"a/f.yaml": START, "b": Link("a")}, "b/f.yaml\nb/f.yaml\n"),

@@ -99,6 +99,9 @@ def random_pattern(rng, tree):
         return line if rng.random() < 0.5 else line.replace("\\", "")
     parts = [_random_part(rng, name) for name in rng.choice(tree).path.split("/")]
     line = "/".join(parts[rng.randrange(len(parts)):] if rng.random() < 0.5 else parts)
+    if rng.random() < 0.15:
+        # What stands for characters of a name stands for no `/`.
+        line = line.replace("/", rng.choice(CLASSES), 1)
     return rng.choice(["", "", "", "", "!", "/", "**/", "# ", " "]) + line + rng.choice(["", "", "", "/", "/*", "/**", " "])
 
 
