@@ -6,7 +6,7 @@ ghost use Rattle.yl_devices.specs.Written.{AppendsFront, Passes};
 ghost use Rattle.yl_formats.specs.Formats.{colored_level, colored_line, padded, rule_between, syntax_mark, with_attribute};
 
 use crate::rule::{mark_of, name_between};
-use crate::spaces::spaces_behind;
+use crate::spaces::spaces_after;
 use itoa::Buffer;
 use std::alloc::Allocator;
 use std::io::Write;
@@ -46,8 +46,8 @@ fn parts_of<'a>(
     let line: &'a [u8] = line.as_bytes();
     let column: &'a [u8] = column.as_bytes();
     let level: &'a [u8] = colored_name(level);
-    let before_level: &'a [u8] = spaces_behind(&[start, line, colon, column, plain], 20);
-    let before_message: &'a [u8] = spaces_behind(
+    let before_level: &'a [u8] = spaces_after(&[start, line, colon, column, plain], 20);
+    let before_message: &'a [u8] = spaces_after(
         &[start, line, colon, column, plain, before_level, level],
         38,
     );
@@ -74,7 +74,7 @@ fn parts_of<'a>(
     ]
 }
 
-/// Puts the line of a problem behind what waits.
+/// Puts the line of a problem after what waits.
 pub(crate) fn put_line<W: Write, A: Allocator>(
     problem: &Problem<A>,
     out: &mut Watched<W>,

@@ -65,7 +65,7 @@ fn parts_of<'a>(
     ]
 }
 
-/// Puts the line of a problem of the file of this name behind what waits.
+/// Puts the line of a problem of the file of this name after what waits.
 pub(crate) fn put_line<W: Write, A: Allocator>(
     name: &str,
     problem: &Problem<A>,

@@ -36,7 +36,7 @@ fn end_parts(listing: Listing) -> [&'static [u8]; 1]
     }
 }
 
-// Puts what begins the lines of a file behind what waits.
+// Puts what begins the lines of a file after what waits.
 fn put_head<W: Write>(
     listing: Listing,
     name: &str,
@@ -54,7 +54,7 @@ fn put_head<W: Write>(
     put_parts(out, waiting, &head_parts(listing, name))
 }
 
-// Puts what ends the lines of a file behind what waits.
+// Puts what ends the lines of a file after what waits.
 fn put_end<W: Write>(
     listing: Listing,
     out: &mut Watched<W>,
@@ -85,7 +85,7 @@ fn are_hidden<A: Allocator>(problems: &[Problem<A>], no_warnings: bool) -> bool
         .all(|problem| is_hidden(problem, no_warnings))
 }
 
-// Puts the line of a problem behind what waits.
+// Puts the line of a problem after what waits.
 fn put_line<W: Write, A: Allocator>(
     listing: Listing,
     name: &str,
@@ -108,7 +108,7 @@ fn put_line<W: Write, A: Allocator>(
     }
 }
 
-// Puts what is printed of a problem behind what waits.
+// Puts what is printed of a problem after what waits.
 fn put_problem<W: Write, A: Allocator>(
     listing: Listing,
     name: &str,
@@ -132,7 +132,7 @@ fn put_problem<W: Write, A: Allocator>(
     }
 }
 
-// Puts what is printed of the problems behind what waits.
+// Puts what is printed of the problems after what waits.
 fn put_problems<W: Write, A: Allocator>(
     listing: Listing,
     name: &str,
@@ -155,7 +155,7 @@ fn put_problems<W: Write, A: Allocator>(
     Ok(())
 }
 
-// Puts the lines of the problems, and what begins and ends them, behind what waits.
+// Puts the lines of the problems, and what begins and ends them, after what waits.
 fn put_listing<W: Write, A: Allocator>(
     listing: Listing,
     name: &str,

@@ -11,14 +11,14 @@ fn is_syntax(rule: RuleId) -> bool
     matches!(rule, RuleId::Syntax)
 }
 
-/// What stands behind the message of a problem of a rule.
+/// What stands after the message of a problem of a rule.
 pub(crate) fn mark_of(rule: RuleId) -> &'static [u8]
     ensures { result.now ≡ syntax_mark rule }
 {
     if is_syntax(rule) { b" (syntax)" } else { b"" }
 }
 
-/// A rule's name and what stands before and behind it.
+/// A rule's name and what stands before and after it.
 #[derive(Clone, Copy)]
 pub(crate) struct NameParts {
     pub(crate) before: &'static [u8],

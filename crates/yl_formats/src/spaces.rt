@@ -7,7 +7,7 @@ static SPACES: [u8; 38] = [b' '; 38];
 
 /// The spaces that fill a line of these parts up to a width of at most 38 bytes. There are none
 /// where it is as long already.
-pub(crate) fn spaces_behind(parts: &[&[u8]], width: usize) -> &'static [u8]
+pub(crate) fn spaces_after(parts: &[&[u8]], width: usize) -> &'static [u8]
     requires { width ≤ 38 }
     ensures { result.now ≡ replicate (width - length (flat_map (λ part. part.now) parts.now)) 32 }
 {

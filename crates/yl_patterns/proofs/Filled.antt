@@ -73,7 +73,7 @@ before_less test cs table k v rest =
 pub read_before : (test : List ℕ → Bool) (cs : List ℕ) (table : List Bool) (k c : ℕ) → IsAt cs table k c → IsBefore test cs table k → get_or table (k - 1) false ≡ test (c ∷ drop k cs)
 read_before test cs table k c at before = before.at (k - 1) (omega (arith, at.some)) ∙ at_place test cs table k c at
 
--- and the one behind it
+-- and the one after it
 pub read_from : (test : List ℕ → Bool) (cs : List ℕ) (table : List Bool) (k c : ℕ) → IsAt cs table k c → IsFrom test cs table k → get_or table (k - 1 + 1) false ≡ test (drop k cs)
 read_from test cs table k c at from =
     let next : k ≡ k - 1 + 1 = omega (arith, at.some) in

@@ -10,7 +10,7 @@ use Rattle.yl_patterns.specs.Patterns.{PatternValue, Line, Nothing, Bad, Says}
 abbrev pub pattern_value : {A : Type 0} → Pattern A → PatternValue
 pattern_value p = record { takes_back = p.takes_back; items = p.items.items }
 
--- items were put behind others, and a fault was told only where there are none
+-- items were put after others, and a fault was told only where there are none
 abbrev pub Gives : {T : Type 0} → Result T PatternFault → List Item → List Item → Option (List Item) → Type 0
 Gives r before after items = MatchResult r (λ _. option_map (λ is. before ++ is) items ≡ Some after) (λ e. e ≡ BadPattern → items ≡ None)
 

@@ -13,7 +13,7 @@ abbrev pub is_name_end : List ℕ → Bool
 is_name_end [] = true
 is_name_end (c ∷ cs) = is_slash c
 
--- a character is in one of the ranges of a class, which stand behind it
+-- a character is in one of the ranges of a class, which stand after it
 abbrev pub is_in_ranges : List Item → ℕ → Bool
 is_in_ranges (Range first last ∷ is) c = (nat_le first c && nat_le c last) || is_in_ranges is c
 is_in_ranges _ c = false
@@ -37,7 +37,7 @@ abbrev pub run_fits : (List ℕ → Bool) → List ℕ → Bool
 run_fits next [] = next []
 run_fits next (c ∷ cs) = next (c ∷ cs) || (not (is_slash c) && run_fits next cs)
 
--- what stands behind some `/` fits the next items
+-- what stands after some `/` fits the next items
 abbrev pub some_folder_fits : (List ℕ → Bool) → List ℕ → Bool
 some_folder_fits next [] = false
 some_folder_fits next (c ∷ cs) = (is_slash c && next cs) || some_folder_fits next cs

@@ -30,7 +30,7 @@ line_of_chars cs =
 abbrev pub line_of : List ℕ → Line
 line_of line = line_of_chars (chars (trim line))
 
--- patterns with a line behind them
+-- patterns with a line after them
 abbrev pub with_line : List PatternValue → Line → List PatternValue
 with_line ps Nothing = ps
 with_line ps Bad = ps

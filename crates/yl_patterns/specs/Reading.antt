@@ -34,7 +34,7 @@ class_start cs =
     then (if is_closed (drop 2 cs) then piece (Class true) 2 InClass else piece (Character (code "[")) 1 Inside)
     else (if is_closed (drop 1 cs) then piece (Class false) 1 InClass else piece (Character (code "[")) 1 Inside)
 
--- a range of a class, with the `]` behind it, if any
+-- a range of a class, with the `]` after it, if any
 abbrev pub member : List ℕ → ℕ → ℕ → ℕ → Option Piece
 member cs first last len =
     if has cs len (code "]") then piece (Range first last) (len + 1) Inside else piece (Range first last) len InClass
@@ -50,7 +50,7 @@ class_piece cs =
 abbrev pub star_piece : Bool → Place → List ℕ → Option Piece
 star_piece is_start place cs = if is_start && has cs 1 (code "*") && has cs 2 (code "/") then piece Folders 3 place else piece Star 1 Inside
 
--- the character behind a `\`. There is none at a part's end
+-- the character after a `\`. There is none at a part's end
 abbrev pub escaped : List ℕ → Option Piece
 escaped cs = if nat_lt 1 (length cs) && not (has cs 1 (code "/")) then piece (Character (slice_index cs 1)) 2 Inside else None
 
@@ -71,22 +71,22 @@ piece_of Start cs = part_piece true Start cs
 piece_of Inside cs = part_piece false Inside cs
 piece_of InClass cs = class_piece cs
 
--- a `/` at the end stands for all that lies in a folder, and behind nothing but `**/` for all that lies in some folder
+-- a `/` at the end stands for all that lies in a folder, and after nothing but `**/` for all that lies in some folder
 abbrev pub last_items : Place → List Item
 last_items Front = Star ∷ Character (code "/") ∷ Star ∷ []
 last_items Start = Star ∷ []
 last_items Inside = []
 last_items InClass = []
 
--- the items of what stands behind so many characters of a text
-abbrev pub items_behind : Place → ℕ → List ℕ → Option (List Item)
-items_behind place n [] = Some (last_items place)
-items_behind place (suc n) (c ∷ cs) = items_behind place n cs
-items_behind place zero (c ∷ cs) =
-    option_and_then (λ p. option_map (λ is. p.item ∷ is) (items_behind p.next (p.len - 1) cs)) (piece_of place (c ∷ cs))
+-- the items of what stands after so many characters of a text
+abbrev pub items_after : Place → ℕ → List ℕ → Option (List Item)
+items_after place n [] = Some (last_items place)
+items_after place (suc n) (c ∷ cs) = items_after place n cs
+items_after place zero (c ∷ cs) =
+    option_and_then (λ p. option_map (λ is. p.item ∷ is) (items_after p.next (p.len - 1) cs)) (piece_of place (c ∷ cs))
 
 abbrev pub items_of : List ℕ → Option (List Item)
-items_of cs = items_behind Front 0 cs
+items_of cs = items_after Front 0 cs
 
 -- there is no `/` but at the end
 abbrev pub is_one_part : List ℕ → Bool

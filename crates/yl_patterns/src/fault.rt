@@ -7,7 +7,7 @@ use std::alloc::{AllocError, AllocFailed};
 /// Why a line is not taken.
 #[derive(Clone, Copy, Debug, PartialEq, Eq)]
 pub enum PatternFault {
-    /// The line is no pattern: a part of it ends in a `\`, a range of a class runs backwards, or nothing stands behind its `!`.
+    /// The line is no pattern: a part of it ends in a `\`, a range of a class runs backwards, or nothing stands after its `!`.
     BadPattern,
     /// Out of memory.
     Memory,

@@ -17,24 +17,24 @@ fn put_ends(path: &[char], row: &mut [bool])
     }
 }
 
-// Whether the item stands for a character behind which the next items fit.
-fn one_fits(item: Item, behind: &[Item], c: char, next: bool) -> bool
-    ensures { result ≡ (stands_for item behind.now c && next) }
+// Whether the item stands for a character after which the next items fit.
+fn one_fits(item: Item, after: &[Item], c: char, next: bool) -> bool
+    ensures { result ≡ (stands_for item after.now c && next) }
 {
-    next && item.stands_for(behind, c)
+    next && item.stands_for(after, c)
 }
 
 // Puts an item that stands for one character before those of the row.
-fn put_one(item: Item, behind: &[Item], path: &[char], row: &mut [bool])
+fn put_one(item: Item, after: &[Item], path: &[char], row: &mut [bool])
     requires { length row.old ≡ length path.now + 1 }
     ensures { (next : List ℕ → Bool) → IsTable next path.now row.old
-        → IsTable (one_fits (stands_for item behind.now) next) path.now row.new }
+        → IsTable (one_fits (stands_for item after.now) next) path.now row.new }
 {
     let mut next = row[path.len()];
     row[path.len()] = false;
     for k in (0..path.len()).rev() {
         let here = row[k];
-        row[k] = one_fits(item, behind, path[k], next);
+        row[k] = one_fits(item, after, path[k], next);
         next = here;
     }
 }
@@ -65,17 +65,17 @@ fn put_folders(path: &[char], row: &mut [bool])
 }
 
 // Puts an item before those of the row.
-fn put_item(item: Item, behind: &[Item], path: &[char], row: &mut [bool])
+fn put_item(item: Item, after: &[Item], path: &[char], row: &mut [bool])
     requires { length row.old ≡ length path.now + 1 }
     ensures { (next : List ℕ → Bool) → IsTable next path.now row.old
-        → IsTable (item_fits item behind.now next) path.now row.new }
+        → IsTable (item_fits item after.now next) path.now row.new }
 {
     match item {
         Item::Star => put_run(path, row),
         Item::Folders => put_folders(path, row),
         Item::Range { .. } => {}
         Item::Character(_) | Item::AnyCharacter | Item::Class { .. } => {
-            put_one(item, behind, path, row);
+            put_one(item, after, path, row);
         }
     }
 }

@@ -2,7 +2,7 @@
 ghost use Rattle.std.specs.Prelude.{◌≡◌};
 ghost use Rattle.yl_patterns.specs.Fits.{is_in_ranges, stands_for};
 
-/// An item of a pattern. The ranges of a class stand behind it.
+/// An item of a pattern. The ranges of a class stand after it.
 #[derive(Clone, Copy)]
 pub enum Item {
     /// This character, which may be a `/`.
@@ -15,7 +15,7 @@ pub enum Item {
     Range { first: char, last: char },
     /// Some characters of a name, or none.
     Star,
-    /// Some whole names, or none, each with the `/` behind it.
+    /// Some whole names, or none, each with the `/` after it.
     Folders,
 }
 
@@ -35,14 +35,14 @@ fn is_in_ranges(items: &[Item], c: char) -> bool
 }
 
 impl Item {
-    /// Whether an item with these behind it stands for the character.
-    pub fn stands_for(self, behind: &[Item], c: char) -> bool
-        ensures { result ≡ stands_for self behind.now c }
+    /// Whether an item with these after it stands for the character.
+    pub fn stands_for(self, after: &[Item], c: char) -> bool
+        ensures { result ≡ stands_for self after.now c }
     {
         match self {
             Item::Character(x) => c == x,
             Item::AnyCharacter => c != '/',
-            Item::Class { is_negated } => c != '/' && is_in_ranges(behind, c) != is_negated,
+            Item::Class { is_negated } => c != '/' && is_in_ranges(after, c) != is_negated,
             Item::Range { .. } | Item::Star | Item::Folders => false,
         }
     }

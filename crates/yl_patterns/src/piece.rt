@@ -9,7 +9,7 @@ use crate::tables::is_closed;
 /// Where a piece of a pattern's text stands.
 #[derive(Clone, Copy)]
 pub enum Place {
-    /// At the start, or behind nothing but `**/`.
+    /// At the start, or after nothing but `**/`.
     Front,
     /// At the start of a part.
     Start,

@@ -30,7 +30,7 @@ pub fn characters<A: Allocator>(alloc: A, text: &str) -> Result<Vec<char, A>, Al
     Ok(characters)
 }
 
-// Puts the items with which a pattern ends behind its others.
+// Puts the items with which a pattern ends after its others.
 fn push_last<A: Allocator>(items: &mut Vec<Item, A>, place: Place) -> Result<(), AllocError>
     ensures { OnOk result (items.new.items ≡ items.old.items ++ last_items place) }
 {
@@ -46,7 +46,7 @@ fn push_last<A: Allocator>(items: &mut Vec<Item, A>, place: Place) -> Result<(),
     Ok(())
 }
 
-// Puts the items of a text behind others.
+// Puts the items of a text after others.
 fn push_items<A: Allocator + Copy>(
     alloc: A,
     text: &[char],

@@ -2,7 +2,7 @@
 //!
 //! A row is a line as `test_rows` reads it:
 //!
-//!     more, times              how the next row goes on behind its word
+//!     more, times              how the next row goes on after its word
 //!     fits PATH|LINE|LINE..    `fits` or `-`, whether the path is among the patterns of these lines, or `bad` where a line is none
 //!
 //! Each row is printed before what comes of it; empty lines, and those that begin with `#`, are passed over. A small row is answered again with each

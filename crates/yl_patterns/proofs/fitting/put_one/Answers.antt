@@ -10,7 +10,7 @@ loop-k-preserved c = λ next t.
     let row = c.loop-k.row in
     let k = c.loop-k.k in
     let x = c.index-path-k.result in
-    let passes = stands_for c.args.item c.args.behind.now in
+    let passes = stands_for c.args.item c.args.after.now in
     let at : IsAt cs row k x = record { some = omega arith; within = omega arith; len = omega (arith, length-set c.args.row.now); read = c.index-path-k.is } in
     let h = c.loop-k.invariant next t in
     let here = h.0.at (k - 1) (omega arith) in
@@ -19,5 +19,5 @@ loop-k-preserved c = λ next t.
 
 pub returns : goal.returns
 returns c = λ next t.
-    table_from (one_fits (stands_for c.args.item c.args.behind.now) next) c.args.path.now c.loop-k.row c.loop-k.k (omega arith)
+    table_from (one_fits (stands_for c.args.item c.args.after.now) next) c.args.path.now c.loop-k.row c.loop-k.k (omega arith)
     (omega (arith, length-set c.args.row.now)) (c.loop-k.invariant next t).2

@@ -6,4 +6,4 @@ use Rattle.yl_patterns.proofs.fitting.put_one.Given as goal
 
 abbrev pub invariant-loop-k : goal.invariant-loop-k
 invariant-loop-k l = (next : List ℕ → Bool) → IsTable next l.path l.fn.row
-    → IsBefore next l.path l.row l.k × (l.next ≡ next (drop l.k l.path)) × IsFrom (one_fits (stands_for l.item l.behind) next) l.path l.row l.k
+    → IsBefore next l.path l.row l.k × (l.next ≡ next (drop l.k l.path)) × IsFrom (one_fits (stands_for l.item l.after) next) l.path l.row l.k

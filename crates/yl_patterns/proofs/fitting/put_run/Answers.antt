@@ -12,8 +12,8 @@ loop-k-preserved c = λ next t.
     let at : IsAt cs row k x = record { some = omega arith; within = omega arith; len = omega arith; read = c.index-path-k.is } in
     let h = c.loop-k.invariant next t in
     let here = read_before next cs row k x at h.0 in
-    let behind = read_from (run_fits next) cs row k x at h.1 in
-    let both = ap (λ (b : Bool). b || (not (eqb x 47) && get_or row (k - 1 + 1) false)) here ∙ ap (λ (b : Bool). next (x ∷ drop k cs) || (not (eqb x 47) && b)) behind in
+    let later = read_from (run_fits next) cs row k x at h.1 in
+    let both = ap (λ (b : Bool). b || (not (eqb x 47) && get_or row (k - 1 + 1) false)) here ∙ ap (λ (b : Bool). next (x ∷ drop k cs) || (not (eqb x 47) && b)) later in
     (before_less next cs row k _ h.0, from_more (run_fits next) cs row k x _ at both h.1)
 
 pub returns : goal.returns

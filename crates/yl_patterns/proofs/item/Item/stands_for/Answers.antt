@@ -15,7 +15,7 @@ returns-then-c-ne47 c =
     let n = c.in-Class.is_negated in
     let r = c.is_in_ranges.result in
     let x = c.args.c in
-    let is = c.args.behind.now in
+    let is = c.args.after.now in
     subst (λ i. not (beq r n) ≡ stands_for i is x) (sym c.in-Class.is)
     (differ r n ∙ ap (λ (b : Bool). cond n (not b) b) c.is_in_ranges.ensures
     ∙ ap (λ (b : Bool). not b && cond n (not (is_in_ranges is x)) (is_in_ranges is x)) (sym (ne_eqb x 47 c.if-c-ne47.true)))

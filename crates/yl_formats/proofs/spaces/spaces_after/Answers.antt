@@ -1,7 +1,7 @@
 use Rattle.std.proofs.Common.{rules, ◌≡◌, ◌∙◌, ap, arith, ◌-◌, length, replicate, ℕ, List, take}
 use Rattle.std.specs.List.{flat_map}
 use Rattle.std.proofs.lemmas.List.{take-replicate, take_all}
-use Rattle.yl_formats.proofs.spaces.spaces_behind.Goals as goal
+use Rattle.yl_formats.proofs.spaces.spaces_after.Goals as goal
 
 pub returns : goal.returns
 returns c =
