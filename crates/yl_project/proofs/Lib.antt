@@ -1,0 +1,5 @@
+pub mod Adding
+pub mod Folding
+pub mod Front
+pub mod Parts
+pub mod Saying

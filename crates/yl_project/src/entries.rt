@@ -1,0 +1,68 @@
+//! Entries of mappings, by their keys.
+ghost use Rattle.std.specs.Prelude.{◌≡◌, ◌≤◌, length, IfSome, Some, bytes_eq, if◌then◌else◌};
+ghost use Rattle.std.specs.Option.{option_map};
+ghost use Rattle.yl_events.specs.Event.{kind_value};
+ghost use Rattle.yl_config.specs.Misfits.{place_or};
+ghost use Rattle.yl_settings.specs.Item.{item_value, nodes_at};
+ghost use Rattle.yl_settings.specs.Nodes.{entries_of, starts_sequence};
+ghost use Rattle.yl_settings.specs.Words.{word};
+ghost use Rattle.yl_project.specs.Misfits.{is_name, is_scalar};
+ghost use Rattle.yl_project.specs.Said.{value_of};
+
+use yl_events::{Event, EventKind};
+use yl_settings::{EntryAt, Item, first_entry, word};
+use yl_text::Pos;
+
+/// Where a text begins.
+pub const ORIGIN: Pos = Pos { line: 0, col: 0 };
+
+pub fn place_or(other: Pos, place: Option<Pos>) -> Pos
+    ensures { result ≡ place_or other place }
+{
+    place.unwrap_or(other)
+}
+
+pub fn starts_sequence(kind: EventKind<'_>) -> bool
+    ensures { result ≡ starts_sequence (kind_value kind.entry) }
+{
+    matches!(kind, EventKind::SequenceStart)
+}
+
+pub fn is_scalar(kind: EventKind<'_>) -> bool
+    ensures { result ≡ is_scalar (kind_value kind.entry) }
+{
+    matches!(kind, EventKind::Scalar(_, _))
+}
+
+/// Whether a node is a name of a file: a word that is not empty.
+pub fn is_name(kind: EventKind<'_>) -> bool
+    ensures { result ≡ is_name (kind_value kind.entry) }
+{
+    !word(kind).is_empty()
+}
+
+/// The value of an entry, if it has this key; else, what was there before.
+fn value_or<'a>(before: Option<Item<'a>>, entry: &EntryAt<'a>, name: &str) -> Option<Item<'a>>
+    ensures { result ≡ (if bytes_eq (word (kind_value entry.now.key)) name.now then Some entry.now.value else before.entry) }
+{
+    if word(entry.key) == name {
+        Some(entry.value)
+    } else {
+        before
+    }
+}
+
+/// The value of the last entry with this key, of those that begin with the event of this index.
+pub fn value_of<'a>(events: &[Event<'a>], inside: usize, name: &str) -> Option<Item<'a>>
+    requires { inside ≤ length events.now }
+    ensures value { option_map (item_value events.now) result ≡ value_of name.now (entries_of (nodes_at events.now inside)) }
+    ensures inside { IfSome result (λ item. item.inside ≤ length events.now) }
+{
+    let mut value = None;
+    let mut rest = inside;
+    while let Some(entry) = first_entry(events, rest) {
+        value = value_or(value, &entry, name);
+        rest = entry.more;
+    }
+    value
+}

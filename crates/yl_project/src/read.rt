@@ -1,0 +1,195 @@
+//! Configurations from their bytes.
+ghost use Rattle.std.specs.Prelude.{◌≡◌, ◌<◌, ◌-◌, ◌^◌, All, IfOk, length, map, []};
+ghost use Rattle.std.specs.Str.{chars};
+ghost use Rattle.yl_text.specs.Lines.{lines_of};
+ghost use Rattle.yl_events.specs.Event.{event_value};
+ghost use Rattle.yl_scan.specs.Step.{characters_of};
+ghost use Rattle.yl_config.specs.Outcome.{from_own};
+ghost use Rattle.yl_documents.specs.TextReading.{reading_of};
+ghost use Rattle.yl_project.specs.Answered.{project_answer, project_value};
+ghost use Rattle.yl_project.specs.Outcome.{IsNamedIn, IsProjectOver, Says, naming, next_place, own_events, projecting, told, told_of, told_own};
+
+use crate::document::Document;
+use crate::named::{Named, named_of};
+use crate::project::Project;
+use crate::texts::read_lines;
+use std::alloc::{AllocError, Allocator};
+use yl_config::{ConfigFault, Misfit, fault_of, from_one, from_own, root_of};
+use yl_documents::{
+    BuiltDocument, build_all, end_of, in_text, place_behind, place_of_scan_fault, text_fault,
+};
+use yl_events::Event;
+use yl_lexeme::Meter;
+use yl_patterns::Patterns;
+use yl_scan::scan;
+use yl_text::{MAX_BYTES, Pos, Row, TextFault, split};
+
+/// The events of the first of these documents.
+fn own_events<'c, 'b, A: Allocator>(documents: &'c [BuiltDocument<'_, 'b, A>]) -> &'c [Event<'b>]
+    ensures { map event_value result.now ≡ own_events documents.now }
+{
+    match documents {
+        [] => &[],
+        [own, ..] => &own.built.events,
+    }
+}
+
+/// Where the second of these documents begins, if there is one.
+fn next_place<A: Allocator>(documents: &[BuiltDocument<'_, '_, A>]) -> Option<Pos>
+    ensures { result ≡ next_place documents.now }
+{
+    match documents {
+        [] => None,
+        [_, later @ ..] => place_behind(None, from_own(later)),
+    }
+}
+
+/// The files that these documents name.
+fn named_own<A: Allocator + Copy>(
+    alloc: A,
+    documents: &[BuiltDocument<'_, '_, A>],
+) -> Result<Named<A>, AllocError>
+    ensures { IfOk result (λ named. Ok named ≡ told_own (naming []) (from_own documents.now)) }
+{
+    named_of(alloc, own_events(from_own(documents)))
+}
+
+/// The files that the lines of a text name. It fails for want of memory alone.
+fn named_rows<A: Allocator + Copy>(
+    alloc: A,
+    rows: &[Row<A>],
+) -> Result<Result<Named<A>, ConfigFault>, AllocError>
+    requires few { length rows.now < 2 ^ 32 - 1 }
+    requires fits { All (λ row. length (chars row.text) < 2 ^ 31) rows.now }
+    ensures { IfOk result (λ answer. Says (naming rows.now) (reading_of (characters_of rows.now)) answer) }
+{
+    let scanned = scan(alloc, rows, &mut Meter::new())?;
+    let scan_fault = place_of_scan_fault(scanned.fault)?;
+    let lexemes = in_text(alloc, &scanned.lexemes)?;
+    let documents = build_all(alloc, &lexemes)?;
+    match text_fault(end_of(rows), scan_fault, &documents) {
+        Some(place) => Ok(Err(ConfigFault::Syntax(from_one(place)))),
+        None => Ok(Ok(named_own(alloc, &documents)?)),
+    }
+}
+
+impl<A: Allocator + Copy> Named<A> {
+    /// The files that a configuration names whose text is these bytes, in UTF-8. A value that is no
+    /// name is passed over, and so is what does not fit.
+    ///
+    /// The faults, in the order in which they are looked for: `TooLarge`; `NotUtf8`; `Syntax`, at
+    /// the text's first fault. `Memory` where an allocation was refused.
+    pub fn read(alloc: A, bytes: &[u8]) -> Result<Named<A>, ConfigFault>
+        ensures { IsNamedIn bytes.now result }
+    {
+        if bytes.len() > MAX_BYTES {
+            return Err(ConfigFault::TooLarge);
+        }
+        let rows = match split(alloc, bytes) {
+            Ok(rows) => rows,
+            Err(TextFault::NotUtf8 { .. }) => return Err(ConfigFault::NotUtf8),
+            Err(_) => return Err(ConfigFault::Memory),
+        };
+        match named_rows(alloc, &rows) {
+            Ok(answer) => answer,
+            Err(AllocError) => Err(ConfigFault::Memory),
+        }
+    }
+}
+
+/// What is said, or the first that does not fit.
+fn told<A: Allocator>(said: Project<A>, first: Option<Misfit>) -> Result<Project<A>, ConfigFault>
+    ensures { project_answer result ≡ told (project_value said) first }
+{
+    match first {
+        None => Ok(said),
+        Some(misfit) => Err(fault_of(misfit)),
+    }
+}
+
+/// What a document says over what is extended. It fails for want of memory alone.
+fn project_document<A: Allocator + Copy>(
+    document: &Document<'_, '_, A>,
+    next: Option<Pos>,
+    base: Project<A>,
+    ignore_lines: &str,
+) -> Result<Result<Project<A>, ConfigFault>, AllocError>
+    ensures { IfOk result (λ answer. project_answer answer ≡ told_of (projecting (project_value base) (lines_of ignore_lines.now) document.now.rows.now) (map event_value document.now.events.now) next) }
+{
+    let root = root_of(document.events);
+    let files = read_lines(document.alloc, ignore_lines)?;
+    let first = document.first_misfit(files.is_some(), &root, next)?;
+    let files = files.unwrap_or(Patterns::new(document.alloc));
+    Ok(told(document.said_over(base, files, &root)?, first))
+}
+
+/// What these documents of a text say over what is extended.
+fn project_own<A: Allocator + Copy>(
+    alloc: A,
+    rows: &[Row<A>],
+    documents: &[BuiltDocument<'_, '_, A>],
+    base: Project<A>,
+    ignore_lines: &str,
+) -> Result<Result<Project<A>, ConfigFault>, AllocError>
+    ensures { IfOk result (λ answer. project_answer answer ≡ told_own (projecting (project_value base) (lines_of ignore_lines.now) rows.now) (from_own documents.now)) }
+{
+    let own = from_own(documents);
+    let document = Document {
+        alloc,
+        rows,
+        events: own_events(own),
+    };
+    project_document(&document, next_place(own), base, ignore_lines)
+}
+
+/// What the lines of a text say over what is extended. It fails for want of memory alone.
+fn project_rows<A: Allocator + Copy>(
+    alloc: A,
+    rows: &[Row<A>],
+    base: Project<A>,
+    ignore_lines: &str,
+) -> Result<Result<Project<A>, ConfigFault>, AllocError>
+    requires few { length rows.now < 2 ^ 32 - 1 }
+    requires fits { All (λ row. length (chars row.text) < 2 ^ 31) rows.now }
+    ensures { IfOk result (λ answer. Says (projecting (project_value base) (lines_of ignore_lines.now) rows.now) (reading_of (characters_of rows.now)) (project_answer answer)) }
+{
+    let scanned = scan(alloc, rows, &mut Meter::new())?;
+    let scan_fault = place_of_scan_fault(scanned.fault)?;
+    let lexemes = in_text(alloc, &scanned.lexemes)?;
+    let documents = build_all(alloc, &lexemes)?;
+    let documents = documents.as_slice();
+    match text_fault(end_of(rows), scan_fault, documents) {
+        Some(place) => Ok(Err(ConfigFault::Syntax(from_one(place)))),
+        None => project_own(alloc, rows, documents, base, ignore_lines),
+    }
+}
+
+impl<A: Allocator + Copy> Project<A> {
+    /// What a configuration says whose text is these bytes, in UTF-8, over the project that it
+    /// extends. `ignore_lines` are the lines of the files that it names under `ignore-from-file`.
+    ///
+    /// The faults, in the order in which they are looked for: `TooLarge`; `NotUtf8`; `Syntax`, at
+    /// the text's first fault; of all that does not fit the first in the text, of two at one place
+    /// the one that stands first among the others. `Memory` where an allocation was refused.
+    pub fn read(
+        alloc: A,
+        bytes: &[u8],
+        base: Project<A>,
+        ignore_lines: &str,
+    ) -> Result<Project<A>, ConfigFault>
+        ensures { IsProjectOver (project_value base) ignore_lines.now bytes.now (project_answer result) }
+    {
+        if bytes.len() > MAX_BYTES {
+            return Err(ConfigFault::TooLarge);
+        }
+        let rows = match split(alloc, bytes) {
+            Ok(rows) => rows,
+            Err(TextFault::NotUtf8 { .. }) => return Err(ConfigFault::NotUtf8),
+            Err(_) => return Err(ConfigFault::Memory),
+        };
+        match project_rows(alloc, &rows, base, ignore_lines) {
+            Ok(answer) => answer,
+            Err(AllocError) => Err(ConfigFault::Memory),
+        }
+    }
+}

@@ -1,0 +1,127 @@
+//! What rows follow one after another.
+use crate::printed::{show_fault, show_rules};
+use crate::reading::{Base, are_same_when_refused, base_named, is_same_when_refused, project_of};
+use std::alloc::{AllocError, Global};
+use std::mem;
+use test_rows::{first_word, push_front, push_unescaped, say};
+use yl_devices::{RunFault, text_of};
+use yl_project::{Named, Project};
+
+/// The last configuration that was read, and what the next one is read with.
+#[derive(Drop)]
+pub struct State {
+    alloc: Global,
+    project: Project<Global>,
+    base: Base,
+    front: Vec<u8>,
+    lines: Vec<u8>,
+}
+
+impl State {
+    pub fn new(alloc: Global) -> Result<State, AllocError> {
+        Ok(State {
+            alloc,
+            project: Project::empty(alloc)?,
+            base: Base::Empty,
+            front: Vec::new(alloc),
+            lines: Vec::new(alloc),
+        })
+    }
+
+    // What the next configuration is read over.
+    fn take_base(&mut self) -> Result<Project<Global>, AllocError> {
+        let empty = Project::empty(self.alloc)?;
+        let last = mem::replace(&mut self.project, empty);
+        if self.base == Base::Last {
+            Ok(last)
+        } else {
+            project_of(self.alloc, self.base)
+        }
+    }
+
+    // Reads a configuration.
+    fn read(&mut self, rt: &HostRuntime, text: &[u8]) -> Result<(), RunFault> {
+        let base = self.take_base()?;
+        let lines = text_of(self.lines.as_slice()).unwrap_or("");
+        if self.base != Base::Last && !is_same_when_refused(self.alloc, self.base, text, lines) {
+            say(rt, "is read otherwise where memory is refused")?;
+        }
+        match Project::read(self.alloc, text, base, lines) {
+            Ok(project) => {
+                self.project = project;
+                say(rt, "= read")
+            }
+            Err(fault) => show_fault(rt, fault),
+        }
+    }
+
+    // Shows the files that a configuration names.
+    fn show_named(&self, rt: &HostRuntime, text: &[u8]) -> Result<(), RunFault> {
+        if !are_same_when_refused(self.alloc, text) {
+            say(rt, "is read otherwise where memory is refused")?;
+        }
+        let named = match Named::read(self.alloc, text) {
+            Ok(named) => named,
+            Err(fault) => return show_fault(rt, fault),
+        };
+        if let Some(name) = named.extends() {
+            let line = format!(in self.alloc; "= extends {name}")?;
+            say(rt, line.as_str())?;
+        }
+        for name in named.ignore_from() {
+            let name = name.as_str();
+            let line = format!(in self.alloc; "= from {name}")?;
+            say(rt, line.as_str())?;
+        }
+        Ok(())
+    }
+
+    // Shows the rules that hold for a path.
+    fn show_path(&self, rt: &HostRuntime, path: &str) -> Result<(), RunFault> {
+        match self.project.config_for(path)? {
+            None => say(rt, "= ignored"),
+            Some(config) => show_rules(rt, &config),
+        }
+    }
+
+    // Does what a row says that has a text.
+    fn follow_text(&mut self, rt: &HostRuntime, word: &str, text: &[u8]) -> Result<(), RunFault> {
+        match word {
+            "read" => self.read(rt, text),
+            "named" => self.show_named(rt, text),
+            "lines" => {
+                self.lines.clear();
+                self.lines.extend_from_slice(text)?;
+                Ok(())
+            }
+            _ => say(rt, "is no row"),
+        }
+    }
+
+    /// Does what a row says.
+    pub fn follow(&mut self, rt: &HostRuntime, row: &str) -> Result<(), RunFault> {
+        let (word, rest) = first_word(row);
+        if push_front(self.alloc, &mut self.front, word, rest)? {
+            return Ok(());
+        }
+        match word {
+            "base" => {
+                match base_named(rest) {
+                    Some(base) => self.base = base,
+                    None => say(rt, "is no row")?,
+                }
+                Ok(())
+            }
+            "path" => self.show_path(rt, rest),
+            "yaml" => {
+                let is_yaml = self.project.is_yaml(rest)?;
+                say(rt, if is_yaml { "= yaml" } else { "= other" })
+            }
+            _ => {
+                let mut text = mem::replace(&mut self.front, Vec::new(self.alloc));
+                push_unescaped(&mut text, rest)?;
+                self.follow_text(rt, word, text.as_slice())
+            }
+        }
+    }
+}
