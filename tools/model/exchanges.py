@@ -3,7 +3,7 @@
 from . import texts
 from .places import units_of
 from .programs import Run
-from .server import BAD_HEADER, Document, Server, changed
+from .server import BAD_HEADER, Document, Server, changed, no_files
 from .text import MAX_BYTES, split
 from .wire import MOST_OPEN, Number, framed, read, written
 
@@ -116,7 +116,8 @@ def all_kinds():
 
 def _ran(exchange, number, grants):
     """What comes of an exchange where one body is done with these grants of memory, or with none is dropped, and how many it asks for."""
-    server, out, asked = Server(exchange.files.get), b"", 0
+    files = exchange.files
+    server, out, asked = Server(files.get, getattr(files, "folders", no_files)), b"", 0
     for other, body in enumerate(exchange.bodies):
         if other != number:
             messages = server.came(body)
@@ -216,7 +217,7 @@ class Random(Exchange):
     def _changes(self, uri):
         """Changes of a document's text, of which most are made with a look at the ones before."""
         rng, changes = self.rng, []
-        document = self.server.documents.get(uri, Document(None, "", None))
+        document = self.server.documents.get(uri, Document(None, "", None, None))
         for _ in range(rng.choice((0, 1, 1, 1, 1, 1, 2, 3, 6))):
             change = self._change(document.text or "")
             changes.append(change)
@@ -313,6 +314,8 @@ def _initialize(rng):
         capabilities["general"] = {"positionEncodings": [rng.choice(ENCODING_NAMES) for _ in range(rng.choice((0, 1, 1, 2, 4)))]}
     if rng.random() < 0.6:
         capabilities["textDocument"] = {"publishDiagnostics": {"codeDescriptionSupport": rng.random() < 0.7, "versionSupport": True}}
+    if rng.random() < 0.5:
+        capabilities["workspace"] = {"didChangeWatchedFiles": {"dynamicRegistration": rng.choice((True, True, False, "true"))}}
     params = {"processId": rng.choice((None, 1)), "rootUri": "file:///w", "capabilities": capabilities}
     if rng.random() < 0.3:
         params["initializationOptions"] = _settings(rng)

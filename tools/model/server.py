@@ -35,8 +35,18 @@ UNREADABLE_CONFIG = "the file of the configuration cannot be read"
 REFUSED_CONFIG = "the configuration is refused: "
 BAD_HEADER = f"{NAME}: bad command\n"
 
-# A document: its version as it came, its text, and why it is lost or None.
-Document = namedtuple("Document", "version text cause")
+# The request that the editor tells of changes of the files of configurations.
+CONFIG_NAMES = [".yamllint", ".yamllint.yaml", ".yamllint.yml"]
+
+# A document: its version as it came, its text, why it is lost or None, and by what it is judged, None where it is ignored.
+Document = namedtuple("Document", "version text cause config")
+
+# What the files of folders may say of a document beside the bytes of a configuration: nothing, that it is ignored, that a file cannot be
+# read, or that all is as it was.
+NO_FILE, IGNORED, UNREADABLE, SAME = "no file", "ignored", "unreadable", "same"
+
+# How a server finds notifications that files may be others than they were.
+TELL_OF_FILES = ("textDocument/didSave", "workspace/didChangeWatchedFiles", "workspace/didChangeWorkspaceFolders")
 
 
 def whole_number(value):
@@ -81,7 +91,23 @@ def changed(encoding, document, change, is_granted=True):
     text, cause = _changed_text(encoding, document, change)
     if cause is None and not is_granted:
         text, cause = None, LOST_MEMORY
-    return Document(document.version, text, cause)
+    return document._replace(text=text, cause=cause)
+
+
+def no_files(_, is_known):
+    """What files say of a document where there are none."""
+    return SAME if is_known else NO_FILE
+
+
+def _watch_request():
+    watchers = [{"globPattern": f"**/{name}"} for name in CONFIG_NAMES]
+    registration = {"id": "configurations", "method": "workspace/didChangeWatchedFiles", "registerOptions": {"watchers": watchers}}
+    return {"jsonrpc": "2.0", "id": "configurations", "method": "client/registerCapability", "params": {"registrations": [registration]}}
+
+
+def _refused(fault):
+    place = "" if fault.place is None else " at {}:{}".format(*fault.place)
+    return REFUSED_CONFIG + fault.name + place
 
 
 def _place(line, units):
@@ -106,17 +132,20 @@ class _NoMemory(Exception):
 
 
 class Server:
-    """The server after the messages so far. `files` gives the bytes of the file of a name, or None."""
+    """The server after the messages so far. `files` gives the bytes of the file of a name, or None. `folders` gives what the files of
+    folders say of the document of a URI: the bytes of a configuration, or one of the words above; whether the document was asked for since
+    it was opened says whether `SAME` is an answer."""
 
-    def __init__(self, files):
-        self.files = files
+    def __init__(self, files, folders=no_files):
+        self.files, self.folders = files, folders
         self.phase = WAITING
         self.encoding = "utf-16"
         self.has_links = False
         self.most = MOST_PROBLEMS
-        self.config = Config.standard()
-        # The name of the file that says the configuration, where settings named one.
-        self.file = None
+        self.watches = False
+        self.standard = Config.standard()
+        # The configuration that settings name, and the name of its file, each None where they name none.
+        self.config, self.file = None, None
         self.documents = {}
         self.status = None
         self.grants, self.asked = (), 0
@@ -140,7 +169,7 @@ class Server:
         return self._missed(INTERNAL_ERROR, NO_MEMORY)
 
     def _missed(self, code, words):
-        self.documents = {uri: Document(old.version, None, MISSED) for uri, old in self.documents.items()}
+        self.documents = {uri: old._replace(text=None, cause=MISSED) for uri, old in self.documents.items()}
         return [failure(NULL, code, words), *self._publications()]
 
     def _is_granted(self):
@@ -156,14 +185,18 @@ class Server:
         if call.method == "shutdown":
             self.phase = STOPPED
             return [answer(call.id, NULL)]
+        said = []
         try:
-            said = self._set(member(call.params, "initializationOptions", NAME))
+            self._set(member(call.params, "initializationOptions", NAME))
         except _NoMemory:
             return [failure(call.id, INTERNAL_ERROR, NO_MEMORY)]
+        except _BadSettings as fault:
+            said = [_message(str(fault))]
         self.phase = RUNNING
         self._take(call.params)
         sync = {"openClose": True, "change": Number("2"), "save": True}
-        result = {"capabilities": {"positionEncoding": self.encoding, "textDocumentSync": sync},
+        folders = {"workspaceFolders": {"supported": True, "changeNotifications": True}}
+        result = {"capabilities": {"positionEncoding": self.encoding, "textDocumentSync": sync, "workspace": folders},
                   "serverInfo": {"name": NAME, "version": VERSION}}
         return [answer(call.id, result), *said]
 
@@ -185,18 +218,21 @@ class Server:
         known = [name for name in names if name in ENCODINGS] if isinstance(names, list) else []
         self.encoding = known[0] if known else "utf-16"
         self.has_links = member(params, "capabilities", "textDocument", "publishDiagnostics", "codeDescriptionSupport") is True
+        self.watches = member(params, "capabilities", "workspace", "didChangeWatchedFiles", "dynamicRegistration") is True
 
     # -------------------------------------------------------- notifications
 
     def _notification(self, call):
         if call.method == "exit":
             self.status = 0 if self.phase == STOPPED else 1
-        if self.phase != RUNNING:
+        if self.phase != RUNNING or call.params is None:
             return []
         if call.method == "workspace/didChangeConfiguration":
             return self._configured(member(call.params, "settings", NAME))
-        if call.method == "textDocument/didSave" and call.params is not None and self.file is not None:
-            return self._configured({"configFile": self.file})
+        if call.method == "initialized":
+            return [_watch_request()] if self.watches else []
+        if call.method in TELL_OF_FILES:
+            return self._refreshed()
         uri = member(call.params, "textDocument", "uri")
         act = {"textDocument/didOpen": self._opened, "textDocument/didChange": self._changed,
                "textDocument/didClose": self._closed}.get(call.method)
@@ -206,12 +242,16 @@ class Server:
         version, text = (member(params, "textDocument", name) for name in ("version", "text"))
         if not isinstance(version, Number) or not isinstance(text, str):
             return self._edited(uri, None, [NULL])
+        config, words = (self.config, None) if self.config is not None else self._found(uri, False)
         if not self._is_granted():
             # What was open is not the editor's text any more, and what was not open does not become it.
-            if uri in self.documents:
-                return self._put(uri, Document(self.documents[uri].version, None, LOST_MEMORY))
-            return [self._publication(uri), _message(NO_MEMORY)]
-        return self._put(uri, changed(self.encoding, Document(version, None, None), {"text": text}, self._is_granted()))
+            if uri not in self.documents:
+                return [self._publication(uri), _message(NO_MEMORY)]
+            document = self.documents[uri]._replace(text=None, cause=LOST_MEMORY)
+        else:
+            document = Document(version, None, None, self.standard if config is SAME else config)
+            document = changed(self.encoding, document, {"text": text}, self._is_granted())
+        return self._put(uri, document) + [_message(words)] * (words is not None)
 
     def _changed(self, uri, params):
         version, changes = member(params, "textDocument", "version"), member(params, "contentChanges")
@@ -225,7 +265,7 @@ class Server:
             return []
         document = self.documents[uri]
         if version is not None and not self._is_granted():
-            return self._put(uri, Document(document.version, None, LOST_MEMORY))
+            return self._put(uri, document._replace(text=None, cause=LOST_MEMORY))
         document = document._replace(version=version or document.version)
         for change in changes:
             document = changed(self.encoding, document, change, self._is_granted())
@@ -244,29 +284,67 @@ class Server:
         """The messages that are sent for the settings of this program, or for none."""
         if settings is None:
             return []
-        old = self.config
+        is_known = self.config is None
         try:
-            said = self._set(settings)
+            self._set(settings)
         except _NoMemory:
             return [_message(NO_MEMORY)]
-        if self.config is not old:
-            for uri, document in self.documents.items():
-                if not self._is_granted() and document.cause is None:
-                    self.documents[uri] = Document(document.version, None, LOST_MEMORY)
-        return said or self._publications()
-
-    def _set(self, settings):
-        """Takes the settings of this program, where there are some, and says what is told of their fault."""
-        if settings is None:
-            return []
-        try:
-            config, file, most = self._settings(settings)
         except _BadSettings as fault:
             return [_message(str(fault))]
-        if config is not None:
-            self.config, self.file = config, file
+        if self.config is None:
+            _, words = self._found_anew(is_known)
+            return self._publications() + [_message(words)] * (words is not None)
+        for uri in self.documents:
+            self._judge(uri, self.config)
+        return self._publications()
+
+    def _refreshed(self):
+        """The messages that are sent where files may be others than they were."""
+        if self.file is not None:
+            return self._configured({"configFile": self.file})
+        if self.config is not None:
+            return []
+        is_changed, words = self._found_anew(True)
+        return (self._publications() if is_changed else []) + [_message(words)] * (words is not None)
+
+    def _judge(self, uri, config):
+        """Judges a document by a configuration, or ignores it."""
+        document = self.documents[uri]
+        if config is not None and not self._is_granted() and document.cause is None:
+            document = document._replace(text=None, cause=LOST_MEMORY)
+        self.documents[uri] = document._replace(config=config)
+
+    def _found_anew(self, is_known):
+        """Judges each document by what is found for it: whether one is judged by another, and what is told of the first fault."""
+        is_changed, told = False, None
+        for uri in self.documents:
+            config, words = self._found(uri, is_known)
+            told = words if told is None else told
+            if config is not SAME:
+                is_changed = True
+                self._judge(uri, config)
+        return is_changed, told
+
+    def _found(self, uri, is_known):
+        """By what a document is judged as files say it, a configuration, None where it is ignored, or SAME, and what is told of a fault."""
+        said = self.folders(uri, is_known)
+        if said in (SAME, IGNORED, NO_FILE):
+            return {SAME: SAME, IGNORED: None, NO_FILE: self.standard}[said], None
+        if said == UNREADABLE:
+            return SAME, UNREADABLE_CONFIG
+        if not self._is_granted():
+            return SAME, NO_MEMORY
+        try:
+            return Config.read(said.removeprefix(MARK)), None
+        except ConfigFault as fault:
+            return SAME, _refused(fault)
+
+    def _set(self, settings):
+        """Takes the settings of this program, where there are some."""
+        if settings is None:
+            return
+        self.config, self.file, most = self._settings(settings)
         self.most = self.most if most is None else most
-        return []
 
     def _settings(self, settings):
         """The configuration, the name of its file and the number of problems that are set, each None where it is not."""
@@ -291,8 +369,7 @@ class Server:
         try:
             return Config.read(data), name if config is None else None, number
         except ConfigFault as fault:
-            place = "" if fault.place is None else " at {}:{}".format(*fault.place)
-            raise _BadSettings(REFUSED_CONFIG + fault.name + place) from None
+            raise _BadSettings(_refused(fault)) from None
 
     # --------------------------------------------------------- publications
 
@@ -304,14 +381,14 @@ class Server:
         document = self.documents.get(uri)
         if document is not None:
             params["version"] = document.version
-            params["diagnostics"] = self._diagnostics(document)
+            params["diagnostics"] = [] if document.config is None else self._diagnostics(document)
         return notification("textDocument/publishDiagnostics", params)
 
     def _diagnostics(self, document):
         if document.cause is not None:
             return [_diagnostic((0, 0), (0, 0), 1, "lost", document.cause)]
         rows = split(document.text)
-        problems = report(self.config, Text(document.text))
+        problems = report(document.config, Text(document.text))
         shown = [self._shown(rows, problem) for problem in problems[:self.most]]
         more = len(problems) - len(shown)
         return shown + [_diagnostic((0, 0), (0, 0), 3, "more", f"{more} more problems")] * (more > 0)

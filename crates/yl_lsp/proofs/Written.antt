@@ -13,7 +13,7 @@ use Rattle.yl_lsp.specs.declared.diagnostic.Code.TheVariants.{Rule, Linked, Lost
 use Rattle.yl_lsp.specs.declared.diagnostic.Severity.{Severity}
 use Rattle.yl_lsp.specs.declared.diagnostic.Severity.TheVariants.{Information}
 use Rattle.yl_lsp.specs.Diagnostics.{DiagnosticValue, rule_link, with_code, range_json, severity_digit, diagnostic_json}
-use Rattle.yl_lsp.specs.Messages.{PublicationValue, items_of, version_members, publication, error_message, placed_words, encoding_name, initialize_result}
+use Rattle.yl_lsp.specs.Messages.{PublicationValue, items_of, version_members, publication, error_message, placed_words, encoding_name, initialize_result, watch_request}
 use Rattle.yl_lsp.specs.Reports.{text_start, more_diagnostics}
 use Rattle.yl_lsp.specs.Texts.{head_text, tail_text, diagnostic_text, separator, next_text, diagnostics_text, address_text, publication_text}
 use Rattle.yl_lsp.proofs.Plain.{name_plain, link_plain, hidden_plain, placed_plain}
@@ -175,7 +175,7 @@ placed_written text line column xs ys zs plain h k p q r =
 abbrev pub result_front : (name : List ℕ) → List ℕ
 result_front name =
     codes "{\"capabilities\":{\"positionEncoding\":\"" ++ (name
-    ++ (codes "\",\"textDocumentSync\":{\"change\":2,\"openClose\":true,\"save\":true}},\"serverInfo\":{\"name\":\"zutkrad\",\"version\":" ++ []))
+    ++ (codes "\",\"textDocumentSync\":{\"change\":2,\"openClose\":true,\"save\":true},\"workspace\":{\"workspaceFolders\":{\"changeNotifications\":true,\"supported\":true}}},\"serverInfo\":{\"name\":\"zutkrad\",\"version\":" ++ []))
 
 result_then : (e : Encoding) (version : List ℕ) → json_then (initialize_result e version) [] ≡ result_front (encoding_name e) ++ (quoted version ++ codes "}}")
 unfolding escape_byte
@@ -185,3 +185,15 @@ result_then Utf32 version = refl
 
 pub result_written : (e : Encoding) (version : List ℕ) → result_front (encoding_name e) ++ (quoted version ++ codes "}}") ≡ print (json_tokens (initialize_result e version))
 result_written e version = sym (printed (initialize_result e version) ∙ result_then e version)
+
+-- the request to tell of changes of files
+abbrev pub watch_text : List ℕ
+watch_text =
+    codes "{\"id\":\"configurations\",\"jsonrpc\":\"2.0\",\"method\":\"client/registerCapability\",\"params\":{\"registrations\":[{\"id\":\"configurations\",\"method\":\"workspace/didChangeWatchedFiles\",\"registerOptions\":{\"watchers\":[{\"globPattern\":\"**/.yamllint\"},{\"globPattern\":\"**/.yamllint.yaml\"},{\"globPattern\":\"**/.yamllint.yml\"}]}}]}}"
+
+watch_then : json_then watch_request [] ≡ watch_text
+unfolding escape_byte
+watch_then = refl
+
+pub watch_written : watch_text ≡ print (json_tokens watch_request)
+watch_written = sym (printed watch_request ∙ watch_then)

@@ -1,5 +1,6 @@
 -- Meaning: the messages that a server sends of itself, and what it answers to `initialize` (LSP 3.17, 'PublishDiagnostics Notification',
--- 'ShowMessage Notification', 'Initialize Request'), as JSON, members in the order of their names. A text is in UTF-8.
+-- 'ShowMessage Notification', 'Initialize Request', 'Register Capability', 'DidChangeWatchedFiles Notification'), as JSON, members in the
+-- order of their names. A text is in UTF-8.
 use Rattle.std.specs.Prelude.{ℕ, List, [], ◌∷◌, ◌++◌, map, true, codes, decimal, Option, Some, None}
 use Rattle.json.specs.Json.{Json, boolean, number, string, array, object, Items, no_items, item, Members, no_members, member}
 use Rattle.yl_units.specs.declared.encoding.Encoding.{Encoding}
@@ -55,11 +56,38 @@ abbrev pub text_sync : Json
 text_sync =
     object (member (codes "change") (number (codes "2")) (member (codes "openClose") (boolean true) (member (codes "save") (boolean true) no_members)))
 
+-- an editor tells of its folders, and of changes of them
+abbrev pub folders : Json
+folders =
+    object (member (codes "workspaceFolders") (object (member (codes "changeNotifications") (boolean true) (member (codes "supported") (boolean true) no_members))) no_members)
+
 abbrev pub capabilities : Encoding → Json
 capabilities e =
-    object (member (codes "positionEncoding") (string (encoding_name e)) (member (codes "textDocumentSync") text_sync no_members))
+    object (member (codes "positionEncoding") (string (encoding_name e)) (member (codes "textDocumentSync") text_sync (member (codes "workspace") folders no_members)))
 
 abbrev pub initialize_result : Encoding → (version : List ℕ) → Json
 initialize_result e version =
     object (member (codes "capabilities") (capabilities e) (member (codes "serverInfo")
     (object (member (codes "name") (string (codes "zutkrad")) (member (codes "version") (string version) no_members))) no_members))
+
+-- ---- the request that an editor tells of changes of files
+
+abbrev pub watcher : (pattern : List ℕ) → Json
+watcher pattern = object (member (codes "globPattern") (string pattern) no_members)
+
+-- of those that say a configuration, by their names
+abbrev pub watchers : Json
+watchers =
+    object (member (codes "watchers")
+    (array (items_of (watcher (codes "**/.yamllint") ∷ watcher (codes "**/.yamllint.yaml") ∷ watcher (codes "**/.yamllint.yml") ∷ []))) no_members)
+
+abbrev pub registration : Json
+registration =
+    object (member (codes "id") (string (codes "configurations")) (member (codes "method") (string (codes "workspace/didChangeWatchedFiles"))
+    (member (codes "registerOptions") watchers no_members)))
+
+abbrev pub watch_request : Json
+watch_request =
+    object (member (codes "id") (string (codes "configurations")) (member (codes "jsonrpc") (string (codes "2.0"))
+    (member (codes "method") (string (codes "client/registerCapability"))
+    (member (codes "params") (object (member (codes "registrations") (array (items_of (registration ∷ []))) no_members)) no_members))))

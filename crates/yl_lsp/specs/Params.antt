@@ -123,6 +123,12 @@ takes_links j =
     let taken = path (codes "capabilities" ∷ codes "textDocument" ∷ codes "publishDiagnostics" ∷ codes "codeDescriptionSupport" ∷ []) j in
     unwrap_or (option_and_then as_bool taken) false
 
+-- whether the editor takes the names of files to tell of when they change, by the params of `initialize`
+abbrev pub takes_watchers : Json → Bool
+takes_watchers j =
+    let taken = path (codes "capabilities" ∷ codes "workspace" ∷ codes "didChangeWatchedFiles" ∷ codes "dynamicRegistration" ∷ []) j in
+    unwrap_or (option_and_then as_bool taken) false
+
 -- ---- settings
 
 pub record SettingsValue : Type 0 where

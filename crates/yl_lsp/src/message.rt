@@ -33,6 +33,10 @@ pub struct InitializeResult<'a> {
     pub version: &'a str,
 }
 
+/// LSP's `client/registerCapability`: the editor is to tell of changes of files that say a configuration, by their names.
+#[derive(Clone, Copy)]
+pub struct WatchRequest;
+
 /// A message of type `Error` up to its text.
 const ERROR_START: &[u8] =
     b"{\"jsonrpc\":\"2.0\",\"method\":\"window/showMessage\",\"params\":{\"message\":";
@@ -105,10 +109,24 @@ impl Body for InitializeResult<'_> {
             &[
                 b"{\"capabilities\":{\"positionEncoding\":\"",
                 encoding_name(self.encoding).as_bytes(),
-                b"\",\"textDocumentSync\":{\"change\":2,\"openClose\":true,\"save\":true}},\"serverInfo\":{\"name\":\"zutkrad\",\"version\":",
+                b"\",\"textDocumentSync\":{\"change\":2,\"openClose\":true,\"save\":true},\"workspace\":{\"workspaceFolders\":{\"changeNotifications\":true,\"supported\":true}}},\"serverInfo\":{\"name\":\"zutkrad\",\"version\":",
             ],
         )?;
         put_text(to, self.version)?;
         to.put(b"}}")
+    }
+}
+
+impl Body for WatchRequest {
+    ghost use Rattle.json.specs.Print.{print};
+    ghost use Rattle.json.specs.Tree.{json_tokens};
+    ghost use Rattle.yl_lsp.specs.Messages.{watch_request};
+
+    ghost text = { λ _. print (json_tokens watch_request) };
+
+    fn put<P: Pieces>(&self, to: &mut P) -> Result<(), WriteFault> {
+        to.put(
+            b"{\"id\":\"configurations\",\"jsonrpc\":\"2.0\",\"method\":\"client/registerCapability\",\"params\":{\"registrations\":[{\"id\":\"configurations\",\"method\":\"workspace/didChangeWatchedFiles\",\"registerOptions\":{\"watchers\":[{\"globPattern\":\"**/.yamllint\"},{\"globPattern\":\"**/.yamllint.yaml\"},{\"globPattern\":\"**/.yamllint.yml\"}]}}]}}",
+        )
     }
 }

@@ -88,6 +88,26 @@ pub fn takes_links<A: Allocator>(params: &Value<'_, A>) -> bool
     links_in(params).unwrap_or(false)
 }
 
+/// What the params of `initialize` say of files that are watched.
+fn watchers_in<A: Allocator>(params: &Value<'_, A>) -> Option<bool>
+    ensures { result ≡ option_and_then as_bool (spec.path (codes "capabilities" ∷ codes "workspace" ∷ codes "didChangeWatchedFiles"
+        ∷ codes "dynamicRegistration" ∷ []) (value_view params.now)) }
+{
+    params
+        .get("capabilities")?
+        .get("workspace")?
+        .get("didChangeWatchedFiles")?
+        .get("dynamicRegistration")?
+        .as_bool()
+}
+
+/// Whether the editor takes the names of files to tell of when they change, by the params of `initialize`.
+pub fn takes_watchers<A: Allocator>(params: &Value<'_, A>) -> bool
+    ensures { result ≡ spec.takes_watchers (value_view params.now) }
+{
+    watchers_in(params).unwrap_or(false)
+}
+
 /// A setting that is a text. An inner `None` is one that is not there, an outer one a value of another type.
 fn text_setting<'a, A: Allocator>(value: Option<&Value<'a, A>>) -> Option<Option<&'a str>>
     ensures { option_map (λ o. option_map (λ t. t.now) o) result ≡ spec.setting as_str (option_map (λ v. value_view v.now) value.entry) }

@@ -1,5 +1,5 @@
 -- What want of memory leaves of the documents.
-use Rattle.std.proofs.Common.{◌≡◌, ℕ, Bool, true, false, cond, List, [], ◌∷◌, None, Some, refl, ap}
+use Rattle.std.proofs.Common.{◌≡◌, ℕ, Bool, true, false, cond, List, [], ◌∷◌, Option, None, Some, refl, ap}
 use Rattle.std.specs.Prelude.{bytes_eq}
 use Rattle.yl_units.specs.declared.encoding.Encoding.{Encoding}
 use Rattle.yl_config.specs.declared.config.Config.{Config}
@@ -19,7 +19,7 @@ absent : (uri : List ℕ) (other : DocumentValue → DocumentValue) (ds : List D
 absent uri other [] n = refl
 absent uri other (d ∷ ds) n = absent_front uri other d ds (bytes_eq d.uri uri) n (absent uri other ds)
 
-pub opened_absent : (c : Config) (o : OpenedValue) (ds : List DocumentValue) → document_at o.uri ds ≡ None → opened c (false ∷ []) o ds ≡ ds
+pub opened_absent : (c : Option Config) (o : OpenedValue) (ds : List DocumentValue) → document_at o.uri ds ≡ None → opened c (false ∷ []) o ds ≡ ds
 opened_absent c o ds n = absent o.uri _ ds n
 
 pub changed_without_memory : (e : Encoding) (uri version : List ℕ) (cs : List ChangeValue) (ds : List DocumentValue) → changed e (false ∷ []) uri version cs ds ≡ lost OutOfMemory uri ds

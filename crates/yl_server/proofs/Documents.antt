@@ -1,6 +1,7 @@
 -- What becomes of the open documents, each of which has a URI of its own.
-use Rattle.std.proofs.Common.{◌≡◌, ℕ, Bool, true, false, cond, not, List, [], ◌∷◌, drop, None, Some, refl, ap, sym, ◌∙◌}
-use Rattle.std.specs.Prelude.{bytes_eq}
+use Rattle.std.proofs.Common.{◌≡◌, ℕ, Bool, true, false, cond, not, List, [], ◌∷◌, drop, Option, None, Some, refl, ap, sym, ◌∙◌}
+use Rattle.std.specs.Prelude.{◌||◌, bytes_eq, is_some}
+use Rattle.std.specs.Option.{option_map_or}
 use Rattle.std.proofs.lemmas.Slice.Eq.{bytes_eq-Decides}
 use Rattle.yl_config.specs.declared.config.Config.{Config}
 use Rattle.yl_units.specs.declared.encoding.Encoding.{Encoding}
@@ -8,7 +9,9 @@ use Rattle.yl_lsp.specs.Params.{ChangeValue, OpenedValue}
 use Rattle.yl_workspace.specs.declared.cause.Cause.{Cause}
 use Rattle.yl_workspace.specs.declared.cause.Cause.TheVariants.{OutOfMemory}
 use Rattle.yl_workspace.specs.Changes.{is_granted, text_after_changes}
-use Rattle.yl_workspace.specs.Documents.{DocumentValue, all_lost, changed_document, closed, configured, document_at, lost, lost_document, opened, opened_document, put_document, with_document}
+use Rattle.yl_workspace.specs.Documents.{DocumentValue, all_lost, changed_document, closed, configured, configured_document, document_at, lost, lost_document, opened, opened_document, put_document, with_document}
+use Rattle.yl_server.specs.declared.governed.Governed.{Governed}
+use Rattle.yl_server.specs.Folders.{first_found, governed_each, is_changed, judged, judged_anew}
 
 -- ---- URIs
 
@@ -73,9 +76,37 @@ pub same_lost : (c : Cause) (ds : List DocumentValue) → AreSame ds (all_lost c
 same_lost c [] = tt
 same_lost c (d ∷ ds) = (refl, same_lost c ds)
 
-pub same_configured : (c : Config) (grants : List Bool) (ds : List DocumentValue) → AreSame ds (configured c grants ds)
+pub same_configured : (c : Option Config) (grants : List Bool) (ds : List DocumentValue) → AreSame ds (configured c grants ds)
 same_configured c grants [] = tt
 same_configured c grants (d ∷ ds) = (refl, same_configured c _ ds)
+
+same_governed : (o : Option (Option Config)) (granted : Bool) (d : DocumentValue) → d.uri ≡ (option_map_or (λ c. configured_document c granted d) o d).uri
+same_governed None granted d = refl
+same_governed (Some c) granted d = refl
+
+pub same_each : (found : List Governed) (grants : List Bool) (ds : List DocumentValue) → AreSame ds (governed_each found grants ds)
+same_each found grants [] = tt
+same_each found grants (d ∷ ds) = (same_governed (judged (first_found found)) (is_granted grants) d, same_each (drop 1 found) (drop 1 grants) ds)
+
+pub same_anew : (named : Option Config) (found : List Governed) (grants : List Bool) (ds : List DocumentValue) → AreSame ds (judged_anew named found grants ds)
+same_anew None found grants ds = same_each found grants ds
+same_anew (Some c) found grants ds = same_configured (Some c) grants ds
+
+-- where none is judged by another, all stay as they are
+stays : (o : Option (Option Config)) (granted : Bool) (d : DocumentValue) → is_some o ≡ false → option_map_or (λ c. configured_document c granted d) o d ≡ d
+stays None granted d h = refl
+stays (Some c) granted d h = cc
+
+or_parts : (a b : Bool) → (a || b) ≡ false → (a ≡ false) × (b ≡ false)
+or_parts true b h = cc
+or_parts false b h = (refl, h)
+
+pub unchanged : (found : List Governed) (grants : List Bool) (ds : List DocumentValue) → is_changed found ≡ false → governed_each found grants ds ≡ ds
+unchanged found grants [] h = refl
+unchanged [] grants (d ∷ ds) h = ap (λ (l : List DocumentValue). d ∷ l) (unchanged [] (drop 1 grants) ds refl)
+unchanged (g ∷ gs) grants (d ∷ ds) h =
+    let parts = or_parts (is_some (judged g)) (is_changed gs) h in
+    ap (λ (x : DocumentValue). x ∷ governed_each gs (drop 1 grants) ds) (stays (judged g) (is_granted grants) d parts.0) ∙ ap (λ (l : List DocumentValue). d ∷ l) (unchanged gs (drop 1 grants) ds parts.1)
 
 same_front : (uri : List ℕ) (other : DocumentValue → DocumentValue) (d : DocumentValue) (ds : List DocumentValue) (a : Bool) → ((x : DocumentValue) → (other x).uri ≡ x.uri)
     → AreSame ds (with_document uri other ds) → AreSame (d ∷ ds) (cond a (other d ∷ ds) (d ∷ with_document uri other ds))
@@ -147,14 +178,14 @@ distinct_put : (new : DocumentValue) (ds : List DocumentValue) → AreDistinct d
 distinct_put new [] h = (refl, tt)
 distinct_put new (d ∷ ds) h = distinct_front new d ds (bytes_eq d.uri new.uri) refl h (distinct_put new ds h.1)
 
-pub others_opened : (c : Config) (grants : List Bool) (o : OpenedValue) (ds : List DocumentValue) → KeepsOthers o.uri ds (opened c grants o ds)
+pub others_opened : (c : Option Config) (grants : List Bool) (o : OpenedValue) (ds : List DocumentValue) → KeepsOthers o.uri ds (opened c grants o ds)
 others_opened c grants o ds v g = of (is_granted grants)
   where
     of : (b : Bool) → document_at v (cond b (put_document (opened_document c (is_granted (drop 1 grants)) o) ds) (lost OutOfMemory o.uri ds)) ≡ document_at v ds
     of true = others_put (opened_document c (is_granted (drop 1 grants)) o) ds v g
     of false = others_with o.uri (lost_document OutOfMemory) ds (keeps_lost OutOfMemory) v g
 
-pub distinct_opened : (c : Config) (grants : List Bool) (o : OpenedValue) (ds : List DocumentValue) → AreDistinct ds → AreDistinct (opened c grants o ds)
+pub distinct_opened : (c : Option Config) (grants : List Bool) (o : OpenedValue) (ds : List DocumentValue) → AreDistinct ds → AreDistinct (opened c grants o ds)
 distinct_opened c grants o ds h = of (is_granted grants)
   where
     of : (b : Bool) → AreDistinct (cond b (put_document (opened_document c (is_granted (drop 1 grants)) o) ds) (lost OutOfMemory o.uri ds))

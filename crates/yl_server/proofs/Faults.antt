@@ -30,6 +30,7 @@ fault_plain : (f : SettingFault) → escape (fault_words f) ≡ fault_words f
 unfolding escape_byte
 fault_plain fault.Shape = refl
 fault_plain fault.Unreadable = refl
+fault_plain fault.Memory = refl
 fault_plain (fault.Refused f) = refused_plain f
 
 -- JSON writes it as it is

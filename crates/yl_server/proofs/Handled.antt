@@ -65,7 +65,7 @@ body_met body old new r ended call j u e is h = record {
 no_value : (body : List ℕ) (old new : ServerValue) (r : Reply) (fault : BodyFault) → unread_answer fault ≡ unread_answer unread.NoJson → IsCame body NoJson → IsReplied new r (missed (unread_answer fault) old) → IsBodyMet body old new r None
 unfolding step
 no_value body old new r fault same came h = record {
-  event = record { came = NoJson; granted = []; found = Unreadable };
+  event = record { came = NoJson; granted = []; found = Unreadable; governed = [] };
   is = record { came = came; found = tt };
   replied = subst (λ (m : MessageValue). IsReplied new r (missed m old)) same h;
   ends = refl;
@@ -74,7 +74,7 @@ no_value body old new r fault same came h = record {
 no_memory : (body : List ℕ) (old new : ServerValue) (r : Reply) → IsReplied new r (missed (unread_answer unread.Memory) old) → IsBodyMet body old new r None
 unfolding step
 no_memory body old new r h = record {
-  event = record { came = Dropped; granted = []; found = Unreadable };
+  event = record { came = Dropped; granted = []; found = Unreadable; governed = [] };
   is = record { came = tt; found = tt };
   replied = h;
   ends = refl;
@@ -91,7 +91,7 @@ pub request_met : (e : Event) (id : IdValue) (m : List ℕ) (params : Option Jso
     → IsReplied new r (answered e id (request_of m params) old.phase old) → IsMet (Read (Request id m params)) old new r None
 unfolding step
 request_met e id m params old new r f h = record {
-  event = record { came = Read (Request id m params); granted = e.granted; found = e.found };
+  event = record { came = Read (Request id m params); granted = e.granted; found = e.found; governed = e.governed };
   taken = record { came_is = refl; found = f };
   replied = h;
   ends = refl;
@@ -105,7 +105,7 @@ unfolding step
 notice_met e m params old new r other f n h =
     let is : notice_of m params ≡ option_map_or (notice_with m) params Passed = is_other m params other in
     record {
-      event = record { came = Read (Notification m params); granted = e.granted; found = e.found };
+      event = record { came = Read (Notification m params); granted = e.granted; found = e.found; governed = e.governed };
       taken = record { came_is = refl; found = subst (λ (x : NoticeValue). IsFound (text_set (noticed_settings x old.phase)) e.found) (sym is) f };
       replied = subst (λ (x : NoticeValue). IsReplied new r (noticed e x old.phase old)) (sym is) h;
       ends = sym (ap (λ x. exit_by x old.phase) is ∙ n);
@@ -126,7 +126,7 @@ pub exit_met : (m : List ℕ) (params : Option Json) (old new : ServerValue) (r 
 unfolding step
 exit_met m params old new r status exit st h =
     let is : notice_of m params ≡ Exits = is_exit m params exit in
-    let e : Event = record { came = Read (Notification m params); granted = []; found = Unreadable } in
+    let e : Event = record { came = Read (Notification m params); granted = []; found = Unreadable; governed = [] } in
     record {
       event = e;
       taken = record { came_is = refl; found = subst (λ (t : Option (List ℕ)). IsFound t Unreadable) (sym (ap (λ x. text_set (noticed_settings x old.phase)) is ∙ none_taken old.phase)) tt };
@@ -137,7 +137,7 @@ exit_met m params old new r status exit st h =
 pub response_met : (old new : ServerValue) (r : Reply) → IsReplied new r (quiet old) → IsMet (Read Response) old new r None
 unfolding step
 response_met old new r h = record {
-  event = record { came = Read Response; granted = []; found = Unreadable };
+  event = record { came = Read Response; granted = []; found = Unreadable; governed = [] };
   taken = record { came_is = refl; found = tt };
   replied = h;
   ends = refl;
@@ -146,7 +146,7 @@ response_met old new r h = record {
 invalid_call : (id : IdValue) (old new : ServerValue) (r : Reply) → IsReplied new r (old, Refused id InvalidRequest no_request_words ∷ []) → IsMet (Read (Invalid id)) old new r None
 unfolding step
 invalid_call id old new r h = record {
-  event = record { came = Read (Invalid id); granted = []; found = Unreadable };
+  event = record { came = Read (Invalid id); granted = []; found = Unreadable; governed = [] };
   taken = record { came_is = refl; found = tt };
   replied = h;
   ends = refl;

@@ -3,8 +3,10 @@ mod Answered
 mod Decided
 mod Documents
 mod Faults
+mod Folders
 mod Handled
 mod Joined
+mod Judged
 mod Lost
 mod Methods
 mod Noticed

@@ -2,6 +2,7 @@
 use Rattle.std.proofs.Common.{◌≡◌, ℕ, Bool, true, false, cond, not, List, [], ◌∷◌, drop, Option, None, Some, is_some, Result, Ok, Err, ◌⊎◌, inl, inr, refl, sym, ◌∙◌, subst}
 use Rattle.std.specs.Prelude.{bytes_eq, nat_le, length}
 use Rattle.std.proofs.lemmas.Slice.Eq.{bytes_eq-Decides}
+use Rattle.std.specs.Option.{option_map_or}
 use Rattle.json.specs.Json.{Json}
 use Rattle.yl_units.specs.declared.encoding.Encoding.{Encoding}
 use Rattle.yl_config.specs.declared.config.Config.{Config}
@@ -11,20 +12,23 @@ use Rattle.yl_lsp.specs.Params.{ChangeValue, Whole, Within, Unread, OpenedValue,
 use Rattle.yl_workspace.specs.declared.cause.Cause.{Cause}
 use Rattle.yl_workspace.specs.declared.cause.Cause.TheVariants.{OutOfMemory, TooLarge, BadChange, Missed}
 use Rattle.yl_workspace.specs.Changes.{TextValue, Followed, Lost, changed_text, followed_if, is_granted, text_after_change, text_after_changes, within_bounds}
-use Rattle.yl_workspace.specs.Documents.{DocumentValue, all_lost, changed_document, closed, configured, document_at, lost, lost_document, opened, opened_document, put_document, text_judged, with_document}
+use Rattle.yl_workspace.specs.Documents.{DocumentValue, all_lost, changed_document, closed, configured, configured_document, document_at, lost, lost_document, opened, opened_document, put_document, text_judged, with_document}
+use Rattle.yl_server.specs.declared.governed.Governed.{Governed}
 use Rattle.yl_server.specs.declared.phase.Phase.{Phase}
 use Rattle.yl_server.specs.declared.phase.Phase.TheVariants.{Waiting, Running, Stopped}
 use Rattle.yl_server.specs.declared.settings.Setting.{Setting}
-use Rattle.yl_server.specs.declared.settings.Setting.TheVariants.{Set, Faulty, NoMemory}
+use Rattle.yl_server.specs.declared.settings.Setting.TheVariants.{Set, Faulty}
+use Rattle.yl_server.specs.declared.settings.SettingFault.TheVariants as fault
 use Rattle.yl_server.specs.Events.{Came, Read, NoJson, Dropped, Event}
 use Rattle.yl_text.specs.declared.TheConstants.{MAX_BYTES}
 use Rattle.yl_text.specs.Lines.{lines_of}
 use Rattle.yl_text.specs.Edit.{offset, edited_text}
 use Rattle.yl_units.specs.Places.{place_of}
+use Rattle.yl_server.specs.Folders.{config_at_first, first_found, governed_each, judged, judged_anew}
 use Rattle.yl_server.specs.Laws.{AreLostForCause, Each, Gives, GivesText, IsCause, IsMissed, IsRefused, SomeEvent}
-use Rattle.yl_server.specs.Requests.{RequestValue, Initialize, Shutdown, Unknown, request_of, object_of, NoticeValue, Opens, Changes, Spoils, Closes, Sets, Saves, Exits, Passed, notice_of}
+use Rattle.yl_server.specs.Requests.{RequestValue, Initialize, Shutdown, Unknown, request_of, object_of, NoticeValue, Opens, Changes, Spoils, Closes, Sets, Starts, Refreshes, Exits, Passed, notice_of}
 use Rattle.yl_server.specs.Settings.{file_named, setting_found, setting_of}
-use Rattle.yl_server.specs.Machine.{ServerValue, Stepped, after, answered, initialized, initialized_by, initialized_with, noticed, noticed_running, saved_by, set_by, set_with, started, step, stepped, with_setting}
+use Rattle.yl_server.specs.Machine.{ServerValue, Stepped, after, answered, initialized_by, initialized_with, noticed, noticed_running, read_again, refreshed_by, set_by, set_with, started, step, stepped}
 
 -- ---- why a change may lose a text
 
@@ -125,7 +129,7 @@ of_changed_if e grants version cs d c false g h = inr (same_cause (MayLose grant
 of_changed : (e : Encoding) (grants : List Bool) (version : List ℕ) (cs : List ChangeValue) (d : DocumentValue) (c : Cause) → (changed_document e grants version cs d).text ≡ Lost c → (d.text ≡ Lost c) ⊎ MayLose grants c
 of_changed e grants version cs d c h = of_changed_if e grants version cs d c (is_granted grants) refl h
 
-of_opened : (config : Config) (grants : List Bool) (o : OpenedValue) (c : Cause) → (opened_document config (is_granted grants) o).text ≡ Lost c → MayLose grants c
+of_opened : (config : Option Config) (grants : List Bool) (o : OpenedValue) (c : Cause) → (opened_document config (is_granted grants) o).text ≡ Lost c → MayLose grants c
 of_opened config grants o c h = if_followed grants (is_granted grants) (within_bounds o.text) c refl (λ x k. bounds_fault o.text (nat_le (length o.text) MAX_BYTES) x k) h
 
 -- only want of memory loses a text that is judged anew
@@ -216,7 +220,7 @@ keeps_changed e grants version cs d = of (is_granted grants)
 spoiled : (e : Event) (d : DocumentValue) (c : Cause) → (lost_document BadChange d).text ≡ Lost c → (d.text ≡ Lost c) ⊎ MayLose e.granted c
 spoiled e d c h = inr (same_cause (MayLose e.granted) BadChange c tt h)
 
-opened_by_event : (J : Cause → List ℕ → Type 0) (e : Event) (config : Config) (o : OpenedValue) → GivesText o.uri e.came → (ds : List DocumentValue) → Each (Explained J) ds
+opened_by_event : (J : Cause → List ℕ → Type 0) (e : Event) (config : Option Config) (o : OpenedValue) → GivesText o.uri e.came → (ds : List DocumentValue) → Each (Explained J) ds
     → Each (Explained (With J e)) (opened config e.granted o ds)
 opened_by_event J e config o gives ds h = of (is_granted e.granted) refl
   where
@@ -227,11 +231,10 @@ opened_by_event J e config o gives ds h = of (is_granted e.granted) refl
     of false g =
         changed_by J e o.uri (lost_document OutOfMemory) (λ d. refl) (λ d c k. inr (same_cause (MayLose e.granted) OutOfMemory c (refused_first e.granted g) k)) gives ds h
 
-configured_by_event : (J : Cause → List ℕ → Type 0) (e : Event) (config : Config) (grants : List Bool) → (IsRefused grants → IsRefused e.granted) → (ds : List DocumentValue) → Each (Explained J) ds
-    → Each (Explained (With J e)) (configured config grants ds)
-configured_by_event J e config grants r [] h = tt
-configured_by_event J e config grants r (d ∷ ds) h =
-    (λ c k. elim (of_judged grants (is_granted grants) d.text c refl k) [ inl p ↦ inl (h.0 c p) | inr p ↦ inr (refused c p) ], configured_by_event J e config (drop 1 grants) (λ x. r (refused_later grants x)) ds h.1)
+-- a document that is judged by another configuration, with these grants left of the event's
+judged_by_event : (J : Cause → List ℕ → Type 0) (e : Event) (config : Option Config) (grants : List Bool) → (IsRefused grants → IsRefused e.granted) → (d : DocumentValue) → Explained J d
+    → Explained (With J e) (configured_document config (is_granted grants) d)
+judged_by_event J e config grants r d h = λ c k. elim (of_judged grants (is_granted grants) d.text c refl k) [ inl p ↦ inl (h c p) | inr p ↦ inr (refused c p) ]
   where
     refused : (c : Cause) → WantsMemory grants c → IsCause c d.uri e
     refused OutOfMemory p = r p
@@ -239,33 +242,55 @@ configured_by_event J e config grants r (d ∷ ds) h =
     refused BadChange p = absurd p
     refused Missed p = absurd p
 
+configured_by_event : (J : Cause → List ℕ → Type 0) (e : Event) (config : Option Config) (grants : List Bool) → (IsRefused grants → IsRefused e.granted) → (ds : List DocumentValue) → Each (Explained J) ds
+    → Each (Explained (With J e)) (configured config grants ds)
+configured_by_event J e config grants r [] h = tt
+configured_by_event J e config grants r (d ∷ ds) h =
+    (judged_by_event J e config grants r d h.0, configured_by_event J e config (drop 1 grants) (λ x. r (refused_later grants x)) ds h.1)
+
+found_by_event : (J : Cause → List ℕ → Type 0) (e : Event) (o : Option (Option Config)) (grants : List Bool) → (IsRefused grants → IsRefused e.granted) → (d : DocumentValue) → Explained J d
+    → Explained (With J e) (option_map_or (λ c. configured_document c (is_granted grants) d) o d)
+found_by_event J e None grants r d h = still J e d h
+found_by_event J e (Some config) grants r d h = judged_by_event J e config grants r d h
+
+each_by_event : (J : Cause → List ℕ → Type 0) (e : Event) (found : List Governed) (grants : List Bool) → (IsRefused grants → IsRefused e.granted) → (ds : List DocumentValue) → Each (Explained J) ds
+    → Each (Explained (With J e)) (governed_each found grants ds)
+each_by_event J e found grants r [] h = tt
+each_by_event J e found grants r (d ∷ ds) h =
+    (found_by_event J e (judged (first_found found)) grants r d h.0, each_by_event J e (drop 1 found) (drop 1 grants) (λ x. r (refused_later grants x)) ds h.1)
+
+anew_by_event : (J : Cause → List ℕ → Type 0) (e : Event) (named : Option Config) (ds : List DocumentValue) → Each (Explained J) ds → Each (Explained (With J e)) (judged_anew named e.governed e.granted ds)
+anew_by_event J e None ds h = each_by_event J e e.governed e.granted (λ x. x) ds h
+anew_by_event J e (Some c) ds h = configured_by_event J e (Some c) e.granted (λ x. x) ds h
+
 -- ---- the machine
 
 explained_if : (J : Cause → List ℕ → Type 0) (e : Event) (s : ServerValue) (t u : Stepped) (b : Bool) → AreExplained (With J e) t.0 → AreExplained (With J e) u.0 → AreExplained (With J e) (cond b t u).0
 explained_if J e s t u true h g = h
 explained_if J e s t u false h g = g
 
-with_set : (J : Cause → List ℕ → Type 0) (e : Event) (config : Option Config) (file : Option (List ℕ)) (most : Option ℕ) (s : ServerValue) → AreExplained J s → AreExplained (With J e) (with_setting e.granted config file most s)
-with_set J e None file most s h = still_all J e s h
-with_set J e (Some c) file most s h = configured_by_event J e c e.granted (λ x. x) s.documents h
-
 when_set : (J : Cause → List ℕ → Type 0) (e : Event) (file : Option (List ℕ)) (x : Setting) (s : ServerValue) → AreExplained J s → AreExplained (With J e) (set_by e file x s).0
-when_set J e file (Set config most) s h = with_set J e config file most s h
-when_set J e file (Faulty fault) s h = still_all J e s h
-when_set J e file NoMemory s h = still_all J e s h
+when_set J e file (Set config most) s h = anew_by_event J e config s.documents h
+when_set J e file (Faulty f) s h = still_all J e s h
 
 when_set_with : (J : Cause → List ℕ → Type 0) (e : Event) (settings : Option Json) (s : ServerValue) → AreExplained J s → AreExplained (With J e) (set_with e settings s).0
 when_set_with J e None s h = still_all J e s h
 when_set_with J e (Some j) s h = when_set J e (file_named (Some j)) (setting_of e.found (Some j)) s h
 
-when_saved : (J : Cause → List ℕ → Type 0) (e : Event) (file : Option (List ℕ)) (s : ServerValue) → AreExplained J s → AreExplained (With J e) (saved_by e file s).0
-when_saved J e None s h = still_all J e s h
-when_saved J e (Some path) s h = when_set J e (Some path) (setting_found e.found None) s h
+when_read : (J : Cause → List ℕ → Type 0) (e : Event) (file : Option (List ℕ)) (s : ServerValue) → AreExplained J s → AreExplained (With J e) (read_again e file s).0
+when_read J e None s h = still_all J e s h
+when_read J e (Some path) s h = when_set J e (Some path) (setting_found e.found None) s h
+
+when_refreshed : (J : Cause → List ℕ → Type 0) (e : Event) (config : Option Config) (s : ServerValue) → AreExplained J s → AreExplained (With J e) (refreshed_by e config s).0
+when_refreshed J e None s h = each_by_event J e e.governed e.granted (λ x. x) s.documents h
+when_refreshed J e (Some c) s h = when_read J e s.file s h
 
 when_initialized : (J : Cause → List ℕ → Type 0) (e : Event) (id : IdValue) (j : Json) (file : Option (List ℕ)) (x : Setting) (s : ServerValue) → AreExplained J s → AreExplained (With J e) (initialized_by e id j file x s).0
-when_initialized J e id j file (Set config most) s h = with_set J e config file most (initialized j s) h
-when_initialized J e id j file (Faulty fault) s h = still_all J e s h
-when_initialized J e id j file NoMemory s h = still_all J e s h
+when_initialized J e id j file (Set config most) s h = anew_by_event J e config s.documents h
+when_initialized J e id j file (Faulty fault.Memory) s h = still_all J e s h
+when_initialized J e id j file (Faulty fault.Shape) s h = still_all J e s h
+when_initialized J e id j file (Faulty fault.Unreadable) s h = still_all J e s h
+when_initialized J e id j file (Faulty (fault.Refused f)) s h = still_all J e s h
 
 when_initialized_with : (J : Cause → List ℕ → Type 0) (e : Event) (id : IdValue) (params : Option Json) (s : ServerValue) → AreExplained J s → AreExplained (With J e) (initialized_with e id params s).0
 when_initialized_with J e id None s h = still_all J e s h
@@ -283,8 +308,7 @@ when_answered J e id r Stopped s h = still_all J e s h
 -- what a notification gives, the event gives
 when_running : (J : Cause → List ℕ → Type 0) (e : Event) (n : NoticeValue) (s : ServerValue) → ((uri : List ℕ) → Gives uri n → GivesText uri e.came) → AreExplained J s → AreExplained (With J e) (noticed_running e n s).0
 when_running J e (Opens o) s gives h =
-    let x = opened_by_event J e s.config o (gives o.uri refl) s.documents h in
-    explained_if J e s _ _ (is_some (document_at o.uri (opened s.config e.granted o s.documents))) x x
+    opened_by_event J e (config_at_first s.standard s.config e.governed) o (gives o.uri refl) s.documents h
 when_running J e (Changes uri version cs) s gives h =
     explained_if J e s _ _ (is_some (document_at uri s.documents))
     (changed_by J e uri (changed_document s.how.encoding e.granted version cs) (keeps_changed s.how.encoding e.granted version cs) (of_changed s.how.encoding e.granted version cs) (gives uri refl) s.documents h)
@@ -296,7 +320,8 @@ when_running J e (Spoils uri) s gives h =
 when_running J e (Closes uri) s gives h =
     explained_if J e s _ _ (is_some (document_at uri s.documents)) (each_closed (Explained (With J e)) uri s.documents (still_all J e s h)) (still_all J e s h)
 when_running J e (Sets settings) s gives h = when_set_with J e settings s h
-when_running J e Saves s gives h = when_saved J e s.file s h
+when_running J e Starts s gives h = still_all J e s h
+when_running J e Refreshes s gives h = when_refreshed J e s.config s h
 when_running J e Exits s gives h = still_all J e s h
 when_running J e Passed s gives h = still_all J e s h
 

@@ -4,7 +4,7 @@ use Rattle.std.specs.Prelude.{bytes_eq, codes}
 use Rattle.std.specs.Option.{option_map_or}
 use Rattle.json.specs.Json.{Json}
 use Rattle.yl_lsp.specs.Params.{changed_settings}
-use Rattle.yl_server.specs.Requests.{Initialize, Shutdown, Unknown, request_of, Sets, Saves, Exits, Passed, changes, closes, notice_of, notice_with, opens}
+use Rattle.yl_server.specs.Requests.{Initialize, Shutdown, Unknown, request_of, Sets, Starts, Refreshes, Exits, Passed, changes, closes, notice_of, notice_with, opens, tells_of_files}
 
 then_is : {A : Type 0} (b : Bool) (x y : A) → b ≡ true → cond b x y ≡ x
 then_is true x y h = refl
@@ -42,10 +42,14 @@ pub is_settings : (m : List ℕ) (j : Json) → bytes_eq m (codes "textDocument/
     → bytes_eq m (codes "workspace/didChangeConfiguration") ≡ true → notice_with m j ≡ Sets (changed_settings j)
 is_settings m j h g k l = else_is _ _ _ h ∙ (else_is _ _ _ g ∙ (else_is _ _ _ k ∙ then_is _ _ _ l))
 
-pub is_save : (m : List ℕ) (j : Json) → bytes_eq m (codes "textDocument/didOpen") ≡ false → bytes_eq m (codes "textDocument/didChange") ≡ false → bytes_eq m (codes "textDocument/didClose") ≡ false
-    → bytes_eq m (codes "workspace/didChangeConfiguration") ≡ false → bytes_eq m (codes "textDocument/didSave") ≡ true → notice_with m j ≡ Saves
-is_save m j h g k l n = else_is _ _ _ h ∙ (else_is _ _ _ g ∙ (else_is _ _ _ k ∙ (else_is _ _ _ l ∙ then_is _ _ _ n)))
+pub is_start : (m : List ℕ) (j : Json) → bytes_eq m (codes "textDocument/didOpen") ≡ false → bytes_eq m (codes "textDocument/didChange") ≡ false → bytes_eq m (codes "textDocument/didClose") ≡ false
+    → bytes_eq m (codes "workspace/didChangeConfiguration") ≡ false → bytes_eq m (codes "initialized") ≡ true → notice_with m j ≡ Starts
+is_start m j h g k l n = else_is _ _ _ h ∙ (else_is _ _ _ g ∙ (else_is _ _ _ k ∙ (else_is _ _ _ l ∙ then_is _ _ _ n)))
+
+pub is_refresh : (m : List ℕ) (j : Json) → bytes_eq m (codes "textDocument/didOpen") ≡ false → bytes_eq m (codes "textDocument/didChange") ≡ false → bytes_eq m (codes "textDocument/didClose") ≡ false
+    → bytes_eq m (codes "workspace/didChangeConfiguration") ≡ false → bytes_eq m (codes "initialized") ≡ false → tells_of_files m ≡ true → notice_with m j ≡ Refreshes
+is_refresh m j h g k l n o = else_is _ _ _ h ∙ (else_is _ _ _ g ∙ (else_is _ _ _ k ∙ (else_is _ _ _ l ∙ (else_is _ _ _ n ∙ then_is _ _ _ o))))
 
 pub is_none : (m : List ℕ) (j : Json) → bytes_eq m (codes "textDocument/didOpen") ≡ false → bytes_eq m (codes "textDocument/didChange") ≡ false → bytes_eq m (codes "textDocument/didClose") ≡ false
-    → bytes_eq m (codes "workspace/didChangeConfiguration") ≡ false → bytes_eq m (codes "textDocument/didSave") ≡ false → notice_with m j ≡ Passed
-is_none m j h g k l n = else_is _ _ _ h ∙ (else_is _ _ _ g ∙ (else_is _ _ _ k ∙ (else_is _ _ _ l ∙ else_is _ _ _ n)))
+    → bytes_eq m (codes "workspace/didChangeConfiguration") ≡ false → bytes_eq m (codes "initialized") ≡ false → tells_of_files m ≡ false → notice_with m j ≡ Passed
+is_none m j h g k l n o = else_is _ _ _ h ∙ (else_is _ _ _ g ∙ (else_is _ _ _ k ∙ (else_is _ _ _ l ∙ (else_is _ _ _ n ∙ else_is _ _ _ o))))

@@ -10,9 +10,9 @@ use Rattle.yl_server.specs.declared.phase.Phase.TheVariants.{Waiting, Running, S
 use Rattle.yl_server.specs.declared.settings.Found.TheVariants.{Unreadable}
 use Rattle.yl_server.specs.Bodies.{IsFound, noticed_settings, settings_of_notice, text_set}
 use Rattle.yl_server.specs.Events.{Event}
-use Rattle.yl_server.specs.Machine.{ServerValue, Stepped, exit_by, noticed, noticed_running, quiet, saved_by}
+use Rattle.yl_server.specs.Machine.{ServerValue, Stepped, exit_by, noticed, noticed_running, quiet, refreshed_by}
 use Rattle.yl_server.specs.Messages.{MessageValue}
-use Rattle.yl_server.specs.Requests.{NoticeValue, Changes, Opens, Spoils, Closes, Sets, Saves, Passed, changes, changes_to, closes, notice_with, opens, spoils}
+use Rattle.yl_server.specs.Requests.{NoticeValue, Changes, Opens, Spoils, Closes, Sets, Starts, Refreshes, Passed, changes, changes_to, closes, notice_with, opens, spoils, tells_of_files}
 use Rattle.yl_server.proofs.Decided.{Becomes, IsConfigured, event_of}
 
 -- ---- what they ask for
@@ -47,21 +47,22 @@ changes_of_text j = changed (document_in j) (version_in j) (changes_in j) (spoil
 pub closes_of_text : (j : Json) → IsOfText (closes j)
 closes_of_text j = closed (document_in j)
 
-no_end_by : (j : Json) (phase : Phase) (a b c d e : Bool)
-    → exit_by (cond a (opens j) (cond b (changes j) (cond c (closes j) (cond d (Sets (changed_settings j)) (cond e Saves Passed))))) phase ≡ None
-no_end_by j phase true b c d e = (opens_of_text j).1 phase
-no_end_by j phase false true c d e = (changes_of_text j).1 phase
-no_end_by j phase false false true d e = (closes_of_text j).1 phase
-no_end_by j phase false false false true e = refl
-no_end_by j phase false false false false true = refl
-no_end_by j phase false false false false false = refl
+no_end_by : (j : Json) (phase : Phase) (a b c d e f : Bool)
+    → exit_by (cond a (opens j) (cond b (changes j) (cond c (closes j) (cond d (Sets (changed_settings j)) (cond e Starts (cond f Refreshes Passed)))))) phase ≡ None
+no_end_by j phase true b c d e f = (opens_of_text j).1 phase
+no_end_by j phase false true c d e f = (changes_of_text j).1 phase
+no_end_by j phase false false true d e f = (closes_of_text j).1 phase
+no_end_by j phase false false false true e f = refl
+no_end_by j phase false false false false true f = refl
+no_end_by j phase false false false false false true = refl
+no_end_by j phase false false false false false false = refl
 
 -- but for `exit` none ends a server
 pub no_end : (m : List ℕ) (params : Option Json) (phase : Phase) → exit_by (option_map_or (notice_with m) params Passed) phase ≡ None
 no_end m None phase = refl
 no_end m (Some j) phase =
     no_end_by j phase (bytes_eq m (codes "textDocument/didOpen")) (bytes_eq m (codes "textDocument/didChange")) (bytes_eq m (codes "textDocument/didClose")) (bytes_eq m (codes "workspace/didChangeConfiguration"))
-    (bytes_eq m (codes "textDocument/didSave"))
+    (bytes_eq m (codes "initialized")) (tells_of_files m)
 
 -- ---- a change of another shape
 
@@ -106,17 +107,24 @@ IsNotedBy n old new ms = (e : Event) × IsFound (text_set (settings_of_notice n)
 pub noted_text : (m n : NoticeValue) (old new : ServerValue) (ms : List MessageValue) → m ≡ n → IsOfText n
     → (granted : List Bool) × ((e : Event) → e.granted ≡ granted → Becomes new ms (noticed_running e n old)) → IsNotedBy m old new ms
 noted_text m n old new ms is t h =
-    let e : Event = event_of h.0 Unreadable in
+    let e : Event = event_of h.0 [] Unreadable in
     subst (λ (x : NoticeValue). IsNotedBy x old new ms) (sym is) (e, subst (λ (s : Option Json). IsFound (text_set s) Unreadable) (sym t.0) tt, h.1 e refl)
+
+pub noted_opened : (m : NoticeValue) (j : Json) (old new : ServerValue) (ms : List MessageValue) → m ≡ opens j → (e : Event) × Becomes new ms (noticed_running e (opens j) old) → IsNotedBy m old new ms
+noted_opened m j old new ms is h =
+    subst (λ (x : NoticeValue). IsNotedBy x old new ms) (sym is) (h.0, subst (λ (s : Option Json). IsFound (text_set s) h.0.found) (sym (opens_of_text j).0) tt, h.1)
 
 pub noted_settings : (m : NoticeValue) (s : Option Json) (old new : ServerValue) (ms : List MessageValue) → m ≡ Sets s → IsConfigured s old new ms → IsNotedBy m old new ms
 noted_settings m s old new ms is h = subst (λ (x : NoticeValue). IsNotedBy x old new ms) (sym is) h
 
-pub noted_saved : (m : NoticeValue) (old new : ServerValue) (ms : List MessageValue) → m ≡ Saves → (e : Event) × Becomes new ms (saved_by e old.file old) → IsNotedBy m old new ms
-noted_saved m old new ms is h = subst (λ (x : NoticeValue). IsNotedBy x old new ms) (sym is) (h.0, tt, h.1)
+pub noted_started : (m : NoticeValue) (old : ServerValue) (ms : List MessageValue) → m ≡ Starts → ((e : Event) → Becomes old ms (noticed_running e Starts old)) → IsNotedBy m old old ms
+noted_started m old ms is h = let e : Event = event_of [] [] Unreadable in subst (λ (x : NoticeValue). IsNotedBy x old old ms) (sym is) (e, tt, h e)
+
+pub noted_refreshed : (m : NoticeValue) (old new : ServerValue) (ms : List MessageValue) → m ≡ Refreshes → (e : Event) × Becomes new ms (refreshed_by e old.config old) → IsNotedBy m old new ms
+noted_refreshed m old new ms is h = subst (λ (x : NoticeValue). IsNotedBy x old new ms) (sym is) (h.0, tt, h.1)
 
 pub noted_passed : (m : NoticeValue) (old : ServerValue) → m ≡ Passed → IsNotedBy m old old []
-noted_passed m old is = subst (λ (x : NoticeValue). IsNotedBy x old old []) (sym is) (event_of [] Unreadable, tt, (refl, refl))
+noted_passed m old is = subst (λ (x : NoticeValue). IsNotedBy x old old []) (sym is) (event_of [] [] Unreadable, tt, (refl, refl))
 
 -- ---- in each phase
 
@@ -124,18 +132,18 @@ abbrev pub IsNoted : NoticeValue → (old new : ServerValue) → List MessageVal
 IsNoted n old new ms phase = (e : Event) × IsFound (text_set (noticed_settings n phase)) e.found × Becomes new ms (noticed e n phase old)
 
 passed : (old : ServerValue) (phase : Phase) → IsNoted Passed old old [] phase
-passed old Waiting = (event_of [] Unreadable, tt, (refl, refl))
-passed old Running = (event_of [] Unreadable, tt, (refl, refl))
-passed old Stopped = (event_of [] Unreadable, tt, (refl, refl))
+passed old Waiting = (event_of [] [] Unreadable, tt, (refl, refl))
+passed old Running = (event_of [] [] Unreadable, tt, (refl, refl))
+passed old Stopped = (event_of [] [] Unreadable, tt, (refl, refl))
 
 pub noted_without : (m : List ℕ) (params : Option Json) (old : ServerValue) (phase : Phase) → None ≡ params → IsNoted (option_map_or (notice_with m) params Passed) old old [] phase
 noted_without m params old phase h = subst (λ (o : Option Json). IsNoted (option_map_or (notice_with m) o Passed) old old [] phase) h (passed old phase)
 
 noted_waiting : (n : NoticeValue) (old : ServerValue) → old.phase ≡ Waiting → IsNoted n old old [] old.phase
-noted_waiting n old h = subst (IsNoted n old old []) (sym h) (event_of [] Unreadable, tt, (refl, refl))
+noted_waiting n old h = subst (IsNoted n old old []) (sym h) (event_of [] [] Unreadable, tt, (refl, refl))
 
 noted_stopped : (n : NoticeValue) (old : ServerValue) → old.phase ≡ Stopped → IsNoted n old old [] old.phase
-noted_stopped n old h = subst (IsNoted n old old []) (sym h) (event_of [] Unreadable, tt, (refl, refl))
+noted_stopped n old h = subst (IsNoted n old old []) (sym h) (event_of [] [] Unreadable, tt, (refl, refl))
 
 pub noted_at_rest : (n : NoticeValue) (old : ServerValue) (phase : Phase) → phase ≡ old.phase → (phase ≡ Waiting) ⊎ (phase ≡ Stopped) → IsNoted n old old [] old.phase
 noted_at_rest n old phase e (inl h) = noted_waiting n old (sym e ∙ h)

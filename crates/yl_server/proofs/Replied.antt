@@ -1,7 +1,7 @@
 -- What is written of one message.
-use Rattle.std.proofs.Common.{◌≡◌, ℕ, List, [], ◌∷◌, Option, None, Some, Result, Ok, Err, refl, sym, ap, ◌∙◌}
+use Rattle.std.proofs.Common.{◌≡◌, ℕ, true, false, List, [], ◌∷◌, Option, None, Some, IfSome, Result, Ok, Err, refl, sym, ap, ◌∙◌}
 use Rattle.std.specs.Prelude.{OnOk, IfErr, codes}
-use Rattle.std.specs.Option.{option_map_or}
+use Rattle.std.specs.Option.{is_none, option_map_or}
 use Rattle.std.specs.Io.KnownBytes.{Appends}
 use Rattle.json.specs.Json.{Json, null}
 use Rattle.json.specs.Print.{print_from}
@@ -19,14 +19,17 @@ use Rattle.yl_rpc.specs.Calls.{IdValue}
 use Rattle.yl_lsp.specs.declared.presentation.Presentation.{Presentation}
 use Rattle.yl_lsp.specs.Diagnostics.{DiagnosticValue}
 use Rattle.yl_lsp.specs.Messages.{publication}
-use Rattle.yl_lsp.specs.Reports.{ReportValue, report_diagnostics}
-use Rattle.yl_workspace.specs.State.{SessionValue}
+use Rattle.yl_lsp.specs.Reports.{ReportValue, lost_diagnostics, report_diagnostics}
+use Rattle.yl_config.specs.declared.config.Config.{Config}
+use Rattle.yl_workspace.specs.State.{SessionValue, Shows}
+use Rattle.yl_workspace.specs.declared.cause.Cause.{Cause}
+use Rattle.yl_workspace.specs.Changes.{TextValue, Followed, Lost}
 use Rattle.yl_workspace.specs.Documents.{DocumentValue, document_at}
 use Rattle.yl_workspace.specs.Shown.{IsFollowed}
 use Rattle.yl_server.specs.Messages.{MessageValue, Published, Shown, Cleared}
 use Rattle.yl_server.specs.Machine.{ServerValue, told_of}
 use Rattle.yl_server.specs.Steps.{AreCut, AreSent}
-use Rattle.yl_server.specs.Written.{text_diagnostics}
+use Rattle.yl_server.specs.Written.{document_diagnostics, lost_words, text_diagnostics}
 use Rattle.yl_server.proofs.Sending.{one_cut, one_sent, text_of}
 
 -- ---- outcomes
@@ -68,22 +71,47 @@ report_value r h how p rows q problems e a b c =
     ∙ ap (λ (x : List ProblemValue). record { how = how; rows = rows; problems = x }) c))
 
 -- the session of a document shows its report
-pub followed_shown : OneReport → ReportIsComputed → (how : Presentation) (d : DocumentValue) (s : SessionValue) (r : ReportValue) → IsFollowed d s → r ≡ record { how = how; rows = s.rows; problems = s.problems }
-    → report_diagnostics r ≡ text_diagnostics report how d.config d.text
-followed_shown one computed how d s r h e =
-    let rows : lines_of h.text ≡ s.rows = lines_of-is h.text s.rows h.shown.lines in
-    let problems : s.problems ≡ report d.config (lines_of h.text) = same_report one computed d.config s.rows s.problems h.shown.problems ∙ ap (report d.config) (sym rows) in
+session_shown : OneReport → ReportIsComputed → (how : Presentation) (config : Config) (text : List ℕ) (s : SessionValue) (r : ReportValue) → Shows config text s → r ≡ record { how = how; rows = s.rows; problems = s.problems }
+    → report_diagnostics r ≡ text_diagnostics report how config (Followed text)
+session_shown one computed how config text s r h e =
+    let rows : lines_of text ≡ s.rows = lines_of-is text s.rows h.lines in
+    let problems : s.problems ≡ report config (lines_of text) = same_report one computed config s.rows s.problems h.problems ∙ ap (report config) (sym rows) in
     ap report_diagnostics e
     ∙ (ap (λ (ps : List RowValue). report_diagnostics (record { how = how; rows = ps; problems = s.problems })) (sym rows)
-    ∙ (ap (λ (ps : List ProblemValue). report_diagnostics (record { how = how; rows = lines_of h.text; problems = ps })) problems
-    ∙ ap (text_diagnostics report how d.config) (sym h.followed)))
+    ∙ ap (λ (ps : List ProblemValue). report_diagnostics (record { how = how; rows = lines_of text; problems = ps })) problems)
+
+shown_by : OneReport → ReportIsComputed → (how : Presentation) (config : Option Config) (text : List ℕ) (s : SessionValue) (r : ReportValue) → is_none config ≡ false → IfSome config (λ c. Shows c text s)
+    → r ≡ record { how = how; rows = s.rows; problems = s.problems } → report_diagnostics r ≡ option_map_or (λ c. text_diagnostics report how c (Followed text)) config []
+shown_by one computed how None text s r n h e = cc
+shown_by one computed how (Some c) text s r n h e = session_shown one computed how c text s r h e
+
+pub followed_shown : OneReport → ReportIsComputed → (how : Presentation) (d : DocumentValue) (s : SessionValue) (r : ReportValue) → is_none d.config ≡ false → IsFollowed d s
+    → r ≡ record { how = how; rows = s.rows; problems = s.problems } → report_diagnostics r ≡ document_diagnostics report how d
+followed_shown one computed how d s r n h e =
+    shown_by one computed how d.config h.text s r n h.shown e ∙ ap (λ (t : TextValue). option_map_or (λ c. text_diagnostics report how c t) d.config []) (sym h.followed)
+
+lost_by : (how : Presentation) (config : Option Config) (cause : Cause) → is_none config ≡ false → lost_diagnostics (lost_words cause) ≡ option_map_or (λ c. text_diagnostics report how c (Lost cause)) config []
+lost_by how None cause n = cc
+lost_by how (Some c) cause n = refl
+
+-- why its text is not followed
+pub lost_shown : (how : Presentation) (d : DocumentValue) (cause : Cause) → is_none d.config ≡ false → d.text ≡ Lost cause → lost_diagnostics (lost_words cause) ≡ document_diagnostics report how d
+lost_shown how d cause n h = lost_by how d.config cause n ∙ ap (λ (t : TextValue). option_map_or (λ c. text_diagnostics report how c t) d.config []) (sym h)
+
+-- of one that is ignored nothing is shown
+pub ignored_shown : (how : Presentation) (d : DocumentValue) → is_none d.config ≡ true → [] ≡ document_diagnostics report how d
+ignored_shown how d h = ignored_by d.config h
+  where
+    ignored_by : (config : Option Config) → is_none config ≡ true → [] ≡ option_map_or (λ c. text_diagnostics report how c d.text) config []
+    ignored_by None n = refl
+    ignored_by (Some c) n = cc
 
 -- of a document that is not open nothing is shown
 pub told_none : (uri : List ℕ) (s : ServerValue) → None ≡ document_at uri s.documents → json_text (publication (record { uri = uri; version = None; diagnostics = [] })) ≡ text_of (told_of uri s)
 told_none uri s h = ap (λ (o : Option DocumentValue). text_of (Published uri (option_map_or (Shown s.how) o Cleared))) h
 
 -- a document as it is shown
-pub shown_text : (uri : List ℕ) (how : Presentation) (d : DocumentValue) (version : List ℕ) (ds : List DiagnosticValue) → version ≡ d.version → ds ≡ text_diagnostics report how d.config d.text
+pub shown_text : (uri : List ℕ) (how : Presentation) (d : DocumentValue) (version : List ℕ) (ds : List DiagnosticValue) → version ≡ d.version → ds ≡ document_diagnostics report how d
     → json_text (publication (record { uri = uri; version = Some version; diagnostics = ds })) ≡ text_of (Published uri (Shown how d))
 shown_text uri how d version ds e f =
     ap (λ (v : List ℕ). json_text (publication (record { uri = uri; version = Some v; diagnostics = ds }))) e

@@ -17,7 +17,7 @@ use Rattle.yl_server.specs.declared.serving.ServeFault.TheVariants as fault
 use Rattle.yl_server.specs.Bodies.{IsEvent}
 use Rattle.yl_server.specs.Events.{Came, Read, NoJson, Dropped, Event}
 use Rattle.yl_server.specs.Machine.{ServerValue, started, step, after, sent, exit_by, exit_of, noticed, stepped}
-use Rattle.yl_server.specs.Requests.{NoticeValue, Opens, Changes, Spoils, Closes, Sets, Saves, Exits as Asks, Passed, notice_of}
+use Rattle.yl_server.specs.Requests.{NoticeValue, Opens, Changes, Spoils, Closes, Sets, Starts, Refreshes, Exits as Asks, Passed, notice_of}
 use Rattle.yl_server.specs.Serving.{WereTaken, AreBodies, AreEvents, Failures, HasServed, HasBegun, IsNext, IsServed, IsServeFault}
 use Rattle.yl_server.specs.SoFar.{SoFar}
 use Rattle.yl_server.specs.Turns.{Takes, IsMessage, IsMessageCut, IsTurn, IsTurnFault}
@@ -139,7 +139,8 @@ by_notice e (Changes uri version cs) p s status h = cc
 by_notice e (Spoils uri) p s status h = cc
 by_notice e (Closes uri) p s status h = cc
 by_notice e (Sets settings) p s status h = cc
-by_notice e Saves p s status h = cc
+by_notice e Starts p s status h = cc
+by_notice e Refreshes p s status h = cc
 by_notice e Passed p s status h = cc
 
 by_came : (e : Event) (came : Came) (s : ServerValue) (status : ℕ) → exit_of came s.phase ≡ Some status → (stepped e came s).1 ≡ []

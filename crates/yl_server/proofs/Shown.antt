@@ -7,17 +7,21 @@ use Rattle.yl_config.specs.declared.config.Config.{Config}
 use Rattle.yl_lsp.specs.Params.{first_settings}
 use Rattle.yl_rpc.specs.Calls.{IdValue, Request, Notification, Response, Invalid}
 use Rattle.yl_workspace.specs.declared.cause.Cause.TheVariants.{BadChange, Missed}
-use Rattle.yl_workspace.specs.Documents.{DocumentValue, all_lost, changed, changed_document, closed, configured, document_at, lost, lost_document, opened}
+use Rattle.yl_workspace.specs.Documents.{DocumentValue, all_lost, changed, changed_document, closed, document_at, lost, lost_document, opened}
+use Rattle.yl_server.specs.declared.governed.Governed.{Governed}
 use Rattle.yl_server.specs.declared.phase.Phase.{Phase}
 use Rattle.yl_server.specs.declared.phase.Phase.TheVariants.{Waiting, Running, Stopped}
 use Rattle.yl_server.specs.Events.{Came, Read, NoJson, Dropped, Event}
-use Rattle.yl_server.specs.Messages.{ContentValue, Shown, Cleared, MessageValue, Published, Told, content_in, last_content, later}
-use Rattle.yl_server.specs.Requests.{RequestValue, Initialize, Shutdown, Unknown, request_of, object_of, NoticeValue, Opens, Changes, Spoils, Closes, Sets, Saves, Exits, Passed, notice_of}
+use Rattle.yl_server.specs.Folders.{config_at_first, fault_anew, fault_at_first, first_fault, governed_each, is_changed, judged_anew}
+use Rattle.yl_server.specs.Messages.{ContentValue, Shown, Cleared, MessageValue, Published, Watches, content_in, last_content, later}
+use Rattle.yl_server.specs.Requests.{RequestValue, Initialize, Shutdown, Unknown, request_of, object_of, NoticeValue, Opens, Changes, Spoils, Closes, Sets, Starts, Refreshes, Exits, Passed, notice_of}
 use Rattle.yl_server.specs.declared.settings.Setting.{Setting}
-use Rattle.yl_server.specs.declared.settings.Setting.TheVariants.{Set, Faulty, NoMemory}
+use Rattle.yl_server.specs.declared.settings.Setting.TheVariants.{Set, Faulty}
+use Rattle.yl_server.specs.declared.settings.SettingFault.{SettingFault}
+use Rattle.yl_server.specs.declared.settings.SettingFault.TheVariants as fault
 use Rattle.yl_server.specs.Settings.{file_named, setting_found, setting_of}
-use Rattle.yl_server.specs.Machine.{ServerValue, Stepped, after, answered, initialized, initialized_by, initialized_with, memory_words, missed, noticed, noticed_running, quiet, saved_by, sent, set_by, set_with, started, step, stepped, told_of, told_of_all, told_with, with_documents, with_setting}
-use Rattle.yl_server.proofs.Documents.{AreDistinct, AreSame, KeepsOthers, distinct_closed, distinct_opened, distinct_same, distinct_with, keeps_changed, keeps_lost, none_same, others_closed, others_opened, others_with, same_all, same_back, same_configured, same_lost, same_uri}
+use Rattle.yl_server.specs.Machine.{ServerValue, Stepped, after, answered, initialized, initialized_by, initialized_with, missed, noticed, noticed_running, quiet, read_again, refreshed_by, sent, set_by, set_with, started, step, stepped, told_fault, told_of, told_of_all, told_with, with_documents, with_setting}
+use Rattle.yl_server.proofs.Documents.{AreDistinct, AreSame, KeepsOthers, distinct_closed, distinct_opened, distinct_same, distinct_with, keeps_changed, keeps_lost, none_same, others_closed, others_opened, others_with, same_anew, same_back, same_each, same_lost, same_uri, unchanged}
 
 later_none : {A : Type 0} (o : Option A) → later None o ≡ o
 later_none None = refl
@@ -86,10 +90,14 @@ shown_if_open : (s : ServerValue) (uri : List ℕ) (ds : List DocumentValue) (to
 shown_if_open s uri ds told true run others distinct g = shown_one s uri ds told [] run others distinct (λ v. refl) g
 shown_if_open s uri ds told false run others distinct g = untold s told [] g (λ v. refl)
 
-shown_if_entered : (s : ServerValue) (uri : List ℕ) (ds : List DocumentValue) (told : List MessageValue) (b : Bool) → s.phase ≡ Running → KeepsOthers uri s.documents ds → AreDistinct ds → AllShown s told
-    → let t : Stepped = cond b (told_with uri ds s) (with_documents ds s, told_of uri (with_documents ds s) ∷ Told memory_words ∷ []) in AllShown t.0 (told ++ t.1)
-shown_if_entered s uri ds told true run others distinct g = shown_one s uri ds told [] run others distinct (λ v. refl) g
-shown_if_entered s uri ds told false run others distinct g = shown_one s uri ds told (Told memory_words ∷ []) run others distinct (λ v. refl) g
+-- a fault tells nothing of a document
+fault_untold : (f : Option SettingFault) → TellsNone (told_fault f)
+fault_untold None uri = refl
+fault_untold (Some f) uri = refl
+
+-- and what is told before it stays
+then_fault : (uri : List ℕ) (ms : List MessageValue) (f : Option SettingFault) → last_content uri (ms ++ told_fault f) ≡ last_content uri ms
+then_fault uri ms f = last_append uri ms (told_fault f) ∙ ap (later (last_content uri ms)) (fault_untold f uri)
 
 -- ---- all documents
 
@@ -133,28 +141,39 @@ shown_missed s told answer n g =
 
 -- ---- settings
 
-same_with_setting : (granted : List Bool) (config : Option Config) (file : Option (List ℕ)) (most : Option ℕ) (s : ServerValue) → AreSame s.documents (with_setting granted config file most s).documents
-same_with_setting granted None file most s = same_all s.documents
-same_with_setting granted (Some c) file most s = same_configured c granted s.documents
-
-phase_with_setting : (granted : List Bool) (config : Option Config) (file : Option (List ℕ)) (most : Option ℕ) (s : ServerValue) → (with_setting granted config file most s).phase ≡ s.phase
-phase_with_setting granted None file most s = refl
-phase_with_setting granted (Some c) file most s = refl
-
 shown_set : (e : Event) (file : Option (List ℕ)) (x : Setting) (s : ServerValue) (told : List MessageValue) → s.phase ≡ Running → AllShown s told → AllShown (set_by e file x s).0 (told ++ (set_by e file x s).1)
 shown_set e file (Set config most) s told run g =
-    let t = with_setting e.granted config file most s in
-    all_told s t told (told_of_all t) (not_waiting t.phase (phase_with_setting e.granted config file most s ∙ run)) (same_with_setting e.granted config file most s) (λ uri. refl) g
-shown_set e file (Faulty fault) s told run g = untold s told _ g (λ uri. refl)
-shown_set e file NoMemory s told run g = untold s told _ g (λ uri. refl)
+    let t = with_setting e.granted e.governed config file most s in
+    let f = fault_anew config e.governed in
+    all_told s t told (told_of_all t ++ told_fault f) (not_waiting t.phase run) (same_anew config e.governed e.granted s.documents) (λ uri. then_fault uri (told_of_all t) f) g
+shown_set e file (Faulty f) s told run g = untold s told _ g (λ uri. refl)
 
 shown_set_with : (e : Event) (settings : Option Json) (s : ServerValue) (told : List MessageValue) → s.phase ≡ Running → AllShown s told → AllShown (set_with e settings s).0 (told ++ (set_with e settings s).1)
 shown_set_with e None s told run g = untold s told _ g (λ uri. refl)
 shown_set_with e (Some j) s told run g = shown_set e (file_named (Some j)) (setting_of e.found (Some j)) s told run g
 
-shown_saved : (e : Event) (file : Option (List ℕ)) (s : ServerValue) (told : List MessageValue) → s.phase ≡ Running → AllShown s told → AllShown (saved_by e file s).0 (told ++ (saved_by e file s).1)
-shown_saved e None s told run g = untold s told _ g (λ uri. refl)
-shown_saved e (Some path) s told run g = shown_set e (Some path) (setting_found e.found None) s told run g
+shown_read : (e : Event) (file : Option (List ℕ)) (s : ServerValue) (told : List MessageValue) → s.phase ≡ Running → AllShown s told → AllShown (read_again e file s).0 (told ++ (read_again e file s).1)
+shown_read e None s told run g = untold s told _ g (λ uri. refl)
+shown_read e (Some path) s told run g = shown_set e (Some path) (setting_found e.found None) s told run g
+
+-- ---- what is found of documents
+
+-- where none is judged by another, they are those that were told of
+shown_found : (found : List Governed) (grants : List Bool) (s : ServerValue) (told : List MessageValue) (f : Option SettingFault) (b : Bool) → is_changed found ≡ b → s.phase ≡ Running → AllShown s told
+    → let t = with_documents (governed_each found grants s.documents) s in AllShown t (told ++ (cond b (told_of_all t) [] ++ told_fault f))
+shown_found found grants s told f true c run g =
+    let t = with_documents (governed_each found grants s.documents) s in
+    all_told s t told (told_of_all t ++ told_fault f) (not_waiting t.phase run) (same_each found grants s.documents) (λ uri. then_fault uri (told_of_all t) f) g
+shown_found found grants s told f false c run g =
+    subst (λ (ds : List DocumentValue). AllShown (with_documents ds s) (told ++ told_fault f)) (sym (unchanged found grants s.documents c)) (untold s told (told_fault f) g (fault_untold f))
+
+shown_refreshed : (e : Event) (config : Option Config) (s : ServerValue) (told : List MessageValue) → s.phase ≡ Running → AllShown s told → AllShown (refreshed_by e config s).0 (told ++ (refreshed_by e config s).1)
+shown_refreshed e None s told run g = shown_found e.governed e.granted s told (first_fault e.governed) (is_changed e.governed) refl run g
+shown_refreshed e (Some c) s told run g = shown_read e s.file s told run g
+
+watch_untold : (watches : Bool) → TellsNone (cond watches (Watches ∷ []) [])
+watch_untold true uri = refl
+watch_untold false uri = refl
 
 -- ---- requests
 
@@ -168,16 +187,21 @@ none_open s t told ms old new h g = record {
       (cleared_if_none s (last_content uri told) (document_at uri s.documents) (ap (document_at uri) old) (g.each uri)));
 }
 
-none_set : (granted : List Bool) (config : Option Config) (file : Option (List ℕ)) (most : Option ℕ) (s : ServerValue) → s.documents ≡ [] → (with_setting granted config file most s).documents ≡ []
-none_set granted None file most s e = e
-none_set granted (Some c) file most s e = ap (configured c granted) e
+none_anew : (named : Option Config) (found : List Governed) (granted : List Bool) → judged_anew named found granted [] ≡ []
+none_anew None found granted = refl
+none_anew (Some c) found granted = refl
+
+none_set : (granted : List Bool) (found : List Governed) (config : Option Config) (file : Option (List ℕ)) (most : Option ℕ) (s : ServerValue) → s.documents ≡ [] → (with_setting granted found config file most s).documents ≡ []
+none_set granted found config file most s e = ap (judged_anew config found granted) e ∙ none_anew config found granted
 
 shown_initialized : (e : Event) (id : IdValue) (j : Json) (file : Option (List ℕ)) (x : Setting) (s : ServerValue) (told : List MessageValue) → s.phase ≡ Waiting → AllShown s told
     → AllShown (initialized_by e id j file x s).0 (told ++ (initialized_by e id j file x s).1)
 shown_initialized e id j file (Set config most) s told w g =
-    none_open s (with_setting e.granted config file most (initialized j s)) told _ (g.waiting w) (none_set e.granted config file most (initialized j s) (g.waiting w)) (λ uri. refl) g
-shown_initialized e id j file (Faulty fault) s told w g = none_open s (initialized j s) told _ (g.waiting w) (g.waiting w) (λ uri. refl) g
-shown_initialized e id j file NoMemory s told w g = untold s told _ g (λ uri. refl)
+    none_open s (with_setting e.granted e.governed config file most (initialized j s)) told _ (g.waiting w) (none_set e.granted e.governed config file most (initialized j s) (g.waiting w)) (λ uri. refl) g
+shown_initialized e id j file (Faulty fault.Memory) s told w g = untold s told _ g (λ uri. refl)
+shown_initialized e id j file (Faulty fault.Shape) s told w g = none_open s (initialized j s) told _ (g.waiting w) (g.waiting w) (λ uri. refl) g
+shown_initialized e id j file (Faulty fault.Unreadable) s told w g = none_open s (initialized j s) told _ (g.waiting w) (g.waiting w) (λ uri. refl) g
+shown_initialized e id j file (Faulty (fault.Refused f)) s told w g = none_open s (initialized j s) told _ (g.waiting w) (g.waiting w) (λ uri. refl) g
 
 shown_initialized_with : (e : Event) (id : IdValue) (params : Option Json) (s : ServerValue) (told : List MessageValue) → s.phase ≡ Waiting → AllShown s told
     → AllShown (initialized_with e id params s).0 (told ++ (initialized_with e id params s).1)
@@ -205,8 +229,10 @@ shown_answered e id r Stopped s told w g = untold s told _ g (λ uri. refl)
 
 shown_running : (e : Event) (n : NoticeValue) (s : ServerValue) (told : List MessageValue) → s.phase ≡ Running → AllShown s told → AllShown (noticed_running e n s).0 (told ++ (noticed_running e n s).1)
 shown_running e (Opens o) s told run g =
-    let ds = opened s.config e.granted o s.documents in
-    shown_if_entered s o.uri ds told (is_some (document_at o.uri ds)) run (others_opened s.config e.granted o s.documents) (distinct_opened s.config e.granted o s.documents g.distinct) g
+    let config = config_at_first s.standard s.config e.governed in
+    let ds = opened config e.granted o s.documents in
+    let f = cond (is_some (document_at o.uri ds)) (fault_at_first s.config e.governed) (Some fault.Memory) in
+    shown_one s o.uri ds told (told_fault f) run (others_opened config e.granted o s.documents) (distinct_opened config e.granted o s.documents g.distinct) (fault_untold f) g
 shown_running e (Changes uri version cs) s told run g =
     let other = changed_document s.how.encoding e.granted version cs in
     let keeps = keeps_changed s.how.encoding e.granted version cs in
@@ -217,7 +243,8 @@ shown_running e (Spoils uri) s told run g =
 shown_running e (Closes uri) s told run g =
     shown_if_open s uri (closed uri s.documents) told (is_some (document_at uri s.documents)) run (others_closed uri s.documents) (distinct_closed uri s.documents g.distinct) g
 shown_running e (Sets settings) s told run g = shown_set_with e settings s told run g
-shown_running e Saves s told run g = shown_saved e s.file s told run g
+shown_running e Starts s told run g = untold s told _ g (watch_untold s.watches)
+shown_running e Refreshes s told run g = shown_refreshed e s.config s told run g
 shown_running e Exits s told run g = untold s told _ g (λ uri. refl)
 shown_running e Passed s told run g = untold s told _ g (λ uri. refl)
 

@@ -44,7 +44,7 @@ pub dropped_done : (place left : Option (List ℕ)) (old new : ServerValue) (d :
 unfolding step
 dropped_done place left old new d t h = inl (record {
   body = t.0;
-  event = record { came = Dropped; granted = []; found = Unreadable };
+  event = record { came = Dropped; granted = []; found = Unreadable; governed = [] };
   taken = t.1;
   is = record { came = tt; found = tt };
   does = h;
@@ -62,7 +62,7 @@ dropped_message_cut : (place left : Option (List ℕ)) (old : ServerValue) (d : 
 unfolding step
 dropped_message_cut place left old d f t h = record {
   body = t.0;
-  event = record { came = Dropped; granted = []; found = Unreadable };
+  event = record { came = Dropped; granted = []; found = Unreadable; governed = [] };
   taken = t.1;
   is = record { came = tt; found = tt };
   cut = h;

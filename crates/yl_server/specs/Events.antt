@@ -1,6 +1,7 @@
 -- Meaning: what comes to a server.
 use Rattle.std.specs.Prelude.{Bool, List, [], ◌∷◌, ◌++◌, Option, Some, None}
 use Rattle.yl_rpc.specs.Calls.{CallValue, Request, Notification, Response, Invalid, IdValue, Null}
+use Rattle.yl_server.specs.declared.governed.Governed.{Governed}
 use Rattle.yl_server.specs.declared.settings.Found.{Found}
 
 -- the body of a message
@@ -9,12 +10,13 @@ pub data Came : Type 0 where
   NoJson : Came  -- it is no JSON, or nests too deep
   Dropped : Came  -- there was no memory to read it
 
--- a body, for which pieces of its work memory was granted, in their order, and what the configuration was found to be that it asks for, if it
--- asks for one
+-- a body, for which pieces of its work memory was granted, in their order, what the configuration was found to be that it asks for, if it
+-- asks for one, and by what documents were found to be judged, in the order in which they were asked for
 pub record Event : Type 0 where
   pub came : Came
   pub granted : List Bool
   pub found : Found
+  pub governed : List Governed
 
 -- the id that the answer to a body has: its own for a request, and for a message that is none the one that it has. Who sent a body that
 -- was not read is not known

@@ -1,5 +1,6 @@
 pub mod Bodies
 pub mod Events
+pub mod Folders
 pub mod Laws
 pub mod Machine
 pub mod Messages

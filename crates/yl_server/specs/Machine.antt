@@ -9,31 +9,39 @@ use Rattle.yl_rpc.specs.declared.answers.Code.TheVariants.{ParseError, InvalidRe
 use Rattle.yl_rpc.specs.Calls.{CallValue, Request, Notification, Response, Invalid, IdValue, Null}
 use Rattle.yl_lsp.specs.declared.presentation.TheConstants.{MOST_PROBLEMS}
 use Rattle.yl_lsp.specs.declared.presentation.Presentation.{Presentation}
-use Rattle.yl_lsp.specs.Params.{OpenedValue, encoding_in, takes_links, first_settings}
+use Rattle.yl_lsp.specs.Params.{OpenedValue, encoding_in, takes_links, takes_watchers, first_settings}
 use Rattle.yl_workspace.specs.declared.cause.Cause.TheVariants.{BadChange, Missed}
-use Rattle.yl_workspace.specs.Documents.{DocumentValue, all_lost, changed, closed, configured, document_at, lost, opened}
+use Rattle.yl_workspace.specs.Documents.{DocumentValue, all_lost, changed, closed, document_at, lost, opened}
+use Rattle.yl_server.specs.declared.governed.Governed.{Governed}
 use Rattle.yl_server.specs.declared.phase.Phase.{Phase}
 use Rattle.yl_server.specs.declared.phase.Phase.TheVariants.{Waiting, Running, Stopped}
 use Rattle.yl_server.specs.Events.{Came, Read, NoJson, Dropped, Event}
-use Rattle.yl_server.specs.Messages.{MessageValue, Initialized, Done, Refused, Published, Told, Shown, Cleared}
-use Rattle.yl_server.specs.Requests.{RequestValue, Initialize, Shutdown, Unknown, request_of, object_of, NoticeValue, Opens, Changes, Spoils, Closes, Sets, Saves, Exits, Passed, notice_of}
+use Rattle.yl_server.specs.Folders.{config_at_first, fault_anew, fault_at_first, first_fault, governed_each, is_changed, judged_anew}
+use Rattle.yl_server.specs.Messages.{MessageValue, Initialized, Done, Refused, Published, Told, Watches, Shown, Cleared}
+use Rattle.yl_server.specs.Requests.{RequestValue, Initialize, Shutdown, Unknown, request_of, object_of, NoticeValue, Opens, Changes, Spoils, Closes, Sets, Starts, Refreshes, Exits, Passed, notice_of}
 use Rattle.yl_server.specs.declared.settings.Setting.{Setting}
-use Rattle.yl_server.specs.declared.settings.Setting.TheVariants.{Set, Faulty, NoMemory}
+use Rattle.yl_server.specs.declared.settings.Setting.TheVariants.{Set, Faulty}
+use Rattle.yl_server.specs.declared.settings.SettingFault.{SettingFault}
+use Rattle.yl_server.specs.declared.settings.SettingFault.TheVariants as fault
 use Rattle.yl_server.specs.Settings.{file_named, setting_found, setting_of, setting_words}
 
 pub record ServerValue : Type 0 where
   pub phase : Phase
   pub how : Presentation  -- how problems are shown
-  pub config : Config
-  pub file : Option (List ℕ)  -- the file that says it, where the settings named one
+  pub watches : Bool  -- the editor tells of changes of files, where it is asked to
+  pub standard : Config  -- by which a document is judged where nothing else is found
+  pub config : Option Config  -- that the settings name. None: each document is judged by what the files of its folder say
+  pub file : Option (List ℕ)  -- the file that says it, where the settings name one
   pub documents : List DocumentValue  -- those that are open
 
 -- before the first event
 abbrev pub started : Config → ServerValue
-started config = record {
+started standard = record {
   phase = Waiting;
   how = record { encoding = Utf16; links = false; most = MOST_PROBLEMS };
-  config = config;
+  watches = false;
+  standard = standard;
+  config = None;
   file = None;
   documents = [];
 }
@@ -92,11 +100,17 @@ told_with uri ds s = (with_documents ds s, told_of uri (with_documents ds s) ∷
 abbrev pub told_if_open : (uri : List ℕ) → List DocumentValue → ServerValue → Stepped
 told_if_open uri ds s = if is_some (document_at uri s.documents) then told_with uri ds s else quiet s
 
+-- what is wrong with settings, or with what files say, is told
+abbrev pub told_fault : Option SettingFault → List MessageValue
+told_fault None = []
+told_fault (Some f) = Told (setting_words f) ∷ []
+
 -- a document that could not be entered is not open, and its user is told
 abbrev pub opened_by : Event → OpenedValue → ServerValue → Stepped
 opened_by e o s =
-    let ds = opened s.config e.granted o s.documents in
-    if is_some (document_at o.uri ds) then told_with o.uri ds s else (with_documents ds s, told_of o.uri (with_documents ds s) ∷ Told memory_words ∷ [])
+    let ds = opened (config_at_first s.standard s.config e.governed) e.granted o s.documents in
+    let f = if is_some (document_at o.uri ds) then fault_at_first s.config e.governed else Some fault.Memory in
+    (with_documents ds s, told_of o.uri (with_documents ds s) ∷ told_fault f)
 
 -- no text is known any more: a body was not read, which may have been a change
 abbrev pub missed : (answer : MessageValue) → ServerValue → Stepped
@@ -113,36 +127,52 @@ missed_for_memory = missed (not_read InternalError memory_words)
 abbrev pub with_most : Option ℕ → Presentation → Presentation
 with_most most how = record how { most = unwrap_or most how.most }
 
--- a configuration that is said by a file comes with its path
-abbrev pub with_setting : List Bool → (config : Option Config) → (file : Option (List ℕ)) → (most : Option ℕ) → ServerValue → ServerValue
-with_setting granted None file most s = record s { how = with_most most s.how }
-with_setting granted (Some c) file most s = record s { how = with_most most s.how; config = c; file = file; documents = configured c granted s.documents }
+-- a configuration that is said by a file comes with its path. All documents are judged anew, by what is found for each where none is set
+abbrev pub with_setting : List Bool → List Governed → (config : Option Config) → (file : Option (List ℕ)) → (most : Option ℕ) → ServerValue → ServerValue
+with_setting granted found config file most s = record s {
+  how = with_most most s.how;
+  config = config;
+  file = file;
+  documents = judged_anew config found granted s.documents;
+}
 
 abbrev pub set_by : Event → (file : Option (List ℕ)) → Setting → ServerValue → Stepped
-set_by e file (Set config most) s = let new = with_setting e.granted config file most s in (new, told_of_all new)
-set_by e file (Faulty fault) s = (s, Told (setting_words fault) ∷ [])
-set_by e file NoMemory s = (s, Told memory_words ∷ [])
+set_by e file (Set config most) s =
+    let new = with_setting e.granted e.governed config file most s in (new, told_of_all new ++ told_fault (fault_anew config e.governed))
+set_by e file (Faulty f) s = (s, told_fault (Some f))
 
 -- other settings than those of this program are passed over
 abbrev pub set_with : Event → Option Json → ServerValue → Stepped
 set_with e None s = quiet s
 set_with e (Some j) s = set_by e (file_named (Some j)) (setting_of e.found (Some j)) s
 
--- a document was saved, which may be the file of the configuration: it is read again
-abbrev pub saved_by : Event → (file : Option (List ℕ)) → ServerValue → Stepped
-saved_by e None s = quiet s
-saved_by e (Some path) s = set_by e (Some path) (setting_found e.found None) s
+-- it is read again, if a file says it
+abbrev pub read_again : Event → (file : Option (List ℕ)) → ServerValue → Stepped
+read_again e None s = quiet s
+read_again e (Some path) s = set_by e (Some path) (setting_found e.found None) s
+
+-- each document is judged by what is found for it now. Where that is the same for all, none is told of
+abbrev pub governed_by : Event → ServerValue → Stepped
+governed_by e s =
+    let new = with_documents (governed_each e.governed e.granted s.documents) s in
+    (new, (if is_changed e.governed then told_of_all new else []) ++ told_fault (first_fault e.governed))
+
+-- files may be others than they were
+abbrev pub refreshed_by : Event → (config : Option Config) → ServerValue → Stepped
+refreshed_by e None s = governed_by e s
+refreshed_by e (Some c) s = read_again e s.file s
 
 -- ---- requests
 
 abbrev pub initialized : Json → ServerValue → ServerValue
-initialized j s = record s { phase = Running; how = record { encoding = encoding_in j; links = takes_links j; most = s.how.most } }
+initialized j s = record s { phase = Running; how = record { encoding = encoding_in j; links = takes_links j; most = s.how.most }; watches = takes_watchers j }
 
 -- no document is open before `initialize`
 abbrev pub initialized_by : Event → (id : IdValue) → Json → (file : Option (List ℕ)) → Setting → ServerValue → Stepped
-initialized_by e id j file (Set config most) s = (with_setting e.granted config file most (initialized j s), Initialized id (encoding_in j) ∷ [])
-initialized_by e id j file (Faulty fault) s = (initialized j s, Initialized id (encoding_in j) ∷ Told (setting_words fault) ∷ [])
-initialized_by e id j file NoMemory s = (s, Refused id InternalError memory_words ∷ [])
+initialized_by e id j file (Set config most) s =
+    (with_setting e.granted e.governed config file most (initialized j s), Initialized id (encoding_in j) ∷ [])
+initialized_by e id j file (Faulty fault.Memory) s = (s, Refused id InternalError memory_words ∷ [])
+initialized_by e id j file (Faulty f) s = (initialized j s, Initialized id (encoding_in j) ∷ told_fault (Some f))
 
 abbrev pub initialized_with : Event → (id : IdValue) → Option Json → ServerValue → Stepped
 initialized_with e id None s = (s, Refused id InvalidParams params_words ∷ [])
@@ -170,7 +200,8 @@ noticed_running e (Changes uri version cs) s = told_if_open uri (changed s.how.e
 noticed_running e (Spoils uri) s = told_if_open uri (lost BadChange uri s.documents) s
 noticed_running e (Closes uri) s = told_if_open uri (closed uri s.documents) s
 noticed_running e (Sets settings) s = set_with e settings s
-noticed_running e Saves s = saved_by e s.file s
+noticed_running e Starts s = (s, if s.watches then Watches ∷ [] else [])
+noticed_running e Refreshes s = refreshed_by e s.config s
 noticed_running e Exits s = quiet s
 noticed_running e Passed s = quiet s
 

@@ -18,6 +18,7 @@ pub data MessageValue : Type 0 where
   Refused : (id : IdValue) → Code → (words : List ℕ) → MessageValue
   Published : (uri : List ℕ) → ContentValue → MessageValue
   Told : (words : List ℕ) → MessageValue
+  Watches : MessageValue  -- the request that the editor tells of changes of files
 
 -- the id of an answer
 abbrev pub answered_id : MessageValue → Option IdValue
@@ -26,6 +27,7 @@ answered_id (Done id) = Some id
 answered_id (Refused id code words) = Some id
 answered_id (Published uri content) = None
 answered_id (Told words) = None
+answered_id Watches = None
 
 abbrev pub answered_ids : List MessageValue → List IdValue
 answered_ids [] = []

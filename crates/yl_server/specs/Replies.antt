@@ -1,25 +1,22 @@
 -- Bridge: the messages of a reply.
-use Rattle.std.specs.Prelude.{◌≡◌, List, [], ◌∷◌}
+use Rattle.std.specs.Prelude.{◌≡◌, List, [], ◌∷◌, ◌++◌}
 use Rattle.yl_rpc.specs.Calls.{Null}
 use Rattle.yl_rpc.specs.Views.{id_view}
 use Rattle.yl_server.specs.declared.reply.Reply.{Reply}
 use Rattle.yl_server.specs.declared.reply.Reply.TheVariants as reply
-use Rattle.yl_server.specs.Messages.{MessageValue, Initialized, Done, Refused, Told}
-use Rattle.yl_server.specs.Machine.{ServerValue, Stepped, memory_words, told_of, told_of_all}
-use Rattle.yl_server.specs.Settings.{setting_words}
+use Rattle.yl_server.specs.Messages.{MessageValue, Initialized, Done, Refused, Watches}
+use Rattle.yl_server.specs.Machine.{ServerValue, Stepped, told_fault, told_of, told_of_all}
 
 abbrev pub messages_of : ServerValue → Reply → List MessageValue
 messages_of s reply.Nothing = []
-messages_of s (reply.Welcome id) = Initialized (id_view id) s.how.encoding ∷ []
-messages_of s (reply.WelcomeTold id fault) = Initialized (id_view id) s.how.encoding ∷ Told (setting_words fault) ∷ []
+messages_of s (reply.Welcome id fault) = Initialized (id_view id) s.how.encoding ∷ told_fault fault
 messages_of s (reply.Done id) = Done (id_view id) ∷ []
 messages_of s (reply.Refused id code words) = Refused (id_view id) code words.now ∷ []
-messages_of s (reply.Document uri) = told_of uri.now s ∷ []
-messages_of s (reply.NotEntered uri) = told_of uri.now s ∷ Told memory_words ∷ []
-messages_of s reply.All = told_of_all s
+messages_of s (reply.Document uri fault) = told_of uri.now s ∷ told_fault fault
+messages_of s (reply.All fault) = told_of_all s ++ told_fault fault
 messages_of s (reply.Missed code words) = Refused Null code words.now ∷ told_of_all s
-messages_of s (reply.Faulty fault) = Told (setting_words fault) ∷ []
-messages_of s (reply.Told words) = Told words.now ∷ []
+messages_of s (reply.Fault fault) = told_fault fault
+messages_of s reply.Watch = Watches ∷ []
 
 -- a server became what the machine says, and these are the messages that it sends
 abbrev pub IsReplied : (new : ServerValue) → Reply → Stepped → Type 0

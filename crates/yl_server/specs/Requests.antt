@@ -1,5 +1,5 @@
 -- Meaning: what a request and a notification ask a server for, by their methods (LSP 3.17).
-use Rattle.std.specs.Prelude.{ℕ, List, if◌then◌else◌, codes, bytes_eq, Option, Some, None, option_and_then, is_some, unwrap_or}
+use Rattle.std.specs.Prelude.{ℕ, ◌||◌, Bool, List, if◌then◌else◌, codes, bytes_eq, Option, Some, None, option_and_then, is_some, unwrap_or}
 use Rattle.std.specs.Option.{option_map_or}
 use Rattle.json.specs.Json.{Json}
 use Rattle.json.specs.Find.{as_object}
@@ -28,7 +28,8 @@ pub data NoticeValue : Type 0 where
   Spoils : (uri : List ℕ) → NoticeValue  -- of the shape of no change, it changes a text all the same
   Closes : (uri : List ℕ) → NoticeValue
   Sets : (settings : Option Json) → NoticeValue
-  Saves : NoticeValue
+  Starts : NoticeValue  -- the editor took the answer to `initialize`
+  Refreshes : NoticeValue  -- files may be others than they were
   Exits : NoticeValue
   Passed : NoticeValue  -- it asks for nothing that a server does
 
@@ -48,13 +49,20 @@ changes j = unwrap_or (changes_to (document_in j) (version_in j) (changes_in j))
 abbrev pub closes : Json → NoticeValue
 closes j = option_map_or Closes (document_in j) Passed
 
+-- a text was saved, files changed that are watched, or the editor has other folders
+abbrev pub tells_of_files : (method : List ℕ) → Bool
+tells_of_files method =
+    bytes_eq method (codes "textDocument/didSave") || bytes_eq method (codes "workspace/didChangeWatchedFiles")
+    || bytes_eq method (codes "workspace/didChangeWorkspaceFolders")
+
 abbrev pub notice_with : (method : List ℕ) → Json → NoticeValue
 notice_with method j =
     if bytes_eq method (codes "textDocument/didOpen") then opens j
     else (if bytes_eq method (codes "textDocument/didChange") then changes j
     else (if bytes_eq method (codes "textDocument/didClose") then closes j
     else (if bytes_eq method (codes "workspace/didChangeConfiguration") then Sets (changed_settings j)
-    else (if bytes_eq method (codes "textDocument/didSave") then Saves else Passed))))
+    else (if bytes_eq method (codes "initialized") then Starts
+    else (if tells_of_files method then Refreshes else Passed)))))
 
 abbrev pub notice_of : (method : List ℕ) → Option Json → NoticeValue
 notice_of method params = if bytes_eq method (codes "exit") then Exits else option_map_or (notice_with method) params Passed

@@ -1,6 +1,7 @@
 //! A Language Server (LSP 3.17): what each message makes of it, and what it sends.
 #![tactic(auto)]
 
+mod governed;
 mod laws;
 mod phase;
 mod reply;
@@ -9,6 +10,7 @@ mod serving;
 mod settings;
 mod words;
 
+pub use governed::Governed;
 pub use laws::{documents_are_shown, one_answer_to_a_request, texts_are_lost_for_a_cause};
 pub use phase::Phase;
 pub use server::Server;

@@ -3,19 +3,22 @@ ghost use Rattle.std.specs.Prelude.{◌≡◌, ◌-◌, ◌^◌, ◌<◌, [], �
 ghost use Rattle.yl_text.specs.Watched.{failures_of};
 ghost use Rattle.yl_frames.specs.Sending.{watched_of};
 ghost use Rattle.yl_rpc.specs.Views.{id_view};
-ghost use Rattle.yl_server.specs.Messages.{Initialized, Done, Refused, Published, Told, Shown};
-ghost use Rattle.yl_server.specs.Machine.{told_of, told_of_all};
+ghost use Rattle.yl_lsp.specs.Shown.{content_diagnostics};
+ghost use Rattle.yl_workspace.specs.Computed.{report};
+ghost use Rattle.yl_server.specs.Messages.{Initialized, Done, Refused, Published, Told, Watches, Shown};
+ghost use Rattle.yl_server.specs.Machine.{told_fault, told_of, told_of_all};
 ghost use Rattle.yl_server.specs.Replies.{messages_of};
 ghost use Rattle.yl_server.specs.Settings.{setting_words};
 ghost use Rattle.yl_server.specs.Steps.{AreCut, AreSent, sink};
-ghost use Rattle.yl_server.specs.Written.{lost_words};
+ghost use Rattle.yl_server.specs.Written.{document_diagnostics, lost_words};
 
 use crate::server::Server;
 use crate::settings::SettingFault;
-use crate::words::MEMORY;
 use std::io::Write;
 use yl_frames::{Output, SendFault};
-use yl_lsp::{Content, ErrorMessage, InitializeResult, PlacedError, Publication, Report};
+use yl_lsp::{
+    Content, ErrorMessage, InitializeResult, PlacedError, Publication, Report, WatchRequest,
+};
 use yl_rpc::{Answer, Code, Failure, Id, Plain};
 use yl_text::LineStore;
 use yl_units::Encoding;
@@ -28,26 +31,22 @@ const VERSION: &str = "0.1.0";
 #[derive(Clone, Copy)]
 pub(crate) enum Reply<'a> {
     Nothing,
-    /// The answer to `initialize`.
-    Welcome(Id<'a>),
-    /// The same, and what is wrong with the settings.
-    WelcomeTold(Id<'a>, SettingFault),
+    /// The answer to `initialize`, and what is wrong with the settings.
+    Welcome(Id<'a>, Option<SettingFault>),
     /// The answer to `shutdown`.
     Done(Id<'a>),
     /// The answer to a request that is not met.
     Refused(Id<'a>, Code, &'a str),
-    /// What is told of the document with this URI.
-    Document(&'a str),
-    /// The same of one that could not be entered.
-    NotEntered(&'a str),
-    /// What is told of all documents.
-    All,
+    /// What is told of the document with this URI, and what is wrong with its configuration, or that it could not be entered.
+    Document(&'a str, Option<SettingFault>),
+    /// What is told of all documents, and what is wrong with their configurations.
+    All(Option<SettingFault>),
     /// The answer to a body that was not read, and what is told of all documents.
     Missed(Code, &'a str),
-    /// What the user is told is wrong with the settings.
-    Faulty(SettingFault),
-    /// What the user is told.
-    Told(&'a str),
+    /// What is wrong with configurations or settings, if anything is.
+    Fault(Option<SettingFault>),
+    /// The request that the editor tells of changes of files.
+    Watch,
 }
 
 fn refuse<W: Write>(
@@ -71,8 +70,8 @@ fn tell<W: Write>(text: &str, out: &mut Output<W>) -> Result<(), SendFault>
     out.send(&ErrorMessage { text })
 }
 
-// Tells the user what is wrong with settings, and where, if the fault has a place.
-fn tell_fault<W: Write>(fault: SettingFault, out: &mut Output<W>) -> Result<(), SendFault>
+// Tells the user what is wrong with settings or configurations, and where, if the fault has a place.
+fn tell_one<W: Write>(fault: SettingFault, out: &mut Output<W>) -> Result<(), SendFault>
     requires { failures_of (watched_of out.old) < 2 ^ 64 - 1 }
     ensures ok { OnOk result (AreSent (sink W.contents out.old out.new) (Told (setting_words fault) ∷ [])) }
     ensures err { IfErr result (AreCut (sink W.contents out.old out.new) (Told (setting_words fault) ∷ [])) }
@@ -86,6 +85,27 @@ fn tell_fault<W: Write>(fault: SettingFault, out: &mut Output<W>) -> Result<(), 
         }),
         None => tell(text, out),
     }
+}
+
+// The same, where something is wrong.
+fn tell_fault<W: Write>(fault: Option<SettingFault>, out: &mut Output<W>) -> Result<(), SendFault>
+    requires { failures_of (watched_of out.old) < 2 ^ 64 - 1 }
+    ensures ok { OnOk result (AreSent (sink W.contents out.old out.new) (told_fault fault)) }
+    ensures err { IfErr result (AreCut (sink W.contents out.old out.new) (told_fault fault)) }
+{
+    match fault {
+        Some(fault) => tell_one(fault, out),
+        None => Ok(()),
+    }
+}
+
+// Asks the editor to tell of changes of files.
+fn watch<W: Write>(out: &mut Output<W>) -> Result<(), SendFault>
+    requires { failures_of (watched_of out.old) < 2 ^ 64 - 1 }
+    ensures ok { OnOk result (AreSent (sink W.contents out.old out.new) (Watches ∷ [])) }
+    ensures err { IfErr result (AreCut (sink W.contents out.old out.new) (Watches ∷ [])) }
+{
+    out.send(&WatchRequest)
 }
 
 // Answers `initialize`.
@@ -139,25 +159,26 @@ impl<S: LineStore> Server<S> {
     {
         match reply {
             Reply::Nothing => Ok(()),
-            Reply::Welcome(id) => welcome(id, self.encoding(), out),
-            Reply::WelcomeTold(id, fault) => {
+            Reply::Welcome(id, fault) => {
                 welcome(id, self.encoding(), out)?;
                 tell_fault(fault, out)
             }
             Reply::Done(id) => finish(id, out),
             Reply::Refused(id, code, words) => refuse(id, code, words, out),
-            Reply::Document(uri) => self.tell_of(uri, out),
-            Reply::NotEntered(uri) => {
+            Reply::Document(uri, fault) => {
                 self.tell_of(uri, out)?;
-                tell(MEMORY, out)
+                tell_fault(fault, out)
             }
-            Reply::All => self.tell_of_all(out),
+            Reply::All(fault) => {
+                self.tell_of_all(out)?;
+                tell_fault(fault, out)
+            }
             Reply::Missed(code, words) => {
                 refuse(Id::Null, code, words, out)?;
                 self.tell_of_all(out)
             }
-            Reply::Faulty(fault) => tell_fault(fault, out),
-            Reply::Told(words) => tell(words, out),
+            Reply::Fault(fault) => tell_fault(fault, out),
+            Reply::Watch => watch(out),
         }
     }
 
@@ -201,18 +222,27 @@ impl<S: LineStore> Server<S> {
         ensures ok { OnOk result (AreSent (sink W.contents out.old out.new) (Published uri.now (Shown self.now.how document.now) ∷ [])) }
         ensures err { IfErr result (AreCut (sink W.contents out.old out.new) (Published uri.now (Shown self.now.how document.now) ∷ [])) }
     {
+        out.send(&Publication {
+            uri,
+            version: Some(document.version()),
+            content: self.content(document),
+        })
+    }
+
+    // What a publication shows of a document.
+    fn content<'d>(&self, document: &'d Document<S>) -> Content<'d, S>
+        ensures { content_diagnostics result ≡ document_diagnostics report self.now.how document.now }
+    {
         one_report();
-        let content = match document.session() {
+        if document.is_ignored() {
+            return Content::Nothing;
+        }
+        match document.session() {
             Ok(session) => {
                 let report = Report::new(self.how(), session.lines(), session.problems());
                 Content::Problems(report)
             }
             Err(cause) => Content::Lost(lost_words(cause)),
-        };
-        out.send(&Publication {
-            uri,
-            version: Some(document.version()),
-            content,
-        })
+        }
     }
 }

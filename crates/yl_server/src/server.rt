@@ -1,5 +1,5 @@
 //! A server, and what each message makes of it.
-ghost use Rattle.std.specs.Prelude.{◌≡◌, ◌-◌, ◌^◌, ◌<◌, ◌∷◌, [], Bool, List, map, Option, IfErr, IfOk, Some, option_and_then, option_copied, string_bytes};
+ghost use Rattle.std.specs.Prelude.{◌≡◌, ℕ, ◌-◌, ◌^◌, ◌<◌, ◌∷◌, [], Bool, List, map, Option, IfErr, IfOk, Some, option_and_then, option_copied, string_bytes};
 ghost use Rattle.std.specs.Option.{option_map, option_map_or};
 ghost use Rattle.json.specs.Json.{Json};
 ghost use Rattle.json.specs.Value.{value_view};
@@ -12,14 +12,18 @@ ghost use Rattle.yl_lsp.specs.Read.{change_value};
 ghost use Rattle.yl_workspace.specs.Documents as docs;
 ghost use Rattle.yl_server.specs.Bodies.{IsFound, noticed_settings, requested_settings, settings_of_notice, text_set};
 ghost use Rattle.yl_server.specs.Events.{Event, Read as Came};
+ghost use Rattle.yl_server.specs.Folders.{config_at_first, fault_anew, fault_at_first};
+ghost use Rattle.yl_server.specs.declared.governed.Governed.{Governed};
 ghost use Rattle.yl_server.specs.Requests as spec;
 ghost use Rattle.yl_server.specs.Machine as machine;
+ghost use Rattle.yl_server.specs.declared.settings.Setting.TheVariants.{Faulty};
 ghost use Rattle.yl_server.specs.Replies.{IsReplied};
 ghost use Rattle.yl_server.specs.Steps.{AreCut, IsBodyMet, IsDone, IsHandled, IsHandlingCut, IsMet, sink, unread_answer};
 
+use crate::governed::{fault_in, judged_at_first, refresh};
 use crate::phase::Phase;
 use crate::reply::Reply;
-use crate::settings::{ConfigFiles, Setting, file_named, setting_found, setting_of};
+use crate::settings::{ConfigFiles, Setting, SettingFault, file_named, setting_found, setting_of};
 use crate::words::{INITIALIZED, MEMORY, NO_JSON, NO_REQUEST, PARAMS, STOPPED, UNKNOWN, WAITING};
 use json::{Scratch, Value};
 use std::alloc::{AllocError, Allocator};
@@ -29,23 +33,34 @@ use yl_config::Config;
 use yl_frames::{Output, SendFault};
 use yl_lsp::{
     Change, MOST_PROBLEMS, Presentation, change_of, changed_settings, changes_in, document_in,
-    encoding_in, first_settings, opened_in, takes_links, version_in,
+    encoding_in, first_settings, opened_in, takes_links, takes_watchers, version_in,
 };
 use yl_rpc::{BodyFault, Call, Code, Id, call_of, read_body};
 use yl_text::LineStore;
 use yl_units::Encoding;
 use yl_workspace::{Cause, Document, Workspace};
 
-/// A server: how far it is, how it shows problems, the configuration in force and the file that says it, where settings named one, and the
-/// documents that are open.
+/// A server: how far it is, how it shows problems, whether its editor tells of changes of files, the standard configuration, the one that the
+/// settings name and the file that says it, and the documents that are open.
 #[derive(Drop)]
 pub struct Server<S: LineStore> {
     alloc: S::Alloc,
     phase: Phase,
     how: Presentation,
-    config: Config,
+    watches: bool,
+    standard: Config,
+    config: Option<Config>,
     file: Option<String<S::Alloc>>,
     workspace: Workspace<S>,
+}
+
+/// Whether the editor tells by this method that files may be others than they were.
+fn tells_of_files(method: &str) -> bool
+    ensures { result ≡ spec.tells_of_files method.now }
+{
+    method == "textDocument/didSave"
+        || method == "workspace/didChangeWatchedFiles"
+        || method == "workspace/didChangeWorkspaceFolders"
 }
 
 /// The params that are an object.
@@ -79,13 +94,13 @@ impl<S: LineStore> Model for Server<S> {
 
     ghost Value = { ServerValue };
 
-    ghost view = { λ s. record { phase = s.phase; how = s.how; config = s.config; file = option_map string_bytes s.file; documents = s.workspace } };
+    ghost view = { λ s. record { phase = s.phase; how = s.how; watches = s.watches; standard = s.standard; config = s.config; file = option_map string_bytes s.file; documents = s.workspace } };
 }
 
 impl<S: LineStore> Server<S> {
-    /// A server that waits for `initialize`, with this configuration in force. It takes no memory.
-    pub fn new(alloc: S::Alloc, config: Config) -> Server<S>
-        ensures { result ≡ machine.started config }
+    /// A server that waits for `initialize`. By this configuration a document is judged where nothing else is found. It takes no memory.
+    pub fn new(alloc: S::Alloc, standard: Config) -> Server<S>
+        ensures { result ≡ machine.started standard }
     {
         Server {
             alloc,
@@ -95,7 +110,9 @@ impl<S: LineStore> Server<S> {
                 links: false,
                 most: MOST_PROBLEMS,
             },
-            config,
+            watches: false,
+            standard,
+            config: None,
             file: None,
             workspace: Workspace::new(alloc),
         }
@@ -290,14 +307,28 @@ impl<S: LineStore> Server<S> {
         match setting_of(self.alloc, settings, files) {
             Setting::Set(config, most) => {
                 self.begin(params);
-                self.set(config, file, most);
-                Reply::Welcome(id)
+                self.set(config, file, most, files);
+                Reply::Welcome(id, None)
             }
-            Setting::Faulty(fault) => {
+            Setting::Faulty(fault) => self.begin_faulty(id, params, fault),
+        }
+    }
+
+    // Begins to run where settings are faulty, but not where there was no memory for them.
+    fn begin_faulty<'a>(
+        &mut self,
+        id: Id<'a>,
+        params: &Value<'_, S::Alloc>,
+        fault: SettingFault,
+    ) -> Reply<'a>
+        ensures { (e : Event) (file : Option (List ℕ)) → IsReplied self.new result (machine.initialized_by e (id_view id.entry) (value_view params.now) file (Faulty fault) self.old) }
+    {
+        match fault {
+            SettingFault::Memory => Reply::Refused(id, Code::InternalError, MEMORY),
+            SettingFault::Shape | SettingFault::Unreadable | SettingFault::Refused(_) => {
                 self.begin(params);
-                Reply::WelcomeTold(id, fault)
+                Reply::Welcome(id, Some(fault))
             }
-            Setting::NoMemory => Reply::Refused(id, Code::InternalError, MEMORY),
         }
     }
 
@@ -308,29 +339,43 @@ impl<S: LineStore> Server<S> {
         self.phase = Phase::Running;
         self.how.encoding = encoding_in(params);
         self.how.links = takes_links(params);
+        self.watches = takes_watchers(params);
     }
 
-    // Puts a configuration, with the file that says it, and a number of problems in force, each where it is set.
-    fn set(&mut self, config: Option<Config>, file: Option<String<S::Alloc>>, most: Option<u64>)
-        ensures { (granted : List Bool) × (self.new ≡ machine.with_setting granted config (option_map string_bytes file) most self.old) }
+    // Puts what settings set in force, with the file that says the configuration. Returns the first fault of what is found for documents.
+    fn set<F: ConfigFiles>(
+        &mut self,
+        config: Option<Config>,
+        file: Option<String<S::Alloc>>,
+        most: Option<u64>,
+        files: &mut F,
+    ) -> Option<SettingFault>
+        ensures { (granted : List Bool) × (found : List Governed) × (self.new ≡ machine.with_setting granted found config (option_map string_bytes file) most self.old)
+            × (result ≡ fault_anew config found) }
     {
+        self.file = file;
+        self.judge_by(config, most, files)
+    }
+
+    // Puts a configuration, or none, and a number of problems in force. The file stays.
+    fn judge_by<F: ConfigFiles>(
+        &mut self,
+        config: Option<Config>,
+        most: Option<u64>,
+        files: &mut F,
+    ) -> Option<SettingFault>
+        ensures { (granted : List Bool) × (found : List Governed) × (self.new ≡ machine.with_setting granted found config self.old.file most self.old)
+            × (result ≡ fault_anew config found) }
+    {
+        let is_known = self.config.is_none();
+        let most = most.unwrap_or(self.how.most);
+        self.how.most = most;
+        self.config = config;
         if config.is_some() {
-            self.file = file;
-        }
-        self.judge_by(config, most);
-    }
-
-    // Puts a configuration and a number of problems in force, each where it is set. The file stays.
-    fn judge_by(&mut self, config: Option<Config>, most: Option<u64>)
-        ensures { (granted : List Bool) × (self.new ≡ machine.with_setting granted config self.old.file most self.old) }
-    {
-        if let Some(most) = most {
-            self.how.most = most;
-        }
-        if let Some(config) = config {
-            self.config = config;
             self.workspace.configure(config);
+            return None;
         }
+        refresh(&mut self.workspace, is_known, files).fault
     }
 
     // ---- notifications
@@ -363,35 +408,65 @@ impl<S: LineStore> Server<S> {
             × IsReplied self.new result (machine.noticed_running e (spec.notice_with method.now (value_view params.now)) self.old) }
     {
         if method == "textDocument/didOpen" {
-            return self.open(params);
+            return self.open(params, files);
         }
         if method == "textDocument/didChange" {
             return self.change(params);
         }
         if method == "textDocument/didClose" {
-            return self.close(params);
+            return self.close(params, files);
         }
         if method == "workspace/didChangeConfiguration" {
             return self.configure(params, files);
         }
-        if method == "textDocument/didSave" {
-            return self.save(files);
+        if method == "initialized" {
+            return self.start();
+        }
+        if tells_of_files(method) {
+            return self.refresh_by(files);
         }
         Reply::Nothing
     }
 
-    fn open<'a>(&mut self, params: &Value<'a, S::Alloc>) -> Reply<'a>
-        ensures { (granted : List Bool) × ((e : Event) → e.granted ≡ granted → IsReplied self.new result (machine.noticed_running e (spec.opens (value_view params.now)) self.old)) }
+    // The editor took the answer to `initialize`: it is asked to tell of changes of files, if it does.
+    fn start<'a>(&self) -> Reply<'a>
+        ensures { (e : Event) → IsReplied self.now result (machine.noticed_running e spec.Starts self.now) }
+    {
+        if self.watches {
+            Reply::Watch
+        } else {
+            Reply::Nothing
+        }
+    }
+
+    fn open<'a, F: ConfigFiles>(&mut self, params: &Value<'a, S::Alloc>, files: &mut F) -> Reply<'a>
+        ensures { (e : Event) × IsReplied self.new result (machine.noticed_running e (spec.opens (value_view params.now)) self.old) }
     {
         let Some(opened) = opened_in(params) else {
             return self.spoil(params);
         };
+        let (config, fault) = self.found_at_first(opened.uri, files);
         // One that could not be entered is not open after this, and that is told.
-        drop(self.workspace.open(self.config, opened));
+        drop(self.workspace.open(config, opened));
         if self.workspace.document(opened.uri).is_none() {
-            return Reply::NotEntered(opened.uri);
+            return Reply::Document(opened.uri, Some(SettingFault::Memory));
         }
-        Reply::Document(opened.uri)
+        Reply::Document(opened.uri, fault)
+    }
+
+    // By what a document is judged that is opened, and what is wrong with what is found for it.
+    fn found_at_first<F: ConfigFiles>(
+        &self,
+        uri: &str,
+        files: &mut F,
+    ) -> (Option<Config>, Option<SettingFault>)
+        ensures { (found : List Governed) × (result.0 ≡ config_at_first self.now.standard self.now.config found) × (result.1 ≡ fault_at_first self.now.config found) }
+    {
+        if self.config.is_some() {
+            return (self.config, None);
+        }
+        let found = files.of_document(uri, false);
+        (judged_at_first(self.standard, found), fault_in(found))
     }
 
     fn change<'a>(&mut self, params: &Value<'a, S::Alloc>) -> Reply<'a>
@@ -407,7 +482,7 @@ impl<S: LineStore> Server<S> {
             return Reply::Nothing;
         }
         self.change_text(uri, version, changes_in(params));
-        Reply::Document(uri)
+        Reply::Document(uri, None)
     }
 
     // Makes the changes that values are. None are one of another shape.
@@ -440,10 +515,14 @@ impl<S: LineStore> Server<S> {
             return Reply::Nothing;
         }
         self.workspace.lose(uri, Cause::BadChange);
-        Reply::Document(uri)
+        Reply::Document(uri, None)
     }
 
-    fn close<'a>(&mut self, params: &Value<'a, S::Alloc>) -> Reply<'a>
+    fn close<'a, F: ConfigFiles>(
+        &mut self,
+        params: &Value<'a, S::Alloc>,
+        files: &mut F,
+    ) -> Reply<'a>
         ensures { (e : Event) → IsReplied self.new result (machine.noticed_running e (spec.closes (value_view params.now)) self.old) }
     {
         let Some(uri) = document_in(params) else {
@@ -453,7 +532,8 @@ impl<S: LineStore> Server<S> {
             return Reply::Nothing;
         }
         self.workspace.close(uri);
-        Reply::Document(uri)
+        files.closed(uri);
+        Reply::Document(uri, None)
     }
 
     fn configure<'a, F: ConfigFiles>(
@@ -468,33 +548,39 @@ impl<S: LineStore> Server<S> {
             return Reply::Nothing;
         };
         let Ok(file) = file_named(self.alloc, Some(settings)) else {
-            return Reply::Told(MEMORY);
+            return Reply::Fault(Some(SettingFault::Memory));
         };
         match setting_of(self.alloc, Some(settings), files) {
-            Setting::Set(config, most) => {
-                self.set(config, file, most);
-                Reply::All
-            }
-            Setting::Faulty(fault) => Reply::Faulty(fault),
-            Setting::NoMemory => Reply::Told(MEMORY),
+            Setting::Set(config, most) => Reply::All(self.set(config, file, most, files)),
+            Setting::Faulty(fault) => Reply::Fault(Some(fault)),
         }
     }
 
-    // A document was saved, which may be the file of the configuration: it is read again.
-    fn save<'a, F: ConfigFiles>(&mut self, files: &mut F) -> Reply<'a>
-        ensures { (e : Event) × IsReplied self.new result (machine.saved_by e self.old.file self.old) }
+    // Files may be others than they were: what they say is asked for again.
+    fn refresh_by<'a, F: ConfigFiles>(&mut self, files: &mut F) -> Reply<'a>
+        ensures { (e : Event) × IsReplied self.new result (machine.refreshed_by e self.old.config self.old) }
+    {
+        if self.config.is_some() {
+            return self.read_again(files);
+        }
+        let refreshed = refresh(&mut self.workspace, true, files);
+        if refreshed.is_changed {
+            return Reply::All(refreshed.fault);
+        }
+        Reply::Fault(refreshed.fault)
+    }
+
+    // Reads the file of the configuration that the settings name again, if a file says it.
+    fn read_again<'a, F: ConfigFiles>(&mut self, files: &mut F) -> Reply<'a>
+        ensures { (e : Event) × IsReplied self.new result (machine.read_again e self.old.file self.old) }
     {
         let found = match &self.file {
             Some(path) => files.read(path.as_str()),
             None => return Reply::Nothing,
         };
         match setting_found(found, None) {
-            Setting::Set(config, most) => {
-                self.judge_by(config, most);
-                Reply::All
-            }
-            Setting::Faulty(fault) => Reply::Faulty(fault),
-            Setting::NoMemory => Reply::Told(MEMORY),
+            Setting::Set(config, most) => Reply::All(self.judge_by(config, most, files)),
+            Setting::Faulty(fault) => Reply::Fault(Some(fault)),
         }
     }
 }

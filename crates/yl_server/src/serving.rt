@@ -73,28 +73,28 @@ fn take_turn<S: LineStore, F: ConfigFiles, R: Read, W: Write>(
 }
 
 /// Answers an editor by LSP until it asks for the end or its messages end, and returns the exit status: 0
-/// where it asks for the end after `shutdown`, else 1. Each message is answered before the next is read. The
-/// configuration is in force until settings name another.
+/// where it asks for the end after `shutdown`, else 1. Each message is answered before the next is read. By
+/// this configuration a document is judged where neither settings nor files say another.
 ///
 /// The faults: `Read` and `Write` where the device failed. `Header` where the reader gives no message next.
 /// `TooLong` where a message has more bytes than a header can say. What was read before is answered.
 pub fn serve<S: LineStore, F: ConfigFiles, R: Read, W: Write>(
     alloc: S::Alloc,
-    config: Config,
+    standard: Config,
     files: &mut F,
     input: &mut Watched<R>,
     out: &mut Output<W>,
 ) -> Result<u8, ServeFault>
     requires reader { failures_of input.old < 2 ^ 64 - 1 }
     requires writer { failures_of (watched_of out.old) < 2 ^ 64 - 1 }
-    ensures done { IfOk result (IsServed config (record {
+    ensures done { IfOk result (IsServed standard (record {
       given = R.remaining (device_of input.old);
       before = W.contents (device_of (watched_of out.old));
       now = W.contents (device_of (watched_of out.new));
     })) }
     ensures reader_quiet { OnOk result (failures_of input.new ≡ failures_of input.old) }
     ensures writer_quiet { OnOk result (failures_of (watched_of out.new) ≡ failures_of (watched_of out.old)) }
-    ensures fault { IfErr result (IsServeFault config (record {
+    ensures fault { IfErr result (IsServeFault standard (record {
       reads_before = failures_of input.old;
       reads_after = failures_of input.new;
       writes_before = failures_of (watched_of out.old);
@@ -107,7 +107,7 @@ pub fn serve<S: LineStore, F: ConfigFiles, R: Read, W: Write>(
         })) }
 {
     one_report();
-    let mut server: Server<S> = Server::new(alloc, config);
+    let mut server: Server<S> = Server::new(alloc, standard);
     let mut ahead = Ahead::new();
     for _ in 0..u64::MAX {
         match take_turn(alloc, &mut server, files, &mut ahead, input, out) {

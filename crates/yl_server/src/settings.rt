@@ -5,9 +5,11 @@ ghost use Rattle.json.specs.Value.{value_view};
 ghost use Rattle.yl_lsp.specs.Read.{settings_value};
 ghost use Rattle.yl_server.specs.Bodies.{IsFound, text_set};
 ghost use Rattle.yl_server.specs.Named.{IsNamed};
-ghost use Rattle.yl_server.specs.Settings.{fault_words, place_of, setting_found};
+ghost use Rattle.yl_server.specs.Settings.{fault_words, place_of, refused_by, setting_found};
 ghost use Rattle.yl_server.specs.Settings as spec;
 
+use crate::governed::Governed;
+use crate::words::MEMORY;
 use json::Value;
 use std::alloc::{AllocError, Allocator};
 use yl_config::{Config, ConfigFault, FaultPlace};
@@ -28,17 +30,36 @@ pub enum Found {
 pub trait ConfigFiles {
     /// What the file of this path says as a configuration.
     fn read(&mut self, path: &str) -> Found;
+
+    /// By what the document with this URI is judged, as the files of its folder say it. `is_known` says that it was asked for since it was
+    /// opened: only then `Same` is an answer.
+    fn of_document(&mut self, uri: &str, is_known: bool) -> Governed;
+
+    /// The document with this URI is closed: what was kept of it may be forgotten.
+    fn closed(&mut self, uri: &str);
 }
 
-/// What is wrong with settings.
+/// What is wrong with settings, or with what files say.
 #[derive(Clone, Copy)]
 pub(crate) enum SettingFault {
     /// One of them is of another type than it has.
     Shape,
-    /// The file of the configuration could not be read.
+    /// A file of a configuration could not be read.
     Unreadable,
-    /// The configuration has a fault.
+    /// There was no memory.
+    Memory,
+    /// A configuration has a fault.
     Refused(ConfigFault),
+}
+
+/// Why a configuration is refused.
+pub(crate) fn refused_by(fault: ConfigFault) -> SettingFault
+    ensures { result ≡ refused_by fault }
+{
+    match fault {
+        ConfigFault::Memory => SettingFault::Memory,
+        fault => SettingFault::Refused(fault),
+    }
 }
 
 impl SettingFault {
@@ -49,6 +70,7 @@ impl SettingFault {
         match self {
             SettingFault::Shape => "a setting is of another type than it has",
             SettingFault::Unreadable => "the file of the configuration cannot be read",
+            SettingFault::Memory => MEMORY,
             SettingFault::Refused(fault) => refused_words(fault),
         }
     }
@@ -58,7 +80,7 @@ impl SettingFault {
         ensures { result ≡ place_of self }
     {
         match self {
-            SettingFault::Shape | SettingFault::Unreadable => None,
+            SettingFault::Shape | SettingFault::Unreadable | SettingFault::Memory => None,
             SettingFault::Refused(fault) => fault.place(),
         }
     }
@@ -88,10 +110,8 @@ fn refused_words(fault: ConfigFault) -> &'static str
 pub(crate) enum Setting {
     /// A configuration, and how many problems of a text are shown at the most, each where it is set.
     Set(Option<Config>, Option<u64>),
-    /// Nothing, since they are faulty.
+    /// Nothing, since they are faulty, or for want of memory.
     Faulty(SettingFault),
-    /// Nothing, for want of memory.
-    NoMemory,
 }
 
 /// The configuration that settings name, if they name one. A text comes before a file.
@@ -142,10 +162,9 @@ pub(crate) fn setting_found(found: Found, most: Option<u64>) -> Setting
 {
     match found {
         Found::Said(Ok(config)) => Setting::Set(Some(config), most),
-        Found::Said(Err(ConfigFault::Memory)) => Setting::NoMemory,
-        Found::Said(Err(fault)) => Setting::Faulty(SettingFault::Refused(fault)),
+        Found::Said(Err(fault)) => Setting::Faulty(refused_by(fault)),
         Found::Unreadable => Setting::Faulty(SettingFault::Unreadable),
-        Found::NoMemory => Setting::NoMemory,
+        Found::NoMemory => Setting::Faulty(SettingFault::Memory),
     }
 }
 

@@ -4,7 +4,7 @@ use std::cell::Cell;
 use std::io;
 use std::io::{ErrorKind, Read, Write};
 use yl_config::Config;
-use yl_server::{ConfigFiles, Found};
+use yl_server::{ConfigFiles, Found, Governed};
 
 /// What devices give and take.
 #[derive(Clone, Copy)]
@@ -127,16 +127,22 @@ impl Write for EditorWriter<'_> {
 }
 
 /// Files whose names say what is in them: at the first reading what stands before the first bar, at the next what stands before the next one. At
-/// further readings they are not there.
+/// further readings they are not there. Behind the question mark of a URI stands in the same way what files say of its document, each time that a
+/// document is asked for: a configuration, `ignored` or `unreadable`. Where nothing stands there is no file.
 #[derive(Drop)]
 pub struct Files<A> {
     alloc: A,
     readings: usize,
+    askings: usize,
 }
 
 impl<A> Files<A> {
     pub fn new(alloc: A) -> Files<A> {
-        Files { alloc, readings: 0 }
+        Files {
+            alloc,
+            readings: 0,
+            askings: 0,
+        }
     }
 }
 
@@ -148,5 +154,37 @@ impl<A: Allocator + Copy> ConfigFiles for Files<A> {
             Some(text) => Found::Said(Config::read(self.alloc, text.as_bytes())),
             None => Found::Unreadable,
         }
+    }
+
+    fn closed(&mut self, _uri: &str) {}
+
+    fn of_document(&mut self, uri: &str, is_known: bool) -> Governed {
+        let said = said_of(uri, self.askings);
+        self.askings = self.askings.saturating_add(1);
+        if said.is_empty() {
+            return if is_known {
+                Governed::Same
+            } else {
+                Governed::By(Config::standard())
+            };
+        }
+        if said == "ignored" {
+            return Governed::Ignored;
+        }
+        if said == "unreadable" {
+            return Governed::Unreadable;
+        }
+        match Config::read(self.alloc, said.as_bytes()) {
+            Ok(config) => Governed::By(config),
+            Err(fault) => Governed::Faulty(fault),
+        }
+    }
+}
+
+// What the URI of a document has files say of it when documents were asked for so many times.
+fn said_of(uri: &str, askings: usize) -> &str {
+    match uri.split_once('?') {
+        Some((_, said)) => said.split('|').nth(askings).unwrap_or(""),
+        None => "",
     }
 }

@@ -12,7 +12,7 @@
 //!                     that fails at one of its places; and with each beginning of its input as the whole. Where that is answered otherwise than it
 //!                     has to be, a line says so
 //!
-//! The path of a configuration's file says what is in it (`Files`). Each row is printed before what comes of it; empty lines, and those that begin
+//! The path of a configuration's file says what is in it, and the URI of a document what files say of it (`Files`). Each row is printed before what comes of it; empty lines, and those that begin
 //! with `#`, are passed over. Of a message of more than 2,000 bytes the first and the last are printed.
 #![tactic(auto)]
 

@@ -1,3 +1,4 @@
+mod Ignored
 pub mod Lists
 pub mod Opening
 pub mod Texts

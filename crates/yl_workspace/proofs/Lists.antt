@@ -1,11 +1,11 @@
 -- Documents in a list.
-use Rattle.std.proofs.Common.{◌≡◌, ℕ, suc, nat_lt, append_assoc, ◌+◌, ◌<◌, ◌≤◌, Bool, true, false, not, cond, List, [], ◌∷◌, ◌++◌, length, take, drop, set, get_or, refl, sym, ◌∙◌, ap, arith, Option, Some, None}
+use Rattle.std.proofs.Common.{◌≡◌, ℕ, zero, suc, nat_lt, append_assoc, ◌+◌, ◌<◌, ◌≤◌, Bool, true, false, not, cond, List, [], ◌∷◌, ◌++◌, length, take, drop, set, get_or, refl, sym, ◌∙◌, ap, arith, Option, Some, None}
 use Rattle.std.proofs.lemmas.Bool.Decides.{nat_tests}
 use Rattle.std.proofs.lemmas.List.{append-nil, take_all, drop_all, drop_more, drop-set-lt, take_more_set}
 use Rattle.std.specs.List.{position, position_or_len}
 use Rattle.std.specs.Str.{bytes_eq}
 use Rattle.yl_config.specs.declared.config.Config.{Config}
-use Rattle.yl_workspace.specs.Documents.{DocumentValue, document_at, with_document, put_document, configured}
+use Rattle.yl_workspace.specs.Documents.{DocumentValue, document_at, with_document, with_document_at, put_document, configured}
 
 -- where the first document of a URI stands, or the length
 abbrev pub place : List ℕ → List DocumentValue → ℕ
@@ -161,6 +161,17 @@ each_step F G f step xs ys i d0 l e =
 pub each_done : (F : Docs → Docs) → F [] ≡ [] → (xs : Docs) (i : ℕ) → length xs ≤ i → xs ≡ take i xs ++ F (drop i xs)
 each_done F none xs i l = sym (ap (λ (t : Docs). t ++ F (drop i xs)) (take_all i xs l) ∙ ap (λ (t : Docs). xs ++ F t) (drop_all i xs l) ∙ ap (λ (t : Docs). xs ++ t) none ∙ append-nil xs)
 
-pub length-configured : (config : Config) (grants : List Bool) (ds : Docs) → length (configured config grants ds) ≡ length ds
+pub length-configured : (config : Option Config) (grants : List Bool) (ds : Docs) → length (configured config grants ds) ≡ length ds
 length-configured config grants [] = refl
 length-configured config grants (d ∷ ds) = ap suc (length-configured config (drop 1 grants) ds)
+
+-- ---- at an index
+pub with_index : (i : ℕ) (other : DocumentValue → DocumentValue) (ds : Docs) (d0 : DocumentValue) → i < length ds → with_document_at i other ds ≡ set ds i (other (get_or ds i d0))
+with_index i other [] d0 l = absurd (omega arith)
+with_index zero other (d ∷ ds) d0 l = refl
+with_index (suc i) other (d ∷ ds) d0 l = ap (λ (t : Docs). d ∷ t) (with_index i other ds d0 (omega arith))
+
+pub length-at : (i : ℕ) (other : DocumentValue → DocumentValue) (ds : Docs) → length (with_document_at i other ds) ≡ length ds
+length-at i other [] = refl
+length-at zero other (d ∷ ds) = refl
+length-at (suc i) other (d ∷ ds) = ap suc (length-at i other ds)

@@ -1,5 +1,5 @@
 -- A document that is opened, in a list.
-use Rattle.std.proofs.Common.{◌≡◌, ℕ, Bool, true, false, cond, List, [], ◌∷◌, ◌++◌, drop, set, get_or, refl, ◌∙◌, ap, Some, None, Result, Ok, Err}
+use Rattle.std.proofs.Common.{◌≡◌, ℕ, Bool, true, false, cond, List, [], ◌∷◌, ◌++◌, drop, set, get_or, refl, ◌∙◌, ap, Option, Some, None, Result, Ok, Err}
 use Rattle.std.proofs.lemmas.Slice.Eq.{bytes_eq-Decides}
 use Rattle.std.specs.Prelude.{is_some, OnErr}
 use Rattle.std.specs.Str.{bytes_eq}
@@ -14,7 +14,7 @@ use Rattle.yl_workspace.proofs.Lists.{found, with_found, with_missing, put_found
 abbrev Docs : Type 0
 Docs = List DocumentValue
 
-pub opened_found : (config : Config) (grants : List Bool) (o : OpenedValue) (ds : Docs) (i : ℕ) (d0 : DocumentValue) → found o.uri ds ≡ Some i
+pub opened_found : (config : Option Config) (grants : List Bool) (o : OpenedValue) (ds : Docs) (i : ℕ) (d0 : DocumentValue) → found o.uri ds ≡ Some i
     → opened config grants o ds ≡ set ds i (opened_again config grants o (get_or ds i d0))
 opened_found config grants o ds i d0 e =
     let new = opened_document config (is_granted (drop 1 grants)) o in
@@ -23,10 +23,10 @@ opened_found config grants o ds i d0 e =
       | false ↦ with_found o.uri (lost_document OutOfMemory) ds i d0 e
     ]
 
-pub opened_new : (config : Config) (granted : Bool) (o : OpenedValue) (ds : Docs) → found o.uri ds ≡ None → opened config (true ∷ granted ∷ []) o ds ≡ ds ++ opened_document config granted o ∷ []
+pub opened_new : (config : Option Config) (granted : Bool) (o : OpenedValue) (ds : Docs) → found o.uri ds ≡ None → opened config (true ∷ granted ∷ []) o ds ≡ ds ++ opened_document config granted o ∷ []
 opened_new config granted o ds e = put_missing (opened_document config granted o) o.uri ds refl e
 
-pub opened_not : (config : Config) (o : OpenedValue) (ds : Docs) → found o.uri ds ≡ None → opened config (false ∷ []) o ds ≡ ds
+pub opened_not : (config : Option Config) (o : OpenedValue) (ds : Docs) → found o.uri ds ≡ None → opened config (false ∷ []) o ds ≡ ds
 opened_not config o ds e = with_missing o.uri (lost_document OutOfMemory) ds e
 
 -- ---- it is there
@@ -49,7 +49,7 @@ lost_there uri (d ∷ ds) h =
       | false ↦ λ e k. ap (λ b. is_some (cond b (Some d) (document_at uri (lost OutOfMemory uri ds)))) e ∙ lost_there uri ds k
     ] refl h
 
-pub opened_there : (config : Config) (grants : List Bool) (o : OpenedValue) (ds : Docs) (i : ℕ) (d0 : DocumentValue) → found o.uri ds ≡ Some i → is_some (document_at o.uri (opened config grants o ds)) ≡ true
+pub opened_there : (config : Option Config) (grants : List Bool) (o : OpenedValue) (ds : Docs) (i : ℕ) (d0 : DocumentValue) → found o.uri ds ≡ Some i → is_some (document_at o.uri (opened config grants o ds)) ≡ true
 opened_there config grants o ds i d0 e =
     let new = opened_document config (is_granted (drop 1 grants)) o in
     elim (is_granted grants) as (λ b. is_some (document_at o.uri (cond b (put_document new ds) (lost OutOfMemory o.uri ds))) ≡ true) [
@@ -57,7 +57,7 @@ opened_there config grants o ds i d0 e =
       | false ↦ lost_there o.uri ds (ap (λ r. is_some r) (document_found o.uri ds i d0 e))
     ]
 
-pub new_there : (config : Config) (granted : Bool) (o : OpenedValue) (ds : Docs) → is_some (document_at o.uri (opened config (true ∷ granted ∷ []) o ds)) ≡ true
+pub new_there : (config : Option Config) (granted : Bool) (o : OpenedValue) (ds : Docs) → is_some (document_at o.uri (opened config (true ∷ granted ∷ []) o ds)) ≡ true
 new_there config granted o ds = ap (λ r. is_some r) (put_there (opened_document config granted o) ds)
 
 pub on_err : {T E : Type 0} (r : Result T E) (P : Type 0) → P → OnErr r P

@@ -1,6 +1,6 @@
 -- Meaning: the documents that an editor has open (LSP 3.17, 'Text Document Synchronization'), in the order in which they were opened, and
 -- what each event leaves of them. `grants` are the answers to what an event asks memory for.
-use Rattle.std.specs.Prelude.{ℕ, Bool, true, false, not, if◌then◌else◌, List, [], ◌∷◌, drop, map, bytes_eq, Option, Some, None}
+use Rattle.std.specs.Prelude.{ℕ, zero, suc, Bool, true, false, not, if◌then◌else◌, List, [], ◌∷◌, drop, map, bytes_eq, Option, Some, None}
 use Rattle.std.specs.List.{filter}
 use Rattle.yl_units.specs.declared.encoding.Encoding.{Encoding}
 use Rattle.yl_lsp.specs.Params.{ChangeValue, OpenedValue}
@@ -12,7 +12,7 @@ use Rattle.yl_workspace.specs.Changes.{TextValue, Followed, Lost, within_bounds,
 pub record DocumentValue : Type 0 where
   pub uri : List ℕ
   pub version : List ℕ  -- the number as it came
-  pub config : Config
+  pub config : Option Config  -- by which it is judged. None: it is ignored, and nothing is told of its text
   pub text : TextValue
 
 -- the first document of a URI
@@ -24,6 +24,12 @@ document_at uri (d ∷ ds) = if bytes_eq d.uri uri then Some d else document_at 
 abbrev pub with_document : List ℕ → (DocumentValue → DocumentValue) → List DocumentValue → List DocumentValue
 with_document uri other [] = []
 with_document uri other (d ∷ ds) = if bytes_eq d.uri uri then other d ∷ ds else d ∷ with_document uri other ds
+
+-- with another in place of the one at an index
+abbrev pub with_document_at : ℕ → (DocumentValue → DocumentValue) → List DocumentValue → List DocumentValue
+with_document_at i other [] = []
+with_document_at zero other (d ∷ ds) = other d ∷ ds
+with_document_at (suc i) other (d ∷ ds) = d ∷ with_document_at i other ds
 
 -- ---- lost
 
@@ -38,7 +44,7 @@ all_lost cause ds = map (lost_document cause) ds
 
 -- ---- opened and closed
 
-abbrev pub opened_document : Config → Bool → OpenedValue → DocumentValue
+abbrev pub opened_document : Option Config → Bool → OpenedValue → DocumentValue
 opened_document config granted o =
     record { uri = o.uri; version = o.version; config = config; text = followed_if granted (within_bounds o.text) }
 
@@ -49,7 +55,7 @@ put_document new (d ∷ ds) = if bytes_eq d.uri new.uri then new ∷ ds else d �
 
 -- memory is asked for what is written down of the document, and then for its text. Where the first is refused, the text that may be open
 -- is not the editor's any more
-abbrev pub opened : Config → List Bool → OpenedValue → List DocumentValue → List DocumentValue
+abbrev pub opened : Option Config → List Bool → OpenedValue → List DocumentValue → List DocumentValue
 opened config grants o ds =
     if is_granted grants then put_document (opened_document config (is_granted (drop 1 grants)) o) ds else lost OutOfMemory o.uri ds
 
@@ -75,10 +81,14 @@ text_judged granted (Lost cause) = Lost cause
 text_judged true (Followed text) = Followed text
 text_judged false (Followed text) = Lost OutOfMemory
 
-abbrev pub configured_document : Config → Bool → DocumentValue → DocumentValue
+abbrev pub configured_document : Option Config → Bool → DocumentValue → DocumentValue
 configured_document config granted d = record d { config = config; text = text_judged granted d.text }
 
+-- the text of one that is ignored is followed all the same
+abbrev pub configured_at : ℕ → Option Config → Bool → List DocumentValue → List DocumentValue
+configured_at i config granted ds = with_document_at i (configured_document config granted) ds
+
 -- memory is asked for once for each document
-abbrev pub configured : Config → List Bool → List DocumentValue → List DocumentValue
+abbrev pub configured : Option Config → List Bool → List DocumentValue → List DocumentValue
 configured config grants [] = []
 configured config grants (d ∷ ds) = configured_document config (is_granted grants) d ∷ configured config (drop 1 grants) ds

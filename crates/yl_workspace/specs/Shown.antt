@@ -1,5 +1,5 @@
 -- Bridge: a session that holds the text of a document, what its faults are, and a document that is opened anew.
-use Rattle.std.specs.Prelude.{◌≡◌, ℕ, Bool, if◌then◌else◌, List, drop, Result, Ok, Err}
+use Rattle.std.specs.Prelude.{◌≡◌, ℕ, Bool, if◌then◌else◌, List, drop, Option, IfSome, Result, Ok, Err}
 use Rattle.yl_text.specs.Lines.{text_of}
 use Rattle.yl_text.specs.declared.fault.TextFault.{TextFault}
 use Rattle.yl_text.specs.declared.fault.TextFault.TheVariants.{NotUtf8, Range, TooLarge, Memory}
@@ -21,7 +21,7 @@ text_value (Err cause) = Lost cause
 pub record IsFollowed (d : DocumentValue) (s : SessionValue) : Type 0 where
   pub text : List ℕ
   pub followed : d.text ≡ Followed text
-  pub shown : Shows d.config text s
+  pub shown : IfSome d.config (λ c. Shows c text s)
 
 -- why a text is not followed, where this is why it was refused
 abbrev pub cause_of : TextFault → Cause
@@ -31,5 +31,5 @@ cause_of TooLarge = C.TooLarge
 cause_of Memory = OutOfMemory
 
 -- what becomes of an open document that is opened
-abbrev pub opened_again : Config → List Bool → OpenedValue → DocumentValue → DocumentValue
+abbrev pub opened_again : Option Config → List Bool → OpenedValue → DocumentValue → DocumentValue
 opened_again config grants o d = if is_granted grants then opened_document config (is_granted (drop 1 grants)) o else lost_document OutOfMemory d

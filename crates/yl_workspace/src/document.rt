@@ -1,5 +1,6 @@
 //! A document that an editor has open.
-ghost use Rattle.std.specs.Prelude.{◌≡◌, Bool, List, Err, IfOk, MatchResult, map};
+ghost use Rattle.std.specs.Prelude.{◌≡◌, Bool, if◌then◌else◌, List, None, Some, Err, IfOk, MatchResult, map};
+ghost use Rattle.std.specs.Option.{is_none};
 ghost use Rattle.yl_lsp.specs.Read.{change_value, opened_value};
 
 use crate::Cause;
@@ -13,18 +14,19 @@ use yl_session::Session;
 use yl_text::LineStore;
 use yl_units::Encoding;
 
-/// A document: its URI and its version as they came, the configuration by which it is judged, and a session over its text, or why the text
-/// is not followed any more. A document that is lost keeps no session.
+/// A document: its URI and its version as they came, the configuration by which it is judged, or that it is ignored, and a session over its
+/// text, or why the text is not followed any more. A document that is lost keeps no session; one that is ignored keeps it.
 #[derive(Drop)]
 pub struct Document<S: LineStore> {
     uri: String<S::Alloc>,
     version: String<S::Alloc>,
     config: Config,
+    is_ignored: bool,
     text: Result<Session<S>, Cause>,
 }
 
 impl<S: LineStore> Model for Document<S> {
-    ghost use Rattle.std.specs.Prelude.{string_bytes, IfOk};
+    ghost use Rattle.std.specs.Prelude.{string_bytes, if◌then◌else◌, None, Some, IfOk};
     ghost use Rattle.yl_text.specs.Lines.{text_of};
     ghost use Rattle.yl_session.specs.State.{Shows};
     ghost use Rattle.yl_workspace.specs.Documents.{DocumentValue};
@@ -32,7 +34,7 @@ impl<S: LineStore> Model for Document<S> {
 
     ghost Value = { DocumentValue };
 
-    ghost view = { λ d. record { uri = string_bytes d.uri; version = string_bytes d.version; config = d.config; text = text_value d.text } };
+    ghost view = { λ d. record { uri = string_bytes d.uri; version = string_bytes d.version; config = if d.is_ignored then None else Some d.config; text = text_value d.text } };
 
     ghost invariant = { λ d. IfOk d.text (λ s. Shows d.config (text_of s.rows) s) };
 }
@@ -42,14 +44,29 @@ impl<S: LineStore> Document<S> {
     ghost use Rattle.yl_workspace.specs.Documents.{changed_document, configured_document, lost_document, opened_document};
     ghost use Rattle.yl_workspace.specs.Shown.{IsFollowed, opened_again};
 
-    /// A document that is opened. It fails where there is no memory for its URI or its version; where there is none for its text, the text
-    /// is lost.
+    /// A document that is opened, and ignored where it has no configuration. It fails where there is no memory for its URI or its version;
+    /// where there is none for its text, the text is lost.
     pub(crate) fn opened(
         alloc: S::Alloc,
-        config: Config,
+        config: Option<Config>,
         document: Opened<'_>,
     ) -> Result<Document<S>, AllocError>
         ensures { IfOk result (λ d. (granted : Bool) × (d ≡ opened_document config granted (opened_value document.entry))) }
+    {
+        match config {
+            Some(config) => Document::judged(alloc, config, false, document),
+            None => Document::judged(alloc, Config::standard(), true, document),
+        }
+    }
+
+    // The same by a configuration, also of one that is ignored.
+    fn judged(
+        alloc: S::Alloc,
+        config: Config,
+        is_ignored: bool,
+        document: Opened<'_>,
+    ) -> Result<Document<S>, AllocError>
+        ensures { IfOk result (λ d. (granted : Bool) × (d ≡ opened_document (if is_ignored then None else Some config) granted (opened_value document.entry))) }
     {
         let uri = String::from_str(alloc, document.uri)?;
         let version = String::from_str(alloc, document.version)?;
@@ -58,12 +75,18 @@ impl<S: LineStore> Document<S> {
             uri,
             version,
             config,
+            is_ignored,
             text,
         })
     }
 
     /// Opens the document anew. Where there is no memory for that, its text is lost.
-    pub(crate) fn open_again(&mut self, alloc: S::Alloc, config: Config, document: Opened<'_>)
+    pub(crate) fn open_again(
+        &mut self,
+        alloc: S::Alloc,
+        config: Option<Config>,
+        document: Opened<'_>,
+    )
         ensures { (grants : List Bool) × (self.new ≡ opened_again config grants (opened_value document.entry) self.old) }
     {
         match Document::opened(alloc, config, document) {
@@ -84,6 +107,13 @@ impl<S: LineStore> Document<S> {
         ensures { result.now ≡ self.now.version }
     {
         self.version.as_str()
+    }
+
+    /// Whether nothing is told of its text.
+    pub fn is_ignored(&self) -> bool
+        ensures { result ≡ is_none self.now.config }
+    {
+        self.is_ignored
     }
 
     /// The session over the text, or why the text is not followed any more.
@@ -122,12 +152,17 @@ impl<S: LineStore> Document<S> {
         self.version = version;
     }
 
-    /// Judges the text anew, by this configuration.
-    pub(crate) fn configure(&mut self, alloc: S::Alloc, config: Config)
+    /// Judges the text anew, by this configuration. With none the document is ignored.
+    pub(crate) fn configure(&mut self, alloc: S::Alloc, config: Option<Config>)
         ensures { (granted : Bool) × (self.new ≡ configured_document config granted self.old) }
     {
+        let Some(config) = config else {
+            self.is_ignored = true;
+            return;
+        };
         let text = mem::replace(&mut self.text, Err(Cause::Missed));
         self.text = judged_by(alloc, config, text);
         self.config = config;
+        self.is_ignored = false;
     }
 }

@@ -1,8 +1,8 @@
 //! The documents that an editor has open.
-ghost use Rattle.std.specs.Prelude.{◌≡◌, Bool, List, [], IsSome, None, OnOk, OnErr, bytes_eq, option_copied, map};
+ghost use Rattle.std.specs.Prelude.{◌≡◌, ◌<◌, Bool, List, length, [], IsSome, None, OnOk, OnErr, bytes_eq, option_copied, map};
 ghost use Rattle.std.specs.List as list;
 ghost use Rattle.yl_lsp.specs.Read.{change_value, opened_value};
-ghost use Rattle.yl_workspace.specs.Documents.{all_lost, changed, closed, configured, document_at, lost, opened};
+ghost use Rattle.yl_workspace.specs.Documents.{all_lost, changed, closed, configured, configured_at, document_at, lost, opened};
 
 use crate::{Cause, Document};
 use std::alloc::AllocError;
@@ -54,9 +54,10 @@ impl<S: LineStore> Workspace<S> {
         Some(&self.documents[i])
     }
 
-    /// Opens a document, or opens it anew (`textDocument/didOpen`). Where there is no memory for its text, or to note that it is opened anew,
-    /// its text is lost; where there is none to enter a document that is not open, that is an error, and nothing changes.
-    pub fn open(&mut self, config: Config, document: Opened<'_>) -> Result<(), AllocError>
+    /// Opens a document, or opens it anew (`textDocument/didOpen`); with no configuration it is ignored. Where there is no memory for its
+    /// text, or to note that it is opened anew, its text is lost; where there is none to enter a document that is not open, that is an error,
+    /// and nothing changes.
+    pub fn open(&mut self, config: Option<Config>, document: Opened<'_>) -> Result<(), AllocError>
         ensures opened { (grants : List Bool) × (self.new ≡ opened config grants (opened_value document.entry) self.old) }
         ensures ok { OnOk result (IsSome (document_at document.entry.uri.now self.new)) }
         ensures err { OnErr result (self.new ≡ self.old) }
@@ -107,12 +108,22 @@ impl<S: LineStore> Workspace<S> {
         lose_each(&mut self.documents, cause);
     }
 
-    /// Judges each text anew, by another configuration. A text for which there is no memory is lost.
-    pub fn configure(&mut self, config: Config)
+    /// Judges each text anew, by another configuration; with none all documents are ignored. A text for which there is no memory is lost.
+    pub fn configure(&mut self, config: Option<Config>)
         ensures { (grants : List Bool) × (self.new ≡ configured config grants self.old) }
     {
         let alloc = self.alloc;
         configure_each(alloc, config, &mut self.documents);
+    }
+
+    /// Judges the text of the document at an index anew, by another configuration; with none it is ignored. Where there is no memory the text
+    /// is lost.
+    pub fn configure_at(&mut self, index: usize, config: Option<Config>)
+        requires { index < length self.old }
+        ensures { (granted : Bool) × (self.new ≡ configured_at index config granted self.old) }
+    {
+        let alloc = self.alloc;
+        configure_one(alloc, index, config, &mut self.documents);
     }
 }
 
@@ -145,10 +156,27 @@ fn lose_each<S: LineStore>(documents: &mut [Document<S>], cause: Cause)
 }
 
 /// Judges the texts of these documents anew.
-fn configure_each<S: LineStore>(alloc: S::Alloc, config: Config, documents: &mut [Document<S>])
+fn configure_each<S: LineStore>(
+    alloc: S::Alloc,
+    config: Option<Config>,
+    documents: &mut [Document<S>],
+)
     ensures { (grants : List Bool) × (documents.new ≡ configured config grants documents.old) }
 {
     for document in documents {
         document.configure(alloc, config);
     }
+}
+
+/// Judges the text of the document at an index anew.
+fn configure_one<S: LineStore>(
+    alloc: S::Alloc,
+    index: usize,
+    config: Option<Config>,
+    documents: &mut [Document<S>],
+)
+    requires { index < length documents.old }
+    ensures { (granted : Bool) × (documents.new ≡ configured_at index config granted documents.old) }
+{
+    documents[index].configure(alloc, config);
 }

@@ -60,10 +60,37 @@ fn documents_judged_anew(rt: HostRuntime) -> Result<(), Fail> {
     open(&mut documents, "a", "1", "---\r\na: 1 \r\n")?;
     assert_eq!(rt; problems(documents.document("a").ok_or("not open")?), 2);
     let config = Config::read(alloc, b"rules: {trailing-spaces: enable}")?;
-    documents.configure(config);
+    documents.configure(Some(config));
     let document = documents.document("a").ok_or("not open")?;
     assert_eq!(rt; problems(document), 1);
     let text = text_in(alloc, document)?.ok().ok_or("lost")?;
     assert_eq!(rt; text.as_slice(), b"---\r\na: 1 \r\n".as_slice());
+    Ok(())
+}
+
+#[test]
+fn ignored_documents(rt: HostRuntime) -> Result<(), Fail> {
+    let alloc = rt.alloc();
+    let mut documents: Open = Workspace::new(alloc);
+    open(&mut documents, "a", "1", "a: 1 \n")?;
+    assert_eq!(rt; documents.documents().len(), 1);
+    documents.configure_at(0, None);
+    assert!(rt; documents.document("a").ok_or("not open")?.is_ignored());
+    change(
+        &mut documents,
+        Encoding::Utf16,
+        "a",
+        &[Change::Whole("---\nb: 1 \n")],
+    );
+    let text = text_in(alloc, documents.document("a").ok_or("not open")?)?;
+    assert_eq!(rt;
+        text.ok().ok_or("lost")?.as_slice(),
+        b"---\nb: 1 \n".as_slice()
+    );
+    assert_eq!(rt; documents.documents().len(), 1);
+    documents.configure_at(0, Some(Config::standard()));
+    let document = documents.document("a").ok_or("not open")?;
+    assert!(rt; !document.is_ignored());
+    assert_eq!(rt; problems(document), 1);
     Ok(())
 }

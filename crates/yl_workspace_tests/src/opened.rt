@@ -15,7 +15,7 @@ pub type TextOf = Result<Vec<u8>, Cause>;
 /// Opens a document under the standard configuration.
 pub fn open(documents: &mut Open, uri: &str, version: &str, text: &str) -> Result<(), AllocError> {
     let document = Opened { uri, version, text };
-    documents.open(Config::standard(), document)
+    documents.open(Some(Config::standard()), document)
 }
 
 /// Makes changes of a document.

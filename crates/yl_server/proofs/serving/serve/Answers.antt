@@ -16,7 +16,7 @@ loop-init g c =
     record {
       quiet_input = refl;
       quiet_output = refl;
-      so_far = so_far_begun c.args.config given (prepend_known c.new-ahead.result given) (g.W.Write.contents (device_of (watched_of c.args.out.now))) c.new-server.result (rw c.new-ahead.ensures (prepend_known-nil given)) c.new-server.ensures;
+      so_far = so_far_begun c.args.standard given (prepend_known c.new-ahead.result given) (g.W.Write.contents (device_of (watched_of c.args.out.now))) c.new-server.result (rw c.new-ahead.ensures (prepend_known-nil given)) c.new-server.ensures;
     }
 
 pub returns-in-Ok-Some-clause-done : goal.returns-in-Ok-Some-clause-done
@@ -27,7 +27,7 @@ returns-in-Ok-Some-clause-done g c =
     let before = g.W.Write.contents (device_of (watched_of c.args.out.now)) in
     let then = g.W.Write.contents (device_of (watched_of c.loop.out)) in
     let now = g.W.Write.contents (device_of (watched_of c.take_turn.new.out)) in
-    all_served c.one_report.ensures.computed c.loop.counter c.args.config given place left before then now (failures_of (watched_of c.loop.out)) (failures_of (watched_of c.take_turn.new.out)) c.loop.server c.take_turn.new.server
+    all_served c.one_report.ensures.computed c.loop.counter c.args.standard given place left before then now (failures_of (watched_of c.loop.out)) (failures_of (watched_of c.take_turn.new.out)) c.loop.server c.take_turn.new.server
     c.in-Ok-Some.status c.loop.invariant.so_far
     (turn_is place left c.loop.server c.take_turn.new.server (sink g.W.Write.contents c.loop.out c.take_turn.new.out) c.in-Ok-Some.field-0 (Some c.in-Ok-Some.status) c.in-Ok-Some.field-0-is c.in-Ok-Some.ensures.turn)
 
@@ -45,7 +45,7 @@ returns-in-Err-clause-fault g c =
       writes_before = failures_of (watched_of c.args.out.now);
       writes_after = failures_of (watched_of c.take_turn.new.out);
     } in
-    stopped c.one_report.ensures.computed c.in-Err.fault c.loop.counter c.args.config given place left before then now c.loop.server n (failures_of c.loop.input) (failures_of (watched_of c.loop.out))
+    stopped c.one_report.ensures.computed c.in-Err.fault c.loop.counter c.args.standard given place left before then now c.loop.server n (failures_of c.loop.input) (failures_of (watched_of c.loop.out))
     c.loop.invariant.quiet_input c.loop.invariant.quiet_output c.loop.invariant.so_far c.in-Err.ensures.fault
 
 pub loop-preserved : goal.loop-preserved
@@ -63,7 +63,7 @@ loop-preserved g c =
     record {
       quiet_input = c.in-Ok-None.ensures.quiet ∙ c.loop.invariant.quiet_input;
       quiet_output = quiet_more place left c.loop.server c.take_turn.new.server then now m n None h ∙ c.loop.invariant.quiet_output;
-      so_far = so_far_more c.loop.counter c.args.config given place left before then now m n c.loop.server c.take_turn.new.server c.loop.invariant.so_far h;
+      so_far = so_far_more c.loop.counter c.args.standard given place left before then now m n c.loop.server c.take_turn.new.server c.loop.invariant.so_far h;
     }
 
 pub returns-clause-fault : goal.returns-clause-fault
@@ -74,4 +74,4 @@ returns-clause-fault g c =
     let now = g.W.Write.contents (device_of (watched_of c.loop.out)) in
     let none : Failures = record { reads_before = 0; reads_after = 0; writes_before = 0; writes_after = 0 } in
     let all : c.loop.counter ≡ 2 ^ 64 - 1 = omega arith in
-    counted_out c.one_report.ensures.computed c.loop.counter c.args.config given place before now c.loop.server none c.loop.invariant.so_far all
+    counted_out c.one_report.ensures.computed c.loop.counter c.args.standard given place before now c.loop.server none c.loop.invariant.so_far all

@@ -9,6 +9,6 @@ abbrev pub invariant-loop : goal.invariant-loop
 invariant-loop g l = record {
   quiet_input : failures_of l.input ≡ failures_of l.fn.input;
   quiet_output : failures_of (watched_of l.out) ≡ failures_of (watched_of l.fn.out);
-  so_far : SoFar l.counter l.fn.config (g.R.Read.remaining (device_of l.fn.input)) (prepend_known l.ahead (g.R.Read.remaining (device_of l.input)))
+  so_far : SoFar l.counter l.fn.standard (g.R.Read.remaining (device_of l.fn.input)) (prepend_known l.ahead (g.R.Read.remaining (device_of l.input)))
       (g.W.Write.contents (device_of (watched_of l.fn.out))) (g.W.Write.contents (device_of (watched_of l.out))) l.server;
 }

@@ -5,7 +5,7 @@ use Rattle.yl_server.specs.Settings.{setting_words}
 use Rattle.yl_server.specs.Steps.{sink}
 use Rattle.yl_server.proofs.Faults.{placed_text, words_plain}
 use Rattle.yl_server.proofs.Replied.{sent_one, stopped_one}
-use Rattle.yl_server.proofs.reply.tell_fault.Goals as goal
+use Rattle.yl_server.proofs.reply.tell_one.Goals as goal
 
 pub invariant_of-send : goal.invariant_of-send
 invariant_of-send g c = record { plain = words_plain c.words-text.result.now c.args.fault c.words-text.ensures }
