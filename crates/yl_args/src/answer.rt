@@ -53,11 +53,37 @@ pub struct AskedDump {
     pub view: View,
 }
 
-/// What `zutkrad` does.
+/// How `zutkrad check` is asked to print problems.
 #[derive(Clone, Copy, Debug, PartialEq, Eq)]
+pub enum AskedFormat {
+    /// One of the others, by what standard output and the environment are.
+    Auto,
+    Parsable,
+    Standard,
+    Colored,
+    Github,
+}
+
+/// A run of `zutkrad check`.
+#[derive(Drop)]
+pub struct AskedCheck {
+    /// Where the configuration is read from; with `Standard` it is looked for.
+    pub config: Source,
+    /// The names of files and folders, in order, of which there is at least one. The name `-` is standard input.
+    pub paths: Vec<String>,
+    pub format: AskedFormat,
+    pub flags: Flags,
+    /// The names of the files are printed, and no file is linted.
+    pub lists: bool,
+}
+
+/// What `zutkrad` does.
+#[derive(Drop)]
 pub enum Task {
     /// It is a Language Server over standard input and output.
     Server,
+    /// It lints files and folders.
+    Check(AskedCheck),
 }
 
 /// Why nothing is run.

@@ -1,11 +1,11 @@
 //! Words read by `clap`.
-use crate::answer::{Asked, AskedDump, Flags, Source, Stop, Task, View};
+use crate::answer::{Asked, AskedDump, Flags, Source, Stop, View};
 use clap::builder::PossibleValue;
 use clap::error::ErrorKind;
 use clap::{Arg, ArgAction, ArgGroup, ArgMatches, Command, Error};
 use std::alloc::{AllocError, Global};
 
-fn flag<'a>(alloc: Global, id: &'a str, help: &'a str) -> Arg<'a> {
+pub(crate) fn flag<'a>(alloc: Global, id: &'a str, help: &'a str) -> Arg<'a> {
     Arg::new(alloc, id)
         .long(id)
         .action(ArgAction::SetTrue)
@@ -35,7 +35,7 @@ fn files<'a>(alloc: Global) -> Arg<'a> {
         .help("files to lint, `-` for standard input")
 }
 
-fn config_file<'a>(alloc: Global) -> Arg<'a> {
+pub(crate) fn config_file<'a>(alloc: Global) -> Arg<'a> {
     Arg::new(alloc, "config-file")
         .short('c')
         .action(ArgAction::Set)
@@ -43,7 +43,7 @@ fn config_file<'a>(alloc: Global) -> Arg<'a> {
         .help("read the configuration from a file")
 }
 
-fn config_data<'a>(alloc: Global) -> Arg<'a> {
+pub(crate) fn config_data<'a>(alloc: Global) -> Arg<'a> {
     Arg::new(alloc, "config-data")
         .short('d')
         .action(ArgAction::Set)
@@ -52,7 +52,7 @@ fn config_data<'a>(alloc: Global) -> Arg<'a> {
 }
 
 // At most one of the options that give a configuration.
-fn configurations<'a>(alloc: Global) -> Result<ArgGroup<'a>, AllocError> {
+pub(crate) fn configurations<'a>(alloc: Global) -> Result<ArgGroup<'a>, AllocError> {
     ArgGroup::new(alloc, "configuration")
         .arg("config-file")?
         .arg("config-data")
@@ -123,27 +123,6 @@ fn dump_command<'a>(alloc: Global) -> Result<Command<'a>, AllocError> {
         .arg(shown_file(alloc))
 }
 
-// The tasks of `zutkrad`. The help names them, as it does formats.
-fn tasks<'a>() -> [PossibleValue<'a>; 1] {
-    [PossibleValue::new("server").hide(true)]
-}
-
-fn zutkrad_command<'a>(
-    alloc: Global,
-    tasks: &'a [PossibleValue<'a>],
-) -> Result<Command<'a>, AllocError> {
-    let task = Arg::new(alloc, "TASK")
-        .required(true)
-        .action(ArgAction::Set)
-        .value_parser(tasks)
-        .hide_possible_values(true)
-        .help("`server`: a Language Server over standard input and output");
-    Command::new(alloc, "zutkrad")
-        .no_binary_name(true)
-        .version("0.1.0")
-        .arg(task)
-}
-
 fn stop_of(alloc: Global, error: Error) -> Stop {
     match error.kind() {
         ErrorKind::DisplayHelp | ErrorKind::DisplayVersion => match error.to_string(alloc) {
@@ -189,7 +168,7 @@ fn known_words<'w>(command: &Command<'_>, words: &'w [String]) -> &'w [String] {
 
 // What the command takes the words for. At an unknown option clap looks for one of nearly the same name, and asks a refused growth again
 // there. So it is given the words before it alone: help or a fault among them answers, and else the option is the fault.
-fn matches_of<'a>(
+pub(crate) fn matches_of<'a>(
     alloc: Global,
     command: Command<'a>,
     words: &'a [String],
@@ -202,9 +181,14 @@ fn matches_of<'a>(
     }
 }
 
-fn files_of(alloc: Global, matches: &ArgMatches<'_>) -> Result<Vec<String>, Stop> {
+// The values of an argument, in order.
+pub(crate) fn names_of(
+    alloc: Global,
+    matches: &ArgMatches<'_>,
+    id: &str,
+) -> Result<Vec<String>, Stop> {
     let mut files = Vec::new(alloc);
-    if let Some(names) = matches.get_strs("FILE") {
+    if let Some(names) = matches.get_strs(id) {
         for name in names {
             files.push(String::from_str(alloc, name)?)?;
         }
@@ -222,7 +206,7 @@ fn config_text(alloc: Global, data: &str) -> Result<String, AllocError> {
     Ok(text)
 }
 
-fn source_of(alloc: Global, matches: &ArgMatches<'_>) -> Result<Source, AllocError> {
+pub(crate) fn source_of(alloc: Global, matches: &ArgMatches<'_>) -> Result<Source, AllocError> {
     if let Some(name) = matches.get_str("config-file") {
         return Ok(Source::File(String::from_str(alloc, name)?));
     }
@@ -237,7 +221,7 @@ fn source_of(alloc: Global, matches: &ArgMatches<'_>) -> Result<Source, AllocErr
 pub fn asked_edit(alloc: Global, words: &[String]) -> Result<Asked, Stop> {
     let command = edit_command(alloc)?;
     let matches = matches_of(alloc, command, words)?;
-    let files = files_of(alloc, &matches)?;
+    let files = names_of(alloc, &matches, "FILE")?;
     if files.iter().any(|file| file.as_str() == "-") {
         return Err(Stop::Use);
     }
@@ -261,7 +245,7 @@ pub fn asked(alloc: Global, words: &[String]) -> Result<Asked, Stop> {
     let matches = matches_of(alloc, command, words)?;
     Ok(Asked {
         config: source_of(alloc, &matches)?,
-        files: files_of(alloc, &matches)?,
+        files: names_of(alloc, &matches, "FILE")?,
         flags: Flags {
             strict: matches.get_flag("strict"),
             no_warnings: matches.get_flag("no-warnings"),
@@ -292,13 +276,4 @@ pub fn asked_dump(alloc: Global, words: &[String]) -> Result<AskedDump, Stop> {
         file: String::from_str(alloc, file)?,
         view: view_of(&matches),
     })
-}
-
-/// What the words after the name `zutkrad` ask for, which are looked at as those of `yamllint`.
-/// `--version` is answered as the help is.
-pub fn asked_zutkrad(alloc: Global, words: &[String]) -> Result<Task, Stop> {
-    let tasks = tasks();
-    let command = zutkrad_command(alloc, &tasks)?;
-    let _ = matches_of(alloc, command, words)?;
-    Ok(Task::Server)
 }

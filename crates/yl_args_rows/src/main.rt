@@ -7,7 +7,8 @@
 use std::alloc::{AllocError, Global};
 use std::process::ExitCode;
 use yl_args::{
-    Asked, AskedDump, Source, Stop, Task, View, asked, asked_dump, asked_edit, asked_zutkrad,
+    Asked, AskedCheck, AskedDump, Flags, Source, Stop, Task, View, asked, asked_dump, asked_edit,
+    asked_zutkrad,
 };
 use yl_devices::{RunFault, read_text, text_of};
 use yl_text::Watched;
@@ -31,13 +32,17 @@ fn source(alloc: Global, source: &Source) -> Result<String, AllocError> {
 }
 
 // The configuration, the files that are asked for, and the flags.
-fn shown(alloc: Global, asked: &Asked) -> Result<String, AllocError> {
-    let mut line = source(alloc, &asked.config)?;
-    for file in &asked.files {
+fn shown(
+    alloc: Global,
+    config: &Source,
+    files: &[String],
+    flags: Flags,
+) -> Result<String, AllocError> {
+    let mut line = source(alloc, config)?;
+    for file in files {
         line.push_str(" ")?;
         line.push_str(file.as_str())?;
     }
-    let flags = asked.flags;
     line.push_str(if flags.strict { ", strict" } else { "" })?;
     line.push_str(if flags.no_warnings {
         ", no warnings"
@@ -46,6 +51,13 @@ fn shown(alloc: Global, asked: &Asked) -> Result<String, AllocError> {
     })?;
     line.push_str(if flags.work { ", work" } else { "" })?;
     Ok(line)
+}
+
+// What is asked of `zutkrad check`.
+fn shown_check(alloc: Global, asked: &AskedCheck) -> Result<String, AllocError> {
+    let mut line = shown(alloc, &asked.config, &asked.paths, asked.flags)?;
+    line.push_str(if asked.lists { ", listed" } else { "" })?;
+    format!(in alloc; "{line}, {:?}", asked.format)
 }
 
 // What is asked of `yldump`.
@@ -78,6 +90,7 @@ fn answer(alloc: Global, program: &str, words: &[String]) -> Result<String, Allo
     if program == "zutkrad" {
         return match asked_zutkrad(alloc, words) {
             Ok(Task::Server) => String::from_str(alloc, "server"),
+            Ok(Task::Check(asked)) => shown_check(alloc, &asked),
             Err(stop) => stopped(alloc, stop),
         };
     }
@@ -87,7 +100,7 @@ fn answer(alloc: Global, program: &str, words: &[String]) -> Result<String, Allo
         asked(alloc, words)
     };
     match answer {
-        Ok(asked) => shown(alloc, &asked),
+        Ok(asked) => shown(alloc, &asked.config, &asked.files, asked.flags),
         Err(stop) => stopped(alloc, stop),
     }
 }

@@ -2,7 +2,9 @@
 use crate::texts::opened;
 use std::alloc::{AllocError, Global};
 use yl_frames::{Body, Output};
-use yl_lsp::{Content, ErrorMessage, InitializeResult, Presentation, Publication, Report};
+use yl_lsp::{
+    Content, ErrorMessage, InitializeResult, Presentation, Publication, Report, WatchRequest,
+};
 use yl_report::Problem;
 use yl_rules::Level;
 use yl_text::{Finding, PlainStore, RuleId, TextFault, Watched};
@@ -121,15 +123,15 @@ fn results_of_initialize(rt: HostRuntime) {
     let rows = [
         (
             Encoding::Utf8,
-            r#"{"capabilities":{"positionEncoding":"utf-8","textDocumentSync":{"change":2,"openClose":true,"save":true}},"serverInfo":{"name":"zutkrad","version":"1.0"}}"#,
+            r#"{"capabilities":{"positionEncoding":"utf-8","textDocumentSync":{"change":2,"openClose":true,"save":true},"workspace":{"workspaceFolders":{"changeNotifications":true,"supported":true}}},"serverInfo":{"name":"zutkrad","version":"1.0"}}"#,
         ),
         (
             Encoding::Utf16,
-            r#"{"capabilities":{"positionEncoding":"utf-16","textDocumentSync":{"change":2,"openClose":true,"save":true}},"serverInfo":{"name":"zutkrad","version":"1.0"}}"#,
+            r#"{"capabilities":{"positionEncoding":"utf-16","textDocumentSync":{"change":2,"openClose":true,"save":true},"workspace":{"workspaceFolders":{"changeNotifications":true,"supported":true}}},"serverInfo":{"name":"zutkrad","version":"1.0"}}"#,
         ),
         (
             Encoding::Utf32,
-            r#"{"capabilities":{"positionEncoding":"utf-32","textDocumentSync":{"change":2,"openClose":true,"save":true}},"serverInfo":{"name":"zutkrad","version":"1.0"}}"#,
+            r#"{"capabilities":{"positionEncoding":"utf-32","textDocumentSync":{"change":2,"openClose":true,"save":true},"workspace":{"workspaceFolders":{"changeNotifications":true,"supported":true}}},"serverInfo":{"name":"zutkrad","version":"1.0"}}"#,
         ),
     ];
     for (encoding, text) in rows {
@@ -139,4 +141,11 @@ fn results_of_initialize(rt: HostRuntime) {
         };
         assert!(rt; is_sent(rt.alloc(), &result, text), "{text}");
     }
+}
+
+#[test]
+fn watched_files(rt: HostRuntime) {
+    let text =
+        r#"{"id":"configurations","jsonrpc":"2.0","method":"client/registerCapability","params":{"registrations":[{"id":"configurations","method":"workspace/didChangeWatchedFiles","registerOptions":{"watchers":[{"globPattern":"**/.yamllint"},{"globPattern":"**/.yamllint.yaml"},{"globPattern":"**/.yamllint.yml"}]}}]}}"#;
+    assert!(rt; is_sent(rt.alloc(), &WatchRequest, text));
 }

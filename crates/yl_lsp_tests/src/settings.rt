@@ -3,14 +3,19 @@ use json::{Scratch, Value};
 use std::alloc::Global;
 use yl_lsp::{
     Settings, changed_settings, changes_in, encoding_in, first_settings, settings_in, takes_links,
+    takes_watchers,
 };
 use yl_units::Encoding;
 
-// What the params of `initialize` say of encodings and of links.
-fn abilities_in(alloc: Global, text: &str) -> Option<(Encoding, bool)> {
+// What the params of `initialize` say of encodings, of links and of files that are watched.
+fn abilities_in(alloc: Global, text: &str) -> Option<(Encoding, bool, bool)> {
     let mut scratch = Scratch::new(alloc);
     match Value::parse(alloc, text, &mut scratch) {
-        Ok(params) => Some((encoding_in(&params), takes_links(&params))),
+        Ok(params) => Some((
+            encoding_in(&params),
+            takes_links(&params),
+            takes_watchers(&params),
+        )),
         Err(_) => None,
     }
 }
@@ -18,19 +23,23 @@ fn abilities_in(alloc: Global, text: &str) -> Option<(Encoding, bool)> {
 #[test]
 fn abilities(rt: HostRuntime) {
     let rows = [
-        ("{}", (Encoding::Utf16, false)),
-        ("null", (Encoding::Utf16, false)),
+        ("{}", (Encoding::Utf16, false, false)),
+        ("null", (Encoding::Utf16, false, false)),
         (
             r#"{"capabilities":{"general":{"positionEncodings":["utf-7","utf-32","utf-8"]}}}"#,
-            (Encoding::Utf32, false),
+            (Encoding::Utf32, false, false),
         ),
         (
             r#"{"capabilities":{"general":{"positionEncodings":[1,"utf-8"]},"textDocument":{"publishDiagnostics":{"codeDescriptionSupport":true}}}}"#,
-            (Encoding::Utf8, true),
+            (Encoding::Utf8, true, false),
         ),
         (
             r#"{"capabilities":{"general":{"positionEncodings":[]},"textDocument":{"publishDiagnostics":{"codeDescriptionSupport":1}}}}"#,
-            (Encoding::Utf16, false),
+            (Encoding::Utf16, false, false),
+        ),
+        (
+            r#"{"capabilities":{"workspace":{"didChangeWatchedFiles":{"dynamicRegistration":true}}}}"#,
+            (Encoding::Utf16, false, true),
         ),
     ];
     for (text, wanted) in rows {

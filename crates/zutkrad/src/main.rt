@@ -1,6 +1,13 @@
-//! `zutkrad server`: the problems of YAML texts in an editor, as a Language Server over standard input and output.
+//! `zutkrad check`: the problems of files and folders under a project's configuration. `zutkrad server`: the problems of YAML texts in an
+//! editor, as a Language Server over standard input and output.
 #![tactic(auto)]
 
+mod check;
+mod folders;
+mod progress;
+
+use check::check;
+use folders::Folders;
 use std::fs;
 use std::process::ExitCode;
 use yl_args::{Task, asked_zutkrad};
@@ -9,21 +16,17 @@ use yl_config::Config;
 use yl_devices::{ProgramFault, RunFault};
 use yl_frames::Output;
 use yl_programs::{ended, stopped, words};
-use yl_server::{ConfigFiles, Found, ServeFault, serve};
+use yl_server::{ConfigFiles, Found, Governed, ServeFault, serve};
 use yl_sources::read_config;
 use yl_text::Watched;
 
 const NAME: &str = "zutkrad";
 
 // The files of the machine.
+#[derive(Drop)]
 struct Files<'a> {
     rt: &'a HostRuntime,
-}
-
-impl Drop for Files<'_> {
-    fn drop(self) {
-        let Files { rt: _ } = self;
-    }
+    folders: Folders<'a>,
 }
 
 impl ConfigFiles for Files<'_> {
@@ -36,6 +39,14 @@ impl ConfigFiles for Files<'_> {
             Err(RunFault::Memory) => Found::NoMemory,
             Err(_) => Found::Unreadable,
         }
+    }
+
+    fn of_document(&mut self, uri: &str, is_known: bool) -> Governed {
+        self.folders.of_document(uri, is_known)
+    }
+
+    fn closed(&mut self, uri: &str) {
+        self.folders.closed(uri);
     }
 }
 
@@ -51,7 +62,10 @@ fn fault_of(fault: ServeFault) -> ProgramFault<'static> {
 fn served(rt: &HostRuntime) -> u8 {
     let mut input = Watched::new(rt.stdin());
     let mut out = Output::new(Watched::new(rt.stdout()));
-    let mut files = Files { rt };
+    let mut files = Files {
+        rt,
+        folders: Folders::new(rt),
+    };
     let config = Config::standard();
     match serve::<ChunkStore<_>, _, _, _>(rt.alloc(), config, &mut files, &mut input, &mut out) {
         Ok(status) => status,
@@ -69,6 +83,7 @@ fn answered(rt: &HostRuntime) -> u8 {
     };
     match asked_zutkrad(rt.alloc(), words.as_slice()) {
         Ok(Task::Server) => served(rt),
+        Ok(Task::Check(asked)) => check(rt, &asked),
         Err(stop) => ended(rt, NAME, stop),
     }
 }

@@ -1,0 +1,232 @@
+//! The configurations of documents' folders, for `zutkrad server`.
+use percent_encoding::{DecodeError, percent_decode_str};
+use std::alloc::{AllocError, Global};
+use std::collections::BTreeMap;
+use yl_config::{Config, ConfigFault};
+use yl_devices::RunFault;
+use yl_project::Project;
+use yl_search::{LoadCause, Loader, Opened, Origin, project_file, user_file};
+use yl_server::Governed;
+
+// A configuration that was loaded, all files that it was loaded from, and the number of that loading.
+#[derive(Drop)]
+struct Loaded {
+    project: Result<Project<Global>, LoadCause>,
+    opened: Vec<Opened>,
+    loading: u64,
+    // How many documents are judged by it.
+    documents: u64,
+}
+
+impl Loaded {
+    fn is_current(&self, rt: &HostRuntime) -> bool {
+        for opened in &self.opened {
+            if !opened.is_unchanged(rt) {
+                return false;
+            }
+        }
+        true
+    }
+
+    // By what a document is judged whose path is this from the folder of the configuration.
+    fn found_for(&self, path: &str) -> Result<Governed, AllocError> {
+        match &self.project {
+            Ok(project) => Ok(match project.config_for(path)? {
+                Some(config) => Governed::By(config),
+                None => Governed::Ignored,
+            }),
+            Err(cause) => Ok(fault_of(*cause)),
+        }
+    }
+}
+
+fn fault_of(cause: LoadCause) -> Governed {
+    match cause {
+        LoadCause::Config(fault) => Governed::Faulty(fault),
+        LoadCause::Run(RunFault::Memory) => Governed::NoMemory,
+        LoadCause::Run(_) => Governed::Unreadable,
+        LoadCause::TooLong => Governed::Faulty(ConfigFault::TooLarge),
+    }
+}
+
+// The folder of a file, with `/` at its end; empty where the path is a name alone.
+fn folder_of(path: &str) -> &str {
+    match path.rsplit_once('/') {
+        Some((_, name)) => path.strip_suffix(name).unwrap_or(path),
+        None => "",
+    }
+}
+
+// A path from a folder, where it lies there.
+fn path_from<'a>(folder: &str, path: &'a str) -> &'a str {
+    path.strip_prefix(folder).unwrap_or(path)
+}
+
+// The path of the file that a URI names, if it names one of this machine.
+fn path_of(rt: &HostRuntime, uri: &str) -> Result<Option<String>, AllocError> {
+    let Some(rest) = uri.strip_prefix("file://") else {
+        return Ok(None);
+    };
+    let path = rest.strip_prefix("localhost").unwrap_or(rest);
+    if !path.starts_with('/') {
+        return Ok(None);
+    }
+    match percent_decode_str(path).decode_utf8(rt.alloc()) {
+        Ok(path) => Ok(Some(String::from_str(rt.alloc(), path.as_str())?)),
+        Err(DecodeError::OutOfMemory) => Err(AllocError),
+        Err(_) => Ok(None),
+    }
+}
+
+// What a document was judged by when it was last asked for: a file, and which loading of it. Without one it is the standard configuration.
+#[derive(Drop)]
+struct Judged {
+    file: Option<String>,
+    loading: u64,
+}
+
+/// The configurations of folders, and by which of them each open document is judged.
+#[derive(Drop)]
+pub struct Folders<'a> {
+    rt: &'a HostRuntime,
+    // By the paths of their files.
+    loaded: BTreeMap<String, Loaded>,
+    // By the URIs of the documents.
+    judged: BTreeMap<String, Judged>,
+    loadings: u64,
+}
+
+impl<'a> Folders<'a> {
+    pub fn new(rt: &'a HostRuntime) -> Folders<'a> {
+        Folders {
+            rt,
+            loaded: BTreeMap::new(rt.alloc()),
+            judged: BTreeMap::new(rt.alloc()),
+            loadings: 0,
+        }
+    }
+
+    /// By what a document is judged. `is_known` says that it was asked for since it was opened: only then `Same` is an answer.
+    pub fn of_document(&mut self, uri: &str, is_known: bool) -> Governed {
+        match self.found(uri, is_known) {
+            Ok(found) => found,
+            Err(AllocError) => Governed::NoMemory,
+        }
+    }
+
+    /// Forgets a document that is closed.
+    pub fn closed(&mut self, uri: &str) {
+        if let Some(judged) = self.judged.remove(uri) {
+            self.release(judged);
+        }
+    }
+
+    fn found(&mut self, uri: &str, is_known: bool) -> Result<Governed, AllocError> {
+        let Some(path) = path_of(self.rt, uri)? else {
+            return self.found_none(uri, is_known);
+        };
+        let Some(file) = self.file_for(path.as_str())? else {
+            return self.found_none(uri, is_known);
+        };
+        let loading = self.loading_of(file.as_str())?;
+        if is_known && self.is_judged_by(uri, Some(file.as_str()), loading) {
+            return Ok(Governed::Same);
+        }
+        let found = match self.loaded.get(file.as_str()) {
+            Some(loaded) => loaded.found_for(path_from(folder_of(file.as_str()), path.as_str()))?,
+            None => Governed::Unreadable,
+        };
+        self.note(uri, Some(file), loading)?;
+        Ok(found)
+    }
+
+    // Where no configuration is found for a document.
+    fn found_none(&mut self, uri: &str, is_known: bool) -> Result<Governed, AllocError> {
+        if is_known && self.is_judged_by(uri, None, 0) {
+            return Ok(Governed::Same);
+        }
+        self.note(uri, None, 0)?;
+        Ok(Governed::By(Config::standard()))
+    }
+
+    // The file of the configuration of a path.
+    fn file_for(&self, path: &str) -> Result<Option<String>, AllocError> {
+        let folder = match folder_of(path).strip_suffix('/') {
+            Some("") | None => "/",
+            Some(folder) => folder,
+        };
+        match project_file(self.rt, folder, false)? {
+            Some(file) => Ok(Some(file)),
+            None => user_file(self.rt),
+        }
+    }
+
+    // The number of the loading of a configuration, which is loaded where it has changed.
+    fn loading_of(&mut self, file: &str) -> Result<u64, AllocError> {
+        let documents = match self.loaded.get(file) {
+            Some(loaded) if loaded.is_current(self.rt) => return Ok(loaded.loading),
+            Some(loaded) => loaded.documents,
+            None => 0,
+        };
+        let mut loader = Loader::new(self.rt, folder_of(file));
+        let project = match loader.load(Origin::File(file)) {
+            Ok(project) => Ok(project),
+            Err(fault) if fault.cause == LoadCause::Run(RunFault::Memory) => return Err(AllocError),
+            Err(fault) => Err(fault.cause),
+        };
+        self.loadings = self.loadings.saturating_add(1);
+        let loading = self.loadings;
+        let loaded = Loaded {
+            project,
+            opened: loader.into_opened(),
+            loading,
+            documents,
+        };
+        self.loaded
+            .insert(String::from_str(self.rt.alloc(), file)?, loaded)?;
+        Ok(loading)
+    }
+
+    fn is_judged_by(&self, uri: &str, file: Option<&str>, loading: u64) -> bool {
+        match self.judged.get(uri) {
+            Some(judged) => judged.loading == loading && judged.file.as_deref() == file,
+            None => false,
+        }
+    }
+
+    // Notes by what a document is judged from now on.
+    fn note(&mut self, uri: &str, file: Option<String>, loading: u64) -> Result<(), AllocError> {
+        let key = String::from_str(self.rt.alloc(), uri)?;
+        let held = match &file {
+            Some(file) => Some(String::from_str(self.rt.alloc(), file.as_str())?),
+            None => None,
+        };
+        let before = self.judged.insert(key, Judged { file, loading })?;
+        if let Some(file) = held
+            && let Some(loaded) = self.loaded.get_mut(file.as_str())
+        {
+            loaded.documents = loaded.documents.saturating_add(1);
+        }
+        if let Some(before) = before {
+            self.release(before);
+        }
+        Ok(())
+    }
+
+    // Forgets a configuration by which no document is judged any more.
+    fn release(&mut self, judged: Judged) {
+        let Some(file) = &judged.file else {
+            return;
+        };
+        let is_held = match self.loaded.get_mut(file.as_str()) {
+            Some(loaded) => {
+                loaded.documents = loaded.documents.saturating_sub(1);
+                loaded.documents > 0
+            }
+            None => true,
+        };
+        if !is_held {
+            let _ = self.loaded.remove(file.as_str());
+        }
+    }
+}
