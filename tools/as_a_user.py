@@ -6,6 +6,7 @@ words and what is to come of it: standard output, standard error and the status.
 runs is refused in turn (tools/refusing.c, built by cc and loaded before the C library), up to the first run that meets no
 refusal. It ends with 1 where something is not as it should be."""
 import os
+import re
 import subprocess
 import sys
 import tempfile
@@ -14,12 +15,19 @@ from collections import namedtuple
 HERE = os.path.dirname(os.path.abspath(__file__))
 PROGRAMS = ("yamllint", "yledit", "zutkrad")
 SECONDS = 60
+OF_A_USER = ("YAMLLINT_CONFIG_FILE", "XDG_CONFIG_HOME", "GITHUB_ACTIONS", "GITHUB_WORKFLOW")
 
 NO_START = 'f.yaml:1:1: [warning] missing document start "---" (document-start)\n'
 COLON_AND_BLANK = (
     "spaced.yaml:2:4: [error] too many spaces after colon (colons)\n"
     "spaced.yaml:2:6: [error] trailing spaces (trailing-spaces)\n"
 )
+# The same problem in other formats.
+STANDARD = 'f.yaml\n  1:1       warning  missing document start "---"  (document-start)\n\n'
+COLORED = ("\x1b[4mf.yaml\x1b[0m\n  \x1b[2m1:1\x1b[0m       \x1b[33mwarning\x1b[0m  missing document start \"---\"  "
+           "\x1b[2m(document-start)\x1b[0m\n\n")
+GITHUB = ("::group::f.yaml\n::warning file=f.yaml,line=1,col=1::1:1 [document-start] missing document start \"---\"\n"
+          "::endgroup::\n\n")
 # What an editor sends to end the server, and what that is answered where it was not begun.
 SHUTDOWN = b'Content-Length: 44\r\n\r\n{"jsonrpc":"2.0","id":1,"method":"shutdown"}'
 EXIT = b'Content-Length: 33\r\n\r\n{"jsonrpc":"2.0","method":"exit"}'
@@ -93,10 +101,32 @@ CASES = [
     Case("yledit", ["bytes.yaml"], "", "yledit: bytes.yaml: not UTF-8 at byte 3\n", 255),
     Case("yledit", ["f.yaml"], "", "yledit: output cannot be written\n", 255, b"", ">/dev/full"),
     Case("yledit", ["f.yaml"], "", "yledit: output cannot be written\n", 255, b"", ">&-"),
+    # Files and folders.
+    Case("zutkrad", ["check", "f.yaml"], STANDARD, "", 0),
+    Case("zutkrad", ["check", "-f", "parsable", "-s", "f.yaml", "empty.yaml"], NO_START, "", 2),
+    Case("zutkrad", ["check", "-f", "parsable", "--no-warnings", "spaced.yaml", "f.yaml"], COLON_AND_BLANK, "", 1),
+    Case("zutkrad", ["check", "-f", "colored", "f.yaml"], COLORED, "", 0),
+    Case("zutkrad", ["check", "-f", "github", "f.yaml"], GITHUB, "", 0),
+    Case("zutkrad", ["check", "-f", "parsable", "-"], NO_START.replace("f.yaml", "stdin"), "", 0, b"a: 1\n"),
+    Case("zutkrad", ["check", "-c", "rules", "f.yaml"], "", "", 0),
+    Case("zutkrad", ["check", "-d", "relaxed", "-s", "f.yaml"], "", "", 0),
+    Case("zutkrad", ["check", "-d", "{extends: default, ignore: f.yaml}", "f.yaml", "none.yaml", "empty.yaml"], "",
+         "zutkrad: none.yaml: cannot be read\n", 255),
+    Case("zutkrad", ["check", "--list-files", "."], "./bytes.yaml\n./empty.yaml\n./f.yaml\n./long.yaml\n./spaced.yaml\n", "", 0),
+    Case("zutkrad", ["check", "--list-files", "folder", "rules", "none"], "rules\nnone\n", "", 0),
+    Case("zutkrad", ["check", "-f", "parsable", "bytes.yaml", "f.yaml"], NO_START, "zutkrad: bytes.yaml: not UTF-8 at byte 3\n", 255),
+    Case("zutkrad", ["check", "-v"], "zutkrad 0.1.0\n", "", 0),
+    Case("zutkrad", ["check", "-f", "other", "f.yaml"], "", "zutkrad: fault of use\n", 255),
+    Case("zutkrad", ["check", "-c", "misspelt", "f.yaml"], "", "zutkrad: misspelt: configuration: UnknownRule at 3:3\n", 255),
+    Case("zutkrad", ["check", "-d", MISSPELT, "f.yaml"], "", "zutkrad: configuration: UnknownRule at 3:3\n", 255),
+    Case("zutkrad", ["check", "-c", "folder", "f.yaml"], "", "zutkrad: folder: cannot be read\n", 255),
+    Case("zutkrad", ["check", "f.yaml"], "", "zutkrad: output cannot be written\n", 255, b"", ">/dev/full"),
+    Case("zutkrad", ["check", "--list-files", "."], "", "zutkrad: output cannot be written\n", 255, b"", ">/dev/full"),
+    Case("zutkrad", ["check", "empty.yaml"], "", "", 0, b"", ">&-"),
+    Case("zutkrad", ["check", "-"], "", "zutkrad: stdin: cannot be read\n", 255, b"", "<&-"),
     # The server.
     Case("zutkrad", ["--version"], "zutkrad 0.1.0\n", "", 0),
     Case("zutkrad", [], "", "zutkrad: fault of use\n", 255),
-    Case("zutkrad", ["check"], "", "zutkrad: fault of use\n", 255),
     Case("zutkrad", ["server", "f.yaml"], "", "zutkrad: fault of use\n", 255),
     Case("zutkrad", ["server"], "", "", 1),
     Case("zutkrad", ["server"], NOT_BEGUN, "", 1, SHUTDOWN + EXIT + b"never read"),
@@ -138,6 +168,15 @@ rules:
   quoted-strings: {quote-type: double, required: true}
   indentation: {spaces: 4}
   key-ordering: enable
+"""
+
+# A configuration with patterns.
+PATTERNS = """extends: relaxed
+ignore: |
+  bytes.*
+  !a[b-d]*/**/e?
+rules:
+  trailing-spaces: {ignore: [long.yaml, "/folder/"]}
 """
 
 # A configuration of many events.
@@ -189,6 +228,8 @@ class Runs:
         self.library = os.path.join(folder, "refusing.so")
         self.told = os.path.join(folder, "told")
         self.wrong = 0
+        # No configuration of the user who runs this is found.
+        self.env = {name: value for name, value in os.environ.items() if name not in OF_A_USER} | {"HOME": folder}
         subprocess.run(["cc", "-shared", "-fPIC", "-O1", "-o", self.library, os.path.join(HERE, "refusing.c")], check=True)
 
     def ran(self, case, shell="", **more):
@@ -197,7 +238,7 @@ class Runs:
         if not shell:
             words = words[3:]
         run = subprocess.run(words, input=case.given, capture_output=True, cwd=self.folder, timeout=SECONDS,
-                             env={**os.environ, **more}, check=False)
+                             env={**self.env, **more}, check=False)
         return run.stdout.decode(), run.stderr.decode(), run.returncode
 
     def refused(self, case, number):
@@ -225,8 +266,8 @@ def check_cases(runs):
 def ends_without_memory(case, whole, come):
     """Whether a run ended early for want of memory: with a beginning of the answers."""
     out, err, status = come
-    said = (f"{case.program}: out of memory\n", f"{case.program}: configuration: Memory\n")
-    return status == 255 and err in said and whole[0].startswith(out)
+    said = re.fullmatch(rf"{case.program}: (out of memory|(\w+: )?configuration: Memory)\n", err)
+    return status == 255 and said is not None and whole[0].startswith(out)
 
 
 def answers(out):
@@ -268,6 +309,23 @@ def refuse_each(runs, case, may_come):
     print(f"{case.program} {' '.join(case.words[:3])}: {number - 1} requests refused, {ended} of them ended the run".replace("\n", " "))
 
 
+def refuse_files(runs, case):
+    """Refuses each request of a run over files in turn: it ends early, or a file has no report and what comes after it has."""
+    whole = runs.ran(case)
+    number, ended, without = 1, 0, 0
+    while (come := runs.refused(case, number)) is not None:
+        out, err, status = come
+        lines = iter(whole[0].splitlines())
+        if ends_without_memory(case, whole, come):
+            ended += 1
+        elif status == 255 and err == "zutkrad: out of memory\n" and all(line in lines for line in out.splitlines()):
+            without += 1
+        else:
+            runs.tell(f"with request {number} refused there came", case, come)
+        number += 1
+    print(f"zutkrad check: {number - 1} requests refused, {ended} of them ended the run, {without} took a file's report away")
+
+
 def check_refusals(runs):
     for words in (["--help"], ["long.yaml"], ["-s", "-c", "settings", "f.yaml", "long.yaml", "-"], ["-c", "many", "f.yaml"]):
         refuse_each(runs, Case("yamllint", words, given=LONG_TEXT), set())
@@ -275,8 +333,9 @@ def check_refusals(runs):
         refuse_each(runs, Case("yamllint", words), set())
     for words in (["--strict", "f.yaml"], ["-s", "f.yaml", "long.yaml"]):
         refuse_each(runs, Case("yledit", words), set())
-    for words in (["--help"], ["check"]):
+    for words in (["--help"], ["check", "-h"], ["check", "-q"], ["check", "-c", "patterns", "--list-files", "."]):
         refuse_each(runs, Case("zutkrad", words), set())
+    refuse_files(runs, Case("zutkrad", ["check", "-f", "parsable", "-c", "patterns", "f.yaml", "long.yaml", "."]))
     for words in (["long.yaml"], ["--work", "-d", LONG_CONFIG, "long.yaml"]):
         case = Case("yledit", words, given=b"".join(COMMANDS))
         refuse_each(runs, case, without_each(runs, case, COMMANDS))
@@ -289,7 +348,7 @@ def main():
         sys.exit(__doc__)
     with tempfile.TemporaryDirectory() as folder:
         os.mkdir(os.path.join(folder, "folder"))
-        more = {"long.yaml": LONG_TEXT, "settings": LONG_CONFIG.encode(), "many": MANY.encode()}
+        more = {"long.yaml": LONG_TEXT, "settings": LONG_CONFIG.encode(), "many": MANY.encode(), "patterns": PATTERNS.encode()}
         for name, text in {**FILES, **more}.items():
             with open(os.path.join(folder, name), "wb") as file:
                 file.write(text)

@@ -1,6 +1,6 @@
 #!/usr/bin/env python3
-"""rows.py [--check] [CRATE..]: writes the file stdout of yl_text_rows, yl_session_rows, yl_frames_rows, yl_rpc_rows, yl_server_rows
-and yl_patterns_rows, or of those that are named, what the model of tools/model says of the rows in their files stdin.
+"""rows.py [--check] [CRATE..]: writes the file stdout of yl_text_rows, yl_session_rows, yl_frames_rows, yl_rpc_rows, yl_server_rows,
+yl_patterns_rows and yl_project_rows, or of those that are named, what the model of tools/model says of the rows in their files stdin.
 
 With --check it writes nothing, and ends with 1 where a file says otherwise. So what these programs are to print is never
 taken from a program of this repository."""
@@ -17,8 +17,10 @@ from model.config import Config, ConfigFault  # noqa: E402
 from model.exchanges import message_bytes, refused  # noqa: E402
 from model.lint import Text, report  # noqa: E402
 from model.patterns import BadPattern, is_among  # noqa: E402
+from model.project import Project, names  # noqa: E402
+from model.project import read as read_project  # noqa: E402
 from model.report import printed, status  # noqa: E402
-from model.server import Server  # noqa: E402
+from model.server import IGNORED, UNREADABLE, Server, no_files  # noqa: E402
 from model.text import TextFault, decode, edited, split  # noqa: E402
 from model.wire import (INVALID_REQUEST, METHOD_NOT_FOUND, NULL, PARSE_ERROR, Invalid, NoJson, NoMessage, Request, Response,  # noqa: E402
                         TooDeep, answer, call_of, failure, framed, next_body, read, written)
@@ -233,10 +235,21 @@ def by_bytes(tell):
 
 
 class Files:
-    """Files whose names say what is in them: at the first reading what stands before the first bar, and so on."""
+    """Files whose names say what is in them: at the first reading what stands before the first bar, and so on. Behind the question mark
+    of a URI stands in the same way what files say of its document, each time that a document is asked for: a configuration, or one of
+    these words."""
+
+    WORDS = {"ignored": IGNORED, "unreadable": UNREADABLE}
 
     def __init__(self):
-        self.readings = 0
+        self.readings, self.askings = 0, 0
+
+    def folders(self, uri, is_known):
+        said = uri.partition("?")[2].split("|")[self.askings:]
+        self.askings += 1
+        if not said or not said[0]:
+            return no_files(uri, is_known)
+        return self.WORDS.get(said[0], said[0].encode())
 
     def get(self, name):
         said = name.split("|")[self.readings:]
@@ -249,7 +262,8 @@ class Given:
     for."""
 
     def __init__(self, data):
-        server = Server(self.files.get)
+        files = self.files
+        server = Server(files.get, files.folders)
         self.bodies, self.sent, self.owed = [], [], []
         try:
             while server.status is None:
@@ -319,8 +333,80 @@ def server_answers(lines):
             data += body if word == "bytes" else framed(body)
 
 
+# The option of a rule that is printed.
+SHOWN_OPTIONS = {"braces": "max-spaces-inside", "brackets": "max-spaces-inside", "comments": "min-spaces-from-content", "empty-lines": "max",
+                 "indentation": "indent-sequences", "line-length": "max", "new-lines": "type"}
+BASES = {"empty": Project.empty, "default": Project.standard, "relaxed": Project.relaxed}
+
+
+def rule_line(rule, level, options):
+    option = options.get(SHOWN_OPTIONS.get(rule))
+    shown = "" if option is None else f" {str(option).lower()}"
+    return f"= {rule} {level}{shown}"
+
+
+def path_lines(project, path):
+    """The rules that hold for a path."""
+    levels = project.config_for(path)
+    if levels is None:
+        return ["= ignored"]
+    return [rule_line(rule, level, project.config.options[rule]) for rule, level in sorted(levels.items())]
+
+
+def name_lines(text):
+    """The files that a configuration names."""
+    extends, files = names(text)
+    return ([] if extends is None else [f"= extends {extends}"]) + [f"= from {name}" for name in files]
+
+
+class Projects:
+    """The last project that was read, and what the next one is read with."""
+
+    def __init__(self):
+        self.project, self.base, self.lines = Project.empty(), "empty", b""
+
+    def read(self, text):
+        base = self.project if self.base == "last" else BASES[self.base]()
+        self.project = Project.empty()
+        self.project = read_project(text, base, self.lines.decode())
+        return ["= read"]
+
+    def said(self, word, rest, text):
+        """The lines that a row has printed."""
+        if word == "base":
+            self.base = rest
+        elif word == "lines":
+            self.lines = text
+        elif word == "path":
+            return path_lines(self.project, rest)
+        elif word == "yaml":
+            return ["= yaml" if self.project.is_yaml(rest) else "= other"]
+        else:
+            try:
+                return self.read(text) if word == "read" else name_lines(text)
+            except ConfigFault as fault:
+                return [f"= {fault.name}" + (f" at {fault.place[0]}:{fault.place[1]}" if fault.place else "")]
+        return []
+
+
+def project_answers(lines):
+    """Of each row the row itself, and then what comes of it."""
+    projects, front = Projects(), b""
+    for line in lines:
+        if not line or line.startswith("#"):
+            continue
+        yield line + "\n"
+        word, _, rest = line.partition(" ")
+        if word in FRONTS:
+            front += front_of(word, rest)
+        else:
+            text = front + unescaped(rest)
+            front = front if word in ("base", "path", "yaml") else b""
+            yield "".join(f"{said}\n" for said in projects.said(word, rest, text))
+
+
 ROWS = {"yl_text_rows": answers, "yl_session_rows": answers, "yl_frames_rows": by_bytes(frame_lines), "yl_rpc_rows": by_bytes(call_lines),
-        "yl_server_rows": server_answers, "yl_patterns_rows": by_bytes(pattern_lines)}
+        "yl_server_rows": server_answers, "yl_patterns_rows": by_bytes(pattern_lines), "yl_project_rows": project_answers}
 
 
 def is_said(crate, is_check):
