@@ -56,6 +56,9 @@ impl<A: Allocator + Copy> Patterns<A> {
     pub fn fits(&self, path: &str) -> Result<bool, AllocError>
         ensures { IfOk result (λ answer. answer ≡ is_among self.now (chars path.now)) }
     {
+        if self.patterns.is_empty() {
+            return Ok(false);
+        }
         let alloc = *self.patterns.allocator();
         let path = characters(alloc, path)?;
         let mut row = vec![in alloc; false; path.len() + 1]?;
