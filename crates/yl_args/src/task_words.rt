@@ -81,7 +81,11 @@ fn check_command<'a>(
         .disable_version_flag(true)
         .after_help("Example: zutkrad check -f standard .")
         .arg(config_file(alloc).long("config-file"))?
-        .arg(config_data(alloc).long("config-data"))?
+        .arg(
+            config_data(alloc)
+                .long("config-data")
+                .allow_hyphen_values(true),
+        )?
         .group(configurations(alloc)?)?
         .arg(format_option(alloc, formats))?
         .arg(flag(

@@ -4,6 +4,7 @@
 #![tactic(auto)]
 
 mod loading;
+mod metadata;
 mod places;
 mod walk;
 

@@ -1,7 +1,8 @@
 //! A configuration with all that it extends.
+use crate::metadata::metadata_of;
 use std::alloc::{AllocError, AllocFailed, Global};
+use std::mem;
 use std::time::SystemTime;
-use std::{fs, mem};
 use yl_config::ConfigFault;
 use yl_devices::{RunFault, without_mark};
 use yl_programs::bytes_of;
@@ -53,29 +54,36 @@ pub enum Origin<'a> {
 }
 
 // When a file was changed last, and how many bytes it has; none where it is not there.
-fn stamp_of(rt: &HostRuntime, file: &str) -> Option<(SystemTime, u64)> {
-    let metadata = fs::metadata(rt, file).ok()?;
-    Some((metadata.modified().ok()?, metadata.len()))
+type Stamp = Option<(SystemTime, u64)>;
+
+fn stamp_of(rt: &HostRuntime, file: &str) -> Result<Stamp, AllocError> {
+    let Some(metadata) = metadata_of(rt, file)? else {
+        return Ok(None);
+    };
+    Ok(match metadata.modified() {
+        Ok(time) => Some((time, metadata.len())),
+        Err(_) => None,
+    })
 }
 
 /// A file that was opened, or that could not be, as it was just before.
 #[derive(Drop)]
 pub struct Opened {
     file: String,
-    stamp: Option<(SystemTime, u64)>,
+    stamp: Stamp,
 }
 
 impl Opened {
     fn new(rt: &HostRuntime, file: &str) -> Result<Opened, AllocError> {
         Ok(Opened {
             file: String::from_str(rt.alloc(), file)?,
-            stamp: stamp_of(rt, file),
+            stamp: stamp_of(rt, file)?,
         })
     }
 
     /// Whether the file is as it was, by the time of its last change and its length.
-    pub fn is_unchanged(&self, rt: &HostRuntime) -> bool {
-        stamp_of(rt, self.file.as_str()) == self.stamp
+    pub fn is_unchanged(&self, rt: &HostRuntime) -> Result<bool, AllocError> {
+        Ok(stamp_of(rt, self.file.as_str())? == self.stamp)
     }
 }
 

@@ -1,7 +1,9 @@
 //! Where configurations lie.
+use crate::metadata::metadata_of;
 use std::alloc::AllocError;
+use std::env;
 use std::env::VarError;
-use std::{env, fs};
+use std::io::ErrorKind;
 
 // The names that a project's configuration may have.
 const NAMES: [&str; 3] = [".yamllint", ".yamllint.yaml", ".yamllint.yml"];
@@ -10,11 +12,11 @@ const NAMES: [&str; 3] = [".yamllint", ".yamllint.yaml", ".yamllint.yml"];
 const MOST_FOLDERS: usize = 4096;
 
 /// Whether there is a file of this name, or a link to one.
-fn is_file(rt: &HostRuntime, path: &str) -> bool {
-    match fs::metadata(rt, path) {
-        Ok(metadata) => metadata.is_file(),
-        Err(_) => false,
-    }
+fn is_file(rt: &HostRuntime, path: &str) -> Result<bool, AllocError> {
+    Ok(match metadata_of(rt, path)? {
+        Some(metadata) => metadata.is_file(),
+        None => false,
+    })
 }
 
 fn joined(rt: &HostRuntime, folder: &str, name: &str) -> Result<String, AllocError> {
@@ -27,7 +29,7 @@ fn joined(rt: &HostRuntime, folder: &str, name: &str) -> Result<String, AllocErr
 fn file_in(rt: &HostRuntime, folder: &str) -> Result<Option<String>, AllocError> {
     for name in NAMES {
         let path = joined(rt, folder, name)?;
-        if is_file(rt, path.as_str()) {
+        if is_file(rt, path.as_str())? {
             return Ok(Some(path));
         }
     }
@@ -46,6 +48,7 @@ fn above(folder: &str) -> &str {
 fn home(rt: &HostRuntime) -> Result<String, AllocError> {
     match env::home_dir(rt) {
         Ok(Some(home)) => String::from_str(rt.alloc(), home.as_str().trim_end_matches('/')),
+        Err(error) if error.kind() == ErrorKind::OutOfMemory => Err(AllocError),
         _ => Ok(String::new(rt.alloc())),
     }
 }
@@ -108,7 +111,7 @@ fn user_path(rt: &HostRuntime) -> Result<String, AllocError> {
 /// `yamllint/config` in `XDG_CONFIG_HOME`; else `.config/yamllint/config` in the home folder.
 pub fn user_file(rt: &HostRuntime) -> Result<Option<String>, AllocError> {
     let path = user_path(rt)?;
-    Ok(if is_file(rt, path.as_str()) {
+    Ok(if is_file(rt, path.as_str())? {
         Some(path)
     } else {
         None

@@ -1,4 +1,5 @@
 //! The files that a run lints.
+use crate::metadata::metadata_of;
 use std::alloc::{AllocError, Global};
 use std::fs::DirEntry;
 use std::io::ErrorKind;
@@ -79,9 +80,9 @@ impl<'a> Walk<'a> {
             self.ready.push(Found::Input)?;
             return Ok(true);
         }
-        let is_folder = match fs::metadata(self.rt, path) {
-            Ok(metadata) => metadata.is_dir(),
-            Err(_) => false,
+        let is_folder = match metadata_of(self.rt, path)? {
+            Some(metadata) => metadata.is_dir(),
+            None => false,
         };
         let path = String::from_str(self.rt.alloc(), path)?;
         if is_folder {
@@ -153,8 +154,12 @@ impl<'a> Walk<'a> {
     // Puts an entry where it belongs.
     fn take(&self, entry: &DirEntry, listing: &mut Listing) -> Result<(), AllocError> {
         let path = entry.path();
-        let kind = entry.file_type();
-        if let Ok(kind) = &kind
+        let kind = match entry.file_type() {
+            Ok(kind) => Some(kind),
+            Err(error) if error.kind() == ErrorKind::OutOfMemory => return Err(AllocError),
+            Err(_) => None,
+        };
+        if let Some(kind) = &kind
             && kind.is_dir()
         {
             listing
@@ -166,12 +171,12 @@ impl<'a> Walk<'a> {
             return Ok(());
         }
         let is_other = match kind {
-            Ok(kind) if kind.is_symlink() => match fs::metadata(self.rt, path) {
-                Ok(metadata) => !metadata.is_file(),
-                Err(_) => false,
+            Some(kind) if kind.is_symlink() => match metadata_of(self.rt, path.as_str())? {
+                Some(metadata) => !metadata.is_file(),
+                None => false,
             },
-            Ok(kind) => !kind.is_file(),
-            Err(_) => false,
+            Some(kind) => !kind.is_file(),
+            None => false,
         };
         if !is_other {
             listing

@@ -3,7 +3,8 @@ use crate::NAME;
 use crate::progress::Progress;
 use std::alloc::{AllocError, Global};
 use std::env;
-use std::io::IsTerminal;
+use std::env::VarError;
+use std::io::{ErrorKind, IsTerminal};
 use yl_args::{AskedCheck, AskedFormat, Source};
 use yl_check::{Printing, joined, print_report, report_of_bytes};
 use yl_config::Config;
@@ -63,6 +64,7 @@ fn refused(rt: &HostRuntime, fault: &LoadFault) -> Result<u8, AllocError> {
 fn file_of(rt: &HostRuntime) -> Result<Option<String>, AllocError> {
     let here = match env::current_dir(rt) {
         Ok(here) => String::from_str(rt.alloc(), here.as_str())?,
+        Err(error) if error.kind() == ErrorKind::OutOfMemory => return Err(AllocError),
         Err(_) => String::from_str(rt.alloc(), "/")?,
     };
     match project_file(rt, here.as_str(), true)? {
@@ -84,22 +86,29 @@ fn project_of(rt: &HostRuntime, source: &Source) -> Result<Project<Global>, Load
     }
 }
 
-fn is_set(rt: &HostRuntime, name: &str) -> bool {
-    env::var(rt, name).is_ok()
+fn is_set(rt: &HostRuntime, name: &str) -> Result<bool, AllocError> {
+    match env::var(rt, name) {
+        Err(VarError::OutOfMemory) => Err(AllocError),
+        Err(VarError::NotPresent) => Ok(false),
+        _ => Ok(true),
+    }
 }
 
-fn format_of(rt: &HostRuntime, asked: AskedFormat) -> Format {
-    match asked {
+// Whether this is a step of a workflow of GitHub.
+fn is_workflow(rt: &HostRuntime) -> Result<bool, AllocError> {
+    Ok(is_set(rt, "GITHUB_ACTIONS")? && is_set(rt, "GITHUB_WORKFLOW")?)
+}
+
+fn format_of(rt: &HostRuntime, asked: AskedFormat) -> Result<Format, AllocError> {
+    Ok(match asked {
         AskedFormat::Parsable => Format::Parsable,
         AskedFormat::Standard => Format::Standard,
         AskedFormat::Colored => Format::Colored,
         AskedFormat::Github => Format::Github,
-        AskedFormat::Auto if is_set(rt, "GITHUB_ACTIONS") && is_set(rt, "GITHUB_WORKFLOW") => {
-            Format::Github
-        }
+        AskedFormat::Auto if is_workflow(rt)? => Format::Github,
         AskedFormat::Auto if rt.stdout().is_terminal() => Format::Colored,
         AskedFormat::Auto => Format::Standard,
-    }
+    })
 }
 
 // A run over files.
@@ -214,7 +223,7 @@ fn checked(rt: &HostRuntime, asked: &AskedCheck) -> Result<u8, AllocError> {
         rt,
         project: &project,
         printing: Printing {
-            format: format_of(rt, asked.format),
+            format: format_of(rt, asked.format)?,
             no_warnings: asked.flags.no_warnings,
             strict: asked.flags.strict,
         },

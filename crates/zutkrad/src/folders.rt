@@ -19,13 +19,13 @@ struct Loaded {
 }
 
 impl Loaded {
-    fn is_current(&self, rt: &HostRuntime) -> bool {
+    fn is_current(&self, rt: &HostRuntime) -> Result<bool, AllocError> {
         for opened in &self.opened {
-            if !opened.is_unchanged(rt) {
-                return false;
+            if !opened.is_unchanged(rt)? {
+                return Ok(false);
             }
         }
-        true
+        Ok(true)
     }
 
     // By what a document is judged whose path is this from the folder of the configuration.
@@ -164,8 +164,12 @@ impl<'a> Folders<'a> {
     // The number of the loading of a configuration, which is loaded where it has changed.
     fn loading_of(&mut self, file: &str) -> Result<u64, AllocError> {
         let documents = match self.loaded.get(file) {
-            Some(loaded) if loaded.is_current(self.rt) => return Ok(loaded.loading),
-            Some(loaded) => loaded.documents,
+            Some(loaded) => {
+                if loaded.is_current(self.rt)? {
+                    return Ok(loaded.loading);
+                }
+                loaded.documents
+            }
             None => 0,
         };
         let mut loader = Loader::new(self.rt, folder_of(file));
