@@ -310,7 +310,7 @@ def refuse_each(runs, case, may_come):
 
 
 def refuse_files(runs, case):
-    """Refuses each request of a run over files in turn: it ends early, or a file has no report and what comes after it has."""
+    """Refuses each request of a run over files in turn: it ends early, or a file is left out and what comes after it is not."""
     whole = runs.ran(case)
     number, ended, without = 1, 0, 0
     while (come := runs.refused(case, number)) is not None:
@@ -323,7 +323,7 @@ def refuse_files(runs, case):
         else:
             runs.tell(f"with request {number} refused there came", case, come)
         number += 1
-    print(f"zutkrad check: {number - 1} requests refused, {ended} of them ended the run, {without} took a file's report away")
+    print(f"zutkrad check: {number - 1} requests refused, {ended} of them ended the run, {without} took a file away")
 
 
 def check_refusals(runs):
@@ -333,9 +333,10 @@ def check_refusals(runs):
         refuse_each(runs, Case("yamllint", words), set())
     for words in (["--strict", "f.yaml"], ["-s", "f.yaml", "long.yaml"]):
         refuse_each(runs, Case("yledit", words), set())
-    for words in (["--help"], ["check", "-h"], ["check", "-q"], ["check", "-c", "patterns", "--list-files", "."]):
+    for words in (["--help"], ["check", "-h"], ["check", "-q"]):
         refuse_each(runs, Case("zutkrad", words), set())
-    refuse_files(runs, Case("zutkrad", ["check", "-f", "parsable", "-c", "patterns", "f.yaml", "long.yaml", "."]))
+    for words in (["--list-files", "."], ["-f", "parsable", "f.yaml", "long.yaml", "."]):
+        refuse_files(runs, Case("zutkrad", ["check", "-c", "patterns", *words]))
     for words in (["long.yaml"], ["--work", "-d", LONG_CONFIG, "long.yaml"]):
         case = Case("yledit", words, given=b"".join(COMMANDS))
         refuse_each(runs, case, without_each(runs, case, COMMANDS))

@@ -157,6 +157,7 @@ REFUSED = [
     ("extends: ''\n", "UnknownExtends at 1:10"),
     ("extends: [default]\n", "UnknownExtends at 1:10"),
     ("extends:\n", "UnknownExtends at 1:1"),
+    ("ignore:\n", "BadValue at 1:1"),
     ("ignore: {a: b}\n", "BadValue at 1:9"),
     ("ignore: [a, [b]]\n", "BadValue at 1:13"),
     ("ignore: [&x a, *x]\n", "BadValue at 1:16"),
@@ -178,7 +179,7 @@ REFUSED = [
 
 # Texts that are taken: of `f.yaml` the rule document-start tells nothing under them.
 TAKEN = [
-    "rules: {}\n", "ignore:\n", "ignore: 5\n", "ignore: yes\n", "ignore: []\n", "yaml-files: []\n", "yaml-files: [5]\n", "locale: 5\n",
+    "rules: {}\n", "ignore: 5\n", "ignore: yes\n", "ignore: []\n", "yaml-files: []\n", "yaml-files: [5]\n", "locale: 5\n",
     "ignore-from-file: p\n", "rules: {truthy: {ignore-from-file: {}}}\n", "rules: {empty-values: {ignore: '!'}}\n",
     "ignore: ['!a', '']\nignore: [b]\n", "...\n---\nrules: {}\n", "{extends: default, ignore: f.yaml}\n",
     "{extends: default, ignore: ['*', '!g.yaml']}\n", "{extends: default, rules: {document-start: {ignore: f.yaml}}}\n",
