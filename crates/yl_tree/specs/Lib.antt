@@ -6,10 +6,13 @@ pub mod KeyRules
 pub mod Keys
 pub mod ManyKeys
 pub mod Messages
+pub mod Name
 pub mod NameSets
+pub mod NameStack
 pub mod OpenNodes
 pub mod Order
 pub mod References
+pub mod Sufficient
 pub mod Tree
 pub mod TreeRules
 pub mod Unused

@@ -1,10 +1,12 @@
 //! The keys of a large mapping, which mostly come in ascending order.
-ghost use Rattle.std.specs.Prelude.{◌≡◌, ◌||◌, [], false, ℕ, List, IfOk, OnOk, bytes_eq};
-ghost use Rattle.yl_tree.specs.NameSets.{has_name, is_above, is_among};
+ghost use Rattle.std.specs.Prelude.{◌≡◌, ◌||◌, [], false, ℕ, List, IfOk, OnOk, bytes_eq, slice_get};
+ghost use Rattle.std.specs.HashSet.{contains_text};
+ghost use Rattle.yl_tree.specs.NameSets.{is_above, is_among};
 ghost use Rattle.yl_tree.specs.ManyKeys.{is_key};
 
 use crate::greatest::is_greater;
-use crate::name_set::{NameSet, has_name, insert_name, is_among};
+use crate::name::Name;
+use crate::name_set::{OwnedNames, has_text, insert_owned, is_among};
 use indexmap::IndexSet;
 use std::alloc::{AllocError, Allocator};
 use std::marker::Model;
@@ -12,113 +14,134 @@ use std::marker::Model;
 /// Keys one after another. Where each is greater than all before it, a key that is greater still is
 /// none of them, which is seen without a look at them.
 #[derive(Drop)]
-struct KeyRun<'a, A: Allocator> {
-    keys: Vec<&'a str, A>,
-    greatest: Option<&'a str>,
+struct KeyRun<A: Allocator> {
+    keys: Vec<Name<A>, A>,
+    /// Which of the keys is the greatest, if there is one.
+    greatest: usize,
 }
 
-impl<'a, A: Allocator> Model for KeyRun<'a, A> {
-    ghost use Rattle.std.specs.Prelude.{◌≡◌, true, false, ℕ, List};
+impl<A: Allocator> Model for KeyRun<A> {
+    ghost use Rattle.std.specs.Prelude.{◌≡◌, true, false, ℕ, List, slice_get};
     ghost use Rattle.yl_tree.specs.NameSets.{is_above, is_among};
-    ghost use denote.Ref.{Bor};
 
-    ghost Value = { List (Bor (List ℕ)) };
+    ghost Value = { List (List ℕ) };
 
     ghost view = { λ s. s.keys.items };
 
-    ghost invariant = { λ s. (q : List ℕ) → is_among s.keys.items q ≡ true → is_above s.greatest q ≡ false };
+    ghost invariant = { λ s. (q : List ℕ) → is_among s.keys.items q ≡ true
+        → is_above (slice_get s.keys.items s.greatest) q ≡ false };
 }
 
 /// Whether a name is greater than the greatest key, if there is one.
-fn is_above(greatest: Option<&str>, name: &str) -> bool
-    ensures { result ≡ is_above greatest.entry name.now }
+fn is_above<A: Allocator>(keys: &[Name<A>], greatest: usize, name: &str) -> bool
+    ensures { result ≡ is_above (slice_get keys.now greatest) name.now }
 {
-    match greatest {
+    match keys.get(greatest) {
         None => true,
-        Some(greatest) => is_greater(name, greatest),
+        Some(greatest) => is_greater(name, greatest.as_str()),
     }
 }
 
-/// Puts these names into a set.
-fn insert_names<'a, A: Allocator + Copy>(
-    set: &mut NameSet<'a, A>,
-    names: &[&'a str],
+/// Moves each of these names into a set.
+fn move_each<A: Allocator + Copy>(
+    alloc: A,
+    names: &mut Vec<Name<A>, A>,
+    set: &mut OwnedNames<A>,
 ) -> Result<(), AllocError>
-    ensures { OnOk result ((q : List ℕ) → has_name set.new q ≡ is_among names.now q || has_name set.old q) }
+    ensures { OnOk result ((q : List ℕ) → contains_text set.new q
+        ≡ is_among names.old.items q || contains_text set.old q) }
 {
-    for name in names {
-        insert_name(set, name)?;
+    while let Some(name) = names.pop() {
+        insert_owned(alloc, set, name)?;
     }
     Ok(())
 }
 
-impl<'a, A: Allocator + Copy> KeyRun<'a, A> {
+/// Moves these names into a set, and leaves none.
+fn move_names<A: Allocator + Copy>(
+    alloc: A,
+    names: &mut Vec<Name<A>, A>,
+    set: &mut OwnedNames<A>,
+) -> Result<(), AllocError>
+    ensures gone { names.new.items ≡ [] }
+    ensures there { OnOk result ((q : List ℕ) → contains_text set.new q
+        ≡ is_among names.old.items q || contains_text set.old q) }
+{
+    let moved = move_each(alloc, names, set);
+    names.clear();
+    moved
+}
+
+impl<A: Allocator + Copy> KeyRun<A> {
     fn new(alloc: A) -> Self
         ensures { result ≡ [] }
     {
         KeyRun {
             keys: Vec::new(alloc),
-            greatest: None,
+            greatest: 0,
         }
     }
 
     /// Whether this key is greater than all keys.
     fn goes_on(&self, key: &str) -> bool {
-        is_above(self.greatest, key)
+        is_above(&self.keys, self.greatest, key)
     }
 
     fn has(&self, key: &str) -> bool
         ensures { result ≡ is_among self.now key.now }
     {
-        !is_above(self.greatest, key) && is_among(&self.keys, key)
+        !is_above(&self.keys, self.greatest, key) && is_among(&self.keys, key)
     }
 
-    fn push(&mut self, key: &'a str) -> Result<(), AllocError>
-        ensures { OnOk result ((q : List ℕ) → is_among self.new q ≡ bytes_eq key.now q || is_among self.old q) }
+    fn push(&mut self, key: Name<A>) -> Result<(), AllocError>
+        ensures { OnOk result ((q : List ℕ) → is_among self.new q ≡ bytes_eq key q || is_among self.old q) }
     {
+        let is_greatest = is_above(&self.keys, self.greatest, key.as_str());
+        let place = self.keys.len();
         self.keys.push(key)?;
-        if is_above(self.greatest, key) {
-            self.greatest = Some(key);
+        if is_greatest {
+            self.greatest = place;
         }
         Ok(())
     }
 
-    /// Puts all keys into a set.
-    fn move_into(&mut self, set: &mut NameSet<'a, A>) -> Result<(), AllocError>
-        ensures gone { OnOk result (self.new ≡ []) }
-        ensures there { OnOk result ((q : List ℕ) → has_name set.new q ≡ is_among self.old q || has_name set.old q) }
+    /// Moves all keys into a set.
+    fn move_into(&mut self, alloc: A, set: &mut OwnedNames<A>) -> Result<(), AllocError>
+        ensures gone { self.new ≡ [] }
+        ensures there { OnOk result ((q : List ℕ) → contains_text set.new q ≡ is_among self.old q || contains_text set.old q) }
     {
-        insert_names(set, &self.keys)?;
-        self.keys.clear();
-        self.greatest = None;
-        Ok(())
+        let moved = move_names(alloc, &mut self.keys, set);
+        self.greatest = 0;
+        moved
     }
 }
 
 /// The keys of a mapping that has many: the latest run of ascending ones, and a set of the others.
 #[derive(Drop)]
-pub(crate) struct ManyKeys<'a, A: Allocator + Copy> {
-    run: KeyRun<'a, A>,
-    others: NameSet<'a, A>,
+pub(crate) struct ManyKeys<A: Allocator + Copy> {
+    alloc: A,
+    run: KeyRun<A>,
+    others: OwnedNames<A>,
 }
 
-impl<'a, A: Allocator + Copy> ManyKeys<'a, A> {
+impl<A: Allocator + Copy> ManyKeys<A> {
     fn new(alloc: A) -> Self
         ensures { (q : List ℕ) → is_key result q ≡ false }
     {
         ManyKeys {
+            alloc,
             run: KeyRun::new(alloc),
             others: IndexSet::new(alloc),
         }
     }
 
     /// These keys.
-    pub(crate) fn of(alloc: A, keys: &[&'a str]) -> Result<Self, AllocError>
+    pub(crate) fn of(alloc: A, keys: &[Name<A>]) -> Result<Self, AllocError>
         ensures { IfOk result (λ s. (q : List ℕ) → is_key s q ≡ is_among keys.now q) }
     {
         let mut all = ManyKeys::new(alloc);
         for key in keys {
-            all.insert(key)?;
+            all.insert(Name::of(alloc, key.as_str())?)?;
         }
         Ok(all)
     }
@@ -127,15 +150,15 @@ impl<'a, A: Allocator + Copy> ManyKeys<'a, A> {
     pub(crate) fn has(&self, key: &str) -> bool
         ensures { result ≡ is_key self.now key.now }
     {
-        self.run.has(key) || has_name(&self.others, key)
+        self.run.has(key) || has_text(&self.others, key)
     }
 
     /// Takes a key more. One that ends the run begins the next, so that no run is gone through twice.
-    pub(crate) fn insert(&mut self, key: &'a str) -> Result<(), AllocError>
-        ensures { OnOk result ((q : List ℕ) → is_key self.new q ≡ bytes_eq key.now q || is_key self.old q) }
+    pub(crate) fn insert(&mut self, key: Name<A>) -> Result<(), AllocError>
+        ensures { OnOk result ((q : List ℕ) → is_key self.new q ≡ bytes_eq key q || is_key self.old q) }
     {
-        if !self.run.goes_on(key) {
-            self.run.move_into(&mut self.others)?;
+        if !self.run.goes_on(key.as_str()) {
+            self.run.move_into(self.alloc, &mut self.others)?;
         }
         self.run.push(key)
     }

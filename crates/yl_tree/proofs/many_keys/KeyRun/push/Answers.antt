@@ -1,14 +1,15 @@
-use Rattle.std.proofs.Common.{List, ℕ, Bor, sym, ap, ◌∙◌}
-use Rattle.yl_tree.specs.NameSets.{is_among}
-use Rattle.yl_tree.proofs.Names.{below_new, below_old}
+use Rattle.std.proofs.Common.{◌≡◌, ◌∙◌, true, false}
+use Rattle.std.specs.Prelude.{slice_get}
+use Rattle.yl_tree.specs.NameSets.{is_above}
+use Rattle.yl_tree.proofs.Names.{run_goes_on, run_stays}
 use Rattle.yl_tree.proofs.many_keys.KeyRun.push.Goals as goal
 
-pub invariant_of-self-then-is_above : goal.invariant_of-self-then-is_above
-invariant_of-self-then-is_above g c = λ q h.
-    below_new c.self.inside.keys.items c.self.inside.greatest c.args.key c.self.invariant q (sym (ap (λ (xs : List (Bor (List ℕ))). is_among xs q) c.in_ok-push.ensures.items) ∙ h)
-    (sym c.is_above.ensures ∙ c.if-is_above.true)
+pub invariant_of-self-then-is_greatest : goal.invariant_of-self-then-is_greatest
+invariant_of-self-then-is_greatest g c =
+    let a : is_above (slice_get c.self.inside.keys.items c.self.inside.greatest) c.args.key ≡ true = cc in
+    run_goes_on _ _ c.self.inside.greatest c.args.key c.self.invariant c.in_ok-push.ensures.items _ (c.len-place.ensures ∙ c.self.inside.keys.ok.0) a
 
-pub invariant_of-self-else-is_above : goal.invariant_of-self-else-is_above
-invariant_of-self-else-is_above g c = λ q h.
-    below_old c.self.inside.keys.items c.self.inside.greatest c.args.key c.self.invariant q (sym (ap (λ (xs : List (Bor (List ℕ))). is_among xs q) c.in_ok-push.ensures.items) ∙ h)
-    (sym c.is_above.ensures ∙ c.if-is_above.false)
+pub invariant_of-self-else-is_greatest : goal.invariant_of-self-else-is_greatest
+invariant_of-self-else-is_greatest g c =
+    let a : is_above (slice_get c.self.inside.keys.items c.self.inside.greatest) c.args.key ≡ false = cc in
+    run_stays _ _ c.self.inside.greatest c.args.key c.self.invariant c.in_ok-push.ensures.items a
