@@ -6,7 +6,7 @@ use Rattle.std.specs.List.{filter_map, cons_option}
 use Rattle.std.proofs.lemmas.Bool.{ne_eqb}
 use Rattle.yl_events.specs.Event.{EventValue, EventKindValue, SequenceEnd, MappingEnd}
 use Rattle.yl_tree.specs.Keys.{is_collection_start, is_collection_end, is_mapping_start, nodes_so_far, is_mapping_open, is_key_next, keys_among, name_of, earlier_keys}
-use Rattle.yl_tree.specs.OpenNodes.{OpenCollection, OpenNodes, new_collection, with_node, first_or_new, without_first, with_event, collections_behind, keys_if_next, nth_or_new, open_at}
+use Rattle.yl_tree.specs.OpenNodes.{OpenCollection, new_collection, with_node, first_or_new, without_first, with_event, collections_behind, keys_if_next, nth_or_new, open_at}
 
 -- an open collection by its nodes
 abbrev pub keys_in : Bool → List EventValue → List (List ℕ)
