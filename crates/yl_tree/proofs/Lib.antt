@@ -7,6 +7,7 @@ pub mod Keys
 pub mod Kept
 pub mod KeyTold
 pub mod Names
+pub mod NameStack
 pub mod OpenKeys
 pub mod Own
 pub mod References

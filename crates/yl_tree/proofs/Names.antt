@@ -1,5 +1,5 @@
 -- Sets of names with one name more or less, and greatest names.
-use Rattle.std.proofs.Common.{◌≡◌, ℕ, zero, suc, ◌+◌, ◌<◌, ◌≤◌, length, drop, get_or, add-one, drop-cons, List, [], ◌∷◌, ◌++◌, Bool, true, false, not, ◌&&◌, ◌||◌, cond, refl, sym, ◌∙◌, ap, append_assoc, Bor, Option, Some, None}
+use Rattle.std.proofs.Common.{◌≡◌, ℕ, zero, suc, length, List, [], ◌∷◌, ◌++◌, Bool, true, false, not, ◌&&◌, ◌||◌, cond, refl, sym, ◌∙◌, ap, append_assoc, Bor, Option, Some, None}
 use Rattle.std.specs.Prelude.{slice_get}
 use Rattle.std.specs.Str.{bytes_eq, chars}
 use Rattle.std.specs.List.{list_any}
@@ -11,7 +11,6 @@ use Rattle.yl_tree.specs.KeyRules.{is_greater}
 use Rattle.yl_tree.specs.Greatest.{is_greater_among}
 use Rattle.yl_tree.specs.NameSets.{is_above, is_among}
 use Rattle.std.proofs.lemmas.Bool.{false≢true}
-use Rattle.std.proofs.lemmas.List.{drop_all}
 use Rattle.std.proofs.lemmas.List.Folds.{list_any-append}
 use Rattle.std.proofs.lemmas.Slice.Eq.{bytes_eq-Decides}
 
@@ -166,25 +165,3 @@ module _ (keys new : List (List ℕ)) (g : ℕ) (key : List ℕ) (below : (q : L
 
   pub run_stays : is_above (slice_get keys g) key ≡ false → (q : List ℕ) → is_among new q ≡ true → is_above (slice_get new g) q ≡ false
   run_stays n q h = rw new_is (below_old keys g key below q (rw new_is at h) n)
-
--- ---- names that go into a set one after another
-
-or_swap : (a b c : Bool) → (a || (b || c)) ≡ ((b || a) || c)
-or_swap true true c = refl
-or_swap true false c = refl
-or_swap false true c = refl
-or_swap false false c = refl
-
-module _ (keys : List (List ℕ)) (i : ℕ) (old : List ℕ → Bool) (so_far : (q : List ℕ) → (is_among (drop i keys) q || old q) ≡ is_among keys q) where
-  pub put_more : (k key : List ℕ) (new : List ℕ → Bool) → i < length keys → k ≡ get_or keys i k → key ≡ k → ((q : List ℕ) → new q ≡ (bytes_eq key q || old q))
-      → (q : List ℕ) → (is_among (drop (i + 1) keys) q || new q) ≡ is_among keys q
-  put_more k key new within k_is key_is new_is q =
-      let here : drop i keys ≡ k ∷ drop (i + 1) keys = rw (add-one i, drop-cons keys i k within) (ap (λ (x : List ℕ). x ∷ drop (suc i) keys) (sym k_is)) in
-      ap (λ (b : Bool). is_among (drop (i + 1) keys) q || b) (new_is q)
-      ∙ ap (λ (x : List ℕ). is_among (drop (i + 1) keys) q || (bytes_eq x q || old q)) key_is
-      ∙ or_swap (is_among (drop (i + 1) keys) q) (bytes_eq k q) (old q)
-      ∙ ap (λ (xs : List (List ℕ)). is_among xs q || old q) (sym here)
-      ∙ so_far q
-
-  pub put_all : length keys ≤ i → (q : List ℕ) → old q ≡ is_among keys q
-  put_all past q = ap (λ (xs : List (List ℕ)). is_among xs q || old q) (sym (drop_all i keys past)) ∙ so_far q

@@ -10,7 +10,7 @@ use Rattle.yl_tree.specs.Anchors.{anchors}
 use Rattle.yl_tree.specs.Frames.{IsBehind}
 use Rattle.yl_tree.specs.Greatest.{is_greater_among}
 use Rattle.yl_tree.specs.KeyRules.{duplicate_at, is_greater, misplaced_at}
-use Rattle.yl_tree.specs.ManyKeys.{is_among_many_at}
+use Rattle.yl_tree.specs.OtherKeys.{is_other_at}
 use Rattle.yl_tree.specs.NameSets.{is_among}
 use Rattle.yl_tree.specs.NameStack.{level_at}
 use Rattle.yl_tree.specs.References.{reference_value}
@@ -28,7 +28,7 @@ pub record FindsByWalk {M A : Type 0} (speaks_against : List ℕ → List ℕ �
 
 abbrev pub FindsDuplicates : {A : Type 0} → DuplicateFinder A → List EventValue → List FindingValue → Type 0
 FindsDuplicates f es all =
-    FindsByWalk (λ key q. bytes_eq key q) (λ s n q. is_among (level_at n s.few) q || is_among_many_at s.many (reverse s.outer.items) n q)
+    FindsByWalk (λ key q. bytes_eq key q) (λ s n q. is_among (level_at n s.keys) q || is_other_at s.others (reverse s.outer.items) n q)
     (duplicate_at f.options) f.walk f.found.items es all
 
 abbrev pub FindsMisplaced : {A : Type 0} → MisplacedFinder A → List EventValue → List FindingValue → Type 0

@@ -4,13 +4,13 @@ pub mod Frames
 pub mod Greatest
 pub mod KeyRules
 pub mod Keys
-pub mod ManyKeys
 pub mod Messages
 pub mod Name
 pub mod NameSets
 pub mod NameStack
 pub mod OpenNodes
 pub mod Order
+pub mod OtherKeys
 pub mod References
 pub mod Sufficient
 pub mod Tree

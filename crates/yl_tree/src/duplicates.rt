@@ -7,7 +7,7 @@ ghost use Rattle.yl_tree.specs.KeyRules.{duplicate_at, is_duplicate, key_duplica
 ghost use Rattle.yl_tree.specs.Frames.{IsBehind};
 ghost use Rattle.yl_tree.specs.NameSets.{is_among};
 ghost use Rattle.yl_tree.specs.NameStack.{level_at};
-ghost use Rattle.yl_tree.specs.ManyKeys.{is_among_many_at};
+ghost use Rattle.yl_tree.specs.OtherKeys.{is_other_at};
 
 use crate::messages::{name_problem, push_found};
 use crate::open_keys::OpenKeys;
@@ -31,8 +31,8 @@ fn is_duplicate<A: Allocator + Copy>(
 ) -> bool
     ensures { (before : List EventValue)
         → IsBehind (λ key q. bytes_eq key q)
-        (λ s n q. is_among (level_at n s.few) q
-        || is_among_many_at s.many (reverse s.outer.items) n q) walk.now before
+        (λ s n q. is_among (level_at n s.keys) q
+        || is_other_at s.others (reverse s.outer.items) n q) walk.now before
         → result ≡ is_duplicate options.now (earlier_keys before) name.now }
 {
     is_judged(options, name) && walk::is_spoken_against(walk, name)
@@ -47,8 +47,8 @@ fn push_duplicate<A: Allocator + Copy>(
 ) -> Result<(), AllocError>
     ensures { (before after : List EventValue)
         → IsBehind (λ key q. bytes_eq key q)
-        (λ s n q. is_among (level_at n s.few) q
-        || is_among_many_at s.many (reverse s.outer.items) n q) walk.now before
+        (λ s n q. is_among (level_at n s.keys) q
+        || is_other_at s.others (reverse s.outer.items) n q) walk.now before
         → OnOk result (found.new.items
         ≡ found.old.items ++ duplicate_at options.now before (event_value event.now) after) }
 {

@@ -6,7 +6,6 @@ mod anchor_rule;
 mod duplicates;
 mod greatest;
 mod laws;
-mod many_keys;
 mod messages;
 mod name;
 mod name_set;

@@ -1,5 +1,5 @@
 //! Names that are owned.
-ghost use Rattle.std.specs.Prelude.{◌≡◌, IfOk, string_bytes};
+ghost use Rattle.std.specs.Prelude.{◌≡◌, IfOk};
 
 use arrayvec::ArrayString;
 use std::alloc::{AllocError, Allocator};
@@ -71,16 +71,6 @@ impl<A: Allocator> Name<A> {
         match &self.kept {
             Storage::Short(name) => name.as_str(),
             Storage::Long(text) => text.as_str(),
-        }
-    }
-
-    /// The name in memory of its own.
-    pub(crate) fn into_string(self, alloc: A) -> Result<String<A>, AllocError>
-        ensures { IfOk result (λ text. string_bytes text ≡ self) }
-    {
-        match self.kept {
-            Storage::Short(name) => String::from_str(alloc, name.as_str()),
-            Storage::Long(text) => Ok(text),
         }
     }
 }

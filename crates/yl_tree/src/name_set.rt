@@ -51,15 +51,30 @@ pub(crate) fn has_text<A: Allocator>(names: &OwnedNames<A>, name: &str) -> bool
     names.contains(name)
 }
 
-/// Puts a name into a set, which owns it then.
-pub(crate) fn insert_owned<A: Allocator + Copy>(
+/// Puts a name into a set, which has a copy of it.
+fn insert_copy<A: Allocator + Copy>(
     alloc: A,
     names: &mut OwnedNames<A>,
-    name: Name<A>,
+    name: &str,
 ) -> Result<(), AllocError>
     ensures { OnOk result ((q : List ℕ) → contains_text names.new q
-        ≡ bytes_eq name q || contains_text names.old q) }
+        ≡ bytes_eq name.now q || contains_text names.old q) }
 {
-    names.insert(name.into_string(alloc)?)?;
+    names.insert(String::from_str(alloc, name)?)?;
+    Ok(())
+}
+
+/// Puts copies of these names into a set.
+pub(crate) fn insert_names<A: Allocator + Copy>(
+    alloc: A,
+    set: &mut OwnedNames<A>,
+    names: &[Name<A>],
+) -> Result<(), AllocError>
+    ensures { OnOk result ((q : List ℕ) → contains_text set.new q
+        ≡ is_among names.now q || contains_text set.old q) }
+{
+    for name in names {
+        insert_copy(alloc, set, name.as_str())?;
+    }
     Ok(())
 }

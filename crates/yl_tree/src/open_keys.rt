@@ -2,73 +2,85 @@
 ghost use Rattle.std.specs.Prelude.{◌≡◌, ◌||◌, ℕ, suc, List, OnOk, bytes_eq, reverse};
 ghost use Rattle.yl_tree.specs.NameSets.{is_among};
 ghost use Rattle.yl_tree.specs.NameStack.{level_at};
-ghost use Rattle.yl_tree.specs.ManyKeys.{is_among_many, is_among_many_at, is_among_outer};
+ghost use Rattle.yl_tree.specs.OtherKeys.{is_other, is_other_at, is_outer};
 
-use crate::many_keys::ManyKeys;
 use crate::name::Name;
-use crate::name_set::is_among;
+use crate::name_set::{OwnedNames, has_text, insert_names};
 use crate::name_stack::NameStack;
 use crate::walk::KeyMemory;
+use indexmap::IndexSet;
 use std::alloc::{AllocError, Allocator};
 use std::mem;
 
-/// How many keys of a mapping lie on the stack of all open mappings.
+/// How many keys of a mapping that do not ascend lie on the stack.
 const FEW: usize = 8;
 
 /// The earlier keys of the mappings that are open. Those of one lie on a stack that all share while
-/// they are few, and elsewhere once they are many.
+/// they ascend or are few; else the stack has the latest run of them, and a set the others.
 #[derive(Drop)]
 pub(crate) struct OpenKeys<A: Allocator + Copy> {
     alloc: A,
-    few: NameStack<A>,
-    /// Those of the innermost, once they are many.
-    many: Option<Box<ManyKeys<A>, A>>,
-    /// Those of the others, the outermost first.
-    outer: Vec<Option<Box<ManyKeys<A>, A>>, A>,
+    keys: NameStack<A>,
+    /// The other keys of the innermost mapping, if it has some.
+    others: Option<Box<OwnedNames<A>, A>>,
+    /// Those of the mappings around it, the outermost first.
+    outer: Vec<Option<Box<OwnedNames<A>, A>>, A>,
 }
 
-/// Whether it is one of many keys, if there are many.
-fn is_among_many<A: Allocator + Copy>(many: &Option<Box<ManyKeys<A>, A>>, key: &str) -> bool
-    ensures { result ≡ is_among_many many.now key.now }
+/// Whether it is one of the others, if there are some.
+fn is_other<A: Allocator + Copy>(others: &Option<Box<OwnedNames<A>, A>>, key: &str) -> bool
+    ensures { result ≡ is_other others.now key.now }
 {
-    match many {
+    match others {
         None => false,
-        Some(keys) => keys.has(key),
+        Some(names) => has_text(names, key),
     }
 }
 
-/// Puts a key after those that are many, or after so many that they are no longer few.
-fn insert_among_many<A: Allocator + Copy>(
+/// Puts these names among the others.
+fn put_among_others<A: Allocator + Copy>(
     alloc: A,
-    few: &mut NameStack<A>,
-    many: &mut Option<Box<ManyKeys<A>, A>>,
-    key: Name<A>,
+    others: &mut Option<Box<OwnedNames<A>, A>>,
+    names: &[Name<A>],
 ) -> Result<(), AllocError>
-    ensures inner { OnOk result ((q : List ℕ) → is_among (level_at 0 few.new) q || is_among_many many.new q
-        ≡ bytes_eq key q || (is_among (level_at 0 few.old) q || is_among_many many.old q)) }
-    ensures outer { OnOk result ((n : ℕ) → level_at (suc n) few.new ≡ level_at (suc n) few.old) }
+    ensures { OnOk result ((q : List ℕ) → is_other others.new q
+        ≡ is_among names.now q || is_other others.old q) }
 {
-    match many {
-        Some(keys) => keys.insert(key),
+    match others {
+        Some(set) => insert_names(alloc, set, names),
         None => {
-            let mut keys = ManyKeys::of(alloc, few.innermost())?;
-            keys.insert(key)?;
-            *many = Some(Box::new(alloc, keys)?);
-            few.clear();
+            let mut set = IndexSet::new(alloc);
+            insert_names(alloc, &mut set, names)?;
+            *others = Some(Box::new(alloc, set)?);
             Ok(())
         }
     }
 }
 
-/// Takes the many keys of the mapping around, if it has many.
-fn pop_many<A: Allocator + Copy>(
-    outer: &mut Vec<Option<Box<ManyKeys<A>, A>>, A>,
-) -> Option<Box<ManyKeys<A>, A>>
-    ensures { (n : ℕ) (q : List ℕ) → is_among_many_at result (reverse outer.new.items) n q
-        ≡ is_among_outer (reverse outer.old.items) n q }
+/// Puts the keys of the innermost mapping among its others.
+fn end_run<A: Allocator + Copy>(
+    alloc: A,
+    keys: &mut NameStack<A>,
+    others: &mut Option<Box<OwnedNames<A>, A>>,
+) -> Result<(), AllocError>
+    ensures inner { OnOk result ((q : List ℕ) → is_among (level_at 0 keys.new) q || is_other others.new q
+        ≡ is_among (level_at 0 keys.old) q || is_other others.old q) }
+    ensures outer { OnOk result ((n : ℕ) → level_at (suc n) keys.new ≡ level_at (suc n) keys.old) }
+{
+    put_among_others(alloc, others, keys.innermost())?;
+    keys.clear();
+    Ok(())
+}
+
+/// Takes the others of the mapping around, if it has some.
+fn pop_others<A: Allocator + Copy>(
+    outer: &mut Vec<Option<Box<OwnedNames<A>, A>>, A>,
+) -> Option<Box<OwnedNames<A>, A>>
+    ensures { (n : ℕ) (q : List ℕ) → is_other_at result (reverse outer.new.items) n q
+        ≡ is_outer (reverse outer.old.items) n q }
 {
     match outer.pop() {
-        Some(many) => many,
+        Some(others) => others,
         None => None,
     }
 }
@@ -78,38 +90,40 @@ impl<A: Allocator + Copy> KeyMemory for OpenKeys<A> {
 
     ghost speaks_against = { λ key q. bytes_eq key q };
 
-    ghost is_against = { λ s n q. is_among (level_at n s.few) q
-        || is_among_many_at s.many (reverse s.outer.items) n q };
+    ghost is_against = { λ s n q. is_among (level_at n s.keys) q
+        || is_other_at s.others (reverse s.outer.items) n q };
 
     fn new(alloc: A) -> Self {
         OpenKeys {
             alloc,
-            few: NameStack::new(alloc),
-            many: None,
+            keys: NameStack::new(alloc),
+            others: None,
             outer: Vec::new(alloc),
         }
     }
 
     fn open(&mut self) -> Result<(), AllocError> {
-        self.few.open()?;
-        self.outer.push(mem::replace(&mut self.many, None))?;
+        self.keys.open()?;
+        self.outer.push(mem::replace(&mut self.others, None))?;
         Ok(())
     }
 
     fn close(&mut self) {
-        self.few.close();
-        self.many = pop_many(&mut self.outer);
+        self.keys.close();
+        self.others = pop_others(&mut self.outer);
     }
 
+    /// A key that ends a run begins the next, so that no run is gone through twice.
     fn remember(&mut self, key: &str) -> Result<(), AllocError> {
         let name = Name::of(self.alloc, key)?;
-        if self.many.is_none() && self.few.innermost().len() < FEW {
-            return self.few.push(name);
+        if self.keys.innermost().len() < FEW || self.keys.is_above(key) {
+            return self.keys.push(name);
         }
-        insert_among_many(self.alloc, &mut self.few, &mut self.many, name)
+        end_run(self.alloc, &mut self.keys, &mut self.others)?;
+        self.keys.push(name)
     }
 
     fn is_against(&self, key: &str) -> bool {
-        is_among(self.few.innermost(), key) || is_among_many(&self.many, key)
+        self.keys.has(key) || is_other(&self.others, key)
     }
 }
