@@ -45,7 +45,7 @@ pub struct DocumentReading<A: Allocator> {
 struct LineByLine<'a, A: Allocator + Copy> {
     marker: KeyMarker<A>,
     parser: SymbolParser<A>,
-    tree: TreeRules<'a, A>,
+    tree: TreeRules<A>,
     /// The latest line's lexemes with their marks, and what the parser told of them.
     symbols: Vec<Symbol, A>,
     outlines: Vec<Outline, A>,
@@ -94,7 +94,7 @@ fn read_keys<A: Allocator + Copy>(
 fn push_events<'a, A: Allocator + Copy>(
     lexemes: &[LexemeAtLine<'a, A>],
     outlines: &[Outline],
-    tree: &mut TreeRules<'a, A>,
+    tree: &mut TreeRules<A>,
 ) -> Result<(), AllocError>
     ensures { (es : List EventValue) (all : List FindingValue)
         → Finds tree.old (map (event_of_outline (map (λ x. lexeme_at_line x.line x.lexeme.now) lexemes.now)) outlines.now ++ es) all
@@ -213,7 +213,7 @@ fn read_lines<'a, A: Allocator + Copy>(
 
 /// The rules on keys and anchors before a document's first event: what they find is what its own events give, whatever documents came
 /// before.
-fn rules_at_start<'a, A: Allocator + Copy>(alloc: A, config: &Config) -> TreeRules<'a, A>
+fn rules_at_start<A: Allocator + Copy>(alloc: A, config: &Config) -> TreeRules<A>
     ensures { (es : List EventValue) → Finds result es (event_findings config.now es) }
 {
     TreeRules::new(alloc, &tree_options(config))
