@@ -13,6 +13,7 @@ ghost use Rattle.yl_scan.specs.State.{EqualsExactly};
 mod before;
 mod feeding;
 mod phase;
+mod quiet;
 mod room;
 mod scanner;
 mod state;

@@ -15,6 +15,7 @@ ghost use Rattle.yl_scan.specs.Step.{BeginsInText, at_end, state_by, step_value}
 use crate::before::state_before;
 use crate::feeding::{ended_text, fed_row};
 use crate::phase::{Phase, Reach};
+use crate::quiet::quiet_row;
 use crate::room::Room;
 use crate::state::LineState;
 use crate::step::Step;
@@ -139,6 +140,10 @@ impl<'a, A: Allocator + Copy> Scanner<'a, A> {
         ensures states { self.new.states ≡ self.old.states }
         ensures refused { self.new.refused ≡ self.old.refused }
     {
+        if let Some(step) = quiet_row(self.alloc, self.states, self.line, text, &self.resting) {
+            self.line += 1;
+            return Ok(step);
+        }
         characters_of(text, &mut self.characters)?;
         let before = state_before(
             self.states,
