@@ -11,6 +11,7 @@ ghost use Rattle.yl_scan.specs.Settled.{PutsLast, Settles, ToldInTurn, ToldMoves
 ghost use Rattle.yl_scan.specs.State.{EqualsExactly};
 
 mod before;
+mod comment;
 mod feeding;
 mod phase;
 mod quiet;
