@@ -1,7 +1,7 @@
 -- A document is judged line by line.
-use Rattle.std.proofs.Common.{◌≡◌, ◌<◌, ◌≤◌, ◌+◌, ◌-◌, ℕ, zero, suc, Bool, true, false, List, [], ◌∷◌, ◌++◌, Option, Some, None, length, map, take, drop, slice_get, refl, sym, ◌∙◌, ap, subst, append_assoc, append-nil, arith, inl, inr}
+use Rattle.std.proofs.Common.{◌≡◌, ◌<◌, ◌≤◌, ◌+◌, ℕ, zero, suc, Bool, List, [], ◌∷◌, ◌++◌, Option, Some, None, length, map, take, drop, refl, sym, ◌∙◌, ap, subst, append_assoc, append-nil, arith, inl}
 use Rattle.std.specs.Prelude.{IfSome, option_map}
-use Rattle.std.proofs.lemmas.List.{length-append, length-map, take-append-drop, take-append-le, take-map}
+use Rattle.std.proofs.lemmas.List.{length-append, length-map, take-append-drop, take-append-le}
 use Rattle.std.proofs.Math.Seq.{take-append-add}
 use Rattle.yl_text.specs.Finding.{FindingValue}
 use Rattle.yl_lexeme.specs.Lexeme.{LexemeValue}
@@ -9,7 +9,6 @@ use Rattle.yl_marks.specs.declared.facts.KeyFacts.{KeyFacts}
 use Rattle.yl_marks.specs.declared.symbol.Symbol.{Symbol}
 use Rattle.yl_marks.specs.declared.token.Token.{Token}
 use Rattle.yl_marks.specs.Keys.{token_of}
-use Rattle.yl_marks.specs.Facts.{key_facts}
 use Rattle.yl_marks.specs.Marks.{closings_of_all, marked_lexemes}
 use Rattle.yl_marks.specs.ByLine.{MarkerValue, by_line, marker_at_start, marks_by_lines, marks_of_line}
 use Rattle.yl_marks.specs.FactsByLine.{KeyMarkerValue, behind_keyed_line, facts_by_lines, facts_of_line, key_marker_at_start}
@@ -26,7 +25,7 @@ use Rattle.yl_events.specs.Trail.{TrailValue}
 use Rattle.yl_events.specs.Event.{EventValue, event_of_outline}
 use Rattle.yl_events.specs.Machine.{ParserState, run, taken_count}
 use Rattle.yl_events.specs.Named.{IsInLine, IsNamed, OnlyInnermostWaits, OutlinesName, SymbolsName, waiting_anchor}
-use Rattle.yl_events.specs.Seen.{HasLine, IsAnchorOf, LineValue, WaitingAnchorValue, event_seen}
+use Rattle.yl_events.specs.Seen.{HasLine, IsAnchorOf, LineValue, event_seen}
 use Rattle.yl_events.specs.Parsing.{IsOutcome, start_events}
 use Rattle.yl_events.specs.SymbolParsing.{SymbolParserValue, outcome_of_symbols, symbols_at_start}
 use Rattle.yl_events.proofs.Named.{Stepped, closings_named, line_named, outlines_of_both, run_named, steps_named}

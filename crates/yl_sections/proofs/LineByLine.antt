@@ -1,24 +1,18 @@
 -- A document is read line by line.
-use Rattle.std.specs.Prelude.{ℕ, suc, ◌==◌, Bool, true, false, is_some, ◌≡◌, ◌+◌, ◌<◌, ◌≤◌, nat_lt, List, [], ◌∷◌, ◌++◌, map, drop, length, Option, Some, None}
-use Rattle.std.specs.Prelude.{IfOk}
-use Rattle.std.proofs.Common.{Result, refl, ap, sym, subst, ◌∙◌, arith, append-nil, append_assoc, drop-cons, get_or}
-use Rattle.std.proofs.lemmas.Bool.{eqb-true, lt-ltb}
+use Rattle.std.specs.Prelude.{ℕ, suc, ◌≡◌, ◌+◌, ◌<◌, ◌≤◌, nat_lt, List, [], ◌∷◌, ◌++◌, map, drop, length, Option, Some, None}
+use Rattle.std.proofs.Common.{refl, ap, sym, subst, ◌∙◌, arith, append-nil, append_assoc, drop-cons, get_or}
+use Rattle.std.proofs.lemmas.Bool.{lt-ltb}
 use Rattle.std.proofs.lemmas.List.{drop_all, length-map, map-append}
-use Rattle.yl_text.specs.declared.finding.RuleId.TheVariants.{Indentation}
 use Rattle.yl_text.specs.Finding.{FindingValue}
 use Rattle.yl_lexeme.specs.Lexeme.{LexemeValue}
-use Rattle.yl_marks.specs.declared.facts.KeyFacts.{KeyFacts}
 use Rattle.yl_marks.specs.declared.symbol.OpenBlock.{OpenBlock}
 use Rattle.yl_marks.specs.declared.symbol.Symbol.{Symbol}
 use Rattle.yl_marks.specs.declared.token.Token.{Token}
 use Rattle.yl_marks.specs.Keys.{token_of}
-use Rattle.yl_marks.specs.Facts.{key_facts}
-use Rattle.yl_marks.specs.Marks.{closings_of_all, marked_lexemes}
-use Rattle.yl_marks.proofs.ByLines.{marked_by_lines}
-use Rattle.yl_marks.proofs.FactsByLines.{told_by_lines}
+use Rattle.yl_marks.specs.Marks.{closings_of_all}
 use Rattle.yl_marks.specs.ByLine.{HaveIndices, MarkerValue, behind_line, by_line, marker_at_start, marks_by_lines, marks_of_line}
-use Rattle.yl_marks.specs.FactsByLine.{KeyMarkerValue, behind_keyed_line, facts_by_lines, facts_of_line, key_marker_at_start}
-use Rattle.yl_marks.proofs.Indices.{indices_by_lines, indices_of_line, no_indices}
+use Rattle.yl_marks.specs.FactsByLine.{KeyMarkerValue, behind_keyed_line, key_marker_at_start}
+use Rattle.yl_marks.proofs.Indices.{indices_by_lines, indices_of_line}
 use Rattle.yl_events.specs.declared.fault.PlacedParseFault.{PlacedParseFault}
 use Rattle.yl_events.specs.declared.symbol.Outline.{Outline}
 use Rattle.yl_events.specs.declared.symbol.Shape.TheVariants.{DocumentEnd}
@@ -34,20 +28,16 @@ use Rattle.yl_events.proofs.Answered.{taken_within}
 use Rattle.yl_events.proofs.Counts.{all_closed_count}
 use Rattle.yl_events.proofs.ToldBehind.{fed_apart, symbols_behind}
 use Rattle.yl_indentation.specs.declared.fact.Fact.{Fact}
-use Rattle.yl_indentation.specs.Context.{ContextValue, nothing_open}
-use Rattle.yl_indentation.specs.Facts.{indent_facts}
+use Rattle.yl_indentation.specs.Context.{ContextValue}
 use Rattle.yl_indentation.specs.SymbolFacts.{behind_symbols, facts_left}
-use Rattle.yl_indentation.proofs.BySymbols.{as_counted, by_symbols, go_on, none_counts}
+use Rattle.yl_indentation.proofs.BySymbols.{as_counted, go_on, none_counts}
 use Rattle.yl_tree.specs.declared.tree_rules.TreeRules.{TreeRules}
 use Rattle.yl_tree.specs.declared.options.TreeOptions.{TreeOptions}
 use Rattle.yl_tree.specs.Tree.{tree_findings}
 use Rattle.yl_tree.specs.TreeRules.{Finds}
 use Rattle.yl_config.specs.declared.config.Config.{Config}
-use Rattle.yl_record.specs.Records.{RecordValue}
-use Rattle.yl_sections.specs.Sections.{lexemes_of}
-use Rattle.yl_sections.specs.Judge.{built_by, document_of, kept_of_section}
-use Rattle.yl_sections.specs.Kept.{BuiltValue, KeptValue, counted_of, event_findings, facts_of, is_on, items_if, kept_of, tree_options_of}
-use Rattle.yl_sections.proofs.Documents.{counted_within}
+use Rattle.yl_sections.specs.Judge.{built_by, document_of}
+use Rattle.yl_sections.specs.Kept.{BuiltValue, event_findings, tree_options_of}
 use Rattle.yl_sections.specs.Reading.{Ends, FindsAll, Gives, IsQuiet, ReadsOn, fault_told}
 use Rattle.yl_sections.proofs.FrontRows.{none_found}
 

@@ -1,9 +1,9 @@
 -- The lexemes of a line in those of its document.
-use Rattle.std.proofs.Common.{Result, Ok, Err, ◌≡◌, ◌≢◌, ◌==◌, ◌<◌, ◌≤◌, ◌+◌, ℕ, zero, suc, Bool, true, false, cond, List, [], ◌∷◌, ◌++◌, Option, Some, None, length, map, take, drop, slice_get, refl, sym, ◌∙◌, ap, subst, append_assoc, eq-eqb, arith, inl, inr}
-use Rattle.std.specs.Prelude.{slice_index, IfOk, IfSome, OnOk, option_map}
+use Rattle.std.proofs.Common.{Result, Ok, Err, ◌≡◌, ◌<◌, ◌+◌, ℕ, zero, suc, cond, List, [], ◌∷◌, ◌++◌, Option, Some, None, length, map, take, drop, slice_get, refl, sym, ◌∙◌, ap, eq-eqb, arith, inr}
+use Rattle.std.specs.Prelude.{slice_index, IfOk, IfSome, OnOk}
 use Rattle.std.specs.List.{AllByRecursion}
 use Rattle.std.proofs.lemmas.Bool.{ne_eqb}
-use Rattle.std.proofs.lemmas.List.{length-append, length-map, map-append, take-map}
+use Rattle.std.proofs.lemmas.List.{length-map, map-append, take-map}
 use Rattle.std.proofs.Math.Seq.{take-append_seam, drop-append_seam}
 use Rattle.yl_lexeme.specs.Lexeme.{LexemeValue}
 use Rattle.yl_marks.specs.declared.token.Token.{Token}
@@ -12,17 +12,16 @@ use Rattle.yl_marks.specs.declared.symbol.KeyedToken.{KeyedToken}
 use Rattle.yl_marks.specs.declared.symbol.Symbol.{Symbol}
 use Rattle.yl_marks.specs.declared.symbol.Symbol.TheVariants.{OpenSequence, OpenMapping, BeginKey, Close, One}
 use Rattle.yl_marks.specs.Keys.{token_of}
-use Rattle.yl_marks.specs.ByLine.{MarkerValue, by_line, keyed_tokens_of_line, marks_of_line}
+use Rattle.yl_marks.specs.ByLine.{by_line, keyed_tokens_of_line}
 use Rattle.yl_marks.specs.FactsByLine.{KeyMarkerValue, facts_ahead, facts_of_line, next_ahead}
 use Rattle.yl_marks.specs.Marks.{marking}
 use Rattle.yl_marks.proofs.Runs.{first_run, run_len}
-use Rattle.yl_events.specs.declared.symbol.Outline.{Outline}
-use Rattle.yl_events.specs.Named.{IsInLine, IsNamed, OutlinesName, SymbolNames, SymbolsName}
+use Rattle.yl_events.specs.Named.{IsNamed, SymbolsName}
 use Rattle.yl_events.specs.Seen.{HasLine}
 use Rattle.yl_events.proofs.Counts.{line_pieces_count}
 use Rattle.yl_indentation.specs.LineFacts as facts
 use Rattle.yl_indentation.specs.LineFacts.{AreIndented, BeginElsewhere, NameIndices}
-use Rattle.yl_sections.specs.Judging.{BeginIn, IsLine}
+use Rattle.yl_sections.specs.Judging.{BeginIn}
 
 -- ---- lists
 

@@ -1,22 +1,18 @@
 -- A section is judged row by row.
-use Rattle.std.proofs.Common.{◌≡◌, ◌≢◌, ◌<◌, ◌≤◌, ◌+◌, ◌-◌, ℕ, zero, suc, Bool, true, false, List, [], ◌∷◌, ◌++◌, Option, Some, None, length, map, take, drop, slice_get, refl, sym, ◌∙◌, ap, subst, append_assoc, append-nil, arith}
-use Rattle.std.specs.Prelude.{◌==◌, IfSome, option_map, option_and_then, slice_index}
+use Rattle.std.proofs.Common.{◌≡◌, ◌<◌, ◌+◌, ℕ, zero, suc, Bool, true, false, List, [], ◌∷◌, ◌++◌, Option, Some, None, length, map, slice_get, refl, sym, ◌∙◌, ap, subst, append_assoc, append-nil, arith}
+use Rattle.std.specs.Prelude.{◌==◌, option_map, option_and_then, slice_index}
 use Rattle.std.specs.Bool.{then_some}
 use Rattle.std.specs.List.{filter, flat_map}
-use Rattle.std.specs.Option.{option_map_or, option_or}
+use Rattle.std.specs.Option.{option_or}
 use Rattle.std.proofs.lemmas.Grind.{flat_map-append}
-use Rattle.std.proofs.lemmas.List.{length-append, length-map, map-append}
+use Rattle.std.proofs.lemmas.List.{length-append, length-map}
 use Rattle.std.proofs.lemmas.List.Elements.{filter-append}
-use Rattle.std.proofs.Math.Seq.{take-append_seam, take-length}
-use Rattle.yl_text.specs.declared.position.Pos.{Pos}
 use Rattle.yl_text.specs.declared.finding.RuleId.TheVariants.{Comments}
 use Rattle.yl_text.specs.Finding.{FindingValue}
 use Rattle.yl_lexeme.specs.Lexeme.{CommentValue, LexemeValue, PlacedCommentValue}
 use Rattle.yl_marks.specs.Keys.{lexeme_at_line, token_of}
 use Rattle.yl_events.specs.declared.fault.PlacedParseFault.{PlacedParseFault}
-use Rattle.yl_events.specs.Event.{start_at, start_of}
 use Rattle.yl_events.specs.Faults as parse
-use Rattle.yl_row.specs.declared.fault.PlacedScanFault.{PlacedScanFault}
 use Rattle.yl_rules.specs.Addressed.{is_addressed}
 use Rattle.yl_rules.specs.Comments.{comment_findings}
 use Rattle.yl_config.specs.declared.config.Config.{Config}
@@ -25,7 +21,7 @@ use Rattle.yl_indentation.specs.LineFacts.{BeginElsewhere}
 use Rattle.yl_record.specs.Records.{RecordValue}
 use Rattle.yl_sections.specs.declared.comments.CommentReader.{CommentReader}
 use Rattle.yl_sections.specs.declared.comments.LexemeEnd.{LexemeEnd}
-use Rattle.yl_sections.specs.Kept.{Behind, Here, SectionFaultValue, comment_at, comments_from, comment_lines, is_on, items_if, last_lexeme_end, scan_fault_at, scan_fault_from, section_fault, shown_comment_findings, shown_comments}
+use Rattle.yl_sections.specs.Kept.{Behind, Here, SectionFaultValue, comment_at, comments_from, is_on, items_if, last_lexeme_end, scan_fault_at, scan_fault_from, section_fault, shown_comment_findings}
 use Rattle.yl_sections.specs.Judging.{BeginIn, IsLine, ReadsComments, end_after, spaces_of, with_scan_fault}
 use Rattle.yl_sections.specs.Sections.{lexemes_from, lexemes_of}
 

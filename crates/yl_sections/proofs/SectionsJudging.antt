@@ -1,5 +1,5 @@
 -- Sections are judged one after another.
-use Rattle.std.proofs.Common.{◌≡◌, ◌+◌, ℕ, Bool, true, false, List, [], ◌∷◌, ◌++◌, Option, None, map, refl, sym, subst, ◌∙◌, ap, append_assoc, append-nil, arith}
+use Rattle.std.proofs.Common.{◌≡◌, ◌+◌, ℕ, Bool, true, false, List, [], ◌∷◌, ◌++◌, Option, map, refl, sym, subst, ◌∙◌, ap, append_assoc, append-nil, arith}
 use Rattle.std.proofs.lemmas.List.{map-append}
 use Rattle.yl_lexeme.specs.declared.lexeme.Kind.{Kind}
 use Rattle.yl_config.specs.declared.config.Config.{Config}
@@ -9,7 +9,7 @@ use Rattle.yl_sections.specs.declared.judging.SectionsJudge.{SectionsJudge}
 use Rattle.yl_sections.specs.declared.section_judge.SectionJudge.{SectionJudge}
 use Rattle.yl_sections.specs.Judging.{Judges, JudgesAll, with_front}
 use Rattle.yl_sections.specs.Kept.{KeptValue, document_count, documents_in}
-use Rattle.yl_sections.specs.Sections.{Parts, is_section_start, last_kind_from, lexemes_of, parts, sections, with_row}
+use Rattle.yl_sections.specs.Sections.{is_section_start, last_kind_from, lexemes_of, parts, sections, with_row}
 
 module _ (done : List (List RecordValue)) (here : List RecordValue) (last next : Option Kind) (r : RecordValue) (rs : List RecordValue) (kind : next ≡ last_kind_from last r.entry.lexemes)
     (whole : (more : List RecordValue) → done ++ with_front here (parts last more) ≡ sections (rs ++ more)) where

@@ -1,20 +1,19 @@
 -- How far the document of a section is, row by row.
-use Rattle.std.proofs.Common.{◌≡◌, ◌+◌, ◌<◌, ◌≤◌, ◌++◌, ◌∷◌, [], ℕ, zero, suc, Bool, true, false, List, Option, None, Some, ap, arith, length, map, refl, slice_get, subst, sym, take, ◌∙◌, append-nil, append_assoc}
+use Rattle.std.proofs.Common.{◌≡◌, ◌+◌, ◌<◌, ◌++◌, ◌∷◌, [], ℕ, Bool, true, false, List, Option, None, Some, ap, arith, length, map, refl, slice_get, subst, sym, take, ◌∙◌, append-nil, append_assoc}
 use Rattle.std.specs.Prelude.{◌==◌, IfSome, OnOk, if◌then◌else◌, option_map}
 use Rattle.std.proofs.lemmas.Bool.{eqb-true}
 use Rattle.yl_lexeme.specs.declared.meter.Meter.{Meter}
 use Rattle.std.proofs.Common.{Result, Ok, Err}
 use Rattle.std.specs.Option.{option_map_or, option_or}
-use Rattle.std.proofs.lemmas.List.{length-append, length-map, take-append-le}
+use Rattle.std.proofs.lemmas.List.{length-append, take-append-le}
 use Rattle.std.proofs.lemmas.Option.{slice_get_past}
 use Rattle.std.proofs.Math.Seq.{take-append_seam, take-length}
 use Rattle.yl_text.specs.declared.position.Pos.{Pos}
 use Rattle.yl_text.specs.Finding.{FindingValue}
-use Rattle.yl_lexeme.specs.Lexeme.{LexemeValue, PlacedCommentValue}
+use Rattle.yl_lexeme.specs.Lexeme.{LexemeValue}
 use Rattle.yl_marks.specs.Keys.{lexeme_at_line, token_of}
 use Rattle.yl_marks.specs.Marks.{marked_lexemes}
 use Rattle.yl_events.specs.declared.fault.PlacedParseFault.{PlacedParseFault}
-use Rattle.yl_events.specs.Event.{EventValue}
 use Rattle.yl_events.specs.Faults as parse
 use Rattle.yl_indentation.specs.Facts.{indent_facts}
 use Rattle.yl_layout.specs.Lexemes.{lexeme_findings}
@@ -23,21 +22,20 @@ use Rattle.yl_record.specs.Records.{RecordValue}
 use Rattle.yl_sections.specs.declared.comments.CommentReader.{CommentReader}
 use Rattle.yl_sections.specs.declared.document_judge.DocumentEnd.{DocumentEnd}
 use Rattle.yl_sections.specs.declared.document_judge.DocumentJudge.{DocumentJudge}
-use Rattle.yl_sections.specs.declared.fault.SectionFault.{SectionFault}
 use Rattle.yl_sections.specs.declared.fault.SectionFault.TheVariants as is
 use Rattle.yl_sections.specs.declared.section_judge.Stage.{Stage}
 use Rattle.yl_sections.specs.declared.section_judge.Stage.TheVariants.{Before, In, Stopped}
 use Rattle.yl_sections.specs.declared.section_judge.StoppedDocument.{StoppedDocument}
 use Rattle.yl_sections.specs.declared.section_judge.ToldDocument.{ToldDocument}
 use Rattle.yl_sections.specs.Judge.{document_of}
-use Rattle.yl_sections.specs.Judging.{EndsSo, IsAt, IsBegun, IsCommented, IsReady, KeepsComments, IsStopped, IsTold, Reads, ReadsComments, ReadsRow, ReadsRows, StopsIn, commented, first_column, has_begun, shows_comments, spaces_of}
-use Rattle.yl_sections.specs.Kept.{Behind, Here, SectionFaultValue, comment_lines, comments_from, counted_of, document_count, event_findings, lexeme_options_of, scan_fault_at, scan_fault_from, section_fault, shown_comments}
+use Rattle.yl_sections.specs.Judging.{EndsSo, IsAt, IsBegun, IsCommented, IsReady, KeepsComments, IsStopped, IsTold, Reads, ReadsComments, ReadsRows, StopsIn, commented, first_column, has_begun, shows_comments, spaces_of}
+use Rattle.yl_sections.specs.Kept.{Behind, Here, comment_lines, comments_from, counted_of, document_count, event_findings, lexeme_options_of, section_fault, shown_comments}
 use Rattle.yl_sections.specs.Owned.{section_fault_value}
 use Rattle.yl_sections.specs.Sections.{lexemes_from, lexemes_of}
 use Rattle.yl_sections.proofs.FrontRows.{none_found}
 use Rattle.yl_sections.proofs.LineByLine.{quiet_document}
 use Rattle.yl_sections.proofs.Lines.{get_before}
-use Rattle.yl_sections.proofs.RowJudging.{fault_of_both, lexemes_of_both, one_row, row_some}
+use Rattle.yl_sections.proofs.RowJudging.{lexemes_of_both, one_row, row_some}
 use Rattle.yl_sections.proofs.Sequence.{one_document}
 
 abbrev pub counted_if : Bool → ℕ → ℕ

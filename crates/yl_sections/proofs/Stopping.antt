@@ -1,20 +1,16 @@
 -- A document that has a fault at a lexeme of a row.
-use Rattle.std.proofs.Common.{◌≡◌, ◌+◌, ◌-◌, ◌<◌, ◌≤◌, ◌++◌, ◌∷◌, [], ℕ, List, Option, Some, ap, arith, length, map, slice_get, subst, sym, ◌∙◌}
+use Rattle.std.proofs.Common.{◌≡◌, ◌+◌, ◌-◌, ◌<◌, ◌++◌, ◌∷◌, [], ℕ, List, Some, ap, arith, length, map, slice_get, subst, sym, ◌∙◌}
 use Rattle.std.proofs.lemmas.List.{length-append}
 use Rattle.yl_text.specs.declared.position.Pos.{Pos}
 use Rattle.yl_lexeme.specs.Lexeme.{LexemeValue}
-use Rattle.yl_marks.specs.Keys.{lexeme_at_line, token_of}
-use Rattle.yl_marks.specs.Marks.{marked_lexemes}
+use Rattle.yl_marks.specs.Keys.{lexeme_at_line}
 use Rattle.yl_events.specs.declared.fault.PlacedParseFault.{PlacedParseFault}
 use Rattle.yl_events.specs.Event.{start_at, start_of}
 use Rattle.yl_events.specs.Faults as parse
-use Rattle.yl_indentation.specs.Facts.{indent_facts}
-use Rattle.yl_layout.specs.Lexemes.{lexeme_findings}
 use Rattle.yl_config.specs.declared.config.Config.{Config}
 use Rattle.yl_record.specs.Records.{RecordValue}
 use Rattle.yl_sections.specs.declared.document_judge.DocumentJudge.{DocumentJudge}
 use Rattle.yl_sections.specs.declared.section_judge.StoppedDocument.{StoppedDocument}
-use Rattle.yl_sections.specs.Kept.{lexeme_options_of}
 use Rattle.yl_sections.specs.Judging.{IsLine, IsStopped, Reads, ReadsRows, Stops, StopsIn, spaces_of}
 use Rattle.yl_sections.specs.Sections.{lexemes_from, lexemes_of}
 use Rattle.yl_sections.proofs.Lines.{has_line}

@@ -1,8 +1,8 @@
 -- Bridge: a section that is judged row by row: what is known of it before the rows that are to come.
-use Rattle.std.specs.Prelude.{◌≡◌, ◌≤◌, ◌<◌, ◌+◌, ◌++◌, ℕ, Bool, true, false, ◌==◌, List, [], ◌∷◌, map, length, take, drop, Option, Some, None, IfSome, slice_get, slice_index, option_map}
+use Rattle.std.specs.Prelude.{◌≡◌, ◌≤◌, ◌<◌, ◌+◌, ◌++◌, ℕ, Bool, true, false, List, [], ◌∷◌, map, length, take, Option, Some, None, IfSome, slice_get, slice_index, option_map}
 use Rattle.std.specs.List.{filter}
 use Rattle.std.specs.Option.{option_map_or, option_or}
-use Rattle.yl_lexeme.specs.Lexeme.{LexemeValue, PlacedCommentValue}
+use Rattle.yl_lexeme.specs.Lexeme.{LexemeValue}
 use Rattle.yl_marks.specs.Keys.{token_of}
 use Rattle.yl_marks.specs.Marks.{marked_lexemes}
 use Rattle.yl_marks.specs.ByLine.{by_line, marks_by_lines}

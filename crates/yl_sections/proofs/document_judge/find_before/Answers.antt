@@ -4,7 +4,6 @@ use Rattle.yl_lexeme.specs.declared.lexeme.LexemeAtLine.{LexemeAtLine}
 use Rattle.yl_lexeme.specs.Lexeme.{LexemeValue}
 use Rattle.yl_marks.specs.declared.facts.KeyFacts.{KeyFacts}
 use Rattle.yl_marks.specs.Keys.{lexeme_at_line}
-use Rattle.yl_text.specs.Finding.{FindingValue}
 use Rattle.yl_layout.specs.LexemesLeft.{IsVersion, lexemes_left}
 use Rattle.yl_sections.proofs.Lines.{front_mapped, on_ok}
 use Rattle.yl_sections.proofs.document_judge.find_before.Goals as goal

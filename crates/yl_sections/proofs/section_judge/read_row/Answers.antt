@@ -1,11 +1,10 @@
-use Rattle.std.proofs.Common.{◌≡◌, ◌+◌, ◌-◌, ◌<◌, ◌++◌, ◌∙◌, ◌∷◌, [], ℕ, List, None, Option, Some, ap, arith, length, map, slice_get, subst, sym}
-use Rattle.std.proofs.lemmas.List.{length-append, length-map}
+use Rattle.std.proofs.Common.{◌≡◌, ◌+◌, ◌-◌, ◌++◌, ◌∙◌, ◌∷◌, List, Option, ap, length, map, subst, sym}
+use Rattle.std.proofs.lemmas.List.{length-map}
 use Rattle.yl_lexeme.specs.declared.lexeme.LexemeAtLine.{LexemeAtLine}
 use Rattle.yl_lexeme.specs.Lexeme.{LexemeValue}
 use Rattle.yl_marks.specs.Keys.{lexeme_at_line}
 use Rattle.yl_events.specs.declared.fault.PlacedParseFault.{PlacedParseFault}
 use Rattle.yl_events.specs.Event.{start_at}
-use Rattle.yl_record.specs.Records.{RecordValue}
 use Rattle.yl_sections.specs.Judging.{Reads, ReadsLine, spaces_of}
 use Rattle.yl_sections.specs.Sections.{lexemes_from, lexemes_of}
 use Rattle.yl_sections.proofs.Stopping.{stopped_in}

@@ -1,9 +1,7 @@
-use Rattle.std.proofs.Common.{◌≡◌, ◌++◌, ◌∙◌, ◌∷◌, [], List, Option, Some, ap, append-nil, sym}
-use Rattle.std.specs.List.{filter}
+use Rattle.std.proofs.Common.{◌≡◌, ◌++◌, ◌∙◌, ◌∷◌, [], List, Some, ap, append-nil, sym}
 use Rattle.std.specs.Prelude.{option_map}
 use Rattle.yl_text.specs.Finding.{FindingValue}
-use Rattle.yl_lexeme.specs.Lexeme.{CommentValue, LexemeValue, PlacedCommentValue}
-use Rattle.yl_rules.specs.Addressed.{is_addressed}
+use Rattle.yl_lexeme.specs.Lexeme.{LexemeValue, PlacedCommentValue}
 use Rattle.yl_sections.specs.Kept.{last_lexeme_end}
 use Rattle.yl_sections.proofs.Lines.{on_ok}
 use Rattle.yl_sections.proofs.RowJudging.{comment_is, comments_more, no_comment, none_shown}

@@ -1,4 +1,4 @@
-use Rattle.std.proofs.Common.{◌≡◌, ◌+◌, ◌++◌, ◌∙◌, [], List, ap, arith, map, refl, sym, take}
+use Rattle.std.proofs.Common.{◌+◌, ◌++◌, ◌∙◌, [], List, ap, arith, map, refl, take}
 use Rattle.yl_text.specs.Finding.{FindingValue}
 use Rattle.yl_indentation.specs.declared.fact.Fact.{Fact}
 use Rattle.yl_indentation.specs.SymbolFacts.{facts_left}

@@ -1,7 +1,4 @@
-use Rattle.std.proofs.Common.{[], ◌∙◌, ◌+◌, ◌++◌, List, ap, arith, length, map}
-use Rattle.yl_text.specs.Finding.{FindingValue}
-use Rattle.yl_marks.specs.ByLine.{by_line}
-use Rattle.yl_marks.specs.FactsByLine.{facts_by_lines}
+use Rattle.std.proofs.Common.{[], ◌∙◌, ◌+◌, ◌++◌, ap, arith, length, map}
 use Rattle.yl_marks.specs.Keys.{token_of}
 use Rattle.yl_layout.specs.declared.options.LexemeOptions.{LexemeOptions}
 use Rattle.yl_layout.specs.Lexemes.{lexeme_findings}

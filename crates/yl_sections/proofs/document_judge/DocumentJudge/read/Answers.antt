@@ -1,16 +1,14 @@
-use Rattle.std.proofs.Common.{◌≡◌, ◌+◌, ◌-◌, ◌≤◌, ◌<◌, ◌++◌, ◌∙◌, [], ℕ, List, None, Option, Some, append_assoc, ap, arith, length, map, refl, subst, sym, take}
+use Rattle.std.proofs.Common.{◌≡◌, ◌+◌, ◌-◌, ◌≤◌, ◌<◌, ◌++◌, ◌∙◌, [], List, Option, append_assoc, ap, arith, length, map, refl, subst, sym, take}
 use Rattle.std.specs.Prelude.{IfSome, option_map}
 use Rattle.std.proofs.lemmas.List.{length-append, length-map}
 use Rattle.yl_lexeme.specs.declared.lexeme.LexemeAtLine.{LexemeAtLine}
 use Rattle.yl_lexeme.specs.Lexeme.{LexemeValue}
-use Rattle.yl_text.specs.Finding.{FindingValue}
 use Rattle.yl_marks.specs.declared.facts.KeyFacts.{KeyFacts}
 use Rattle.yl_marks.specs.declared.symbol.Symbol.{Symbol}
 use Rattle.yl_marks.specs.FactsByLine.{KeyMarkerValue}
 use Rattle.yl_marks.specs.ByLine.{by_line, marks_of_line}
 use Rattle.yl_marks.specs.Keys.{lexeme_at_line, token_of}
 use Rattle.yl_events.specs.declared.fault.PlacedParseFault.{PlacedParseFault}
-use Rattle.yl_events.specs.DocumentOutcome.{Fails}
 use Rattle.yl_events.specs.Named.{waiting_anchor}
 use Rattle.yl_events.specs.Seen.{IsAnchorOf}
 use Rattle.yl_events.specs.SymbolParsing.{FeedsSymbols, outcome_of_symbols}
@@ -20,7 +18,6 @@ use Rattle.yl_layout.specs.declared.options.LexemeOptions.{LexemeOptions}
 use Rattle.yl_layout.specs.LexemesLeft.{lexemes_left}
 use Rattle.yl_layout.specs.Version.{is_1_2_document}
 use Rattle.yl_sections.specs.Judge.{document_of}
-use Rattle.yl_sections.specs.Kept.{lexeme_options_of}
 use Rattle.yl_sections.specs.Reading.{counted_in}
 use Rattle.yl_sections.proofs.DocumentJudging.{cut, fed, found_on, found_stop, held_anchor, held_index, indices_of, stepped}
 use Rattle.yl_sections.proofs.LineByLine.{facts_on, facts_stop, line_counted, line_read, tokens_long, told_on, told_stop}

@@ -1,4 +1,4 @@
-use Rattle.std.proofs.Common.{true, ◌<◌, ◌≤◌, ◌+◌, ◌++◌, ◌∙◌, ap, subst, List, map, length}
+use Rattle.std.proofs.Common.{true, ◌<◌, ◌≤◌, ◌+◌, ◌++◌, ◌∙◌, ap, subst, List, map}
 use Rattle.std.specs.Prelude.{IfOk, IfSome}
 use Rattle.yl_marks.specs.declared.symbol.Symbol.{Symbol}
 use Rattle.yl_marks.specs.ByLine.{marks_of_line}

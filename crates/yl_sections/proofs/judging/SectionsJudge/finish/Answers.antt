@@ -1,4 +1,3 @@
-use Rattle.yl_sections.specs.Judge.{kept_of_section}
 use Rattle.yl_sections.proofs.SectionsJudging.{all_kept, kept_turned}
 use Rattle.yl_sections.proofs.judging.SectionsJudge.finish.Goals as goal
 

@@ -1,4 +1,4 @@
-use Rattle.std.proofs.Common.{◌≡◌, ◌+◌, ◌++◌, ◌∷◌, ◌∙◌, [], Bool, true, false, List, ap, arith, refl, subst, sym}
+use Rattle.std.proofs.Common.{◌∙◌, List, ap}
 use Rattle.yl_lexeme.specs.Lexeme.{LexemeValue}
 use Rattle.yl_sections.specs.Sections.{is_section_start, last_kind_from}
 use Rattle.yl_sections.proofs.SectionsJudging.{counted_next, judged_next}

@@ -1,13 +1,12 @@
-use Rattle.std.proofs.Common.{◌++◌, ◌∙◌, List, None, ap, append_assoc, length, refl, sym}
+use Rattle.std.proofs.Common.{◌++◌, ◌∙◌, List, ap, append_assoc, length, refl, sym}
 use Rattle.std.specs.Prelude.{option_map}
 use Rattle.yl_text.specs.Finding.{FindingValue}
 use Rattle.yl_text.specs.declared.finding.RuleId.TheVariants.{Indentation}
 use Rattle.yl_lexeme.specs.Lexeme.{PlacedCommentValue}
-use Rattle.yl_indentation.specs.declared.fact.Fact.{Fact}
 use Rattle.yl_layout.specs.Lexemes.{lexeme_findings}
 use Rattle.yl_sections.specs.Judge.{document_of}
 use Rattle.yl_sections.specs.Judging.{with_scan_fault}
-use Rattle.yl_sections.specs.Kept.{SectionFaultValue, comment_lines, counted_of, event_findings, hidden_events, is_on, items_if, lexeme_options_of, section_fault, shown_comment_findings, shown_comments, unless_fault}
+use Rattle.yl_sections.specs.Kept.{comment_lines, counted_of, hidden_events, is_on, items_if, lexeme_options_of, shown_comment_findings, shown_comments, unless_fault}
 use Rattle.yl_sections.specs.Owned.{section_fault_value}
 use Rattle.yl_sections.specs.Sections.{lexemes_of}
 use Rattle.yl_sections.proofs.Assembled.{kept_is, kept_so}

@@ -1,15 +1,11 @@
-use Rattle.std.proofs.Common.{Option, Some, [], ap, append-nil, refl, subst, sym, ◌<◌, ◌∙◌, List, length}
-use Rattle.std.specs.Prelude.{option_map}
-use Rattle.yl_events.specs.declared.fault.PlacedParseFault.{PlacedParseFault}
-use Rattle.yl_events.specs.Faults.{fault_text}
+use Rattle.std.proofs.Common.{Some, [], append-nil, refl, subst, sym, ◌<◌, List, length}
 use Rattle.yl_sections.specs.declared.fault.SectionFault.TheVariants as is
 use Rattle.yl_sections.specs.declared.section_judge.ToldDocument.{ToldDocument}
 use Rattle.yl_record.specs.Records.{RecordValue}
 use Rattle.yl_sections.specs.declared.section_judge.Stage.{Stage}
 use Rattle.yl_sections.specs.Judging.{IsAt, IsTold, Reads, spaces_of}
-use Rattle.yl_sections.specs.Kept.{Behind}
 use Rattle.yl_sections.specs.Sections.{lexemes_of}
-use Rattle.yl_sections.proofs.Staging.{told_in, told_none, told_stopped}
+use Rattle.yl_sections.proofs.Staging.{told_in, told_stopped}
 use Rattle.yl_sections.proofs.section_judge.Stage.finish.Goals as goal
 
 pub returns-in_ok-found-in-In : goal.returns-in_ok-found-in-In
