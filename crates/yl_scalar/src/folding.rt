@@ -1,5 +1,6 @@
 //! What breaks stand for, and values as text.
 ghost use Rattle.std.specs.Prelude.{◌≡◌, ◌++◌, ◌↔◌, ◌∷◌, [], None, IfOk, IsTrue, length, string_bytes};
+ghost use Rattle.std.specs.Char.{len_utf8};
 ghost use Rattle.std.specs.Str.{chars, encode_utf8_all, IsAscii};
 ghost use Rattle.yl_scalar.specs.Folding.{joint};
 
@@ -61,13 +62,20 @@ fn add<A: Allocator>(value: &mut String<A>, c: char) -> Result<(), AllocError>
     Ok(())
 }
 
+/// How many bytes the character takes in UTF-8. It is a sum, so that those of several characters are found at once.
+fn char_len(c: char) -> usize
+    ensures { result ≡ len_utf8 c }
+{
+    1 + (c >= '\u{80}') as usize + (c >= '\u{800}') as usize + (c >= '\u{10000}') as usize
+}
+
 /// How many bytes the characters take in UTF-8.
 fn utf8_len(characters: &[char]) -> usize
     ensures { result ≡ length (encode_utf8_all characters.now) }
 {
     let mut len = 0;
     for c in characters {
-        len += c.len_utf8();
+        len += char_len(*c);
     }
     len
 }

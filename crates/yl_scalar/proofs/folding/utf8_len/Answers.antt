@@ -1,5 +1,6 @@
 use Rattle.std.proofs.Common.{◌≡◌, ◌+◌, ◌≤◌, ◌*◌, length, take, get_or, ap, sym, arith}
 use Rattle.std.proofs.lemmas.List.{get_or_read}
+use Rattle.std.proofs.lemmas.Str.{length-encode, len_utf8_bounds}
 use Rattle.std.specs.Char.{encode_utf8}
 use Rattle.std.specs.Str.{encode_utf8_all}
 use Rattle.yl_scalar.proofs.Encodes.{length_more}
@@ -11,8 +12,9 @@ loop-c-preserved c =
     let i = c.loop-c.c-index in
     let more = length_more cs i (omega arith) in
     let item : get_or cs i 0 ≡ c.c-item.result = sym (get_or_read cs i _ (omega arith) c.c-item.is 0) in
+    let bounds = len_utf8_bounds c.c-item.result in
     let own : length (encode_utf8 (get_or cs i 0)) ≡ length (encode_utf8 c.c-item.result) = ap (λ x. length (encode_utf8 x)) item in
     record {
-      bytes = omega (arith, more, own, c.loop-c.invariant.bytes, c.len_utf8-len.ensures.len);
-      most = omega (arith, c.loop-c.invariant.most, c.len_utf8-len.ensures.upper_bound);
+      bytes = omega (arith, more, own, c.loop-c.invariant.bytes, c.char_len-len.ensures, length-encode c.c-item.result);
+      most = omega (arith, c.loop-c.invariant.most, c.char_len-len.ensures, bounds.1);
     }
