@@ -90,7 +90,7 @@ fault_inside xs i f = let inside : i ≤ lexeme_count (symbols_of_lexemes xs) = 
 
 -- ---- a line's lexemes
 
-line_pieces_count : (count depth : ℕ) (latest : Option KeyedToken) (line : List (Spot KeyStart)) (xs : List Token) → length (line_pieces count depth latest line xs) ≡ length xs
+pub line_pieces_count : (count depth : ℕ) (latest : Option KeyedToken) (line : List (Spot KeyStart)) (xs : List Token) → length (line_pieces count depth latest line xs) ≡ length xs
 line_pieces_count count depth latest line [] = refl
 line_pieces_count count depth latest line (x ∷ xs) = ap suc (line_pieces_count (suc count) _ _ _ xs)
 

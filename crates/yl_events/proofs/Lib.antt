@@ -9,5 +9,7 @@ pub mod Trails
 pub mod Parts
 pub mod Lines
 pub mod ToldBehind
+pub mod Named
+pub mod Seen
 pub mod Giving
 mod Examples

@@ -1,9 +1,10 @@
 -- A document is parsed line by line.
-use Rattle.std.specs.Prelude.{ℕ, ◌≡◌, ◌+◌, refl, Bool, true, false, List, [], ◌∷◌, ◌++◌, reverse, Option, Some, None}
+use Rattle.std.specs.Prelude.{ℕ, ◌≡◌, ◌≤◌, ◌<◌, ◌+◌, refl, Bool, true, false, List, [], ◌∷◌, ◌++◌, reverse, Option, Some, None}
 use Rattle.std.proofs.Common.{sym, ◌∙◌, ap, subst, append-nil, arith}
 use Rattle.yl_marks.specs.declared.token.Token.{Token}
 use Rattle.yl_marks.specs.declared.symbol.Symbol.{Symbol}
 use Rattle.yl_marks.specs.ByLine.{MarkerValue, marks_of_line, behind_line, marks_by_lines}
+use Rattle.yl_events.specs.declared.fault.ParseFault.{ParseFault}
 use Rattle.yl_events.specs.declared.fault.PlacedParseFault.{PlacedParseFault}
 use Rattle.yl_events.specs.declared.symbol.Goal.{Goal}
 use Rattle.yl_events.specs.declared.symbol.Outline.{Outline}
@@ -17,7 +18,7 @@ use Rattle.yl_events.specs.SymbolParsing.{SymbolParserValue, outcome_of_symbols,
 use Rattle.yl_events.specs.Outlines.{end_event}
 use Rattle.yl_events.specs.declared.symbol.Shape.TheVariants.{DocumentEnd}
 use Rattle.yl_events.proofs.Counts.{line_count}
-use Rattle.yl_events.proofs.Parts.{run_parts, taken_parts, told_on, told_stop}
+use Rattle.yl_events.proofs.Parts.{run_parts, taken_less, taken_parts, told_on, told_stop}
 
 -- ---- some symbols
 
@@ -38,6 +39,18 @@ fed_fault p count out ws (Some n) gs es place f whole h is e later =
     told_stop p.trail count p.goals out ws later whole h.0
     ∙ ap (λ j. Fails (record { kind = fault_from p.trail j ws; place = count + j })) (sym h.1 ∙ same)
     ∙ ap Fails (sym e)
+
+-- a fault stands at one of the lexemes
+pub fed_inside : (count : ℕ) (goals : List Goal) (out : List Outline) (ws : List Symbol) (answer : Option ℕ) (gs : List Goal) (es : List Outline) (place : ℕ) (f : PlacedParseFault) (kind : ParseFault) →
+    is_whole true ws ≡ true → Walked (steps ws goals out) (taken_count ws goals out) answer gs es → answer ≡ Some place →
+    f ≡ record { kind = kind; place = count + place } → (count ≤ f.place) × (f.place < count + lexeme_count ws)
+fed_inside count goals out ws None gs es place f kind whole h is e = cc
+fed_inside count goals out ws (Some n) gs es place f kind whole h is e =
+    let same : n ≡ place = cc in
+    let at : f.place ≡ count + place = ap (λ (g : PlacedParseFault). g.place) e in
+    let less : taken_count ws goals out < lexeme_count ws = taken_less true ws goals out whole h.0 in
+    let taken : n ≡ taken_count ws goals out = h.1 in
+    (omega (arith, at), omega (arith, at, same, taken, less))
 
 -- ---- a line
 

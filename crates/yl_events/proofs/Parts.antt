@@ -73,7 +73,7 @@ less_on w ws None next part some h e = some
 less_on (One kind i) ws (Some t) next part some h e = omega (arith, h t e)
 less_on w ws (Some t) next part some h e = h t e
 
-taken_less : (b : Bool) (ws : List Symbol) (goals : List Goal) (out : List Outline) → is_whole b ws ≡ true → steps ws goals out ≡ None →
+pub taken_less : (b : Bool) (ws : List Symbol) (goals : List Goal) (out : List Outline) → is_whole b ws ≡ true → steps ws goals out ≡ None →
     taken_count ws goals out < lexeme_count ws
 taken_less b [] goals out whole e = cc
 taken_less b (One kind i ∷ ws) goals out whole e =

@@ -11,3 +11,5 @@ pub mod Event
 pub mod Built
 pub mod Parsing
 pub mod SymbolParsing
+pub mod Named
+pub mod Seen

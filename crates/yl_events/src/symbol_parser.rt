@@ -1,8 +1,9 @@
 //! A document is parsed as its symbols come.
 
-ghost use Rattle.std.specs.Prelude.{◌≡◌, ◌<◌, ◌++◌, ◌+◌, ◌-◌, ◌^◌, true, reverse, OnOk, IfOk};
+ghost use Rattle.std.specs.Prelude.{◌≡◌, ◌≤◌, ◌<◌, ◌++◌, ◌+◌, ◌-◌, ◌^◌, true, reverse, None, Some, OnOk, IfOk, IfSome};
 ghost use Rattle.yl_events.specs.Derives.{lexeme_count};
-ghost use Rattle.yl_events.specs.DocumentOutcome.{AnswersDocument};
+ghost use Rattle.yl_events.specs.DocumentOutcome.{AnswersDocument, steps};
+ghost use Rattle.yl_events.specs.Named.{anchor_among, waiting_anchor};
 ghost use Rattle.yl_events.specs.Machine.{run, taken_count};
 ghost use Rattle.yl_events.specs.Parsing.{start_events, IsOutcome};
 ghost use Rattle.yl_events.specs.SymbolParsing.{no_symbols, symbols_at_start, outcome_of_symbols, is_whole, FeedsSymbols};
@@ -10,7 +11,7 @@ ghost use Rattle.yl_events.specs.Trail.{fault_from};
 
 use crate::fault::PlacedParseFault;
 use crate::machine::{bare, finish, walk};
-use crate::symbol::{Goal, Outline, Shape, Where};
+use crate::symbol::{Goal, Outline, Properties, Shape, Where};
 use crate::trail::Trail;
 use std::alloc::{AllocError, Allocator};
 use std::marker::Model;
@@ -81,7 +82,9 @@ impl<A: Allocator + Copy> SymbolParser<A> {
         outlines: &mut Vec<Outline, A>,
     ) -> Result<Option<PlacedParseFault>, AllocError>
         requires { is_whole true symbols.now ≡ true }
-        ensures { IfOk result (λ fault. FeedsSymbols self.old first outlines.old.items symbols.now fault self.new outlines.new.items) }
+        ensures told { IfOk result (λ fault. FeedsSymbols self.old first outlines.old.items symbols.now fault self.new outlines.new.items) }
+        ensures inside { IfOk result (λ fault. IfSome fault (λ f. (first ≤ f.place) × (f.place < first + lexeme_count symbols.now))) }
+        ensures steps { IfOk result (λ fault. fault ≡ None → steps symbols.now self.old.goals outlines.old.items ≡ Some (record { goals = self.new.goals; events = outlines.new.items })) }
     {
         match walk(symbols, &mut self.goals, outlines)? {
             None => {
@@ -92,6 +95,16 @@ impl<A: Allocator + Copy> SymbolParser<A> {
                 let fault = fault_at(&mut self.trail, first, place, symbols)?;
                 Ok(Some(fault))
             }
+        }
+    }
+
+    /// The anchor that waits for its node, if one does, by its index among the document's lexemes.
+    pub fn waiting(&self) -> Option<u32>
+        ensures { result ≡ waiting_anchor self.now.goals }
+    {
+        match &self.goals[..] {
+            [.., Goal::Formed(_, properties)] => anchor_among(*properties),
+            _ => None,
         }
     }
 
@@ -116,6 +129,18 @@ impl<A: Allocator + Copy> SymbolParser<A> {
                 Ok(Some(fault))
             }
         }
+    }
+}
+
+/// The anchor among properties.
+fn anchor_among(properties: Option<Properties>) -> Option<u32>
+    ensures { result ≡ anchor_among properties }
+{
+    match properties {
+        None | Some(Properties::Tagged(_)) => None,
+        Some(Properties::Anchored(anchor))
+        | Some(Properties::AnchoredTagged(anchor, _))
+        | Some(Properties::TaggedAnchored(_, anchor)) => Some(anchor),
     }
 }
 

@@ -4,5 +4,7 @@ pub mod Own
 pub mod LookBack
 pub mod SlimElements
 pub mod BySymbols
+pub mod LineFacts
+pub mod NamedIndices
 pub mod Places
 pub mod Examples

@@ -8,3 +8,4 @@ pub mod Problems
 pub mod Onward
 pub mod Laws
 pub mod SymbolFacts
+pub mod LineFacts

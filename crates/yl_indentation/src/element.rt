@@ -1,10 +1,11 @@
 //! The elements of a document: its lexemes, each with what stands around it, and the marks
 //! between them.
-ghost use Rattle.std.specs.Prelude.{◌≡◌, ◌<◌, ◌+◌, map, length, slice_get, slice_index};
+ghost use Rattle.std.specs.Prelude.{◌≡◌, ◌<◌, ◌+◌, ◌-◌, None, map, length, nat_lt, slice_get, slice_index};
 ghost use Rattle.yl_marks.specs.Keys.{lexeme_at_line, token_of};
 ghost use Rattle.yl_indentation.specs.Elements.{element_of, element_at, lexeme_element};
 ghost use Rattle.yl_indentation.specs.SlimElements.{slim_element};
 ghost use Rattle.yl_indentation.specs.SymbolFacts.{element_of_symbol};
+ghost use Rattle.yl_indentation.specs.LineFacts.{element_in_line, lexeme_in_line};
 
 use std::alloc::Allocator;
 use yl_lexeme::{Kind, LexemeAtLine};
@@ -71,6 +72,18 @@ fn element_at(site: Site) -> Element
     }
 }
 
+/// The element of a lexeme without what stands around it.
+fn alone(token: Token, counts: bool) -> Element
+    ensures { result ≡ element_at token.kind (record { token = token; next = None; indentation = 0; counts = counts }) }
+{
+    element_at(Site {
+        token,
+        next: None,
+        indentation: 0,
+        counts,
+    })
+}
+
 /// The element of the lexeme of this index. What stands around it is looked at only where it opens
 /// brackets: of no other element is it asked.
 fn element_of_lexeme<A: Allocator>(
@@ -89,12 +102,7 @@ fn element_of_lexeme<A: Allocator>(
     };
     let counts = i < counted;
     if !token.kind.is_opening() {
-        return element_at(Site {
-            token,
-            next: None,
-            indentation: 0,
-            counts,
-        });
+        return alone(token, counts);
     }
     Element::OpeningBracket(Site {
         token,
@@ -147,5 +155,64 @@ pub fn element_of_symbol<A: Allocator>(
         Symbol::BeginKey(_) => None,
         Symbol::Close => Some(Element::Closing),
         Symbol::One(_, i) => Some(element_of_lexeme(lexemes, counted, indentations, i as usize)),
+    }
+}
+
+/// The element of the lexeme of this index in a line that begins with so many spaces. What stands around it is looked at only where it
+/// opens brackets: the lexeme after it in the line, and these spaces.
+fn lexeme_in_line<A: Allocator>(
+    line: &[LexemeAtLine<'_, A>],
+    i: usize,
+    counts: bool,
+    indentation: u32,
+) -> Element
+    ensures { result ≡ slim_element (lexeme_in_line
+        (map token_of (map (λ x. lexeme_at_line x.line x.lexeme.now) line.now)) i counts indentation (slice_get
+        (map token_of (map (λ x. lexeme_at_line x.line x.lexeme.now) line.now)) i)) }
+{
+    let Some(token) = token_at(line, i) else {
+        return Element::Nothing;
+    };
+    if !token.kind.is_opening() {
+        return alone(token, counts);
+    }
+    Element::OpeningBracket(Site {
+        token,
+        next: token_at(line, i.saturating_add(1)),
+        indentation,
+        counts,
+    })
+}
+
+/// The element of a symbol of a line that begins with so many spaces, as far as it is asked for, where `first` lexemes stand before the
+/// line's. That a key begins is none.
+pub fn element_in_line<A: Allocator>(
+    line: &[LexemeAtLine<'_, A>],
+    first: usize,
+    counted: usize,
+    indentation: u32,
+    symbol: Symbol,
+) -> Option<Element>
+    ensures { result ≡ element_in_line
+        (map token_of (map (λ x. lexeme_at_line x.line x.lexeme.now) line.now))
+        first counted indentation symbol }
+{
+    match symbol {
+        Symbol::OpenSequence(i) => Some(Element::Opening(
+            Collection::Sequence,
+            column_at(line, (i as usize).saturating_sub(first)),
+        )),
+        Symbol::OpenMapping(i) => Some(Element::Opening(
+            Collection::Mapping,
+            column_at(line, (i as usize).saturating_sub(first)),
+        )),
+        Symbol::BeginKey(_) => None,
+        Symbol::Close => Some(Element::Closing),
+        Symbol::One(_, i) => Some(lexeme_in_line(
+            line,
+            (i as usize).saturating_sub(first),
+            (i as usize) < counted,
+            indentation,
+        )),
     }
 }

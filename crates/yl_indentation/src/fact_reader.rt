@@ -1,11 +1,13 @@
 //! The checked places of a document, as its symbols come.
-ghost use Rattle.std.specs.Prelude.{◌≡◌, ◌++◌, map, OnOk};
+ghost use Rattle.std.specs.Prelude.{◌≡◌, ◌≤◌, ◌<◌, ◌+◌, ◌++◌, ℕ, List, length, map, OnOk};
+ghost use Rattle.yl_marks.specs.declared.token.Token.{Token};
 ghost use Rattle.yl_marks.specs.Keys.{lexeme_at_line, token_of};
 ghost use Rattle.yl_indentation.specs.Context.{nothing_open};
-ghost use Rattle.yl_indentation.specs.SymbolFacts.{behind_symbol, behind_symbols, element_of_symbol, facts_if, facts_left, CountedAsFarAsAsked, FactsAreBySymbols, FactsGoOn, NoneBehindTheCounted};
+ghost use Rattle.yl_indentation.specs.LineFacts.{element_in_line, AreIndented, IsLine, NameIndices};
+ghost use Rattle.yl_indentation.specs.SymbolFacts.{after_if, behind_symbol, behind_symbols, element_of_symbol, facts_if, facts_left, CountedAsFarAsAsked, FactsAreBySymbols, FactsGoOn, NoneBehindTheCounted};
 
 use crate::context::Context;
-use crate::element::element_of_symbol;
+use crate::element::{element_in_line, element_of_symbol};
 use crate::fact::Fact;
 use crate::facts::push_fact;
 use std::alloc::{AllocError, Allocator};
@@ -78,6 +80,56 @@ impl<A: Allocator> FactReader<A> {
     {
         for symbol in symbols {
             self.read_symbol(lexemes, *symbol, counted, indentations, facts)?;
+        }
+        Ok(())
+    }
+
+    /// Reads one symbol of a line.
+    fn read_symbol_of_line(
+        &mut self,
+        line: &[LexemeAtLine<'_, A>],
+        first: usize,
+        symbol: Symbol,
+        counted: usize,
+        indentation: u32,
+        facts: &mut Vec<Fact, A>,
+    ) -> Result<(), AllocError>
+        ensures facts { OnOk result (facts.new.items ≡ facts.old.items
+            ++ facts_if self.old (element_in_line (map token_of (map (λ x. lexeme_at_line x.line x.lexeme.now) line.now)) first counted indentation symbol)) }
+        ensures after { OnOk result (self.new
+            ≡ after_if (element_in_line (map token_of (map (λ x. lexeme_at_line x.line x.lexeme.now) line.now)) first counted indentation symbol) self.old) }
+    {
+        match element_in_line(line, first, counted, indentation, symbol) {
+            None => Ok(()),
+            Some(element) => push_fact(element, &mut self.context, facts),
+        }
+    }
+
+    /// Reads the document's next symbols, all of one line, by the lexemes of that line alone: adds the checked places among them to the others,
+    /// with what is expected there. `first` lexemes of the document stand before the line's, of which the first `counted` of the document count,
+    /// and the line begins with `indentation` spaces. The only error is out of memory; the reader then says nothing more of the document.
+    pub fn read_line(
+        &mut self,
+        line: &[LexemeAtLine<'_, A>],
+        first: usize,
+        symbols: &[Symbol],
+        counted: usize,
+        indentation: u32,
+        facts: &mut Vec<Fact, A>,
+    ) -> Result<(), AllocError>
+        ensures facts { (tokens : List Token) (indentations : List ℕ)
+            → IsLine tokens first (map token_of (map (λ x. lexeme_at_line x.line x.lexeme.now) line.now))
+            → AreIndented indentations indentation (map token_of (map (λ x. lexeme_at_line x.line x.lexeme.now) line.now))
+            → NameIndices (λ i. (first ≤ i) × (i < first + length line.now)) symbols.now
+            → OnOk result (facts.new.items ≡ facts.old.items ++ facts_left self.old tokens counted indentations symbols.now) }
+        ensures after { (tokens : List Token) (indentations : List ℕ)
+            → IsLine tokens first (map token_of (map (λ x. lexeme_at_line x.line x.lexeme.now) line.now))
+            → AreIndented indentations indentation (map token_of (map (λ x. lexeme_at_line x.line x.lexeme.now) line.now))
+            → NameIndices (λ i. (first ≤ i) × (i < first + length line.now)) symbols.now
+            → OnOk result (self.new ≡ behind_symbols tokens indentations self.old symbols.now) }
+    {
+        for symbol in symbols {
+            self.read_symbol_of_line(line, first, *symbol, counted, indentation, facts)?;
         }
         Ok(())
     }

@@ -3,8 +3,8 @@
 //!
 //! The definition, `specs/Facts.antt`, looks back over the lexemes and marks before a place. The
 //! code keeps the collections that are open: `specs/Context.antt`. `FactReader` reads a document's
-//! symbols as they come: `specs/SymbolFacts.antt`. What a text decides for all its
-//! documents is their `Measure`.
+//! symbols as they come: `specs/SymbolFacts.antt`, and a line's by that line's lexemes alone:
+//! `specs/LineFacts.antt`. What a text decides for all its documents is their `Measure`.
 #![tactic(auto)]
 
 ghost use Rattle.yl_indentation.specs.Laws.{MeasureIsLocal, ProblemsAreByDocuments, FactsCountEntriesOnceSeen, BothCountEntriesOnceSeen, FindingLooksBack, ProblemsLookBack, ProblemsOfSomeLookBack, TextProblemsGoOnward, TextProblemsLookBack};

@@ -69,7 +69,8 @@ fn short_text(characters: &[char]) -> Option<ArrayString<SHORT>>
     for c in characters {
         bytes.push(*c as u8);
     }
-    let text = str::from_utf8(bytes.as_slice()).ok()?;
+    // ASCII is UTF-8.
+    let text = unsafe { str::from_utf8_unchecked(bytes.as_slice()) };
     ArrayString::from(text).ok()
 }
 

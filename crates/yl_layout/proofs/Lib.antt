@@ -1,5 +1,5 @@
-pub mod Steps
 pub mod KindLemmas
+pub mod LexemesLeft
 pub mod TruthyLemmas
 pub mod Own
 pub mod Examples

@@ -2,9 +2,15 @@
 use Rattle.std.proofs.Common.{◌≡◌, ◌<◌, ℕ, ◌+◌, Bool, true, false, cond, ◌&&◌, length, List, [], ◌∷◌, ◌++◌, drop, get_or, Option, Some, None, refl, sym, ◌∙◌, ap, add-one, drop-cons}
 use Rattle.std.specs.Prelude.{bytes_eq, codes}
 use Rattle.std.specs.List.{flat_map, items_where_true, join_by, list_all, position_from, slice_get}
+use Rattle.std.proofs.lemmas.Option.{slice_get_within, get_or_from_slice_get}
 use Rattle.std.proofs.lemmas.Slice.Eq.{bytes_eq-Decides}
 use Rattle.yl_layout.specs.WordList.{word_list}
-use Rattle.yl_layout.proofs.Steps.{drop_here}
+
+-- what begins at a place
+drop_here : {X : Type 0} (xs : List X) (i : ℕ) (x : X) → slice_get xs i ≡ Some x → drop i xs ≡ x ∷ drop (i + 1) xs
+drop_here xs i x e =
+    let h : i < length xs = slice_get_within xs i x e in
+    rw (add-one i, drop-cons xs i x, get_or_from_slice_get xs i x x e)
 
 -- a word that is not the one looked for
 pub index_more : (ws : List (List ℕ)) (i : ℕ) (w word : List ℕ) (n : Option ℕ) → slice_get ws i ≡ Some w → bytes_eq w word ≡ false →

@@ -1,5 +1,5 @@
 -- Bridge: what the rules on lexemes find at a lexeme, by its kind.
-use Rattle.std.specs.Prelude.{List, [], ◌++◌, Option}
+use Rattle.std.specs.Prelude.{Bool, true, false, List, [], ◌++◌, Option}
 use Rattle.yl_lexeme.specs.declared.lexeme.Kind.{Kind}
 use Rattle.yl_lexeme.specs.declared.lexeme.Kind.TheVariants.{Directive, DocStart, DocEnd, Entry, Key, Value, Comma, SeqOpen, SeqClose, MapOpen, MapClose, Alias, Anchor, Tag, Scalar}
 use Rattle.yl_text.specs.Finding.{FindingValue}
@@ -31,6 +31,18 @@ indicator_findings Alias o before x after = []
 indicator_findings Anchor o before x after = []
 indicator_findings Tag o before x after = []
 indicator_findings (Scalar style) o before x after = []
+
+-- at a lexeme of this kind they may find something
+abbrev pub is_indicator : Kind → Bool
+is_indicator MapOpen = true
+is_indicator MapClose = true
+is_indicator SeqOpen = true
+is_indicator SeqClose = true
+is_indicator Comma = true
+is_indicator Value = true
+is_indicator Key = true
+is_indicator Entry = true
+is_indicator _ = false
 
 -- the rules on flow collections, at a lexeme between its neighbours
 abbrev pub flow_findings : LexemeOptions → Option Span → Span → Option Span → List FindingValue

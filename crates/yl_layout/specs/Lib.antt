@@ -11,4 +11,5 @@ pub mod WordList
 pub mod QuotedStrings
 pub mod Lexemes
 pub mod Kinds
+pub mod LexemesLeft
 pub mod Standard

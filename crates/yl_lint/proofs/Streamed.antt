@@ -1,32 +1,11 @@
--- Records that come row by row, and the sections that are judged among them.
-use Rattle.std.proofs.Common.{◌≡◌, ℕ, ◌≤◌, List, [], ◌++◌, length, map, take, drop, ap, sym, ◌∙◌, append-nil, arith}
-use Rattle.std.proofs.lemmas.List.{take-append-drop, drop-append-le, length-map}
+-- Records that come row by row, and are judged as they come.
+use Rattle.std.proofs.Common.{◌≡◌, ℕ, ◌+◌, ◌<◌, ◌≤◌, List, [], ◌∷◌, ◌++◌, length, map, take, drop, get_or, ap, sym, ◌∙◌, subst, append-nil, append_assoc, arith}
+use Rattle.std.proofs.lemmas.List.{length-map, take-append-drop, take_all, take_more}
 use Rattle.yl_text.specs.Character.{indentation}
 use Rattle.yl_record.specs.Parts.{entries_in, indentations_in, indentation_in}
 use Rattle.yl_record.specs.Records.{RecordValue}
 use Rattle.yl_record.specs.Recorded.{RecorderValue, recorded, if_wanted, entries_with_rest}
-use Rattle.yl_sections.specs.Kept.{KeptValue}
-use Rattle.yl_sections.specs.Sections.{sections}
 use Rattle.yl_lint.proofs.Rows.{few_with}
-
--- what the first rows and those that follow come to, once so many of the first are taken
-module _ (before after : List (List ℕ) → List RecordValue) (complete : List RecordValue) (n : ℕ) (rows : List (List ℕ)) (is : complete ≡ take (length complete) (before rows)) (gone : after rows ≡ drop n (before rows)) (within : n ≤ length complete) where
-  abbrev more : List RecordValue
-  more = drop (length complete) (before rows)
-
-  whole : complete ++ more ≡ before rows
-  whole = ap (λ (xs : List RecordValue). xs ++ more) is ∙ take-append-drop (length complete) (before rows)
-
-  rest : drop n complete ++ more ≡ after rows
-  rest = sym (drop-append-le n complete more within) ∙ (ap (drop n) whole ∙ sym gone)
-
-  pub kept_so : (f : List RecordValue → KeptValue) (old new : List KeptValue) (lent : List RecordValue) → lent ≡ complete
-      → ((more : List RecordValue) → new ++ map f (sections (drop n lent ++ more)) ≡ old ++ map f (sections (lent ++ more)))
-      → new ++ map f (sections (after rows)) ≡ old ++ map f (sections (before rows))
-  kept_so f old new lent same told =
-      ap (λ (xs : List RecordValue). new ++ map f (sections xs)) (sym rest)
-      ∙ (ap (λ (xs : List RecordValue). new ++ map f (sections (drop n xs ++ more))) (sym same)
-      ∙ (told more ∙ (ap (λ (xs : List RecordValue). old ++ map f (sections (xs ++ more))) same ∙ ap (λ (xs : List RecordValue). old ++ map f (sections xs)) whole)))
 
 -- no more records at the text's end than were not taken
 pub few_at_end : (r : RecorderValue) (all : List RecordValue) → all ≡ recorded r [] → length all ≤ length r.records
@@ -35,3 +14,19 @@ few_at_end r all is =
     let few : length (recorded r []) ≤ length ns = few_with ns (if_wanted r.states (entries_with_rest (entries_in r.records) r.taken r.stand [])) in
     let len : length ns ≡ length r.records = ap (λ (xs : List ℕ). length xs) (append-nil (indentations_in r.records)) ∙ length-map r.records indentation_in in
     omega (arith, ap (λ (xs : List RecordValue). length xs) is, few, len)
+
+pub none_judged : {X : Type 0} (P : List X → Type 0) (rs ys : List X) → P rs → P (rs ++ take 0 ys)
+none_judged P rs ys h = subst P (sym (append-nil rs)) h
+
+pub one_judged : {X : Type 0} (P : List X → Type 0) (rs ys : List X) (i : ℕ) (y : X) → i < length ys → y ≡ get_or ys i y → P ((rs ++ take i ys) ++ y ∷ []) → P (rs ++ take (i + 1) ys)
+one_judged P rs ys i y within is h =
+    subst P (append_assoc rs (take i ys) (y ∷ []) ∙ ap (λ zs. rs ++ zs) (ap (λ z. take i ys ++ z ∷ []) is ∙ sym (take_more ys i y within))) h
+
+pub all_judged : {X : Type 0} (P : List X → Type 0) (rs ys : List X) (i : ℕ) → length ys ≤ i → P (rs ++ take i ys) → P (rs ++ ys)
+all_judged P rs ys i end h = subst P (ap (λ zs. rs ++ zs) (take_all i ys end)) h
+
+-- the complete ones were judged, and are let go
+pub let_go_judged : (rs complete before after : List RecordValue) (n : ℕ) → complete ≡ take n before → after ≡ drop n before → (rs ++ complete) ++ after ≡ rs ++ before
+let_go_judged rs complete before after n is gone =
+    append_assoc rs complete after
+    ∙ ap (λ (zs : List RecordValue). rs ++ zs) (ap (λ (ys : List RecordValue). ys ++ after) is ∙ (ap (λ (ys : List RecordValue). take n before ++ ys) gone ∙ take-append-drop n before))

@@ -1,14 +1,18 @@
 -- Bridge: what the lines to come still bring to the report of a text, by what is kept of those that were passed.
-use Rattle.std.specs.Prelude.{ℕ, ◌+◌, List, ◌++◌, map}
+use Rattle.std.specs.Prelude.{ℕ, ◌≡◌, ◌+◌, List, ◌++◌, map}
 use Rattle.yl_text.specs.Finding.{FindingValue}
 use Rattle.yl_text.specs.Lines.{RowValue}
 use Rattle.yl_rules.specs.declared.options.RowOptions.{RowOptions}
 use Rattle.yl_rules.specs.RunsLeft.{RunReaderValue, runs_left}
 use Rattle.yl_config.specs.declared.config.Config.{Config}
 use Rattle.yl_record.specs.Recorded.{RecorderValue, recorded}
+use Rattle.yl_record.specs.Records.{RecordValue}
+use Rattle.yl_sections.specs.declared.judging.SectionsJudge.{SectionsJudge}
 use Rattle.yl_sections.specs.Judge.{kept_of_section}
+use Rattle.yl_sections.specs.Judging.{JudgesAll}
 use Rattle.yl_sections.specs.Kept.{KeptValue}
 use Rattle.yl_sections.specs.Sections.{sections}
+use Rattle.yl_lint.specs.declared.kept.SectionReader.{SectionReader}
 use Rattle.yl_lint.specs.TextReport.{findings_from}
 
 -- of the lines that were passed: what the rules that look at one line found in them, and those that look at the lines of a
@@ -23,6 +27,12 @@ pub record LineReaderValue : Type 0 where
 abbrev pub lines_left : LineReaderValue → List RowValue → List FindingValue
 lines_left r rows = (r.found ++ findings_from r.options (r.runs.count + 1) rows) ++ (r.found_in_runs ++ runs_left r.runs rows)
 
--- all that is kept of sections, if these rows follow, each given as its characters
-abbrev pub kept_left : Config → List KeptValue → RecorderValue → List (List ℕ) → List KeptValue
-kept_left config kept r rows = kept ++ map (kept_of_section config) (sections (recorded r rows))
+-- all that is kept of sections, if these rows follow, each given as its characters: where the judge was fed some records, and the recorder
+-- has those after them
+pub record KeepsRest {A : Type 0} (config : Config) (recorder : RecorderValue) (judge : SectionsJudge A) (rows : List (List ℕ)) (all : List KeptValue) : Type 0 where
+  pub judged : List RecordValue
+  pub judges : JudgesAll config judged judge
+  pub whole : map (kept_of_section config) (sections (judged ++ recorded recorder rows)) ≡ all
+
+abbrev pub KeepsLeft : {A : Type 0} → Config → SectionReader A → List (List ℕ) → List KeptValue → Type 0
+KeepsLeft config r rows all = KeepsRest config r.recorder r.judge rows all

@@ -1,6 +1,6 @@
 -- Meaning: the report of a text: what the rules find in its lines and in its sections, with its fault, in order and with levels. Of the
 -- sections after the first with a fault nothing is shown; what the rules on lines find is never hidden.
-use Rattle.std.specs.Prelude.{◌≡◌, ℕ, ◌+◌, List, [], ◌∷◌, ◌++◌, map, codes, Option, Some, None, slice_get}
+use Rattle.std.specs.Prelude.{◌≡◌, ℕ, ◌+◌, List, [], ◌∷◌, ◌++◌, map, codes, slice_get}
 use Rattle.std.specs.Option.{option_map_or}
 use Rattle.std.specs.List.{flat_map}
 use Rattle.yl_text.specs.declared.position.Pos.{Pos}

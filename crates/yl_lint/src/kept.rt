@@ -2,20 +2,21 @@
 ghost use Rattle.std.specs.Prelude.{◌≡◌, ◌<◌, ◌≤◌, ◌+◌, ◌++◌, ◌-◌, ◌^◌, ◌∷◌, [], false, ℕ, List, length, map, IfOk, OnOk};
 ghost use Rattle.std.specs.Str.{chars};
 ghost use Rattle.yl_config.specs.declared.config.Config.{Config};
-ghost use Rattle.yl_record.specs.Recorded.{recorded};
-ghost use Rattle.yl_record.specs.Records.{records};
+ghost use Rattle.yl_record.specs.Records.{RecordValue, records};
 ghost use Rattle.yl_sections.specs.Judge.{kept_of_section};
+ghost use Rattle.yl_sections.specs.Judging.{JudgesAll};
+ghost use Rattle.yl_sections.specs.Kept.{KeptValue};
 ghost use Rattle.yl_sections.specs.Sections.{sections};
-ghost use Rattle.yl_lint.specs.Left.{kept_left};
+ghost use Rattle.yl_lint.specs.Left.{KeepsLeft, KeepsRest};
 
 use std::alloc::{AllocError, Allocator};
 use yl_config::Config;
 use yl_lexeme::Meter;
-use yl_record::Recorder;
-use yl_sections::{Kept, judge_all, judge_whole};
+use yl_record::{Record, Recorder};
+use yl_sections::{Kept, SectionsJudge};
 
-/// How many records wait at least before sections are looked for among them.
-const ROOM: usize = 256;
+/// How many records wait at least before they are judged.
+const ROOM: usize = 64;
 
 /// The items, each lent.
 pub fn lent<T, A: Allocator>(alloc: A, items: &[T]) -> Result<Vec<&T, A>, AllocError>
@@ -29,62 +30,62 @@ pub fn lent<T, A: Allocator>(alloc: A, items: &[T]) -> Result<Vec<&T, A>, AllocE
     Ok(all)
 }
 
-/// Judges the sections that are complete, puts what is kept of them after the rest, and lets their records go, once `room` records are
-/// complete. Answers how many are to be complete before the next time.
-fn judge_complete<A: Allocator + Copy>(
-    alloc: A,
+/// Judges these rows after the others.
+fn judge_rows<A: Allocator + Copy>(
     config: &Config,
-    recorder: &mut Recorder<'_, A>,
-    room: usize,
-    kept: &mut Vec<Kept<A>, A>,
+    rows: &[Record<A>],
+    judge: &mut SectionsJudge<A>,
     meter: &mut Meter,
-) -> Result<usize, AllocError>
-    requires whole { recorder.old.refused ≡ false }
-    requires few { length recorder.old.records < 2 ^ 32 - 1 }
-    requires documents { meter.old.documents + length recorder.old.records < 2 ^ 32 - 1 }
-    ensures kept { OnOk result ((rows : List (List ℕ))
-        → kept.new.items ++ map (kept_of_section config.now) (sections (recorded recorder.new rows))
-        ≡ kept.old.items ++ map (kept_of_section config.now) (sections (recorded recorder.old rows))) }
-    ensures whole { OnOk result (recorder.new.refused ≡ false) }
-    ensures fed { OnOk result (recorder.new.taken + length recorder.new.records ≡ recorder.old.taken + length recorder.old.records) }
-    ensures few { OnOk result (meter.new.documents + recorder.old.taken ≤ meter.old.documents + recorder.new.taken) }
+) -> Result<(), AllocError>
+    ensures judged { (rs : List RecordValue) → JudgesAll config.now rs judge.old → OnOk result (JudgesAll config.now (rs ++ rows.now) judge.new) }
     ensures lines { OnOk result (meter.new.lines ≡ meter.old.lines) }
 {
-    if recorder.complete().len() < room {
-        return Ok(room);
+    for row in rows {
+        judge.read(config, row, meter)?;
     }
-    let all = lent(alloc, recorder.complete())?;
-    let judged = judge_whole(alloc, config, &all, kept, meter)?;
-    let open = all.len() - judged;
-    drop(all);
-    recorder.let_go(judged);
-    Ok(ROOM.max(open.saturating_mul(2)))
+    Ok(())
 }
 
-/// A reader that is fed a text's rows one after another, and judges each section once it is complete.
-/// The records of a section go once it is judged.
+/// Judges the complete records, if enough of them wait, and lets them go.
+fn judge_complete<A: Allocator + Copy>(
+    config: &Config,
+    recorder: &mut Recorder<'_, A>,
+    judge: &mut SectionsJudge<A>,
+    meter: &mut Meter,
+) -> Result<(), AllocError>
+    requires whole { recorder.old.refused ≡ false }
+    ensures kept { (rows : List (List ℕ)) (all : List KeptValue) → KeepsRest config.now recorder.old judge.old rows all → OnOk result (KeepsRest config.now recorder.new judge.new rows all) }
+    ensures whole { OnOk result (recorder.new.refused ≡ false) }
+    ensures fed { OnOk result (recorder.new.taken + length recorder.new.records ≡ recorder.old.taken + length recorder.old.records) }
+    ensures lines { OnOk result (meter.new.lines ≡ meter.old.lines) }
+{
+    let rows = recorder.complete();
+    let count = rows.len();
+    if count < ROOM {
+        return Ok(());
+    }
+    judge_rows(config, rows, judge, meter)?;
+    recorder.let_go(count);
+    Ok(())
+}
+
+/// A reader that is fed a text's rows one after another, and judges them. Of a row that is judged nothing is held but what is told of it.
 #[derive(Drop)]
 pub struct SectionReader<'a, A: Allocator + Copy> {
-    alloc: A,
     recorder: Recorder<'a, A>,
-    /// How many records are to be complete before sections are looked for among them.
-    room: usize,
-    /// What is kept of the sections that were judged.
-    kept: Vec<Kept<A>, A>,
+    judge: SectionsJudge<A>,
 }
 
 impl<'a, A: Allocator + Copy> SectionReader<'a, A> {
     /// A reader at a text's start.
     pub fn start(alloc: &'a A) -> SectionReader<'a, A>
-        ensures kept { (config : Config) (rows : List (List ℕ)) → kept_left config result.kept.items result.recorder rows ≡ map (kept_of_section config) (sections (records rows)) }
+        ensures kept { (config : Config) (rows : List (List ℕ)) → KeepsLeft config result rows (map (kept_of_section config) (sections (records rows))) }
         ensures whole { result.recorder.refused ≡ false }
         ensures fed { result.recorder.taken + length result.recorder.records ≡ 0 }
     {
         SectionReader {
-            alloc: *alloc,
             recorder: Recorder::start_without_states(alloc),
-            room: ROOM,
-            kept: Vec::new(*alloc),
+            judge: SectionsJudge::new(*alloc),
         }
     }
 
@@ -95,42 +96,25 @@ impl<'a, A: Allocator + Copy> SectionReader<'a, A> {
         requires whole { self.old.recorder.refused ≡ false }
         requires few { self.old.recorder.taken + length self.old.recorder.records < 2 ^ 32 - 2 }
         requires lines { meter.old.lines < 2 ^ 32 - 1 }
-        requires documents { meter.old.documents + length self.old.recorder.records < 2 ^ 32 - 2 }
-        ensures kept { OnOk result ((rows : List (List ℕ))
-            → kept_left config.now self.new.kept.items self.new.recorder rows
-            ≡ kept_left config.now self.old.kept.items self.old.recorder (chars text.now ∷ rows)) }
+        ensures kept { (rows : List (List ℕ)) (all : List KeptValue) → KeepsLeft config.now self.old (chars text.now ∷ rows) all → OnOk result (KeepsLeft config.now self.new rows all) }
         ensures whole { OnOk result (self.new.recorder.refused ≡ false) }
         ensures fed { OnOk result (self.new.recorder.taken + length self.new.recorder.records ≡ self.old.recorder.taken + length self.old.recorder.records + 1) }
-        ensures few { OnOk result (meter.new.documents + self.old.recorder.taken ≤ meter.old.documents + self.new.recorder.taken) }
         ensures lines { OnOk result (meter.new.lines ≡ meter.old.lines + 1) }
     {
         self.recorder.feed_text(text, meter)?;
-        self.room = judge_complete(
-            self.alloc,
-            config,
-            &mut self.recorder,
-            self.room,
-            &mut self.kept,
-            meter,
-        )?;
-        Ok(())
+        judge_complete(config, &mut self.recorder, &mut self.judge, meter)
     }
 
     /// What is kept of the sections of all rows, where no row follows. The only error is out of memory.
     pub fn finish(self, config: &Config, meter: &mut Meter) -> Result<Vec<Kept<A>, A>, AllocError>
-        requires rows { length self.recorder.records < 2 ^ 32 }
-        requires documents { meter.old.documents + length self.recorder.records < 2 ^ 32 - 1 }
-        ensures { IfOk result (λ v. v.items ≡ kept_left config.now self.entry.kept.items self.entry.recorder []) }
+        ensures { (all : List KeptValue) → KeepsLeft config.now self.entry [] all → IfOk result (λ v. v.items ≡ all) }
     {
         let SectionReader {
-            alloc,
             recorder,
-            mut kept,
-            ..
+            mut judge,
         } = self;
-        let records = recorder.finish()?;
-        let mut last = judge_all(alloc, config, &lent(alloc, &records)?, meter)?;
-        kept.append(&mut last)?;
-        Ok(kept)
+        let rows = recorder.finish()?;
+        judge_rows(config, &rows, &mut judge, meter)?;
+        judge.finish(config)
     }
 }

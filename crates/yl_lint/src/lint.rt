@@ -1,8 +1,9 @@
 //! The report of a text.
-ghost use Rattle.std.specs.Prelude.{◌≡◌, ◌<◌, ◌≤◌, ◌+◌, ◌-◌, ◌^◌, [], length, IfOk};
+ghost use Rattle.std.specs.Prelude.{◌≡◌, ◌<◌, ◌≤◌, ◌-◌, ◌^◌, [], List, length, IfOk};
 ghost use Rattle.std.specs.Str.{chars};
 ghost use Rattle.yl_text.specs.Lines.{lines_of};
-ghost use Rattle.yl_lint.specs.Left.{kept_left, lines_left};
+ghost use Rattle.yl_sections.specs.Kept.{KeptValue};
+ghost use Rattle.yl_lint.specs.Left.{KeepsLeft, lines_left};
 ghost use Rattle.yl_lint.specs.TextReport.{IsReport, report_of_kept};
 
 use crate::assembling::report_of_kept;
@@ -26,11 +27,9 @@ fn report_of_read<A: Allocator + Copy>(
 ) -> Result<Vec<Problem<A>, A>, AllocError>
     requires count { lines.runs.count < 2 ^ 32 }
     requires last { length lines.runs.last < 2 ^ 32 }
-    requires rows { length sections.recorder.records < 2 ^ 32 }
-    requires documents { meter.old.documents + length sections.recorder.records < 2 ^ 32 - 1 }
-    ensures { IfOk result (λ problems. problems.items ≡ report_of_kept config.now (lines_left lines.entry []) first.now
-        (record { line = lines.entry.runs.count - 1; col = length (chars lines.entry.runs.last) })
-        (kept_left config.now sections.entry.kept.items sections.entry.recorder [])) }
+    ensures { (all : List KeptValue) → KeepsLeft config.now sections.entry [] all
+        → IfOk result (λ problems. problems.items ≡ report_of_kept config.now (lines_left lines.entry []) first.now
+        (record { line = lines.entry.runs.count - 1; col = length (chars lines.entry.runs.last) }) all) }
 {
     let end = lines.end();
     let found = lines.finish()?;
@@ -39,8 +38,8 @@ fn report_of_read<A: Allocator + Copy>(
 }
 
 /// The report of a text under a configuration, in order. It is read line by line, and of the lines
-/// nothing is kept but the problems and what is kept of their sections. The only error is out of
-/// memory.
+/// nothing is kept but what is told of them, and the names of keys and anchors that are asked for
+/// again. The only error is out of memory.
 pub fn report_of_text<A: Allocator + Copy>(
     alloc: A,
     config: &Config,

@@ -31,7 +31,7 @@ use yl_inline::InlineString;
 use yl_lexeme::{Kind, Style, Surroundings, near};
 use yl_scalar::{
     BlockReader, PlainReader, QuotedReader, ScalarStep, first_bad, inline_text_of, is_blank,
-    is_marker_of, leading_white,
+    is_marker_of, leading_white, simple_quoted,
 };
 
 /// A lexeme that ends in its row, before a column.
@@ -231,6 +231,24 @@ fn begun<A: Allocator + Copy>(
     }
 }
 
+/// A quoted scalar whose quotes stand in one row, with this between them, each character for itself.
+fn simple_found<A: Allocator + Copy>(
+    alloc: A,
+    style: Style,
+    at: usize,
+    part: &[char],
+) -> Result<FoundLexeme<A>, AllocError>
+    requires { at + length part.now + 2 < 2 ^ 32 }
+    ensures { IfOk result (λ found. found_lexeme_value found ≡ found_in_row (Scalar style) (at + 1 + (length part.now + 1)) (encode_utf8_all part.now) None) }
+{
+    Ok(FoundLexeme {
+        kind: Kind::Scalar(style),
+        column: (at + part.len() + 2) as u32,
+        value: inline_text_of(alloc, part)?,
+        fault: None,
+    })
+}
+
 #[tactic(auto, using(crate::proofs::Modes::said_by_style, crate::proofs::Modes::quoted_alike, crate::proofs::Modes::quoted_ends, crate::proofs::Modes::ends_by))]
 #[inline(always)]
 fn quoted_found<A: Allocator + Copy>(
@@ -244,6 +262,10 @@ fn quoted_found<A: Allocator + Copy>(
     ensures found { IfOk result (λ s. (rows : List (List ℕ)) → scalar_found style at (quoted double at rest.now rows) ≡ beginning_value at rows s) }
     ensures rests { IfOk result (λ s. (text : List ℕ) → BeginningRests at text s) }
 {
+    if let Some(part) = simple_quoted(double, rest) {
+        let quoted = simple_found(alloc, style, at, part)?;
+        return Ok(Beginning::Ended(quoted));
+    }
     let (reader, line) = QuotedReader::begin(alloc, double, at, rest)?;
     begun(alloc, style, at, ScalarReader::Quoted(reader), line)
 }

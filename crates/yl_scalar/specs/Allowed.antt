@@ -9,6 +9,10 @@ is_allowed c =
     c == 0x09 || (nat_le 0x20 c && nat_le c 0x7E) || c == 0x85 || (nat_le 0xA0 c && nat_le c 0xD7FF)
     || (nat_le 0xE000 c && nat_le c 0xFFFD) || (nat_le 0x10000 c && nat_le c 0x10FFFF)
 
+-- a part of these: printable ASCII without tab, and U+00A0 to U+D7FF
+abbrev pub is_common : ℕ → Bool
+is_common c = (nat_le 0x20 c && nat_le c 0x7E) || (nat_le 0xA0 c && nat_le c 0xD7FF)
+
 -- nb-json, inside quoted scalars
 abbrev pub is_quoted_character : ℕ → Bool
 is_quoted_character c = c == 0x09 || nat_le 0x20 c

@@ -3,7 +3,7 @@ ghost use Rattle.std.specs.Prelude.{◌≡◌, ◌≤◌, ◌<◌, ◌+◌, IfSo
 ghost use Rattle.std.specs.List.{list_all, prefix_len};
 ghost use Rattle.yl_text.specs.Character.{is_white, is_flow_indicator, is_plain_safe, is_blank, is_marker, is_marker_of, indentation, without_end, without_front};
 ghost use Rattle.yl_text.specs.Special.{is_printable_ascii};
-ghost use Rattle.yl_scalar.specs.Allowed.{is_allowed, is_quoted_character, first_bad};
+ghost use Rattle.yl_scalar.specs.Allowed.{is_allowed, is_common, is_quoted_character, first_bad};
 
 /// A space or a tab.
 pub fn is_white(c: char) -> bool
@@ -53,6 +53,9 @@ pub fn first_bad(text: &[char]) -> Option<usize>
     if is_printable_ascii(text) {
         return None;
     }
+    if are_common(text) {
+        return None;
+    }
     text.iter().position(|c| !is_allowed(*c))
 }
 
@@ -63,6 +66,17 @@ fn is_printable_ascii(text: &[char]) -> bool
     let mut special = false;
     for c in text {
         special |= *c < ' ' || *c > '~';
+    }
+    !special
+}
+
+/// Whether all characters are such as most texts have, each of which is allowed.
+fn are_common(text: &[char]) -> bool
+    ensures { result ≡ list_all is_common text.now }
+{
+    let mut special = false;
+    for c in text {
+        special |= *c < ' ' || ('~' < *c && *c < '\u{a0}') || *c > '\u{d7ff}';
     }
     !special
 }

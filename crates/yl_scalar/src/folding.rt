@@ -1,5 +1,6 @@
 //! What breaks stand for, and values as text.
 ghost use Rattle.std.specs.Prelude.{◌≡◌, ◌++◌, ◌↔◌, ◌∷◌, [], None, IfOk, IsTrue, length, string_bytes};
+ghost use Rattle.std.specs.Char.{len_utf8};
 ghost use Rattle.std.specs.Str.{chars, encode_utf8_all, IsAscii};
 ghost use Rattle.yl_scalar.specs.Folding.{joint};
 
@@ -61,22 +62,39 @@ fn add<A: Allocator>(value: &mut String<A>, c: char) -> Result<(), AllocError>
     Ok(())
 }
 
-/// Adds characters to a value that is kept as text.
+/// How many bytes the character takes in UTF-8. It is a sum, so that those of several characters are found at once.
+fn char_len(c: char) -> usize
+    ensures { result ≡ len_utf8 c }
+{
+    1 + (c >= '\u{80}') as usize + (c >= '\u{800}') as usize + (c >= '\u{10000}') as usize
+}
+
+/// How many bytes the characters take in UTF-8.
+fn utf8_len(characters: &[char]) -> usize
+    ensures { result ≡ length (encode_utf8_all characters.now) }
+{
+    let mut len = 0;
+    for c in characters {
+        len += char_len(*c);
+    }
+    len
+}
+
+/// Adds characters to a value that is kept as text. It takes one allocation at the most.
 pub fn add_characters<A: Allocator>(
     value: &mut String<A>,
     characters: &[char],
 ) -> Result<(), AllocError>
     ensures { IfOk result (λ _. chars (string_bytes value.new) ≡ chars (string_bytes value.old) ++ characters.now) }
 {
-    value.try_reserve(characters.len())?;
+    value.try_reserve(utf8_len(characters))?;
     for c in characters {
         add(value, *c)?;
     }
     Ok(())
 }
 
-/// The text of these characters, in UTF-8. It fails for want of memory alone, and takes one allocation of the text's size where
-/// all characters are ASCII.
+/// The text of these characters, in UTF-8. It fails for want of memory alone, and takes one allocation of the text's size.
 pub fn text_of<A: Allocator>(alloc: A, characters: &[char]) -> Result<String<A>, AllocError>
     ensures bytes { IfOk result (λ text. string_bytes text ≡ encode_utf8_all characters.now) }
     ensures characters { IfOk result (λ text. chars (string_bytes text) ≡ characters.now) }
@@ -133,5 +151,5 @@ fn text_of_ascii<A: Allocator>(bytes: Vec<u8, A>) -> String<A>
     requires { IsAscii bytes.items }
     ensures { string_bytes result ≡ bytes.items }
 {
-    String::from_utf8(bytes).unwrap()
+    unsafe { String::from_utf8_unchecked(bytes) }
 }

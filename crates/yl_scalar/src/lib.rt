@@ -27,7 +27,7 @@ pub use character::{
 };
 pub use folding::{inline_text_of, text_of};
 pub use plain::{PlainReader, is_safe_next};
-pub use quoted::QuotedReader;
+pub use quoted::{QuotedReader, simple_quoted};
 pub use whole::{read_block, read_plain, read_quoted};
 
 /// Laws of the definitions: a plain, a quoted and a block scalar are what the lines that they take make of them, and a text

@@ -1,6 +1,6 @@
 //! Quoted scalars: YAML 1.2.2, 7.3.1 and 7.3.2.
 ghost use Rattle.std.specs.Prelude.{◌≡◌, ◌≤◌, ◌<◌, ◌+◌, ◌^◌, ◌++◌, ◌∷◌, ◌&&◌, ◌==◌, not, ℕ, List, IfOk, IfSome, OnErr, OnOk, IsErr, true, false, length, slice_index};
-ghost use Rattle.yl_scalar.specs.Reading.{Refused};
+ghost use Rattle.yl_scalar.specs.Reading.{EndsIn, Refused};
 ghost use Rattle.yl_scalar.specs.Quoted.{Closes, stretch, quote};
 ghost use Rattle.yl_scalar.specs.QuotedSteps.{quoted_begin, quoted_step, quoted_finish, quoted_step_behind};
 ghost use Rattle.yl_scalar.specs.Reader.{step_value, quoted_reader_value, quoted_rows, is_quoted_refused};
@@ -122,6 +122,15 @@ fn simple_part(double: bool, text: &[char]) -> Option<&[char]>
         }
     }
     None
+}
+
+/// The value of a quoted scalar, in double quotes or single ones, that ends in its first row, if each of its characters stands for
+/// itself; `text` is the rest of the row after the opening quote.
+pub fn simple_quoted(double: bool, text: &[char]) -> Option<&[char]>
+    ensures value { IfSome result (λ part. (opening : ℕ) → quoted_begin double opening text.now ≡ EndsIn (record { down = 0; column = opening + 1 + (length part.now + 1); value = part.now })) }
+    ensures within { IfSome result (λ part. length part.now < length text.now) }
+{
+    simple_part(double, text)
 }
 
 /// Reads a row, behind a value that is kept whole.

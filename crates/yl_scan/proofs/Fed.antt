@@ -37,7 +37,7 @@ module _ (line : ℕ) (row : List ℕ) (rows : List (List ℕ)) where
   abbrev quiet : Option LineStateValue → SurroundingsValue → ScanOutput
   quiet state k = output_with_step line (record { above = None; lexemes = []; comment = None; state = state; fault = None }) (output_of_entries (line + 1) (entries_by false 0 0 k rows))
 
-  blank_told : (k : SurroundingsValue) → new_row k ≡ k → is_blank row ≡ true → output_of_entries line (entries_by false 0 0 k (row ∷ rows)) ≡ quiet None k
+  pub blank_told : (k : SurroundingsValue) → new_row k ≡ k → is_blank row ≡ true → output_of_entries line (entries_by false 0 0 k (row ∷ rows)) ≡ quiet None k
   blank_told k e h =
       ap (output_of_row line rows (sound_state false row (context_of k))) (over rows (first_tab false row) 0 true true 0 k row h)
       ∙ ap (λ k'. quiet (sound_state false row (context_of k)) k') e

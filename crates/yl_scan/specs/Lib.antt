@@ -1,3 +1,4 @@
+pub mod Alone
 pub mod Laws
 pub mod Output
 pub mod Remaining

@@ -80,7 +80,11 @@ fn reach_of(fault: PlacedScanFault) -> Reach
 }
 
 /// A row that tells nothing but whether it is sound.
-fn silent<A: Allocator + Copy>(alloc: A, before: Option<LineState<A>>, sound: Soundness) -> Step<A>
+pub fn silent<A: Allocator + Copy>(
+    alloc: A,
+    before: Option<LineState<A>>,
+    sound: Soundness,
+) -> Step<A>
     ensures told { (line : ℕ) (s : LineStateValue) → step_value line s result ≡ record { above = None; lexemes = []; comment = None; state = state_by s sound; fault = None } }
     ensures state { result.state ≡ state_for before result.sound }
     ensures fresh { result.ended ≡ None }
@@ -190,7 +194,7 @@ fn is_sound_behind(reach: Reach, row: &[char]) -> bool
 }
 
 /// That a fault has come before, if the row is sound.
-fn stopped_if(is_sound: bool) -> Soundness
+pub fn stopped_if(is_sound: bool) -> Soundness
     ensures { (s : LineStateValue) → state_by s result ≡ (if is_sound then Some Stopped else None) }
 {
     if is_sound {

@@ -11,8 +11,10 @@ ghost use Rattle.yl_scan.specs.Settled.{PutsLast, Settles, ToldInTurn, ToldMoves
 ghost use Rattle.yl_scan.specs.State.{EqualsExactly};
 
 mod before;
+mod comment;
 mod feeding;
 mod phase;
+mod quiet;
 mod room;
 mod scanner;
 mod state;

@@ -13,8 +13,10 @@ ghost use Rattle.yl_scan.specs.Scanner.{EndsOpen, IsInOrder, IsInStep, begun_at,
 ghost use Rattle.yl_scan.specs.Step.{BeginsInText, at_end, state_by, step_value};
 
 use crate::before::state_before;
+use crate::comment::{comment_between, comment_row};
 use crate::feeding::{ended_text, fed_row};
 use crate::phase::{Phase, Reach};
+use crate::quiet::quiet_row;
 use crate::room::Room;
 use crate::state::LineState;
 use crate::step::Step;
@@ -139,7 +141,10 @@ impl<'a, A: Allocator + Copy> Scanner<'a, A> {
         ensures states { self.new.states ≡ self.old.states }
         ensures refused { self.new.refused ≡ self.old.refused }
     {
-        characters_of(text, &mut self.characters)?;
+        if let Some(step) = quiet_row(self.alloc, self.states, self.line, text, &self.resting) {
+            self.line += 1;
+            return Ok(step);
+        }
         let before = state_before(
             self.states,
             self.alloc,
@@ -147,6 +152,11 @@ impl<'a, A: Allocator + Copy> Scanner<'a, A> {
             &self.surroundings,
             &self.resting,
         )?;
+        if let Some(comment) = comment_between(self.alloc, text, &self.resting)? {
+            self.line += 1;
+            return Ok(comment_row(self.alloc, before, comment));
+        }
+        characters_of(text, &mut self.characters)?;
         let line = self.line;
         self.line += 1;
         fed_row(

@@ -13,6 +13,7 @@ use Rattle.yl_indentation.specs.declared.fact.Fact.{Fact}
 use Rattle.yl_layout.specs.Lexemes.{lexeme_findings}
 use Rattle.yl_config.specs.declared.config.Config.{Config}
 use Rattle.yl_record.specs.Records.{RecordValue}
+use Rattle.yl_sections.specs.Judge.{document_of, kept_of_section}
 use Rattle.yl_sections.specs.Sections.{lexemes_of}
 use Rattle.yl_sections.specs.Kept.{BuiltValue, SectionFaultValue, KeptValue, scan_fault_from, section_fault, hidden_events, counted_of, comment_lines, shown_comments, lexeme_options_of, shown_comment_findings, event_findings, facts_of, kept_of, is_on, unless_fault}
 use Rattle.yl_rules.specs.Addressed.{is_addressed}
@@ -49,3 +50,7 @@ flat_map-map f g (x ∷ xs) = ap (λ ys. f (g x) ++ ys) (flat_map-map f g xs)
 pub comments_are : {X : Type 0} (config : Config) (g : X → PlacedCommentValue) (xs : List X) (found : List FindingValue) → is_on config Comments ≡ true
     → found ≡ flat_map (λ x. comment_findings (options_of config).comments (g x)) xs → found ≡ shown_comment_findings config (map g xs)
 comments_are config g xs found on e = rw on (e ∙ flat_map-map (comment_findings (options_of config).comments) g xs)
+
+pub kept_so : (config : Config) (rs : List RecordValue) (k : KeptValue) → k ≡ kept_of config rs (document_of (lexemes_of rs)) → k ≡ kept_of_section config rs
+unfolding kept_of_section
+kept_so config rs k h = h

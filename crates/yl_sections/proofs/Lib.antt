@@ -11,6 +11,12 @@ pub mod Last
 pub mod Fronts
 pub mod Stateless
 pub mod LineByLine
+pub mod Lines
+pub mod DocumentJudging
+pub mod RowJudging
+pub mod Stopping
+pub mod Staging
+pub mod SectionsJudging
 pub mod Inside
 pub mod Groups
 pub mod SectionDocuments

@@ -1,24 +1,18 @@
 -- A document is read line by line.
-use Rattle.std.specs.Prelude.{ℕ, suc, ◌==◌, Bool, true, false, is_some, ◌≡◌, ◌+◌, ◌<◌, ◌≤◌, nat_lt, List, [], ◌∷◌, ◌++◌, map, drop, length, Option, Some, None}
-use Rattle.std.specs.Prelude.{IfOk}
-use Rattle.std.proofs.Common.{Result, refl, ap, sym, subst, ◌∙◌, arith, append-nil, append_assoc, drop-cons, get_or}
-use Rattle.std.proofs.lemmas.Bool.{eqb-true, lt-ltb}
+use Rattle.std.specs.Prelude.{ℕ, suc, ◌≡◌, ◌+◌, ◌<◌, ◌≤◌, nat_lt, List, [], ◌∷◌, ◌++◌, map, drop, length, Option, Some, None}
+use Rattle.std.proofs.Common.{refl, ap, sym, subst, ◌∙◌, arith, append-nil, append_assoc, drop-cons, get_or}
+use Rattle.std.proofs.lemmas.Bool.{lt-ltb}
 use Rattle.std.proofs.lemmas.List.{drop_all, length-map, map-append}
-use Rattle.yl_text.specs.declared.finding.RuleId.TheVariants.{Indentation}
 use Rattle.yl_text.specs.Finding.{FindingValue}
 use Rattle.yl_lexeme.specs.Lexeme.{LexemeValue}
-use Rattle.yl_marks.specs.declared.facts.KeyFacts.{KeyFacts}
 use Rattle.yl_marks.specs.declared.symbol.OpenBlock.{OpenBlock}
 use Rattle.yl_marks.specs.declared.symbol.Symbol.{Symbol}
 use Rattle.yl_marks.specs.declared.token.Token.{Token}
 use Rattle.yl_marks.specs.Keys.{token_of}
-use Rattle.yl_marks.specs.Facts.{key_facts}
-use Rattle.yl_marks.specs.Marks.{closings_of_all, marked_lexemes}
-use Rattle.yl_marks.proofs.ByLines.{marked_by_lines}
-use Rattle.yl_marks.proofs.FactsByLines.{told_by_lines}
+use Rattle.yl_marks.specs.Marks.{closings_of_all}
 use Rattle.yl_marks.specs.ByLine.{HaveIndices, MarkerValue, behind_line, by_line, marker_at_start, marks_by_lines, marks_of_line}
-use Rattle.yl_marks.specs.FactsByLine.{KeyMarkerValue, behind_keyed_line, facts_by_lines, facts_of_line, key_marker_at_start}
-use Rattle.yl_marks.proofs.Indices.{indices_by_lines, indices_of_line, no_indices}
+use Rattle.yl_marks.specs.FactsByLine.{KeyMarkerValue, behind_keyed_line, key_marker_at_start}
+use Rattle.yl_marks.proofs.Indices.{indices_by_lines, indices_of_line}
 use Rattle.yl_events.specs.declared.fault.PlacedParseFault.{PlacedParseFault}
 use Rattle.yl_events.specs.declared.symbol.Outline.{Outline}
 use Rattle.yl_events.specs.declared.symbol.Shape.TheVariants.{DocumentEnd}
@@ -34,22 +28,17 @@ use Rattle.yl_events.proofs.Answered.{taken_within}
 use Rattle.yl_events.proofs.Counts.{all_closed_count}
 use Rattle.yl_events.proofs.ToldBehind.{fed_apart, symbols_behind}
 use Rattle.yl_indentation.specs.declared.fact.Fact.{Fact}
-use Rattle.yl_indentation.specs.Context.{ContextValue, nothing_open}
-use Rattle.yl_indentation.specs.Facts.{indent_facts}
+use Rattle.yl_indentation.specs.Context.{ContextValue}
 use Rattle.yl_indentation.specs.SymbolFacts.{behind_symbols, facts_left}
-use Rattle.yl_indentation.proofs.BySymbols.{as_counted, by_symbols, go_on, none_counts}
+use Rattle.yl_indentation.proofs.BySymbols.{as_counted, go_on, none_counts}
 use Rattle.yl_tree.specs.declared.tree_rules.TreeRules.{TreeRules}
 use Rattle.yl_tree.specs.declared.options.TreeOptions.{TreeOptions}
 use Rattle.yl_tree.specs.Tree.{tree_findings}
 use Rattle.yl_tree.specs.TreeRules.{Finds}
 use Rattle.yl_config.specs.declared.config.Config.{Config}
-use Rattle.yl_record.specs.Records.{RecordValue}
-use Rattle.yl_sections.specs.Sections.{lexemes_of}
-use Rattle.yl_sections.specs.Judge.{built_by, document_of, kept_of_section}
-use Rattle.yl_sections.specs.Kept.{BuiltValue, KeptValue, counted_of, event_findings, facts_of, is_on, items_if, kept_of, tree_options_of}
-use Rattle.yl_sections.proofs.Documents.{counted_within}
-use Rattle.yl_sections.specs.declared.reading.DocumentReading.{DocumentReading}
-use Rattle.yl_sections.specs.Reading.{Ends, FindsAll, Gives, GivesOrFails, IsQuiet, IsReading, ReadsOn, counted_in, fault_told}
+use Rattle.yl_sections.specs.Judge.{built_by, document_of}
+use Rattle.yl_sections.specs.Kept.{BuiltValue, event_findings, tree_options_of}
+use Rattle.yl_sections.specs.Reading.{Ends, FindsAll, Gives, IsQuiet, ReadsOn, fault_told}
 use Rattle.yl_sections.proofs.FrontRows.{none_found}
 
 module _ {A : Type 0} (xs : List LexemeValue) (t u : TreeRules A) (out : List Outline) where
@@ -96,21 +85,6 @@ module _ {A : Type 0} (xs : List LexemeValue) (t u : TreeRules A) (out : List Ou
             (subst (λ (os : List Outline). (es : List EventValue) (found : List FindingValue) → Finds t (map (event_of_outline xs) os ++ es) found → Finds u es found) same fed) finds,
       )
 
--- ---- keys
-
--- one line more
-pub keys_on : (ks ls total : List KeyFacts) (m n : KeyMarkerValue) (line : List Token) (later lines : List (List Token)) → lines ≡ line ∷ later → ls ≡ ks ++ facts_of_line m line
-    → n ≡ behind_keyed_line m line → ks ++ facts_by_lines m lines ≡ total → ls ++ facts_by_lines n later ≡ total
-keys_on ks ls total m n line later lines cut told behind whole =
-    ap (λ (js : List KeyFacts). js ++ facts_by_lines n later) told
-    ∙ (append_assoc ks (facts_of_line m line) (facts_by_lines n later)
-    ∙ (ap (λ k. ks ++ (facts_of_line m line ++ facts_by_lines k later)) behind ∙ (ap (λ (xs : List (List Token)). ks ++ facts_by_lines m xs) (sym cut) ∙ whole)))
-
-pub keys_done : {T : Type 0} (f : T → LexemeValue) (xs : List T) (read : ℕ) (ks total : List KeyFacts) (m : KeyMarkerValue) → length xs ≤ read
-    → ks ++ facts_by_lines m (by_line (map token_of (map f (drop read xs)))) ≡ total → ks ≡ total
-keys_done f xs read ks total m end whole =
-    sym (append-nil ks) ∙ (ap (λ ys. ks ++ facts_by_lines m (by_line (map token_of (map f ys)))) (sym (drop_all read xs end)) ∙ whole)
-
 -- ---- checked places
 
 module _ (tokens : List Token) (ns : List ℕ) where
@@ -145,14 +119,6 @@ module _ (tokens : List Token) (ns : List ℕ) where
       ∙ (ap (λ (xs : List Fact). gs ++ xs) (sym none)
       ∙ (facts_parts c d counted counted ws rest fs gs refl told (indices_of_line (λ i. nat_lt i counted ≡ nat_lt i counted) m line (λ j l h. refl))
       ∙ (ap (λ (ls : List (List Token)). fs ++ facts_left c tokens counted ns (marks_by_lines m ls)) (sym cut) ∙ whole)))
-
-  pub facts_done : {T : Type 0} (f : T → LexemeValue) (xs : List T) (read all : ℕ) (c : ContextValue) (m : MarkerValue) (fs total : List Fact) → length xs ≤ read
-      → fs ++ facts_left c tokens all ns (marks_by_lines m (by_line (map token_of (map f (drop read xs))))) ≡ total → fs ≡ total
-  facts_done f xs read all c m fs total end whole =
-      let ends = closings_of_all m.open_ones in
-      let none : facts_left c tokens all ns ends ≡ [] = none_counts tokens ns c all ends (no_indices (λ i. all ≤ i) m.open_ones) in
-      sym (append-nil fs)
-      ∙ (ap (λ (gs : List Fact). fs ++ gs) (sym none) ∙ (ap (λ ys. fs ++ facts_left c tokens all ns (marks_by_lines m (by_line (map token_of (map f ys))))) (sym (drop_all read xs end)) ∙ whole))
 
 -- ---- a fault's place
 
@@ -209,18 +175,18 @@ module _ {A : Type 0} (config : Config) (xs : List LexemeValue) (b : BuiltValue)
 
 -- ---- events one after another
 
-pub events_on : {A : Type 0} (xs : List LexemeValue) (t u : TreeRules A) (out : List Outline) (i : ℕ) (o : Outline) (e : EventValue) (es : List EventValue) (all : List FindingValue) → i < length out → o ≡ get_or out i o
-    → e ≡ event_of_outline xs o → ((later : List EventValue) (found : List FindingValue) → Finds t (e ∷ later) found → Finds u later found)
-    → Finds t (map (event_of_outline xs) (drop i out) ++ es) all → Finds u (map (event_of_outline xs) (drop (i + 1) out) ++ es) all
-events_on xs t u out i o e es all l is told pushed finds =
-    let rest = map (event_of_outline xs) (drop (i + 1) out) ++ es in
-    let cut : drop i out ≡ o ∷ drop (i + 1) out = drop-cons out i o l ∙ (ap (λ v. v ∷ drop (suc i) out) (sym is) ∙ ap (λ n. o ∷ drop n out) {x = suc i} {y = i + 1} (omega arith)) in
-    pushed rest all
-    (subst (λ v. Finds t (v ∷ rest) all) (sym told) (subst (λ (os : List Outline). Finds t (map (event_of_outline xs) os ++ es) all) cut finds))
+module _ {A : Type 0} (f : Outline → EventValue) (out : List Outline) (i : ℕ) where
+  pub events_on : (t u : TreeRules A) (o : Outline) (e : EventValue) (es : List EventValue) (all : List FindingValue) → i < length out → o ≡ get_or out i o
+      → e ≡ f o → ((later : List EventValue) (found : List FindingValue) → Finds t (e ∷ later) found → Finds u later found)
+      → Finds t (map f (drop i out) ++ es) all → Finds u (map f (drop (i + 1) out) ++ es) all
+  events_on t u o e es all l is told pushed finds =
+      let rest = map f (drop (i + 1) out) ++ es in
+      let cut : drop i out ≡ o ∷ drop (i + 1) out = drop-cons out i o l ∙ (ap (λ v. v ∷ drop (suc i) out) (sym is) ∙ ap (λ n. o ∷ drop n out) {x = suc i} {y = i + 1} (omega arith)) in
+      pushed rest all
+      (subst (λ v. Finds t (v ∷ rest) all) (sym told) (subst (λ (os : List Outline). Finds t (map f os ++ es) all) cut finds))
 
-pub events_done : {A : Type 0} (xs : List LexemeValue) (t : TreeRules A) (out : List Outline) (i : ℕ) (es : List EventValue) (all : List FindingValue) → length out ≤ i
-    → Finds t (map (event_of_outline xs) (drop i out) ++ es) all → Finds t es all
-events_done xs t out i es all l finds = subst (λ (os : List Outline). Finds t (map (event_of_outline xs) os ++ es) all) (drop_all i out l) finds
+  pub events_done : (t : TreeRules A) (es : List EventValue) (all : List FindingValue) → length out ≤ i → Finds t (map f (drop i out) ++ es) all → Finds t es all
+  events_done t es all l finds = subst (λ (os : List Outline). Finds t (map f os ++ es) all) (drop_all i out l) finds
 
 -- ---- how many lexemes were read
 
@@ -230,16 +196,6 @@ line_counted f line m n read behind at =
 
 pub tokens_long : {T : Type 0} (f : T → LexemeValue) (line : List T) → length (map token_of (map f line)) ≡ length line
 tokens_long f line = length-map (map f line) token_of ∙ length-map line f
-
--- ---- a fault
-
-pub reads_fails : {A : Type 0} (xs : List LexemeValue) (t u : TreeRules A) (o w : List Symbol → DocumentOutcome) (fault : Option PlacedParseFault) (f : PlacedParseFault) → fault ≡ Some f
-    → ((later : List Symbol) → ReadsOn fault xs t (o later) u (w later)) → (later : List Symbol) → o later ≡ Fails f
-reads_fails xs t u o w fault f is reads later = subst (λ e. ReadsOn e xs t (o later) u (w later)) is (reads later)
-
-pub reads_none : {A : Type 0} (xs : List LexemeValue) (t u : TreeRules A) (o w : List Symbol → DocumentOutcome) (fault : Option PlacedParseFault) → fault ≡ None
-    → ((later : List Symbol) → ReadsOn fault xs t (o later) u (w later)) → (later : List Symbol) → ReadsOn None xs t (o later) u (w later)
-reads_none xs t u o w fault is reads later = subst (λ e. ReadsOn e xs t (o later) u (w later)) is (reads later)
 
 -- ---- the beginning
 
@@ -262,47 +218,24 @@ module _ {A : Type 0} (config : Config) (xs : List LexemeValue) (t u : TreeRules
 
 -- ---- the end
 
-close_place : (p : SymbolParserValue) (count : ℕ) (os : List OpenBlock) (f : PlacedParseFault) → outcome_of_symbols p count [] (closings_of_all os) ≡ Fails f → f.place ≡ count
+pub close_place : (p : SymbolParserValue) (count : ℕ) (os : List OpenBlock) (f : PlacedParseFault) → outcome_of_symbols p count [] (closings_of_all os) ≡ Fails f → f.place ≡ count
 close_place p count os f fails =
     let ws = closings_of_all os in
     omega (arith, place_told p.trail count (taken_count ws p.goals []) ws (run ws p.goals []) f fails, taken_within ws p.goals [], all_closed_count os)
 
-module _ {A : Type 0} (config : Config) (xs : List LexemeValue) (b : BuiltValue) (t u : TreeRules A) (p : SymbolParserValue) (os : List OpenBlock) (n : ℕ) (long : length xs ≡ n) (quiet : IsQuiet b) where
-  abbrev o : DocumentOutcome
-  o = outcome_of_symbols p n [] (closings_of_all os)
-
-  -- the document ends with this fault and these findings, where this fault was found before
-  abbrev pub Ending : Option PlacedParseFault → Option PlacedParseFault → List FindingValue → Type 0
-  Ending before fault found = (fault ≡ b.fault) × (found ≡ event_findings config b.events) × (counted_in before n ≡ counted_of xs b.fault)
-
+module _ {A : Type 0} (config : Config) (xs : List LexemeValue) (b : BuiltValue) (t u : TreeRules A) (o : DocumentOutcome) (quiet : IsQuiet b) (gives : Gives config xs t o b) where
   nothing_found : (f : PlacedParseFault) → b.fault ≡ Some f → [] ≡ event_findings config b.events
   nothing_found f is = sym (ap (event_findings config) (quiet f is) ∙ none_found config)
 
-  pub end_before : (fault : Option PlacedParseFault) → is_some fault ≡ true → (found : List FindingValue) → found ≡ [] → GivesOrFails fault config xs t o b → Ending fault fault found
-  end_before None e found none h = absurd (cc)
-  end_before (Some f) e found none h = (sym h, none ∙ nothing_found f h, sym (ap (counted_of xs) h))
+  -- with this fault after all lexemes, under which nothing is found
+  pub ends_after : (f : PlacedParseFault) → o ≡ Fails f → (found : List FindingValue) → found ≡ [] → (b.fault ≡ Some f) × (found ≡ event_findings config b.events)
+  ends_after f fails found none =
+      let told : b.fault ≡ Some f = sym gives.fault ∙ ap fault_told fails in
+      (told, none ∙ nothing_found f told)
 
-  gives : (fault : Option PlacedParseFault) → is_some fault ≡ false → GivesOrFails fault config xs t o b → Gives config xs t o b
-  gives None e h = h
-  gives (Some f) e h = absurd (cc)
-
-  none_before : (fault : Option PlacedParseFault) → is_some fault ≡ false → counted_in fault n ≡ n
-  none_before None e = refl
-  none_before (Some f) e = absurd (cc)
-
-  pub end_behind : (fault ends : Option PlacedParseFault) (f : PlacedParseFault) → is_some fault ≡ false → ends ≡ Some f → Ends ends xs t o u → (found : List FindingValue) → found ≡ []
-      → GivesOrFails fault config xs t o b → Ending fault (Some f) found
-  end_behind fault ends f e is closed found none h =
-      let fails : o ≡ Fails f = subst (λ w. Ends w xs t o u) is closed in
-      let told : b.fault ≡ Some f = sym (gives fault e h).fault ∙ ap fault_told fails in
-      (sym told, none ∙ nothing_found f told, none_before fault e ∙ (sym (close_place p n os f fails) ∙ sym (ap (counted_of xs) told)))
-
-  pub end_whole : (fault ends : Option PlacedParseFault) → is_some fault ≡ false → ends ≡ None → Ends ends xs t o u → (found : List FindingValue) → ((all : List FindingValue) → Finds u [] all → found ≡ all)
-      → GivesOrFails fault config xs t o b → Ending fault None found
-  end_whole fault ends e is closed found finds h =
-      let both = subst (λ w. Ends w xs t o u) is closed in
-      let told : b.fault ≡ None = sym (gives fault e h).fault ∙ both.0 in
-      (sym told, finds (event_findings config b.events) (both.1 (event_findings config b.events) (gives fault e h).found), none_before fault e ∙ (sym long ∙ sym (ap (counted_of xs) told)))
+  -- whole
+  pub ends_whole : Ends None xs t o u → (found : List FindingValue) → ((all : List FindingValue) → Finds u [] all → found ≡ all) → (b.fault ≡ None) × (found ≡ event_findings config b.events)
+  ends_whole closed found finds = (sym gives.fault ∙ closed.0, finds (event_findings config b.events) (closed.1 (event_findings config b.events) gives.found))
 
 -- ---- all of it
 
@@ -324,52 +257,3 @@ gives_document config xs t p m start l gives =
     let lines = by_line (map token_of xs) in
     subst (λ k. Gives config xs t (outcome_of_symbols p 0 [] (marks_by_lines k.marks lines)) (document_of xs)) (sym start)
     (subst (λ b. Gives config xs t (outcome_of_symbols p 0 [] (marks_by_lines marker_at_start lines)) b) (sym (document_told xs l)) (gives (marks_by_lines marker_at_start lines)))
-
-pub keys_read : (xs : List LexemeValue) (ks old : List KeyFacts) (m : KeyMarkerValue) → ks ≡ old ++ facts_by_lines m (by_line (map token_of xs)) → old ≡ [] → m ≡ key_marker_at_start → ks ≡ key_facts xs
-keys_read xs ks old m told none start =
-    told
-    ∙ (ap (λ (js : List KeyFacts). js ++ facts_by_lines m (by_line (map token_of xs))) none ∙ (ap (λ k. facts_by_lines k (by_line (map token_of xs))) start ∙ told_by_lines (map token_of xs)))
-
-pub facts_read : (config : Config) (rs : List RecordValue) (xs : List LexemeValue) (counted so_many : ℕ) (ns : List ℕ) (fs old is_checked : List Fact) (m : KeyMarkerValue)
-    → fs ≡ old ++ facts_left nothing_open (map token_of xs) counted ns (marks_by_lines m.marks (by_line (map token_of xs))) → old ≡ [] → m ≡ key_marker_at_start → counted ≡ so_many
-    → ns ≡ map (λ r. r.indentation) rs → is_checked ≡ items_if (is_on config Indentation) fs → is_checked ≡ facts_of config rs xs so_many
-facts_read config rs xs counted so_many ns fs old is_checked m told none start same are is =
-    let ts = map token_of xs in
-    let left = λ (k : KeyMarkerValue). facts_left nothing_open ts counted ns (marks_by_lines k.marks (by_line ts)) in
-    let whole : fs ≡ indent_facts ts (marked_lexemes xs) counted ns =
-    told
-    ∙ (ap (λ (gs : List Fact). gs ++ left m) none ∙ (ap left start ∙ (ap (facts_left nothing_open ts counted ns) (marked_by_lines ts) ∙ by_symbols xs counted ns))) in
-    is
-    ∙ (ap (items_if (is_on config Indentation)) whole
-    ∙ (ap (λ n. items_if (is_on config Indentation) (indent_facts ts (marked_lexemes xs) n ns)) same ∙ ap (λ ks. items_if (is_on config Indentation) (indent_facts ts (marked_lexemes xs) so_many ks)) are))
-
-none_if : (b : Bool) (fs : List Fact) → fs ≡ [] → [] ≡ items_if b fs
-none_if true fs e = sym e
-none_if false fs e = refl
-
-pub nothing_read : {A T : Type 0} (config : Config) (rs : List RecordValue) (f : T → LexemeValue) (ys : List T) (r : DocumentReading A) → (length ys == 0) ≡ true → r.keys.items ≡ [] → r.facts.items ≡ [] → r.found.items ≡ [] → r.fault ≡ None
-    → IsReading config rs (map f ys) (document_of (map f ys)) r
-nothing_read config rs f [] r e keys facts found fault = record {
-  fault = fault;
-  keys = keys;
-  facts = facts ∙ none_if (is_on config Indentation) (indent_facts [] (marked_lexemes []) 0 (map (λ s. s.indentation) rs)) refl;
-  found = found ∙ sym (none_found config);
-}
-nothing_read config rs f (y ∷ ys) r e keys facts found fault = absurd (omega (arith, eqb-true (length (y ∷ ys)) 0 e))
-
--- ---- what is kept
-
-pub inside_read : {A X : Type 0} (config : Config) (rs : List RecordValue) (f : X → LexemeValue) (xs ys zs : List X) (r : DocumentReading A) → xs ≡ zs → ys ≡ zs → IsReading config rs (map f xs) (document_of (map f xs)) r
-    → counted_of (map f ys) r.fault ≤ length ys
-inside_read {A} {X} config rs f xs ys zs r a b reads =
-    let here : counted_of (map f xs) (document_of (map f xs)).fault ≤ length (map f xs) = counted_within (map f xs) (document_of (map f xs)) refl in
-    let same : counted_of (map f ys) r.fault ≡ counted_of (map f xs) (document_of (map f xs)).fault = ap (λ (vs : List X). counted_of (map f vs) r.fault) (b ∙ sym a) ∙ ap (counted_of (map f xs)) reads.fault in
-    let long : length ys ≡ length xs = ap (λ (vs : List X). length vs) (b ∙ sym a) in
-    omega (arith, here, same, long, length-map xs f)
-
-pub kept_read : {A X E : Type 0} (config : Config) (rs : List RecordValue) (f : X → LexemeValue) (xs ys zs : List X) (r : DocumentReading A) (k : Result KeptValue E) → xs ≡ zs → ys ≡ zs → map f zs ≡ lexemes_of rs
-    → IsReading config rs (map f xs) (document_of (map f xs)) r → ((b : BuiltValue) → IsReading config rs (map f ys) b r → IfOk k (λ v. v ≡ kept_of config rs b)) → IfOk k (λ v. v ≡ kept_of_section config rs)
-unfolding kept_of_section
-kept_read {A} {X} {E} config rs f xs ys zs r k a b are reads keeps =
-    let here = subst (λ (vs : List X). IsReading config rs (map f vs) (document_of (map f xs)) r) (a ∙ sym b) reads in
-    subst (λ (vs : List LexemeValue). IfOk k (λ v. v ≡ kept_of config rs (document_of vs))) (ap (map f) a ∙ are) (keeps (document_of (map f xs)) here)

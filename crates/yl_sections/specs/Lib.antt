@@ -8,3 +8,4 @@ pub mod Front
 pub mod Last
 pub mod Laws
 pub mod Reading
+pub mod Judging

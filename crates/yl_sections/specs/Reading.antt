@@ -2,23 +2,13 @@
 use Rattle.std.specs.Prelude.{◌≡◌, ℕ, List, [], map, Option, Some, None}
 use Rattle.yl_text.specs.Finding.{FindingValue}
 use Rattle.yl_lexeme.specs.Lexeme.{LexemeValue}
-use Rattle.yl_marks.specs.Facts.{key_facts}
 use Rattle.yl_events.specs.declared.fault.PlacedParseFault.{PlacedParseFault}
 use Rattle.yl_events.specs.DocumentOutcome.{DocumentOutcome, Events, Fails}
 use Rattle.yl_events.specs.Event.{event_of_outline}
 use Rattle.yl_tree.specs.declared.tree_rules.TreeRules.{TreeRules}
 use Rattle.yl_tree.specs.TreeRules.{Finds}
 use Rattle.yl_config.specs.declared.config.Config.{Config}
-use Rattle.yl_record.specs.Records.{RecordValue}
-use Rattle.yl_sections.specs.declared.reading.DocumentReading.{DocumentReading}
-use Rattle.yl_sections.specs.Kept.{BuiltValue, counted_of, event_findings, facts_of}
-
--- what was read of a document that gives this
-pub record IsReading {A : Type 0} (config : Config) (rs : List RecordValue) (xs : List LexemeValue) (b : BuiltValue) (r : DocumentReading A) : Type 0 where
-  pub fault : r.fault ≡ b.fault
-  pub keys : r.keys.items ≡ key_facts xs
-  pub facts : r.facts.items ≡ facts_of config rs xs (counted_of xs b.fault)
-  pub found : r.found.items ≡ event_findings config b.events
+use Rattle.yl_sections.specs.Kept.{BuiltValue, event_findings}
 
 -- ---- while it is read
 
@@ -46,11 +36,6 @@ pub record Gives {A : Type 0} (config : Config) (xs : List LexemeValue) (t : Tre
 -- under a fault there are no events
 abbrev pub IsQuiet : BuiltValue → Type 0
 IsQuiet b = (f : PlacedParseFault) → b.fault ≡ Some f → b.events ≡ []
-
--- all lines were read, or the document has this fault
-abbrev pub GivesOrFails : {A : Type 0} → Option PlacedParseFault → Config → List LexemeValue → TreeRules A → DocumentOutcome → BuiltValue → Type 0
-GivesOrFails None config xs t o b = Gives config xs t o b
-GivesOrFails (Some f) config xs t o b = b.fault ≡ Some f
 
 -- the document ends: its rules find all that they were to find, once no event is to come, and it has no fault; or it has this one
 abbrev pub Ends : {A : Type 0} → Option PlacedParseFault → List LexemeValue → TreeRules A → DocumentOutcome → TreeRules A → Type 0

@@ -5,13 +5,16 @@ ghost use Rattle.std.specs.List.{filter};
 ghost use Rattle.std.specs.Bool.{then_some};
 ghost use Rattle.yl_lexeme.specs.PlacedComments.{placed_comment_value};
 ghost use Rattle.yl_rules.specs.Addressed as spec;
-ghost use Rattle.yl_sections.specs.Kept.{comment_at, comments_from, last_lexeme_end, shown_comments};
+ghost use Rattle.yl_sections.specs.Kept.{last_lexeme_end};
 
 use crate::kept::KeptComment;
+use crate::rules::comments_found;
 use std::alloc::{AllocError, Allocator};
-use yl_lexeme::{Comment, Lexeme, PlacedComment};
+use yl_config::Config;
+use yl_lexeme::{Lexeme, PlacedComment};
 use yl_record::Record;
 use yl_rules::is_addressed;
+use yl_text::Finding;
 
 /// Where a lexeme ends: at this line, from 0 from the section's first row, and behind its last character, from 0 in characters.
 #[derive(Clone, Copy)]
@@ -55,61 +58,6 @@ fn column_in(line: u32, last: Option<LexemeEnd>) -> Option<u32>
     }
 }
 
-/// Puts the comment of the row at this line after the others, if it has one.
-fn push_comment<'a, A: Allocator>(
-    comments: &mut Vec<PlacedComment<'a>, A>,
-    line: u32,
-    last: Option<LexemeEnd>,
-    comment: Option<&'a Comment<A>>,
-) -> Result<(), AllocError>
-    ensures { OnOk result (map placed_comment_value comments.new.items
-        ≡ map placed_comment_value comments.old.items ++ comment_at line last (option_map (λ c. c.now) comment.entry)) }
-{
-    if let Some(comment) = comment {
-        comments.push(PlacedComment {
-            line,
-            col: comment.col(),
-            text: comment.text(),
-            behind: column_in(line, last),
-        })?;
-    }
-    Ok(())
-}
-
-/// The comments of these rows.
-fn comments_of<'a, A: Allocator + Copy>(
-    alloc: A,
-    records: &[&'a Record<A>],
-) -> Result<Vec<PlacedComment<'a>, A>, AllocError>
-    requires { length records.now < 2 ^ 32 }
-    ensures { IfOk result (λ v. map placed_comment_value v.items ≡ comments_from None 0 (map (λ r. r.now) records.now)) }
-{
-    let mut comments = Vec::new(alloc);
-    let mut last = None;
-    for (line, record) in records.iter().enumerate() {
-        last = last_end(last, line as u32, record.lexemes());
-        push_comment(&mut comments, line as u32, last, record.comment())?;
-    }
-    Ok(comments)
-}
-
-/// The comments of the first so many rows.
-pub fn shown_comments<'a, A: Allocator + Copy>(
-    alloc: A,
-    records: &[&'a Record<A>],
-    rows: usize,
-) -> Result<Vec<PlacedComment<'a>, A>, AllocError>
-    requires { length records.now < 2 ^ 32 }
-    ensures { IfOk result (λ v. map placed_comment_value v.items ≡ shown_comments rows (map (λ r. r.now) records.now)) }
-{
-    if rows < records.len() {
-        let (shown, _) = records.split_at(rows);
-        comments_of(alloc, shown)
-    } else {
-        comments_of(alloc, records)
-    }
-}
-
 /// Puts a comment after those that are kept, if it may silence rules.
 fn push_addressed<A: Allocator + Copy>(
     alloc: A,
@@ -124,16 +72,67 @@ fn push_addressed<A: Allocator + Copy>(
     Ok(())
 }
 
-/// Those that may silence rules.
-pub fn kept_comments<A: Allocator + Copy>(
-    alloc: A,
-    comments: &[PlacedComment<'_>],
-) -> Result<Vec<KeptComment<A>, A>, AllocError>
-    ensures { IfOk result (λ v. v.items ≡ filter spec.is_addressed (map placed_comment_value comments.now)) }
-{
-    let mut kept = Vec::new(alloc);
-    for comment in comments {
-        push_addressed(alloc, &mut kept, comment)?;
+/// The comments of a section, as far as its rows were read: what the rule comments finds in them, and those that may silence rules.
+#[derive(Drop)]
+pub struct CommentReader<A: Allocator> {
+    /// Where the last lexeme ends.
+    last: Option<LexemeEnd>,
+    pub found: Vec<Finding<A>, A>,
+    pub kept: Vec<KeptComment<A>, A>,
+}
+
+impl<A: Allocator + Copy> CommentReader<A> {
+    ghost use Rattle.std.specs.Prelude.{◌≡◌, ◌++◌, ◌∷◌, [], true, false, List, length, OnOk};
+    ghost use Rattle.yl_config.specs.declared.config.Config.{Config};
+    ghost use Rattle.yl_record.specs.Records.{RecordValue};
+    ghost use Rattle.yl_sections.specs.Judging.{ReadsComments};
+
+    /// Before the first row.
+    pub fn new(alloc: A) -> CommentReader<A>
+        ensures { (config : Config) → ReadsComments config [] result }
+    {
+        CommentReader {
+            last: None,
+            found: Vec::new(alloc),
+            kept: Vec::new(alloc),
+        }
     }
-    Ok(kept)
+
+    /// Reads the comment of the next row, at this line, if it has one. The only error is out of memory.
+    pub fn read(&mut self, config: &Config, line: u32, row: &Record<A>) -> Result<(), AllocError>
+        ensures { (rs : List RecordValue) → line ≡ length rs → ReadsComments config.now rs self.old
+            → OnOk result (ReadsComments config.now (rs ++ row.now ∷ []) self.new) }
+    {
+        self.last = last_end(self.last, line, row.lexemes());
+        let Some(comment) = row.comment() else {
+            return Ok(());
+        };
+        let comment = PlacedComment {
+            line,
+            col: comment.col(),
+            text: comment.text(),
+            behind: column_in(line, self.last),
+        };
+        let alloc = *self.found.allocator();
+        let mut found = comments_found(alloc, config, &[comment])?;
+        self.found.append(&mut found)?;
+        push_addressed(alloc, &mut self.kept, &comment)
+    }
+    /// The same, if comments are shown.
+    pub fn read_if(
+        &mut self,
+        shows: bool,
+        config: &Config,
+        line: u32,
+        row: &Record<A>,
+    ) -> Result<(), AllocError>
+        ensures shown { (rs : List RecordValue) → shows ≡ true → line ≡ length rs → ReadsComments config.now rs self.old
+            → OnOk result (ReadsComments config.now (rs ++ row.now ∷ []) self.new) }
+        ensures stays { shows ≡ false → OnOk result (self.new ≡ self.old) }
+    {
+        if !shows {
+            return Ok(());
+        }
+        self.read(config, line, row)
+    }
 }

@@ -6,23 +6,26 @@
 
 mod comments;
 mod comparing;
+mod document_judge;
+mod document_reader;
 mod fault;
 mod front;
 mod judging;
 mod kept;
 mod laws;
 mod lexemes;
-mod reading;
 mod rules;
+mod section_judge;
 mod sections;
 
 pub use comparing::are_same_findings;
 pub use fault::SectionFault;
 pub use front::kept_of_front;
-pub use judging::{judge_all, judge_whole};
+pub use judging::{SectionsJudge, judge_all};
 pub use kept::{Kept, KeptComment};
 pub use laws::{
     first_section, lost_rows, one_kept, sections_are_documents, sections_are_local,
     states_tell_kinds,
 };
+pub use section_judge::SectionJudge;
 pub use sections::{is_section_start, last_kind, section_len};

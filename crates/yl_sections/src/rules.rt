@@ -1,17 +1,13 @@
 //! What the rules find in a section.
-ghost use Rattle.std.specs.Prelude.{◌≡◌, ◌≤◌, ◌++◌, map, length, IfOk};
+ghost use Rattle.std.specs.Prelude.{◌≡◌, map, IfOk};
 ghost use Rattle.std.specs.Bool.{then_some};
 ghost use Rattle.yl_lexeme.specs.PlacedComments.{placed_comment_value};
-ghost use Rattle.yl_marks.specs.Facts.{key_facts};
-ghost use Rattle.yl_marks.specs.Keys.{lexeme_at_line};
-ghost use Rattle.yl_layout.specs.Lexemes.{lexeme_findings};
 ghost use Rattle.yl_sections.specs.Kept.{is_on, lexeme_options_of, shown_comment_findings, tree_options_of};
 
 use std::alloc::{AllocError, Allocator};
 use yl_config::Config;
-use yl_layout::{LexemeOptions, lexeme_problems};
-use yl_lexeme::{LexemeAtLine, PlacedComment};
-use yl_marks::KeyFacts;
+use yl_layout::LexemeOptions;
+use yl_lexeme::PlacedComment;
 use yl_rules::comment_problems;
 use yl_text::{Finding, RuleId};
 use yl_tree::TreeOptions;
@@ -31,7 +27,7 @@ fn options_if<O: Copy>(is_on: bool, options: &O) -> Option<O>
 }
 
 /// The options of the rules on lexemes.
-fn lexeme_options(config: &Config) -> LexemeOptions
+pub fn lexeme_options(config: &Config) -> LexemeOptions
     ensures { result ≡ lexeme_options_of config.now }
 {
     LexemeOptions {
@@ -52,24 +48,8 @@ fn lexeme_options(config: &Config) -> LexemeOptions
     }
 }
 
-/// What the rules on lexemes find, where the first `counted` of these count. `keys` are the whole document's.
-fn lexemes_found<A: Allocator + Copy>(
-    alloc: A,
-    config: &Config,
-    lexemes: &[LexemeAtLine<'_, A>],
-    keys: &[KeyFacts],
-    counted: usize,
-) -> Result<Vec<Finding<A>, A>, AllocError>
-    requires keys { keys.now ≡ key_facts (map (λ x. lexeme_at_line x.line x.lexeme.now) lexemes.now) }
-    requires counted { counted ≤ length lexemes.now }
-    ensures { IfOk result (λ v. v.items
-        ≡ lexeme_findings (lexeme_options_of config.now) counted (map (λ x. lexeme_at_line x.line x.lexeme.now) lexemes.now)) }
-{
-    lexeme_problems(alloc, lexemes, keys, counted, &lexeme_options(config))
-}
-
 /// What the rule comments finds.
-fn comments_found<A: Allocator + Copy>(
+pub fn comments_found<A: Allocator + Copy>(
     alloc: A,
     config: &Config,
     comments: &[PlacedComment<'_>],
@@ -94,29 +74,4 @@ pub fn tree_options(config: &Config) -> TreeOptions
         key_ordering: is_on(config, RuleId::KeyOrdering),
         anchors: options_if(is_on(config, RuleId::Anchors), config.anchors_options()),
     }
-}
-
-/// What the rules find in a section of which the first `counted` lexemes, these comments and these events' findings are shown. `keys`
-/// are those of all lexemes.
-pub fn found<A: Allocator + Copy>(
-    alloc: A,
-    config: &Config,
-    lexemes: &[LexemeAtLine<'_, A>],
-    keys: &[KeyFacts],
-    counted: usize,
-    comments: &[PlacedComment<'_>],
-    in_tree: Vec<Finding<A>, A>,
-) -> Result<Vec<Finding<A>, A>, AllocError>
-    requires keys { keys.now ≡ key_facts (map (λ x. lexeme_at_line x.line x.lexeme.now) lexemes.now) }
-    requires counted { counted ≤ length lexemes.now }
-    ensures { IfOk result (λ v. v.items
-        ≡ lexeme_findings (lexeme_options_of config.now) counted (map (λ x. lexeme_at_line x.line x.lexeme.now) lexemes.now)
-        ++ (shown_comment_findings config.now (map placed_comment_value comments.now) ++ in_tree.items)) }
-{
-    let mut in_tree = in_tree;
-    let mut found = lexemes_found(alloc, config, lexemes, keys, counted)?;
-    let mut of_comments = comments_found(alloc, config, comments)?;
-    found.append(&mut of_comments)?;
-    found.append(&mut in_tree)?;
-    Ok(found)
 }

@@ -1,13 +1,12 @@
 -- A rule that walks over the events takes one event more.
-use Rattle.std.proofs.Common.{◌≡◌, ℕ, List, ◌∷◌, ◌++◌, refl, ◌∙◌, ap, append_assoc, Bool, Bor, Option, Some, None}
-use Rattle.std.specs.Prelude.{option_copied, option_map}
+use Rattle.std.proofs.Common.{◌≡◌, ℕ, List, ◌∷◌, ◌++◌, ◌∙◌, ap, append_assoc, Bool}
 use Rattle.yl_text.specs.Finding.{FindingValue, at_each}
 use Rattle.yl_events.specs.Event.{EventValue}
 use Rattle.yl_tree.specs.declared.walk.Walk.{Walk}
 use Rattle.yl_tree.specs.Frames.{IsBehind}
 use Rattle.yl_tree.specs.Finders.{FindsByWalk}
 
-pub walk_more : {M A : Type 0} (against : List ℕ → List ℕ → Bool) (test : M → List ℕ → Bool)
+pub walk_more : {M A : Type 0} (against : List ℕ → List ℕ → Bool) (test : M → ℕ → List ℕ → Bool)
     (found_at : List EventValue → EventValue → List EventValue → List FindingValue)
     (w v : Walk M A) (found more : List FindingValue) (e : EventValue) (es : List EventValue) (all : List FindingValue)
     (h : FindsByWalk against test found_at w found (e ∷ es) all)
@@ -21,7 +20,3 @@ walk_more against test found_at w v found more e es all h told behind = record {
       ∙ append_assoc found (found_at h.before e es) (at_each found_at (e ∷ h.before) es)
       ∙ h.whole;
 }
-
-pub named : (o : Option (Bor (List ℕ))) → option_map (λ name. name.now) o ≡ option_copied o
-named None = refl
-named (Some name) = refl

@@ -4,8 +4,11 @@ mod Examples
 pub mod Finders
 pub mod Frames
 pub mod Keys
+pub mod Kept
 pub mod KeyTold
 pub mod Names
+pub mod NameStack
+pub mod OpenKeys
 pub mod Own
 pub mod References
 pub mod Skipped

@@ -57,7 +57,7 @@ module _ (o : AnchorsOptions) (old new : List EventValue) (same : (q : List ℕ)
       ap (λ (fs : List FindingValue). fs ++ anchor_findings o old e.anchor after) (alias_same e e.kind)
       ∙ ap (λ (fs : List FindingValue). undeclared_alias o new e e.kind ++ fs) (anchor_same e.anchor after)
 
-before_same : (o : AnchorsOptions) (old new : List EventValue)
+pub before_same : (o : AnchorsOptions) (old new : List EventValue)
     → ((q : List ℕ) → is_declared old q ≡ is_declared new q) → (es : List EventValue)
     → at_each (anchors_at o) old es ≡ at_each (anchors_at o) new es
 before_same o old new same [] = refl

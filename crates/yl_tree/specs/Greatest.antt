@@ -1,8 +1,8 @@
 -- Bridge: what the greatest of some keys says of them.
-use Rattle.std.specs.Prelude.{ℕ, Bool, false, List, Option, Some, None}
-use denote.Ref.{Bor}
+use Rattle.std.specs.Prelude.{ℕ, Bool, List}
+use Rattle.std.specs.List.{list_any}
 use Rattle.yl_tree.specs.KeyRules.{is_greater}
 
-abbrev pub is_some_greater : Option (Bor (List ℕ)) → List ℕ → Bool
-is_some_greater None name = false
-is_some_greater (Some key) name = is_greater key.now name
+-- one of these names is greater
+abbrev pub is_greater_among : List (List ℕ) → List ℕ → Bool
+is_greater_among names name = list_any (λ x. is_greater x name) names

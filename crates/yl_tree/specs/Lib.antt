@@ -4,12 +4,15 @@ pub mod Frames
 pub mod Greatest
 pub mod KeyRules
 pub mod Keys
-pub mod ManyKeys
 pub mod Messages
+pub mod Name
 pub mod NameSets
+pub mod NameStack
 pub mod OpenNodes
 pub mod Order
+pub mod OtherKeys
 pub mod References
+pub mod Sufficient
 pub mod Tree
 pub mod TreeRules
 pub mod Unused

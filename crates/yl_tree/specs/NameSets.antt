@@ -5,13 +5,13 @@ use denote.Ref.{Bor}
 use Rattle.std.specs.HashSet.{HashSet}
 use Rattle.yl_tree.specs.KeyRules.{is_greater}
 
-abbrev pub is_among : List (Bor (List ℕ)) → List ℕ → Bool
-is_among names name = list_any (λ x. bytes_eq x.now name) names
+abbrev pub is_among : List (List ℕ) → List ℕ → Bool
+is_among names name = list_any (λ x. bytes_eq x name) names
 
 abbrev pub has_name : {S : Type 0} → HashSet (Bor (List ℕ)) S → List ℕ → Bool
 has_name names name = list_any (λ x. bytes_eq name x.now) names.keys
 
 -- it is greater than the greatest, if there is one
-abbrev pub is_above : Option (Bor (List ℕ)) → List ℕ → Bool
+abbrev pub is_above : Option (List ℕ) → List ℕ → Bool
 is_above None name = true
-is_above (Some greatest) name = is_greater name greatest.now
+is_above (Some greatest) name = is_greater name greatest

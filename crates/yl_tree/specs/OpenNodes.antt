@@ -1,5 +1,5 @@
 -- Bridge: the collections that are open behind a document's first events, with their keys so far.
-use Rattle.std.specs.Prelude.{ℕ, Bool, true, false, not, ◌&&◌, if◌then◌else◌, List, [], ◌∷◌, ◌++◌, Option}
+use Rattle.std.specs.Prelude.{ℕ, zero, suc, Bool, true, false, not, ◌&&◌, if◌then◌else◌, List, [], ◌∷◌, ◌++◌, Option}
 use Rattle.std.specs.Option.{option_to_list}
 use Rattle.yl_events.specs.Event.{EventValue}
 use Rattle.yl_tree.specs.Keys.{is_collection_start, is_collection_end, is_mapping_start, name_of}
@@ -32,6 +32,28 @@ first_or_new (o ∷ os) = o
 abbrev pub without_first : List OpenCollection → List OpenCollection
 without_first [] = []
 without_first (o ∷ os) = os
+
+-- the innermost collection with one node more
+abbrev pub with_node_in : Option (List ℕ) → OpenNodes → OpenNodes
+with_node_in name s = record { innermost = with_node name s.innermost; outer = s.outer }
+
+-- without the innermost one
+abbrev pub closed : OpenNodes → OpenNodes
+closed s = record { innermost = first_or_new s.outer; outer = without_first s.outer }
+
+-- with one in the innermost one
+abbrev pub opened : Bool → OpenNodes → OpenNodes
+opened is_mapping s = record { innermost = new_collection is_mapping; outer = s.innermost ∷ s.outer }
+
+-- the collection in which so many others are open
+abbrev pub nth_or_new : ℕ → List OpenCollection → OpenCollection
+nth_or_new n [] = new_collection false
+nth_or_new zero (o ∷ os) = o
+nth_or_new (suc n) (o ∷ os) = nth_or_new n os
+
+abbrev pub open_at : ℕ → OpenNodes → OpenCollection
+open_at zero s = s.innermost
+open_at (suc n) s = nth_or_new n s.outer
 
 -- with one event more
 abbrev pub with_event : EventValue → OpenNodes → OpenNodes

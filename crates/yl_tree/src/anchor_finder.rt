@@ -1,24 +1,40 @@
 //! The rule anchors, fed a document's events one after another.
-ghost use Rattle.std.specs.Prelude.{◌≡◌, List, [], ◌∷◌, IfOk, OnOk};
+ghost use Rattle.std.specs.Prelude.{◌≡◌, List, [], ◌∷◌, map, IfOk, OnOk};
 ghost use Rattle.yl_text.specs.Finding.{FindingValue};
 ghost use Rattle.yl_events.specs.Event.{EventValue, event_value};
 ghost use Rattle.yl_tree.specs.Anchors.{anchors};
+ghost use Rattle.yl_tree.specs.References.{reference_value};
 
 use crate::anchor_rule::{anchors, is_reference};
 use crate::options::AnchorsOptions;
+use crate::reference::Reference;
 use std::alloc::{AllocError, Allocator};
 use yl_events::Event;
 use yl_text::Finding;
 
-/// The rule anchors behind a document's first events. It keeps those that have an anchor or are an
-/// alias, and no others.
+/// The rule anchors after a document's first events. It keeps what it needs of those that have an
+/// anchor or are an alias, and nothing of others.
 #[derive(Drop)]
-pub(crate) struct AnchorFinder<'a, A: Allocator + Copy> {
+pub(crate) struct AnchorFinder<A: Allocator + Copy> {
     options: AnchorsOptions,
-    references: Vec<Event<'a>, A>,
+    references: Vec<Reference<A>, A>,
 }
 
-impl<'a, A: Allocator + Copy> AnchorFinder<'a, A> {
+/// The events of which this is kept.
+fn events_of<A: Allocator + Copy>(
+    alloc: A,
+    references: &[Reference<A>],
+) -> Result<Vec<Event<'_>, A>, AllocError>
+    ensures { IfOk result (λ v. map event_value v.items ≡ map reference_value references.now) }
+{
+    let mut events = Vec::new(alloc);
+    for reference in references {
+        events.push(reference.event())?;
+    }
+    Ok(events)
+}
+
+impl<A: Allocator + Copy> AnchorFinder<A> {
     ghost use Rattle.yl_tree.specs.Finders.{FindsAnchors};
 
     /// Before a document's first event.
@@ -32,26 +48,25 @@ impl<'a, A: Allocator + Copy> AnchorFinder<'a, A> {
     }
 
     /// Takes the next event.
-    pub(crate) fn push(&mut self, event: &Event<'a>) -> Result<(), AllocError>
+    pub(crate) fn push(&mut self, event: &Event<'_>) -> Result<(), AllocError>
         ensures { (es : List EventValue) (all : List FindingValue)
             → FindsAnchors self.old (event_value event.now ∷ es) all
             → OnOk result (FindsAnchors self.new es all) }
     {
         if is_reference(event) {
-            self.references.push(*event)?;
+            let alloc = *self.references.allocator();
+            self.references.push(Reference::of(alloc, event)?)?;
         }
         Ok(())
     }
 
     /// What the rule found, where no event is to come.
     pub(crate) fn finish(self) -> Result<Vec<Finding<A>, A>, AllocError>
-        ensures { (all : List FindingValue) → FindsAnchors self.entry [] all
+        ensures { (all : List FindingValue) → FindsAnchors self [] all
             → IfOk result (λ v. v.items ≡ all) }
     {
-        anchors(
-            *self.references.allocator(),
-            &self.references,
-            &self.options,
-        )
+        let alloc = *self.references.allocator();
+        let events = events_of(alloc, &self.references)?;
+        anchors(alloc, &events, &self.options)
     }
 }

@@ -1,17 +1,19 @@
 //! The greatest of some keys.
-ghost use Rattle.std.specs.Prelude.{◌≡◌, Bool, false, ℕ, List};
+ghost use Rattle.std.specs.Prelude.{◌≡◌, Bool, ℕ, List};
 ghost use Rattle.yl_tree.specs.KeyRules.{is_greater};
-ghost use Rattle.yl_tree.specs.Greatest.{is_some_greater};
+ghost use Rattle.yl_tree.specs.Greatest.{is_greater_among};
+ghost use Rattle.yl_tree.specs.NameStack.{level_at};
 
+use crate::name::Name;
+use crate::name_stack::NameStack;
 use crate::walk::KeyMemory;
 use std::alloc::{AllocError, Allocator};
-use std::marker::PhantomData;
 
-/// The greatest of the earlier keys of a mapping.
+/// Of each open mapping the greatest of the earlier keys, the last of its level.
 #[derive(Drop)]
-pub(crate) struct Greatest<'a, A: Allocator> {
-    key: Option<&'a str>,
-    alloc: PhantomData<A>,
+pub(crate) struct GreatestKeys<A: Allocator + Copy> {
+    alloc: A,
+    keys: NameStack<A>,
 }
 
 /// Whether the first is greater, by code points.
@@ -21,35 +23,45 @@ pub(crate) fn is_greater(a: &str, b: &str) -> bool
     a > b
 }
 
-impl<'a, A: Allocator + Copy> KeyMemory for Greatest<'a, A> {
+/// Whether one of the names is greater.
+fn is_greater_among<A: Allocator>(names: &[Name<A>], key: &str) -> bool
+    ensures { result ≡ is_greater_among names.now key.now }
+{
+    names.iter().any(|name| is_greater(name.as_str(), key))
+}
+
+impl<A: Allocator + Copy> KeyMemory for GreatestKeys<A> {
     type Alloc = A;
-
-    type Name = &'a str;
-
-    ghost name_value = { λ name. name.now };
 
     ghost speaks_against = { is_greater };
 
-    ghost is_against = { λ g q. is_some_greater g.key q };
+    ghost is_against = { λ g n q. is_greater_among (level_at n g.keys) q };
 
-    fn empty(_alloc: A) -> Self {
-        Greatest {
-            key: None,
-            alloc: PhantomData,
+    fn new(alloc: A) -> Self {
+        GreatestKeys {
+            alloc,
+            keys: NameStack::new(alloc),
         }
     }
 
-    fn remember(&mut self, key: &'a str) -> Result<(), AllocError> {
+    fn open(&mut self) -> Result<(), AllocError> {
+        self.keys.open()
+    }
+
+    fn close(&mut self) {
+        self.keys.close();
+    }
+
+    fn remember(&mut self, key: &str) -> Result<(), AllocError> {
         if !self.is_against(key) {
-            self.key = Some(key);
+            let name = Name::of(self.alloc, key)?;
+            self.keys.clear();
+            self.keys.push(name)?;
         }
         Ok(())
     }
 
     fn is_against(&self, key: &str) -> bool {
-        match self.key {
-            None => false,
-            Some(greatest) => is_greater(greatest, key),
-        }
+        is_greater_among(self.keys.innermost(), key)
     }
 }

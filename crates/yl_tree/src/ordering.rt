@@ -3,24 +3,25 @@ ghost use Rattle.std.specs.Prelude.{◌≡◌, ◌++◌, ◌∷◌, ℕ, List, [
 ghost use Rattle.yl_text.specs.Finding.{FindingValue};
 ghost use Rattle.yl_events.specs.Event.{EventValue, event_value};
 ghost use Rattle.yl_tree.specs.KeyRules.{is_greater, misplaced_at, key_ordering};
-ghost use Rattle.yl_tree.specs.Greatest.{is_some_greater};
+ghost use Rattle.yl_tree.specs.Greatest.{is_greater_among};
+ghost use Rattle.yl_tree.specs.NameStack.{level_at};
 ghost use Rattle.yl_tree.specs.Frames.{IsBehind};
 
-use crate::greatest::Greatest;
+use crate::greatest::GreatestKeys;
 use crate::messages::{name_problem, push_found};
 use crate::walk::{self, Walk};
 use std::alloc::{AllocError, Allocator};
 use yl_events::Event;
 use yl_text::{Finding, RuleId};
 
-/// Puts behind `found` the problem of an event that is a key behind a greater one of its mapping.
-fn push_misplaced<'a, A: Allocator + Copy>(
-    walk: &Walk<Greatest<'a, A>, A>,
-    event: &Event<'a>,
+/// Puts behind `found` the problem of an event that is a key after a greater one of its mapping.
+fn push_misplaced<A: Allocator + Copy>(
+    walk: &Walk<GreatestKeys<A>, A>,
+    event: &Event<'_>,
     found: &mut Vec<Finding<A>, A>,
 ) -> Result<(), AllocError>
     ensures { (before after : List EventValue)
-        → IsBehind is_greater (λ g q. is_some_greater g.key q) walk.now before
+        → IsBehind is_greater (λ g n q. is_greater_among (level_at n g.keys) q) walk.now before
         → OnOk result (found.new.items
         ≡ found.old.items ++ misplaced_at before (event_value event.now) after) }
 {
@@ -42,14 +43,14 @@ fn push_misplaced<'a, A: Allocator + Copy>(
     Ok(())
 }
 
-/// The rule key-ordering behind a document's first events.
+/// The rule key-ordering after a document's first events.
 #[derive(Drop)]
-pub(crate) struct MisplacedFinder<'a, A: Allocator + Copy> {
-    walk: Walk<Greatest<'a, A>, A>,
+pub(crate) struct MisplacedFinder<A: Allocator + Copy> {
+    walk: Walk<GreatestKeys<A>, A>,
     found: Vec<Finding<A>, A>,
 }
 
-impl<'a, A: Allocator + Copy> MisplacedFinder<'a, A> {
+impl<A: Allocator + Copy> MisplacedFinder<A> {
     ghost use Rattle.yl_tree.specs.Finders.{FindsMisplaced};
 
     /// Before a document's first event.
@@ -57,27 +58,25 @@ impl<'a, A: Allocator + Copy> MisplacedFinder<'a, A> {
         ensures { (es : List EventValue) → FindsMisplaced result es (key_ordering es) }
     {
         MisplacedFinder {
-            walk: walk::start::<Greatest<'a, A>>(alloc),
+            walk: walk::start::<GreatestKeys<A>>(alloc),
             found: Vec::new(alloc),
         }
     }
 
     /// Takes the next event.
-    pub(crate) fn push(&mut self, event: &Event<'a>) -> Result<(), AllocError>
+    pub(crate) fn push(&mut self, event: &Event<'_>) -> Result<(), AllocError>
         ensures { (es : List EventValue) (all : List FindingValue)
             → FindsMisplaced self.old (event_value event.now ∷ es) all
             → OnOk result (FindsMisplaced self.new es all) }
     {
-        let alloc = *self.found.allocator();
-        let name = walk::name_of(event);
         push_misplaced(&self.walk, event, &mut self.found)?;
-        walk::step(alloc, &mut self.walk, event, name)?;
+        walk::step(&mut self.walk, event)?;
         Ok(())
     }
 
     /// What the rule found, where no event is to come.
     pub(crate) fn finish(self) -> Vec<Finding<A>, A>
-        ensures { (all : List FindingValue) → FindsMisplaced self.entry [] all → result.items ≡ all }
+        ensures { (all : List FindingValue) → FindsMisplaced self [] all → result.items ≡ all }
     {
         self.found
     }

@@ -16,22 +16,22 @@ use std::alloc::{AllocError, Allocator};
 use yl_events::Event;
 use yl_text::Finding;
 
-/// The rules on keys and anchors behind a document's first events. They keep what they found, the
-/// keys of open mappings, and the events that have an anchor or are an alias. A rule that is off
-/// keeps nothing.
+/// The rules on keys and anchors after a document's first events. They own what they keep: what they
+/// found, the keys of open mappings, and the names and places of anchors and aliases. A rule that is
+/// off keeps nothing.
 #[derive(Drop)]
-pub struct TreeRules<'a, A: Allocator + Copy> {
+pub struct TreeRules<A: Allocator + Copy> {
     alloc: A,
-    key_duplicates: Option<DuplicateFinder<'a, A>>,
-    key_ordering: Option<MisplacedFinder<'a, A>>,
-    anchors: Option<AnchorFinder<'a, A>>,
+    key_duplicates: Option<DuplicateFinder<A>>,
+    key_ordering: Option<MisplacedFinder<A>>,
+    anchors: Option<AnchorFinder<A>>,
 }
 
 /// The rule key-duplicates before a document's first event, if it is on.
-fn duplicate_finder<'a, A: Allocator + Copy>(
+fn duplicate_finder<A: Allocator + Copy>(
     alloc: A,
     options: &TreeOptions,
-) -> Option<DuplicateFinder<'a, A>>
+) -> Option<DuplicateFinder<A>>
     ensures { (es : List EventValue)
         → FindsIf FindsDuplicates result es
         (option_map_or (λ d. key_duplicates d es) options.now.key_duplicates []) }
@@ -41,10 +41,10 @@ fn duplicate_finder<'a, A: Allocator + Copy>(
 }
 
 /// The rule key-ordering before a document's first event, if it is on.
-fn misplaced_finder<'a, A: Allocator + Copy>(
+fn misplaced_finder<A: Allocator + Copy>(
     alloc: A,
     options: &TreeOptions,
-) -> Option<MisplacedFinder<'a, A>>
+) -> Option<MisplacedFinder<A>>
     ensures { (es : List EventValue)
         → FindsIf FindsMisplaced result es
         (if options.now.key_ordering then key_ordering es else []) }
@@ -56,10 +56,7 @@ fn misplaced_finder<'a, A: Allocator + Copy>(
 }
 
 /// The rule anchors before a document's first event, if it is on.
-fn anchor_finder<'a, A: Allocator + Copy>(
-    alloc: A,
-    options: &TreeOptions,
-) -> Option<AnchorFinder<'a, A>>
+fn anchor_finder<A: Allocator + Copy>(alloc: A, options: &TreeOptions) -> Option<AnchorFinder<A>>
     ensures { (es : List EventValue)
         → FindsIf FindsAnchors result es
         (option_map_or (λ a. anchors a es) options.now.anchors []) }
@@ -69,9 +66,9 @@ fn anchor_finder<'a, A: Allocator + Copy>(
 }
 
 /// Gives the next event to the rule key-duplicates, if it is on.
-fn push_to_duplicates<'a, A: Allocator + Copy>(
-    finder: &mut Option<DuplicateFinder<'a, A>>,
-    event: &Event<'a>,
+fn push_to_duplicates<A: Allocator + Copy>(
+    finder: &mut Option<DuplicateFinder<A>>,
+    event: &Event<'_>,
 ) -> Result<(), AllocError>
     ensures { (es : List EventValue) (all : List FindingValue)
         → FindsIf FindsDuplicates finder.old (event_value event.now ∷ es) all
@@ -84,9 +81,9 @@ fn push_to_duplicates<'a, A: Allocator + Copy>(
 }
 
 /// Gives the next event to the rule key-ordering, if it is on.
-fn push_to_misplaced<'a, A: Allocator + Copy>(
-    finder: &mut Option<MisplacedFinder<'a, A>>,
-    event: &Event<'a>,
+fn push_to_misplaced<A: Allocator + Copy>(
+    finder: &mut Option<MisplacedFinder<A>>,
+    event: &Event<'_>,
 ) -> Result<(), AllocError>
     ensures { (es : List EventValue) (all : List FindingValue)
         → FindsIf FindsMisplaced finder.old (event_value event.now ∷ es) all
@@ -99,9 +96,9 @@ fn push_to_misplaced<'a, A: Allocator + Copy>(
 }
 
 /// Gives the next event to the rule anchors, if it is on.
-fn push_to_anchors<'a, A: Allocator + Copy>(
-    finder: &mut Option<AnchorFinder<'a, A>>,
-    event: &Event<'a>,
+fn push_to_anchors<A: Allocator + Copy>(
+    finder: &mut Option<AnchorFinder<A>>,
+    event: &Event<'_>,
 ) -> Result<(), AllocError>
     ensures { (es : List EventValue) (all : List FindingValue)
         → FindsIf FindsAnchors finder.old (event_value event.now ∷ es) all
@@ -114,11 +111,11 @@ fn push_to_anchors<'a, A: Allocator + Copy>(
 }
 
 /// What the rule key-duplicates found, if it is on.
-fn duplicates_found<'a, A: Allocator + Copy>(
+fn duplicates_found<A: Allocator + Copy>(
     alloc: A,
-    finder: Option<DuplicateFinder<'a, A>>,
+    finder: Option<DuplicateFinder<A>>,
 ) -> Vec<Finding<A>, A>
-    ensures { (all : List FindingValue) → FindsIf FindsDuplicates finder.entry [] all
+    ensures { (all : List FindingValue) → FindsIf FindsDuplicates finder [] all
         → result.items ≡ all }
 {
     match finder {
@@ -128,11 +125,11 @@ fn duplicates_found<'a, A: Allocator + Copy>(
 }
 
 /// What the rule key-ordering found, if it is on.
-fn misplaced_found<'a, A: Allocator + Copy>(
+fn misplaced_found<A: Allocator + Copy>(
     alloc: A,
-    finder: Option<MisplacedFinder<'a, A>>,
+    finder: Option<MisplacedFinder<A>>,
 ) -> Vec<Finding<A>, A>
-    ensures { (all : List FindingValue) → FindsIf FindsMisplaced finder.entry [] all
+    ensures { (all : List FindingValue) → FindsIf FindsMisplaced finder [] all
         → result.items ≡ all }
 {
     match finder {
@@ -142,11 +139,11 @@ fn misplaced_found<'a, A: Allocator + Copy>(
 }
 
 /// What the rule anchors found, if it is on.
-fn anchors_found<'a, A: Allocator + Copy>(
+fn anchors_found<A: Allocator + Copy>(
     alloc: A,
-    finder: Option<AnchorFinder<'a, A>>,
+    finder: Option<AnchorFinder<A>>,
 ) -> Result<Vec<Finding<A>, A>, AllocError>
-    ensures { (all : List FindingValue) → FindsIf FindsAnchors finder.entry [] all
+    ensures { (all : List FindingValue) → FindsIf FindsAnchors finder [] all
         → IfOk result (λ v. v.items ≡ all) }
 {
     match finder {
@@ -155,11 +152,11 @@ fn anchors_found<'a, A: Allocator + Copy>(
     }
 }
 
-impl<'a, A: Allocator + Copy> TreeRules<'a, A> {
+impl<A: Allocator + Copy> TreeRules<A> {
     ghost use Rattle.yl_tree.specs.TreeRules.{Finds};
 
     /// Before a document's first event.
-    pub fn new(alloc: A, options: &TreeOptions) -> TreeRules<'a, A>
+    pub fn new(alloc: A, options: &TreeOptions) -> TreeRules<A>
         ensures { (es : List EventValue) → Finds result es (tree_findings options.now es) }
     {
         TreeRules {
@@ -170,8 +167,8 @@ impl<'a, A: Allocator + Copy> TreeRules<'a, A> {
         }
     }
 
-    /// Takes the next event. The only error is memory; behind it nothing is said of the rules.
-    pub fn push(&mut self, event: &Event<'a>) -> Result<(), AllocError>
+    /// Takes the next event. The only error is memory; after it nothing is said of the rules.
+    pub fn push(&mut self, event: &Event<'_>) -> Result<(), AllocError>
         ensures { (es : List EventValue) (all : List FindingValue)
             → Finds self.old (event_value event.now ∷ es) all
             → OnOk result (Finds self.new es all) }
@@ -185,7 +182,7 @@ impl<'a, A: Allocator + Copy> TreeRules<'a, A> {
     /// What the rules found in the document, where no event is to come: key-duplicates,
     /// key-ordering, anchors, each in the order of the events. The only error is memory.
     pub fn finish(self) -> Result<Vec<Finding<A>, A>, AllocError>
-        ensures { (all : List FindingValue) → Finds self.entry [] all
+        ensures { (all : List FindingValue) → Finds self [] all
             → IfOk result (λ v. v.items ≡ all) }
     {
         let TreeRules {

@@ -1,77 +1,93 @@
 //! Which events of a document are keys, and what is remembered of the earlier keys of their
 //! mappings.
-ghost use Rattle.std.specs.Prelude.{◌≡◌, ℕ, List, [], ◌∷◌, Bool, false, ◌||◌, ◌&&◌, reverse, OnOk, option_copied, option_map, option_to_list};
+ghost use Rattle.std.specs.Prelude.{◌≡◌, ℕ, suc, List, [], ◌∷◌, Bool, false, ◌||◌, ◌&&◌, OnOk, option_copied, option_to_list};
 ghost use Rattle.std.specs.List.{list_any};
 ghost use Rattle.yl_events.specs.Event.{EventValue, event_value, kind_value};
 ghost use Rattle.yl_tree.specs.Keys.{is_collection_start, is_collection_end, is_mapping_start, compared_value, name_of, earlier_keys};
-ghost use Rattle.yl_tree.specs.OpenNodes.{OpenCollection, OpenNodes, new_collection, with_node, first_or_new, without_first, with_event, collections_behind, keys_if_next};
-ghost use Rattle.yl_tree.specs.Frames.{Agrees, AllAgree, IsBehind};
+ghost use Rattle.yl_tree.specs.OpenNodes.{OpenNodes, closed, new_collection, opened, with_node_in};
+ghost use Rattle.yl_tree.specs.Frames.{Agrees, IsBehind, StandsAt};
 
 use std::alloc::{AllocError, Allocator};
-use std::mem;
 use yl_events::{Event, EventKind};
 use yl_lexeme::Style;
 
-/// What a rule remembers of the earlier keys of a mapping: enough to test a key by them.
+/// What a rule remembers of the earlier keys of the mappings that are open: enough to test a key by
+/// them. It owns what it keeps.
 pub(crate) trait KeyMemory: Drop {
     type Alloc: Allocator + Copy;
-
-    /// The name of a key.
-    type Name: Copy;
-
-    ghost name_value: { Self.Name → List ℕ };
 
     /// Whether an earlier key, the first, speaks against a key.
     ghost speaks_against: { List ℕ → List ℕ → Bool };
 
-    /// Whether a remembered key speaks against a key.
-    ghost is_against: { Self → List ℕ → Bool };
+    /// Whether a remembered key of an open collection, in which so many others are open, speaks
+    /// against a key.
+    ghost is_against: { Self → ℕ → List ℕ → Bool };
 
     /// Nothing is remembered.
-    fn empty(alloc: Self::Alloc) -> Self
+    fn new(alloc: Self::Alloc) -> Self
     where
         Self: Sized,
-        ensures { (q : List ℕ) → is_against result q ≡ false };
+        ensures { (n : ℕ) (q : List ℕ) → is_against result n q ≡ false };
 
-    /// Remembers a key.
-    fn remember(&mut self, key: Self::Name) -> Result<(), AllocError>
-        ensures { OnOk result ((q : List ℕ) → is_against self.new q
-            ≡ speaks_against (name_value key) q || is_against self.old q) };
+    /// Opens a collection in the innermost one.
+    fn open(&mut self) -> Result<(), AllocError>
+        ensures inner { OnOk result ((q : List ℕ) → is_against self.new 0 q ≡ false) }
+        ensures outer { OnOk result ((n : ℕ) (q : List ℕ)
+            → is_against self.new (suc n) q ≡ is_against self.old n q) };
 
-    /// Whether a remembered key speaks against this one.
+    /// Closes the innermost collection, and lets its keys go.
+    fn close(&mut self)
+        ensures { (n : ℕ) (q : List ℕ) → is_against self.new n q ≡ is_against self.old (suc n) q };
+
+    /// Remembers a key of the innermost collection.
+    fn remember(&mut self, key: &str) -> Result<(), AllocError>
+        ensures inner { OnOk result ((q : List ℕ) → is_against self.new 0 q
+            ≡ speaks_against key.now q || is_against self.old 0 q) }
+        ensures outer { OnOk result ((n : ℕ) (q : List ℕ)
+            → is_against self.new (suc n) q ≡ is_against self.old (suc n) q) };
+
+    /// Whether a remembered key of the innermost collection speaks against this one.
     fn is_against(&self, key: &str) -> bool
-        ensures { result ≡ is_against self.now key.now };
+        ensures { result ≡ is_against self.now 0 key.now };
 }
 
 /// A collection that is open.
-#[derive(Drop)]
-pub(crate) struct Frame<M> {
+#[derive(Clone, Copy)]
+pub(crate) struct Frame {
     is_mapping: bool,
     is_key_next: bool,
+}
+
+/// The collections that are open after a document's first events, and what is remembered of their
+/// keys.
+#[derive(Drop)]
+pub(crate) struct Walk<M, A: Allocator> {
+    innermost: Frame,
+    outer: Vec<Frame, A>,
     memory: M,
 }
 
-/// The collections that are open behind a document's first events.
-#[derive(Drop)]
-pub(crate) struct Walk<M, A: Allocator> {
-    innermost: Frame<M>,
-    outer: Vec<Frame<M>, A>,
-}
-
-fn new_frame<M: KeyMemory>(alloc: M::Alloc, is_mapping: bool) -> Frame<M>
-    ensures { Agrees M.speaks_against M.is_against result (new_collection is_mapping) }
+fn new_frame(is_mapping: bool) -> Frame
+    ensures { Agrees result (new_collection is_mapping) }
 {
     Frame {
         is_mapping,
         is_key_next: true,
-        memory: M::empty(alloc),
     }
 }
 
-fn remember_some<M: KeyMemory>(memory: &mut M, name: Option<M::Name>) -> Result<(), AllocError>
-    ensures { OnOk result ((q : List ℕ) → M.is_against memory.new q
-        ≡ list_any (λ k. M.speaks_against k q) (option_to_list (option_map M.name_value name))
-        || M.is_against memory.old q) }
+fn is_key_next(frame: &Frame) -> bool
+    ensures { result ≡ frame.now.is_mapping && frame.now.is_key_next }
+{
+    frame.is_mapping && frame.is_key_next
+}
+
+fn remember_some<M: KeyMemory>(memory: &mut M, name: Option<&str>) -> Result<(), AllocError>
+    ensures inner { OnOk result ((q : List ℕ) → M.is_against memory.new 0 q
+        ≡ list_any (λ k. M.speaks_against k q) (option_to_list (option_copied name.entry))
+        || M.is_against memory.old 0 q) }
+    ensures outer { OnOk result ((n : ℕ) (q : List ℕ)
+        → M.is_against memory.new (suc n) q ≡ M.is_against memory.old (suc n) q) }
 {
     if let Some(name) = name {
         memory.remember(name)?;
@@ -79,59 +95,40 @@ fn remember_some<M: KeyMemory>(memory: &mut M, name: Option<M::Name>) -> Result<
     Ok(())
 }
 
-fn is_key_next<M>(frame: &Frame<M>) -> bool
-    ensures { result ≡ frame.now.is_mapping && frame.now.is_key_next }
-{
-    frame.is_mapping && frame.is_key_next
-}
-
 /// Takes a node of this name more.
-fn add_node<M: KeyMemory>(frame: &mut Frame<M>, name: Option<M::Name>) -> Result<(), AllocError>
-    ensures { (o : OpenCollection) → Agrees M.speaks_against M.is_against frame.old o
-        → OnOk result
-        (Agrees M.speaks_against M.is_against frame.new
-        (with_node (option_map M.name_value name) o)) }
+fn add_node<M: KeyMemory>(
+    walk: &mut Walk<M, M::Alloc>,
+    name: Option<&str>,
+) -> Result<(), AllocError>
+    ensures { (s : OpenNodes) → StandsAt M.speaks_against M.is_against walk.old s
+        → OnOk result (StandsAt M.speaks_against M.is_against walk.new
+        (with_node_in (option_copied name.entry) s)) }
 {
-    let is_key = is_key_next(frame);
-    frame.is_key_next = !frame.is_key_next;
-    remember_some(&mut frame.memory, if is_key { name } else { None })
+    let is_key = is_key_next(&walk.innermost);
+    walk.innermost.is_key_next = !walk.innermost.is_key_next;
+    remember_some(&mut walk.memory, if is_key { name } else { None })
 }
 
 /// Closes the innermost collection.
-fn close<M: KeyMemory>(
-    alloc: M::Alloc,
-    innermost: &mut Frame<M>,
-    outer: &mut Vec<Frame<M>, M::Alloc>,
-)
-    ensures { (s : OpenNodes)
-        → AllAgree M.speaks_against M.is_against (reverse outer.old.items) s.outer
-        → Agrees M.speaks_against M.is_against innermost.new (first_or_new s.outer)
-        × AllAgree M.speaks_against M.is_against (reverse outer.new.items) (without_first s.outer) }
+fn close<M: KeyMemory>(walk: &mut Walk<M, M::Alloc>)
+    ensures { (s : OpenNodes) → StandsAt M.speaks_against M.is_against walk.old s
+        → StandsAt M.speaks_against M.is_against walk.new (closed s) }
 {
-    *innermost = match outer.pop() {
+    walk.memory.close();
+    walk.innermost = match walk.outer.pop() {
         Some(frame) => frame,
-        None => new_frame(alloc, false),
+        None => new_frame(false),
     };
 }
 
 /// Opens a collection in the innermost one.
-fn open<M: KeyMemory>(
-    alloc: M::Alloc,
-    is_mapping: bool,
-    name: Option<M::Name>,
-    innermost: &mut Frame<M>,
-    outer: &mut Vec<Frame<M>, M::Alloc>,
-) -> Result<(), AllocError>
-    ensures { (s : OpenNodes) → Agrees M.speaks_against M.is_against innermost.old s.innermost
-        → AllAgree M.speaks_against M.is_against (reverse outer.old.items) s.outer
-        → OnOk result
-        (Agrees M.speaks_against M.is_against innermost.new (new_collection is_mapping)
-        × AllAgree M.speaks_against M.is_against (reverse outer.new.items)
-        (with_node (option_map M.name_value name) s.innermost ∷ s.outer)) }
+fn open<M: KeyMemory>(walk: &mut Walk<M, M::Alloc>, is_mapping: bool) -> Result<(), AllocError>
+    ensures { (s : OpenNodes) → StandsAt M.speaks_against M.is_against walk.old s
+        → OnOk result (StandsAt M.speaks_against M.is_against walk.new (opened is_mapping s)) }
 {
-    add_node(innermost, name)?;
-    let before = mem::replace(innermost, new_frame(alloc, is_mapping));
-    outer.push(before)?;
+    walk.memory.open()?;
+    walk.outer.push(walk.innermost)?;
+    walk.innermost = new_frame(is_mapping);
     Ok(())
 }
 
@@ -168,39 +165,29 @@ pub(crate) fn start<M: KeyMemory>(alloc: M::Alloc) -> Walk<M, M::Alloc>
     ensures { IsBehind M.speaks_against M.is_against result [] }
 {
     Walk {
-        innermost: new_frame(alloc, false),
+        innermost: new_frame(false),
         outer: Vec::new(alloc),
+        memory: M::new(alloc),
     }
 }
 
-/// Takes one event more, of this name.
+/// Takes one event more.
 pub(crate) fn step<M: KeyMemory>(
-    alloc: M::Alloc,
     walk: &mut Walk<M, M::Alloc>,
     event: &Event<'_>,
-    name: Option<M::Name>,
 ) -> Result<(), AllocError>
-    ensures { (before : List EventValue)
-        → option_map M.name_value name ≡ name_of (event_value event.now)
-        → IsBehind M.speaks_against M.is_against walk.old before
-        → OnOk result (IsBehind M.speaks_against M.is_against walk.new (event_value event.now
-        ∷ before)) }
+    ensures { (before : List EventValue) → IsBehind M.speaks_against M.is_against walk.old before
+        → OnOk result (IsBehind M.speaks_against M.is_against walk.new
+        (event_value event.now ∷ before)) }
 {
     if is_end(&event.kind) {
-        close(alloc, &mut walk.innermost, &mut walk.outer);
+        close(walk);
         return Ok(());
     }
+    add_node(walk, name_of(event))?;
     if is_start(&event.kind) {
-        let is_mapping = is_mapping_start(&event.kind);
-        return open(
-            alloc,
-            is_mapping,
-            name,
-            &mut walk.innermost,
-            &mut walk.outer,
-        );
+        open(walk, is_mapping_start(&event.kind))?;
     }
-    add_node(&mut walk.innermost, name)?;
     Ok(())
 }
 
@@ -212,5 +199,5 @@ pub(crate) fn is_spoken_against<M: KeyMemory>(walk: &Walk<M, M::Alloc>, name: &s
     if !is_key_next(&walk.innermost) {
         return false;
     }
-    walk.innermost.memory.is_against(name)
+    walk.memory.is_against(name)
 }

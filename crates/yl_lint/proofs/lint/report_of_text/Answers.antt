@@ -1,4 +1,4 @@
-use Rattle.std.proofs.Common.{rules, ◌≡◌, ◌≢◌, ◌∙◌, ◌∷◌, [], refl, ℕ, List, ap, sym, length, arith}
+use Rattle.std.proofs.Common.{rules, ◌≡◌, ◌≢◌, ◌∙◌, ◌∷◌, [], refl, ℕ, List, ap, subst, sym, length, arith}
 use denote.Enum.Bare.{same_true}
 use Rattle.std.specs.Prelude.{IfOk}
 use Rattle.yl_text.specs.contracts.row.Break.{the_type}
@@ -7,9 +7,9 @@ use Rattle.yl_text.specs.Lines.{RowValue, lines_from, lines_of}
 use Rattle.yl_text.proofs.Computed.{line}
 use Rattle.yl_text.proofs.Cut.{behind_break, behind_none}
 use Rattle.yl_record.specs.Records.{characters_in}
-use Rattle.yl_lint.specs.Left.{kept_left, lines_left}
+use Rattle.yl_lint.specs.Left.{KeepsLeft, lines_left}
 use Rattle.yl_lint.specs.TextReport.{first_text}
-use Rattle.yl_lint.specs.Computed.{report}
+use Rattle.yl_lint.specs.Computed.{kept_of_text, report}
 use Rattle.yl_lint.proofs.Reported.{if_report}
 use Rattle.yl_lint.proofs.Passed.{end_more, first_fits, first_short, if_same, report_so, start_end}
 use Rattle.yl_lint.proofs.lint.report_of_text.Goals as goal
@@ -25,7 +25,6 @@ loop-sections-init g c =
       end = start_end c.start-lines.result.runs r.0 r.1 c.start-lines.ensures.count c.start-lines.ensures.last;
       whole = c.start-sections.ensures.whole;
       fed = c.start-sections.ensures.fed ∙ sym c.start-lines.ensures.count;
-      few = search rules;
       counted = search rules;
       within = omega (arith, c.start-lines.ensures.count);
     }
@@ -57,9 +56,9 @@ returns-then-eq g c =
     let first = ap first_text c.cut_line.ensures.first in
     let end = end_more old.lines.runs lines.runs next.line.now row [] c.in_ok-pass.ensures.count c.in_ok-pass.ensures.last refl
     ∙ (ap (Rattle.yl_lint.proofs.Passed.end_left old.lines.runs.count old.lines.runs.last) (sym one) ∙ old.invariant.end) in
-    let kept = c.in_ok-pass-2.ensures.kept []
-    ∙ (ap (λ (rs : List RowValue). kept_left config old.sections.kept.items old.sections.recorder (characters_in rs)) (sym one) ∙ old.invariant.kept) in
-    let is : IfOk c.report_of_read.result (λ v. v.items ≡ report config rows) = if_same c.report_of_read.result (λ v. v.items) _ (report config rows) (report_so config rows _ _ _ _ found first end kept) c.report_of_read.ensures in
+    let all = kept_of_text config rows in
+    let kept = c.in_ok-pass-2.ensures.kept [] all (subst (λ (rs : List RowValue). KeepsLeft config old.sections (characters_in rs) all) one old.invariant.kept) in
+    let is : IfOk c.report_of_read.result (λ v. v.items ≡ report config rows) = if_same c.report_of_read.result (λ v. v.items) _ (report config rows) (report_so config rows _ _ _ _ found first end refl) (c.report_of_read.ensures all kept) in
     if_report config rows (λ v. v.items) c.report_of_read.result (c.one_report.ensures.computed config rows) is
 
 pub loop-sections-smaller : goal.loop-sections-smaller
@@ -79,13 +78,11 @@ loop-sections-preserved g c =
     record {
       utf8 = c.cut_line-next.ensures.utf8;
       found = c.in_ok-pass.ensures.left rows ∙ (ap (lines_left old.lines) (sym some) ∙ old.invariant.found);
-      kept = c.in_ok-pass-2.ensures.kept (characters_in rows)
-          ∙ (ap (λ (rs : List RowValue). kept_left config old.sections.kept.items old.sections.recorder (characters_in rs)) (sym some) ∙ old.invariant.kept);
+      kept = c.in_ok-pass-2.ensures.kept (characters_in rows) (kept_of_text config (lines_of c.args.text.now)) (subst (λ (rs : List RowValue). KeepsLeft config old.sections (characters_in rs) (kept_of_text config (lines_of c.args.text.now))) some old.invariant.kept);
       end = end_more old.lines.runs c.pass.new.self.runs next.line.now row rows c.in_ok-pass.ensures.count c.in_ok-pass.ensures.last refl
           ∙ (ap (Rattle.yl_lint.proofs.Passed.end_left old.lines.runs.count old.lines.runs.last) (sym some) ∙ old.invariant.end);
       whole = c.in_ok-pass-2.ensures.whole;
       fed = omega (arith, c.in_ok-pass-2.ensures.fed, c.in_ok-pass.ensures.count, old.invariant.fed);
-      few = omega (arith, c.in_ok-pass-2.ensures.few, old.invariant.few);
       counted = omega (arith, c.in_ok-pass-2.ensures.lines, c.in_ok-pass.ensures.count, old.invariant.counted);
       within = omega (arith, c.cut_line-next.ensures.smaller more, c.in_ok-pass.ensures.count, old.invariant.within);
     }

@@ -5,7 +5,7 @@ use Rattle.yl_text.specs.Lines.{lines_of}
 use Rattle.yl_text.specs.Store.{end_of_lines}
 use Rattle.yl_config.specs.Config.{options_of}
 use Rattle.yl_record.specs.Records.{characters_in}
-use Rattle.yl_lint.specs.Left.{kept_left, lines_left}
+use Rattle.yl_lint.specs.Left.{KeepsLeft, lines_left}
 use Rattle.yl_lint.specs.TextReport.{findings_in_lines}
 use Rattle.yl_lint.specs.Computed.{kept_of_text}
 use Rattle.yl_lint.proofs.Passed.{end_left}
@@ -15,11 +15,10 @@ abbrev pub invariant-loop-sections : goal.invariant-loop-sections
 invariant-loop-sections g l = record {
   utf8 : shadow (Utf8 l.rest);
   found : lines_left l.lines (lines_of l.rest) ≡ findings_in_lines (options_of l.config) (lines_of l.text);
-  kept : kept_left l.config l.sections.kept.items l.sections.recorder (characters_in (lines_of l.rest)) ≡ kept_of_text l.config (lines_of l.text);
+  kept : KeepsLeft l.config l.sections (characters_in (lines_of l.rest)) (kept_of_text l.config (lines_of l.text));
   end : end_left l.lines.runs.count l.lines.runs.last (lines_of l.rest) ≡ end_of_lines (lines_of l.text);
   whole : l.sections.recorder.refused ≡ false;
   fed : l.sections.recorder.taken + length l.sections.recorder.records ≡ l.lines.runs.count;
-  few : l.meter.documents ≤ l.sections.recorder.taken;
   counted : l.meter.lines ≡ l.lines.runs.count;
   within : l.lines.runs.count + length l.rest ≤ length l.text;
 }

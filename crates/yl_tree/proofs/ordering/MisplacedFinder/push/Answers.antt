@@ -1,8 +1,7 @@
-use Rattle.std.proofs.Common.{◌∙◌}
-use Rattle.yl_tree.proofs.Finders.{named, walk_more}
+use Rattle.yl_tree.proofs.Finders.{walk_more}
 use Rattle.yl_tree.proofs.ordering.MisplacedFinder.push.Goals as goal
 
 pub returns : goal.returns
 returns g c = λ es all h.
     walk_more _ _ _ _ _ _ _ _ _ _ h (c.in_ok-push_misplaced.ensures h.before es h.behind)
-    (c.in_ok-step.ensures h.before (named c.name_of-name.result ∙ c.name_of-name.ensures) h.behind)
+    (c.in_ok-step.ensures h.before h.behind)

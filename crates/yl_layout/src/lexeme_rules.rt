@@ -1,0 +1,279 @@
+//! The rules on lexemes, which read a document's lexemes some at a time.
+ghost use Rattle.std.specs.Prelude.{◌≡◌, ◌++◌, OnOk};
+ghost use Rattle.yl_layout.specs.DocumentStart.{document_start};
+ghost use Rattle.yl_layout.specs.Kinds.{indicator_findings, is_indicator};
+ghost use Rattle.yl_layout.specs.Lexemes.{value_findings};
+ghost use Rattle.yl_layout.specs.LexemesLeft.{findings_at_indicator};
+
+use crate::brackets::{Flow, push_brackets};
+use crate::colons::push_colons;
+use crate::commas::push_commas;
+use crate::document_start::push_document_start;
+use crate::hyphens::push_hyphens;
+use crate::options::LexemeOptions;
+use crate::quoted_strings::push_quoted_strings;
+use crate::span::{Place, Span, span_of};
+use crate::truthy::push_truthy;
+use std::alloc::{AllocError, Allocator};
+use std::marker::Model;
+use yl_lexeme::{Kind, LexemeAtLine};
+use yl_marks::KeyFacts;
+use yl_text::Finding;
+
+/// Whether the rules on indicators may find something at a lexeme of this kind.
+fn is_indicator(kind: Kind) -> bool
+    ensures { result ≡ is_indicator kind }
+{
+    matches!(
+        kind,
+        Kind::MapOpen
+            | Kind::MapClose
+            | Kind::SeqOpen
+            | Kind::SeqClose
+            | Kind::Comma
+            | Kind::Value
+            | Kind::Key
+            | Kind::Entry
+    )
+}
+
+/// The rules on indicators: at a lexeme of each kind at most one of them finds something.
+fn push_by_kind<A: Allocator>(
+    problems: &mut Vec<Finding<A>, A>,
+    options: &LexemeOptions,
+    place: &Place,
+) -> Result<(), AllocError>
+    ensures { OnOk result (problems.new.items ≡ problems.old.items
+        ++ indicator_findings place.now.here.kind options.now place.now.before place.now.here place.now.after) }
+{
+    match place.here.kind {
+        Kind::MapOpen | Kind::MapClose => {
+            push_brackets(problems, Flow::Mapping, &options.braces, place)
+        }
+        Kind::SeqOpen | Kind::SeqClose => {
+            push_brackets(problems, Flow::Sequence, &options.brackets, place)
+        }
+        Kind::Comma => push_commas(problems, &options.commas, place),
+        Kind::Value | Kind::Key => push_colons(problems, &options.colons, place),
+        Kind::Entry => push_hyphens(problems, &options.hyphens, place),
+        Kind::Directive
+        | Kind::DocStart
+        | Kind::DocEnd
+        | Kind::Alias
+        | Kind::Anchor
+        | Kind::Tag
+        | Kind::Scalar(_) => Ok(()),
+    }
+}
+
+/// All that is found at an indicator between its neighbours.
+fn push_at_indicator<A: Allocator>(
+    problems: &mut Vec<Finding<A>, A>,
+    options: &LexemeOptions,
+    place: &Place,
+) -> Result<(), AllocError>
+    ensures { OnOk result (problems.new.items ≡ problems.old.items
+        ++ findings_at_indicator options.now place.now.before place.now.here place.now.after) }
+{
+    push_by_kind(problems, options, place)?;
+    push_document_start(
+        problems,
+        &options.document_start,
+        &place.before,
+        &place.here,
+    )?;
+    Ok(())
+}
+
+/// The rules on values, by whether the document says that it is one of YAML 1.2.
+fn push_values<A: Allocator + Copy>(
+    problems: &mut Vec<Finding<A>, A>,
+    is_1_2: bool,
+    options: &LexemeOptions,
+    x: &Span,
+    value: &str,
+    key: KeyFacts,
+) -> Result<(), AllocError>
+    ensures { OnOk result (problems.new.items
+        ≡ problems.old.items ++ value_findings is_1_2 options.now x.now value.now key) }
+{
+    push_truthy(problems, is_1_2, &options.truthy, x, value, key)?;
+    push_quoted_strings(problems, &options.quoted_strings, x, value, key)?;
+    Ok(())
+}
+
+/// The rules on lexemes, in a document some of whose lexemes were read. What they find at a bracket, a comma, a `:`, a `?` or a `-` is told
+/// once the lexeme after it is read, or none is to come.
+#[derive(Drop)]
+pub struct LexemeRules {
+    /// The latest lexeme.
+    latest: Option<Span>,
+    /// The one before it.
+    earlier: Option<Span>,
+    /// What is found at the latest is still to be told.
+    waits: bool,
+    /// A directive said that the document is one of YAML 1.2.
+    is_1_2: bool,
+    /// All lexemes so far are directives.
+    in_directives: bool,
+}
+
+impl Model for LexemeRules {
+    ghost use Rattle.yl_layout.specs.LexemesLeft.{LexemesRead};
+
+    ghost Value = { LexemesRead };
+
+    ghost view = { λ r. record {
+      latest = r.latest;
+      earlier = r.earlier;
+      waits = r.waits;
+      is_1_2 = r.is_1_2;
+      in_directives = r.in_directives;
+    } };
+}
+
+impl LexemeRules {
+    ghost use Rattle.std.specs.Prelude.{◌≡◌, ◌++◌, ◌∷◌, ◌&&◌, ◌||◌, Bool, List, [], length, map, Some, None, OnOk};
+    ghost use Rattle.yl_lexeme.specs.Lexeme.{LexemeValue};
+    ghost use Rattle.yl_lexeme.specs.Version.{is_yaml_1_2};
+    ghost use Rattle.yl_lexeme.specs.Directives.{is_directive};
+    ghost use Rattle.yl_marks.specs.declared.facts.KeyFacts.{KeyFacts};
+    ghost use Rattle.yl_marks.specs.Keys.{lexeme_at_line};
+    ghost use Rattle.yl_layout.specs.Lexemes.{findings_behind};
+    ghost use Rattle.yl_layout.specs.LexemesLeft.{after_lexeme, findings_told, findings_waiting, lexemes_left, none_read, IsVersion};
+    ghost use Rattle.yl_layout.specs.Spans.{span_of};
+    ghost use Rattle.yl_layout.specs.Version.{is_1_2_document};
+    ghost use Rattle.yl_layout.specs.declared.options.LexemeOptions.{LexemeOptions};
+
+    /// At the start of a document.
+    pub fn new() -> LexemeRules
+        ensures start { result ≡ none_read }
+        ensures version { (xs : List LexemeValue) → IsVersion (is_1_2_document xs) result xs }
+        ensures whole { (o : LexemeOptions) (v : Bool) (xs : List LexemeValue) (ks : List KeyFacts)
+            → lexemes_left v o result xs ks ≡ findings_behind v o None xs ks }
+    {
+        LexemeRules {
+            latest: None,
+            earlier: None,
+            waits: false,
+            is_1_2: false,
+            in_directives: true,
+        }
+    }
+
+    /// What waits is told, where this lexeme comes next or none.
+    fn tell_waiting<A: Allocator>(
+        &self,
+        options: &LexemeOptions,
+        after: Option<Span>,
+        problems: &mut Vec<Finding<A>, A>,
+    ) -> Result<(), AllocError>
+        ensures { OnOk result (problems.new.items
+            ≡ problems.old.items ++ findings_waiting options.now self.now after) }
+    {
+        if !self.waits {
+            return Ok(());
+        }
+        let Some(here) = self.latest else {
+            return Ok(());
+        };
+        let place = Place {
+            before: self.earlier,
+            here,
+            after,
+        };
+        push_at_indicator(problems, options, &place)
+    }
+
+    /// What can be told of the next lexeme before the one after it is read.
+    fn tell_next<A: Allocator + Copy>(
+        &self,
+        options: &LexemeOptions,
+        here: &Span,
+        value: &str,
+        key: KeyFacts,
+        problems: &mut Vec<Finding<A>, A>,
+    ) -> Result<(), AllocError>
+        ensures { OnOk result (problems.new.items ≡ problems.old.items
+            ++ findings_told self.now.is_1_2 options.now self.now.latest here.now value.now key) }
+    {
+        if is_indicator(here.kind) {
+            return Ok(());
+        }
+        push_document_start(problems, &options.document_start, &self.latest, here)?;
+        push_values(problems, self.is_1_2, options, here, value, key)?;
+        Ok(())
+    }
+
+    /// Keeps the next lexeme.
+    fn keep<A: Allocator>(&mut self, here: Span, at: &LexemeAtLine<'_, A>)
+        requires { here ≡ span_of (lexeme_at_line at.now.line at.now.lexeme.now) }
+        ensures { self.new ≡ after_lexeme self.old (lexeme_at_line at.now.line at.now.lexeme.now) }
+    {
+        self.is_1_2 = self.is_1_2 || (self.in_directives && at.lexeme.is_yaml_1_2());
+        self.in_directives = self.in_directives && matches!(here.kind, Kind::Directive);
+        self.earlier = self.latest;
+        self.latest = Some(here);
+        self.waits = is_indicator(here.kind);
+    }
+
+    /// Reads the next lexeme.
+    fn read_lexeme<A: Allocator + Copy>(
+        &mut self,
+        options: &LexemeOptions,
+        at: &LexemeAtLine<'_, A>,
+        key: KeyFacts,
+        problems: &mut Vec<Finding<A>, A>,
+    ) -> Result<(), AllocError>
+        ensures read { OnOk result (self.new
+            ≡ after_lexeme self.old (lexeme_at_line at.now.line at.now.lexeme.now)) }
+        ensures told { let x = lexeme_at_line at.now.line at.now.lexeme.now in OnOk result (problems.new.items
+            ≡ problems.old.items ++ findings_waiting options.now self.old (Some (span_of x))
+            ++ findings_told self.old.is_1_2 options.now self.old.latest (span_of x) x.value key) }
+    {
+        let here = span_of(at);
+        self.tell_waiting(options, Some(here), problems)?;
+        self.tell_next(options, &here, at.lexeme.value(), key, problems)?;
+        self.keep(here, at);
+        Ok(())
+    }
+
+    /// Reads the document's next lexemes, as those of a line, and adds to the problems what the rules find, lexeme by lexeme. `keys` says
+    /// of each of them what the document's keys say of it. Lexemes that do not count, as those from a fault on, are not to be read. A
+    /// problem's line counts from 1 from where the lexemes' lines count from 0, its column from 1 in characters. The only error is out of
+    /// memory, which is taken for what is found and nothing else; the rules then say nothing more of the document.
+    pub fn read<A: Allocator + Copy>(
+        &mut self,
+        options: &LexemeOptions,
+        lexemes: &[LexemeAtLine<'_, A>],
+        keys: &[KeyFacts],
+        problems: &mut Vec<Finding<A>, A>,
+    ) -> Result<(), AllocError>
+        requires { length keys.now ≡ length lexemes.now }
+        ensures found { (v : Bool) (rest later : List LexemeValue) (ks : List KeyFacts)
+            → IsVersion v self.old (map (λ x. lexeme_at_line x.line x.lexeme.now) lexemes.now ++ rest)
+            → OnOk result (problems.new.items ++ lexemes_left v options.now self.new later ks
+            ≡ problems.old.items ++ lexemes_left v options.now self.old
+            (map (λ x. lexeme_at_line x.line x.lexeme.now) lexemes.now ++ later) (keys.now ++ ks)) }
+        ensures version { (v : Bool) (rest : List LexemeValue)
+            → IsVersion v self.old (map (λ x. lexeme_at_line x.line x.lexeme.now) lexemes.now ++ rest)
+            → OnOk result (IsVersion v self.new rest) }
+    {
+        for (i, at) in lexemes.iter().enumerate() {
+            self.read_lexeme(options, at, keys[i], problems)?;
+        }
+        Ok(())
+    }
+
+    /// No lexeme is to come that counts: tells what was not told yet. The only error is out of memory.
+    pub fn finish<A: Allocator>(
+        &self,
+        options: &LexemeOptions,
+        problems: &mut Vec<Finding<A>, A>,
+    ) -> Result<(), AllocError>
+        ensures { (v : Bool) (ks : List KeyFacts) → OnOk result (problems.new.items
+            ≡ problems.old.items ++ lexemes_left v options.now self.now [] ks) }
+    {
+        self.tell_waiting(options, None, problems)
+    }
+}

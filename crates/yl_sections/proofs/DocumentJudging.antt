@@ -1,0 +1,273 @@
+-- A document is judged line by line.
+use Rattle.std.proofs.Common.{◌≡◌, ◌<◌, ◌≤◌, ◌+◌, ℕ, zero, suc, Bool, List, [], ◌∷◌, ◌++◌, Option, Some, None, length, map, take, drop, refl, sym, ◌∙◌, ap, subst, append_assoc, append-nil, arith, inl}
+use Rattle.std.specs.Prelude.{IfSome, option_map}
+use Rattle.std.proofs.lemmas.List.{length-append, length-map, take-append-drop, take-append-le}
+use Rattle.std.proofs.Math.Seq.{take-append-add}
+use Rattle.yl_text.specs.Finding.{FindingValue}
+use Rattle.yl_lexeme.specs.Lexeme.{LexemeValue}
+use Rattle.yl_marks.specs.declared.facts.KeyFacts.{KeyFacts}
+use Rattle.yl_marks.specs.declared.symbol.Symbol.{Symbol}
+use Rattle.yl_marks.specs.declared.token.Token.{Token}
+use Rattle.yl_marks.specs.Keys.{token_of}
+use Rattle.yl_marks.specs.Marks.{closings_of_all, marked_lexemes}
+use Rattle.yl_marks.specs.ByLine.{MarkerValue, by_line, marker_at_start, marks_by_lines, marks_of_line}
+use Rattle.yl_marks.specs.FactsByLine.{KeyMarkerValue, behind_keyed_line, facts_by_lines, facts_of_line, key_marker_at_start}
+use Rattle.yl_marks.proofs.ByLines.{marked_by_lines}
+use Rattle.yl_marks.proofs.FactsByLines.{told_by_lines}
+use Rattle.yl_marks.proofs.Indices.{no_indices}
+use Rattle.yl_events.specs.declared.fault.PlacedParseFault.{PlacedParseFault}
+use Rattle.yl_events.specs.declared.symbol.Goal.{Goal}
+use Rattle.yl_events.specs.declared.symbol.Outline.{Outline}
+use Rattle.yl_events.specs.declared.symbol.Shape.TheVariants.{DocumentEnd}
+use Rattle.yl_events.specs.DocumentOutcome.{DocumentOutcome, Events, document_outcome, steps}
+use Rattle.yl_events.specs.Outlines.{end_event}
+use Rattle.yl_events.specs.Trail.{TrailValue}
+use Rattle.yl_events.specs.Event.{EventValue, event_of_outline}
+use Rattle.yl_events.specs.Machine.{ParserState, run, taken_count}
+use Rattle.yl_events.specs.Named.{IsInLine, IsNamed, OnlyInnermostWaits, OutlinesName, SymbolsName, waiting_anchor}
+use Rattle.yl_events.specs.Seen.{HasLine, IsAnchorOf, LineValue, event_seen}
+use Rattle.yl_events.specs.Parsing.{IsOutcome, start_events}
+use Rattle.yl_events.specs.SymbolParsing.{SymbolParserValue, outcome_of_symbols, symbols_at_start}
+use Rattle.yl_events.proofs.Named.{Stepped, closings_named, line_named, outlines_of_both, run_named, steps_named}
+use Rattle.yl_events.proofs.Seen.{events_are, start_is, value_is}
+use Rattle.yl_indentation.specs.declared.fact.Fact.{Fact}
+use Rattle.yl_indentation.specs.Context.{ContextValue, nothing_open}
+use Rattle.yl_indentation.specs.Facts.{indent_facts}
+use Rattle.yl_indentation.specs.LineFacts.{NameIndices}
+use Rattle.yl_indentation.specs.SymbolFacts.{facts_left}
+use Rattle.yl_indentation.proofs.BySymbols.{by_symbols, none_counts}
+use Rattle.yl_layout.specs.declared.options.LexemeOptions.{LexemeOptions}
+use Rattle.yl_layout.specs.declared.span.Span.{Span}
+use Rattle.yl_layout.specs.Lexemes.{findings_at, findings_behind, first_span, lexeme_findings}
+use Rattle.yl_layout.specs.LexemesLeft.{LexemesRead, findings_waiting, lexemes_left}
+use Rattle.yl_layout.specs.Spans.{span_of}
+use Rattle.yl_layout.specs.Version.{is_1_2_document}
+use Rattle.yl_tree.specs.declared.tree_rules.TreeRules.{TreeRules}
+use Rattle.yl_tree.specs.TreeRules.{Finds}
+use Rattle.yl_config.specs.declared.config.Config.{Config}
+use Rattle.yl_sections.specs.declared.document_judge.DocumentJudge.{DocumentJudge}
+use Rattle.yl_sections.specs.Judge.{document_of}
+use Rattle.yl_sections.specs.Kept.{BuiltValue, event_findings, lexeme_options_of}
+use Rattle.yl_sections.specs.Reading.{FindsAll, IsQuiet, fault_told}
+use Rattle.yl_sections.specs.Judging.{IsLine, Reads, anchor_held}
+use Rattle.yl_sections.proofs.LineByLine.{close_place, ends_after, quiet_document}
+use Rattle.yl_sections.proofs.Lines.{has_line, line_cut, more_named, named_indices, self_named}
+
+-- ---- keys beyond the lexemes count for nothing
+
+extra_keys : (v : Bool) (o : LexemeOptions) (before : Option Span) (xs : List LexemeValue) (ks more : List KeyFacts) → length xs ≤ length ks
+    → findings_behind v o before xs (ks ++ more) ≡ findings_behind v o before xs ks
+extra_keys v o before [] [] [] h = refl
+extra_keys v o before [] [] (m ∷ ms) h = refl
+extra_keys v o before [] (k ∷ ks) more h = refl
+extra_keys v o before (x ∷ xs) [] more h = absurd (omega (arith, h))
+extra_keys v o before (x ∷ xs) (k ∷ ks) more h =
+    ap (λ (fs : List FindingValue). findings_at v o before (span_of x) x.value k (first_span xs) ++ fs) (extra_keys v o (Some (span_of x)) xs ks more (omega (arith, h)))
+
+extra_left : (v : Bool) (o : LexemeOptions) (r : LexemesRead) (xs : List LexemeValue) (ks more : List KeyFacts) → length xs ≤ length ks
+    → lexemes_left v o r xs (ks ++ more) ≡ lexemes_left v o r xs ks
+extra_left v o r xs ks more h = ap (λ (fs : List FindingValue). findings_waiting o r (first_span xs) ++ fs) (extra_keys v o r.latest xs ks more h)
+
+-- ---- a line more
+
+module _ {A : Type 0} (config : Config) (xs line left : List LexemeValue) (ns : List ℕ) (spaces : ℕ) (d : DocumentJudge A) (l : IsLine ns spaces line left) (h : Reads config xs ns (line ++ left) d) where
+  abbrev m : KeyMarkerValue
+  m = d.reader.marker
+
+  abbrev tokens : List Token
+  tokens = map token_of line
+
+  abbrev lines : List (List Token)
+  lines = by_line (map token_of (line ++ left))
+
+  abbrev later : List (List Token)
+  later = by_line (map token_of left)
+
+  abbrev symbols : List Symbol
+  symbols = marks_of_line m.marks tokens
+
+  abbrev options : LexemeOptions
+  options = lexeme_options_of config
+
+  abbrev version : Bool
+  version = is_1_2_document xs
+
+  pub cut : lines ≡ tokens ∷ later
+  cut = line_cut l.at line left l.some l.here l.elsewhere
+
+  long : length tokens ≡ length line
+  long = length-map line token_of
+
+  -- ---- names
+
+  abbrev pub Named : ℕ → Type 0
+  Named i = IsNamed d.count (length line) (option_map (λ w. w.index) d.waiting) i
+
+  pub symbols_named : SymbolsName (IsInLine d.count (length line)) symbols
+  symbols_named =
+      more_named (IsInLine m.marks.count (length tokens)) (IsInLine d.count (length line)) (λ i k. (omega (arith, k.0, h.count), omega (arith, k.1, h.count, long))) symbols (line_named m.marks tokens)
+
+  pub indices_of : (ws : List Symbol) (count : ℕ) → ws ≡ symbols → length line ≡ count → NameIndices (λ i. (d.count ≤ i) × (i < d.count + count)) ws
+  indices_of ws count are n =
+      subst (NameIndices (λ i. (d.count ≤ i) × (i < d.count + count))) (sym are)
+      (named_indices (IsInLine d.count (length line)) (λ i. (d.count ≤ i) × (i < d.count + count)) (λ i k. (k.0, omega (arith, k.1, n))) symbols symbols_named)
+
+  waits_named : IfSome (waiting_anchor d.reader.parser.goals) Named
+  waits_named = subst (λ (w : Option ℕ). IfSome w Named) h.waits (self_named d.count (length line) (option_map (λ w. w.index) d.waiting))
+
+  pub stepped : (goals : List Goal) (out : List Outline) → steps symbols d.reader.parser.goals [] ≡ Some (record { goals = goals; events = out })
+      → OnlyInnermostWaits goals × (IfSome (waiting_anchor goals) Named × OutlinesName Named out)
+  stepped goals out e =
+      subst (λ (r : Option ParserState). Stepped Named r) e (steps_named Named symbols d.reader.parser.goals [] h.only waits_named tt (more_named (IsInLine d.count (length line)) Named (λ i k. inl k) symbols symbols_named))
+
+  -- ---- what is seen of the document
+
+  abbrev pub seen : LineValue
+  seen = record { lexemes = line; first = d.count; waiting = d.waiting }
+
+  has : HasLine xs d.count line
+  has = has_line xs h.front line left d.count h.whole h.read
+
+  pub events_seen : (out : List Outline) → OutlinesName Named out → map (event_seen seen) out ≡ map (event_of_outline xs) out
+  events_seen out k = events_are xs seen has h.anchor out k
+
+  pub fed : (t u : TreeRules A) (out : List Outline) → OutlinesName Named out → ((es : List EventValue) (all : List FindingValue) → Finds t (map (event_seen seen) out ++ es) all → Finds u es all)
+      → (es : List EventValue) (all : List FindingValue) → Finds t (map (event_of_outline xs) out ++ es) all → Finds u es all
+  fed t u out k feeds es all finds = feeds es all (subst (λ (vs : List EventValue). Finds t (vs ++ es) all) (sym (events_seen out k)) finds)
+
+  pub held_index : (w : Option ℕ) → option_map (λ v. v.index) (anchor_held seen w) ≡ w
+  held_index None = refl
+  held_index (Some i) = refl
+
+  pub held_anchor : (w : Option ℕ) → IfSome w Named → IsAnchorOf xs (anchor_held seen w)
+  held_anchor None k = tt
+  held_anchor (Some i) k = (sym (value_is xs seen has h.anchor i k), sym (start_is xs seen has h.anchor i k))
+
+  -- ---- the rules on lexemes
+
+  abbrev keys_from : KeyMarkerValue → List (List Token) → List KeyFacts
+  keys_from k ls = facts_by_lines k ls
+
+  pub found_on : (end n : ℕ) → end ≡ d.count + length line → n ≤ length left → (found : List FindingValue) (r : LexemesRead) (keys : List KeyFacts) (k : KeyMarkerValue) → keys ≡ facts_of_line m tokens
+      → k ≡ behind_keyed_line m tokens
+      → ((more : List LexemeValue) (ks : List KeyFacts) → found ++ lexemes_left version options r more ks ≡ d.found.items ++ lexemes_left version options d.rules (line ++ more) (keys ++ ks))
+      → found ++ lexemes_left version options r (take n left) (facts_by_lines k later) ≡ lexeme_findings options (end + n) xs
+  found_on end n far within found r keys k are behind tells =
+      let all = λ (ys : List LexemeValue) (ks : List KeyFacts). d.found.items ++ lexemes_left version options d.rules ys ks in
+      let most : length line + n ≤ length (line ++ left) = omega (arith, within, length-append line left) in
+      tells (take n left) (facts_by_lines k later)
+      ∙ (ap (λ (ks : List KeyFacts). all (line ++ take n left) (ks ++ facts_by_lines k later)) are
+      ∙ (ap (λ (j : KeyMarkerValue). all (line ++ take n left) (facts_of_line m tokens ++ facts_by_lines j later)) behind
+      ∙ (ap (λ (ls : List (List Token)). all (line ++ take n left) (facts_by_lines m ls)) (sym cut)
+      ∙ (ap (λ (ys : List LexemeValue). all ys (facts_by_lines m lines)) (sym (take-append-add line left n))
+      ∙ (h.found (length line + n) most ∙ ap (λ j. lexeme_findings options j xs) {x = d.count + (length line + n)} {y = end + n} (omega (arith, far)))))))
+
+  pub found_stop : (count place : ℕ) → count ≤ length line → place ≡ d.count + count → (found : List FindingValue) (keys : List KeyFacts) → keys ≡ facts_of_line m tokens → length keys ≡ length line
+      → found ≡ d.found.items ++ lexemes_left version options d.rules (take count line) (take count keys) → found ≡ lexeme_findings options place xs
+  found_stop count place within at found keys are as_long told =
+      let all = λ (ys : List LexemeValue) (ks : List KeyFacts). d.found.items ++ lexemes_left version options d.rules ys ks in
+      let rest = facts_by_lines (behind_keyed_line m tokens) later in
+      let most : count ≤ length (line ++ left) = omega (arith, within, length-append line left) in
+      let no_more : length (take count line) ≤ length (take count keys) = taken_alike count line keys (sym as_long) in
+      told
+      ∙ (ap (λ (fs : List FindingValue). d.found.items ++ fs) (sym (extra_left version options d.rules (take count line) (take count keys) (drop count keys ++ rest) no_more))
+      ∙ (ap (λ (ks : List KeyFacts). all (take count line) ks) (sym (append_assoc (take count keys) (drop count keys) rest) ∙ ap (λ (ks : List KeyFacts). ks ++ rest) (take-append-drop count keys ∙ are))
+      ∙ (ap (λ (ls : List (List Token)). all (take count line) (facts_by_lines m ls)) (sym cut)
+      ∙ (ap (λ (ys : List LexemeValue). all ys (facts_by_lines m lines)) (sym (take-append-le count line left within))
+      ∙ (h.found count most ∙ ap (λ j. lexeme_findings options j xs) (sym at))))))
+    where
+      taken_alike : {X Y : Type 0} (n : ℕ) (us : List X) (vs : List Y) → length us ≡ length vs → length (take n us) ≤ length (take n vs)
+      taken_alike zero us vs e = omega (arith)
+      taken_alike (suc n) [] vs e = omega (arith)
+      taken_alike (suc n) (u ∷ us) [] e = absurd (omega (arith, e))
+      taken_alike (suc n) (u ∷ us) (v ∷ vs) e = omega (arith, taken_alike n us vs (omega (arith, e)))
+
+-- ---- the beginning
+
+pub found_at_start : (o : LexemeOptions) (r : LexemesRead) (xs : List LexemeValue) (m : KeyMarkerValue) → m ≡ key_marker_at_start
+    → ((v : Bool) (ys : List LexemeValue) (ks : List KeyFacts) → lexemes_left v o r ys ks ≡ findings_behind v o None ys ks)
+    → (n : ℕ) → lexemes_left (is_1_2_document xs) o r (take n xs) (facts_by_lines m (by_line (map token_of xs))) ≡ lexeme_findings o n xs
+found_at_start o r xs m start whole n =
+    whole (is_1_2_document xs) (take n xs) (facts_by_lines m (by_line (map token_of xs)))
+    ∙ ap (λ (ks : List KeyFacts). findings_behind (is_1_2_document xs) o None (take n xs) ks) (ap (λ (k : KeyMarkerValue). facts_by_lines k (by_line (map token_of xs))) start ∙ told_by_lines (map token_of xs))
+
+pub facts_at_start : (xs : List LexemeValue) (ns : List ℕ) (c : ContextValue) (m : KeyMarkerValue) (all : ℕ) → m ≡ key_marker_at_start → c ≡ nothing_open
+    → facts_left c (map token_of xs) all ns (marks_by_lines m.marks (by_line (map token_of xs))) ≡ indent_facts (map token_of xs) (marked_lexemes xs) all ns
+facts_at_start xs ns c m all start none =
+    let ts = map token_of xs in
+    ap (λ (k : KeyMarkerValue). facts_left c ts all ns (marks_by_lines k.marks (by_line ts))) start
+    ∙ (ap (λ (d : ContextValue). facts_left d ts all ns (marks_by_lines marker_at_start (by_line ts))) none ∙ (ap (facts_left nothing_open ts all ns) (marked_by_lines ts) ∙ by_symbols xs all ns))
+
+-- ---- the end
+
+pub facts_at_end : (tokens : List Token) (ns : List ℕ) (c : ContextValue) (m : MarkerValue) (all : ℕ) (fs total : List Fact) → fs ++ facts_left c tokens all ns (closings_of_all m.open_ones) ≡ total → fs ≡ total
+facts_at_end tokens ns c m all fs total whole =
+    let ends = closings_of_all m.open_ones in
+    sym (append-nil fs) ∙ (ap (λ (gs : List Fact). fs ++ gs) (sym (none_counts tokens ns c all ends (no_indices (λ i. all ≤ i) m.open_ones))) ∙ whole)
+
+-- ---- the parser at the start
+
+pub only_at_start : (p : SymbolParserValue) → p ≡ symbols_at_start → OnlyInnermostWaits p.goals
+only_at_start p e = subst (λ (q : SymbolParserValue). OnlyInnermostWaits q.goals) (sym e) (refl, (refl, tt))
+
+pub none_at_start : (p : SymbolParserValue) → p ≡ symbols_at_start → None ≡ waiting_anchor p.goals
+none_at_start p e = sym (ap (λ (q : SymbolParserValue). waiting_anchor q.goals) e)
+
+pub fed_at_start : {A : Type 0} (xs : List LexemeValue) (l : LineValue) (t u : TreeRules A) (out shown : List Outline) → out ≡ start_events → shown ≡ out
+    → ((es : List EventValue) (all : List FindingValue) → Finds t (map (event_seen l) shown ++ es) all → Finds u es all)
+    → (es : List EventValue) (all : List FindingValue) → Finds t (map (event_of_outline xs) shown ++ es) all → Finds u es all
+fed_at_start xs l t u out shown told same fed es all finds =
+    let here : shown ≡ start_events = same ∙ told in
+    let seen : map (event_seen l) shown ≡ map (event_of_outline xs) shown = ap (map (event_seen l)) here ∙ sym (ap (map (event_of_outline xs)) here) in
+    fed es all (subst (λ (vs : List EventValue). Finds t (vs ++ es) all) (sym seen) finds)
+
+-- all of the document's events were told, and name what is seen of it
+outcome_named : (Is : ℕ → Type 0) (t : TrailValue) (count place : ℕ) (ws : List Symbol) (r : Option (List Outline)) (out : List Outline) → IfSome r (OutlinesName Is) → document_outcome t count place ws r ≡ Events out → OutlinesName Is out
+outcome_named Is t count place ws None out h e = cc
+outcome_named Is t count place ws (Some es) out h e =
+    let same : es ++ end_event DocumentEnd ∷ [] ≡ out = cc in
+    subst (OutlinesName Is) same (outlines_of_both Is es (end_event DocumentEnd ∷ []) h ((tt, tt), tt))
+
+pub quiet_any : (ys : List LexemeValue) → IsQuiet (document_of ys)
+quiet_any [] f e = refl
+quiet_any (y ∷ ys) f e = quiet_document (y ∷ ys) (omega (arith)) f e
+
+module _ {A : Type 0} (config : Config) (xs : List LexemeValue) (ns : List ℕ) (d : DocumentJudge A) (h : Reads config xs ns [] d) where
+  abbrev ends : List Symbol
+  ends = closings_of_all d.reader.marker.marks.open_ones
+
+  abbrev b : BuiltValue
+  b = document_of xs
+
+  abbrev here : LineValue
+  here = record { lexemes = []; first = d.count; waiting = d.waiting }
+
+  abbrev Seen : ℕ → Type 0
+  Seen i = IsNamed d.count 0 (option_map (λ w. w.index) d.waiting) i
+
+  pub all_read : length xs ≡ d.count
+  all_read = ap (λ (ys : List LexemeValue). length ys) (h.whole ∙ append-nil h.front) ∙ h.read
+
+  seen_ends : (out : List Outline) → outcome_of_symbols d.reader.parser d.count [] ends ≡ Events out → map (event_seen here) out ≡ map (event_of_outline xs) out
+  seen_ends out e =
+      let p = d.reader.parser in
+      let waits : IfSome (waiting_anchor p.goals) Seen = subst (λ (w : Option ℕ). IfSome w Seen) h.waits (self_named d.count 0 (option_map (λ w. w.index) d.waiting)) in
+      let named = outcome_named Seen p.trail d.count (taken_count ends p.goals []) ends (run ends p.goals []) out (run_named Seen ends p.goals [] h.only waits tt (closings_named Seen d.reader.marker.marks.open_ones)) e in
+      events_are xs here (λ i l. absurd (omega (arith, l))) h.anchor out named
+
+  abbrev Ended : Option PlacedParseFault → List FindingValue → Type 0
+  Ended fault found = (fault ≡ b.fault) × (IfSome fault (λ f. f.place ≡ length xs)) × (found ≡ event_findings config b.events)
+
+  pub ended_so : (fault : Option PlacedParseFault) (out : List Outline) (found : List FindingValue) → IsOutcome (outcome_of_symbols d.reader.parser d.count [] ends) fault out
+      → ((f : PlacedParseFault) → fault ≡ Some f → found ≡ []) → ((all : List FindingValue) → fault ≡ None → Finds d.tree (map (event_seen here) out ++ []) all → found ≡ all) → Ended fault found
+  ended_so None out found told fails whole =
+      let gives = h.told in
+      let finds = subst (λ (o : DocumentOutcome). FindsAll d.tree xs o (event_findings config b.events)) told gives.found in (
+        sym (ap fault_told told) ∙ gives.fault,
+        tt,
+        whole (event_findings config b.events) refl
+            (subst (λ (vs : List EventValue). Finds d.tree vs (event_findings config b.events)) (sym (append-nil (map (event_seen here) out) ∙ seen_ends out told)) finds),
+      )
+  ended_so (Some f) out found told fails whole =
+      let both = ends_after config xs b d.tree d.tree (outcome_of_symbols d.reader.parser d.count [] ends) (quiet_any xs) h.told f told found (fails f refl) in
+      (sym both.0, close_place d.reader.parser d.count d.reader.marker.marks.open_ones f told ∙ sym all_read, both.1)

@@ -1,0 +1,85 @@
+//! The lines of a document, marked and parsed.
+ghost use Rattle.std.specs.Prelude.{◌≡◌, ◌≤◌, ◌<◌, ◌+◌, ◌^◌, ◌-◌, [], map, length, Some, None, IfOk, IfSome, OnOk};
+ghost use Rattle.yl_marks.specs.ByLine.{marks_of_line};
+ghost use Rattle.yl_marks.specs.FactsByLine.{behind_keyed_line, facts_of_line, key_marker_at_start};
+ghost use Rattle.yl_marks.specs.Keys.{lexeme_at_line, token_of};
+ghost use Rattle.yl_marks.specs.Marks.{closings_of_all};
+ghost use Rattle.yl_events.specs.DocumentOutcome.{steps};
+ghost use Rattle.yl_events.specs.Parsing.{IsOutcome, start_events};
+ghost use Rattle.yl_events.specs.SymbolParsing.{FeedsSymbols, outcome_of_symbols, symbols_at_start};
+
+use std::alloc::{AllocError, Allocator};
+use yl_events::{Outline, PlacedParseFault, SymbolParser};
+use yl_lexeme::{LexemeAtLine, Meter};
+use yl_marks::{KeyFacts, KeyMarker, Symbol};
+
+/// What counts of the lines of a document that were read, and what the latest of them told.
+#[derive(Drop)]
+pub struct DocumentReader<A: Allocator + Copy> {
+    pub marker: KeyMarker<A>,
+    pub parser: SymbolParser<A>,
+    /// The latest line's lexemes with their marks, what keys say of each, and what the parser told of them.
+    pub symbols: Vec<Symbol, A>,
+    pub keys: Vec<KeyFacts, A>,
+    pub outlines: Vec<Outline, A>,
+}
+
+impl<A: Allocator + Copy> DocumentReader<A> {
+    /// A document begins, and is counted, also where memory is refused. The only error is out of memory.
+    pub fn begin(alloc: A, meter: &mut Meter) -> Result<DocumentReader<A>, AllocError>
+        requires { meter.old.documents < 2 ^ 32 - 1 }
+        ensures counted { meter.new ≡ record meter.old { documents = meter.old.documents + 1 } }
+        ensures marker { IfOk result (λ r. r.marker ≡ key_marker_at_start) }
+        ensures parser { IfOk result (λ r. r.parser ≡ symbols_at_start) }
+        ensures told { IfOk result (λ r. r.outlines.items ≡ start_events) }
+    {
+        let mut parser = SymbolParser::new(alloc);
+        let mut outlines = Vec::new(alloc);
+        parser.begin(&mut outlines, meter)?;
+        Ok(DocumentReader {
+            marker: KeyMarker::new(alloc),
+            parser,
+            symbols: Vec::new(alloc),
+            keys: Vec::new(alloc),
+            outlines,
+        })
+    }
+
+    /// Reads the lexemes that begin in the next line, before which the document has `first` lexemes, or answers the document's fault.
+    /// The only error is out of memory, or more lexemes than a `u32` counts.
+    pub fn read(
+        &mut self,
+        first: usize,
+        line: &[LexemeAtLine<'_, A>],
+    ) -> Result<Option<PlacedParseFault>, AllocError>
+        ensures marker { OnOk result (self.new.marker ≡ behind_keyed_line self.old.marker (map token_of (map (λ x. lexeme_at_line x.line x.lexeme.now) line.now))) }
+        ensures symbols { OnOk result (self.new.symbols.items
+            ≡ marks_of_line self.old.marker.marks (map token_of (map (λ x. lexeme_at_line x.line x.lexeme.now) line.now))) }
+        ensures keys { OnOk result (self.new.keys.items
+            ≡ facts_of_line self.old.marker (map token_of (map (λ x. lexeme_at_line x.line x.lexeme.now) line.now))) }
+        ensures told { IfOk result (λ fault. FeedsSymbols self.old.parser first []
+            (marks_of_line self.old.marker.marks (map token_of (map (λ x. lexeme_at_line x.line x.lexeme.now) line.now)))
+            fault self.new.parser self.new.outlines.items) }
+        ensures inside { IfOk result (λ fault. IfSome fault (λ f. (first ≤ f.place) × (f.place < first + length line.now))) }
+        ensures steps { IfOk result (λ fault. fault ≡ None
+            → steps (marks_of_line self.old.marker.marks (map token_of (map (λ x. lexeme_at_line x.line x.lexeme.now) line.now))) self.old.parser.goals []
+            ≡ Some (record { goals = self.new.parser.goals; events = self.new.outlines.items })) }
+    {
+        self.symbols.clear();
+        self.keys.clear();
+        self.outlines.clear();
+        self.marker.read(line, &mut self.symbols, &mut self.keys)?;
+        self.parser.feed(first, &self.symbols, &mut self.outlines)
+    }
+
+    /// The document of so many lexemes ends: answers its fault, if it has one. The only error is out of memory.
+    pub fn close(&mut self, count: usize) -> Result<Option<PlacedParseFault>, AllocError>
+        ensures { IfOk result (λ fault. IsOutcome
+            (outcome_of_symbols self.old.parser count [] (closings_of_all self.old.marker.marks.open_ones)) fault self.new.outlines.items) }
+    {
+        self.symbols.clear();
+        self.outlines.clear();
+        self.marker.close(&mut self.symbols)?;
+        self.parser.finish(count, &self.symbols, &mut self.outlines)
+    }
+}

@@ -1,0 +1,76 @@
+//! Names that are owned.
+ghost use Rattle.std.specs.Prelude.{◌≡◌, IfOk};
+
+use arrayvec::ArrayString;
+use std::alloc::{AllocError, Allocator};
+use std::marker::Model;
+
+/// How many bytes a name has at the most that lies in the value itself.
+const SHORT: usize = 16;
+
+/// A name of few bytes, which lies in the value itself.
+#[derive(Drop)]
+struct ShortName {
+    text: ArrayString<SHORT>,
+}
+
+impl Model for ShortName {
+    ghost use Rattle.std.specs.Prelude.{ℕ, List};
+
+    ghost Value = { List ℕ };
+
+    ghost view = { λ n. n.text.bytes };
+}
+
+impl ShortName {
+    fn as_str(&self) -> &str
+        ensures { result.now ≡ self.now }
+    {
+        self.text.as_str()
+    }
+}
+
+/// Where a name lies: in the value itself, or in memory of its own.
+#[derive(Drop)]
+enum Storage<A: Allocator> {
+    Short(ShortName),
+    Long(String<A>),
+}
+
+/// The name of a key or of an anchor. One of at most 16 bytes lies in the value itself, and takes no
+/// allocation.
+#[derive(Drop)]
+pub(crate) struct Name<A: Allocator> {
+    kept: Storage<A>,
+}
+
+impl<A: Allocator> Model for Name<A> {
+    ghost use Rattle.std.specs.Prelude.{ℕ, List};
+    ghost use Rattle.yl_tree.specs.Name.{bytes_of};
+
+    ghost Value = { List ℕ };
+
+    ghost view = { λ n. bytes_of n.kept };
+}
+
+impl<A: Allocator> Name<A> {
+    /// A copy of this name.
+    pub(crate) fn of(alloc: A, text: &str) -> Result<Name<A>, AllocError>
+        ensures { IfOk result (λ n. n ≡ text.now) }
+    {
+        let kept = match ArrayString::from(text) {
+            Ok(text) => Storage::Short(ShortName { text }),
+            Err(_) => Storage::Long(String::from_str(alloc, text)?),
+        };
+        Ok(Name { kept })
+    }
+
+    pub(crate) fn as_str(&self) -> &str
+        ensures { result.now ≡ self.now }
+    {
+        match &self.kept {
+            Storage::Short(name) => name.as_str(),
+            Storage::Long(text) => text.as_str(),
+        }
+    }
+}
