@@ -1,5 +1,6 @@
 #!/usr/bin/python3
-"""projects.py SEED COUNT: holds what the model says of random configurations of projects against yamllint (Debian's package)."""
+"""compare_projects.py SEED COUNT: compares what the model says of random project configurations
+with what yamllint (Debian's package) says of them."""
 
 import os
 import random
