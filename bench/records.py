@@ -1,13 +1,18 @@
 #!/usr/bin/env python3
 """records.py [MIB] [--folder FOLDER]: what memory the records of a text take.
 
-It makes a repository of the crates below yl_record and of the program in bench/records, in a folder that goes away again or
-in FOLDER, where a second call finds it, and has `rt run` prove and build it. For each form of text of `dump.py` (flat, nested,
-full of flow collections, full of comments, of many documents) the program reads a file of MIB MiB (10 unless said otherwise), each
-time in a fresh process, makes its records, and prints what memory the process has before and after (Linux's
-`/proc/self/smaps_rollup`). The difference is the memory of the records, with what the allocator keeps beside them; a table has
-it in bytes a row, a lexeme, and a byte of the text, with the state of each sound row, as a session keeps them, and without
-states, as `yamllint` has them while a document lasts."""
+It makes a repository of the crates below yl_record and of the program in bench/records, and has
+`rt run` prove and build it. The repository is in a folder that is deleted at the end, or in FOLDER,
+where a second call finds it. For each form of text of `dump.py` (flat, nested, full of flow
+collections, full of comments, of many documents) the program reads a file of MIB MiB (10 by
+default), each time in a fresh process. It makes the records of the file, and prints what memory the
+process has before and after (Linux's `/proc/self/smaps_rollup`). The difference is the memory of
+the records, with what the allocator keeps beside them.
+
+A table has it in bytes per row, per lexeme, and per byte of the text: with the state of each sound
+row, as a session keeps them, and without states, as `yamllint` makes them. `yamllint` doesn't keep
+them all: it drops the record of a row once the row is judged. A row whose scalar goes on in the row
+below waits until the scalar ends."""
 import argparse
 import os
 import re
