@@ -31,15 +31,16 @@ fn last_end<A: Allocator>(
 ) -> Option<LexemeEnd>
     ensures { result ≡ last_lexeme_end last line lexemes.now }
 {
-    let mut last = last;
-    for lexeme in lexemes {
-        let end = lexeme.end();
-        last = Some(LexemeEnd {
-            line: u64::from(line) + u64::from(end.line),
-            col: end.col,
-        });
+    match lexemes {
+        [] => last,
+        [.., lexeme] => {
+            let end = lexeme.end();
+            Some(LexemeEnd {
+                line: u64::from(line) + u64::from(end.line),
+                col: end.col,
+            })
+        }
     }
-    last
 }
 
 /// In which column it is, if it is in this line.

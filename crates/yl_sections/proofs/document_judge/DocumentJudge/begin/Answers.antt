@@ -26,6 +26,7 @@ returns-clause-reads g c = λ xs ns some.
       only = only_at_start r.parser c.in_ok-reader.ensures.parser;
       waits = none_at_start r.parser c.in_ok-reader.ensures.parser;
       anchor = tt;
+      options = c.lexeme_options.ensures;
       version = c.new-3.ensures.version xs;
       found = λ n within.
           ap (λ (fs : List FindingValue). fs ++ lexemes_left (is_1_2_document xs) o c.new-3.result (take n xs) (facts_by_lines r.marker (by_line (map token_of xs)))) c.new-5.ensures.items

@@ -11,14 +11,14 @@ use Rattle.yl_sections.proofs.document_reader.DocumentReader.read.Goals as goal
 
 pub feed-requires : goal.feed-requires
 feed-requires g c =
-    let line = map token_of (map (λ x. lexeme_at_line x.line x.lexeme.now) c.args.line.now) in
+    let line = map token_of (map (lexeme_at_line c.args.row.now.line) c.args.row.now.lexemes.now) in
     let marks = marks_of_line c.args.self.now.marker.marks line in
     ap (is_whole true) (c.deref.ensures.value ∙ (c.in_ok-read.ensures.marks ∙ ap (λ (ws : List Symbol). ws ++ marks) c.clear.ensures.items)) ∙ line_whole c.args.self.now.marker.marks line
 
 pub returns-clause-inside : goal.returns-clause-inside
 returns-clause-inside g c =
-    let line = map token_of (map (λ x. lexeme_at_line x.line x.lexeme.now) c.args.line.now) in
+    let line = map token_of (map (lexeme_at_line c.args.row.now.line) c.args.row.now.lexemes.now) in
     let marks = marks_of_line c.args.self.now.marker.marks line in
     let long = ap lexeme_count (c.deref.ensures.value ∙ (c.in_ok-read.ensures.marks ∙ ap (λ (ws : List Symbol). ws ++ marks) c.clear.ensures.items))
-    ∙ (line_count c.args.self.now.marker.marks line ∙ tokens_long (λ x. lexeme_at_line x.line x.lexeme.now) c.args.line.now) in
+    ∙ (line_count c.args.self.now.marker.marks line ∙ tokens_long (lexeme_at_line c.args.row.now.line) c.args.row.now.lexemes.now) in
     subst (λ n. IfOk c.feed.result (λ fault. IfSome fault (λ f. (c.args.first ≤ f.place) × (f.place < c.args.first + n)))) long c.feed.ensures.inside
