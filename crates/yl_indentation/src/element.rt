@@ -152,12 +152,7 @@ fn column_in(line: &[Token], i: usize) -> u32
 
 /// The element of the lexeme of this index in a line that begins with so many spaces. What stands around it is looked at only where it
 /// opens brackets: the lexeme after it in the line, and these spaces.
-fn lexeme_in_line(
-    line: &[Token],
-    i: usize,
-    counts: bool,
-    indentation: u32,
-) -> Element
+fn lexeme_in_line(line: &[Token], i: usize, counts: bool, indentation: u32) -> Element
     ensures { result ≡ slim_element (lexeme_in_line line.now i counts indentation (slice_get line.now i)) }
 {
     let Some(token) = token_in(line, i) else {

@@ -309,7 +309,8 @@ impl<A: Allocator + Copy> DocumentJudge<A> {
             )?;
             return Ok(Some(fault));
         }
-        self.rules.read_row(&self.options, row, keys, &mut self.found)?;
+        self.rules
+            .read_row(&self.options, row, keys, &mut self.found)?;
         tell(
             self.alloc,
             &mut self.waiting,

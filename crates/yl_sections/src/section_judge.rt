@@ -197,11 +197,7 @@ impl<A: Allocator + Copy> Stage<A> {
     }
 
     /// Reads the next row, which has lexemes, at this line of the section. The only error is out of memory.
-    fn read(
-        &mut self,
-        line: u32,
-        row: &Record<A>,
-    ) -> Result<(), AllocError>
+    fn read(&mut self, line: u32, row: &Record<A>) -> Result<(), AllocError>
         ensures at { (config : Config) (rs : List RecordValue) → line ≡ length rs → 0 < length row.now.entry.lexemes → IsReady config rs self.old
             → OnOk result (IsAt config (rs ++ row.now ∷ []) self.new) }
         ensures comments { (config : Config) (rs : List RecordValue) → line ≡ length rs → 0 < length row.now.entry.lexemes → IsReady config rs self.old
