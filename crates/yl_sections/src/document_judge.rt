@@ -138,7 +138,11 @@ fn tell<A: Allocator + Copy>(
     ensures held { OnOk result (held.new ≡ anchor_held (record { lexemes = map (lexeme_at_line row.now.line) row.now.lexemes.now; first = first; waiting = held.old })
         (waiting_anchor reader.now.parser.goals)) }
 {
-    let lexemes = lexemes_of_line(held, first, row);
+    let row = RowLexemes {
+        line: row.line,
+        lexemes: row.lexemes,
+    };
+    let lexemes = lexemes_of_line(held, first, &row);
     push_events(&lexemes, &reader.outlines, tree)?;
     let waiting = held_anchor(alloc, &lexemes, reader.parser.waiting())?;
     drop(lexemes);

@@ -13,6 +13,17 @@ use yl_events::{Outline, PlacedParseFault, SymbolParser};
 use yl_lexeme::Meter;
 use yl_marks::{KeyFacts, KeyMarker, RowLexemes, Symbol, Token, push_tokens};
 
+/// Reads the lexemes of a row without their values, in the room of those of an earlier row.
+fn read_tokens<A: Allocator>(
+    row: &RowLexemes<'_, A>,
+    tokens: &mut Vec<Token, A>,
+) -> Result<(), AllocError>
+    ensures { OnOk result (tokens.new.items ≡ map token_of (map (lexeme_at_line row.now.line) row.now.lexemes.now)) }
+{
+    tokens.clear();
+    push_tokens(row, tokens)
+}
+
 /// What counts of the lines of a document that were read, and what the latest of them told.
 #[derive(Drop)]
 pub struct DocumentReader<A: Allocator + Copy> {
@@ -68,11 +79,10 @@ impl<A: Allocator + Copy> DocumentReader<A> {
             → steps (marks_of_line self.old.marker.marks (map token_of (map (lexeme_at_line row.now.line) row.now.lexemes.now))) self.old.parser.goals []
             ≡ Some (record { goals = self.new.parser.goals; events = self.new.outlines.items })) }
     {
-        self.tokens.clear();
+        read_tokens(row, &mut self.tokens)?;
         self.symbols.clear();
         self.keys.clear();
         self.outlines.clear();
-        push_tokens(row, &mut self.tokens)?;
         self.marker
             .read(&self.tokens, &mut self.symbols, &mut self.keys)?;
         self.parser.feed(first, &self.symbols, &mut self.outlines)
