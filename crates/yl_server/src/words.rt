@@ -1,4 +1,4 @@
-//! What people are told.
+//! The messages for users.
 
 pub(crate) const MEMORY: &str = "out of memory";
 
