@@ -21,8 +21,8 @@ fn syntax_finding<A: Allocator + Copy>(
     Ok(Finding::new(line, column, RuleId::Syntax, message))
 }
 
-/// Returns the position after a section: the first lexeme of the next section, which begins at
-/// `line`, or the end of the text if no section follows.
+/// Returns the position after a section: that of the first lexeme of the next section, which begins
+/// at `line`, or the end of the text if no section follows.
 fn place_after<A: Allocator>(line: u32, end: Pos, later: &[&Kept<A>]) -> Pos
     ensures { result ≡ place_after line end (map (λ k. k.now) later.now) }
 {

@@ -6,7 +6,7 @@ use std::alloc::{AllocError, Allocator};
 use yl_text::Finding;
 
 /// Returns the line that is `down` lines below `line`. Returns `AllocError` if its number does not
-/// fit in 32 bits. No text that fits in memory has such a line.
+/// fit in 32 bits. No text of at most `MAX_BYTES` bytes has such a line.
 pub fn line_below(line: u32, down: u32) -> Result<u32, AllocError>
     ensures { IfOk result (λ n. n ≡ line + down) }
 {

@@ -40,7 +40,7 @@ fn speaks_within(comment: &PlacedComment<'_>, rows: u32) -> bool
 }
 
 /// Returns `true` only if each `disable-line` comment silences one of the first `rows` lines.
-/// `false` says nothing.
+/// `false` implies nothing.
 pub fn speak_within(comments: &[PlacedComment<'_>], rows: u32) -> bool
     ensures { result ≡ true → AllByRecursion (SpeaksWithin rows) (map placed_comment_value comments.now) }
 {

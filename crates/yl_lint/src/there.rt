@@ -16,7 +16,7 @@ use yl_indentation::{IndentationOptions, Measure};
 use yl_sections::Kept;
 use yl_text::{Finding, Lines, RuleId};
 
-/// Says whether some lines of a text are at its beginning and whether they are at its end.
+/// Whether some lines of a text are at its beginning, and whether they are at its end.
 #[derive(Clone, Copy)]
 pub struct Ends {
     /// Whether the lines begin the text.

@@ -75,7 +75,7 @@ fn is_inner(a: usize, b: usize, count: usize, lines: usize) -> bool
 
 /// Returns `true` only if the edit leaves the findings of the rules on lines as they are: it
 /// replaces lines by as many lines, each with the same findings as the line it replaces. `false`
-/// says nothing. The only error is out of memory.
+/// implies nothing. The only error is out of memory.
 pub fn reads_alike<S: LineStore>(
     alloc: S::Alloc,
     config: &Config,

@@ -14,7 +14,7 @@ const MOST_EXTENDED: usize = 64;
 /// The cause why a configuration could not be loaded.
 #[derive(Clone, Copy, Debug, PartialEq, Eq)]
 pub enum LoadCause {
-    /// The text is not a configuration.
+    /// The text of the configuration has a fault.
     Config(ConfigFault),
     /// The file could not be read, or memory ran out.
     Run(RunFault),

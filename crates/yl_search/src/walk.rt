@@ -15,7 +15,7 @@ pub enum Found {
     File(String),
     /// A folder that cannot be read, or not to its end.
     Unreadable(String),
-    /// A folder with a name that is not UTF-8.
+    /// A folder that contains a name that is not UTF-8.
     BadName(String),
 }
 

@@ -1,4 +1,4 @@
-//! The configurations by which documents are judged, as the files of their folders say.
+//! The configurations by which documents are judged, according to the files of their folders.
 ghost use Rattle.std.specs.Prelude.{◌≡◌, ◌<◌, ◌||◌, Bool, List, [], ◌∷◌, None, length, is_some};
 ghost use Rattle.std.specs.Option.{option_or};
 ghost use Rattle.yl_workspace.specs.Documents.{with_document_at};
@@ -9,7 +9,7 @@ use yl_config::{Config, ConfigFault};
 use yl_text::LineStore;
 use yl_workspace::Workspace;
 
-/// The configuration by which a document is judged, as files say.
+/// The configuration by which a document is judged, according to files.
 #[derive(Clone, Copy)]
 pub enum Governed {
     /// The document is judged by this configuration.
@@ -51,7 +51,7 @@ pub(crate) fn fault_in(found: Governed) -> Option<SettingFault>
 }
 
 /// Returns the configuration by which a document is judged that is opened, or `None` if it is
-/// ignored. If `found` says neither, the configuration is `standard`.
+/// ignored. If `found` is neither a configuration nor `Ignored`, the configuration is `standard`.
 pub(crate) fn judged_at_first(standard: Config, found: Governed) -> Option<Config>
     ensures { result ≡ spec.config_at_first standard None (found ∷ []) }
 {
@@ -90,7 +90,7 @@ fn govern<S: LineStore>(workspace: &mut Workspace<S>, index: usize, found: Gover
     }
 }
 
-/// Judges each document by what is found for it, and returns what was found. `is_known` says that
+/// Judges each document by what is found for it, and returns what was found. `is_known` means that
 /// each document was asked for since it was opened.
 pub(crate) fn refresh<S: LineStore, F: ConfigFiles>(
     workspace: &mut Workspace<S>,

@@ -39,7 +39,7 @@ pub(crate) enum Reply<'a> {
     /// The error response to a request.
     Refused(Id<'a>, Code, &'a str),
     /// The publication for the document with this URI, and the fault of its configuration, or that
-    /// the document could not be opened for want of memory.
+    /// the document could not be opened for lack of memory.
     Document(&'a str, Option<SettingFault>),
     /// The publications for all documents, and the fault of their configurations.
     All(Option<SettingFault>),
@@ -134,7 +134,7 @@ fn finish<W: Write>(id: Id<'_>, out: &mut Output<W>) -> Result<(), SendFault>
     out.send(&Answer::new(id, Plain("null")))
 }
 
-/// Returns the message for users that says why a text is not followed.
+/// Returns the message for users why a text is not followed.
 fn lost_words(cause: Cause) -> &'static str
     ensures { result.now ≡ lost_words cause }
 {

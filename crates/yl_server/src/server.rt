@@ -43,8 +43,8 @@ use yl_workspace::{Cause, Document, Workspace};
 /// A server.
 ///
 /// A server has a phase, and knows how problems are shown and whether its editor reports changes of
-/// files. It has the standard configuration, the configuration that the settings name, with the
-/// file that says it, and the documents that are open.
+/// files. It has the standard configuration, the configuration that the settings name and its file,
+/// and the documents that are open.
 #[derive(Drop)]
 pub struct Server<S: LineStore> {
     alloc: S::Alloc,
@@ -57,7 +57,7 @@ pub struct Server<S: LineStore> {
     workspace: Workspace<S>,
 }
 
-/// Returns `true` if a notification with this method says that files may have changed.
+/// Returns `true` if a notification with this method reports that files may have changed.
 fn tells_of_files(method: &str) -> bool
     ensures { result ≡ spec.tells_of_files method.now }
 {
@@ -347,8 +347,8 @@ impl<S: LineStore> Server<S> {
         self.watches = takes_watchers(params);
     }
 
-    // Applies the values that settings set, with the file that says the configuration. Returns the
-    // first fault of what is found for documents.
+    // Applies the values that settings set, with the file of the configuration. Returns the first
+    // fault of what is found for documents.
     fn set<F: ConfigFiles>(
         &mut self,
         config: Option<Config>,
@@ -453,7 +453,7 @@ impl<S: LineStore> Server<S> {
             return self.spoil(params);
         };
         let (config, fault) = self.found_at_first(opened.uri, files);
-        // A document that could not be opened is not open after this, and the user is told.
+        // A document that could not be opened is not open after this, and the user gets a message.
         drop(self.workspace.open(config, opened));
         if self.workspace.document(opened.uri).is_none() {
             return Reply::Document(opened.uri, Some(SettingFault::Memory));

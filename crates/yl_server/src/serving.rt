@@ -77,9 +77,9 @@ fn take_turn<S: LineStore, F: ConfigFiles, R: Read, W: Write>(
 /// next one is read. A document is judged by `standard` if neither settings nor files say another
 /// configuration.
 ///
-/// Returns `Read` or `Write` if the device failed, `Header` if the reader gives no message next,
-/// and `TooLong` if a message to send has more bytes than a header can say. The messages that were
-/// read before are handled.
+/// Returns `Read` if the reader failed, `Write` if the writer failed, `Header` if the reader gives
+/// no message next, and `TooLong` if a message to send has more bytes than a header can say. The
+/// messages that were read before are handled.
 pub fn serve<S: LineStore, F: ConfigFiles, R: Read, W: Write>(
     alloc: S::Alloc,
     standard: Config,

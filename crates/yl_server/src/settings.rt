@@ -31,16 +31,16 @@ pub trait ConfigFiles {
     /// Reads the file at this path as a configuration.
     fn read(&mut self, path: &str) -> Found;
 
-    /// Returns the configuration by which the document with this URI is judged, as the files of its
-    /// folder say. `is_known` says that the document was asked for since it was opened. Only then
-    /// may the result be `Same`.
+    /// Returns the configuration by which the document with this URI is judged, according to the
+    /// files of its folder. `is_known` means that the document was asked for since it was opened.
+    /// Only then may the result be `Same`.
     fn of_document(&mut self, uri: &str, is_known: bool) -> Governed;
 
-    /// Says that the document with this URI was closed. What is cached for it may be dropped.
+    /// Notifies that the document with this URI was closed. What is cached for it may be dropped.
     fn closed(&mut self, uri: &str);
 }
 
-/// A fault of settings, or of what files say.
+/// A fault of settings, or of the files of configurations.
 #[derive(Clone, Copy)]
 pub(crate) enum SettingFault {
     /// A setting has the wrong type.

@@ -44,8 +44,9 @@ pub struct Plan<A: Allocator> {
     pub work: Work,
 }
 
-/// Allocates the memory that the plan needs, and returns the memory that the problems need besides.
-/// The only error is out of memory. After an error nothing has changed.
+/// Allocates the memory that the plan needs in the records, the summaries and the problems, and
+/// returns the spare memory for the problems. The only error is out of memory. The records, the
+/// summaries and the problems stay as they are, also after an error.
 pub fn make_room<A: Allocator + Copy>(
     alloc: A,
     records: &mut Chunks<Record<A>, A>,

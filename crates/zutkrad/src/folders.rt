@@ -109,7 +109,7 @@ impl<'a> Folders<'a> {
         }
     }
 
-    /// Returns the configuration by which a document is judged. `is_known` says that the document
+    /// Returns the configuration by which a document is judged. `is_known` means that the document
     /// was asked for since it was opened. Only then may the result be `Same`.
     pub fn of_document(&mut self, uri: &str, is_known: bool) -> Governed {
         match self.found(uri, is_known) {
