@@ -94,8 +94,8 @@ fn push_sections<A: Allocator + Copy>(
     Ok(())
 }
 
-/// Returns all findings in a text. `found` are the findings of the rules on lines, `end` is the end
-/// of the text, and `kept` are the summaries of its sections, in order.
+/// Returns all findings in a text. `found` holds the findings of the rules on lines, `end` is the
+/// end of the text, and `kept` holds the summaries of its sections, in order.
 fn found_of_kept<A: Allocator + Copy>(
     alloc: A,
     config: &Config,
@@ -112,8 +112,8 @@ fn found_of_kept<A: Allocator + Copy>(
     Ok(found)
 }
 
-/// Returns the report of a text. `found` are the findings of the rules on lines, `first` is the
-/// first line of the text, `end` is its end, and `kept` are the summaries of its sections, in
+/// Returns the report of a text. `found` holds the findings of the rules on lines, `first` is the
+/// first line of the text, `end` is its end, and `kept` holds the summaries of its sections, in
 /// order. The only error is out of memory.
 pub fn report_of_kept<A: Allocator + Copy>(
     alloc: A,

@@ -5,7 +5,8 @@ ghost use Rattle.yl_lint.specs.Edit.{IsTextEdit};
 
 use yl_text::{LineStore, Patched, Row};
 
-/// An edit of the lines of a text: `rows` replace the lines of the range `a..b`, counted from 0.
+/// An edit of the lines of a text: the lines of the range `a..b`, counted from 0, are replaced by
+/// `rows`.
 pub struct TextEdit<'a, S: LineStore> {
     /// The store of the lines.
     pub store: &'a S,

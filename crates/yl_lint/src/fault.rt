@@ -35,8 +35,8 @@ fn place_after<A: Allocator>(line: u32, end: Pos, later: &[&Kept<A>]) -> Pos
     }
 }
 
-/// Returns the finding of the fault of a section of `rows` rows that begins at `line`. `later` are
-/// the sections after it, and `end` is the end of the text. The only error is out of memory.
+/// Returns the finding of the fault of a section of `rows` rows that begins at `line`. `later`
+/// holds the sections after it, and `end` is the end of the text. The only error is out of memory.
 pub fn finding_of_fault<A: Allocator + Copy>(
     alloc: A,
     line: u32,
