@@ -162,8 +162,8 @@ fn answer<S: LineStore, W: Write>(
 ///
 /// Returns `Text` if `text` is not a text. This is checked first, and then nothing is read or
 /// written. Returns `Write` if the writer failed. Returns `Read` if the reader failed. Then each
-/// complete command that was read before is handled. Returns `Command` if no valid command is next,
-/// and `Memory` if memory runs out.
+/// complete command that was read before is handled. Returns `Command` if no valid command is next
+/// or 2^64 - 1 commands were handled, and `Memory` if memory runs out.
 pub fn drive<S: LineStore, R: Read, W: Write>(
     alloc: S::Alloc,
     name: &str,

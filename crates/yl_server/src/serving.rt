@@ -78,8 +78,8 @@ fn take_turn<S: LineStore, F: ConfigFiles, R: Read, W: Write>(
 /// configuration.
 ///
 /// Returns `Read` if the reader failed, `Write` if the writer failed, `Header` if the reader gives
-/// no message next, and `TooLong` if a message to send has more bytes than a header can say. The
-/// messages that were read before are handled.
+/// no message next or 2^64 - 1 messages were handled, and `TooLong` if a message to send has more
+/// bytes than a header can say. The messages that were read before are handled.
 pub fn serve<S: LineStore, F: ConfigFiles, R: Read, W: Write>(
     alloc: S::Alloc,
     standard: Config,
