@@ -1,8 +1,10 @@
 use Rattle.std.proofs.Common.{◌≡◌, ◌+◌, ◌-◌, ◌≤◌, ◌<◌, ◌++◌, ◌∙◌, [], List, Option, append_assoc, ap, arith, length, map, refl, subst, sym, take}
 use Rattle.std.specs.Prelude.{IfSome, option_map}
 use Rattle.std.proofs.lemmas.List.{length-append, length-map}
+use Rattle.yl_lexeme.specs.Lexeme.{LexemeValue}
 use Rattle.yl_marks.specs.declared.facts.KeyFacts.{KeyFacts}
 use Rattle.yl_marks.specs.declared.symbol.Symbol.{Symbol}
+use Rattle.yl_marks.specs.declared.token.Token.{Token}
 use Rattle.yl_marks.specs.FactsByLine.{KeyMarkerValue}
 use Rattle.yl_marks.specs.ByLine.{by_line, marks_of_line}
 use Rattle.yl_marks.specs.Keys.{lexeme_at_line, token_of}
@@ -11,6 +13,8 @@ use Rattle.yl_events.specs.Named.{waiting_anchor}
 use Rattle.yl_events.specs.Seen.{IsAnchorOf}
 use Rattle.yl_events.specs.SymbolParsing.{FeedsSymbols, outcome_of_symbols}
 use Rattle.yl_events.proofs.Counts.{line_count}
+use Rattle.yl_indentation.specs.LineFacts as facts
+use Rattle.yl_indentation.specs.LineFacts.{AreIndented}
 use Rattle.yl_indentation.specs.SymbolFacts.{behind_symbols, facts_left}
 use Rattle.yl_layout.specs.declared.options.LexemeOptions.{LexemeOptions}
 use Rattle.yl_layout.specs.LexemesLeft.{lexemes_left}
@@ -31,7 +35,7 @@ find_before-requires-clause-keys g c =
 pub read_row-requires : goal.read_row-requires
 read_row-requires g c =
     let f = lexeme_at_line c.args.row.now.line in
-    ap (λ (ks : List KeyFacts). length ks) (c.deref-2.ensures.value ∙ c.in_ok-fault.ensures.keys)
+    ap (λ (ks : List KeyFacts). length ks) (c.deref-3.ensures.value ∙ c.in_ok-fault.ensures.keys)
     ∙ (keys_long c.args.self.now.reader.marker (map token_of (map f c.args.row.now.lexemes.now)) ∙ tokens_long f c.args.row.now.lexemes.now)
 
 pub returns-in-Some-fault : goal.returns-in-Some-fault
@@ -51,8 +55,12 @@ returns-in-Some-fault g c = λ config xs ns left l h.
     let parts = cut config xs line left ns c.args.spaces d l h in
     let alike : length (map token_of line) ≡ length line = length-map line token_of in
     let options = h.options in
+    let tokens_are : c.deref.result.now ≡ ts = c.deref.ensures.value ∙ c.in_ok-fault.ensures.tokens in
+    let as_many : length line ≡ length c.deref.result.now = sym (ap (λ (us : List Token). length us) tokens_are ∙ length-map line token_of) in
+    let at = subst (λ (us : List Token). facts.IsLine (map token_of xs) d.count us) (sym tokens_are) (is_line xs h.front line left d.count h.whole h.read l.at l.here l.elsewhere) in
+    let spaces = subst (λ (us : List Token). AreIndented ns c.args.spaces us) (sym tokens_are) (indented ns c.args.spaces l.at line l.spaces_are l.here) in
     let count = fault.place - d.count in
-    let named = indices_of config xs line left ns c.args.spaces d l h c.deref.result.now (length c.args.row.now.lexemes.now) (c.deref.ensures.value ∙ c.in_ok-fault.ensures.symbols) long in
+    let named = indices_of config xs line left ns c.args.spaces d l h c.deref-2.result.now (length c.deref.result.now) (c.deref-2.ensures.value ∙ c.in_ok-fault.ensures.symbols) as_many in
     record {
       fault = told_stop config xs (document_of xs) d.tree d.reader.parser m.marks ts later lines d.count fault parts h.count fails h.told;
       there = there;
@@ -62,8 +70,8 @@ returns-in-Some-fault g c = λ config xs ns left l h.
           ∙ ap (λ (o : LexemeOptions). d.found.items ++ lexemes_left (is_1_2_document xs) o d.rules (take count line) (take count c.deref-in-Some-fault.result.now)) options);
       facts = facts_stop (map token_of xs) ns d.places m.marks ts later lines fault.place d.facts.items c.read_line.new.facts.items _ parts
           (omega (arith, there.1, h.count, long, alike))
-          (c.in_ok-read_line.ensures.facts (map token_of xs) ns (is_line xs h.front line left d.count h.whole h.read l.at l.here l.elsewhere) (indented ns c.args.spaces l.at line l.spaces_are l.here) named
-          ∙ (ap (λ (ws : List Symbol). d.facts.items ++ facts_left d.places (map token_of xs) c.counted_in.result ns ws) (c.deref.ensures.value ∙ c.in_ok-fault.ensures.symbols)
+          (c.in_ok-read_line.ensures.facts (map token_of xs) ns at spaces named
+          ∙ (ap (λ (ws : List Symbol). d.facts.items ++ facts_left d.places (map token_of xs) c.counted_in.result ns ws) (c.deref-2.ensures.value ∙ c.in_ok-fault.ensures.symbols)
           ∙ ap (λ k. d.facts.items ++ facts_left d.places (map token_of xs) k ns (marks_of_line m.marks ts)) (c.counted_in.ensures ∙ ap (λ o. counted_in o c.in-Some.end) c.in-Some-fault.is)))
           (h.facts fault.place there.0);
     }
@@ -89,11 +97,13 @@ returns g c = λ config xs ns left l h.
     let options = h.options in
     let behind = c.in_ok-fault.ensures.marker in
     let counted = line_counted f c.args.row.now.lexemes.now m n d.count behind h.count in
-    let symbols = c.deref.ensures.value ∙ c.in_ok-fault.ensures.symbols in
-    let at = is_line xs h.front line left d.count h.whole h.read l.at l.here l.elsewhere in
-    let spaces = indented ns c.args.spaces l.at line l.spaces_are l.here in
+    let symbols = c.deref-2.ensures.value ∙ c.in_ok-fault.ensures.symbols in
+    let tokens_are : c.deref.result.now ≡ ts = c.deref.ensures.value ∙ c.in_ok-fault.ensures.tokens in
+    let as_many : length line ≡ length c.deref.result.now = sym (ap (λ (us : List Token). length us) tokens_are ∙ length-map line token_of) in
+    let at = subst (λ (us : List Token). facts.IsLine (map token_of xs) d.count us) (sym tokens_are) (is_line xs h.front line left d.count h.whole h.read l.at l.here l.elsewhere) in
+    let spaces = subst (λ (us : List Token). AreIndented ns c.args.spaces us) (sym tokens_are) (indented ns c.args.spaces l.at line l.spaces_are l.here) in
     let v = is_1_2_document xs in
-    let named = indices_of config xs line left ns c.args.spaces d l h c.deref.result.now (length c.args.row.now.lexemes.now) symbols long in
+    let named = indices_of config xs line left ns c.args.spaces d l h c.deref-2.result.now (length c.deref.result.now) symbols as_many in
     record {
       front = h.front ++ line;
       whole = h.whole ∙ sym (append_assoc h.front line left);
@@ -104,9 +114,9 @@ returns g c = λ config xs ns left l h.
       anchor = subst (λ a. IsAnchorOf xs a) (sym held) (held_anchor config xs line left ns c.args.spaces d l h (waiting_anchor p.goals) step.1.0);
       options = h.options;
       version = c.in_ok-read_row.ensures.version v left h.version;
-      found = λ k within. found_on config xs line left ns c.args.spaces d l h end k (omega (arith, far, long)) within c.read_row.new.problems.items c.read_row.new.self c.deref-2.result.now n
-          (c.deref-2.ensures.value ∙ c.in_ok-fault.ensures.keys) behind
-          (subst (λ (o : LexemeOptions). (more : List LexemeValue) (ks : List KeyFacts) → c.read_row.new.problems.items ++ lexemes_left v o c.read_row.new.self more ks ≡ d.found.items ++ lexemes_left v o d.rules (line ++ more) (c.deref-2.result.now ++ ks))
+      found = λ k within. found_on config xs line left ns c.args.spaces d l h end k (omega (arith, far, long)) within c.read_row.new.problems.items c.read_row.new.self c.deref-3.result.now n
+          (c.deref-3.ensures.value ∙ c.in_ok-fault.ensures.keys) behind
+          (subst (λ (o : LexemeOptions). (more : List LexemeValue) (ks : List KeyFacts) → c.read_row.new.problems.items ++ lexemes_left v o c.read_row.new.self more ks ≡ d.found.items ++ lexemes_left v o d.rules (line ++ more) (c.deref-3.result.now ++ ks))
           options (λ more ks. c.in_ok-read_row.ensures.found v left more ks h.version));
       facts = λ all most.
           facts_on (map token_of xs) ns d.places c.read_line.new.self m.marks n.marks ts later lines d.count end all d.facts.items c.read_line.new.facts.items _ parts

@@ -29,3 +29,9 @@ returns-in-Some-clause-comments g c = λ config rs at some ready.
     let reads = subst (λ (s : Stage g.row.A.Denot). IsReady config rs s) c.in-In.is ready in
     let stops = subst (λ (o : Option (StoppedDocument g.row.A.Denot)). ReadsRow o config (rs ++ c.args.row.now ∷ []) c.read_row.new.document) c.in-Some.is (c.in_ok-stopped.ensures config rs at some reads) in
     subst (λ (s : Stage g.row.A.Denot). KeepsComments rs c.args.row.now s (Stopped c.in-Some.stopped)) (sym c.in-In.is) (keeps_stopped rs c.args.row.now c.in-In.document c.in-Some.stopped stops.1)
+
+pub returns-in-Some-clause-at : goal.returns-in-Some-clause-at
+returns-in-Some-clause-at g c = λ config rs at some ready.
+    let reads = subst (λ (s : Stage g.row.A.Denot). IsReady config rs s) c.in-In.is ready in
+    let stops = subst (λ (o : Option (StoppedDocument g.row.A.Denot)). ReadsRow o config (rs ++ c.args.row.now ∷ []) c.read_row.new.document) c.in-Some.is (c.in_ok-stopped.ensures config rs at some reads) in
+    stops.0
