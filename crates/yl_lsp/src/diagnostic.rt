@@ -17,7 +17,7 @@ pub enum Severity {
     Error,
     /// A warning.
     Warning,
-    /// An information.
+    /// Information.
     Information,
 }
 
