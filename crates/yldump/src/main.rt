@@ -1,4 +1,4 @@
-//! `yldump`: prints what the scanner and the parser see of a YAML file.
+//! `yldump`: prints what the scanner and the parser find in a YAML file.
 #![tactic(auto)]
 
 use std::process::ExitCode;
