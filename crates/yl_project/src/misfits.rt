@@ -1,4 +1,6 @@
-//! Finds what does not fit in the configuration of a project.
+//! Finds the misfits of a project's configuration: everything in it that does not fit.
+//!
+//! A `Reading` keeps the earliest in the text of the misfits that are noted.
 ghost use Rattle.std.specs.Prelude.{◌≡◌, ◌≤◌, ◌++◌, ◌&&◌, ◌||◌, not, length, OnOk, IfOk, bytes_eq, codes, is_some, None, false, []};
 ghost use Rattle.std.specs.List.{flat_map};
 ghost use Rattle.yl_events.specs.Event.{kind_value};

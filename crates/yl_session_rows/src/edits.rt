@@ -87,7 +87,7 @@ pub struct Held<S: LineStore> {
     pub edits: Vec<Edit<S::Alloc>, S::Alloc>,
     /// The answers to the edits, each as a line.
     pub answers: Vec<u8>,
-    /// The index of the last answer in `answers`.
+    /// The index in `answers` at which the last line starts.
     pub last: usize,
     /// The session after the edits.
     pub session: Session<S>,

@@ -5,10 +5,15 @@ use yl_text::Pos;
 
 /// A row, unless it is about the start of the next text.
 pub enum Instruction<'a> {
+    /// The configuration of the next rows.
     Config(&'a str),
+    /// The minimum number of allocations of the next request.
     Growths(u64),
+    /// The maximum number of allocations of the next request.
     Most(u64),
+    /// The next edit must derive the events of exactly as many documents as it may.
     Exactly,
+    /// A request, with the bytes after it.
     Request(Request, &'a str),
 }
 
