@@ -3,8 +3,8 @@
 /// A format of the problems of a file.
 #[derive(Clone, Copy, Debug, PartialEq, Eq)]
 pub enum Format {
-    /// A line for each problem, with the name of the file: `FILE:LINE:COLUMN: [LEVEL] MESSAGE
-    /// (RULE)`.
+    /// A line for each problem, with the name of the file:
+    /// `FILE:LINE:COLUMN: [LEVEL] MESSAGE (RULE)`.
     Parsable,
     /// A line in columns for each problem, after a line with the name of the file.
     Standard,
