@@ -5,15 +5,15 @@ ghost use Rattle.yl_formats.specs.Formats.{rule_between, syntax_mark};
 
 use yl_text::RuleId;
 
-// Returns `true` if the rule is that of the faults of a text.
+// Returns `true` if the rule is `Syntax`, which is the rule of the faults of a text.
 fn is_syntax(rule: RuleId) -> bool
     ensures { result ≡ is_syntax rule }
 {
     matches!(rule, RuleId::Syntax)
 }
 
-/// Returns the text after the message of a problem. It is empty unless the problem is a fault of
-/// the text.
+/// Returns the text after the message of a problem of this rule. It is empty unless the rule is
+/// `Syntax`.
 pub(crate) fn mark_of(rule: RuleId) -> &'static [u8]
     ensures { result.now ≡ syntax_mark rule }
 {
@@ -31,8 +31,7 @@ pub(crate) struct NameParts {
     pub(crate) after: &'static [u8],
 }
 
-/// Returns the name of a rule between two texts. All three are empty if the rule is that of the
-/// faults of a text.
+/// Returns the name of a rule between two texts. All three are empty if the rule is `Syntax`.
 pub(crate) fn name_between(before: &'static [u8], rule: RuleId, after: &'static [u8]) -> NameParts
     ensures { result.before.now ++ (result.name.now ++ result.after.now) ≡ rule_between before.now rule after.now }
 {

@@ -139,7 +139,8 @@ impl Write for EditorWriter<'_> {
 /// first bar, and the next one the part before the next bar. After the last part, the file cannot
 /// be read. The part of a URI after its question mark is split in the same way. Each part is what
 /// the files say about the document when a document is asked for: a configuration, `ignored` or
-/// `unreadable`. If a part is empty, there is no file.
+/// `unreadable`. If the part is empty or missing, there is no file. The readings of all files are
+/// counted together, and so are the requests about all documents.
 #[derive(Drop)]
 pub struct Files<A> {
     alloc: A,
