@@ -61,6 +61,7 @@ fn indentation_at(indentations: &[u32], line: u32) -> u32
     }
 }
 
+#[inline(always)]
 fn element_at(site: Site) -> Element
     ensures { result ≡ element_at site.token.kind site }
 {
@@ -73,6 +74,7 @@ fn element_at(site: Site) -> Element
 }
 
 /// The element of a lexeme without what stands around it.
+#[inline(always)]
 fn alone(token: Token, counts: bool) -> Element
     ensures { result ≡ element_at token.kind (record { token = token; next = None; indentation = 0; counts = counts }) }
 {
@@ -131,6 +133,7 @@ pub fn element_of<A: Allocator>(
     }
 }
 
+#[inline(always)]
 fn token_in(line: &[Token], i: usize) -> Option<Token>
     ensures { result ≡ slice_get line.now i }
 {
@@ -141,6 +144,7 @@ fn token_in(line: &[Token], i: usize) -> Option<Token>
 }
 
 /// The column of the token of this index; 0, if there is none.
+#[inline(always)]
 fn column_in(line: &[Token], i: usize) -> u32
     ensures { result ≡ column_at line.now i }
 {
@@ -152,6 +156,7 @@ fn column_in(line: &[Token], i: usize) -> u32
 
 /// The element of the lexeme of this index in a line that begins with so many spaces. What stands around it is looked at only where it
 /// opens brackets: the lexeme after it in the line, and these spaces.
+#[inline(always)]
 fn lexeme_in_line(line: &[Token], i: usize, counts: bool, indentation: u32) -> Element
     ensures { result ≡ slim_element (lexeme_in_line line.now i counts indentation (slice_get line.now i)) }
 {
@@ -171,6 +176,7 @@ fn lexeme_in_line(line: &[Token], i: usize, counts: bool, indentation: u32) -> E
 
 /// The element of a symbol of a line that begins with so many spaces, as far as it is asked for, where `first` lexemes stand before the
 /// line's. That a key begins is none.
+#[inline(always)]
 pub fn element_in_line(
     line: &[Token],
     first: usize,

@@ -60,6 +60,7 @@ fn column_in(line: u32, last: Option<LexemeEnd>) -> Option<u32>
 }
 
 /// Puts a comment after those that are kept, if it may silence rules.
+#[inline(never)]
 fn push_addressed<A: Allocator + Copy>(
     alloc: A,
     kept: &mut Vec<KeptComment<A>, A>,

@@ -46,6 +46,7 @@ impl<A: Allocator> Model for HeldAnchor<A> {
 }
 
 impl<A: Allocator + Copy> HeldAnchor<A> {
+    #[inline(never)]
     fn of(alloc: A, anchor: &WaitingAnchor<'_>) -> Result<HeldAnchor<A>, AllocError>
         ensures { IfOk result (λ a. a ≡ waiting_value anchor.now) }
     {
@@ -151,6 +152,7 @@ fn tell<A: Allocator + Copy>(
 }
 
 /// What the rules on lexemes find in a row of which only the first so many lexemes count, and in no line after it.
+#[inline(never)]
 fn find_before<A: Allocator + Copy>(
     options: &LexemeOptions,
     row: &RowLexemes<'_, A>,

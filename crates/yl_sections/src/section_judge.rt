@@ -188,6 +188,24 @@ impl<A: Allocator + Copy> Stage<A> {
             ≡ (if has_begun self.old then meter.old else record meter.old { documents = meter.old.documents + 1 })) }
     {
         if let Stage::Before = self {
+            return self.begin_document(alloc, config, meter);
+        }
+        Ok(())
+    }
+
+    /// The same, apart from the loop over the rows, whose frame would hold a document more.
+    #[inline(never)]
+    fn begin_document(
+        &mut self,
+        alloc: A,
+        config: &Config,
+        meter: &mut Meter,
+    ) -> Result<(), AllocError>
+        ensures begun { OnOk result (IsBegun config.now self.old self.new) }
+        ensures counted { OnOk result (meter.new
+            ≡ (if has_begun self.old then meter.old else record meter.old { documents = meter.old.documents + 1 })) }
+    {
+        if let Stage::Before = self {
             if meter.documents == u32::MAX {
                 return Err(AllocError);
             }
