@@ -13,6 +13,9 @@ use yl_events::{Outline, PlacedParseFault, SymbolParser};
 use yl_lexeme::Meter;
 use yl_marks::{KeyFacts, KeyMarker, RowLexemes, Symbol, Token, push_tokens};
 
+/// The number of lexemes for which the lists of a row have room from the first row on: most rows have fewer.
+const ROW: usize = 8;
+
 /// Reads the lexemes of a row without their values, in the room of those of an earlier row.
 fn read_tokens<A: Allocator>(
     row: &RowLexemes<'_, A>,
@@ -51,9 +54,9 @@ impl<A: Allocator + Copy> DocumentReader<A> {
         Ok(DocumentReader {
             marker: KeyMarker::new(alloc),
             parser,
-            tokens: Vec::new(alloc),
-            symbols: Vec::new(alloc),
-            keys: Vec::new(alloc),
+            tokens: Vec::with_capacity(alloc, ROW)?,
+            symbols: Vec::with_capacity(alloc, 2 * ROW)?,
+            keys: Vec::with_capacity(alloc, ROW)?,
             outlines,
         })
     }
