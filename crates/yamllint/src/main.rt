@@ -17,14 +17,14 @@ use yl_text::Watched;
 
 const NAME: &str = "yamllint";
 
-// The name under which a file's problems are printed.
+// Returns the name under which the problems of a file are printed.
 fn shown_name(file: &str) -> &str
     ensures { result.now ≡ (if bytes_eq file.now (codes "-") then codes "stdin" else file.now) }
 {
     if file == "-" { "stdin" } else { file }
 }
 
-// Lints a file, or standard input at `-`, and prints its report.
+// Lints a file, or standard input if the name is `-`, and prints its report.
 fn linted<W: Write>(
     rt: &HostRuntime,
     file: &str,
@@ -50,7 +50,7 @@ fn linted<W: Write>(
     }
 }
 
-// Lints the files in order, up to the first fault.
+// Lints the files in order, up to the first fault, and returns the exit status.
 fn linted_all(rt: &HostRuntime, asked: &Asked, config: &Config) -> u8 {
     let mut out = Watched::new(rt.stdout());
     let mut status = 0;

@@ -1,4 +1,4 @@
-//! The report of a file's bytes, printed in a format, and the status of a run over many files.
+//! The report of the bytes of a file, its printed form, and the status of a run over many files.
 #![tactic(auto)]
 
 mod report;

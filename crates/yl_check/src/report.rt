@@ -1,4 +1,4 @@
-//! A file's report.
+//! The report of a file.
 ghost use Rattle.std.specs.Prelude.{◌≡◌, ◌-◌, ◌^◌, ◌<◌, IfOk, IfErr, OnOk, OnErr};
 ghost use Rattle.std.specs.Io.KnownBytes.{Appends};
 ghost use Rattle.yl_text.specs.Fault.{IsText};
@@ -23,15 +23,17 @@ use yl_text::Watched;
 /// How a report is printed and counted.
 #[derive(Clone, Copy)]
 pub struct Printing {
+    /// The format of the printed problems.
     pub format: Format,
-    /// Warnings are not printed; they count all the same.
+    /// Whether warnings are not printed. They count for the status all the same.
     pub no_warnings: bool,
-    /// Warnings give status 2 where no error gives 1.
+    /// Whether a report with warnings and without errors has status 2.
     pub strict: bool,
 }
 
-/// The report of a file's bytes, less one leading byte-order mark. The faults: `Text` where the bytes are no text, which is looked at first;
-/// else `Memory`.
+/// Returns the report of the bytes of a file. Ignores one leading byte-order mark. Returns
+/// `RunFault::Text` if the bytes are not a text, which is checked first, and `RunFault::Memory` if
+/// memory runs out.
 pub fn report_of_bytes<A: Allocator + Copy>(
     alloc: A,
     config: &Config,
@@ -51,8 +53,9 @@ pub fn report_of_bytes<A: Allocator + Copy>(
     }
 }
 
-/// Prints a file's report, and returns its status: 1 with an error, else 2 with a warning where that is asked, else 0. On a fault, which is told
-/// only where the writer failed, a beginning of it is out.
+/// Prints the report of a file and returns its status: 1 if it has an error, else 2 if it has a
+/// warning and `printing.strict` is set, else 0. Returns an error only if the writer failed. Then a
+/// prefix of the report is written.
 pub fn print_report<W: Write, A: Allocator>(
     name: &str,
     problems: &[Problem<A>],

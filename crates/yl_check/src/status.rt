@@ -2,8 +2,9 @@
 ghost use Rattle.std.specs.Prelude.{◌≡◌};
 ghost use Rattle.yl_check.specs.Check.{joined_status};
 
-/// The status of two parts of a run: 255 if one of them is, since it ended by a fault; else 1 if one is, for an error; else 2 if one is, for a
-/// warning; else 0.
+/// Returns the status of two parts of a run: 255 if one of them is 255, which stands for a fault,
+/// else 1 if one is 1, which stands for an error, else 2 if one is 2, which stands for a warning,
+/// else 0.
 pub fn joined(a: u8, b: u8) -> u8
     ensures { result ≡ joined_status a b }
 {

@@ -1,4 +1,4 @@
-//! The line of a command.
+//! Reads the line of a command.
 ghost use Rattle.std.specs.Prelude.{◌≡◌, ◌==◌, ◌<◌, length, map, MatchOption};
 ghost use Rattle.std.specs.List.{slice_split};
 ghost use Rattle.yl_cli.specs.Command.{line_of_places, line_of_words, number_of_word, place_at, place_of_words};
@@ -6,13 +6,13 @@ ghost use Rattle.yl_cli.specs.Command.{line_of_places, line_of_words, number_of_
 use arrayvec::ArrayVec;
 use yl_text::Pos;
 
-/// The most bytes that a command puts into a text.
+/// The maximum number of bytes that a command puts into a text.
 const MOST_BYTES: u64 = 67_108_864;
 
-/// The greatest number that a place has.
+/// The maximum line or column of a position.
 const MOST_OF_PLACE: u64 = 4_294_967_295;
 
-/// A place that is in no text, since a text has fewer lines.
+/// A position that is in no text, since a text has fewer lines.
 const NOWHERE: Pos = Pos {
     line: u32::MAX,
     col: u32::MAX,
@@ -21,15 +21,18 @@ const NOWHERE: Pos = Pos {
 // The words of a command: its name, and five numbers.
 type Words<'a> = ArrayVec<&'a [u8], 6>;
 
-/// What a command asks for: what stands between two places gives way to `size` bytes.
+/// The line of a command that replaces the range between two positions by `size` bytes.
 #[derive(Clone, Copy)]
 pub struct CommandLine {
+    /// The start of the range.
     pub from: Pos,
+    /// The end of the range.
     pub to: Pos,
+    /// The number of bytes that replace the range.
     pub size: u64,
 }
 
-/// The number that a word of 1 to 10 decimal digits is.
+/// Returns the number that a word is, or `None` if the word is not 1 to 10 decimal digits.
 fn number(word: &[u8]) -> Option<u64>
     ensures { result ≡ number_of_word word.now }
 {
@@ -46,7 +49,8 @@ fn number(word: &[u8]) -> Option<u64>
     Some(value)
 }
 
-/// The place at a line and a column. A number that no place has says one that is in no text.
+/// Returns the position at a line and a column. Returns `NOWHERE` if one of them is greater than
+/// `MOST_OF_PLACE`.
 fn place_at(line: u64, col: u64) -> Pos
     ensures { result ≡ place_at line col }
 {
@@ -93,8 +97,8 @@ fn line_of_words(words: &[&[u8]]) -> Option<CommandLine>
     line_of_places(from, to, number(size))
 }
 
-// The words of a line, which stand between single spaces, or `None` where they are more than a command has. It takes
-// no memory.
+// Returns the words of a line, which stand between single spaces, or `None` if there are more than
+// a command has. Does not allocate.
 fn words_of(line: &[u8]) -> Option<Words<'_>>
     ensures { MatchOption result (6 < length (slice_split (λ c. c == 0x20) line.now))
         (λ words. map (λ word. word.now) words.items ≡ slice_split (λ c. c == 0x20) line.now) }
@@ -108,7 +112,7 @@ fn words_of(line: &[u8]) -> Option<Words<'_>>
     Some(words)
 }
 
-/// What a command's line asks for, or `None` where it is none. It takes no memory.
+/// Reads the line of a command. Returns `None` if the line is not one. Does not allocate.
 pub(crate) fn command_line(line: &[u8]) -> Option<CommandLine>
     ensures { result ≡ line_of_words (slice_split (λ c. c == 0x20) line.now) }
 {

@@ -1,4 +1,4 @@
-//! A text that is edited by commands, each answered before the next is read.
+//! A text that is edited by commands, each handled before the next one is read.
 ghost use Rattle.std.specs.Prelude.{◌≡◌, ℕ, List, ◌-◌, ◌^◌, ◌<◌, ◌≤◌, ◌++◌, codes, decimal, length, IfOk, IfErr, OnOk, OnErr, Option};
 ghost use Rattle.std.specs.List.{flat_map};
 ghost use Rattle.std.specs.Io.KnownBytes.{Appends, IsAtEnd};
@@ -37,11 +37,11 @@ fn refusal_name(fault: TextFault) -> &'static str
     }
 }
 
-// The pieces of the line after a report.
+// Returns the pieces of the line after a report.
 fn ok_parts<'a>(status: &'a str, space: &'a str, scanned: &'a str) -> [&'a [u8]; 5]
     ensures { flat_map (λ part. part.now) result ≡ codes "-- ok " ++ status.now ++ (space.now ++ scanned.now) ++ codes "\n" }
 {
-    // Each of these is lent for as long as the other pieces, which an array of them asks.
+    // Each of these is borrowed for `'a`, since all pieces of an array have one type.
     let opening: &'a [u8] = b"-- ok ";
     let end: &'a [u8] = b"\n";
     [
@@ -84,7 +84,7 @@ fn refused_parts<'a>(name: &'a str) -> [&'a [u8]; 3]
     [opening, name.as_bytes(), end]
 }
 
-// Writes the line of an edit that is refused.
+// Writes the line of an edit that failed.
 fn write_refused<W: Write>(fault: TextFault, out: &mut Watched<W>) -> Result<(), WriteFault>
     requires { failures_of out.old < 2 ^ 64 - 1 }
     ensures ok { OnOk result (Appends (W.contents (device_of out.old)) (W.contents (device_of out.new)) (codes "-- refused " ++ refusal_name fault ++ codes "\n")) }
@@ -126,14 +126,14 @@ fn opened<S: LineStore>(alloc: S::Alloc, config: Config, text: &str) -> Result<S
     }
 }
 
-// How many lines an edit scanned, where that is asked.
+// Returns the number of rows that an edit scanned, if the flags ask for it.
 fn scanned_shown(flags: Flags, work: Work) -> Option<u32>
     ensures { result ≡ then_some flags.work work.scanned }
 {
     if flags.work { Some(work.scanned) } else { None }
 }
 
-// Makes an edit and writes what it is answered.
+// Applies an edit and writes the report and the line after it, or the line of the failed edit.
 fn answer<S: LineStore, W: Write>(
     name: &str,
     flags: Flags,
@@ -155,14 +155,15 @@ fn answer<S: LineStore, W: Write>(
     }
 }
 
-/// Shows a text's report, then reads commands and answers each before the next: `replace LINE COLUMN
-/// LINE COLUMN BYTES`, a line feed and that many bytes put these in place of what stands from the
-/// first place to the second, counted from 0. Returns the status of the text that the accepted edits
-/// leave. One leading byte-order mark of `text` is dropped.
+/// Writes the report of a text, then reads commands and handles each before the next one. A command
+/// is `replace LINE COLUMN LINE COLUMN BYTES`, a line feed and that many bytes, which replace the
+/// range from the first position to the second. Lines and columns count from 0. Returns the status
+/// of the text that the accepted edits leave. Ignores one leading byte-order mark of `text`.
 ///
-/// The faults: `Text` where `text` is no text, which is looked at first; then nothing is read or
-/// written. `Write` where the writer failed. `Read` where the reader failed; then each whole command
-/// that it gave before is answered. `Command` where no command stands next. Else `Memory`.
+/// Returns `Text` if `text` is not a text. This is checked first, and then nothing is read or
+/// written. Returns `Write` if the writer failed. Returns `Read` if the reader failed. Then each
+/// complete command that was read before is handled. Returns `Command` if no valid command is next
+/// or 2^64 - 1 commands were handled, and `Memory` if memory runs out.
 pub fn drive<S: LineStore, R: Read, W: Write>(
     alloc: S::Alloc,
     name: &str,

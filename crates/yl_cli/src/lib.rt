@@ -1,4 +1,4 @@
-//! A text linted, or edited by commands: from the bytes that a reader gives to lines on a writer.
+//! Lints a text, or edits it by commands: from the bytes of a reader to lines on a writer.
 #![tactic(auto)]
 
 mod command;

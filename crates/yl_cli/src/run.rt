@@ -1,4 +1,4 @@
-//! A file linted from its bytes to printed lines and a status.
+//! Lints a file: from its bytes to printed lines and a status.
 ghost use Rattle.std.specs.Prelude.{◌≡◌, ◌-◌, ◌^◌, ◌<◌, IfOk, IfErr, IfSome, OnOk};
 ghost use Rattle.yl_text.specs.Fault.{IsText};
 ghost use Rattle.yl_text.specs.Watched.{device_of, failures_of};
@@ -14,12 +14,12 @@ use yl_lint::report_of_text;
 use yl_report::{status, write_report};
 use yl_text::Watched;
 
-/// Writes the report of a file's bytes, less one leading byte-order mark, and returns its status: 1
-/// with an error, else 2 with a warning where `strict` is asked, else 0. The printed lines begin
-/// with `name`.
+/// Writes the report of the bytes of a file and returns its status: 1 if it has an error, else 2 if
+/// it has a warning and `strict` is set, else 0. Ignores one leading byte-order mark. The printed
+/// lines start with `name`.
 ///
-/// The faults: `Text` where the bytes are no text, which is looked at first; `Write` where the writer
-/// failed, and then a beginning of the report is out; else `Memory`.
+/// Returns `Text` if the bytes are not a text, which is checked first. Returns `Write` if the
+/// writer failed. Then a prefix of the report is written. Returns `Memory` if memory runs out.
 pub fn lint_bytes<A: Allocator + Copy, W: Write>(
     alloc: A,
     name: &str,
@@ -49,8 +49,9 @@ pub fn lint_bytes<A: Allocator + Copy, W: Write>(
     }
 }
 
-/// Reads a text to its end, or until it is too large, and goes on as `lint_bytes` does. `Read` where
-/// the reader failed. But for a failed write nothing is out on a fault.
+/// Reads a text to its end, or until it is too large, and lints it as `lint_bytes` does. Returns
+/// `Read` if the reader failed. The other errors are those of `lint_bytes`. After an error nothing
+/// is written, unless the writer failed.
 pub fn lint<A: Allocator + Copy, R: Read, W: Write>(
     alloc: A,
     name: &str,
@@ -88,7 +89,7 @@ pub fn lint<A: Allocator + Copy, R: Read, W: Write>(
     lint_bytes(alloc, name, config, flags, bytes.as_slice(), out)
 }
 
-/// The status of two files: 1 if one is 1, else 2 if one is 2, else 0.
+/// Returns the status of two files: 1 if one of them is 1, else 2 if one is 2, else 0.
 pub fn joined(a: u8, b: u8) -> u8
     ensures { result ≡ joined_status a b }
 {

@@ -1,4 +1,4 @@
-//! The commands of a stream.
+//! Reads the commands of a stream.
 ghost use Rattle.std.specs.Prelude.{◌≡◌, ◌≢◌, ◌-◌, ◌^◌, ◌<◌, ◌≤◌, [], ◌∷◌, length, IfOk, IfErr, IfSome, IsErrOf, OnOk, MatchOption, MatchBool, vec_len, Err};
 ghost use Rattle.std.specs.Io.KnownBytes.{Consumes, IsAtEnd, Keeps, prepend_known};
 ghost use Rattle.yl_text.specs.Watched.{device_of, failures_of};
@@ -18,7 +18,7 @@ use yl_text::Watched;
 // The line of a command, which has at most 62 bytes.
 type Line = ArrayVec<u8, 62>;
 
-// Reads a line without its line feed. `false` at the end of the input.
+// Reads a line without its line feed. Returns `false` at the end of the input.
 fn read_line<R: Read>(
     ahead: &mut Ahead,
     input: &mut Watched<R>,
@@ -50,8 +50,9 @@ fn read_line<R: Read>(
     Err(RunFault::Command)
 }
 
-/// The next command, or `None` at the end of the input. `Command` where there stands none. `Read`
-/// where the reader failed before it had given a whole command.
+/// Reads the next command. Returns `None` at the end of the input. Returns `Command` if no valid
+/// command is next, `Read` if the reader failed before it had given a complete command, and
+/// `Memory` if memory runs out.
 pub(crate) fn next_edit<A: Allocator + Copy, R: Read>(
     alloc: A,
     ahead: &mut Ahead,

@@ -1,7 +1,7 @@
-//! Where documents begin.
+//! The starts of documents.
 ghost use Rattle.yl_dump.specs.Cut.{TextsCutByTwo};
 
-/// A law: of a text's lexemes each two say whether a document begins between them.
+/// A law: the kinds of two successive lexemes of a text say whether a document starts between them.
 pub fn texts_cut_by_two()
     ensures { TextsCutByTwo }
 {}

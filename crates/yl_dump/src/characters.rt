@@ -1,8 +1,8 @@
-//! The number of a text's characters.
+//! Counts the characters of a text.
 ghost use Rattle.std.specs.Prelude.{◌≡◌, length};
 ghost use Rattle.std.specs.Str.{chars};
 
-/// How many characters a text has.
+/// Returns the number of characters in a text.
 pub fn character_count(text: &str) -> u64
     ensures { result ≡ length (chars text.now) }
 {

@@ -1,4 +1,4 @@
-//! Faults of documents.
+//! The faults of documents.
 ghost use Rattle.std.specs.Prelude.{◌≡◌, ◌++◌, OnOk};
 ghost use Rattle.yl_dump.specs.DocumentLine.{document_fault_line};
 
@@ -8,23 +8,26 @@ use crate::quoting::print_quoted;
 use std::alloc::{AllocError, Allocator};
 use yl_events::ParseFault;
 
-/// The parse fault of a document. It stands behind all lexemes, if it has no place.
+/// The parse fault of a document.
 #[derive(Clone, Copy)]
 pub struct DocumentFault {
+    /// The kind of the fault.
     pub kind: ParseFault,
+    /// The position of the fault. `None` means that it is after all lexemes.
     pub place: Option<TextPlace>,
 }
 
-/// What comes behind a document's lexemes.
+/// What follows the lexemes of a document.
 #[derive(Clone, Copy)]
 pub enum Behind {
-    /// At this place the next document's first lexeme, or the text's end.
+    /// The first lexeme of the next document, or the end of the text, at this position.
     End(TextPlace),
-    /// The text's scan fault.
+    /// The scan fault of the text.
     Stop(FaultMessage),
 }
 
-// Where a parse fault stands in the text. Behind all lexemes it stands only where no scan fault does.
+// Returns the position and the message of a parse fault. Returns `None` if the fault is after all
+// lexemes and a scan fault follows them.
 fn parse_fault(fault: DocumentFault, behind: Behind) -> Option<FaultMessage> {
     let text = fault.kind.text();
     match (fault.place, behind) {
@@ -33,7 +36,8 @@ fn parse_fault(fault: DocumentFault, behind: Behind) -> Option<FaultMessage> {
     }
 }
 
-/// The fault that is told of a document: the earlier one of its parse fault and the text's scan fault.
+/// Returns the fault that is printed for a document, if there is one: the earlier one of its parse
+/// fault and the scan fault that follows its lexemes.
 pub fn text_fault(fault: Option<DocumentFault>, behind: Behind) -> Option<FaultMessage> {
     let parse = match fault {
         Some(fault) => parse_fault(fault, behind),
@@ -46,7 +50,7 @@ pub fn text_fault(fault: Option<DocumentFault>, behind: Behind) -> Option<FaultM
     }
 }
 
-/// Prints a document's fault as a line.
+/// Prints the fault of a document as a line. The only error is out of memory.
 pub fn print_fault<A: Allocator>(page: &mut Page<A>, fault: FaultMessage) -> Result<(), AllocError>
     ensures { OnOk result (page.new ≡ page.old ++ document_fault_line fault.place fault.text.now) }
 {

@@ -1,4 +1,4 @@
-//! The documents of a text, one after another.
+//! Prints the documents of a text, one after another.
 
 use crate::document_fault::{Behind, DocumentFault, print_fault, text_fault};
 use crate::event::print_events;
@@ -10,25 +10,27 @@ use std::io::Write;
 use yl_events::{Outline, Parser, Token, begins_document};
 use yl_lexeme::{Kind, Lexeme, Meter};
 
-/// Prints the events of a text's documents, or their faults, as it takes their lexemes. Of the document that it is in, the events of
-/// all lines before the last one are printed, and not written yet.
+/// A printer of the documents of a text. It takes the lexemes of the text, and prints the events of
+/// each document or its fault. Of the current document, the events of all lines before the last one
+/// are printed, but not yet written.
 #[derive(Drop)]
 pub struct Documents<A: Allocator + Copy, W: Write> {
     out: W,
     page: Page<A>,
-    // How many bytes of the page stand before the document.
+    // The number of bytes of the page before the document.
     before: usize,
-    // The kind of the document's last lexeme. There is none before the first document.
+    // The kind of the document's last lexeme, or `None` if no document has begun.
     last: Option<Kind>,
     group: Group<A>,
     parser: Parser<A>,
     fault: Option<DocumentFault>,
-    // Room for a line.
+    // The buffers for the tokens and the events of a line.
     tokens: Vec<Token, A>,
     outlines: Vec<Outline, A>,
 }
 
 impl<A: Allocator + Copy, W: Write> Documents<A, W> {
+    /// Creates a printer that writes to `out`.
     pub fn new(alloc: A, out: W) -> Documents<A, W> {
         Documents {
             out,
@@ -43,14 +45,14 @@ impl<A: Allocator + Copy, W: Write> Documents<A, W> {
         }
     }
 
-    /// Prints a line that belongs to no document.
+    /// Prints a line that belongs to no document. The only error is out of memory.
     pub fn print_line(&mut self, line: &str) -> Result<(), AllocError> {
         self.page.text(line)?;
         self.before = self.page.len();
         Ok(())
     }
 
-    /// Takes the text's next lexeme, which begins at this line, counted from 0.
+    /// Takes the next lexeme of the text. It starts at line `line`, counted from 0.
     pub fn take(&mut self, line: u32, lexeme: Lexeme<A>) -> Result<(), DumpFault> {
         self.enter(line, &lexeme)?;
         self.last = Some(lexeme.kind());
@@ -60,8 +62,8 @@ impl<A: Allocator + Copy, W: Write> Documents<A, W> {
         Ok(())
     }
 
-    /// Takes the lexemes of a row, which begin at this line, counted from 0, out of their list. A document begins with the first of them
-    /// or with none.
+    /// Takes the lexemes of a row out of their list. They start at line `line`, counted from 0. No
+    /// document may start with a lexeme after the first of them.
     pub fn take_row(
         &mut self,
         line: u32,
@@ -79,7 +81,9 @@ impl<A: Allocator + Copy, W: Write> Documents<A, W> {
         Ok(())
     }
 
-    // Comes to a lexeme that begins at this line: parses the line before it, and ends the document before it.
+    // Prepares for a lexeme that starts at line `line`. If a document starts with the lexeme, ends
+    // the document before it and begins the new one. Otherwise parses the lexemes before it, unless
+    // they start at the same line.
     fn enter(&mut self, line: u32, lexeme: &Lexeme<A>) -> Result<(), DumpFault> {
         match self.last {
             None => self.begin()?,
@@ -95,7 +99,7 @@ impl<A: Allocator + Copy, W: Write> Documents<A, W> {
         Ok(())
     }
 
-    /// Ends the document, if one has begun, and prints its fault in place of its events, if it has one.
+    /// Ends the document, if one has begun. Prints its fault in place of its events, if it has one.
     pub fn end(&mut self, behind: Behind) -> Result<(), DumpFault> {
         self.parse_line()?;
         if self.last.is_some() && self.fault.is_none() {
@@ -112,7 +116,7 @@ impl<A: Allocator + Copy, W: Write> Documents<A, W> {
         Ok(())
     }
 
-    /// Writes what is printed.
+    /// Writes the text that is printed.
     pub fn write(&mut self) -> Result<(), DumpFault> {
         self.page.write_to(&mut self.out)
     }
@@ -121,12 +125,12 @@ impl<A: Allocator + Copy, W: Write> Documents<A, W> {
     fn begin(&mut self) -> Result<(), AllocError> {
         self.group.clear();
         self.outlines.clear();
-        // What is printed is not measured: each document has a meter of its own.
+        // The printed events are not measured, so each document has its own meter.
         self.parser.begin(&mut self.outlines, &mut Meter::new())?;
         print_events(&mut self.page, &self.group, &self.outlines)
     }
 
-    // Parses the lexemes that begin in the line, and prints their events.
+    // Parses the lexemes that start in the line, and prints their events.
     fn parse_line(&mut self) -> Result<(), AllocError> {
         if self.group.is_empty() {
             return Ok(());
@@ -147,7 +151,7 @@ impl<A: Allocator + Copy, W: Write> Documents<A, W> {
         Ok(())
     }
 
-    // Parses the document's end, and prints its last events.
+    // Parses the end of the document, and prints its last events.
     fn finish(&mut self) -> Result<(), AllocError> {
         self.outlines.clear();
         let fault = self.parser.finish(&mut self.outlines)?;

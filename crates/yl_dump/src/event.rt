@@ -1,4 +1,4 @@
-//! Events.
+//! Prints events.
 ghost use Rattle.std.specs.Prelude.{◌≡◌, ◌++◌, OnOk};
 ghost use Rattle.std.specs.List.{flat_map};
 ghost use Rattle.yl_dump.specs.EventLine.{sign_of, content_text, anchor_text, tag_text, place_shown, event_line};
@@ -10,6 +10,7 @@ use crate::quoting::print_escaped;
 use std::alloc::{AllocError, Allocator};
 use yl_events::{Outline, Shape};
 
+// Returns the sign of the kind of an event.
 fn shape_sign(shape: Shape) -> &'static str
     ensures { result.now ≡ sign_of shape }
 {
@@ -25,7 +26,8 @@ fn shape_sign(shape: Shape) -> &'static str
     }
 }
 
-// Prints what stands between an event's properties and its place: an alias's name, or a scalar's value.
+// Prints the part of an event between its properties and its position: the name of an alias, or the
+// value of a scalar.
 fn print_content<A: Allocator + Copy>(
     page: &mut Page<A>,
     group: &Group<A>,
@@ -53,7 +55,7 @@ fn print_content<A: Allocator + Copy>(
     Ok(())
 }
 
-// Prints a node's anchor, if it has one.
+// Prints the anchor of a node, if it has one.
 fn print_anchor<A: Allocator + Copy>(
     page: &mut Page<A>,
     group: &Group<A>,
@@ -68,7 +70,7 @@ fn print_anchor<A: Allocator + Copy>(
     Ok(())
 }
 
-// Prints the sign of a tag, if there is one.
+// Prints the sign of a tag, if `is_tagged` is set.
 fn print_tag<A: Allocator + Copy>(page: &mut Page<A>, is_tagged: bool) -> Result<(), AllocError>
     ensures { OnOk result (page.new ≡ page.old ++ tag_text is_tagged) }
 {
@@ -78,7 +80,7 @@ fn print_tag<A: Allocator + Copy>(page: &mut Page<A>, is_tagged: bool) -> Result
     Ok(())
 }
 
-// Prints the place of a node's content, if it has one.
+// Prints the position of a node's content, if it has one and it starts in the line of the group.
 fn print_place<A: Allocator + Copy>(
     page: &mut Page<A>,
     group: &Group<A>,
@@ -92,7 +94,8 @@ fn print_place<A: Allocator + Copy>(
     }
 }
 
-// Prints an event as a line in the notation of the YAML test suite, and the place of its content behind it.
+// Prints an event as a line in the notation of the YAML test suite, followed by the position of its
+// content.
 fn print_event<A: Allocator + Copy>(
     page: &mut Page<A>,
     group: &Group<A>,
@@ -108,7 +111,7 @@ fn print_event<A: Allocator + Copy>(
     page.byte(b'\n')
 }
 
-/// Prints events whose lexemes the group has.
+/// Prints events whose lexemes are in the group. The only error is out of memory.
 pub fn print_events<A: Allocator + Copy>(
     page: &mut Page<A>,
     group: &Group<A>,

@@ -1,4 +1,4 @@
-//! The events of a text.
+//! Writes the events of a text.
 ghost use Rattle.std.specs.Prelude.{◌≡◌, ◌≢◌, ◌≤◌, [], drop, length, OnOk};
 ghost use Rattle.yl_text.specs.declared.TheConstants.{MAX_BYTES};
 
@@ -11,7 +11,7 @@ use std::io::Write;
 use yl_lexeme::Lexeme;
 use yl_scan::{FaultAbove, LexemeAbove};
 
-// Takes in a lexeme that began above this line, counted from 0, if there is one.
+// Takes a lexeme that started before line `line`, counted from 0, if there is one.
 fn take_ended<A: Allocator + Copy, W: Write>(
     documents: &mut Documents<A, W>,
     line: u32,
@@ -23,7 +23,7 @@ fn take_ended<A: Allocator + Copy, W: Write>(
     }
 }
 
-// The scan fault that was told at this line, counted from 0, if one was.
+// Returns the scan fault that was found at line `line`, counted from 0, if there is one.
 fn fault_told(line: u32, failed: Option<FaultAbove>) -> Option<FaultMessage> {
     match failed {
         Some(failed) => Some(scan_fault(line, failed)),
@@ -31,7 +31,8 @@ fn fault_told(line: u32, failed: Option<FaultAbove>) -> Option<FaultMessage> {
     }
 }
 
-// Takes in what was told at this line, counted from 0, and empties the list of its lexemes. Answers the scan fault, if one was told.
+// Takes the lexemes that were found at line `line`, counted from 0, and empties the list `lexemes`.
+// Returns the scan fault, if one was found.
 fn take_step<A: Allocator + Copy, W: Write>(
     documents: &mut Documents<A, W>,
     line: u32,
@@ -44,7 +45,7 @@ fn take_step<A: Allocator + Copy, W: Write>(
     Ok(fault_told(line, failed))
 }
 
-// Reads the next line of a text, and takes in what it tells. Answers the scan fault, if it tells one.
+// Reads the next line of a text, and takes its lexemes. Returns the scan fault, if one is found.
 fn take_line<A: Allocator + Copy, W: Write>(
     documents: &mut Documents<A, W>,
     scanner: &mut TextScanner<'_, '_, A>,
@@ -59,7 +60,7 @@ fn take_line<A: Allocator + Copy, W: Write>(
     Ok(told)
 }
 
-// Reads the lines of a text. Answers the scan fault, if one of them tells it.
+// Reads the lines of a text, and takes their lexemes. Returns the scan fault, if one is found.
 fn take_lines<A: Allocator + Copy, W: Write>(
     documents: &mut Documents<A, W>,
     scanner: &mut TextScanner<'_, '_, A>,
@@ -72,7 +73,8 @@ fn take_lines<A: Allocator + Copy, W: Write>(
     Ok(fault)
 }
 
-// Takes in what the end of a text tells, where its lines told this fault. Answers what stands behind its last document.
+// Takes the lexemes that are found at the end of a text. `fault` is the scan fault that was found
+// in its lines. Returns what follows its last document.
 fn take_end<A: Allocator + Copy, W: Write>(
     documents: &mut Documents<A, W>,
     scanner: TextScanner<'_, '_, A>,
@@ -88,7 +90,7 @@ fn take_end<A: Allocator + Copy, W: Write>(
     })
 }
 
-// Reads a text. Answers what stands behind its last document.
+// Reads a text, and takes its lexemes. Returns what follows its last document.
 fn take_text<A: Allocator + Copy, W: Write>(
     documents: &mut Documents<A, W>,
     alloc: &A,
@@ -101,7 +103,7 @@ fn take_text<A: Allocator + Copy, W: Write>(
     take_end(documents, scanner, fault)
 }
 
-// Writes the events of a text into its documents' writer.
+// Writes the events of a text to the writer of its documents.
 fn write_text<A: Allocator + Copy, W: Write>(
     documents: &mut Documents<A, W>,
     alloc: &A,
@@ -116,10 +118,13 @@ fn write_text<A: Allocator + Copy, W: Write>(
     documents.write()
 }
 
-/// Writes the events of a text, a line each, in the notation of the YAML test suite with places: `+STR`; of each document its
-/// events, or `!DOC LINE:COLUMN "TEXT"` for its fault; `-STR`. Where the text has a scan fault, the last document with a lexeme
-/// before it has no events, and the earlier one of its parse fault and the scan fault. Nothing of a document is written before the
-/// next one begins.
+/// Writes the events of a text in the notation of the YAML test suite, with positions, each as a
+/// line. Writes `+STR`, then the events of each document or `!DOC LINE:COLUMN "TEXT"` for its
+/// fault, then `-STR`. If the text has a scan fault, the last document with a lexeme before it has
+/// no events. Its fault is the earlier one of its parse fault and the scan fault. Nothing of a
+/// document is written before the document ends.
+///
+/// Returns `Write` if the writer failed or accepted no bytes, or `Memory` if memory runs out.
 pub fn write_events<A: Allocator + Copy, W: Write + Drop>(
     alloc: A,
     text: &str,

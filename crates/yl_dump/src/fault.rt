@@ -1,4 +1,4 @@
-//! Why a text is not shown to its end, and faults in a text.
+//! Errors of printing, and faults in a text.
 ghost use Rattle.std.specs.Prelude.{◌≡◌, ◌+◌, ◌-◌, ◌^◌, min};
 ghost use Rattle.yl_row.specs.Fault.{fault_text};
 ghost use Rattle.yl_dump.specs.declared.fault.DumpFault.TheVariants.{Memory};
@@ -7,12 +7,13 @@ use std::alloc::{AllocError, AllocFailed};
 use thiserror::Error;
 use yl_scan::FaultAbove;
 
-/// Why a text is not shown to its end.
+/// An error that stops the printing of a text.
 #[derive(Clone, Copy, Debug, PartialEq, Eq, Error)]
 pub enum DumpFault {
-    /// The writer failed, or took nothing.
+    /// The writer failed, or accepted no bytes.
     #[error("output cannot be written")]
     Write,
+    /// Memory ran out.
     #[error("out of memory")]
     Memory,
 }
@@ -33,21 +34,25 @@ impl<T: Drop> From<AllocFailed<T>> for DumpFault {
     }
 }
 
-/// A place in a text, counted from 0, the column in characters.
+/// A position in a text. The line and the column count from 0, and the column counts characters.
 #[derive(Clone, Copy, Debug, PartialEq, Eq, PartialOrd, Ord)]
 pub struct TextPlace {
+    /// The line.
     pub line: u64,
+    /// The column.
     pub column: u64,
 }
 
-/// A fault in a text: its place, and what is said of it.
+/// A fault in a text.
 #[derive(Clone, Copy)]
 pub struct FaultMessage {
+    /// The position of the fault.
     pub place: TextPlace,
+    /// The message about the fault.
     pub text: &'static str,
 }
 
-/// The scan fault that was told at this line, counted from 0.
+/// Returns the scan fault that was found at line `line`, counted from 0.
 pub fn scan_fault(line: u32, failed: FaultAbove) -> FaultMessage
     ensures line { result.place.line ≡ min (line - failed.ago + failed.fault.down) (2 ^ 64 - 1) }
     ensures column { result.place.column ≡ failed.fault.column }

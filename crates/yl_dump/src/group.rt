@@ -1,4 +1,4 @@
-//! The lexemes of a document that begin in one line.
+//! The lexemes of a document that start in one line.
 ghost use Rattle.std.specs.Prelude.{◌≡◌, ◌++◌, Some, OnOk, option_map};
 ghost use Rattle.yl_dump.specs.EventLine.{lexeme_at, opening_of, own_lexeme, place_shown};
 ghost use Rattle.yl_events.specs.Event.{value_of};
@@ -17,13 +17,13 @@ struct Indexed<A: Allocator> {
     lexeme: Lexeme<A>,
 }
 
-/// The lexemes of a document that begin in one line, as far as they were read. Of the lines before, the last anchor is kept, since the
-/// node that it belongs to may begin in a later line.
+/// The lexemes of a document that start in one line, as far as they were read. The last anchor of
+/// the earlier lines is kept, since its node may start in a later line.
 #[derive(Drop)]
 pub struct Group<A: Allocator + Copy> {
     /// The line in the text, counted from 0.
     line: u32,
-    /// What is printed of a place in it before the column.
+    /// The printed part of a position in the line before its column.
     place_opening: Page<A>,
     /// The index of the first lexeme in the document.
     first: usize,
@@ -41,6 +41,7 @@ impl<A: Allocator + Copy> Model for Group<A> {
 }
 
 impl<A: Allocator + Copy> Group<A> {
+    /// Creates an empty group.
     pub fn new(alloc: A) -> Group<A> {
         Group {
             line: 0,
@@ -51,25 +52,27 @@ impl<A: Allocator + Copy> Group<A> {
         }
     }
 
-    /// Whether a lexeme that begins at this line belongs to the group.
+    /// Returns `true` if a lexeme that starts at line `line` belongs to the group.
     pub fn is_in(&self, line: u32) -> bool {
         self.line == line
     }
 
-    /// Takes in a lexeme that begins at this line, that of the others, if there are some.
+    /// Appends a lexeme that starts at line `line`. The other lexemes must start at this line too.
+    /// The only error is out of memory.
     pub fn push(&mut self, line: u32, lexeme: Lexeme<A>) -> Result<(), AllocError> {
         self.line = line;
         self.lexemes.push(lexeme)?;
         Ok(())
     }
 
-    /// Takes in lexemes that begin at this line, that of the others, if there are some, out of their list.
+    /// Moves the lexemes out of their list to the end of the group. All of them, and the lexemes of
+    /// the group, must start at line `line`. The only error is out of memory.
     pub fn append(&mut self, line: u32, lexemes: &mut Vec<Lexeme<A>, A>) -> Result<(), AllocError> {
         self.line = line;
         self.lexemes.append(lexemes)
     }
 
-    // Prints what is printed of a place in the line before the column.
+    // Sets the printed part of a position in the line before its column.
     fn print_opening(&mut self) -> Result<(), AllocError>
         ensures { OnOk result (self.new ≡ record self.old { opening = opening_of self.old.line }) }
     {
@@ -79,7 +82,8 @@ impl<A: Allocator + Copy> Group<A> {
         self.place_opening.text(":")
     }
 
-    /// The line is whole: fills in its lexemes without their values.
+    /// Fills `tokens` with the lexemes of the line, without their values. The line must be
+    /// complete. The only error is out of memory.
     pub fn fill_in(&mut self, tokens: &mut Vec<Token, A>) -> Result<(), AllocError>
         ensures { OnOk result (self.new ≡ record self.old { opening = opening_of self.old.line }) }
     {
@@ -94,7 +98,8 @@ impl<A: Allocator + Copy> Group<A> {
         Ok(())
     }
 
-    /// The value of the lexeme of this index in the document, if it is at hand; else an empty one.
+    /// Returns the value of the lexeme with this index in the document, or an empty string if the
+    /// lexeme is not in the group.
     pub fn value(&self, index: usize) -> &str
         ensures { result.now ≡ value_of (lexeme_at self.now index) }
     {
@@ -110,7 +115,7 @@ impl<A: Allocator + Copy> Group<A> {
         }
     }
 
-    /// The group's own lexeme of this index in the document.
+    /// Returns the lexeme with this index in the document, if it starts in the line of the group.
     fn own(&self, index: usize) -> Option<&Lexeme<A>>
         ensures { option_map (λ x. x.now) result ≡ own_lexeme self.now index }
     {
@@ -120,7 +125,9 @@ impl<A: Allocator + Copy> Group<A> {
         self.lexemes.get(index - self.first)
     }
 
-    /// Prints where the group's lexeme of this index in the document begins in the text, ` @LINE:COLUMN`.
+    /// Prints the position of the lexeme with this index in the document as ` @LINE:COLUMN`, both
+    /// counted from 1. Prints nothing if the lexeme does not start in the line of the group. The
+    /// only error is out of memory.
     pub fn print_place(&self, page: &mut Page<A>, index: usize) -> Result<(), AllocError>
         ensures { OnOk result (page.new ≡ page.old ++ place_shown self.now (Some index)) }
     {
@@ -131,7 +138,8 @@ impl<A: Allocator + Copy> Group<A> {
         page.number(u64::from(lexeme.start().col) + 1)
     }
 
-    /// Where the group's lexeme of this index in the document begins in the text.
+    /// Returns the position of the lexeme with this index in the document, if it starts in the line
+    /// of the group.
     pub fn place(&self, index: usize) -> Option<TextPlace> {
         let lexeme = self.own(index)?;
         Some(TextPlace {
@@ -140,7 +148,8 @@ impl<A: Allocator + Copy> Group<A> {
         })
     }
 
-    /// The line was parsed: the next lexeme, whose index is this, begins in another one.
+    /// Removes the lexemes of the line, which were parsed, and keeps the last anchor. `first` is
+    /// the index of the next lexeme, which starts in another line.
     pub fn pass(&mut self, first: usize) {
         let anchor = self
             .lexemes
@@ -157,13 +166,14 @@ impl<A: Allocator + Copy> Group<A> {
         self.first = first;
     }
 
-    /// A document begins.
+    /// Empties the group before a document begins.
     pub fn clear(&mut self) {
         self.lexemes.clear();
         self.earlier_anchor = None;
         self.first = 0;
     }
 
+    /// Returns `true` if the group has no lexemes of its line.
     pub fn is_empty(&self) -> bool {
         self.lexemes.is_empty()
     }

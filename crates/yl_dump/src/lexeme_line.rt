@@ -1,4 +1,4 @@
-//! The lines of lexemes, of comments and of the scan fault.
+//! Prints the lines of lexemes, of comments and of the scan fault.
 ghost use Rattle.std.specs.Prelude.{◌≡◌, ◌++◌, OnOk};
 ghost use Rattle.yl_dump.specs.LexemeLine.{extent_line, lexeme_line, comment_line, scan_fault_line};
 
@@ -10,7 +10,7 @@ use crate::quoting::print_quoted;
 use std::alloc::{AllocError, Allocator};
 use yl_lexeme::{Comment, Lexeme};
 
-// Prints two places, a name and a quoted text.
+// Prints two positions, a name and a text in quotes as a line.
 fn print_line<A: Allocator>(
     page: &mut Page<A>,
     start: TextPlace,
@@ -30,7 +30,8 @@ fn print_line<A: Allocator>(
     page.byte(b'\n')
 }
 
-/// Prints a lexeme that begins at this line, counted from 0.
+/// Prints the line of a lexeme that starts at line `line`, counted from 0. The only error is out of
+/// memory.
 pub fn print_lexeme<A: Allocator>(
     page: &mut Page<A>,
     line: u32,
@@ -49,7 +50,7 @@ pub fn print_lexeme<A: Allocator>(
     print_line(page, start, end, kind_name(lexeme.kind()), lexeme.value())
 }
 
-/// Prints a comment in this line, counted from 0.
+/// Prints the line of a comment at line `line`, counted from 0. The only error is out of memory.
 pub fn print_comment<A: Allocator>(
     page: &mut Page<A>,
     line: u32,
@@ -68,7 +69,7 @@ pub fn print_comment<A: Allocator>(
     print_line(page, start, end, "Comment", text)
 }
 
-/// Prints a scan fault.
+/// Prints the line of a scan fault. The only error is out of memory.
 pub fn print_fault<A: Allocator>(page: &mut Page<A>, fault: FaultMessage) -> Result<(), AllocError>
     ensures { OnOk result (page.new ≡ page.old ++ scan_fault_line fault.place fault.text.now) }
 {

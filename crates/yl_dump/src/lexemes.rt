@@ -1,4 +1,4 @@
-//! Lexemes and comments.
+//! Writes lexemes and comments.
 ghost use Rattle.std.specs.Prelude.{◌≡◌, ◌≢◌, ◌≤◌, [], ◌++◌, drop, length, OnOk};
 ghost use Rattle.yl_text.specs.declared.TheConstants.{MAX_BYTES};
 ghost use Rattle.std.specs.List.{flat_map};
@@ -17,7 +17,7 @@ use std::io::Write;
 use yl_lexeme::{Comment, Lexeme};
 use yl_scan::{FaultAbove, LexemeAbove, Step};
 
-// Prints a lexeme that began above this line, counted from 0, if there is one.
+// Prints a lexeme that started before line `line`, counted from 0, if there is one.
 fn print_ended<A: Allocator>(
     page: &mut Page<A>,
     line: u32,
@@ -31,7 +31,7 @@ fn print_ended<A: Allocator>(
     }
 }
 
-// Prints the lexemes of this line, counted from 0.
+// Prints the lexemes of line `line`, counted from 0.
 fn print_lexemes<A: Allocator>(
     page: &mut Page<A>,
     line: u32,
@@ -45,7 +45,7 @@ fn print_lexemes<A: Allocator>(
     Ok(())
 }
 
-// Prints the comment of this line, counted from 0, if there is one.
+// Prints the comment of line `line`, counted from 0, if there is one.
 fn print_own_comment<A: Allocator>(
     page: &mut Page<A>,
     line: u32,
@@ -59,7 +59,7 @@ fn print_own_comment<A: Allocator>(
     }
 }
 
-// Prints the scan fault that was told at this line, counted from 0, if one was.
+// Prints the scan fault that was found at line `line`, counted from 0, if there is one.
 fn print_failed<A: Allocator>(
     page: &mut Page<A>,
     line: u32,
@@ -73,7 +73,8 @@ fn print_failed<A: Allocator>(
     }
 }
 
-// Prints what was told at this line, counted from 0.
+// Prints the lexemes, the comment and the scan fault that were found at line `line`, counted from
+// 0.
 fn print_step<A: Allocator>(page: &mut Page<A>, line: u32, step: &Step<A>) -> Result<(), AllocError>
     ensures { OnOk result (page.new ≡ page.old ++ step_lines line (step_value line Stopped step.now)) }
 {
@@ -83,7 +84,7 @@ fn print_step<A: Allocator>(page: &mut Page<A>, line: u32, step: &Step<A>) -> Re
     print_failed(page, line, step.failed)
 }
 
-// Reads the next line of a text, and prints what it tells.
+// Reads the next line of a text, and prints what is found in it.
 fn print_line<A: Allocator + Copy>(
     page: &mut Page<A>,
     scanner: &mut TextScanner<'_, '_, A>,
@@ -98,7 +99,7 @@ fn print_line<A: Allocator + Copy>(
     Ok(())
 }
 
-// Prints what the end of a text tells.
+// Prints what is found at the end of a text.
 fn print_end<A: Allocator + Copy>(
     page: &mut Page<A>,
     scanner: TextScanner<'_, '_, A>,
@@ -108,7 +109,8 @@ fn print_end<A: Allocator + Copy>(
     print_step(page, line, &step)
 }
 
-// Reads the lines of a text, prints what they tell, and writes it as it gets much.
+// Reads the lines of a text, and prints what is found in them. Writes the page whenever it is
+// large.
 fn write_lines<A: Allocator + Copy, W: Write>(
     page: &mut Page<A>,
     scanner: &mut TextScanner<'_, '_, A>,
@@ -121,7 +123,7 @@ fn write_lines<A: Allocator + Copy, W: Write>(
     Ok(())
 }
 
-// Reads a text, prints what it tells, and writes it.
+// Reads a text, prints what is found in it, and writes the page.
 fn write_text<A: Allocator + Copy, W: Write>(
     page: &mut Page<A>,
     alloc: &A,
@@ -136,8 +138,10 @@ fn write_text<A: Allocator + Copy, W: Write>(
     page.write_to(out)
 }
 
-/// Writes a line for each lexeme and each comment of a text in order, `LINE:COLUMN-LINE:COLUMN KIND "VALUE"`, and behind them
-/// `LINE:COLUMN fault "TEXT"`, if the text has a scan fault.
+/// Writes a line `LINE:COLUMN-LINE:COLUMN KIND "VALUE"` for each lexeme and each comment of a text,
+/// in order. If the text has a scan fault, a line `LINE:COLUMN fault "TEXT"` follows them.
+///
+/// Returns `Write` if the writer failed or accepted no bytes, or `Memory` if memory runs out.
 pub fn write_lexemes<A: Allocator + Copy, W: Write + Drop>(
     alloc: A,
     text: &str,

@@ -1,7 +1,8 @@
-//! What the scanner and the parser see of a text, as printed lines.
+//! Prints what the scanner and the parser find in a text.
 //!
-//! Places count from 1, columns in characters; the end of a lexeme is the place behind its last character. A value stands in
-//! double quotes, with `\\` and `\"` for a backslash and a quote, and `\u{HEX}` for a character that is not printable ASCII.
+//! Printed positions count from 1, and columns count characters. The end of a lexeme is the
+//! position after its last character. A value is printed in double quotes, with `\\` and `\"` for a
+//! backslash and a quote, and `\u{HEX}` for a character that is not printable ASCII.
 #![tactic(auto)]
 
 mod begins;

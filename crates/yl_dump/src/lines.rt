@@ -1,4 +1,4 @@
-//! Lines, with their states.
+//! Writes the states of lines.
 ghost use Rattle.std.specs.Prelude.{◌≡◌, ◌≢◌, ◌≤◌, [], drop, length, OnOk};
 ghost use Rattle.yl_text.specs.declared.TheConstants.{MAX_BYTES};
 
@@ -9,7 +9,7 @@ use crate::text_scanner::TextScanner;
 use std::alloc::{AllocError, Allocator};
 use std::io::Write;
 
-// Reads the next line of a text, and prints what it told of its state.
+// Reads the next line of a text, and prints its number and its state.
 fn print_line<A: Allocator + Copy>(
     alloc: A,
     page: &mut Page<A>,
@@ -24,7 +24,7 @@ fn print_line<A: Allocator + Copy>(
     page.text("\n")
 }
 
-// Prints what the lines of a text tell of their states, and writes it.
+// Prints the number and the state of each line of a text, and writes them.
 fn write_states<A: Allocator + Copy, W: Write>(
     alloc: A,
     page: &mut Page<A>,
@@ -38,9 +38,14 @@ fn write_states<A: Allocator + Copy, W: Write>(
     page.write_to(out)
 }
 
-/// Writes for each line of a text `LINE sound COLUMNS BRACKETS LAST`, with the columns of the open block collections, the open
-/// brackets and the last lexeme's kind before it, or `LINE stopped`, where a fault has come before, or `LINE not-sound`, where a
-/// lexeme or a fault's reach is in progress or the line is blank.
+/// Writes a line for each line of a text. It is one of these:
+///
+/// - `LINE sound COLUMNS BRACKETS LAST`, with the columns of the open block collections, the open
+///   brackets, and the kind of the last lexeme before the line.
+/// - `LINE stopped`, if a fault is before the line.
+/// - `LINE not-sound`, if the line is blank, or if a lexeme or the reach of a fault is in progress.
+///
+/// Returns `Write` if the writer failed or accepted no bytes, or `Memory` if memory runs out.
 pub fn write_lines<A: Allocator + Copy, W: Write + Drop>(
     alloc: A,
     text: &str,

@@ -1,10 +1,10 @@
-//! Names of kinds.
+//! The names of kinds.
 ghost use Rattle.std.specs.Prelude.{◌≡◌};
 ghost use Rattle.yl_dump.specs.Names.{kind_name, scalar_name, value_opening};
 
 use yl_lexeme::{Kind, Style};
 
-/// The name of a lexeme's kind.
+/// Returns the name of the kind of a lexeme.
 pub fn kind_name(kind: Kind) -> &'static str
     ensures { result.now ≡ kind_name kind }
 {
@@ -27,6 +27,7 @@ pub fn kind_name(kind: Kind) -> &'static str
     }
 }
 
+// Returns the name of the kind of a scalar.
 fn scalar_name(style: Style) -> &'static str
     ensures { result.now ≡ scalar_name style }
 {
@@ -39,7 +40,8 @@ fn scalar_name(style: Style) -> &'static str
     }
 }
 
-/// What stands before a scalar's value in an event stream: a space, the sign of its style, and a quote.
+/// Returns the text before the value of a scalar in an event: a space, the sign of its style, and a
+/// quote.
 pub fn value_opening(style: Style) -> &'static str
     ensures { result.now ≡ value_opening style }
 {

@@ -1,4 +1,4 @@
-//! Printed text that waits to be written.
+//! Printed text that is not yet written.
 ghost use Rattle.std.specs.Prelude.{◌≡◌, [], ◌++◌, ◌∷◌, length, take, decimal, OnOk};
 ghost use Rattle.std.specs.Io.KnownBytes.{Appends};
 ghost use Rattle.yl_dump.specs.Place.{place_text};
@@ -9,10 +9,10 @@ use std::alloc::{AllocError, Allocator};
 use std::io::Write;
 use std::marker::Model;
 
-// Text of so many bytes is written, so that a write takes many of them.
+// The number of bytes from which a page is written. It is large, so that there are few writes.
 const LARGE: usize = 65_536;
 
-/// Printed text. What is printed of a document can be taken back until it is written.
+/// A page of printed text. It can be truncated until it is written.
 #[derive(Drop)]
 pub struct Page<A: Allocator> {
     text: Vec<u8, A>,
@@ -27,6 +27,7 @@ impl<A: Allocator> Model for Page<A> {
 }
 
 impl<A: Allocator> Page<A> {
+    /// Creates an empty page.
     pub fn new(alloc: A) -> Page<A>
         ensures { result ≡ [] }
     {
@@ -35,33 +36,35 @@ impl<A: Allocator> Page<A> {
         }
     }
 
+    /// Returns the bytes of the text.
     pub fn as_bytes(&self) -> &[u8]
         ensures { result.now ≡ self.now }
     {
         self.text.as_slice()
     }
 
-    /// How many bytes wait.
+    /// Returns the number of bytes of the text.
     pub fn len(&self) -> usize
         ensures { result ≡ length self.now }
     {
         self.text.len()
     }
 
-    /// Takes back what was printed behind so many bytes.
+    /// Shortens the text to its first `len` bytes, if it is longer.
     pub fn truncate(&mut self, len: usize)
         ensures { self.new ≡ take len self.old }
     {
         self.text.truncate(len);
     }
 
+    /// Prints bytes. The only error is out of memory.
     pub fn bytes(&mut self, piece: &[u8]) -> Result<(), AllocError>
         ensures { OnOk result (self.new ≡ self.old ++ piece.now) }
     {
         self.text.extend_from_slice(piece)
     }
 
-    /// Prints one byte.
+    /// Prints one byte. The only error is out of memory.
     #[inline(always)]
     pub fn byte(&mut self, byte: u8) -> Result<(), AllocError>
         ensures { OnOk result (self.new ≡ self.old ++ byte ∷ []) }
@@ -70,13 +73,15 @@ impl<A: Allocator> Page<A> {
         Ok(())
     }
 
+    /// Prints a text. The only error is out of memory.
     pub fn text(&mut self, text: &str) -> Result<(), AllocError>
         ensures { OnOk result (self.new ≡ self.old ++ text.now) }
     {
         self.text.extend_from_slice(text.as_bytes())
     }
 
-    /// Prints a number in decimal digits. Most have one or two.
+    /// Prints a number in decimal digits. Numbers below 100 take a short path. The only error is
+    /// out of memory.
     pub fn number(&mut self, n: u64) -> Result<(), AllocError>
         ensures { OnOk result (self.new ≡ self.old ++ decimal n) }
     {
@@ -91,7 +96,7 @@ impl<A: Allocator> Page<A> {
         self.text(buffer.format(n))
     }
 
-    /// Prints a place as `LINE:COLUMN`, counted from 1.
+    /// Prints a position as `LINE:COLUMN`, both counted from 1. The only error is out of memory.
     pub fn place(&mut self, place: TextPlace) -> Result<(), AllocError>
         ensures { OnOk result (self.new ≡ self.old ++ place_text place) }
     {
@@ -100,7 +105,7 @@ impl<A: Allocator> Page<A> {
         self.number(place.column.saturating_add(1))
     }
 
-    /// Writes all that waits.
+    /// Writes the text, and empties the page. The only error is `Write`.
     pub fn write_to<W: Write>(&mut self, out: &mut W) -> Result<(), DumpFault>
         ensures written { OnOk result (Appends (W.contents out.old) (W.contents out.new) self.old) }
         ensures none_waits { OnOk result (self.new ≡ []) }
@@ -112,7 +117,8 @@ impl<A: Allocator> Page<A> {
         Ok(())
     }
 
-    /// Writes all that waits, if it is much.
+    /// Writes the text and empties the page, if the text has at least 65,536 bytes. The only error
+    /// is `Write`.
     pub fn write_large<W: Write>(&mut self, out: &mut W) -> Result<(), DumpFault> {
         if self.text.len() < LARGE {
             return Ok(());

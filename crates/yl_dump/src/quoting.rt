@@ -1,4 +1,4 @@
-//! Text in double quotes.
+//! Prints text in double quotes.
 ghost use Rattle.std.specs.Prelude.{◌≡◌, ◌≤◌, ◌<◌, ◌++◌, drop, length, true, OnOk};
 ghost use Rattle.std.specs.List.{list_all};
 ghost use Rattle.std.specs.Fmt.{digits, digit_glyph};
@@ -7,14 +7,14 @@ ghost use Rattle.yl_dump.specs.Quoting.{stands_for_itself, escaped_character, es
 use crate::page::Page;
 use std::alloc::{AllocError, Allocator};
 
-// Whether a byte stands for itself between quotes.
+// Returns `true` if a byte stands for itself between quotes.
 fn is_plain(byte: u8) -> bool
     ensures { result ≡ stands_for_itself byte }
 {
     byte >= b' ' && byte <= b'~' && byte != b'"' && byte != b'\\'
 }
 
-// A capital hexadecimal digit.
+// Returns a hexadecimal digit in upper case.
 fn digit(n: u32) -> u8
     requires { n < 16 }
     ensures { result ≡ digit_glyph true n }
@@ -22,7 +22,8 @@ fn digit(n: u32) -> u8
     if n < 10 { 48 + n as u8 } else { 55 + n as u8 }
 }
 
-// Writes a number in capital hexadecimal digits, without leading zeros, at the end of the room. Answers where they begin.
+// Writes a number in upper-case hexadecimal digits, without leading zeros, at the end of `room`.
+// Returns the index of the first digit.
 fn write_hex(n: u32, room: &mut [u8; 64]) -> usize
     ensures within { result ≤ 64 }
     ensures written { drop result room.new ≡ digits 16 true n }
@@ -40,7 +41,7 @@ fn write_hex(n: u32, room: &mut [u8; 64]) -> usize
     0
 }
 
-// Prints a number in capital hexadecimal digits, without leading zeros.
+// Prints a number in upper-case hexadecimal digits, without leading zeros.
 fn print_hex<A: Allocator>(page: &mut Page<A>, n: u32) -> Result<(), AllocError>
     ensures { OnOk result (page.new ≡ page.old ++ digits 16 true n) }
 {
@@ -49,7 +50,7 @@ fn print_hex<A: Allocator>(page: &mut Page<A>, n: u32) -> Result<(), AllocError>
     page.bytes(&room[start..])
 }
 
-// Prints a character as it stands between quotes.
+// Prints a character as it is printed between quotes.
 fn print_character<A: Allocator>(page: &mut Page<A>, c: char) -> Result<(), AllocError>
     ensures { OnOk result (page.new ≡ page.old ++ escaped_character c) }
 {
@@ -66,7 +67,7 @@ fn print_character<A: Allocator>(page: &mut Page<A>, c: char) -> Result<(), Allo
     Ok(())
 }
 
-// Whether each byte stands for itself between quotes. All of them are looked at, several at once.
+// Returns `true` if each byte stands for itself between quotes. Checks all bytes, several at once.
 fn is_plain_text(text: &[u8]) -> bool
     ensures { result ≡ list_all stands_for_itself text.now }
 {
@@ -77,8 +78,8 @@ fn is_plain_text(text: &[u8]) -> bool
     plain
 }
 
-/// Prints a text as it stands between double quotes: `\\` for a backslash, `\"` for a quote, and `\u{HEX}` for a character that is
-/// not printable ASCII.
+/// Prints a text as it is printed between double quotes: `\\` for a backslash, `\"` for a quote,
+/// and `\u{HEX}` for a character that is not printable ASCII. The only error is out of memory.
 pub fn print_escaped<A: Allocator>(page: &mut Page<A>, text: &str) -> Result<(), AllocError>
     ensures { OnOk result (page.new ≡ page.old ++ escaped_text text.now) }
 {
@@ -91,7 +92,7 @@ pub fn print_escaped<A: Allocator>(page: &mut Page<A>, text: &str) -> Result<(),
     Ok(())
 }
 
-/// Prints a text in double quotes.
+/// Prints a text in double quotes. The only error is out of memory.
 pub fn print_quoted<A: Allocator>(page: &mut Page<A>, text: &str) -> Result<(), AllocError>
     ensures { OnOk result (page.new ≡ page.old ++ text_in_quotes text.now) }
 {

@@ -1,4 +1,4 @@
-//! What must be known at a line.
+//! Prints the states of lines.
 ghost use Rattle.std.specs.Prelude.{◌≡◌, ◌++◌, reverse, IfOk, OnOk};
 ghost use Rattle.std.specs.List.{flat_map};
 ghost use Rattle.yl_dump.specs.StateLine.{next_column, columns_text, brackets_text, bracket_sign, last_text, line_text, state_text};
@@ -9,7 +9,7 @@ use std::alloc::{AllocError, Allocator};
 use yl_lexeme::{Items, Kind};
 use yl_scan::{LineState, Standing};
 
-// Prints columns behind another one.
+// Prints columns after another column.
 fn print_next_columns<A: Allocator>(page: &mut Page<A>, columns: &[u32]) -> Result<(), AllocError>
     ensures { OnOk result (page.new ≡ page.old ++ flat_map next_column columns.now) }
 {
@@ -20,6 +20,7 @@ fn print_next_columns<A: Allocator>(page: &mut Page<A>, columns: &[u32]) -> Resu
     Ok(())
 }
 
+// Prints columns as a list.
 fn print_columns<A: Allocator>(page: &mut Page<A>, columns: &[u32]) -> Result<(), AllocError>
     ensures { OnOk result (page.new ≡ page.old ++ columns_text columns.now) }
 {
@@ -31,6 +32,7 @@ fn print_columns<A: Allocator>(page: &mut Page<A>, columns: &[u32]) -> Result<()
     page.text("]")
 }
 
+// Prints the open brackets, or `-` if there are none.
 fn print_brackets<A: Allocator>(page: &mut Page<A>, brackets: &[Kind]) -> Result<(), AllocError>
     ensures { OnOk result (page.new ≡ page.old ++ brackets_text brackets.now) }
 {
@@ -43,6 +45,7 @@ fn print_brackets<A: Allocator>(page: &mut Page<A>, brackets: &[Kind]) -> Result
     Ok(())
 }
 
+// Returns the sign of an open bracket.
 fn bracket_sign(bracket: Kind) -> &'static str
     ensures { result.now ≡ bracket_sign bracket }
 {
@@ -52,6 +55,7 @@ fn bracket_sign(bracket: Kind) -> &'static str
     }
 }
 
+// Returns the name of the last lexeme's kind, or `-` if there is no lexeme.
 fn last_text(last: Option<Kind>) -> &'static str
     ensures { result.now ≡ last_text last }
 {
@@ -61,7 +65,7 @@ fn last_text(last: Option<Kind>) -> &'static str
     }
 }
 
-// A stack's items, the lowest first.
+// Returns the items of a stack, from the bottom to the top. The only error is out of memory.
 fn from_below<T: Copy, A: Allocator + Copy>(
     alloc: A,
     stack: Items<'_, T, A>,
@@ -77,7 +81,7 @@ fn from_below<T: Copy, A: Allocator + Copy>(
     Ok(items)
 }
 
-// Prints what must be known at a sound line that no fault stands before.
+// Prints the state of a sound line that is not after a fault.
 fn print_standing<A: Allocator + Copy>(
     alloc: A,
     page: &mut Page<A>,
@@ -97,7 +101,7 @@ fn print_standing<A: Allocator + Copy>(
     page.text(last_text(standing.last))
 }
 
-/// Prints the state of a line, if it is sound.
+/// Prints the state of a line, or ` not-sound` if there is none. The only error is out of memory.
 pub fn print_state<A: Allocator + Copy>(
     alloc: A,
     page: &mut Page<A>,

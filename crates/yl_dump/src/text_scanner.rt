@@ -1,4 +1,4 @@
-//! A scanner that is fed a text's lines.
+//! Scans a text line by line.
 ghost use Rattle.std.specs.Prelude.{◌≡◌, ◌≢◌, ◌≤◌, ◌↔◌, [], drop, length, true, IsTrue, IfOk, OnErr, OnOk};
 ghost use Rattle.yl_text.specs.declared.TheConstants.{MAX_BYTES};
 ghost use Rattle.yl_text.specs.Lines.{lines_of};
@@ -16,16 +16,16 @@ use yl_lexeme::{Lexeme, Meter};
 use yl_scan::{Scanner, Step};
 use yl_text::{Break, cut_line};
 
-/// A scanner, and the lines of a text that it is still to be fed.
+/// A scanner, and the lines of a text that it has not read yet.
 #[derive(Drop)]
 pub struct TextScanner<'t, 'a, A: Allocator + Copy> {
     scanner: Scanner<'a, A>,
     meter: Meter,
-    // The line that was read last, without its break.
+    // The last line that was read, without its line break.
     last: &'t str,
-    // It is the text's last line, or memory was refused.
+    // Whether this was the last line of the text, or memory ran out.
     is_done: bool,
-    // What stands behind its break.
+    // The text after the line break of this line.
     rest: &'t str,
 }
 
@@ -41,7 +41,7 @@ impl<'t, 'a, A: Allocator + Copy> Model for TextScanner<'t, 'a, A> {
 }
 
 impl<'t, 'a, A: Allocator + Copy> TextScanner<'t, 'a, A> {
-    /// A scanner at a text's start, whose steps hold states.
+    /// Creates a scanner at the start of a text. Its steps have states.
     pub fn new(alloc: &'a A, text: &'t str) -> TextScanner<'t, 'a, A>
         requires { length text.now ≤ MAX_BYTES }
         ensures { result ≡ record { line = 0; stand = Fresh true no_surroundings; rows = lines_of text.now } }
@@ -55,7 +55,7 @@ impl<'t, 'a, A: Allocator + Copy> TextScanner<'t, 'a, A> {
         }
     }
 
-    /// A scanner at a text's start, whose steps hold no states.
+    /// Creates a scanner at the start of a text. Its steps have no states.
     pub fn without_states(alloc: &'a A, text: &'t str) -> TextScanner<'t, 'a, A>
         requires { length text.now ≤ MAX_BYTES }
         ensures { result ≡ record { line = 0; stand = Fresh true no_surroundings; rows = lines_of text.now } }
@@ -69,21 +69,22 @@ impl<'t, 'a, A: Allocator + Copy> TextScanner<'t, 'a, A> {
         }
     }
 
-    /// How many lines were read.
+    /// Returns the number of lines that were read.
     pub fn line(&self) -> u32
         ensures { result ≡ self.now.line }
     {
         self.scanner.line()
     }
 
-    /// Whether all lines were read.
+    /// Returns `true` if no line is left to read.
     pub fn is_done(&self) -> bool
         ensures { IsTrue result ↔ (self.now.rows ≡ []) }
     {
         self.is_done
     }
 
-    /// Reads the next line, and tells what it tells. A scanner that was refused memory has no line more.
+    /// Reads the next line, and returns what is found in it. The only error is out of memory, after
+    /// which no line is left to read.
     pub fn read_line(&mut self) -> Result<Step<A>, AllocError>
         requires { self.old.rows ≢ [] }
         ensures passed { OnOk result (self.new.rows ≡ drop 1 self.old.rows) }
@@ -101,7 +102,8 @@ impl<'t, 'a, A: Allocator + Copy> TextScanner<'t, 'a, A> {
         Ok(step)
     }
 
-    /// Takes back a list of lexemes that a line told, so that its room is used again, if it has some. What is in it goes.
+    /// Takes back the list of lexemes of a step, so that its allocation is used again, if it has
+    /// one. Drops the lexemes in the list.
     pub fn take_back(&mut self, lexemes: Vec<Lexeme<A>, A>)
         ensures { self.new ≡ self.old }
     {
@@ -110,7 +112,7 @@ impl<'t, 'a, A: Allocator + Copy> TextScanner<'t, 'a, A> {
         }
     }
 
-    /// The end of the line that was read last.
+    /// Returns the position of the end of the last line that was read.
     pub fn end(&self) -> TextPlace {
         TextPlace {
             line: u64::from(self.scanner.line()).saturating_sub(1),
@@ -118,7 +120,8 @@ impl<'t, 'a, A: Allocator + Copy> TextScanner<'t, 'a, A> {
         }
     }
 
-    /// What the text's end tells.
+    /// Ends the scan, and returns what is found at the end of the text. The only error is out of
+    /// memory.
     pub fn finish(self) -> Result<Step<A>, AllocError> {
         self.scanner.finish()
     }

@@ -1,4 +1,4 @@
-//! Tests of what is printed of lexemes, events and lines, with writers that fail and memory that is refused.
+//! Tests of the printed lexemes, events and lines of a text, also with writers that fail.
 #![tactic(auto)]
 
 #[cfg(test)]

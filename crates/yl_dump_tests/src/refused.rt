@@ -1,4 +1,4 @@
-//! Writers that fail.
+//! Tests with writers that fail.
 use crate::views::{PrintedView, shown, write_view};
 use std::alloc::Global;
 use std::io;
@@ -12,7 +12,7 @@ const VIEWS: [PrintedView; 3] = [
     PrintedView::Lines,
 ];
 
-/// A writer over memory, which has room for so many bytes, and then fails.
+/// A writer over memory, which accepts a limited number of bytes and then fails.
 #[derive(Drop)]
 struct Sink<'a> {
     bytes: &'a mut Vec<u8>,

@@ -1,8 +1,8 @@
-//! A deep text, and what is shown of it.
+//! Tests of a deeply nested text.
 use crate::views::{PrintedView, shown};
 use std::test::Fail;
 
-// So many opening brackets, and so many closing ones.
+// Returns a text of opening brackets and closing ones.
 fn deep(alloc: std::alloc::Global, opened: usize, closed: usize) -> Result<String, Fail> {
     let mut text = String::new(alloc);
     for _i in 0..opened {

@@ -1,17 +1,21 @@
-//! A view of a text as one text.
+//! Writes views of a text.
 use std::alloc::{Allocator, Global};
 use std::io::Write;
 use yl_dump::{DumpFault, write_events, write_lexemes, write_lines};
 use yl_text::MAX_BYTES;
 
-/// What is shown of a text.
+/// A view of a text.
 #[derive(Clone, Copy)]
 pub enum PrintedView {
+    /// The lexemes and the comments.
     Lexemes,
+    /// The events.
     Events,
+    /// The states of the lines.
     Lines,
 }
 
+/// Writes a view of a text.
 pub fn write_view<A: Allocator + Copy, W: Write + Drop>(
     alloc: A,
     view: PrintedView,
@@ -28,7 +32,7 @@ pub fn write_view<A: Allocator + Copy, W: Write + Drop>(
     }
 }
 
-/// The printed lines.
+/// Returns the printed lines of a view.
 pub fn shown(alloc: Global, view: PrintedView, text: &str) -> Result<String, DumpFault> {
     let mut bytes = Vec::new(alloc);
     write_view(alloc, view, text, &mut bytes)?;

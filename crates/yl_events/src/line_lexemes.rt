@@ -7,6 +7,7 @@ use crate::symbol::{Outline, Shape};
 use std::alloc::Allocator;
 use std::marker::Model;
 use yl_lexeme::LexemeAtLine;
+use yl_marks::RowLexemes;
 use yl_text::Pos;
 
 /// An anchor of an earlier line whose node is still to come: its index among the document's lexemes, its name, and its place in the
@@ -21,7 +22,7 @@ pub struct WaitingAnchor<'n> {
 /// The lexemes that the outlines of a line may name: those that begin in the line, and the anchor that waits for its node before it.
 #[derive(Drop)]
 pub struct LineLexemes<'n, A: Allocator> {
-    lexemes: &'n [LexemeAtLine<'n, A>],
+    row: RowLexemes<'n, A>,
     first: usize,
     waiting: Option<WaitingAnchor<'n>>,
 }
@@ -33,7 +34,7 @@ impl<'n, A: Allocator> Model for LineLexemes<'n, A> {
 
     ghost Value = { LineValue };
 
-    ghost view = { λ l. record { lexemes = map (λ x. lexeme_at_line x.line x.lexeme.now) l.lexemes.now; first = l.first; waiting = option_map waiting_value l.waiting } };
+    ghost view = { λ l. record { lexemes = map (lexeme_at_line l.row.line) l.row.lexemes.now; first = l.first; waiting = option_map waiting_value l.waiting } };
 }
 
 impl<'n, A: Allocator> LineLexemes<'n, A> {
@@ -42,16 +43,19 @@ impl<'n, A: Allocator> LineLexemes<'n, A> {
     ghost use Rattle.yl_events.specs.Event.{event_value, kind_value};
     ghost use Rattle.yl_events.specs.Seen.{content_seen, event_seen, kind_seen, lexeme_of_line, start_seen, value_seen, waiting_value, waits_at};
 
-    /// The lexemes of a line, before which the document has `first` lexemes and this anchor waits.
+    /// The lexemes of a row, before which the document has `first` lexemes and this anchor waits.
     pub fn new(
-        lexemes: &'n [LexemeAtLine<'n, A>],
+        row: &RowLexemes<'n, A>,
         first: usize,
         waiting: Option<WaitingAnchor<'n>>,
     ) -> LineLexemes<'n, A>
-        ensures { result ≡ record { lexemes = map (λ x. lexeme_at_line x.line x.lexeme.now) lexemes.now; first = first; waiting = option_map waiting_value waiting.entry } }
+        ensures { result ≡ record { lexemes = map (lexeme_at_line row.now.line) row.now.lexemes.now; first = first; waiting = option_map waiting_value waiting.entry } }
     {
         LineLexemes {
-            lexemes,
+            row: RowLexemes {
+                line: row.line,
+                lexemes: row.lexemes,
+            },
             first,
             waiting,
         }
@@ -68,14 +72,20 @@ impl<'n, A: Allocator> LineLexemes<'n, A> {
     }
 
     /// The line's lexeme of this index in the document.
-    fn lexeme_at(&self, i: u32) -> Option<&'n LexemeAtLine<'n, A>>
-        ensures { option_map (λ x. lexeme_at_line x.now.line x.now.lexeme.now) result ≡ lexeme_of_line self.now i }
+    fn lexeme_at(&self, i: u32) -> Option<LexemeAtLine<'n, A>>
+        ensures { option_map (λ x. lexeme_at_line x.line x.lexeme.now) result ≡ lexeme_of_line self.now i }
     {
         let i = i as usize;
         if i < self.first {
             return None;
         }
-        self.lexemes.get(i - self.first)
+        match self.row.lexemes.get(i - self.first) {
+            None => None,
+            Some(lexeme) => Some(LexemeAtLine {
+                line: self.row.line,
+                lexeme,
+            }),
+        }
     }
 
     fn value_at(&self, i: u32) -> &'n str

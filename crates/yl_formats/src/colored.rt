@@ -1,4 +1,4 @@
-//! A problem in columns, with a terminal's colours.
+//! Prints problems in columns, with the colours of a terminal.
 ghost use Rattle.std.specs.Prelude.{◌≡◌, ◌-◌, ◌^◌, ◌<◌, ◌∷◌, ◌++◌, OnOk, OnErr, codes};
 ghost use Rattle.std.specs.List.{flat_map};
 ghost use Rattle.yl_text.specs.Watched.{device_of, failures_of};
@@ -15,7 +15,7 @@ use yl_report::Problem;
 use yl_rules::Level;
 use yl_text::{RuleId, Watched};
 
-// The name of a level in its colour.
+// Returns the name of a level in its colour.
 fn colored_name(level: Level) -> &'static [u8]
     ensures { result.now ≡ colored_level level }
 {
@@ -25,7 +25,7 @@ fn colored_name(level: Level) -> &'static [u8]
     }
 }
 
-// The pieces of a printed line.
+// Returns the pieces of a printed line.
 fn parts_of<'a>(
     line: &'a str,
     column: &'a str,
@@ -38,7 +38,7 @@ fn parts_of<'a>(
         ++ message.now ++ syntax_mark rule
         ++ rule_between (codes "  " ++ 27 ∷ codes "[2m(") rule (codes ")" ++ 27 ∷ codes "[0m") ++ codes "\n" }
 {
-    // Each of these is lent for as long as the other pieces, which an array of them asks.
+    // Each of these is borrowed for `'a`, since all pieces of an array have one type.
     let start: &'a [u8] = b"  \x1b[2m";
     let colon: &'a [u8] = b":";
     let plain: &'a [u8] = b"\x1b[0m";
@@ -74,7 +74,7 @@ fn parts_of<'a>(
     ]
 }
 
-/// Puts the line of a problem after what waits.
+/// Appends the line of a problem to the buffer `waiting`, and writes to `out` what does not fit.
 pub(crate) fn put_line<W: Write, A: Allocator>(
     problem: &Problem<A>,
     out: &mut Watched<W>,

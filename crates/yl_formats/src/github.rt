@@ -1,4 +1,4 @@
-//! A problem as a command of a workflow of GitHub.
+//! Prints problems as commands of a GitHub workflow.
 ghost use Rattle.std.specs.Prelude.{◌≡◌, ◌-◌, ◌^◌, ◌<◌, ◌++◌, OnOk, OnErr, codes};
 ghost use Rattle.std.specs.List.{flat_map};
 ghost use Rattle.yl_text.specs.Watched.{device_of, failures_of};
@@ -13,7 +13,7 @@ use yl_devices::{Waiting, WriteFault, put_parts};
 use yl_report::Problem;
 use yl_text::{RuleId, Watched};
 
-// The pieces of a printed line.
+// Returns the pieces of a printed line.
 fn parts_of<'a>(
     name: &'a str,
     line: &'a str,
@@ -27,7 +27,7 @@ fn parts_of<'a>(
         ++ codes "::" ++ (line.now ++ codes ":" ++ column.now) ++ codes " " ++ rule_between (codes "[") rule (codes "] ")
         ++ message.now ++ syntax_mark rule ++ codes "\n" }
 {
-    // Each of these is lent for as long as the other pieces, which an array of them asks.
+    // Each of these is borrowed for `'a`, since all pieces of an array have one type.
     let colons: &'a [u8] = b"::";
     let before_name: &'a [u8] = b" file=";
     let before_line: &'a [u8] = b",line=";
@@ -65,7 +65,8 @@ fn parts_of<'a>(
     ]
 }
 
-/// Puts the line of a problem of the file of this name after what waits.
+/// Appends the line of a problem to the buffer `waiting`, and writes to `out` what does not fit.
+/// `name` is the name of the file.
 pub(crate) fn put_line<W: Write, A: Allocator>(
     name: &str,
     problem: &Problem<A>,

@@ -1,4 +1,4 @@
-//! The problems of a file as text, in the formats that yamllint has.
+//! Prints the problems of a file in the formats of yamllint.
 #![tactic(auto)]
 
 mod colored;

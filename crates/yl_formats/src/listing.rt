@@ -1,4 +1,4 @@
-//! The problems of a file under its name.
+//! Prints the problems of a file after its name.
 ghost use Rattle.std.specs.Prelude.{◌≡◌, ◌-◌, ◌^◌, ◌<◌, ◌++◌, [], if◌then◌else◌, OnOk, OnErr};
 ghost use Rattle.std.specs.List.{flat_map, list_all};
 ghost use Rattle.std.specs.Io.KnownBytes.{Appends};
@@ -15,7 +15,7 @@ use yl_devices::{Waiting, WriteFault, flush, put_parts};
 use yl_report::Problem;
 use yl_text::Watched;
 
-// The pieces of what begins the lines of a file.
+// Returns the pieces of the text before the problems of a file.
 fn head_parts<'a>(listing: Listing, name: &'a str) -> [&'a [u8]; 3]
     ensures { flat_map (λ part. part.now) result ≡ head_of listing name.now }
 {
@@ -26,7 +26,7 @@ fn head_parts<'a>(listing: Listing, name: &'a str) -> [&'a [u8]; 3]
     }
 }
 
-// The pieces of what ends the lines of a file.
+// Returns the pieces of the text after the problems of a file.
 fn end_parts(listing: Listing) -> [&'static [u8]; 1]
     ensures { flat_map (λ part. part.now) result ≡ end_of listing }
 {
@@ -36,7 +36,8 @@ fn end_parts(listing: Listing) -> [&'static [u8]; 1]
     }
 }
 
-// Puts what begins the lines of a file after what waits.
+// Appends the text before the problems of a file to the buffer `waiting`, and writes to `out` what
+// does not fit.
 fn put_head<W: Write>(
     listing: Listing,
     name: &str,
@@ -54,7 +55,8 @@ fn put_head<W: Write>(
     put_parts(out, waiting, &head_parts(listing, name))
 }
 
-// Puts what ends the lines of a file after what waits.
+// Appends the text after the problems of a file to the buffer `waiting`, and writes to `out` what
+// does not fit.
 fn put_end<W: Write>(
     listing: Listing,
     out: &mut Watched<W>,
@@ -71,12 +73,15 @@ fn put_end<W: Write>(
     put_parts(out, waiting, &end_parts(listing))
 }
 
+// Returns `true` if the problem is a warning and `no_warnings` is set.
 fn is_hidden<A: Allocator>(problem: &Problem<A>, no_warnings: bool) -> bool
     ensures { result ≡ is_hidden no_warnings problem.now }
 {
     no_warnings && !problem.is_error()
 }
 
+// Returns `true` if all problems are warnings and `no_warnings` is set, or if there are no
+// problems.
 fn are_hidden<A: Allocator>(problems: &[Problem<A>], no_warnings: bool) -> bool
     ensures { result ≡ list_all (is_hidden no_warnings) problems.now }
 {
@@ -85,7 +90,7 @@ fn are_hidden<A: Allocator>(problems: &[Problem<A>], no_warnings: bool) -> bool
         .all(|problem| is_hidden(problem, no_warnings))
 }
 
-// Puts the line of a problem after what waits.
+// Appends the line of a problem to the buffer `waiting`, and writes to `out` what does not fit.
 fn put_line<W: Write, A: Allocator>(
     listing: Listing,
     name: &str,
@@ -108,7 +113,8 @@ fn put_line<W: Write, A: Allocator>(
     }
 }
 
-// Puts what is printed of a problem after what waits.
+// Appends the line of a problem to the buffer `waiting`, unless the problem is a warning and
+// `no_warnings` is set.
 fn put_problem<W: Write, A: Allocator>(
     listing: Listing,
     name: &str,
@@ -132,7 +138,8 @@ fn put_problem<W: Write, A: Allocator>(
     }
 }
 
-// Puts what is printed of the problems after what waits.
+// Appends the lines of the problems to the buffer `waiting`, without those of warnings if
+// `no_warnings` is set.
 fn put_problems<W: Write, A: Allocator>(
     listing: Listing,
     name: &str,
@@ -155,7 +162,8 @@ fn put_problems<W: Write, A: Allocator>(
     Ok(())
 }
 
-// Puts the lines of the problems, and what begins and ends them, after what waits.
+// Appends the lines of the problems to the buffer `waiting`, between the texts before and after
+// them. Leaves out the lines of warnings if `no_warnings` is set.
 fn put_listing<W: Write, A: Allocator>(
     listing: Listing,
     name: &str,
@@ -177,7 +185,8 @@ fn put_listing<W: Write, A: Allocator>(
     put_end(listing, out, waiting)
 }
 
-// Writes the lines of the problems, and what begins and ends them.
+// Writes the lines of the problems, between the texts before and after them. Leaves out the lines
+// of warnings if `no_warnings` is set.
 fn write_lines<W: Write, A: Allocator>(
     listing: Listing,
     name: &str,
@@ -198,8 +207,9 @@ fn write_lines<W: Write, A: Allocator>(
     flush(out, &mut waiting)
 }
 
-/// Writes the problems of a file under its name, without the warnings if so asked. It writes
-/// nothing where none is printed.
+/// Writes the name of a file and the lines of its problems, without those of warnings if
+/// `no_warnings` is set. Writes nothing if no problem is printed. Returns an error only if the
+/// writer failed. Then a prefix of the text is written.
 pub(crate) fn write_listing<W: Write, A: Allocator>(
     listing: Listing,
     name: &str,

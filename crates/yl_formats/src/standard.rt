@@ -1,4 +1,4 @@
-//! A problem in columns.
+//! Prints problems in columns.
 ghost use Rattle.std.specs.Prelude.{◌≡◌, ◌-◌, ◌^◌, ◌<◌, ◌++◌, OnOk, OnErr, codes};
 ghost use Rattle.std.specs.List.{flat_map};
 ghost use Rattle.yl_text.specs.Watched.{device_of, failures_of};
@@ -14,7 +14,7 @@ use yl_devices::{Waiting, WriteFault, put_parts};
 use yl_report::Problem;
 use yl_text::{RuleId, Watched};
 
-// The pieces of a printed line.
+// Returns the pieces of a printed line.
 fn parts_of<'a>(
     line: &'a str,
     column: &'a str,
@@ -26,7 +26,7 @@ fn parts_of<'a>(
         ≡ padded (padded (codes "  " ++ (line.now ++ codes ":" ++ column.now)) 12 ++ level.now) 21
         ++ message.now ++ syntax_mark rule ++ rule_between (codes "  (") rule (codes ")") ++ codes "\n" }
 {
-    // Each of these is lent for as long as the other pieces, which an array of them asks.
+    // Each of these is borrowed for `'a`, since all pieces of an array have one type.
     let start: &'a [u8] = b"  ";
     let colon: &'a [u8] = b":";
     let end: &'a [u8] = b"\n";
@@ -60,7 +60,7 @@ fn parts_of<'a>(
     ]
 }
 
-/// Puts the line of a problem after what waits.
+/// Appends the line of a problem to the buffer `waiting`, and writes to `out` what does not fit.
 pub(crate) fn put_line<W: Write, A: Allocator>(
     problem: &Problem<A>,
     out: &mut Watched<W>,

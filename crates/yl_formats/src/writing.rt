@@ -1,4 +1,4 @@
-//! The problems of a file, written.
+//! Writes the problems of a file.
 ghost use Rattle.std.specs.Prelude.{◌≡◌, ◌-◌, ◌^◌, ◌<◌, OnOk, OnErr};
 ghost use Rattle.std.specs.Io.KnownBytes.{Appends};
 ghost use Rattle.yl_text.specs.Watched.{device_of, failures_of};
@@ -13,10 +13,10 @@ use yl_devices::WriteFault;
 use yl_report::{Problem, write_report};
 use yl_text::Watched;
 
-/// Writes the problems of the file of this name in a format, without the warnings if so asked, in
-/// as few writes as a buffer of 4,096 bytes allows. A file of which no problem is printed prints
-/// nothing. It takes no memory. On a fault, which is told only where the writer failed, a beginning
-/// of the text is out.
+/// Writes the problems of a file in a format, without the warnings if `no_warnings` is set. `name`
+/// is the name of the file. Writes nothing if no problem is printed. Writes through a buffer of
+/// 4,096 bytes, and does not allocate. Returns an error only if the writer failed. Then a prefix of
+/// the text is written.
 pub fn write_problems<W: Write, A: Allocator>(
     format: Format,
     name: &str,

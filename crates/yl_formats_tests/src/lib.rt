@@ -1,4 +1,5 @@
-//! Tests of the formats against what yamllint prints of the same problems, and with a writer that fails.
+//! Tests of the formats against the output of yamllint for the same problems, and with a writer
+//! that fails.
 #![tactic(auto)]
 
 #[cfg(test)]

@@ -1,4 +1,4 @@
-//! What is printed.
+//! Tests of printed problems.
 use crate::rows::{DIGITS, DIGITS_PRINTS, MIXED, MIXED_PRINTS, Print, Row, WARNED, WARNED_PRINTS};
 use crate::writer::MemoryWriter;
 use std::alloc::{AllocError, Global};
@@ -19,7 +19,8 @@ fn problems_of(alloc: Global, rows: &[Row]) -> Result<Vec<Problem<Global>>, Allo
     Ok(problems)
 }
 
-// What a writer has that takes so many bytes a call and fails at a call, and what the printing answers.
+// Prints problems to a writer that takes at most some bytes a call and fails at one call. Returns
+// the bytes that the writer has, and the result of the printing.
 fn printed(
     problems: &[Problem<Global>],
     format: Format,
@@ -38,14 +39,14 @@ fn printed(
     (out.into_inner().bytes, answer)
 }
 
-// Whether a text is what is printed of problems.
+// Returns `true` if this text is printed for the problems.
 fn is_printed(alloc: Global, problems: &[Problem<Global>], print: &Print) -> bool {
     let (format, no_warnings, text) = *print;
     let (bytes, answer) = printed(problems, format, no_warnings, usize::MAX, 0, alloc);
     answer == Ok(()) && bytes.as_slice() == text.as_bytes()
 }
 
-// Whether a writer that fails at a call, each in turn, has a beginning of the text.
+// Returns `true` if a writer that fails at one call, each call in turn, has a prefix of the text.
 fn stops_at_each_write(alloc: Global, problems: &[Problem<Global>], print: &Print) -> bool {
     let (format, no_warnings, text) = *print;
     for nth in 1..u64::MAX {

@@ -1,4 +1,4 @@
-//! Problems, and what yamllint 1.29 prints of them in a file named `a b.yaml`.
+//! Problems, and what yamllint 1.29 prints for them in a file named `a b.yaml`.
 use yl_formats::Format;
 use yl_rules::Level;
 use yl_text::RuleId;
@@ -6,7 +6,7 @@ use yl_text::RuleId;
 /// A problem: its line, column, level, rule and message.
 pub(crate) type Row = (u64, u64, Level, RuleId, &'static str);
 
-/// Problems of both levels, a text's fault among them.
+/// Problems of both levels, among them the fault of a text.
 pub(crate) static MIXED: [Row; 4] = [
     (
         1,
@@ -38,7 +38,7 @@ pub(crate) static MIXED: [Row; 4] = [
     ),
 ];
 
-/// Warnings alone.
+/// Problems that are all warnings.
 pub(crate) static WARNED: [Row; 2] = [
     (
         1,
@@ -56,7 +56,7 @@ pub(crate) static WARNED: [Row; 2] = [
     ),
 ];
 
-/// Lines and columns of one to ten digits.
+/// Problems whose lines and columns have one to ten digits.
 pub(crate) static DIGITS: [Row; 10] = [
     (1, 1, Level::Error, RuleId::Colons, "m"),
     (12, 12, Level::Error, RuleId::Colons, "m"),
@@ -76,10 +76,10 @@ pub(crate) static DIGITS: [Row; 10] = [
     ),
 ];
 
-/// A format, whether warnings are left out, and what is printed so.
+/// A format, whether warnings are left out, and the printed text.
 pub(crate) type Print = (Format, bool, &'static str);
 
-/// What is printed of `MIXED`.
+/// The printed texts of `MIXED`.
 pub(crate) static MIXED_PRINTS: [Print; 8] = [
     (
         Format::Parsable,
@@ -123,7 +123,7 @@ pub(crate) static MIXED_PRINTS: [Print; 8] = [
     ),
 ];
 
-/// What is printed of `WARNED`.
+/// The printed texts of `WARNED`.
 pub(crate) static WARNED_PRINTS: [Print; 8] = [
     (
         Format::Parsable,
@@ -151,7 +151,7 @@ pub(crate) static WARNED_PRINTS: [Print; 8] = [
     (Format::Github, true, ""),
 ];
 
-/// What is printed of `DIGITS`.
+/// The printed texts of `DIGITS`.
 pub(crate) static DIGITS_PRINTS: [Print; 3] = [
     (
         Format::Standard,

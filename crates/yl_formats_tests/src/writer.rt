@@ -2,7 +2,8 @@
 use std::io;
 use std::io::{ErrorKind, Write};
 
-/// A writer over memory, which takes at most `most` bytes a call and fails at the call `fails_at`, counted from 1.
+/// A writer over memory, which takes at most `most` bytes a call and fails at the call `fails_at`,
+/// counted from 1.
 #[derive(Drop)]
 pub(crate) struct MemoryWriter {
     pub(crate) bytes: Vec<u8>,

@@ -2,14 +2,14 @@
 //! between them.
 ghost use Rattle.std.specs.Prelude.{◌≡◌, ◌<◌, ◌+◌, ◌-◌, None, map, length, nat_lt, slice_get, slice_index};
 ghost use Rattle.yl_marks.specs.Keys.{lexeme_at_line, token_of};
+ghost use Rattle.yl_marks.specs.Marks.{column_at};
 ghost use Rattle.yl_indentation.specs.Elements.{element_of, element_at, lexeme_element};
 ghost use Rattle.yl_indentation.specs.SlimElements.{slim_element};
-ghost use Rattle.yl_indentation.specs.SymbolFacts.{element_of_symbol};
 ghost use Rattle.yl_indentation.specs.LineFacts.{element_in_line, lexeme_in_line};
 
 use std::alloc::Allocator;
 use yl_lexeme::{Kind, LexemeAtLine};
-use yl_marks::{Collection, Marked, Symbol, Token, column_at, token_of};
+use yl_marks::{Collection, Marked, Symbol, Token, token_of};
 
 /// A lexeme and what stands around it.
 #[derive(Clone, Copy)]
@@ -61,6 +61,7 @@ fn indentation_at(indentations: &[u32], line: u32) -> u32
     }
 }
 
+#[inline(always)]
 fn element_at(site: Site) -> Element
     ensures { result ≡ element_at site.token.kind site }
 {
@@ -73,6 +74,7 @@ fn element_at(site: Site) -> Element
 }
 
 /// The element of a lexeme without what stands around it.
+#[inline(always)]
 fn alone(token: Token, counts: bool) -> Element
     ensures { result ≡ element_at token.kind (record { token = token; next = None; indentation = 0; counts = counts }) }
 {
@@ -131,46 +133,34 @@ pub fn element_of<A: Allocator>(
     }
 }
 
-/// The element of a symbol, in a document with these lexemes, of which the first `counted` count, as
-/// far as it is asked for. That a key begins is none.
-pub fn element_of_symbol<A: Allocator>(
-    lexemes: &[LexemeAtLine<'_, A>],
-    counted: usize,
-    indentations: &[u32],
-    symbol: Symbol,
-) -> Option<Element>
-    ensures { result ≡ element_of_symbol
-        (map token_of (map (λ x. lexeme_at_line x.line x.lexeme.now) lexemes.now))
-        counted indentations.now symbol }
+#[inline(always)]
+fn token_in(line: &[Token], i: usize) -> Option<Token>
+    ensures { result ≡ slice_get line.now i }
 {
-    match symbol {
-        Symbol::OpenSequence(i) => Some(Element::Opening(
-            Collection::Sequence,
-            column_at(lexemes, i as usize),
-        )),
-        Symbol::OpenMapping(i) => Some(Element::Opening(
-            Collection::Mapping,
-            column_at(lexemes, i as usize),
-        )),
-        Symbol::BeginKey(_) => None,
-        Symbol::Close => Some(Element::Closing),
-        Symbol::One(_, i) => Some(element_of_lexeme(lexemes, counted, indentations, i as usize)),
+    match line.get(i) {
+        None => None,
+        Some(token) => Some(*token),
+    }
+}
+
+/// The column of the token of this index; 0, if there is none.
+#[inline(always)]
+fn column_in(line: &[Token], i: usize) -> u32
+    ensures { result ≡ column_at line.now i }
+{
+    match line.get(i) {
+        None => 0,
+        Some(token) => token.start.col,
     }
 }
 
 /// The element of the lexeme of this index in a line that begins with so many spaces. What stands around it is looked at only where it
 /// opens brackets: the lexeme after it in the line, and these spaces.
-fn lexeme_in_line<A: Allocator>(
-    line: &[LexemeAtLine<'_, A>],
-    i: usize,
-    counts: bool,
-    indentation: u32,
-) -> Element
-    ensures { result ≡ slim_element (lexeme_in_line
-        (map token_of (map (λ x. lexeme_at_line x.line x.lexeme.now) line.now)) i counts indentation (slice_get
-        (map token_of (map (λ x. lexeme_at_line x.line x.lexeme.now) line.now)) i)) }
+#[inline(always)]
+fn lexeme_in_line(line: &[Token], i: usize, counts: bool, indentation: u32) -> Element
+    ensures { result ≡ slim_element (lexeme_in_line line.now i counts indentation (slice_get line.now i)) }
 {
-    let Some(token) = token_at(line, i) else {
+    let Some(token) = token_in(line, i) else {
         return Element::Nothing;
     };
     if !token.kind.is_opening() {
@@ -178,7 +168,7 @@ fn lexeme_in_line<A: Allocator>(
     }
     Element::OpeningBracket(Site {
         token,
-        next: token_at(line, i.saturating_add(1)),
+        next: token_in(line, i.saturating_add(1)),
         indentation,
         counts,
     })
@@ -186,25 +176,24 @@ fn lexeme_in_line<A: Allocator>(
 
 /// The element of a symbol of a line that begins with so many spaces, as far as it is asked for, where `first` lexemes stand before the
 /// line's. That a key begins is none.
-pub fn element_in_line<A: Allocator>(
-    line: &[LexemeAtLine<'_, A>],
+#[inline(always)]
+pub fn element_in_line(
+    line: &[Token],
     first: usize,
     counted: usize,
     indentation: u32,
     symbol: Symbol,
 ) -> Option<Element>
-    ensures { result ≡ element_in_line
-        (map token_of (map (λ x. lexeme_at_line x.line x.lexeme.now) line.now))
-        first counted indentation symbol }
+    ensures { result ≡ element_in_line line.now first counted indentation symbol }
 {
     match symbol {
         Symbol::OpenSequence(i) => Some(Element::Opening(
             Collection::Sequence,
-            column_at(line, (i as usize).saturating_sub(first)),
+            column_in(line, (i as usize).saturating_sub(first)),
         )),
         Symbol::OpenMapping(i) => Some(Element::Opening(
             Collection::Mapping,
-            column_at(line, (i as usize).saturating_sub(first)),
+            column_in(line, (i as usize).saturating_sub(first)),
         )),
         Symbol::BeginKey(_) => None,
         Symbol::Close => Some(Element::Closing),

@@ -17,7 +17,7 @@ use crate::truthy::push_truthy;
 use std::alloc::{AllocError, Allocator};
 use std::marker::Model;
 use yl_lexeme::{Kind, LexemeAtLine};
-use yl_marks::KeyFacts;
+use yl_marks::{KeyFacts, RowLexemes};
 use yl_text::Finding;
 
 /// Whether the rules on indicators may find something at a lexeme of this kind.
@@ -238,11 +238,37 @@ impl LexemeRules {
         Ok(())
     }
 
-    /// Reads the document's next lexemes, as those of a line, and adds to the problems what the rules find, lexeme by lexeme. `keys` says
+    /// Reads the document's next lexemes, those of a row, and adds to the problems what the rules find, lexeme by lexeme. `keys` says
     /// of each of them what the document's keys say of it. Lexemes that do not count, as those from a fault on, are not to be read. A
     /// problem's line counts from 1 from where the lexemes' lines count from 0, its column from 1 in characters. The only error is out of
     /// memory, which is taken for what is found and nothing else; the rules then say nothing more of the document.
-    pub fn read<A: Allocator + Copy>(
+    pub fn read_row<A: Allocator + Copy>(
+        &mut self,
+        options: &LexemeOptions,
+        row: &RowLexemes<'_, A>,
+        keys: &[KeyFacts],
+        problems: &mut Vec<Finding<A>, A>,
+    ) -> Result<(), AllocError>
+        requires { length keys.now ≡ length row.now.lexemes.now }
+        ensures found { (v : Bool) (rest later : List LexemeValue) (ks : List KeyFacts)
+            → IsVersion v self.old (map (lexeme_at_line row.now.line) row.now.lexemes.now ++ rest)
+            → OnOk result (problems.new.items ++ lexemes_left v options.now self.new later ks
+            ≡ problems.old.items ++ lexemes_left v options.now self.old
+            (map (lexeme_at_line row.now.line) row.now.lexemes.now ++ later) (keys.now ++ ks)) }
+        ensures version { (v : Bool) (rest : List LexemeValue)
+            → IsVersion v self.old (map (lexeme_at_line row.now.line) row.now.lexemes.now ++ rest)
+            → OnOk result (IsVersion v self.new rest) }
+    {
+        let line = row.line;
+        for (i, lexeme) in row.lexemes.iter().enumerate() {
+            let at = LexemeAtLine { line, lexeme };
+            self.read_lexeme(options, &at, keys[i], problems)?;
+        }
+        Ok(())
+    }
+
+    /// Reads the document's next lexemes, of any lines, as `read_row` does those of a row.
+    pub(crate) fn read_all<A: Allocator + Copy>(
         &mut self,
         options: &LexemeOptions,
         lexemes: &[LexemeAtLine<'_, A>],

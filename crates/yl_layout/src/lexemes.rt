@@ -34,7 +34,7 @@ pub fn lexeme_problems<A: Allocator + Copy>(
     let (lexemes, _) = lexemes.split_at(counted);
     let (keys, _) = keys.split_at(counted);
     let mut rules = LexemeRules::new();
-    rules.read(options, lexemes, keys, &mut problems)?;
+    rules.read_all(options, lexemes, keys, &mut problems)?;
     rules.finish(options, &mut problems)?;
     Ok(problems)
 }

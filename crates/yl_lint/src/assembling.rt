@@ -1,4 +1,4 @@
-//! The report of a text, from what is kept of its sections.
+//! Assembles the report of a text from the summaries of its sections.
 ghost use Rattle.std.specs.Prelude.{◌≡◌, ◌≤◌, ◌++◌, length, map, take, IfOk, OnOk};
 ghost use Rattle.yl_indentation.specs.Measures.{empty_measure, measure_of};
 ghost use Rattle.yl_indentation.specs.Problems.{indent_problems};
@@ -14,7 +14,7 @@ use yl_report::{Problem, Silences, arrange};
 use yl_sections::Kept;
 use yl_text::{Finding, Pos};
 
-/// How many sections are shown: those up to the first with a fault.
+/// Returns the number of sections that are shown: those up to and including the first with a fault.
 fn count_shown<A: Allocator>(kept: &[&Kept<A>]) -> usize
     ensures within { result ≤ length kept.now }
     ensures shown { map (λ k. k.now) (take result kept.now) ≡ shown (map (λ k. k.now) kept.now) }
@@ -27,7 +27,7 @@ fn count_shown<A: Allocator>(kept: &[&Kept<A>]) -> usize
     kept.len()
 }
 
-/// The measure of all facts of these sections.
+/// Returns the measure of all facts of these sections.
 fn measure_of<A: Allocator>(kept: &[&Kept<A>]) -> Measure
     ensures { result ≡ measure_of (facts_in_sections (map (λ k. k.now) kept.now)) }
 {
@@ -38,8 +38,9 @@ fn measure_of<A: Allocator>(kept: &[&Kept<A>]) -> Measure
     measure
 }
 
-/// Puts what the rule indentation finds in a section that begins at `line` behind the rest. `before` is the measure of the facts of the sections
-/// before it, `whole` that of all facts that are shown. The only error is out of memory.
+/// Appends the findings of the rule `indentation` in a section that begins at `line`. `before` is
+/// the measure of the facts of the sections before it, and `whole` is the measure of all facts that
+/// are shown. The only error is out of memory.
 pub fn push_indentation<A: Allocator + Copy>(
     alloc: A,
     options: &IndentationOptions,
@@ -55,8 +56,9 @@ pub fn push_indentation<A: Allocator + Copy>(
     push_moved(line, indented, found)
 }
 
-/// Puts what is found in a section that begins at `line` behind the rest. `before` is the measure of the facts of the sections before it,
-/// `whole` that of all facts that are shown.
+/// Appends the findings in a section that begins at `line`. `before` is the measure of the facts of
+/// the sections before it, and `whole` is the measure of all facts that are shown. The only error
+/// is out of memory.
 pub fn push_section<A: Allocator + Copy>(
     alloc: A,
     options: &IndentationOptions,
@@ -72,7 +74,7 @@ pub fn push_section<A: Allocator + Copy>(
     push_indentation(alloc, options, whole, line, before, kept, found)
 }
 
-/// Puts what is found in these sections, of which the first begins at line 0, behind the rest.
+/// Appends the findings in these sections. The first one begins at line 0.
 fn push_sections<A: Allocator + Copy>(
     alloc: A,
     options: &IndentationOptions,
@@ -92,8 +94,8 @@ fn push_sections<A: Allocator + Copy>(
     Ok(())
 }
 
-/// All that is found in a text that ends at `end`, in whose lines the rules on lines found these, and of whose sections this is kept, in
-/// order.
+/// Returns all findings in a text. `found` holds the findings of the rules on lines, `end` is the
+/// end of the text, and `kept` holds the summaries of its sections, in order.
 fn found_of_kept<A: Allocator + Copy>(
     alloc: A,
     config: &Config,
@@ -110,8 +112,9 @@ fn found_of_kept<A: Allocator + Copy>(
     Ok(found)
 }
 
-/// The report of a text whose first line is `first`, which ends at `end`, in whose lines the rules on lines found these, and of whose
-/// sections this is kept, in order. The only error is out of memory.
+/// Returns the report of a text. `found` holds the findings of the rules on lines, `first` is the
+/// first line of the text, `end` is its end, and `kept` holds the summaries of its sections, in
+/// order. The only error is out of memory.
 pub fn report_of_kept<A: Allocator + Copy>(
     alloc: A,
     config: &Config,

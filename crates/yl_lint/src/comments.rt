@@ -1,4 +1,4 @@
-//! The comments of the sections that are shown, at their places in the text.
+//! Moves the comments of the sections that are shown to their positions in the text.
 ghost use Rattle.std.specs.Prelude.{◌≡◌, ◌++◌, ◌∷◌, [], map, IfOk, OnOk};
 ghost use Rattle.yl_lexeme.specs.PlacedComments.{placed_comment_value};
 ghost use Rattle.yl_lint.specs.TextReport.{moved_comment, comments_in_sections};
@@ -8,7 +8,7 @@ use std::alloc::{AllocError, Allocator};
 use yl_lexeme::PlacedComment;
 use yl_sections::{Kept, KeptComment};
 
-/// The comment of a section that begins at `line`, at its place in the text.
+/// Returns a comment of a section that begins at `line`, moved to its position in the text.
 fn moved_comment<A: Allocator>(
     line: u32,
     comment: &KeptComment<A>,
@@ -23,7 +23,8 @@ fn moved_comment<A: Allocator>(
     })
 }
 
-/// Puts the comments of a section that begins at `line` behind these.
+/// Appends the comments of a section that begins at `line`, moved to their positions in the text.
+/// The only error is out of memory.
 pub fn push_comments<'a, A: Allocator>(
     line: u32,
     from: &'a [KeptComment<A>],
@@ -37,7 +38,8 @@ pub fn push_comments<'a, A: Allocator>(
     Ok(())
 }
 
-/// The comments of these sections, of which the first begins at line 0.
+/// Returns the comments of these sections, at their positions in the text. The first section begins
+/// at line 0. The only error is out of memory.
 pub fn comments_in_sections<'a, A: Allocator + Copy>(
     alloc: A,
     kept: &[&'a Kept<A>],

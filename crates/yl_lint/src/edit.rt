@@ -5,11 +5,16 @@ ghost use Rattle.yl_lint.specs.Edit.{IsTextEdit};
 
 use yl_text::{LineStore, Patched, Row};
 
-/// An edit of the lines of a text: these rows come in place of the lines a to b, b not included, counted from 0.
+/// An edit of the lines of a text: the lines of the range `a..b`, counted from 0, are replaced by
+/// `rows`.
 pub struct TextEdit<'a, S: LineStore> {
+    /// The store of the lines.
     pub store: &'a S,
+    /// The first line that is replaced.
     pub a: usize,
+    /// The line after the last one that is replaced.
     pub b: usize,
+    /// The new lines.
     pub rows: &'a [Row<S::Alloc>],
 }
 
@@ -25,7 +30,7 @@ impl<S: LineStore> Drop for TextEdit<'_, S> {
 }
 
 impl<'a, S: LineStore> TextEdit<'a, S> {
-    /// The lines that it leaves, with nothing copied.
+    /// Returns a view of the edited lines. Copies nothing.
     pub fn edited(&self) -> Patched<'a, S>
         requires { IsTextEdit (S.rows self.now.store.now) self.now.a self.now.b self.now.rows.now }
         ensures { result ≡ splice (S.rows self.now.store.now) self.now.a self.now.b self.now.rows.now }

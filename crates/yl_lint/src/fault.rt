@@ -1,4 +1,4 @@
-//! The fault of a text.
+//! Turns the fault of a text into a problem.
 ghost use Rattle.std.specs.Prelude.{◌≡◌, ◌+◌, ◌++◌, ◌∷◌, [], codes, map, IfOk, OnOk};
 ghost use Rattle.yl_lint.specs.TextReport.{syntax_finding, place_after, finding_of_fault, fault_in_sections};
 ghost use Rattle.yl_sections.specs.Owned.{section_fault_value};
@@ -21,7 +21,8 @@ fn syntax_finding<A: Allocator + Copy>(
     Ok(Finding::new(line, column, RuleId::Syntax, message))
 }
 
-/// Where a section ends before these, which begin at `line`.
+/// Returns the position after a section: that of the first lexeme of the next section, which begins
+/// at `line`, or the end of the text if no section follows.
 fn place_after<A: Allocator>(line: u32, end: Pos, later: &[&Kept<A>]) -> Pos
     ensures { result ≡ place_after line end (map (λ k. k.now) later.now) }
 {
@@ -34,7 +35,8 @@ fn place_after<A: Allocator>(line: u32, end: Pos, later: &[&Kept<A>]) -> Pos
     }
 }
 
-/// The problem of the fault of a section of `rows` rows that begins at `line`, before these sections.
+/// Returns the finding of the fault of a section of `rows` rows that begins at `line`. `later`
+/// holds the sections after it, and `end` is the end of the text. The only error is out of memory.
 pub fn finding_of_fault<A: Allocator + Copy>(
     alloc: A,
     line: u32,
@@ -60,7 +62,8 @@ pub fn finding_of_fault<A: Allocator + Copy>(
     }
 }
 
-/// Puts the problem of the text's fault behind what was found, if it has one. The text ends at `end`.
+/// Appends the finding of the first fault of a text, if a section has one. `end` is the end of the
+/// text. The only error is out of memory.
 pub fn push_fault<A: Allocator + Copy>(
     alloc: A,
     end: Pos,

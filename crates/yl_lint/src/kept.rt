@@ -1,4 +1,4 @@
-//! What is kept of the sections of a text.
+//! Reads the rows of a text into the summaries of its sections.
 ghost use Rattle.std.specs.Prelude.{◌≡◌, ◌<◌, ◌≤◌, ◌+◌, ◌++◌, ◌-◌, ◌^◌, ◌∷◌, [], false, ℕ, List, length, map, IfOk, OnOk};
 ghost use Rattle.std.specs.Str.{chars};
 ghost use Rattle.yl_config.specs.declared.config.Config.{Config};
@@ -15,10 +15,10 @@ use yl_lexeme::Meter;
 use yl_record::{Record, Recorder};
 use yl_sections::{Kept, SectionsJudge};
 
-/// How many records wait at least before they are judged.
+/// The minimum number of records that are judged at once.
 const ROOM: usize = 64;
 
-/// The items, each lent.
+/// Returns references to the items. The only error is out of memory.
 pub fn lent<T, A: Allocator>(alloc: A, items: &[T]) -> Result<Vec<&T, A>, AllocError>
     ensures items { IfOk result (λ v. map (λ x. x.now) v.items ≡ items.now) }
     ensures len { IfOk result (λ v. length v.items ≡ length items.now) }
@@ -30,7 +30,7 @@ pub fn lent<T, A: Allocator>(alloc: A, items: &[T]) -> Result<Vec<&T, A>, AllocE
     Ok(all)
 }
 
-/// Judges these rows after the others.
+/// Judges the next rows.
 fn judge_rows<A: Allocator + Copy>(
     config: &Config,
     rows: &[Record<A>],
@@ -46,7 +46,7 @@ fn judge_rows<A: Allocator + Copy>(
     Ok(())
 }
 
-/// Judges the complete records, if enough of them wait, and lets them go.
+/// Judges the complete records and releases them, if there are at least `ROOM` of them.
 fn judge_complete<A: Allocator + Copy>(
     config: &Config,
     recorder: &mut Recorder<'_, A>,
@@ -69,7 +69,8 @@ fn judge_complete<A: Allocator + Copy>(
     Ok(())
 }
 
-/// A reader that is fed a text's rows one after another, and judges them. Of a row that is judged nothing is held but what is told of it.
+/// A reader that takes the rows of a text one after another and judges them. Of a judged row it
+/// keeps only what the summary of its section holds.
 #[derive(Drop)]
 pub struct SectionReader<'a, A: Allocator + Copy> {
     recorder: Recorder<'a, A>,
@@ -77,7 +78,7 @@ pub struct SectionReader<'a, A: Allocator + Copy> {
 }
 
 impl<'a, A: Allocator + Copy> SectionReader<'a, A> {
-    /// A reader at a text's start.
+    /// Creates a reader at the start of a text.
     pub fn start(alloc: &'a A) -> SectionReader<'a, A>
         ensures kept { (config : Config) (rows : List (List ℕ)) → KeepsLeft config result rows (map (kept_of_section config) (sections (records rows))) }
         ensures whole { result.recorder.refused ≡ false }
@@ -89,8 +90,8 @@ impl<'a, A: Allocator + Copy> SectionReader<'a, A> {
         }
     }
 
-    /// Passes the next row, given as its text without its break, and counts it in the meter. The only
-    /// error is out of memory, and then the reader is of no more use.
+    /// Reads the next row, given as its text without its line break, and counts it in the meter.
+    /// The only error is out of memory. After an error the reader must not be used.
     pub fn pass(&mut self, config: &Config, text: &str, meter: &mut Meter) -> Result<(), AllocError>
         requires fits { length (chars text.now) < 2 ^ 31 }
         requires whole { self.old.recorder.refused ≡ false }
@@ -105,7 +106,8 @@ impl<'a, A: Allocator + Copy> SectionReader<'a, A> {
         judge_complete(config, &mut self.recorder, &mut self.judge, meter)
     }
 
-    /// What is kept of the sections of all rows, where no row follows. The only error is out of memory.
+    /// Returns the summaries of the sections of all rows that were read. The only error is out of
+    /// memory.
     pub fn finish(self, config: &Config, meter: &mut Meter) -> Result<Vec<Kept<A>, A>, AllocError>
         ensures { (all : List KeptValue) → KeepsLeft config.now self.entry [] all → IfOk result (λ v. v.items ≡ all) }
     {

@@ -7,7 +7,8 @@ ghost use Rattle.yl_lint.specs.Unsilenced.{IsHeardOfText};
 use yl_report::heard_reports;
 use yl_sections::one_kept;
 
-/// Laws: a text has one report, which rests on the derivations of its documents alone. `computed` ties the one that is computed to it.
+/// Laws: a text has exactly one report, which depends only on the derivations of its documents.
+/// `computed` says that it is the report that is computed.
 pub fn one_report()
     ensures has { HasReport }
     ensures one { OneReport }
@@ -16,15 +17,17 @@ pub fn one_report()
     one_kept();
 }
 
-/// A law: whatever is kept of the sections of a text, the report is what the comments leave of the one that none silences.
+/// A law: for any summaries of the sections of a text, its report consists of the problems that the
+/// comments leave of the report that no comment silences.
 pub fn heard_of_text()
     ensures { IsHeardOfText }
 {
     heard_reports();
 }
 
-/// Laws: the indentation of sections is judged by the facts up to each place, and no measure of the whole text is needed. So what is shown up
-/// to the first section with a fault does not depend on the sections behind it.
+/// Laws: the indentation of a section depends only on the facts up to each position, and not on a
+/// measure of the whole text. So the findings up to the first section with a fault do not depend on
+/// the sections after it.
 pub fn indentation_looks_back()
     ensures sections { SectionsLookBack }
     ensures first { FirstSectionsLookBack }

@@ -1,10 +1,12 @@
 //! The report of a text.
 //!
-//! The rows of a text are recorded, its sections are judged one after another, and what is kept of them is put together with what the rules
-//! on lines find: `report_of_text`. Sections after the first with a fault are hidden.
+//! `report_of_text` records the rows of a text, judges its sections one after another, and joins
+//! the summary of each (`Kept`) with the findings of the rules on lines. A report hides the
+//! sections after the first one with a fault.
 //!
-//! A session keeps the records and what is kept of the sections. It calls the steps by themselves: each finds the problems in lines, in a
-//! section, in some of both, or of a fault. `TextEdit` is an edit of the lines, `reads_alike` says where it leaves what is found in them.
+//! A session keeps the records and the summaries of the sections. It calls the steps one by one:
+//! each finds the problems in lines, in a section, in some of both, or of a fault. `TextEdit` is an
+//! edit of the lines, and `reads_alike` says whether it leaves their findings as they are.
 #![tactic(auto)]
 
 mod assembling;

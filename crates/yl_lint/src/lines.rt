@@ -1,4 +1,4 @@
-//! What the rules on lines find in a text, and where it ends.
+//! The findings of the rules on lines in a text, and the end of the text.
 ghost use Rattle.std.specs.Prelude.{◌≡◌, ◌+◌, ◌++◌, ◌-◌, ◌<◌, ◌^◌, ◌∷◌, [], List, IfOk, OnOk, length};
 ghost use Rattle.std.specs.Str.{chars};
 ghost use Rattle.yl_config.specs.Config.{options_of};
@@ -13,16 +13,16 @@ use yl_config::Config;
 use yl_rules::{RowOptions, RunReader, character_count, push_line_problems};
 use yl_text::{Break, Finding, Lines, Pos, Row, rows_fit};
 
-/// A reader that is fed a text's lines one after another, and tells what the rules on lines find in
-/// them. Of the lines that it passed it keeps the last one.
+/// A reader that takes the lines of a text one after another and collects the findings of the rules
+/// on lines. It keeps a reference to the last line only.
 #[derive(Drop)]
 pub struct LineReader<'a, A: Allocator + Copy> {
     alloc: A,
     options: RowOptions,
     runs: RunReader<'a>,
-    /// What the rules that look at one line found.
+    /// The findings of the rules that look at one line.
     found: Vec<Finding<A>, A>,
-    /// What those found that look at the lines of a whole text.
+    /// The findings of the rules that look at the lines of a whole text.
     found_in_runs: Vec<Finding<A>, A>,
 }
 
@@ -35,7 +35,7 @@ impl<'a, A: Allocator + Copy> Model for LineReader<'a, A> {
 }
 
 impl<'a, A: Allocator + Copy> LineReader<'a, A> {
-    /// A reader at a text's start.
+    /// Creates a reader at the start of a text.
     pub fn start(alloc: A, config: &Config) -> LineReader<'a, A>
         ensures left { (rows : List RowValue) → lines_left result rows ≡ findings_in_lines (options_of config.now) rows }
         ensures count { result.runs.count ≡ 0 }
@@ -50,7 +50,8 @@ impl<'a, A: Allocator + Copy> LineReader<'a, A> {
         }
     }
 
-    /// Passes the next line. The only error is out of memory, and then the reader is of no more use.
+    /// Reads the next line. The only error is out of memory. After an error the reader must not be
+    /// used.
     #[inline(always)]
     pub fn pass(&mut self, text: &'a str, end: Break) -> Result<(), AllocError>
         requires { self.old.runs.count < 2 ^ 64 - 1 }
@@ -66,7 +67,7 @@ impl<'a, A: Allocator + Copy> LineReader<'a, A> {
         Ok(())
     }
 
-    /// The place behind the last character of the lines that were passed.
+    /// Returns the position after the last character of the lines that were read.
     pub fn end(&self) -> Pos
         requires count { self.now.runs.count < 2 ^ 32 }
         requires last { length self.now.runs.last < 2 ^ 32 }
@@ -75,7 +76,8 @@ impl<'a, A: Allocator + Copy> LineReader<'a, A> {
         self.runs.end()
     }
 
-    /// What the rules on lines found, where no line follows. The only error is out of memory.
+    /// Returns the findings of the rules on lines, if no line follows. The only error is out of
+    /// memory.
     pub fn finish(self) -> Result<Vec<Finding<A>, A>, AllocError>
         ensures { IfOk result (λ found. found.items ≡ lines_left self.entry []) }
     {
@@ -92,7 +94,7 @@ impl<'a, A: Allocator + Copy> LineReader<'a, A> {
     }
 }
 
-/// Passes the next lines. The only error is out of memory.
+/// Reads the next lines. The only error is out of memory.
 fn pass_all<'a, A: Allocator + Copy>(
     reader: &mut LineReader<'a, A>,
     rows: &'a [Row<A>],
@@ -107,7 +109,7 @@ fn pass_all<'a, A: Allocator + Copy>(
     Ok(())
 }
 
-/// What the rules on lines find in a text.
+/// Returns the findings of the rules on lines in a text. The only error is out of memory.
 pub fn find_in_lines<L: Lines>(
     alloc: L::Alloc,
     config: &Config,
@@ -132,7 +134,8 @@ pub fn find_in_lines<L: Lines>(
     reader.finish()
 }
 
-/// The text of the first line.
+/// Returns the text of the first line without its line break, or an empty string if there is no
+/// line.
 pub fn first_text<L: Lines>(lines: &L) -> &str
     ensures { result.now ≡ first_text (L.rows lines.now) }
 {
@@ -142,7 +145,7 @@ pub fn first_text<L: Lines>(lines: &L) -> &str
     lines.row(0).as_str()
 }
 
-/// The place after the last character of the last line.
+/// Returns the position after the last character of the last line.
 pub fn end_of<L: Lines>(lines: &L) -> Pos
     requires { AreLines (L.rows lines.now) }
     ensures { result ≡ end_of_lines (L.rows lines.now) }

@@ -1,4 +1,4 @@
-//! The report of a text.
+//! Computes the report of a text.
 ghost use Rattle.std.specs.Prelude.{◌≡◌, ◌<◌, ◌≤◌, ◌-◌, ◌^◌, [], List, length, IfOk};
 ghost use Rattle.std.specs.Str.{chars};
 ghost use Rattle.yl_text.specs.Lines.{lines_of};
@@ -16,7 +16,8 @@ use yl_lexeme::Meter;
 use yl_report::Problem;
 use yl_text::{Break, MAX_BYTES, cut_line};
 
-/// The report of a text whose first line is `first`, where all its lines were passed. The only error is out of memory.
+/// Returns the report of a text whose first line is `first`, after all its lines were read. The
+/// only error is out of memory.
 fn report_of_read<A: Allocator + Copy>(
     alloc: A,
     config: &Config,
@@ -37,9 +38,9 @@ fn report_of_read<A: Allocator + Copy>(
     report_of_kept(alloc, config, found, first, end, &lent(alloc, &kept)?)
 }
 
-/// The report of a text under a configuration, in order. It is read line by line, and of the lines
-/// nothing is kept but what is told of them, and the names of keys and anchors that are asked for
-/// again. The only error is out of memory.
+/// Returns the report of a text under a configuration, in order. Reads the text line by line. Keeps
+/// of each line only its findings, its part in the summary of its section, and the names of keys
+/// and anchors that are looked up again. The only error is out of memory.
 pub fn report_of_text<A: Allocator + Copy>(
     alloc: A,
     config: &Config,

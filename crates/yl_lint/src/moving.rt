@@ -1,25 +1,27 @@
-//! What is found in a section, at its place in the text.
+//! Moves the findings in a section to their positions in the text.
 ghost use Rattle.std.specs.Prelude.{◌≡◌, ◌+◌, ◌++◌, map, IfOk, OnOk};
 ghost use Rattle.yl_lint.specs.TextReport.{moved};
 
 use std::alloc::{AllocError, Allocator};
 use yl_text::Finding;
 
-/// The line `down` lines further down. No text that fits in memory has a line past 2^32, so that is answered as out of memory.
+/// Returns the line that is `down` lines below `line`. Returns `AllocError` if its number does not
+/// fit in 32 bits. No text of at most `MAX_BYTES` bytes has such a line.
 pub fn line_below(line: u32, down: u32) -> Result<u32, AllocError>
     ensures { IfOk result (λ n. n ≡ line + down) }
 {
     line.checked_add(down).ok_or(AllocError)
 }
 
-/// The line of what is found, `down` lines further down. Where there is no such line, that is answered as out of memory too.
+/// Returns the line of the finding, moved `down` lines down. Returns `AllocError` if its number
+/// does not fit in 64 bits.
 fn line_of<A: Allocator>(down: u32, found: &Finding<A>) -> Result<u64, AllocError>
     ensures { IfOk result (λ n. n ≡ down + found.now.line) }
 {
     u64::from(down).checked_add(found.line()).ok_or(AllocError)
 }
 
-/// Puts these, each `down` lines further down, behind what was found.
+/// Appends these findings, each moved `down` lines down. The only error is out of memory.
 pub fn push_moved<A: Allocator>(
     down: u32,
     from: Vec<Finding<A>, A>,
@@ -35,7 +37,7 @@ pub fn push_moved<A: Allocator>(
     Ok(())
 }
 
-/// Puts copies of these, each `down` lines further down, behind what was found.
+/// Appends copies of these findings, each moved `down` lines down. The only error is out of memory.
 pub fn push_copies<A: Allocator + Copy>(
     alloc: A,
     down: u32,

@@ -1,4 +1,4 @@
-//! Comments that say the same of all lines behind them.
+//! Comments that switch rules, and comments that silence one line.
 ghost use Rattle.std.specs.Prelude.{◌≡◌, true, map};
 ghost use Rattle.std.specs.List.{AllByRecursion, filter};
 ghost use Rattle.yl_lexeme.specs.PlacedComments.{placed_comment_value};
@@ -9,7 +9,8 @@ ghost use Rattle.yl_lint.specs.Switches as spec;
 use std::alloc::Allocator;
 use yl_lexeme::PlacedComment;
 
-/// Whether a comment may switch rules; one that begins so speaks of one line alone.
+/// Returns `true` if a comment may switch rules. A comment that starts with `# yamllint
+/// disable-line` silences one line only.
 fn may_switch(comment: &PlacedComment<'_>) -> bool
     ensures { result ≡ spec.may_switch (placed_comment_value comment.now) }
 {
@@ -19,7 +20,8 @@ fn may_switch(comment: &PlacedComment<'_>) -> bool
         .starts_with(b"# yamllint disable-line")
 }
 
-/// The line of which a comment speaks that speaks of one alone: its own behind a lexeme, else the next one.
+/// Returns the line that a `disable-line` comment silences: its own line if it stands after a
+/// lexeme, else the next line.
 fn own_line(comment: &PlacedComment<'_>) -> u64
     ensures { result ≡ directive.own_line (placed_comment_value comment.now) }
 {
@@ -37,8 +39,8 @@ fn speaks_within(comment: &PlacedComment<'_>, rows: u32) -> bool
     may_switch(comment) || own_line(comment) < u64::from(rows)
 }
 
-/// Whether it is seen that each comment that speaks of one line alone speaks of one of the first `rows` lines, counted from 0; false says
-/// nothing.
+/// Returns `true` only if each `disable-line` comment silences one of the first `rows` lines.
+/// `false` implies nothing.
 pub fn speak_within(comments: &[PlacedComment<'_>], rows: u32) -> bool
     ensures { result ≡ true → AllByRecursion (SpeaksWithin rows) (map placed_comment_value comments.now) }
 {
@@ -50,7 +52,7 @@ pub fn speak_within(comments: &[PlacedComment<'_>], rows: u32) -> bool
     true
 }
 
-/// Keeps the comments that may switch rules.
+/// Retains only the comments that may switch rules.
 pub fn retain_switches<A: Allocator>(comments: &mut Vec<PlacedComment<'_>, A>)
     ensures { map placed_comment_value comments.new.items ≡ filter spec.may_switch (map placed_comment_value comments.old.items) }
 {
@@ -63,7 +65,7 @@ fn is_same_text(one: &PlacedComment<'_>, other: &PlacedComment<'_>) -> bool
     one.text == other.text
 }
 
-/// Whether these comments have the same texts in the same order.
+/// Returns `true` only if the two lists of comments have the same texts in the same order.
 pub fn have_same_texts(one: &[PlacedComment<'_>], other: &[PlacedComment<'_>]) -> bool
     ensures { result ≡ true → map (λ c. c.text) (map placed_comment_value one.now) ≡ map (λ c. c.text) (map placed_comment_value other.now) }
 {

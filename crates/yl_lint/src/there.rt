@@ -1,4 +1,4 @@
-//! What is found in some lines of a text and in the sections that have them.
+//! The findings in some lines of a text and in the sections of these lines.
 ghost use Rattle.std.specs.Prelude.{◌≡◌, ◌++◌, map, IfOk, OnOk};
 ghost use Rattle.yl_config.specs.Config.{options_of};
 ghost use Rattle.yl_indentation.specs.Onward.{CountsEntriesOnceSeen};
@@ -16,15 +16,17 @@ use yl_indentation::{IndentationOptions, Measure};
 use yl_sections::Kept;
 use yl_text::{Finding, Lines, RuleId};
 
-/// Whether some lines of a text begin it, and whether they end it.
+/// Whether some lines of a text are at its beginning, and whether they are at its end.
 #[derive(Clone, Copy)]
 pub struct Ends {
+    /// Whether the lines begin the text.
     pub begins: bool,
+    /// Whether the lines end the text.
     pub ends: bool,
 }
 
-/// Puts what is found in a section that begins at `line` behind the rest. Its indentation is judged by the facts before it, which have the
-/// measure `before`, and its own.
+/// Appends the findings in a section that begins at `line`. Its indentation is judged by the facts
+/// before it, which have the measure `before`, and by its own facts.
 fn push_onward<A: Allocator + Copy>(
     alloc: A,
     options: &IndentationOptions,
@@ -40,8 +42,8 @@ fn push_onward<A: Allocator + Copy>(
     push_section(alloc, options, upto, line, before, one, found)
 }
 
-/// Puts what is found in these sections, whatever their faults hide, behind the rest; the first begins `down` lines below the first of the
-/// text, behind facts of the measure `before`.
+/// Appends the findings in these sections, also after a fault. The first section begins at line
+/// `down` of the text, and the facts before it have the measure `before`.
 fn push_sections<A: Allocator + Copy>(
     alloc: A,
     options: &IndentationOptions,
@@ -63,7 +65,8 @@ fn push_sections<A: Allocator + Copy>(
     Ok(())
 }
 
-/// Whether a rule judges lines that begin a text or not, and end it or not.
+/// Returns `true` if a rule judges lines with these ends. `new-lines` judges only lines that begin
+/// a text, and `new-line-at-end-of-file` only lines that end one.
 fn judges(ends: Ends, rule: RuleId) -> bool
     ensures { result ≡ spec.judges ends rule }
 {
@@ -74,7 +77,7 @@ fn judges(ends: Ends, rule: RuleId) -> bool
     }
 }
 
-/// What the rules on lines find in these lines of a text.
+/// Returns the findings of the rules on lines in these lines of a text.
 fn find_in_some_lines<L: Lines>(
     alloc: L::Alloc,
     config: &Config,
@@ -88,7 +91,8 @@ fn find_in_some_lines<L: Lines>(
     Ok(found)
 }
 
-/// The same, where the first of them stands `down` lines below the first of the text.
+/// Returns the findings of the rules on lines in these lines of a text, each moved `down` lines
+/// down.
 fn find_in_lines_there<L: Lines>(
     alloc: L::Alloc,
     config: &Config,
@@ -104,8 +108,9 @@ fn find_in_lines_there<L: Lines>(
     Ok(found)
 }
 
-/// What is found in these lines, of which the first stands `down` lines below the first of the text, and in the sections that have them,
-/// whatever their faults hide. The facts above have the measure `before`.
+/// Returns the findings in these lines and in their sections, also after a fault. The first of the
+/// lines is line `down` of the text, counted from 0, and the facts before it have the measure
+/// `before`. The only error is out of memory.
 pub fn find_there<L: Lines>(
     alloc: L::Alloc,
     config: &Config,

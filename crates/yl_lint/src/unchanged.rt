@@ -1,4 +1,4 @@
-//! Whether the rules on lines find the same in a text once some lines of it are others.
+//! Decides whether the findings of the rules on lines stay the same after an edit.
 ghost use Rattle.std.specs.Prelude.{◌≡◌, ◌==◌, ◌+◌, ◌≤◌, ◌<◌, ◌^◌, length, drop, true, IfOk};
 ghost use Rattle.std.specs.List.{splice};
 ghost use Rattle.yl_text.specs.Store.{IsRange};
@@ -13,7 +13,7 @@ use yl_rules::row_problems;
 use yl_sections::are_same_findings;
 use yl_text::{LineStore, Lines, Row};
 
-/// Whether both rows end alike, and both are empty or neither is.
+/// Returns `true` only if both rows have the same line break, and both are empty or neither is.
 fn is_same_kind<A: Allocator>(old: &Row<A>, new: &Row<A>) -> bool
     ensures end { result ≡ true → old.now.end ≡ new.now.end }
     ensures empty { result ≡ true → (length old.now.text == 0) ≡ (length new.now.text == 0) }
@@ -21,7 +21,9 @@ fn is_same_kind<A: Allocator>(old: &Row<A>, new: &Row<A>) -> bool
     old.end() == new.end() && old.as_str().is_empty() == new.as_str().is_empty()
 }
 
-/// Whether the rules on lines find the same in an old row and in the new one in its place, the line of this number, from 1.
+/// Returns `true` only if the rules on lines cannot tell the old row from the new one: both have
+/// the same findings and the same line break, and both are empty or neither is. `line` is the
+/// number of the line, counted from 1. The only error is out of memory.
 fn is_alike<A: Allocator + Copy>(
     alloc: A,
     config: &Config,
@@ -39,7 +41,8 @@ fn is_alike<A: Allocator + Copy>(
     Ok(are_same_findings(&before, &after))
 }
 
-/// The same for the rows from `a` on, and these in their places.
+/// Returns `true` only if the rules on lines cannot tell `rows` from the rows of the text from `a`
+/// on. The only error is out of memory.
 fn are_alike<L: Lines>(
     alloc: L::Alloc,
     config: &Config,
@@ -60,7 +63,8 @@ fn are_alike<L: Lines>(
     Ok(true)
 }
 
-/// Whether the edit puts as many lines in place of others, of which none is the first or the last of the text.
+/// Returns `true` only if the edit replaces `b - a` lines by as many, none of which is the first or
+/// the last line of the text.
 fn is_inner(a: usize, b: usize, count: usize, lines: usize) -> bool
     requires { IsRange a b lines }
     ensures place { result ≡ true → (0 < a) × (b < lines) }
@@ -69,8 +73,9 @@ fn is_inner(a: usize, b: usize, count: usize, lines: usize) -> bool
     b - a == count && 0 < a && b < lines
 }
 
-/// Whether it is seen that the rules on lines find the same in the text once it is edited: as many lines come as go, each with the same
-/// problems as the one in whose place it stands. The only error is out of memory.
+/// Returns `true` only if the edit leaves the findings of the rules on lines as they are: it
+/// replaces lines by as many lines, each with the same findings as the line it replaces. `false`
+/// implies nothing. The only error is out of memory.
 pub fn reads_alike<S: LineStore>(
     alloc: S::Alloc,
     config: &Config,

@@ -1,11 +1,11 @@
-//! Some of the lines of an edited text, with nothing copied.
+//! A range of the lines of an edited text. Copies nothing.
 ghost use Rattle.std.specs.Prelude.{◌≡◌, ◌-◌, length, take, drop};
 ghost use Rattle.yl_text.specs.Store.{IsRange};
 
 use std::marker::Model;
 use yl_text::{Lines, Patched, Row};
 
-/// The lines of an edited text from one on, before another, counted from 0.
+/// The lines `from..end` of an edited text, counted from 0.
 pub struct Window<'a, S: Lines> {
     lines: Patched<'a, S>,
     from: usize,
@@ -35,7 +35,7 @@ impl<S: Lines> Drop for Window<'_, S> {
 }
 
 impl<'a, S: Lines> Window<'a, S> {
-    /// The lines from one on, before another. It takes no memory.
+    /// Creates a view of the lines `from..end`. Does not allocate.
     pub fn new(lines: Patched<'a, S>, from: usize, end: usize) -> Window<'a, S>
         requires { IsRange from end (length lines) }
         ensures { result ≡ take (end - from) (drop from lines.entry) }

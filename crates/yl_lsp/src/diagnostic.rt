@@ -1,4 +1,4 @@
-//! Diagnostics as they are written.
+//! Diagnostics, and their JSON texts.
 ghost use Rattle.std.specs.Prelude.{◌≡◌, codes, OnOk, OnErr};
 ghost use Rattle.yl_lsp.specs.Diagnostics.{severity_digit};
 ghost use Rattle.yl_lsp.specs.Texts.{head_text, tail_text, diagnostic_text, separator, next_text};
@@ -10,16 +10,19 @@ use yl_devices::WriteFault;
 use yl_frames::{Pieces, put_parts, put_text};
 use yl_text::RuleId;
 
-/// How grave a diagnostic is (LSP's `DiagnosticSeverity`).
+/// The severity of a diagnostic (LSP's `DiagnosticSeverity`).
 #[derive(Clone, Copy, Debug, PartialEq, Eq)]
 pub enum Severity {
+    /// An error.
     Error,
+    /// A warning.
     Warning,
+    /// Information.
     Information,
 }
 
 impl Severity {
-    /// LSP's number.
+    /// Returns the number that LSP gives to the severity, as a digit.
     fn digit(self) -> &'static [u8]
         ensures { result.now ≡ severity_digit self }
     {
@@ -31,16 +34,16 @@ impl Severity {
     }
 }
 
-/// What a diagnostic is of.
+/// The code of a diagnostic.
 #[derive(Clone, Copy)]
 pub enum Code {
-    /// A rule.
+    /// The name of a rule.
     Rule(RuleId),
-    /// A rule, with where it is described.
+    /// The name of a rule, with a link to its description.
     Linked(RuleId),
-    /// A text that is not followed.
+    /// The code `lost`, of a text that is not followed.
     Lost,
-    /// Problems that are not shown.
+    /// The code `more`, of problems that are not shown.
     More,
 }
 
@@ -53,7 +56,7 @@ pub(crate) struct Diagnostic<'a> {
     pub(crate) message: &'a str,
 }
 
-/// Puts what stands before a diagnostic's message.
+/// Puts the part of a diagnostic before its message.
 fn put_head<P: Pieces>(to: &mut P, code: Code) -> Result<(), WriteFault>
     requires { P.can_put to.old }
     ensures ok { OnOk result (P.puts to.old (head_text code) to.new) }
@@ -78,7 +81,7 @@ fn put_head<P: Pieces>(to: &mut P, code: Code) -> Result<(), WriteFault>
     }
 }
 
-/// Puts what stands after a diagnostic's message.
+/// Puts the part of a diagnostic after its message.
 pub(crate) fn put_tail<P: Pieces>(
     to: &mut P,
     range: Range,
@@ -121,14 +124,14 @@ fn put_diagnostic<P: Pieces>(to: &mut P, diagnostic: &Diagnostic<'_>) -> Result<
     put_tail(to, diagnostic.range, diagnostic.severity)
 }
 
-/// What stands before a diagnostic of a list.
+/// Returns the separator before a diagnostic in a list. It is empty if `is_first` is set.
 pub(crate) fn separator(is_first: bool) -> &'static [u8]
     ensures { result.now ≡ separator is_first }
 {
     if is_first { b"" } else { b"," }
 }
 
-/// Puts a diagnostic of a list.
+/// Puts a diagnostic of a list, after its separator.
 pub(crate) fn put_next<P: Pieces>(
     to: &mut P,
     is_first: bool,

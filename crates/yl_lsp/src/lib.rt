@@ -1,4 +1,4 @@
-//! The shapes of LSP's messages: what an editor asks for, and what it is told.
+//! Reads the parameters of an editor's messages, and writes the messages of LSP that it is sent.
 #![tactic(auto)]
 
 mod diagnostic;

@@ -1,4 +1,4 @@
-//! What a server says of itself.
+//! The messages of a server that are not about a document.
 ghost use Rattle.std.specs.Prelude.{◌≡◌};
 ghost use Rattle.json.specs.Print.{escape};
 ghost use Rattle.yl_lsp.specs.Messages.{encoding_name};
@@ -11,13 +11,14 @@ use yl_units::Encoding;
 /// LSP's `window/showMessage` of type `Error`.
 #[derive(Clone, Copy)]
 pub struct ErrorMessage<'a> {
+    /// The text of the message.
     pub text: &'a str,
 }
 
-/// LSP's `window/showMessage` of type `Error` about a place: ` at LINE:COLUMN` follows its text.
+/// LSP's `window/showMessage` of type `Error` about a position. ` at LINE:COLUMN` follows its text.
 #[derive(Clone, Copy)]
 pub struct PlacedError<'a> {
-    /// What is said of the place. JSON writes it as it is.
+    /// The text of the message before the position. JSON writes it without escapes.
     pub text: &'a str,
     /// The line, counted from 1.
     pub line: u64,
@@ -26,25 +27,28 @@ pub struct PlacedError<'a> {
     pub ghost plain: { escape text.now ≡ text.now },
 }
 
-/// LSP's `InitializeResult`: what the server can do, and its version.
+/// LSP's `InitializeResult`: the capabilities of the server, and its version.
 #[derive(Clone, Copy)]
 pub struct InitializeResult<'a> {
+    /// The encoding of columns.
     pub encoding: Encoding,
+    /// The version of the server.
     pub version: &'a str,
 }
 
-/// LSP's `client/registerCapability`: the editor is to tell of changes of files that say a configuration, by their names.
+/// LSP's `client/registerCapability`: the editor is asked to notify of changes of files that have
+/// the name of a configuration.
 #[derive(Clone, Copy)]
 pub struct WatchRequest;
 
-/// A message of type `Error` up to its text.
+/// The start of a message of type `Error`, before its text.
 const ERROR_START: &[u8] =
     b"{\"jsonrpc\":\"2.0\",\"method\":\"window/showMessage\",\"params\":{\"message\":";
 
-/// And after it.
+/// The end of a message of type `Error`, after its text.
 const ERROR_END: &[u8] = b",\"type\":1}}";
 
-/// LSP's `PositionEncodingKind`.
+/// Returns the name of an encoding (LSP's `PositionEncodingKind`).
 fn encoding_name(encoding: Encoding) -> &'static str
     ensures { result.now ≡ encoding_name encoding }
 {

@@ -1,4 +1,4 @@
-//! What the params of messages say.
+//! Reads the parameters of messages.
 ghost use Rattle.std.specs.Prelude.{◌≡◌, [], ◌∷◌, map, option_and_then, true};
 ghost use Rattle.std.specs.Char.{is_ascii_digit};
 ghost use Rattle.std.specs.List.{list_all};
@@ -17,44 +17,48 @@ use yl_units::EditorPlace;
 /// A change of a text.
 #[derive(Clone, Copy)]
 pub enum Change<'a> {
-    /// To this whole text.
+    /// This text replaces the whole text.
     Whole(&'a str),
-    /// To this text in place of what stands in a range.
+    /// This text replaces the text in a range.
     Within(Range, &'a str),
-    /// Of another shape.
+    /// The change has another shape.
     Unread,
 }
 
-/// A document that was opened: its URI, its version as it came, and its text.
+/// A document that was opened.
 #[derive(Clone, Copy)]
 pub struct Opened<'a> {
+    /// Its URI.
     pub uri: &'a str,
+    /// Its version, as it was written.
     pub version: &'a str,
+    /// Its text.
     pub text: &'a str,
 }
 
-/// The text of a member of an object.
+/// Returns the text of a string that is a member of an object, if there is one.
 fn text_at<'a, A: Allocator>(value: &Value<'a, A>, name: &str) -> Option<&'a str>
     ensures { option_map (λ t. t.now) result ≡ spec.text_at name.now (value_view value.now) }
 {
     value.get(name)?.as_str()
 }
 
-/// The digits of a number that is a member of an object.
+/// Returns a number that is a member of an object, as it was written, if there is one.
 fn digits_at<'a, A: Allocator>(value: &Value<'a, A>, name: &str) -> Option<&'a str>
     ensures { option_map (λ t. t.now) result ≡ spec.digits_at name.now (value_view value.now) }
 {
     value.get(name)?.as_number()
 }
 
-/// Whether all bytes are digits.
+/// Returns `true` if all bytes are decimal digits.
 fn are_digits(bytes: &[u8]) -> bool
     ensures { result ≡ list_all is_ascii_digit bytes.now }
 {
     bytes.iter().all(|byte| byte.is_ascii_digit())
 }
 
-/// The number that digits write, if there are any and it fits.
+/// Returns the value of decimal digits, or `None` if there are none or the value does not fit in a
+/// `u64`.
 fn number_of(digits: &str) -> Option<u64>
     requires { list_all is_ascii_digit digits.now ≡ true }
     ensures { result ≡ spec.whole_number digits.now }
@@ -65,7 +69,8 @@ fn number_of(digits: &str) -> Option<u64>
     }
 }
 
-/// The whole number from 0 on that a number is, if it fits.
+/// Returns the value of a number that is written in decimal digits only, or `None` if it is not or
+/// the value does not fit in a `u64`.
 pub(crate) fn whole_number(digits: &str) -> Option<u64>
     ensures { result ≡ spec.whole_number digits.now }
 {
@@ -76,14 +81,14 @@ pub(crate) fn whole_number(digits: &str) -> Option<u64>
     }
 }
 
-/// The whole number that is a member of an object.
+/// Returns a whole number that is a member of an object, if there is one and it fits in a `u64`.
 fn number_at<A: Allocator>(value: &Value<'_, A>, name: &str) -> Option<u64>
     ensures { result ≡ spec.number_at name.now (value_view value.now) }
 {
     whole_number(digits_at(value, name)?)
 }
 
-/// The place that a `Position` names.
+/// Returns the position that a `Position` names, or `None` if it has another shape.
 fn place_in<A: Allocator>(value: &Value<'_, A>) -> Option<EditorPlace>
     ensures { result ≡ spec.place_in (value_view value.now) }
 {
@@ -93,14 +98,14 @@ fn place_in<A: Allocator>(value: &Value<'_, A>) -> Option<EditorPlace>
     })
 }
 
-/// The place that is a member of an object.
+/// Returns the position that is a member of an object, if there is one.
 fn place_at<A: Allocator>(value: &Value<'_, A>, name: &str) -> Option<EditorPlace>
     ensures { result ≡ option_and_then spec.place_in (get name.now (value_view value.now)) }
 {
     place_in(value.get(name)?)
 }
 
-/// The range that a `Range` names.
+/// Returns the range that a `Range` names, or `None` if it has another shape.
 fn range_in<A: Allocator>(value: &Value<'_, A>) -> Option<Range>
     ensures { result ≡ spec.range_in (value_view value.now) }
 {
@@ -110,7 +115,7 @@ fn range_in<A: Allocator>(value: &Value<'_, A>) -> Option<Range>
     })
 }
 
-/// The change that a `TextDocumentContentChangeEvent` is.
+/// Returns the change of a `TextDocumentContentChangeEvent`.
 pub fn change_of<'a, A: Allocator>(value: &Value<'a, A>) -> Change<'a>
     ensures { change_value result ≡ spec.change_in (value_view value.now) }
 {
@@ -126,14 +131,15 @@ pub fn change_of<'a, A: Allocator>(value: &Value<'a, A>) -> Change<'a>
     }
 }
 
-/// The document that the params of `textDocument/didOpen` open.
+/// Returns the document that the parameters of `textDocument/didOpen` open, or `None` if they have
+/// another shape.
 pub fn opened_in<'a, A: Allocator>(params: &Value<'a, A>) -> Option<Opened<'a>>
     ensures { option_map opened_value result ≡ spec.opened_in (value_view params.now) }
 {
     opened_document(params.get("textDocument")?)
 }
 
-/// The document that a `TextDocumentItem` is.
+/// Returns the document of a `TextDocumentItem`, or `None` if it has another shape.
 fn opened_document<'a, A: Allocator>(document: &Value<'a, A>) -> Option<Opened<'a>>
     ensures { option_map opened_value result ≡ spec.opened_document (value_view document.now) }
 {
@@ -144,21 +150,21 @@ fn opened_document<'a, A: Allocator>(document: &Value<'a, A>) -> Option<Opened<'
     })
 }
 
-/// The URI of the document that a message is about.
+/// Returns the URI of the document that a message is about, if it has one.
 pub fn document_in<'a, A: Allocator>(params: &Value<'a, A>) -> Option<&'a str>
     ensures { option_map (λ t. t.now) result ≡ spec.document_in (value_view params.now) }
 {
     text_at(params.get("textDocument")?, "uri")
 }
 
-/// The version of the document that a message is about, as it came.
+/// Returns the version of the document that a message is about, as it was written, if it has one.
 pub fn version_in<'a, A: Allocator>(params: &Value<'a, A>) -> Option<&'a str>
     ensures { option_map (λ t. t.now) result ≡ spec.version_in (value_view params.now) }
 {
     digits_at(params.get("textDocument")?, "version")
 }
 
-/// The list that a value is.
+/// Returns the elements of a list, or `None` if the value is not a list.
 pub(crate) fn list_of<'v, 'a, A: Allocator>(value: &'v Value<'a, A>) -> Option<&'v [Value<'a, A>]>
     ensures { option_map (λ vs. items_view vs.now) result ≡ as_array (value_view value.now) }
 {
@@ -168,8 +174,8 @@ pub(crate) fn list_of<'v, 'a, A: Allocator>(value: &'v Value<'a, A>) -> Option<&
     }
 }
 
-/// The changes that the params of `textDocument/didChange` have, in their order. Where they are no list, that is one change of another
-/// shape.
+/// Returns the changes in the parameters of `textDocument/didChange`, in order. `None` means that
+/// they are not a list, and counts as one change of another shape.
 pub fn changes_in<'v, 'a, A: Allocator>(params: &'v Value<'a, A>) -> Option<&'v [Value<'a, A>]>
     ensures { spec.changes_in (value_view params.now)
         ≡ option_map_or (λ vs. map (λ v. spec.change_in (value_view v)) vs.now) result (Unread ∷ []) }

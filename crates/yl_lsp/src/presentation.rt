@@ -1,16 +1,16 @@
-//! How problems are shown.
+//! The presentation of problems.
 use yl_units::Encoding;
 
-/// How many problems of a text are shown at the most, where nothing else is set.
+/// The default maximum number of problems that are shown for a text.
 pub const MOST_PROBLEMS: u64 = 1_000;
 
 /// How problems are shown to an editor.
 #[derive(Clone, Copy)]
 pub struct Presentation {
-    /// In what columns are counted.
+    /// The units in which columns are counted.
     pub encoding: Encoding,
-    /// Whether a rule comes with a link to where it is described.
+    /// Whether a rule has a link to its description.
     pub links: bool,
-    /// How many problems of a text are shown at the most.
+    /// The maximum number of problems that are shown for a text.
     pub most: u64,
 }

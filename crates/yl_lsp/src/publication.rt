@@ -10,11 +10,11 @@ use yl_devices::WriteFault;
 use yl_frames::{Body, Pieces, put_parts, put_text};
 use yl_text::Lines;
 
-/// What a publication shows of a document.
+/// The content of a publication.
 pub enum Content<'a, S: Lines> {
-    /// The report of its text.
+    /// The report of the document's text.
     Problems(Report<'a, S>),
-    /// That its text is not followed, and why.
+    /// The text is not followed, for this reason.
     Lost(&'a str),
     /// No problems.
     Nothing,
@@ -30,10 +30,13 @@ impl<S: Lines> Drop for Content<'_, S> {
     }
 }
 
-/// LSP's `textDocument/publishDiagnostics`: what is shown of a document, by its URI, with the version that it is of, as it came.
+/// LSP's `textDocument/publishDiagnostics`: the diagnostics of a document.
 pub struct Publication<'a, S: Lines> {
+    /// The URI of the document.
     pub uri: &'a str,
+    /// The version of the document, as it was written, if it has one.
     pub version: Option<&'a str>,
+    /// The content that is shown.
     pub content: Content<'a, S>,
 }
 
@@ -48,7 +51,7 @@ impl<S: Lines> Drop for Publication<'_, S> {
     }
 }
 
-/// Puts the diagnostics of a list.
+/// Puts the diagnostics of a publication, without the brackets of their list.
 fn put_content<P: Pieces, S: Lines>(to: &mut P, content: &Content<'_, S>) -> Result<(), WriteFault>
     requires { P.can_put to.old }
     ensures ok { OnOk result (P.puts to.old (diagnostics_text true (content_diagnostics content.now)) to.new) }
@@ -70,7 +73,7 @@ fn put_content<P: Pieces, S: Lines>(to: &mut P, content: &Content<'_, S>) -> Res
     }
 }
 
-/// Puts what stands after the URI of a document.
+/// Puts the part of a publication after the URI.
 fn put_version<P: Pieces>(to: &mut P, version: Option<&str>) -> Result<(), WriteFault>
     requires { P.can_put to.old }
     ensures ok { OnOk result (P.puts to.old (version_text (option_map (λ t. t.now) version.entry)) to.new) }
@@ -82,7 +85,7 @@ fn put_version<P: Pieces>(to: &mut P, version: Option<&str>) -> Result<(), Write
     }
 }
 
-/// Puts what stands after the diagnostics of a document.
+/// Puts the part of a publication after the diagnostics.
 fn put_address<P: Pieces>(to: &mut P, uri: &str, version: Option<&str>) -> Result<(), WriteFault>
     requires { P.can_put to.old }
     ensures ok { OnOk result (P.puts to.old (address_text uri.now (option_map (λ t. t.now) version.entry)) to.new) }

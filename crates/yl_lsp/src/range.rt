@@ -9,21 +9,24 @@ ghost use Rattle.yl_lsp.specs.Words as spec;
 use yl_text::{Lines, RuleId};
 use yl_units::{EditorPlace, Encoding, Reached, text_from};
 
-/// A range of a text, as an editor names its places.
+/// A range of a text between two positions of an editor.
 #[derive(Clone, Copy, Debug, PartialEq, Eq)]
 pub struct Range {
+    /// The start of the range.
     pub start: EditorPlace,
+    /// The end of the range.
     pub end: EditorPlace,
 }
 
-/// Whether a word ends before the character.
+/// Returns `true` if a word ends before the character.
 fn ends_word(c: char) -> bool
     ensures { result ≡ ends_word c }
 {
     matches!(c, ' ' | '\t' | ',' | '[' | ']' | '{' | '}')
 }
 
-/// How many characters the word has that a text begins with. It is looked for in the first 256 characters.
+/// Returns the number of characters in the word at the start of a text. Its end is looked for in
+/// the first 256 characters, and one colon at its end does not count.
 fn word_len(text: &str) -> u64
     ensures { result ≡ spec.word_len (chars text.now) }
 {
@@ -40,14 +43,15 @@ fn word_len(text: &str) -> u64
     kept
 }
 
-/// Whether the problems of the rule last to the line's end.
+/// Returns `true` if the problems of the rule extend to the end of the line.
 fn is_to_line_end(rule: RuleId) -> bool
     ensures { result ≡ is_to_line_end rule }
 {
     matches!(rule, RuleId::LineLength | RuleId::TrailingSpaces)
 }
 
-/// The column after the range of a rule's problem that begins at a place. It may stand past the line's end.
+/// Returns the column after the range of a rule's problem that starts at a position. It may be
+/// after the end of the line.
 fn end_column<S: Lines>(lines: &S, rule: RuleId, start: Reached) -> u64
     requires lines { AreLines (S.rows lines.now) }
     requires col { start.col ≤ length (row_chars (S.rows lines.now) start.line) }
@@ -64,8 +68,9 @@ fn end_column<S: Lines>(lines: &S, rule: RuleId, start: Reached) -> u64
     start.col + word_len(text_from(lines, start)).max(1)
 }
 
-/// Returns the range of a rule's problem at a place of a text, both numbers counted from 0, and takes the walk to the place. Ranges of a
-/// line in their order take one walk over it. It takes no memory.
+/// Returns the range of a rule's problem at a position of a text. `line` and `col` count from 0,
+/// and `col` counts characters. Moves the walk to the position, so that the ranges of a line, in
+/// order, take one walk over it. Does not allocate.
 pub fn next_range<S: Lines>(
     encoding: Encoding,
     lines: &S,

@@ -17,7 +17,7 @@ use yl_report::Problem;
 use yl_text::{Lines, RuleId};
 use yl_units::{EditorPlace, Reached};
 
-/// The lines of a text with the problems of its report, and how they are shown.
+/// A report for an editor: the lines of a text, its problems, and how these are shown.
 pub struct Report<'a, S: Lines> {
     how: Presentation,
     lines: &'a S,
@@ -46,7 +46,7 @@ impl<S: Lines> Drop for Report<'_, S> {
 }
 
 impl<'a, S: Lines> Report<'a, S> {
-    /// The problems of these lines, in their order, to be shown so.
+    /// Creates a report with the problems of these lines, in order.
     pub fn new(how: Presentation, lines: &'a S, problems: &'a [Problem<S::Alloc>]) -> Report<'a, S>
         requires { AreLines (S.rows lines.now) }
         ensures { result ≡ record { how = how; rows = S.rows lines.now; problems = problems.now } }
@@ -59,13 +59,13 @@ impl<'a, S: Lines> Report<'a, S> {
     }
 }
 
-/// The start of a text.
+/// The empty range at the start of a text.
 pub(crate) const TEXT_START: Range = Range {
     start: EditorPlace { line: 0, units: 0 },
     end: EditorPlace { line: 0, units: 0 },
 };
 
-/// What a diagnostic of a rule's problem is of.
+/// Returns the code of a diagnostic for a problem of this rule.
 fn code_of(how: Presentation, rule: RuleId) -> Code
     ensures { result ≡ code_of how rule }
 {
@@ -76,7 +76,7 @@ fn code_of(how: Presentation, rule: RuleId) -> Code
     }
 }
 
-/// The diagnostic of a problem. The walk is taken to its place.
+/// Returns the diagnostic of a problem. Moves the walk to its position.
 fn diagnostic_of<'p, S: Lines, A: Allocator>(
     how: Presentation,
     lines: &S,
@@ -104,7 +104,7 @@ fn diagnostic_of<'p, S: Lines, A: Allocator>(
     }
 }
 
-/// Puts problems as the diagnostics with which a list begins.
+/// Puts the diagnostics of the problems, the first of which starts a list.
 fn put_problems<P: Pieces, S: Lines, A: Allocator>(
     to: &mut P,
     how: Presentation,
@@ -124,7 +124,7 @@ fn put_problems<P: Pieces, S: Lines, A: Allocator>(
     Ok(())
 }
 
-/// Puts how many problems are not shown, if any, as the last diagnostic of a list.
+/// Puts the number of problems that are not shown as the last diagnostic of a list, unless it is 0.
 fn put_more<P: Pieces>(to: &mut P, is_first: bool, hidden: u64) -> Result<(), WriteFault>
     requires { P.can_put to.old }
     ensures ok { OnOk result (P.puts to.old (diagnostics_text is_first (more_diagnostics hidden)) to.new) }
@@ -146,7 +146,8 @@ fn put_more<P: Pieces>(to: &mut P, is_first: bool, hidden: u64) -> Result<(), Wr
     put_tail(to, TEXT_START, Severity::Information)
 }
 
-/// Puts the diagnostics of a report.
+/// Puts the diagnostics of a report: those of at most `how.most` problems, and the number of the
+/// other problems if there are some.
 pub(crate) fn put_report<P: Pieces, S: Lines>(
     to: &mut P,
     report: &Report<'_, S>,

@@ -1,4 +1,4 @@
-//! What an editor can do, and what its user sets.
+//! Reads the capabilities of an editor, and the settings of its user.
 ghost use Rattle.std.specs.Prelude.{◌≡◌, codes, option_and_then, ◌∷◌, []};
 ghost use Rattle.std.specs.Option.{option_map};
 ghost use Rattle.json.specs.Find.{as_array, as_bool, as_str, as_number};
@@ -11,16 +11,18 @@ use json::Value;
 use std::alloc::Allocator;
 use yl_units::Encoding;
 
-/// The settings of this program, each where it is said: a configuration's text, a configuration's path, and how many problems of a text
-/// are shown at the most.
+/// The settings of this program, each if it is set.
 #[derive(Clone, Copy)]
 pub struct Settings<'a> {
+    /// The text of a configuration.
     pub config: Option<&'a str>,
+    /// The path of the file of a configuration.
     pub config_file: Option<&'a str>,
+    /// The maximum number of problems that are shown for a text.
     pub most: Option<u64>,
 }
 
-/// The encoding that a value names.
+/// Returns the encoding that a value names, if it is a known one.
 fn encoding_of<A: Allocator>(value: &Value<'_, A>) -> Option<Encoding>
     ensures { result ≡ option_and_then spec.encoding_named (as_str (value_view value.now)) }
 {
@@ -32,7 +34,7 @@ fn encoding_of<A: Allocator>(value: &Value<'_, A>) -> Option<Encoding>
     }
 }
 
-/// The first encoding of a list that is known, else UTF-16.
+/// Returns the first known encoding in a list, or UTF-16 if there is none.
 fn first_encoding<A: Allocator>(list: &[Value<'_, A>]) -> Encoding
     ensures { result ≡ spec.first_encoding (items_view list.now) }
 {
@@ -44,7 +46,7 @@ fn first_encoding<A: Allocator>(list: &[Value<'_, A>]) -> Encoding
     Encoding::Utf16
 }
 
-/// The encodings that an editor takes.
+/// Returns the encodings that an editor supports, if it lists them.
 fn encodings_in<'v, 'a, A: Allocator>(params: &'v Value<'a, A>) -> Option<&'v [Value<'a, A>]>
     ensures { option_map (λ vs. items_view vs.now) result
         ≡ option_and_then as_array (spec.path (codes "capabilities" ∷ codes "general" ∷ codes "positionEncodings" ∷ []) (value_view params.now)) }
@@ -57,8 +59,8 @@ fn encodings_in<'v, 'a, A: Allocator>(params: &'v Value<'a, A>) -> Option<&'v [V
     )
 }
 
-/// The encoding of columns by the params of `initialize`: the first that is known of those that the editor takes, and UTF-16 where it
-/// names none.
+/// Returns the encoding of columns according to the parameters of `initialize`: the first known one
+/// of those that the editor supports, or UTF-16 if there is none.
 pub fn encoding_in<A: Allocator>(params: &Value<'_, A>) -> Encoding
     ensures { result ≡ spec.encoding_in (value_view params.now) }
 {
@@ -68,7 +70,8 @@ pub fn encoding_in<A: Allocator>(params: &Value<'_, A>) -> Encoding
     }
 }
 
-/// What the params of `initialize` say of links.
+/// Returns the capability `publishDiagnostics.codeDescriptionSupport` in the parameters of
+/// `initialize`, if it is a boolean.
 fn links_in<A: Allocator>(params: &Value<'_, A>) -> Option<bool>
     ensures { result ≡ option_and_then as_bool (spec.path (codes "capabilities" ∷ codes "textDocument" ∷ codes "publishDiagnostics"
         ∷ codes "codeDescriptionSupport" ∷ []) (value_view params.now)) }
@@ -81,14 +84,16 @@ fn links_in<A: Allocator>(params: &Value<'_, A>) -> Option<bool>
         .as_bool()
 }
 
-/// Whether the editor takes a link for the code of a diagnostic, by the params of `initialize`.
+/// Returns `true` if the editor supports links for the codes of diagnostics, according to the
+/// parameters of `initialize`.
 pub fn takes_links<A: Allocator>(params: &Value<'_, A>) -> bool
     ensures { result ≡ spec.takes_links (value_view params.now) }
 {
     links_in(params).unwrap_or(false)
 }
 
-/// What the params of `initialize` say of files that are watched.
+/// Returns the capability `didChangeWatchedFiles.dynamicRegistration` in the parameters of
+/// `initialize`, if it is a boolean.
 fn watchers_in<A: Allocator>(params: &Value<'_, A>) -> Option<bool>
     ensures { result ≡ option_and_then as_bool (spec.path (codes "capabilities" ∷ codes "workspace" ∷ codes "didChangeWatchedFiles"
         ∷ codes "dynamicRegistration" ∷ []) (value_view params.now)) }
@@ -101,14 +106,16 @@ fn watchers_in<A: Allocator>(params: &Value<'_, A>) -> Option<bool>
         .as_bool()
 }
 
-/// Whether the editor takes the names of files to tell of when they change, by the params of `initialize`.
+/// Returns `true` if the editor supports the registration of files to watch, according to the
+/// parameters of `initialize`.
 pub fn takes_watchers<A: Allocator>(params: &Value<'_, A>) -> bool
     ensures { result ≡ spec.takes_watchers (value_view params.now) }
 {
     watchers_in(params).unwrap_or(false)
 }
 
-/// A setting that is a text. An inner `None` is one that is not there, an outer one a value of another type.
+/// Returns a setting that is a string. The inner `None` is a setting that is absent, and the outer
+/// `None` is a value of another type.
 fn text_setting<'a, A: Allocator>(value: Option<&Value<'a, A>>) -> Option<Option<&'a str>>
     ensures { option_map (λ o. option_map (λ t. t.now) o) result ≡ spec.setting as_str (option_map (λ v. value_view v.now) value.entry) }
 {
@@ -118,7 +125,8 @@ fn text_setting<'a, A: Allocator>(value: Option<&Value<'a, A>>) -> Option<Option
     }
 }
 
-/// The same of one that is a whole number.
+/// Returns a setting that is a whole number. The inner `None` is a setting that is absent, and the
+/// outer `None` is a value that is not a whole number or does not fit in a `u64`.
 fn number_setting<A: Allocator>(value: Option<&Value<'_, A>>) -> Option<Option<u64>>
     ensures { result ≡ spec.setting (λ n. option_and_then spec.whole_number (as_number n)) (option_map (λ v. value_view v.now) value.entry) }
 {
@@ -128,7 +136,8 @@ fn number_setting<A: Allocator>(value: Option<&Value<'_, A>>) -> Option<Option<u
     }
 }
 
-/// The settings that an object has, or `None` where it is no object or one of them is of another type.
+/// Returns the settings in an object, or `None` if the value is not an object or one of its
+/// settings is not valid.
 pub fn settings_in<'a, A: Allocator>(value: &Value<'a, A>) -> Option<Settings<'a>>
     ensures { option_map settings_value result ≡ spec.settings_in (value_view value.now) }
 {
@@ -142,14 +151,15 @@ pub fn settings_in<'a, A: Allocator>(value: &Value<'a, A>) -> Option<Settings<'a
     })
 }
 
-/// What the params of `initialize` have for this program's settings.
+/// Returns the settings of this program in the parameters of `initialize`, if there are some.
 pub fn first_settings<'v, 'a, A: Allocator>(params: &'v Value<'a, A>) -> Option<&'v Value<'a, A>>
     ensures { option_map (λ v. value_view v.now) result ≡ spec.first_settings (value_view params.now) }
 {
     params.get("initializationOptions")?.get("zutkrad")
 }
 
-/// What the params of `workspace/didChangeConfiguration` have for this program's settings.
+/// Returns the settings of this program in the parameters of `workspace/didChangeConfiguration`, if
+/// there are some.
 pub fn changed_settings<'v, 'a, A: Allocator>(params: &'v Value<'a, A>) -> Option<&'v Value<'a, A>>
     ensures { option_map (λ v. value_view v.now) result ≡ spec.changed_settings (value_view params.now) }
 {

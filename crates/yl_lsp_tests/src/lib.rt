@@ -1,4 +1,5 @@
-//! Tests of the places that an editor names, of the ranges that it is shown, of what it asks for and of what it is told.
+//! Tests of the positions of an editor, of the ranges of problems, and of the messages that are
+//! read and written.
 #![tactic(auto)]
 
 #[cfg(test)]

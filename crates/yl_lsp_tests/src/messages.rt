@@ -1,4 +1,5 @@
-//! Messages, byte for byte as JSON with no space in it, its members in the order of their names.
+//! Tests of the bytes of messages. They are JSON without spaces, with members in the order of their
+//! names.
 use crate::texts::opened;
 use std::alloc::{AllocError, Global};
 use yl_frames::{Body, Output};
@@ -10,7 +11,7 @@ use yl_rules::Level;
 use yl_text::{Finding, PlainStore, RuleId, TextFault, Watched};
 use yl_units::Encoding;
 
-// Whether the body of the message that is sent is this text.
+// Returns `true` if the body of the message that is sent is this text.
 fn is_sent<B: Body>(alloc: Global, body: &B, text: &str) -> bool {
     let mut out = Output::new(Watched::new(Vec::new(alloc)));
     if out.send(body).is_err() {
@@ -37,7 +38,7 @@ fn problems(alloc: Global) -> Result<Vec<Problem<Global>>, AllocError> {
     Ok(problems)
 }
 
-// Whether the problems are shown by this message, so many of them.
+// Returns `true` if this message shows the problems, at most `most` of them.
 fn are_shown(alloc: Global, links: bool, most: u64, text: &str) -> Result<bool, TextFault> {
     let lines = opened(alloc, "\u{1F600}: \u{1F600}key  \nk: v")?;
     let Ok(problems) = problems(alloc) else {

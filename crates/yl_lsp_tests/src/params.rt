@@ -1,10 +1,11 @@
-//! Params of messages, of the shapes that LSP has and of others.
+//! Tests of the parameters of messages, with the shapes of LSP and with other shapes.
 
 use json::{Scratch, Value};
 use std::alloc::Global;
 use yl_lsp::{Change, change_of, document_in, opened_in, version_in};
 
-// Whether a change of this JSON is that of these units of a line, or of no shape.
+// Returns `true` if the change of this JSON puts `x` between these units of the lines 3 and 4, or
+// has another shape if `units` is `None`.
 fn is_within(alloc: Global, text: &str, units: Option<(u64, u64)>) -> bool {
     let mut scratch = Scratch::new(alloc);
     let Ok(value) = Value::parse(alloc, text, &mut scratch) else {

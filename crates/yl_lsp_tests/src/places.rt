@@ -1,4 +1,5 @@
-//! Places, by characters of one to four bytes, breaks of each kind, and numbers past the text.
+//! Tests of positions, with characters of one to four bytes, line breaks of each kind, and numbers
+//! after the end of the text.
 
 use crate::texts::opened;
 use std::alloc::Global;
@@ -7,7 +8,7 @@ use yl_units::{EditorPlace, Encoding, place_of, told_place};
 
 const TEXT: &str = "a\u{e9}\r\n\u{1F600}b\n\n\u{20ac}end";
 
-// Whether these lines and units name these lines and columns.
+// Returns `true` if these lines and units name these lines and columns.
 fn are_places(
     alloc: Global,
     encoding: Encoding,
@@ -30,7 +31,8 @@ fn are_places(
     Ok(true)
 }
 
-// Whether these are told of the columns of the text, one after another.
+// Returns `true` if an editor is sent these lines and units for some positions of the text, in
+// order.
 fn are_told(alloc: Global, encoding: Encoding, rows: &[(u64, u64); 8]) -> Result<bool, TextFault> {
     let lines = opened(alloc, TEXT)?;
     let places = [

@@ -1,4 +1,5 @@
-//! Ranges: words, indicators, blanks, and what lasts to the line's end.
+//! Tests of ranges: of words, indicators and blanks, and of those that extend to the end of the
+//! line.
 ghost use Rattle.yl_text.specs.Store.{AreLines};
 
 use crate::texts::opened;
@@ -7,7 +8,8 @@ use yl_lsp::{Range, next_range};
 use yl_text::{Lines, RuleId, TextFault};
 use yl_units::{EditorPlace, Encoding, Reached};
 
-// Whether a rule's problems at these columns of the first line have ranges in UTF-16 from and to these units, by one walk.
+// Returns `true` if the problems of a rule at these columns of the first line have ranges between
+// these UTF-16 units. All of them are found in one walk.
 fn are_ranges_of<S: Lines>(lines: &S, rule: RuleId, rows: &[(u64, u64, u64)]) -> bool
     requires { AreLines (S.rows lines.now) }
 {
@@ -30,7 +32,7 @@ fn are_ranges_of<S: Lines>(lines: &S, rule: RuleId, rows: &[(u64, u64, u64)]) ->
     true
 }
 
-// The same of the first line of a text.
+// Returns `true` if the problems of a rule have these ranges in the first line of a text.
 fn are_ranges(
     alloc: Global,
     text: &str,

@@ -1,4 +1,5 @@
-//! What editors can do, and settings, of the shapes that they have and of others.
+//! Tests of the capabilities of editors and of settings, with the shapes that they have and with
+//! other shapes.
 use json::{Scratch, Value};
 use std::alloc::Global;
 use yl_lsp::{
@@ -7,7 +8,8 @@ use yl_lsp::{
 };
 use yl_units::Encoding;
 
-// What the params of `initialize` say of encodings, of links and of files that are watched.
+// Returns the capabilities in the parameters of `initialize`: the encoding of columns, the links,
+// and the files to watch.
 fn abilities_in(alloc: Global, text: &str) -> Option<(Encoding, bool, bool)> {
     let mut scratch = Scratch::new(alloc);
     match Value::parse(alloc, text, &mut scratch) {
@@ -47,14 +49,15 @@ fn abilities(rt: HostRuntime) {
     }
 }
 
-// Whether settings say this; `-` and 0 stand for nothing said.
+// Returns `true` if the settings have these values. `-` and 0 stand for settings that are absent.
 fn is_named(settings: &Settings<'_>, config: &str, file: &str, most: u64) -> bool {
     settings.config.unwrap_or("-") == config
         && settings.config_file.unwrap_or("-") == file
         && settings.most.unwrap_or(0) == most
 }
 
-// Whether the JSON is an object of these settings, or of none that can be read.
+// Returns `true` if the JSON is an object with these settings, or is not valid if there are no
+// settings.
 fn are_settings(alloc: Global, text: &str, wanted: Option<(&str, &str, u64)>) -> bool {
     let mut scratch = Scratch::new(alloc);
     let Ok(value) = Value::parse(alloc, text, &mut scratch) else {

@@ -5,7 +5,7 @@ ghost use Rattle.yl_text.specs.Store.{AreLines};
 use std::alloc::Global;
 use yl_text::{LineStore, PlainStore, TextFault, split};
 
-// A store of the lines of a text.
+// Opens a store with the lines of a text.
 pub(crate) fn opened(alloc: Global, text: &str) -> Result<PlainStore<Global>, TextFault>
     ensures { IfOk result (λ lines. AreLines lines) }
 {

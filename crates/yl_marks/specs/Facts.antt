@@ -3,6 +3,7 @@ use Rattle.std.specs.Prelude.{ℕ, suc, Bool, true, false, not, ◌&&◌, ◌||�
 use Rattle.yl_lexeme.specs.declared.lexeme.Kind.{Kind}
 use Rattle.yl_lexeme.specs.declared.lexeme.Kind.TheVariants.{Tag}
 use Rattle.yl_lexeme.specs.Lexeme.{LexemeValue, is_key, is_property}
+use Rattle.yl_marks.specs.declared.token.Token.{Token}
 use Rattle.yl_marks.specs.declared.symbol.KeyedToken.{KeyedToken}
 use Rattle.yl_marks.specs.declared.symbol.Marking.{Marking}
 use Rattle.yl_marks.specs.declared.facts.KeyFacts.{KeyFacts}
@@ -37,6 +38,9 @@ abbrev pub facts_from : List KeyedToken → List Marking → ℕ → List KeyedT
 facts_from all before i [] = []
 facts_from all before i (p ∷ ps) = facts_at before (marking all i p) ps ∷ facts_from all (marking all i p ∷ before) (suc i) ps
 
+abbrev pub facts_of_tokens : List Token → List KeyFacts
+facts_of_tokens ts = let all = keyed_tokens [] ts in facts_from all [] 0 all
+
 -- of each lexeme of a document
 abbrev pub key_facts : List LexemeValue → List KeyFacts
-key_facts xs = let all = keyed_tokens [] (map token_of xs) in facts_from all [] 0 all
+key_facts xs = facts_of_tokens (map token_of xs)

@@ -1,14 +1,15 @@
 //! The marks of a whole document, and what its keys say of its lexemes.
 
 ghost use Rattle.std.specs.Prelude.{◌≡◌, false, map, IfOk};
-ghost use Rattle.yl_marks.specs.Facts.{key_facts};
+ghost use Rattle.yl_marks.specs.Facts.{facts_of_tokens, key_facts};
 ghost use Rattle.yl_marks.specs.Keys.{lexeme_at_line, token_of};
-ghost use Rattle.yl_marks.specs.Marks.{as_marked, column_at, marked_lexemes, symbols_of_lexemes};
+ghost use Rattle.yl_marks.specs.Marks.{as_marked, column_at, marked_lexemes, symbols_of_lexemes, symbols_of_tokens};
 
 use crate::facts::KeyFacts;
 use crate::key_marker::KeyMarker;
-use crate::lines::lexemes_in_line;
+use crate::lines::line_len;
 use crate::symbol::{Collection, Marked, Symbol};
+use crate::token::{Token, token_of};
 use std::alloc::{AllocError, Allocator};
 use yl_lexeme::LexemeAtLine;
 
@@ -60,7 +61,44 @@ fn as_marked<A: Allocator + Copy>(
     Ok(marked)
 }
 
-/// The marks of one whole document, and what its keys say of each of its lexemes, in one pass over them. The only error is memory.
+/// The lexemes without their values.
+fn tokens_of<A: Allocator + Copy>(
+    alloc: A,
+    lexemes: &[LexemeAtLine<'_, A>],
+) -> Result<Vec<Token, A>, AllocError>
+    ensures { IfOk result (λ v. v.items ≡ map token_of (map (λ x. lexeme_at_line x.line x.lexeme.now) lexemes.now)) }
+{
+    let mut tokens = Vec::with_capacity(alloc, lexemes.len())?;
+    for at in lexemes {
+        tokens.push(token_of(at))?;
+    }
+    Ok(tokens)
+}
+
+/// The marks of one whole document, and what its keys say of each of its lexemes, in one pass over its tokens.
+fn marks_of_tokens<A: Allocator + Copy>(
+    alloc: A,
+    tokens: &[Token],
+) -> Result<DocumentMarks<A>, AllocError>
+    ensures symbols { IfOk result (λ m. m.symbols.items ≡ symbols_of_tokens tokens.now) }
+    ensures keys { IfOk result (λ m. m.keys.items ≡ facts_of_tokens tokens.now) }
+{
+    let mut marker = KeyMarker::new(alloc);
+    let mut symbols = Vec::with_capacity(alloc, tokens.len())?;
+    let mut keys = Vec::with_capacity(alloc, tokens.len())?;
+    let mut read = 0;
+    while read < tokens.len() {
+        let (_, rest) = tokens.split_at(read);
+        let count = line_len(rest);
+        let (line, _) = rest.split_at(count);
+        marker.read(line, &mut symbols, &mut keys)?;
+        read += count;
+    }
+    marker.close(&mut symbols)?;
+    Ok(DocumentMarks { symbols, keys })
+}
+
+/// The marks of one whole document, and what its keys say of each of its lexemes. The only error is memory.
 pub fn document_marks<A: Allocator + Copy>(
     alloc: A,
     lexemes: &[LexemeAtLine<'_, A>],
@@ -68,19 +106,8 @@ pub fn document_marks<A: Allocator + Copy>(
     ensures symbols { IfOk result (λ m. m.symbols.items ≡ symbols_of_lexemes (map (λ x. lexeme_at_line x.line x.lexeme.now) lexemes.now)) }
     ensures keys { IfOk result (λ m. m.keys.items ≡ key_facts (map (λ x. lexeme_at_line x.line x.lexeme.now) lexemes.now)) }
 {
-    let mut marker = KeyMarker::new(alloc);
-    let mut symbols = Vec::with_capacity(alloc, lexemes.len())?;
-    let mut keys = Vec::with_capacity(alloc, lexemes.len())?;
-    let mut read = 0;
-    while read < lexemes.len() {
-        let (_, rest) = lexemes.split_at(read);
-        let count = lexemes_in_line(rest);
-        let (line, _) = rest.split_at(count);
-        marker.read(line, &mut symbols, &mut keys)?;
-        read += count;
-    }
-    marker.close(&mut symbols)?;
-    Ok(DocumentMarks { symbols, keys })
+    let tokens = tokens_of(alloc, lexemes)?;
+    marks_of_tokens(alloc, &tokens)
 }
 
 /// The lexemes of one whole document, in order, with the marks between them. The only error is memory.

@@ -1,9 +1,8 @@
 //! The marks of a document and what its keys say of its lexemes, line by line.
 
-ghost use Rattle.std.specs.Prelude.{◌≡◌, ◌<◌, ◌+◌, ◌^◌, ◌++◌, false, length, map, true, OnOk};
+ghost use Rattle.std.specs.Prelude.{◌≡◌, ◌<◌, ◌+◌, ◌^◌, ◌++◌, false, length, true, OnOk};
 ghost use Rattle.yl_marks.specs.ByLine.{marks_of_line};
 ghost use Rattle.yl_marks.specs.FactsByLine.{behind_keyed_line, facts_of_line, key_marker_at_start};
-ghost use Rattle.yl_marks.specs.Keys.{lexeme_at_line, token_of};
 ghost use Rattle.yl_marks.specs.Marks.{closings_of_all};
 ghost use Rattle.yl_marks.specs.SingleKeys.{has_single_keys};
 
@@ -12,10 +11,10 @@ use crate::keys::line_pieces;
 use crate::marks::{close_all, marks, note_keys};
 use crate::single_keys::{has_single_keys, mark_single_keys};
 use crate::symbol::{Earlier, KeyStart, KeyedToken, MOST, OpenBlock, Symbol};
-use crate::token::{Token, token_of};
+use crate::token::Token;
 use std::alloc::{AllocError, Allocator};
 use std::marker::Model;
-use yl_lexeme::{KeyUnit, LexemeAtLine};
+use yl_lexeme::KeyUnit;
 
 /// Marks a document line by line, and says what its keys say of each lexeme: what counts of the lines read so far.
 #[derive(Drop)]
@@ -25,8 +24,7 @@ pub struct KeyMarker<A: Allocator + Copy> {
     ahead: KeyFacts,
     /// The open block collections, the outermost first.
     collections: Vec<OpenBlock, A>,
-    /// Room for a line: its tokens, the unit that may become a key, the lexemes, and whether a key begins with each.
-    tokens: Vec<Token, A>,
+    /// Room for a line: the unit that may become a key, the lexemes, and whether a key begins with each.
     unit: KeyUnit<KeyStart, A>,
     pieces: Vec<KeyedToken, A>,
     begins: Vec<bool, A>,
@@ -62,26 +60,25 @@ impl<A: Allocator + Copy> KeyMarker<A> {
                 has_tag: false,
             },
             collections: Vec::new(alloc),
-            tokens: Vec::new(alloc),
             unit: KeyUnit::new(alloc),
             pieces: Vec::new(alloc),
             begins: Vec::new(alloc),
         }
     }
 
-    /// Reads the lexemes that begin in the next line, all of them, and puts them with their marks behind the symbols, and what keys say
+    /// Reads the lexemes that begin in the next line, all of them, given as tokens, and puts them with their marks behind the symbols, and what keys say
     /// of them behind `keys`. The only error is memory, or that the document has more than `u32::MAX` lexemes.
     pub fn read(
         &mut self,
-        line: &[LexemeAtLine<'_, A>],
+        line: &[Token],
         symbols: &mut Vec<Symbol, A>,
         keys: &mut Vec<KeyFacts, A>,
     ) -> Result<(), AllocError>
         ensures marks { OnOk result (symbols.new.items
-            ≡ symbols.old.items ++ marks_of_line self.old.marks (map token_of (map (λ x. lexeme_at_line x.line x.lexeme.now) line.now))) }
+            ≡ symbols.old.items ++ marks_of_line self.old.marks line.now) }
         ensures keys { OnOk result (keys.new.items
-            ≡ keys.old.items ++ facts_of_line self.old (map token_of (map (λ x. lexeme_at_line x.line x.lexeme.now) line.now))) }
-        ensures behind { OnOk result (self.new ≡ behind_keyed_line self.old (map token_of (map (λ x. lexeme_at_line x.line x.lexeme.now) line.now))) }
+            ≡ keys.old.items ++ facts_of_line self.old line.now) }
+        ensures behind { OnOk result (self.new ≡ behind_keyed_line self.old line.now) }
     {
         let first = self.earlier.count;
         if first.saturating_add(line.len()) > MOST {
@@ -96,17 +93,17 @@ impl<A: Allocator + Copy> KeyMarker<A> {
     /// Reads the lexemes of such a line in one pass.
     fn read_single_keys(
         &mut self,
-        line: &[LexemeAtLine<'_, A>],
+        line: &[Token],
         symbols: &mut Vec<Symbol, A>,
         keys: &mut Vec<KeyFacts, A>,
     ) -> Result<(), AllocError>
         requires count { self.old.marks.count + length line.now < 2 ^ 32 }
-        requires single { has_single_keys false (map token_of (map (λ x. lexeme_at_line x.line x.lexeme.now) line.now)) ≡ true }
+        requires single { has_single_keys false line.now ≡ true }
         ensures marks { OnOk result (symbols.new.items
-            ≡ symbols.old.items ++ marks_of_line self.old.marks (map token_of (map (λ x. lexeme_at_line x.line x.lexeme.now) line.now))) }
+            ≡ symbols.old.items ++ marks_of_line self.old.marks line.now) }
         ensures keys { OnOk result (keys.new.items
-            ≡ keys.old.items ++ facts_of_line self.old (map token_of (map (λ x. lexeme_at_line x.line x.lexeme.now) line.now))) }
-        ensures behind { OnOk result (self.new ≡ behind_keyed_line self.old (map token_of (map (λ x. lexeme_at_line x.line x.lexeme.now) line.now))) }
+            ≡ keys.old.items ++ facts_of_line self.old line.now) }
+        ensures behind { OnOk result (self.new ≡ behind_keyed_line self.old line.now) }
     {
         let (passed, ahead) = mark_single_keys(
             line,
@@ -124,20 +121,19 @@ impl<A: Allocator + Copy> KeyMarker<A> {
     /// Reads the lexemes of any line: first where its keys begin, and then the marks.
     fn read_any(
         &mut self,
-        line: &[LexemeAtLine<'_, A>],
+        line: &[Token],
         symbols: &mut Vec<Symbol, A>,
         keys: &mut Vec<KeyFacts, A>,
     ) -> Result<(), AllocError>
         requires { self.old.marks.count + length line.now < 2 ^ 32 }
         ensures marks { OnOk result (symbols.new.items
-            ≡ symbols.old.items ++ marks_of_line self.old.marks (map token_of (map (λ x. lexeme_at_line x.line x.lexeme.now) line.now))) }
+            ≡ symbols.old.items ++ marks_of_line self.old.marks line.now) }
         ensures keys { OnOk result (keys.new.items
-            ≡ keys.old.items ++ facts_of_line self.old (map token_of (map (λ x. lexeme_at_line x.line x.lexeme.now) line.now))) }
-        ensures behind { OnOk result (self.new ≡ behind_keyed_line self.old (map token_of (map (λ x. lexeme_at_line x.line x.lexeme.now) line.now))) }
+            ≡ keys.old.items ++ facts_of_line self.old line.now) }
+        ensures behind { OnOk result (self.new ≡ behind_keyed_line self.old line.now) }
     {
         let first = self.earlier.count;
-        read_tokens(line, &mut self.tokens)?;
-        let earlier = line_pieces(&self.tokens, self.earlier, &mut self.unit, &mut self.pieces)?;
+        let earlier = line_pieces(line, self.earlier, &mut self.unit, &mut self.pieces)?;
         note_keys(&mut self.begins, first, &self.pieces)?;
         marks(
             &self.pieces,
@@ -157,18 +153,4 @@ impl<A: Allocator + Copy> KeyMarker<A> {
     {
         close_all(&self.collections, symbols)
     }
-}
-
-/// The lexemes of a line without their values, in room that is used again.
-fn read_tokens<A: Allocator>(
-    line: &[LexemeAtLine<'_, A>],
-    tokens: &mut Vec<Token, A>,
-) -> Result<(), AllocError>
-    ensures { OnOk result (tokens.new.items ≡ map token_of (map (λ x. lexeme_at_line x.line x.lexeme.now) line.now)) }
-{
-    tokens.clear();
-    for at in line {
-        tokens.push(token_of(at))?;
-    }
-    Ok(())
 }

@@ -1,16 +1,15 @@
 //! Lines in which each key is one scalar or alias, directly before its Value. Most lines are such, and one pass over their lexemes marks them.
 
-ghost use Rattle.std.specs.Prelude.{◌≡◌, ◌<◌, ◌≤◌, ◌+◌, ◌^◌, ◌++◌, length, map, reverse, false, None, OnOk, IfOk};
-ghost use Rattle.yl_marks.specs.Keys.{lexeme_at_line, token_of};
+ghost use Rattle.std.specs.Prelude.{◌≡◌, ◌<◌, ◌≤◌, ◌+◌, ◌^◌, ◌++◌, length, reverse, false, None, OnOk, IfOk};
 ghost use Rattle.yl_marks.specs.SingleKeys.{facts_of, has_single_keys, is_key_next, leaf_place, marks_of, may_follow, open_behind_each, single_fact, single_markings, HasPassed};
 
 use crate::facts::{KeyFacts, next_ahead};
 use crate::keys::{depth_behind, key_at, piece_at, place_of};
 use crate::marks::mark_one;
 use crate::symbol::{Earlier, KeyStart, KeyedToken, Marking, OpenBlock, Symbol};
-use crate::token::token_of;
+use crate::token::Token;
 use std::alloc::{AllocError, Allocator};
-use yl_lexeme::{Kind, LexemeAtLine};
+use yl_lexeme::Kind;
 
 /// Whether a lexeme may stand in such a line: it is no property, and no Value directly behind a closing bracket.
 fn may_follow(is_behind_closing: bool, kind: Kind) -> bool
@@ -24,17 +23,16 @@ fn may_follow(is_behind_closing: bool, kind: Kind) -> bool
 }
 
 /// Whether each key of a line is one scalar or alias, directly before its Value.
-pub fn has_single_keys<A: Allocator>(line: &[LexemeAtLine<'_, A>]) -> bool
-    ensures { result ≡ has_single_keys false (map token_of (map (λ x. lexeme_at_line x.line x.lexeme.now) line.now)) }
+pub fn has_single_keys(line: &[Token]) -> bool
+    ensures { result ≡ has_single_keys false line.now }
 {
     let mut is_behind_closing = false;
     let mut rest = line;
-    while let [at, behind @ ..] = rest {
-        let kind = at.lexeme.kind();
-        if !may_follow(is_behind_closing, kind) {
+    while let [token, behind @ ..] = rest {
+        if !may_follow(is_behind_closing, token.kind) {
             return false;
         }
-        is_behind_closing = kind.is_closing();
+        is_behind_closing = token.kind.is_closing();
         rest = behind;
     }
     true
@@ -51,14 +49,13 @@ fn leaf_place(index: usize, piece: KeyedToken) -> Option<KeyStart>
 }
 
 /// Whether a Value comes next whose key begins at this place.
-fn is_key_next<A: Allocator>(place: Option<KeyStart>, behind: &[LexemeAtLine<'_, A>]) -> bool
-    ensures { result ≡ is_key_next place (map token_of (map (λ x. lexeme_at_line x.line x.lexeme.now) behind.now)) }
+fn is_key_next(place: Option<KeyStart>, behind: &[Token]) -> bool
+    ensures { result ≡ is_key_next place behind.now }
 {
     match behind {
         [] => false,
         [next, ..] => {
-            matches!(next.lexeme.kind(), Kind::Value)
-                && key_at(next.lexeme.start().col, place).is_some()
+            matches!(next.kind, Kind::Value) && key_at(next.start.col, place).is_some()
         }
     }
 }
@@ -76,7 +73,7 @@ fn single_fact(ahead: KeyFacts, m: Marking) -> KeyFacts
 /// Puts the lexemes of such a line with their marks behind the symbols, and their facts behind `keys`. Answers with what counts of them and
 /// the earlier ones, and what they say of the lexeme behind them.
 pub fn mark_single_keys<A: Allocator>(
-    line: &[LexemeAtLine<'_, A>],
+    line: &[Token],
     mut earlier: Earlier,
     mut ahead: KeyFacts,
     collections: &mut Vec<OpenBlock, A>,
@@ -85,18 +82,18 @@ pub fn mark_single_keys<A: Allocator>(
 ) -> Result<(Earlier, KeyFacts), AllocError>
     requires count { earlier.count + length line.now < 2 ^ 32 }
     requires depth { earlier.depth ≤ earlier.count }
-    ensures marks { OnOk result (let ms = single_markings earlier.count earlier.depth earlier.latest None (map token_of (map (λ x. lexeme_at_line x.line x.lexeme.now) line.now)) in
+    ensures marks { OnOk result (let ms = single_markings earlier.count earlier.depth earlier.latest None line.now in
         symbols.new.items ≡ symbols.old.items ++ marks_of (reverse collections.old.items) earlier.count ms) }
-    ensures left { OnOk result (let ms = single_markings earlier.count earlier.depth earlier.latest None (map token_of (map (λ x. lexeme_at_line x.line x.lexeme.now) line.now)) in
+    ensures left { OnOk result (let ms = single_markings earlier.count earlier.depth earlier.latest None line.now in
         reverse collections.new.items ≡ open_behind_each (reverse collections.old.items) ms) }
-    ensures facts { OnOk result (let ms = single_markings earlier.count earlier.depth earlier.latest None (map token_of (map (λ x. lexeme_at_line x.line x.lexeme.now) line.now)) in
+    ensures facts { OnOk result (let ms = single_markings earlier.count earlier.depth earlier.latest None line.now in
         keys.new.items ≡ keys.old.items ++ facts_of ahead ms) }
-    ensures behind { IfOk result (λ r. HasPassed earlier ahead (map token_of (map (λ x. lexeme_at_line x.line x.lexeme.now) line.now)) r.0 r.1) }
+    ensures behind { IfOk result (λ r. HasPassed earlier ahead line.now r.0 r.1) }
 {
     let mut place = None;
     let mut rest = line;
-    while let [at, behind @ ..] = rest {
-        let piece = piece_at(token_of(at), earlier, place);
+    while let [token, behind @ ..] = rest {
+        let piece = piece_at(*token, earlier, place);
         place = leaf_place(earlier.count, piece);
         let m = Marking {
             piece,

@@ -1,9 +1,10 @@
 //! Lexemes without their values.
 
-ghost use Rattle.std.specs.Prelude.{◌≡◌};
+ghost use Rattle.std.specs.Prelude.{◌≡◌, ◌++◌, map, OnOk};
 ghost use Rattle.yl_marks.specs.Keys.{lexeme_at_line, token_of};
 
-use std::alloc::Allocator;
+use crate::row_lexemes::RowLexemes;
+use std::alloc::{AllocError, Allocator};
 use yl_lexeme::{Kind, LexemeAtLine};
 use yl_text::Pos;
 
@@ -26,4 +27,18 @@ pub fn token_of<A: Allocator>(at: &LexemeAtLine<'_, A>) -> Token
         start: at.start(),
         end_line: u64::from(at.line) + u64::from(at.lexeme.end().line),
     }
+}
+
+/// Adds the tokens of the lexemes of a row to the others. The only error is out of memory.
+pub fn push_tokens<A: Allocator>(
+    row: &RowLexemes<'_, A>,
+    tokens: &mut Vec<Token, A>,
+) -> Result<(), AllocError>
+    ensures { OnOk result (tokens.new.items ≡ tokens.old.items ++ map token_of (map (lexeme_at_line row.now.line) row.now.lexemes.now)) }
+{
+    let line = row.line;
+    for lexeme in row.lexemes {
+        tokens.push(token_of(&LexemeAtLine { line, lexeme }))?;
+    }
+    Ok(())
 }

@@ -1,4 +1,4 @@
-//! What the programs share: their words, how they read a file, and how they end.
+//! The parts that the programs share: their arguments, how they read a file, and how they end.
 #![tactic(auto)]
 
 ghost use Rattle.std.specs.Prelude.{◌≡◌, ◌≢◌};
@@ -10,10 +10,10 @@ use yl_args::Stop;
 use yl_devices::{ProgramFault, RunFault, read_text, say};
 use yl_text::Watched;
 
-/// The exit status where a fault ended a program.
+/// The exit status of a program that a fault ended.
 pub const FAULT: u8 = 255;
 
-/// Says a fault on standard error, and answers the exit status.
+/// Writes a fault to standard error and returns the exit status, `FAULT`.
 pub fn stopped(rt: &HostRuntime, program: &str, fault: &ProgramFault<'_>) -> u8
     ensures { result ≡ FAULT }
 {
@@ -22,7 +22,8 @@ pub fn stopped(rt: &HostRuntime, program: &str, fault: &ProgramFault<'_>) -> u8
     FAULT
 }
 
-// What it is told as that the system did not hand out the words: want of memory, or a word that is no UTF-8.
+// Returns the fault to report if the system did not give the arguments: `Memory` if memory ran out,
+// else `Use`.
 fn fault_of(error: &io::Error) -> ProgramFault<'static>
     ensures memory { error_kind error.now ≡ ErrorKind.OutOfMemory → result ≡ ProgramFault.Memory }
     ensures words { error_kind error.now ≢ ErrorKind.OutOfMemory → result ≡ ProgramFault.Use }
@@ -33,7 +34,8 @@ fn fault_of(error: &io::Error) -> ProgramFault<'static>
     }
 }
 
-/// The words after the program's name. Want of memory is `Memory`, and a word that is no UTF-8 is `Use`.
+/// Returns the arguments after the name of the program. Returns `Memory` if memory runs out, and
+/// `Use` if an argument is not UTF-8.
 pub fn words(rt: &HostRuntime) -> Result<Vec<String>, ProgramFault<'static>> {
     let all = match env::args(rt) {
         Ok(all) => all,
@@ -48,8 +50,8 @@ pub fn words(rt: &HostRuntime) -> Result<Vec<String>, ProgramFault<'static>> {
     Ok(words)
 }
 
-/// Ends a program whose words ask for no run: prints the help that is asked for, or says the fault.
-/// Answers the exit status.
+/// Ends a program whose arguments ask for no run. Prints the help if it is asked for, else writes
+/// the fault. Returns the exit status.
 pub fn ended(rt: &HostRuntime, program: &str, stop: Stop) -> u8 {
     match stop {
         Stop::Help(text) => match rt.print(text) {
@@ -61,7 +63,9 @@ pub fn ended(rt: &HostRuntime, program: &str, stop: Stop) -> u8 {
     }
 }
 
-/// The bytes of the file of this name, or the first of them where they are too many for a text.
+/// Returns the bytes of the file at this path. Reads at most `MOST_READ` bytes, which is more than
+/// a text has. Returns `Read` if the file cannot be opened or read, and `Memory` if there is no
+/// memory for its bytes.
 pub fn bytes_of(rt: &HostRuntime, file: &str) -> Result<Vec<u8>, RunFault> {
     match fs::open(rt, file) {
         Ok(opened) => read_text(rt.alloc(), &mut Watched::new(opened)),

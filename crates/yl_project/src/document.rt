@@ -4,11 +4,13 @@ use std::alloc::Allocator;
 use yl_events::Event;
 use yl_text::Row;
 
-/// A configuration's document: the lines of its text, and its events. What is taken from it is
-/// allocated in `alloc`.
+/// The document of a configuration.
 #[derive(Drop)]
 pub struct Document<'a, 'b, A: Allocator> {
+    /// The allocator of everything that is read from the document.
     pub alloc: A,
+    /// The lines of the text.
     pub rows: &'a [Row<A>],
+    /// The events of the document.
     pub events: &'a [Event<'b>],
 }

@@ -1,4 +1,4 @@
-//! Entries of mappings, by their keys.
+//! Looks up the entries of mappings by their keys.
 ghost use Rattle.std.specs.Prelude.{◌≡◌, ◌≤◌, length, IfSome, Some, bytes_eq, if◌then◌else◌};
 ghost use Rattle.std.specs.Option.{option_map};
 ghost use Rattle.yl_events.specs.Event.{kind_value};
@@ -13,35 +13,39 @@ use yl_events::{Event, EventKind};
 use yl_settings::{EntryAt, Item, first_entry, word};
 use yl_text::Pos;
 
-/// Where a text begins.
+/// The start of a text.
 pub const ORIGIN: Pos = Pos { line: 0, col: 0 };
 
+/// Returns `place`, or `other` if there is none.
 pub fn place_or(other: Pos, place: Option<Pos>) -> Pos
     ensures { result ≡ place_or other place }
 {
     place.unwrap_or(other)
 }
 
+/// Returns `true` if the node is a sequence.
 pub fn starts_sequence(kind: EventKind<'_>) -> bool
     ensures { result ≡ starts_sequence (kind_value kind.entry) }
 {
     matches!(kind, EventKind::SequenceStart)
 }
 
+/// Returns `true` if the node is a scalar.
 pub fn is_scalar(kind: EventKind<'_>) -> bool
     ensures { result ≡ is_scalar (kind_value kind.entry) }
 {
     matches!(kind, EventKind::Scalar(_, _))
 }
 
-/// Whether a node is a name of a file: a word that is not empty.
+/// Returns `true` if the node can name a file. It then is a plain or quoted scalar, and is not
+/// empty.
 pub fn is_name(kind: EventKind<'_>) -> bool
     ensures { result ≡ is_name (kind_value kind.entry) }
 {
     !word(kind).is_empty()
 }
 
-/// The value of an entry, if it has this key; else, what was there before.
+/// Returns the value of an entry if it has the key `name`, else `before`.
 fn value_or<'a>(before: Option<Item<'a>>, entry: &EntryAt<'a>, name: &str) -> Option<Item<'a>>
     ensures { result ≡ (if bytes_eq (word (kind_value entry.now.key)) name.now then Some entry.now.value else before.entry) }
 {
@@ -52,7 +56,8 @@ fn value_or<'a>(before: Option<Item<'a>>, entry: &EntryAt<'a>, name: &str) -> Op
     }
 }
 
-/// The value of the last entry with this key, of those that begin with the event of this index.
+/// Returns the value of the last entry with the key `name`, if there is one. The entries start at
+/// the event with index `inside`.
 pub fn value_of<'a>(events: &[Event<'a>], inside: usize, name: &str) -> Option<Item<'a>>
     requires { inside ≤ length events.now }
     ensures value { option_map (item_value events.now) result ≡ value_of name.now (entries_of (nodes_at events.now inside)) }

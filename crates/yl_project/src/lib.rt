@@ -1,7 +1,9 @@
-//! What a project's configuration says: which rules hold for a path, and which files are YAML.
+//! The configuration of a project: the rules that hold for a path, and the files that are YAML.
 //!
-//! `Project::read` reads the bytes of a `.yamllint` over the project that it extends; `Named::read` says which files it names, among
-//! them what it extends. `specs/Outcome.antt` is the definition of both. `Project::config_for` gives the rules that hold for a path.
+//! `Named::read` returns the files that the bytes of a `.yamllint` name, among them the
+//! configuration that it extends. `Project::read` reads the bytes of a `.yamllint` over the project
+//! that it extends. `specs/Outcome.antt` defines both. `Project::config_for` returns the rules that
+//! hold for a path.
 #![tactic(auto)]
 
 mod document;

@@ -1,4 +1,6 @@
-//! What does not fit in a project's configuration.
+//! Finds the misfits of a project's configuration: everything in it that does not fit.
+//!
+//! A `Reading` keeps the earliest in the text of the misfits that are noted.
 ghost use Rattle.std.specs.Prelude.{◌≡◌, ◌≤◌, ◌++◌, ◌&&◌, ◌||◌, not, length, OnOk, IfOk, bytes_eq, codes, is_some, None, false, []};
 ghost use Rattle.std.specs.List.{flat_map};
 ghost use Rattle.yl_events.specs.Event.{kind_value};
@@ -18,7 +20,7 @@ use yl_patterns::{PatternFault, Patterns};
 use yl_settings::{EntryAt, Item, first_entry, first_item, starts_mapping, word};
 use yl_text::Pos;
 
-/// Notes a value that is none that may stand there, unless it fits.
+/// Notes a misfit of the given kind at the value `item`, unless `fits` is set.
 fn note_unless(reading: &mut Reading, fits: bool, kind: MisfitKind, key: Pos, item: &Item<'_>)
     ensures { reading.new.first ≡ earliest reading.old.first (unless fits (at_value kind key (kind_value item.now.kind) item.now.place)) }
 {
@@ -27,7 +29,7 @@ fn note_unless(reading: &mut Reading, fits: bool, kind: MisfitKind, key: Pos, it
     }
 }
 
-/// Notes a key that does not stand where it may, if it is one.
+/// Notes a `BadValue` at the key at `place`, if `is_misfit` is set.
 fn note_key_if(reading: &mut Reading, is_misfit: bool, place: Pos)
     ensures { reading.new.first ≡ earliest reading.old.first (unless (not is_misfit) (at_key MisfitKind.BadValue place)) }
 {
@@ -36,14 +38,16 @@ fn note_key_if(reading: &mut Reading, is_misfit: bool, place: Pos)
     }
 }
 
-/// Whether a key is this one, or one before was.
+/// Returns `true` if `key` is `name`, or if `before` is set.
 fn is_key_or(before: bool, key: &str, name: &str) -> bool
     ensures { result ≡ (before || bytes_eq key.now name.now) }
 {
     before || key == name
 }
 
-/// Whether a key stands after the one that it may not stand beside, where `ignore` and `ignore-from-file` stand before it or not.
+/// Returns `true` if `key` is one of `ignore` and `ignore-from-file`, and the other one stands
+/// before it. `ignores` is set if `ignore` stands before the key, and `names` if `ignore-from-file`
+/// does.
 fn is_beside(ignores: bool, names: bool, key: &str) -> bool
     ensures { result ≡ ((bytes_eq key.now (codes "ignore") && names) || (bytes_eq key.now (codes "ignore-from-file") && ignores)) }
 {
@@ -54,14 +58,14 @@ fn is_beside(ignores: bool, names: bool, key: &str) -> bool
     }
 }
 
-/// Whether an entry is one of a rule that is checked, with a mapping.
+/// Returns `true` if the entry has a checked rule as its key and a mapping as its value.
 fn is_rule_mapping(entry: &EntryAt<'_>) -> bool
     ensures { result ≡ (is_some (rule_named (word (kind_value entry.now.key))) && starts_mapping (kind_value entry.now.value.kind)) }
 {
     rule_named(word(entry.key)).is_some() && starts_mapping(entry.value.kind)
 }
 
-/// Notes a value that is no name of a file.
+/// Notes a misfit of the given kind at a value that is not the name of a file.
 fn note_name(reading: &mut Reading, kind: MisfitKind, key: Pos, item: &Item<'_>)
     ensures { reading.new.first ≡ earliest reading.old.first (name_misfits kind key (kind_value item.now.kind) item.now.place) }
 {
@@ -69,7 +73,8 @@ fn note_name(reading: &mut Reading, kind: MisfitKind, key: Pos, item: &Item<'_>)
 }
 
 impl<A: Allocator + Copy> Document<'_, '_, A> {
-    /// Whether a node is a text with a pattern in each line, in what begins at this column.
+    /// Returns `true` if the node is a text whose lines are all valid patterns. `column` is the
+    /// column of the node that contains it. The only error is out of memory.
     fn is_pattern_text(&self, column: u32, item: &Item<'_>) -> Result<bool, AllocError>
         ensures { IfOk result (λ answer. answer ≡ is_some (with_text self.now.rows.now column (kind_value item.now.kind) item.now.place [])) }
     {
@@ -81,7 +86,8 @@ impl<A: Allocator + Copy> Document<'_, '_, A> {
         }
     }
 
-    /// Notes a node that is no text with a pattern in each line.
+    /// Notes a node that is not a text whose lines are all valid patterns. `column` is the column
+    /// of the node that contains it. The only error is out of memory.
     fn note_text(
         &self,
         reading: &mut Reading,
@@ -96,8 +102,9 @@ impl<A: Allocator + Copy> Document<'_, '_, A> {
         Ok(())
     }
 
-    /// Notes each node that is no text with a pattern in each line, of those that begin with the event of this index, in a
-    /// sequence that begins at this place.
+    /// Notes each node of a sequence that is not a text whose lines are all valid patterns. The
+    /// sequence is at `place`, and its nodes start at the event with index `inside`. The only error
+    /// is out of memory.
     fn note_texts(&self, reading: &mut Reading, place: Pos, inside: usize) -> Result<(), AllocError>
         requires { inside ≤ length self.now.events.now }
         ensures { OnOk result (reading.new.first ≡ earliest reading.old.first (texts_misfits self.now.rows.now place.col place (nodes_at self.now.events.now inside))) }
@@ -110,7 +117,8 @@ impl<A: Allocator + Copy> Document<'_, '_, A> {
         Ok(())
     }
 
-    /// Notes each node of a sequence that is no text with a pattern in each line.
+    /// Notes each node of a sequence that is not a text whose lines are all valid patterns. The
+    /// only error is out of memory.
     fn note_sequence(
         &self,
         reading: &mut Reading,
@@ -123,7 +131,9 @@ impl<A: Allocator + Copy> Document<'_, '_, A> {
         self.note_texts(reading, place_or(key, item.place), item.inside)
     }
 
-    /// Notes a value that is to be a text or a sequence of texts, in what begins at this place.
+    /// Notes the misfits of a value that must be a text or a sequence of texts, whose lines are all
+    /// valid patterns. `holder` is the position of the node that contains it. The only error is out
+    /// of memory.
     fn note_patterns(
         &self,
         reading: &mut Reading,
@@ -141,7 +151,8 @@ impl<A: Allocator + Copy> Document<'_, '_, A> {
         }
     }
 
-    /// Notes what does not fit in `ignore`, if an entry of a rule's mapping has this key.
+    /// Notes the misfits of an entry in the mapping of a rule, if its key is `ignore`. The only
+    /// error is out of memory.
     fn note_option(
         &self,
         reading: &mut Reading,
@@ -163,7 +174,8 @@ impl<A: Allocator + Copy> Document<'_, '_, A> {
         }
     }
 
-    /// Notes what does not fit in `ignore` of a rule's mapping, whose entries begin with the event of this index.
+    /// Notes the misfits of `ignore` in the mapping of a rule, whose entries start at the event
+    /// with index `inside`. The only error is out of memory.
     fn note_options(
         &self,
         reading: &mut Reading,
@@ -181,7 +193,8 @@ impl<A: Allocator + Copy> Document<'_, '_, A> {
         Ok(())
     }
 
-    /// Notes what does not fit in `ignore` of a rule.
+    /// Notes the misfits of `ignore` in an entry of `rules`, if it has a checked rule as its key
+    /// and a mapping as its value. The only error is out of memory.
     fn note_rule(
         &self,
         reading: &mut Reading,
@@ -199,7 +212,8 @@ impl<A: Allocator + Copy> Document<'_, '_, A> {
         }
     }
 
-    /// Notes what does not fit in `ignore` of the rules in a mapping, whose entries begin with the event of this index.
+    /// Notes the misfits of `ignore` in a mapping of rules, whose entries start at the event with
+    /// index `inside`. The only error is out of memory.
     fn note_rules(
         &self,
         reading: &mut Reading,
@@ -217,7 +231,7 @@ impl<A: Allocator + Copy> Document<'_, '_, A> {
         Ok(())
     }
 
-    /// Notes what does not fit in `ignore` of the rules in the value of `rules`.
+    /// Notes the misfits of `ignore` in the value of `rules`. The only error is out of memory.
     fn note_ignores(
         &self,
         reading: &mut Reading,
@@ -234,7 +248,7 @@ impl<A: Allocator + Copy> Document<'_, '_, A> {
         }
     }
 
-    /// Notes what does not fit in the value of `rules`.
+    /// Notes the misfits of the value of `rules`. The only error is out of memory.
     #[tactic(auto, using(crate::proofs::Folding::earliest_append))]
     fn note_rules_value(
         &self,
@@ -249,7 +263,8 @@ impl<A: Allocator + Copy> Document<'_, '_, A> {
         self.note_ignores(reading, key, item)
     }
 
-    /// Notes each node that is no name of a file, of those that begin with the event of this index.
+    /// Notes each node that is not the name of a file. The nodes start at the event with index
+    /// `inside`.
     fn note_each_name(&self, reading: &mut Reading, key: Pos, inside: usize)
         requires { inside ≤ length self.now.events.now }
         ensures { reading.new.first ≡ earliest reading.old.first (each_name_misfits key (nodes_at self.now.events.now inside)) }
@@ -261,7 +276,7 @@ impl<A: Allocator + Copy> Document<'_, '_, A> {
         }
     }
 
-    /// Notes what does not fit in a value that is to be a name of a file or a sequence of names.
+    /// Notes the misfits of a value that must be the name of a file or a sequence of names.
     fn note_names_value(&self, reading: &mut Reading, key: Pos, item: &Item<'_>)
         requires { item.now.inside ≤ length self.now.events.now }
         ensures { reading.new.first ≡ earliest reading.old.first (names_misfits key (item_value self.now.events.now item.now)) }
@@ -273,7 +288,8 @@ impl<A: Allocator + Copy> Document<'_, '_, A> {
         }
     }
 
-    /// Notes what does not fit in the value of `ignore-from-file`, where the lines of the files are patterns or not.
+    /// Notes the misfits of the value of `ignore-from-file`. `are_patterns` is set if the lines of
+    /// the files that it names are all valid patterns.
     fn note_names(&self, reading: &mut Reading, are_patterns: bool, key: Pos, item: &Item<'_>)
         requires { item.now.inside ≤ length self.now.events.now }
         ensures { reading.new.first ≡ earliest reading.old.first (names_misfits key (item_value self.now.events.now item.now)
@@ -283,7 +299,7 @@ impl<A: Allocator + Copy> Document<'_, '_, A> {
         note_unless(reading, are_patterns, MisfitKind::BadValue, key, item);
     }
 
-    /// Notes what does not fit in the value of `yaml-files`.
+    /// Notes the misfits of the value of `yaml-files`. The only error is out of memory.
     fn note_yaml_files(
         &self,
         reading: &mut Reading,
@@ -301,7 +317,7 @@ impl<A: Allocator + Copy> Document<'_, '_, A> {
         }
     }
 
-    /// Notes what does not fit in an entry of the root.
+    /// Notes the misfits of an entry of the root. The only error is out of memory.
     fn note_entry(
         &self,
         reading: &mut Reading,
@@ -343,7 +359,7 @@ impl<A: Allocator + Copy> Document<'_, '_, A> {
         }
     }
 
-    /// Notes what does not fit in the entries of the root.
+    /// Notes the misfits of each entry of the root. The only error is out of memory.
     fn note_entries(
         &self,
         reading: &mut Reading,
@@ -362,7 +378,8 @@ impl<A: Allocator + Copy> Document<'_, '_, A> {
         Ok(())
     }
 
-    /// Notes `ignore` beside `ignore-from-file`.
+    /// Notes each `ignore` after an `ignore-from-file`, and each `ignore-from-file` after an
+    /// `ignore`.
     fn note_beside(&self, reading: &mut Reading, mapping: Pos, inside: usize)
         requires { inside ≤ length self.now.events.now }
         ensures { reading.new.first ≡ earliest reading.old.first (beside_misfits mapping false false (entries_of (nodes_at self.now.events.now inside))) }
@@ -380,7 +397,7 @@ impl<A: Allocator + Copy> Document<'_, '_, A> {
         }
     }
 
-    /// Notes what does not fit in the root, where it is a mapping.
+    /// Notes the misfits of the root, if it is a mapping. The only error is out of memory.
     #[tactic(auto, using(crate::proofs::Folding::earliest_append))]
     fn note_mapping(
         &self,
@@ -397,7 +414,8 @@ impl<A: Allocator + Copy> Document<'_, '_, A> {
         Ok(())
     }
 
-    /// Notes what does not fit in the root, where the lines of the files that it names are patterns or not.
+    /// Notes the misfits of the root. `are_patterns` is set if the lines of the files that it names
+    /// are all valid patterns. The only error is out of memory.
     fn note_root(
         &self,
         reading: &mut Reading,
@@ -416,7 +434,8 @@ impl<A: Allocator + Copy> Document<'_, '_, A> {
         }
     }
 
-    /// The first that does not fit, of the root and of a document after this one, which begins at this place if there is one.
+    /// Returns the first misfit of the root and of the next document, which starts at `next` if
+    /// there is one. The only error is out of memory.
     #[tactic(auto, using(crate::proofs::Folding::earliest_append))]
     pub fn first_misfit(
         &self,

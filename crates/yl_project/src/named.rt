@@ -31,7 +31,7 @@ impl<A: Allocator> Model for Named<A> {
 }
 
 impl<A: Allocator> Named<A> {
-    /// What is extended, if anything is.
+    /// Returns the name of the configuration that is extended, if one is named.
     pub fn extends(&self) -> Option<&str>
         ensures { option_map (λ name. name.now) result ≡ self.now.extends }
     {
@@ -41,7 +41,7 @@ impl<A: Allocator> Named<A> {
         }
     }
 
-    /// The files in whose lines the patterns stand of what is ignored.
+    /// Returns the names of the files whose lines are the patterns of ignored paths.
     pub fn ignore_from(&self) -> &[String<A>]
         ensures { map string_bytes result.now ≡ self.now.ignore_from }
     {
@@ -49,7 +49,7 @@ impl<A: Allocator> Named<A> {
     }
 }
 
-/// Adds a name, if a node is one.
+/// Appends the name of a file to `names` if the node is one. The only error is out of memory.
 fn add_name<A: Allocator + Copy>(
     alloc: A,
     names: &mut Vec<String<A>, A>,
@@ -63,7 +63,8 @@ fn add_name<A: Allocator + Copy>(
     Ok(())
 }
 
-/// The names of a sequence, whose nodes begin with the event of this index.
+/// Returns the names of files in a sequence, whose nodes start at the event with index `inside`.
+/// The only error is out of memory.
 fn names_in<A: Allocator + Copy>(
     alloc: A,
     events: &[Event<'_>],
@@ -81,7 +82,8 @@ fn names_in<A: Allocator + Copy>(
     Ok(names)
 }
 
-/// The names that a value is: one, or those of a sequence.
+/// Returns the names of files in a value: those in a sequence, else the value itself if it is a
+/// name. The only error is out of memory.
 fn names_of<A: Allocator + Copy>(
     alloc: A,
     events: &[Event<'_>],
@@ -101,7 +103,8 @@ fn names_of<A: Allocator + Copy>(
     }
 }
 
-/// The name of what is extended, if the value is one.
+/// Returns the name of the configuration that is extended, if the value is a name. The only error
+/// is out of memory.
 fn extends_of<A: Allocator>(
     alloc: A,
     events: &[Event<'_>],
@@ -115,7 +118,7 @@ fn extends_of<A: Allocator>(
     }
 }
 
-/// The files that a document with these events names.
+/// Returns the files that a document with these events names. The only error is out of memory.
 pub fn named_of<A: Allocator + Copy>(alloc: A, events: &[Event<'_>]) -> Result<Named<A>, AllocError>
     ensures { IfOk result (λ named. named ≡ named_of (root_of (map event_value events.now))) }
 {

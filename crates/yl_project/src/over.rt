@@ -1,4 +1,4 @@
-//! A configuration laid over what it extends.
+//! Lays a configuration over the one that it extends.
 ghost use Rattle.std.specs.Prelude.{◌≡◌, ◌≤◌, IfOk, IfSome, length, map, is_some, codes, if◌then◌else◌};
 ghost use Rattle.std.specs.Option.{option_map};
 ghost use Rattle.yl_settings.specs.Item.{item_value, nodes_at};
@@ -20,7 +20,7 @@ use yl_rules::RuleLevels;
 use yl_settings::{Item, RuleOptions, standard_rule_options, starts_mapping};
 use yl_text::{Pos, RuleId};
 
-/// Options with the standard ones of a rule, where that is off.
+/// Returns the options, with the standard options of `rule` if that rule is off.
 fn right_options(levels: &RuleLevels, rule: RuleId, options: RuleOptions) -> RuleOptions
     ensures { result ≡ (if is_some (level_of levels.now rule) then options else with_options_of rule standard_rule_options options) }
 {
@@ -33,7 +33,7 @@ fn right_options(levels: &RuleLevels, rule: RuleId, options: RuleOptions) -> Rul
     }
 }
 
-/// Options with the standard ones of each of these rules that is off.
+/// Returns the options, with the standard options of each of `rules` that is off.
 #[tactic(auto, unfolding(crate::specs::Said::put_right_options))]
 fn put_right_options(levels: &RuleLevels, rules: &[RuleId], from: RuleOptions) -> RuleOptions
     ensures { result ≡ put_right_options (level_of levels.now) rules.now from }
@@ -45,7 +45,7 @@ fn put_right_options(levels: &RuleLevels, rules: &[RuleId], from: RuleOptions) -
     options
 }
 
-/// The same with the standard options of each rule that is off.
+/// Returns the configuration, with the standard options of each rule that is off.
 fn put_right(base: Config) -> Config
     ensures { config_settings result ≡ put_right (config_settings base) }
 {
@@ -53,7 +53,7 @@ fn put_right(base: Config) -> Config
     Config::new(*base.levels(), options)
 }
 
-/// The patterns of the files that a configuration names, if it names some; else, those of what it extends.
+/// Returns `files` if `are_named` is set, else `base`.
 fn files_or<A: Allocator>(base: Patterns<A>, files: Patterns<A>, are_named: bool) -> Patterns<A>
     ensures { result ≡ (if are_named then files else base) }
 {
@@ -61,7 +61,7 @@ fn files_or<A: Allocator>(base: Patterns<A>, files: Patterns<A>, are_named: bool
 }
 
 impl<A: Allocator + Copy> Document<'_, '_, A> {
-    /// The rules of a mapping laid over a configuration.
+    /// Returns the configuration `base` with the value of `rules` laid over it.
     fn rules_over(&self, base: &Config, rules: Option<Item<'_>>) -> Config
         requires { IfSome rules (λ item. item.inside ≤ length self.now.events.now) }
         ensures { config_settings result ≡ rules_over (config_settings base.now) (option_map (item_value self.now.events.now) rules.entry) }
@@ -79,7 +79,9 @@ impl<A: Allocator + Copy> Document<'_, '_, A> {
         }
     }
 
-    /// The patterns of a value, in what begins at this place; else, the other ones.
+    /// Returns the patterns of `value`, or none if it is not valid. Returns `other` if there is no
+    /// value. `holder` is the position of the node that contains the value. The only error is out
+    /// of memory.
     fn patterns_or(
         &self,
         other: Patterns<A>,
@@ -98,7 +100,9 @@ impl<A: Allocator + Copy> Document<'_, '_, A> {
         }
     }
 
-    /// The patterns of a rule with this value, over those that it has in what is extended.
+    /// Returns the patterns of a rule that has this value. `base` are its patterns in the
+    /// configuration that is extended. A rule that is turned off has none. The only error is out of
+    /// memory.
     fn rule_patterns(
         &self,
         base: Patterns<A>,
@@ -122,7 +126,8 @@ impl<A: Allocator + Copy> Document<'_, '_, A> {
         }
     }
 
-    /// A rule's patterns under a mapping of rules, whose entries begin with the event of this index.
+    /// Returns the patterns of a rule under a mapping of rules, whose entries start at the event
+    /// with index `inside`. The only error is out of memory.
     fn ignore_over(&self, base: RuleIgnore<A>, inside: usize) -> Result<RuleIgnore<A>, AllocError>
         requires { inside ≤ length self.now.events.now }
         ensures { IfOk result (λ rule. rule ≡ ignore_over self.now.rows.now (entries_of (nodes_at self.now.events.now inside)) base) }
@@ -134,7 +139,8 @@ impl<A: Allocator + Copy> Document<'_, '_, A> {
         })
     }
 
-    /// The rules' patterns under a mapping of rules, whose entries begin with the event of this index.
+    /// Returns the patterns of each rule under a mapping of rules, whose entries start at the event
+    /// with index `inside`. The only error is out of memory.
     fn each_ignore_over(
         &self,
         base: Vec<RuleIgnore<A>, A>,
@@ -150,7 +156,8 @@ impl<A: Allocator + Copy> Document<'_, '_, A> {
         Ok(rules)
     }
 
-    /// The rules' patterns under the value of `rules`.
+    /// Returns the patterns of each rule under the value of `rules`. The only error is out of
+    /// memory.
     fn ignores_over(
         &self,
         base: Vec<RuleIgnore<A>, A>,
@@ -165,7 +172,8 @@ impl<A: Allocator + Copy> Document<'_, '_, A> {
         }
     }
 
-    /// The settings that the root says over those of what is extended.
+    /// Returns the configuration `base`, which is extended, with the rules of the root laid over
+    /// it.
     fn config_over(&self, base: Config, root: &Item<'_>) -> Config
         requires { root.now.inside ≤ length self.now.events.now }
         ensures { config_settings result ≡ rules_over (put_right (config_settings base)) (value_of (codes "rules") (entries_of (item_value self.now.events.now root.now).inside)) }
@@ -174,7 +182,8 @@ impl<A: Allocator + Copy> Document<'_, '_, A> {
         self.rules_over(&put_right(base), rules)
     }
 
-    /// The rules' patterns that the root says over those of what is extended.
+    /// Returns the patterns of each rule, those in the root over those in `base`. The only error is
+    /// out of memory.
     fn rule_ignores_over(
         &self,
         base: Vec<RuleIgnore<A>, A>,
@@ -187,7 +196,7 @@ impl<A: Allocator + Copy> Document<'_, '_, A> {
         self.ignores_over(base, rules)
     }
 
-    /// Whether the root names files with patterns.
+    /// Returns `true` if the root has a key `ignore-from-file`.
     fn names_files(&self, root: &Item<'_>) -> bool
         requires { root.now.inside ≤ length self.now.events.now }
         ensures { result ≡ is_some (value_of (codes "ignore-from-file") (entries_of (item_value self.now.events.now root.now).inside)) }
@@ -195,7 +204,9 @@ impl<A: Allocator + Copy> Document<'_, '_, A> {
         value_of(self.events, root.inside, "ignore-from-file").is_some()
     }
 
-    /// The patterns that the root says to be ignored, where these patterns stand in the files that it names, over those of what is extended.
+    /// Returns the patterns of ignored paths: those of `ignore` in the root, else `files` if the
+    /// root names files, else `base`. `files` are the patterns in the files that it names. The only
+    /// error is out of memory.
     fn ignored_over(
         &self,
         base: Patterns<A>,
@@ -210,7 +221,8 @@ impl<A: Allocator + Copy> Document<'_, '_, A> {
         self.patterns_or(ignored, place_or(ORIGIN, root.place), ignore)
     }
 
-    /// Which files the root says to be YAML.
+    /// Returns the patterns of the files that are YAML: those of `yaml-files` in the root, else the
+    /// default ones. The only error is out of memory.
     fn yaml_files_of(&self, root: &Item<'_>) -> Result<Patterns<A>, AllocError>
         requires { root.now.inside ≤ length self.now.events.now }
         ensures { IfOk result (λ patterns. patterns ≡ yaml_files_of self.now.rows.now (item_value self.now.events.now root.now)) }
@@ -220,7 +232,8 @@ impl<A: Allocator + Copy> Document<'_, '_, A> {
         self.patterns_or(standard, place_or(ORIGIN, root.place), files)
     }
 
-    /// What the root says over what is extended, where these patterns stand in the files that it names.
+    /// Returns the project of the root, laid over the project `base` that is extended. `files` are
+    /// the patterns in the files that the root names. The only error is out of memory.
     pub fn said_over(
         &self,
         base: Project<A>,

@@ -40,13 +40,15 @@ pub const CHECKED_RULES: [RuleId; 18] = [
     RuleId::Truthy,
 ];
 
-/// Which files are YAML unless a configuration says it.
+/// The patterns of the files that are YAML by default.
 const YAML_FILES: &str = "*.yaml\n*.yml\n.yamllint";
 
-/// A rule, and the patterns for whose paths it is off.
+/// A rule, and the patterns of the paths for which it is off.
 #[derive(Drop)]
 pub struct RuleIgnore<A: Allocator> {
+    /// The rule.
     pub rule: RuleId,
+    /// The patterns of the paths for which it is off.
     pub patterns: Patterns<A>,
 }
 
@@ -58,8 +60,8 @@ impl<A: Allocator> Model for RuleIgnore<A> {
     ghost view = { λ r. record { rule = r.rule; patterns = r.patterns } };
 }
 
-/// A project's configuration: the rules that are on and their options, for which paths a rule is off, which paths are ignored, and
-/// which files are YAML.
+/// The configuration of a project: the rules that are on and their options, the paths for which a
+/// rule is off, the paths that are ignored, and the files that are YAML.
 #[derive(Drop)]
 pub struct Project<A: Allocator> {
     pub(crate) config: Config,
@@ -76,7 +78,7 @@ impl<A: Allocator> Model for Project<A> {
     ghost view = { λ p. record { config = p.config; rules = p.rules.items; ignored = p.ignored; yaml_files = p.yaml_files } };
 }
 
-/// Each rule, off for no path.
+/// Returns each of `rules`, off for no path. The only error is out of memory.
 fn ignored_nowhere<A: Allocator + Copy>(
     alloc: A,
     rules: &[RuleId],
@@ -93,7 +95,7 @@ fn ignored_nowhere<A: Allocator + Copy>(
     Ok(all)
 }
 
-/// The files that are YAML unless a configuration says it.
+/// Returns the patterns of the files that are YAML by default. The only error is out of memory.
 #[tactic(auto, unfolding(crate::specs::Said::standard_yaml_files))]
 pub fn standard_yaml_files<A: Allocator + Copy>(alloc: A) -> Result<Patterns<A>, AllocError>
     ensures { IfOk result (λ patterns. patterns ≡ standard_yaml_files) }
@@ -101,7 +103,7 @@ pub fn standard_yaml_files<A: Allocator + Copy>(alloc: A) -> Result<Patterns<A>,
     Ok(read_lines(alloc, YAML_FILES)?.unwrap_or(Patterns::new(alloc)))
 }
 
-/// These rules as warnings.
+/// Returns the levels `from`, with each of `rules` as a warning.
 #[tactic(auto, unfolding(crate::specs::Said::as_warnings))]
 fn as_warnings(from: RuleLevels, rules: &[RuleId]) -> RuleLevels
     ensures { level_of result ≡ as_warnings (level_of from) rules.now }
@@ -113,7 +115,7 @@ fn as_warnings(from: RuleLevels, rules: &[RuleId]) -> RuleLevels
     levels
 }
 
-/// These rules off.
+/// Returns the levels `from`, with each of `rules` off.
 #[tactic(auto, unfolding(crate::specs::Said::switched_off))]
 fn switched_off(from: RuleLevels, rules: &[RuleId]) -> RuleLevels
     ensures { level_of result ≡ switched_off (level_of from) rules.now }
@@ -125,7 +127,7 @@ fn switched_off(from: RuleLevels, rules: &[RuleId]) -> RuleLevels
     levels
 }
 
-/// The options of yamllint's configuration `relaxed`.
+/// Returns the options of yamllint's configuration `relaxed`. `standard` are the standard options.
 fn relaxed_options(standard: RuleOptions) -> RuleOptions
     ensures { result ≡ relaxed_options standard }
 {
@@ -136,7 +138,7 @@ fn relaxed_options(standard: RuleOptions) -> RuleOptions
     options
 }
 
-/// The settings of yamllint's configuration `relaxed`.
+/// Returns the settings of yamllint's configuration `relaxed`.
 fn relaxed_config() -> Config
     ensures { config_settings result ≡ relaxed }
 {
@@ -161,7 +163,7 @@ fn relaxed_config() -> Config
     Config::new(levels, relaxed_options(*standard.options()))
 }
 
-/// What stands after a character, if a path begins with it.
+/// Returns the rest of a path after the character `c`, if the path starts with it.
 fn after_char(path: &str, c: char) -> Option<&str>
     requires { c < 128 }
     ensures { option_map (λ rest. rest.now) result ≡ after_byte c path.now }
@@ -169,7 +171,7 @@ fn after_char(path: &str, c: char) -> Option<&str>
     path.strip_prefix(c)
 }
 
-/// What stands after a `/` at the front; else, the other path.
+/// Returns the rest of `path` after a `/` at its start, or `other` if it does not start with one.
 fn after_slash<'a>(path: &'a str, other: &'a str) -> &'a str
     ensures { result.now ≡ unwrap_or (after_byte 47 path.now) other.now }
 {
@@ -179,7 +181,7 @@ fn after_slash<'a>(path: &'a str, other: &'a str) -> &'a str
     }
 }
 
-/// A path without one `./` or `/` at its front.
+/// Returns a path without one `./` or `/` at its start.
 fn without_front(path: &str) -> &str
     ensures { result.now ≡ without_front path.now }
 {
@@ -189,7 +191,8 @@ fn without_front(path: &str) -> &str
     }
 }
 
-/// A configuration without a rule, where that is off for a path.
+/// Returns a configuration, without `rule` if it is off for this path. The only error is out of
+/// memory.
 fn without_rule<A: Allocator + Copy>(
     config: Config,
     rule: &RuleIgnore<A>,
@@ -204,7 +207,8 @@ fn without_rule<A: Allocator + Copy>(
     }
 }
 
-/// A configuration without the rules that are off for a path.
+/// Returns a configuration without the rules that are off for this path. The only error is out of
+/// memory.
 #[tactic(auto, unfolding(crate::specs::Paths::without_ignoring))]
 fn without_ignoring<A: Allocator + Copy>(
     from: Config,
@@ -221,7 +225,7 @@ fn without_ignoring<A: Allocator + Copy>(
 }
 
 impl<A: Allocator + Copy> Project<A> {
-    /// These settings, for each path.
+    /// Returns a project with these settings for each path. The only error is out of memory.
     fn everywhere(alloc: A, config: Config) -> Result<Project<A>, AllocError>
         ensures { IfOk result (λ p. project_value p ≡ everywhere (config_settings config)) }
     {
@@ -233,36 +237,37 @@ impl<A: Allocator + Copy> Project<A> {
         })
     }
 
-    /// No rule is on.
+    /// Returns a project in which no rule is on. The only error is out of memory.
     pub fn empty(alloc: A) -> Result<Project<A>, AllocError>
         ensures { IfOk result (λ p. project_value p ≡ everywhere all_off) }
     {
         Project::everywhere(alloc, Config::all_off())
     }
 
-    /// yamllint's configuration `default`.
+    /// Returns a project with yamllint's configuration `default`. The only error is out of memory.
     pub fn standard(alloc: A) -> Result<Project<A>, AllocError>
         ensures { IfOk result (λ p. project_value p ≡ everywhere standard) }
     {
         Project::everywhere(alloc, Config::standard())
     }
 
-    /// yamllint's configuration `relaxed`.
+    /// Returns a project with yamllint's configuration `relaxed`. The only error is out of memory.
     pub fn relaxed(alloc: A) -> Result<Project<A>, AllocError>
         ensures { IfOk result (λ p. project_value p ≡ everywhere relaxed) }
     {
         Project::everywhere(alloc, relaxed_config())
     }
 
-    /// The rules that hold for a text without a path.
+    /// Returns the rules that hold for a text without a path.
     pub fn config(&self) -> &Config
         ensures { config_settings result.now ≡ (project_value self.now).settings }
     {
         &self.config
     }
 
-    /// The rules that hold for a path; none where it is ignored. Names of a path have `/` between them; one `./` or `/` at its front is
-    /// passed over. The only error is out of memory.
+    /// Returns the rules that hold for a path, or `None` if the path is ignored. The names in a
+    /// path are separated by `/`. One `./` or `/` at its start is skipped. The only error is out of
+    /// memory.
     pub fn config_for(&self, path: &str) -> Result<Option<Config>, AllocError>
         ensures { IfOk result (λ config. settings_answer config ≡ settings_for (project_value self.now) path.now) }
     {
@@ -273,7 +278,8 @@ impl<A: Allocator + Copy> Project<A> {
         Ok(Some(without_ignoring(self.config, &self.rules, path)?))
     }
 
-    /// Whether a file of this name is YAML; the name is the last one of its path. The only error is out of memory.
+    /// Returns `true` if a file with this name is YAML. The name is the last one of its path. The
+    /// only error is out of memory.
     pub fn is_yaml(&self, name: &str) -> Result<bool, AllocError>
         ensures { IfOk result (λ answer. answer ≡ fits self.now.yaml_files name.now) }
     {

@@ -1,4 +1,4 @@
-//! Configurations from their bytes.
+//! Reads configurations from their bytes.
 ghost use Rattle.std.specs.Prelude.{◌≡◌, ◌<◌, ◌-◌, ◌^◌, All, IfOk, length, map, []};
 ghost use Rattle.std.specs.Str.{chars};
 ghost use Rattle.yl_text.specs.Lines.{lines_of};
@@ -24,7 +24,7 @@ use yl_patterns::Patterns;
 use yl_scan::scan;
 use yl_text::{MAX_BYTES, Pos, Row, TextFault, split};
 
-/// The events of the first of these documents.
+/// Returns the events of the first document, or none if there is no document.
 fn own_events<'c, 'b, A: Allocator>(documents: &'c [BuiltDocument<'_, 'b, A>]) -> &'c [Event<'b>]
     ensures { map event_value result.now ≡ own_events documents.now }
 {
@@ -34,7 +34,7 @@ fn own_events<'c, 'b, A: Allocator>(documents: &'c [BuiltDocument<'_, 'b, A>]) -
     }
 }
 
-/// Where the second of these documents begins, if there is one.
+/// Returns the start of the second document, if there is one.
 fn next_place<A: Allocator>(documents: &[BuiltDocument<'_, '_, A>]) -> Option<Pos>
     ensures { result ≡ next_place documents.now }
 {
@@ -44,7 +44,7 @@ fn next_place<A: Allocator>(documents: &[BuiltDocument<'_, '_, A>]) -> Option<Po
     }
 }
 
-/// The files that these documents name.
+/// Returns the files that these documents name. The only error is out of memory.
 fn named_own<A: Allocator + Copy>(
     alloc: A,
     documents: &[BuiltDocument<'_, '_, A>],
@@ -54,7 +54,7 @@ fn named_own<A: Allocator + Copy>(
     named_of(alloc, own_events(from_own(documents)))
 }
 
-/// The files that the lines of a text name. It fails for want of memory alone.
+/// Returns the files that the lines of a text name. The outer error is out of memory.
 fn named_rows<A: Allocator + Copy>(
     alloc: A,
     rows: &[Row<A>],
@@ -74,11 +74,11 @@ fn named_rows<A: Allocator + Copy>(
 }
 
 impl<A: Allocator + Copy> Named<A> {
-    /// The files that a configuration names whose text is these bytes, in UTF-8. A value that is no
-    /// name is passed over, and so is what does not fit.
+    /// Returns the files that a configuration names. `bytes` are its text in UTF-8. Skips values
+    /// that are not names, and everything that does not fit.
     ///
-    /// The faults, in the order in which they are looked for: `TooLarge`; `NotUtf8`; `Syntax`, at
-    /// the text's first fault. `Memory` where an allocation was refused.
+    /// Returns the first error that applies of `TooLarge`, `NotUtf8` and `Syntax`, or `Memory` if
+    /// memory runs out. `Syntax` has the position of the first fault of the text.
     pub fn read(alloc: A, bytes: &[u8]) -> Result<Named<A>, ConfigFault>
         ensures { IsNamedIn bytes.now result }
     {
@@ -97,7 +97,7 @@ impl<A: Allocator + Copy> Named<A> {
     }
 }
 
-/// What is said, or the first that does not fit.
+/// Returns the error of the misfit `first` if there is one, else the project `said`.
 fn told<A: Allocator>(said: Project<A>, first: Option<Misfit>) -> Result<Project<A>, ConfigFault>
     ensures { project_answer result ≡ told (project_value said) first }
 {
@@ -107,7 +107,8 @@ fn told<A: Allocator>(said: Project<A>, first: Option<Misfit>) -> Result<Project
     }
 }
 
-/// What a document says over what is extended. It fails for want of memory alone.
+/// Returns the project of a document, laid over the project `base` that is extended. The outer
+/// error is out of memory.
 fn project_document<A: Allocator + Copy>(
     document: &Document<'_, '_, A>,
     next: Option<Pos>,
@@ -123,7 +124,8 @@ fn project_document<A: Allocator + Copy>(
     Ok(told(document.said_over(base, files, &root)?, first))
 }
 
-/// What these documents of a text say over what is extended.
+/// Returns the project of the documents of a text, laid over the project `base` that is extended.
+/// The outer error is out of memory.
 fn project_own<A: Allocator + Copy>(
     alloc: A,
     rows: &[Row<A>],
@@ -142,7 +144,8 @@ fn project_own<A: Allocator + Copy>(
     project_document(&document, next_place(own), base, ignore_lines)
 }
 
-/// What the lines of a text say over what is extended. It fails for want of memory alone.
+/// Returns the project of the lines of a text, laid over the project `base` that is extended. The
+/// outer error is out of memory.
 fn project_rows<A: Allocator + Copy>(
     alloc: A,
     rows: &[Row<A>],
@@ -165,12 +168,13 @@ fn project_rows<A: Allocator + Copy>(
 }
 
 impl<A: Allocator + Copy> Project<A> {
-    /// What a configuration says whose text is these bytes, in UTF-8, over the project that it
-    /// extends. `ignore_lines` are the lines of the files that it names under `ignore-from-file`.
+    /// Reads a configuration over the project `base`, which it extends. `bytes` are its text in
+    /// UTF-8. `ignore_lines` are the lines of the files that it names under `ignore-from-file`.
     ///
-    /// The faults, in the order in which they are looked for: `TooLarge`; `NotUtf8`; `Syntax`, at
-    /// the text's first fault; of all that does not fit the first in the text, of two at one place
-    /// the one that stands first among the others. `Memory` where an allocation was refused.
+    /// Returns the first error that applies of `TooLarge`, `NotUtf8` and `Syntax`, else the error
+    /// of the first misfit in the text, or `Memory` if memory runs out. `Syntax` has the position
+    /// of the first fault of the text. Of two misfits at one position, the one that `ConfigFault`
+    /// declares first is returned.
     pub fn read(
         alloc: A,
         bytes: &[u8],

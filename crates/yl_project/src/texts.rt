@@ -1,4 +1,6 @@
-//! The texts of a configuration, and the patterns in their lines.
+//! Reads the patterns in the lines of a configuration's texts.
+//!
+//! A blank line, a comment and a single `/` are valid patterns, but add none.
 ghost use Rattle.std.specs.Prelude.{◌≡◌, ◌==◌, ◌||◌, ◌≤◌, nat_lt, length, IfOk, MatchResult, Some, None, OnOk, unwrap_or, [], MatchOption};
 ghost use Rattle.std.specs.List.{prefix_len};
 ghost use Rattle.yl_events.specs.Event.{kind_value};
@@ -17,7 +19,7 @@ use yl_patterns::{PatternFault, Patterns};
 use yl_settings::{Item, first_item};
 use yl_text::{Break, Pos, Row, cut_line};
 
-/// How many spaces a line begins with.
+/// Returns the number of spaces at the start of a line.
 fn indentation(line: &[u8]) -> usize
     ensures { result ≡ indentation line.now }
 {
@@ -29,7 +31,7 @@ fn indentation(line: &[u8]) -> usize
     line.len()
 }
 
-/// Whether a line is one of spaces alone, or is indented deeper than this column.
+/// Returns `true` if the line has only spaces, or if it is indented by more than `column` spaces.
 fn is_below(column: u32, line: &str) -> bool
     ensures { result ≡ is_below column line.now }
 {
@@ -37,7 +39,7 @@ fn is_below(column: u32, line: &str) -> bool
     spaces == line.len() || spaces > column as usize
 }
 
-/// The lines after that of a place.
+/// Returns the lines after the line of `place`, or none if there is no position.
 fn lines_after<A: Allocator>(place: Option<Pos>, rows: &[Row<A>]) -> &[Row<A>]
     ensures { result.now ≡ lines_after place rows.now }
 {
@@ -53,14 +55,17 @@ fn lines_after<A: Allocator>(place: Option<Pos>, rows: &[Row<A>]) -> &[Row<A>]
     }
 }
 
-/// Adds the pattern of a line.
+/// Appends the pattern of a line. Returns `BadPattern` if the line is not valid, or `Memory` if
+/// memory runs out.
 fn add_line<A: Allocator + Copy>(patterns: &mut Patterns<A>, line: &str) -> Result<(), PatternFault>
     ensures { Gives result patterns.new (with_line patterns.old line.now) }
 {
     patterns.add(line)
 }
 
-/// Adds the patterns of a block scalar, of which these are the lines after its header, in what begins at this column.
+/// Appends the patterns of a block scalar. `rows` are the lines after its header, and `column` is
+/// the column of the node that contains it. Returns `BadPattern` if a line is not valid, or
+/// `Memory` if memory runs out.
 #[tactic(auto, unfolding(crate::specs::Texts::block_lines, crate::specs::Texts::with_lines))]
 fn add_block<A: Allocator + Copy>(
     patterns: &mut Patterns<A>,
@@ -78,7 +83,8 @@ fn add_block<A: Allocator + Copy>(
     Ok(())
 }
 
-/// Adds the patterns of a text's lines.
+/// Appends the patterns of the lines of a text. Returns `BadPattern` if a line is not valid, or
+/// `Memory` if memory runs out.
 fn add_lines<A: Allocator + Copy>(
     patterns: &mut Patterns<A>,
     text: &str,
@@ -96,7 +102,8 @@ fn add_lines<A: Allocator + Copy>(
     }
 }
 
-/// The patterns of a text's lines, if each is one.
+/// Returns the patterns of the lines of a text, or `None` if a line is not valid. The only error is
+/// out of memory.
 pub fn read_lines<A: Allocator + Copy>(
     alloc: A,
     text: &str,
@@ -112,7 +119,9 @@ pub fn read_lines<A: Allocator + Copy>(
 }
 
 impl<A: Allocator + Copy> Document<'_, '_, A> {
-    /// Adds the patterns of a text, if a node is one, in what begins at this column.
+    /// Appends the patterns of the lines of a node. `column` is the column of the node that
+    /// contains it. Returns `BadPattern` if the node is not a text or a line is not valid, or
+    /// `Memory` if memory runs out.
     pub fn add_text(
         &self,
         patterns: &mut Patterns<A>,
@@ -131,7 +140,8 @@ impl<A: Allocator + Copy> Document<'_, '_, A> {
         }
     }
 
-    /// Adds the patterns of the nodes that begin with the event of this index, if each is a text.
+    /// Appends the patterns of the nodes that start at the event with index `inside`. Returns
+    /// `BadPattern` if a node is not a text or a line is not valid, or `Memory` if memory runs out.
     fn add_texts(
         &self,
         patterns: &mut Patterns<A>,
@@ -149,7 +159,9 @@ impl<A: Allocator + Copy> Document<'_, '_, A> {
         Ok(())
     }
 
-    /// Adds the patterns of a text or of a sequence of texts, in what begins at this place.
+    /// Appends the patterns of a text or of a sequence of texts. `holder` is the position of the
+    /// node that contains it. Returns `BadPattern` if the node is neither or a line is not valid,
+    /// or `Memory` if memory runs out.
     fn add_patterns(
         &self,
         patterns: &mut Patterns<A>,
@@ -167,8 +179,9 @@ impl<A: Allocator + Copy> Document<'_, '_, A> {
         }
     }
 
-    /// The patterns of a text or of a sequence of texts, in what begins at this place; none where the node is neither or a line is
-    /// no pattern.
+    /// Returns the patterns of a text or of a sequence of texts, or `None` if the node is neither
+    /// or a line is not valid. `holder` is the position of the node that contains it. The only
+    /// error is out of memory.
     pub fn patterns_in(
         &self,
         holder: Pos,

@@ -1,17 +1,20 @@
-//! `yl_project_rows`: reads rows of tests of projects' configurations, and prints what comes of each.
+//! `yl_project_rows`: reads rows of tests of projects' configurations, and prints the result of
+//! each.
 //!
 //! A row is a line as `test_rows` reads it:
 //!
-//!     more, times     how the next text begins
-//!     lines TEXT      the lines of the files that the next configuration names
-//!     base WORD       what the next configuration extends: `empty`, `default`, `relaxed` or `last`, the last one that was read
+//!     more, times     give the start of the next text
+//!     lines TEXT      gives the lines of the files that the next configurations name
+//!     base WORD       gives the base that the next configurations extend: `empty`, `default`,
+//!                     `relaxed` or `last`, the last one that was read
 //!     read TEXT       reads a configuration
-//!     named TEXT      the files that a configuration names
-//!     path PATH       the rules that hold for a path under the last configuration
-//!     yaml NAME       whether a file of this name is YAML
+//!     named TEXT      prints the files that a configuration names
+//!     path PATH       prints the rules that hold for a path under the last configuration
+//!     yaml NAME       prints whether a file with this name is YAML
 //!
-//! Each row is printed before what comes of it; empty lines, and those that begin with `#`, are passed over. A configuration is read again with
-//! each allocation refused in turn; where that is answered otherwise than it has to be, a line says so.
+//! Each row is printed before its result. Empty lines, and lines that start with `#`, are skipped.
+//! A configuration is also read with each allocation refused in turn, unless its base is `last`. A
+//! line is printed if the answer is wrong.
 #![tactic(auto)]
 
 mod printed;

@@ -1,4 +1,4 @@
-//! What is printed of configurations.
+//! Prints configurations.
 use std::alloc::AllocError;
 use test_rows::say;
 use yl_config::{Config, ConfigFault, RuleOptions};
@@ -28,7 +28,7 @@ const RULES: [RuleId; 18] = [
     RuleId::Truthy,
 ];
 
-// A number, or no limit.
+// Returns a number as text, or `-1` if there is no limit.
 fn limit(rt: &HostRuntime, limit: Option<u32>) -> Result<String, AllocError> {
     match limit {
         Some(n) => Ok(format!(in rt.alloc(); " {n}")?),
@@ -52,7 +52,7 @@ fn new_line(new_line: NewLine) -> &'static str {
     }
 }
 
-// Some options of a rule.
+// Returns some options of a rule as text.
 fn some_options(rt: &HostRuntime, rule: RuleId, o: &RuleOptions) -> Result<String, AllocError> {
     match rule {
         RuleId::Braces => limit(rt, o.braces.max_spaces_inside),

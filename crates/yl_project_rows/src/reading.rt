@@ -1,19 +1,23 @@
-//! Configurations that are read, with memory refused too.
+//! Reads configurations, also when allocations are refused.
 use refusing::Refusing;
 use std::alloc::{AllocError, Allocator, Global};
 use yl_config::ConfigFault;
 use yl_project::{Named, Project};
 
-/// What a configuration extends.
+/// The base that a configuration extends.
 #[derive(Clone, Copy, PartialEq, Eq)]
 pub enum Base {
+    /// No rule is on.
     Empty,
+    /// The configuration `default` of yamllint.
     Default,
+    /// The configuration `relaxed` of yamllint.
     Relaxed,
+    /// The last configuration that was read.
     Last,
 }
 
-/// The base of this name.
+/// Returns the base with this name, if there is one.
 pub fn base_named(word: &str) -> Option<Base> {
     match word {
         "empty" => Some(Base::Empty),
@@ -24,7 +28,8 @@ pub fn base_named(word: &str) -> Option<Base> {
     }
 }
 
-/// The project that a base is, where it comes with the crate.
+/// Returns the project of a base. The project of `Last` is empty here, since it does not come with
+/// the crate. The only error is out of memory.
 pub fn project_of<A: Allocator + Copy>(alloc: A, base: Base) -> Result<Project<A>, AllocError> {
     match base {
         Base::Default => Project::standard(alloc),
@@ -33,7 +38,7 @@ pub fn project_of<A: Allocator + Copy>(alloc: A, base: Base) -> Result<Project<A
     }
 }
 
-// What comes of reading: nothing, or the fault.
+// Returns the fault of reading a configuration, if there is one.
 fn fault_of<A: Allocator + Copy>(
     alloc: A,
     base: Base,
@@ -49,7 +54,8 @@ fn fault_of<A: Allocator + Copy>(
     }
 }
 
-/// Whether `Memory` comes of reading where an allocation is refused, each in turn, and the same as ever where none is.
+/// Reads a configuration with each allocation refused in turn. Returns `true` if the fault is
+/// `Memory` each time, and if the result is the usual one when none is refused.
 pub fn is_same_when_refused(alloc: Global, base: Base, text: &[u8], lines: &str) -> bool {
     let heap = Refusing::new(alloc);
     let fault = fault_of(alloc, base, text, lines);
@@ -66,7 +72,8 @@ pub fn is_same_when_refused(alloc: Global, base: Base, text: &[u8], lines: &str)
     false
 }
 
-/// Whether `Memory` comes of looking for names where an allocation is refused, each in turn.
+/// Reads the names in a configuration with each allocation refused in turn. Returns `true` if the
+/// fault is `Memory` each time.
 pub fn are_same_when_refused(alloc: Global, text: &[u8]) -> bool {
     let heap = Refusing::new(alloc);
     for nth in 1..u64::MAX {

@@ -1,4 +1,4 @@
-//! What rows follow one after another.
+//! Follows rows, one after another.
 use crate::printed::{show_fault, show_rules};
 use crate::reading::{Base, are_same_when_refused, base_named, is_same_when_refused, project_of};
 use std::alloc::{AllocError, Global};
@@ -18,6 +18,7 @@ pub struct State {
 }
 
 impl State {
+    /// Creates a state in which no configuration was read. The only error is out of memory.
     pub fn new(alloc: Global) -> Result<State, AllocError> {
         Ok(State {
             alloc,
@@ -28,7 +29,7 @@ impl State {
         })
     }
 
-    // What the next configuration is read over.
+    // Takes the project over which the next configuration is read.
     fn take_base(&mut self) -> Result<Project<Global>, AllocError> {
         let empty = Project::empty(self.alloc)?;
         let last = mem::replace(&mut self.project, empty);
@@ -39,7 +40,7 @@ impl State {
         }
     }
 
-    // Reads a configuration.
+    // Reads a configuration, and prints the result.
     fn read(&mut self, rt: &HostRuntime, text: &[u8]) -> Result<(), RunFault> {
         let base = self.take_base()?;
         let lines = text_of(self.lines.as_slice()).unwrap_or("");
@@ -55,7 +56,7 @@ impl State {
         }
     }
 
-    // Shows the files that a configuration names.
+    // Prints the files that a configuration names.
     fn show_named(&self, rt: &HostRuntime, text: &[u8]) -> Result<(), RunFault> {
         if !are_same_when_refused(self.alloc, text) {
             say(rt, "is read otherwise where memory is refused")?;
@@ -76,7 +77,7 @@ impl State {
         Ok(())
     }
 
-    // Shows the rules that hold for a path.
+    // Prints the rules that hold for a path.
     fn show_path(&self, rt: &HostRuntime, path: &str) -> Result<(), RunFault> {
         match self.project.config_for(path)? {
             None => say(rt, "= ignored"),
@@ -84,7 +85,7 @@ impl State {
         }
     }
 
-    // Does what a row says that has a text.
+    // Follows a row with a text.
     fn follow_text(&mut self, rt: &HostRuntime, word: &str, text: &[u8]) -> Result<(), RunFault> {
         match word {
             "read" => self.read(rt, text),
@@ -98,7 +99,7 @@ impl State {
         }
     }
 
-    /// Does what a row says.
+    /// Follows a row.
     pub fn follow(&mut self, rt: &HostRuntime, row: &str) -> Result<(), RunFault> {
         let (word, rest) = first_word(row);
         if push_front(self.alloc, &mut self.front, word, rest)? {

@@ -13,7 +13,7 @@ use std::cmp::Ordering;
 use yl_rules::RuleLevels;
 use yl_text::{Finding, RuleId};
 
-// By rule name and message.
+// Compares two findings by rule name and message.
 fn compare_in_place<A: Allocator>(a: &Finding<A>, b: &Finding<A>) -> Ordering
     ensures { result ≡ order_in_place a.now b.now }
 {
@@ -23,7 +23,7 @@ fn compare_in_place<A: Allocator>(a: &Finding<A>, b: &Finding<A>) -> Ordering
     }
 }
 
-// By column, rule name and message.
+// Compares two findings by column, rule name and message.
 fn compare_in_line<A: Allocator>(a: &Finding<A>, b: &Finding<A>) -> Ordering
     ensures { result ≡ order_in_line a.now b.now }
 {
@@ -33,7 +33,8 @@ fn compare_in_line<A: Allocator>(a: &Finding<A>, b: &Finding<A>) -> Ordering
     }
 }
 
-/// The order of a report: by line, column, rule name in ASCII order, and message.
+/// Compares two findings in the order of a report: by line, then by column, then by rule name in
+/// ASCII order, then by message.
 pub fn compare<A: Allocator>(a: &Finding<A>, b: &Finding<A>) -> Ordering
     ensures { result ≡ finding_order a.now b.now }
 {
@@ -43,19 +44,21 @@ pub fn compare<A: Allocator>(a: &Finding<A>, b: &Finding<A>) -> Ordering
     }
 }
 
-/// A law: of one list there is one arrangement, and `sorted_once` is it.
+/// A law: a list has exactly one arrangement, and `sorted_once` returns it.
 pub fn one_arrangement()
     ensures unique { OneArrangement }
     ensures exists { SortedOnceArranges }
 {}
 
+/// Returns `true` if the rule is `syntax`.
 pub fn is_syntax(rule: RuleId) -> bool
     ensures { result ≡ spec.is_syntax rule }
 {
     matches!(rule, RuleId::Syntax)
 }
 
-// Whether the rule is on, and nothing silences it at its line.
+// Returns `true` if the rule of the finding is on and no comment silences it at its line. Comments
+// never silence the rule `syntax` at a line.
 fn is_reported<A: Allocator>(
     levels: &RuleLevels,
     silences: &Silences<A>,
@@ -68,8 +71,7 @@ fn is_reported<A: Allocator>(
     is_on && (is_free || !silences.is_silenced(found.rule(), found.line().saturating_sub(1)))
 }
 
-// Puts what was found in order, and drops what stands twice. It takes linear time where it is in
-// order already.
+// Sorts the findings and removes duplicates. Takes linear time if they are sorted already.
 fn sort_once<A: Allocator>(found: &mut Vec<Finding<A>, A>)
     ensures { found.new.items ≡ sorted_once found.old.items }
 {
@@ -77,7 +79,7 @@ fn sort_once<A: Allocator>(found: &mut Vec<Finding<A>, A>)
     found.dedup_by(|a, b| compare(a, b) == Ordering::Equal);
 }
 
-// Puts what was found at the end of the problems, if its rule is on.
+// Appends the finding to the problems if its rule is on.
 fn push_with_level<A: Allocator>(
     problems: &mut Vec<Problem<A>, A>,
     found: Finding<A>,
@@ -92,6 +94,7 @@ fn push_with_level<A: Allocator>(
     Ok(())
 }
 
+// Returns the findings whose rules are on, each with its level.
 fn with_levels<A: Allocator + Copy>(
     alloc: A,
     found: Vec<Finding<A>, A>,
@@ -106,8 +109,9 @@ fn with_levels<A: Allocator + Copy>(
     Ok(problems)
 }
 
-/// The report of what was found: the problems of rules that are on and not silenced, with their
-/// levels, each once, by line, column, rule name and message. It takes memory once, for its answer.
+/// Returns the report of these findings: the problems whose rules are on and not silenced, with
+/// their levels and without duplicates, sorted by line, column, rule name and message. Allocates
+/// only for the result, and only once. The only error is out of memory.
 pub fn arrange<A: Allocator + Copy>(
     alloc: A,
     mut found: Vec<Finding<A>, A>,

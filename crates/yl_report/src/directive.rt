@@ -1,4 +1,4 @@
-//! The words of comments that silence rules.
+//! The words of the comments that silence rules.
 ghost use Rattle.std.specs.Prelude.{◌≡◌, ◌==◌, ◌&&◌, drop, bytes_eq};
 ghost use Rattle.std.specs.List.{list_all, list_any, slice_split};
 ghost use Rattle.yl_text.specs.Character.{is_non_space, without_end};
@@ -13,7 +13,7 @@ fn all_non_space(word: &[u8]) -> bool
     word.iter().all(|c| !is_white(*c))
 }
 
-// The text without the white space at its end.
+// Returns the text without the white space at its end.
 pub fn without_end(text: &[u8]) -> &[u8]
     ensures { result.now ≡ without_end text.now }
 {
@@ -32,7 +32,7 @@ fn is_rule_word(word: &[u8]) -> bool
     begins & is_long & all_non_space(word)
 }
 
-// Whether a word of a rule names this one.
+// Returns `true` if the word, without its first 5 bytes, is the name `rule`.
 fn is_name(word: &[u8], rule: &[u8]) -> bool
     ensures { result ≡ bytes_eq (drop 5 word.now) rule.now }
 {
@@ -64,8 +64,8 @@ fn names(words: &[u8], rule: &[u8]) -> bool
     all & any
 }
 
-// Whether a text is these words, followed by nothing or by words of rules of which one names this
-// one.
+// Returns `true` if the text starts with `words`, and nothing follows, or a space and words of the
+// form `rule:NAME` between single spaces, one of which names `rule`.
 pub fn speaks(text: &[u8], words: &[u8], rule: &[u8]) -> bool
     ensures { result ≡ spec.speaks text.now words.now rule.now }
 {

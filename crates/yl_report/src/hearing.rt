@@ -1,7 +1,8 @@
-//! What is left of a report where comments silence some of it.
+//! What a report contains after comments silence some of its problems.
 ghost use Rattle.yl_report.specs.Heard.{IsHeard};
 
-/// A law: a report is what is left of the one that no comment silences.
+/// A law: a report consists of the problems that the comments leave of the report that no comment
+/// silences.
 pub fn heard_reports()
     ensures { IsHeard }
 {}

@@ -1,5 +1,5 @@
-//! The report of a text: its problems in order, silenced and with levels; its status; its printed
-//! lines.
+//! The report of a text: its problems in order, with their levels and without the silenced ones,
+//! its exit status and its printed lines.
 #![tactic(auto)]
 
 mod arranging;

@@ -1,4 +1,4 @@
-//! The lines at which one rule says nothing.
+//! The lines at which one rule is silenced.
 ghost use Rattle.std.specs.Prelude.{◌≡◌, ℕ, ◌≤◌, ◌<◌, ◌==◌, OnOk, nat_le, IsTrue, if◌then◌else◌};
 ghost use Rattle.std.specs.List.{list_any};
 ghost use Rattle.std.specs.List.Sorted.{IsNonDecreasing, IsNonDecreasingBy};
@@ -6,15 +6,17 @@ ghost use Rattle.yl_report.specs.Switched.{is_off_at};
 
 use std::alloc::{AllocError, Allocator};
 
-/// From a line on, counted from 0, a rule is off or on.
+/// The switch of a rule to off or on, from a line on. Lines count from 0.
 #[derive(Clone, Copy)]
 pub struct Switch {
+    /// The first line for which the switch counts, from 0.
     pub line: u64,
+    /// Whether the rule is off from that line on.
     pub is_off: bool,
 }
 
-/// Adds a switch at the end, after taking away those of later lines, which it makes void. Of several at one line
-/// the last counts. The only error is out of memory.
+/// Appends a switch, after removing those at later lines, which it overrides. Of several switches
+/// at one line, the last one counts. The only error is out of memory.
 pub fn push_switch<A: Allocator>(
     switches: &mut Vec<Switch, A>,
     line: u64,
@@ -32,7 +34,7 @@ pub fn push_switch<A: Allocator>(
     Ok(())
 }
 
-// Whether the last switch at or before a line is off.
+// Returns `true` if the last switch at or before `line` is off.
 fn is_switched_off(switches: &[Switch], line: u64) -> bool
     requires { IsNonDecreasingBy (λ w. w.line) switches.now }
     ensures { result ≡ is_off_at switches.now line }
@@ -51,12 +53,12 @@ fn has_line(lines: &[u64], line: u64) -> bool
     lines.binary_search(&line).is_ok()
 }
 
-/// The lines, counted from 0, at which one rule says nothing.
+/// The lines at which one rule is silenced. Lines count from 0.
 #[derive(Drop)]
 pub struct SilencedLines<A: Allocator> {
-    // Where the rule is switched off and on, in the order of the lines.
+    // The lines at which the rule is switched off or on, in ascending order.
     pub switches: Vec<Switch, A>,
-    // The single lines at which it is off, in order.
+    // The single lines at which the rule is silenced, in ascending order.
     pub lines: Vec<u64, A>,
     ghost rising: { IsNonDecreasingBy (λ w. w.line) switches.items },
     ghost ordered: { IsNonDecreasing lines.items },
@@ -66,7 +68,7 @@ impl<A: Allocator> SilencedLines<A> {
     ghost use Rattle.std.specs.Prelude.{◌≡◌, Some};
     ghost use Rattle.yl_report.specs.Silence.{is_silenced_in};
 
-    /// Whether the rule says nothing at a line, counted from 0.
+    /// Returns `true` if the rule is silenced at `line`, counted from 0.
     pub fn is_off(&self, line: u64) -> bool
         ensures { result ≡ is_silenced_in (Some self.now) line }
     {

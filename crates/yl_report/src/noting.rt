@@ -1,4 +1,4 @@
-//! What the comments of a text mark of one rule.
+//! Reads the lines at which the comments of a text silence each rule.
 ghost use Rattle.std.specs.Prelude.{◌≡◌, ◌++◌, ◌∷◌, [], ℕ, OnOk, IfOk, Some, codes, map, slice_get, if◌then◌else◌};
 ghost use Rattle.std.specs.List.{filter};
 ghost use Rattle.std.specs.List.Sorted.{IsNonDecreasingBy};
@@ -18,7 +18,7 @@ use yl_lexeme::PlacedComment;
 use yl_rules::is_addressed;
 use yl_text::RuleId;
 
-// Notes what a comment switches of the rule.
+// Appends the switch that the comment makes of the rule, if it makes one.
 fn note_switch<A: Allocator>(
     switches: &mut Vec<Switch, A>,
     rule: RuleId,
@@ -37,7 +37,8 @@ fn note_switch<A: Allocator>(
     Ok(())
 }
 
-// Notes the line at which a comment silences the rule.
+// Appends the line at which the comment silences the rule, if it is a `disable-line` comment for
+// it.
 fn note_line<A: Allocator>(
     lines: &mut Vec<u64, A>,
     rule: RuleId,
@@ -53,7 +54,7 @@ fn note_line<A: Allocator>(
     Ok(())
 }
 
-// What the comments say of a rule.
+// Returns the lines at which the comments silence the rule.
 fn marks_of<A: Allocator + Copy>(
     alloc: A,
     comments: &[PlacedComment<'_>],
@@ -72,7 +73,7 @@ fn marks_of<A: Allocator + Copy>(
     Ok(SilencedLines { switches, lines })
 }
 
-// The comments that may silence a rule.
+// Returns the comments that may silence a rule.
 fn addressed<'a, A: Allocator + Copy>(
     alloc: A,
     comments: &[PlacedComment<'a>],
@@ -110,7 +111,7 @@ const RULES: [RuleId; 19] = [
     RuleId::Truthy,
 ];
 
-// What the comments say of each rule, by its place.
+// Returns the lines at which the comments silence each rule, indexed by the rule's number.
 fn marks_of_all<A: Allocator + Copy>(
     alloc: A,
     comments: &[PlacedComment<'_>],
@@ -126,8 +127,8 @@ fn marks_of_all<A: Allocator + Copy>(
     Ok(all)
 }
 
-/// What the comments of a text say of each rule, by its place; the list is empty if no comment may
-/// silence a rule.
+/// Returns the lines at which the comments of a text silence each rule, indexed by the rule's
+/// number. Returns an empty list if no comment may silence a rule. The only error is out of memory.
 pub fn marks_in<A: Allocator + Copy>(
     alloc: A,
     comments: &[PlacedComment<'_>],

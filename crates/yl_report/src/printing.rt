@@ -12,7 +12,7 @@ use std::io::Write;
 use yl_devices::{Waiting, WriteFault, flush, put_parts};
 use yl_text::Watched;
 
-// The pieces of a printed line.
+// Returns the pieces of a printed line.
 fn parts_of<'a>(
     name: &'a str,
     line: &'a str,
@@ -25,7 +25,7 @@ fn parts_of<'a>(
         ≡ name.now ++ codes ":" ++ line.now ++ codes ":" ++ column.now ++ codes ": [" ++ level.now
         ++ codes "] " ++ message.now ++ codes " (" ++ rule.now ++ codes ")\n" }
 {
-    // Each of these is lent for as long as the other pieces, which an array of them asks.
+    // Each of these is borrowed for `'a`, since all pieces of an array have one type.
     let colon: &'a [u8] = b":";
     let opened: &'a [u8] = b": [";
     let closed: &'a [u8] = b"] ";
@@ -47,7 +47,8 @@ fn parts_of<'a>(
     ]
 }
 
-// Puts the printed line of a problem behind what waits.
+// Appends the printed line of a problem to the buffer `waiting`, and writes to `out` what does not
+// fit.
 fn put_line<W: Write, A: Allocator>(
     name: &str,
     problem: &Problem<A>,
@@ -75,7 +76,8 @@ fn put_line<W: Write, A: Allocator>(
     )
 }
 
-// Puts what is printed of a problem behind what waits.
+// Appends the printed line of a problem to the buffer `waiting`, unless the problem is a warning
+// and `no_warnings` is set.
 fn put_problem<W: Write, A: Allocator>(
     name: &str,
     problem: &Problem<A>,
@@ -99,7 +101,8 @@ fn put_problem<W: Write, A: Allocator>(
     }
 }
 
-// Puts what is printed of the problems behind what waits.
+// Appends the printed lines of the problems to the buffer `waiting`, without those of warnings if
+// `no_warnings` is set.
 fn put_problems<W: Write, A: Allocator>(
     name: &str,
     problems: &[Problem<A>],
@@ -121,9 +124,9 @@ fn put_problems<W: Write, A: Allocator>(
     Ok(())
 }
 
-/// Writes the printed lines of the problems, without the warnings if so asked, in as few writes as
-/// a buffer of 4,096 bytes allows. It takes no memory. On a fault, which is told only where the
-/// writer failed, a beginning of them is out.
+/// Writes the printed lines of the problems, without those of warnings if `no_warnings` is set.
+/// Writes through a buffer of 4,096 bytes, and does not allocate. Returns an error only if the
+/// writer failed. Then a prefix of the lines is written.
 pub fn write_report<W: Write, A: Allocator>(
     name: &str,
     problems: &[Problem<A>],

@@ -3,7 +3,7 @@ use std::marker::Model;
 use yl_rules::Level;
 use yl_text::{Finding, RuleId};
 
-/// A problem of a report. Its line and its column count from 1, the column in characters.
+/// A problem of a report. Its line and its column count from 1, and the column counts characters.
 #[derive(Drop)]
 pub struct Problem<A: Allocator> {
     found: Finding<A>,
@@ -22,53 +22,56 @@ impl<A: Allocator> Problem<A> {
     ghost use Rattle.std.specs.Prelude.{◌≡◌};
     ghost use Rattle.yl_report.specs.Report.{is_error};
 
-    /// What was found, at a level.
+    /// Creates a problem from a finding and a level.
     pub fn new(found: Finding<A>, level: Level) -> Problem<A>
         ensures { result ≡ record { line = found.line; column = found.column; level = level; rule = found.rule; message = found.message } }
     {
         Problem { found, level }
     }
 
-    /// The line, counted from 1.
+    /// Returns the line, counted from 1.
     pub fn line(&self) -> u64
         ensures { result ≡ self.now.line }
     {
         self.found.line()
     }
 
-    /// Puts it in this line. It takes no memory.
+    /// Sets the line. Does not allocate.
     pub fn set_line(&mut self, line: u64)
         ensures { self.new ≡ record { line = line; column = self.old.column; level = self.old.level; rule = self.old.rule; message = self.old.message } }
     {
         self.found.set_line(line);
     }
 
-    /// The column, counted from 1 in characters.
+    /// Returns the column, in characters, counted from 1.
     pub fn column(&self) -> u64
         ensures { result ≡ self.now.column }
     {
         self.found.column()
     }
 
+    /// Returns the level.
     pub fn level(&self) -> Level
         ensures { result ≡ self.now.level }
     {
         self.level
     }
 
+    /// Returns `true` if the level is `Level::Error`.
     pub fn is_error(&self) -> bool
         ensures { result ≡ is_error self.now.level }
     {
         matches!(self.level, Level::Error)
     }
 
+    /// Returns the rule.
     pub fn rule(&self) -> RuleId
         ensures { result ≡ self.now.rule }
     {
         self.found.rule()
     }
 
-    /// What is said of the problem.
+    /// Returns the message.
     pub fn message(&self) -> &str
         ensures { result.now ≡ self.now.message }
     {
@@ -92,8 +95,8 @@ fn has_warning<A: Allocator>(problems: &[Problem<A>]) -> bool
     problems.iter().any(|problem| !problem.is_error())
 }
 
-/// The exit status of a report: 1 if there is an error, else 2 if there is a warning and `strict`
-/// is asked, else 0. Problems that are not printed count.
+/// Returns the exit status of a report: 1 if it has an error, else 2 if it has a warning and
+/// `strict` is set, else 0. Problems that are not printed count too.
 pub fn status<A: Allocator>(problems: &[Problem<A>], strict: bool) -> u8
     ensures { result ≡ status_of problems.now strict }
 {

@@ -1,4 +1,4 @@
-//! What the silencing comments of a text say.
+//! What the comments of a text silence.
 ghost use Rattle.std.specs.Prelude.{◌≡◌};
 ghost use Rattle.yl_rules.specs.LevelOf.{rule_number};
 
@@ -9,18 +9,19 @@ use std::alloc::{AllocError, Allocator};
 use yl_lexeme::PlacedComment;
 use yl_text::RuleId;
 
-// A place for each rule.
+// Returns the number of the rule, which is its index in `Silences::rules`.
 fn slot(rule: RuleId) -> usize
     ensures { result ≡ rule_number rule }
 {
     rule as usize
 }
 
-/// What the silencing comments of a text say.
+/// What the comments of a text silence.
 #[derive(Drop)]
 pub struct Silences<A: Allocator> {
     is_file_silenced: bool,
-    // By rule; none if the text has no silencing comment.
+    // The silenced lines of each rule, by its number. Empty if no comment of the text may silence a
+    // rule.
     rules: Vec<SilencedLines<A>, A>,
 }
 
@@ -31,7 +32,7 @@ impl<A: Allocator> Silences<A> {
     ghost use Rattle.yl_report.specs.Directive as spec;
     ghost use Rattle.yl_report.specs.Silence.{is_file_silenced_by, is_silenced_at};
 
-    /// Nothing is silenced.
+    /// Creates a value that silences nothing.
     pub fn none(alloc: A) -> Silences<A>
         ensures file { is_file_silenced_by result ≡ false }
         ensures lines { is_silenced_at result ≡ (λ _ _. false) }
@@ -42,7 +43,8 @@ impl<A: Allocator> Silences<A> {
         }
     }
 
-    /// What the first line and the comments of a text say.
+    /// Reads what the first line and the comments of a text silence. The only error is out of
+    /// memory.
     pub fn read(
         alloc: A,
         first_row: &str,
@@ -60,14 +62,15 @@ impl<A: Allocator> Silences<A> {
         })
     }
 
-    /// Whether nothing of the file is reported.
+    /// Returns `true` if the whole file is silenced.
     pub fn is_file_silenced(&self) -> bool
         ensures { result ≡ is_file_silenced_by self.now }
     {
         self.is_file_silenced
     }
 
-    /// Whether a rule says nothing at a line, counted from 0.
+    /// Returns `true` if `rule` is silenced at `line`, counted from 0. A silenced file is not
+    /// considered here.
     pub fn is_silenced(&self, rule: RuleId, line: u64) -> bool
         ensures { result ≡ is_silenced_at self.now rule line }
     {

@@ -1,6 +1,6 @@
-//! Where a project's configuration lies, what it is with all that it extends, and which files of folders are linted.
+//! The search for the configuration of a project and for the files of folders that are linted.
 //!
-//! All of it asks the system, so nothing is said of it in contracts.
+//! All of this depends on the file system, so the contracts say nothing about it.
 #![tactic(auto)]
 
 mod loading;

@@ -1,4 +1,4 @@
-//! A configuration with all that it extends.
+//! Loads a configuration with all that it extends.
 use crate::metadata::metadata_of;
 use std::alloc::{AllocError, AllocFailed, Global};
 use std::mem;
@@ -8,24 +8,27 @@ use yl_devices::{RunFault, without_mark};
 use yl_programs::bytes_of;
 use yl_project::{Named, Project};
 
-/// How many texts a chain of `extends` may have.
+/// The maximum number of texts in a chain of `extends`.
 const MOST_EXTENDED: usize = 64;
 
-/// Why there is no configuration.
+/// The cause why a configuration could not be loaded.
 #[derive(Clone, Copy, Debug, PartialEq, Eq)]
 pub enum LoadCause {
-    /// The text says none.
+    /// The text of the configuration has a fault.
     Config(ConfigFault),
-    /// The file can't be read, or want of memory.
+    /// The file could not be read, or memory ran out.
     Run(RunFault),
     /// More than 64 texts extend each other.
     TooLong,
 }
 
-/// Why there is no configuration, and the path of the file that has the fault, unless it is a text of the command line.
+/// The error of loading a configuration.
 #[derive(Drop)]
 pub struct LoadFault {
+    /// The path of the file that has the fault. It is `None` if the fault is in a text of the
+    /// command line, and may be `None` if memory ran out.
     pub file: Option<String>,
+    /// The cause.
     pub cause: LoadCause,
 }
 
@@ -44,7 +47,7 @@ impl<T: Drop> From<AllocFailed<T>> for LoadFault {
     }
 }
 
-/// Where a configuration is read from.
+/// The source from which a configuration is read.
 #[derive(Clone, Copy)]
 pub enum Origin<'a> {
     /// A text.
@@ -53,7 +56,7 @@ pub enum Origin<'a> {
     File(&'a str),
 }
 
-// When a file was changed last, and how many bytes it has; none where it is not there.
+// The time of the last change of a file and its length in bytes, or `None` if they cannot be read.
 type Stamp = Option<(SystemTime, u64)>;
 
 fn stamp_of(rt: &HostRuntime, file: &str) -> Result<Stamp, AllocError> {
@@ -66,7 +69,7 @@ fn stamp_of(rt: &HostRuntime, file: &str) -> Result<Stamp, AllocError> {
     })
 }
 
-/// A file that was opened, or that could not be, as it was just before.
+/// A file that was opened, or that could not be opened, with its state just before.
 #[derive(Drop)]
 pub struct Opened {
     file: String,
@@ -81,13 +84,15 @@ impl Opened {
         })
     }
 
-    /// Whether the file is as it was, by the time of its last change and its length.
+    /// Returns `true` if the time of the last change of the file and its length are as they were.
+    /// The only error is out of memory.
     pub fn is_unchanged(&self, rt: &HostRuntime) -> Result<bool, AllocError> {
         Ok(stamp_of(rt, self.file.as_str())? == self.stamp)
     }
 }
 
-// A text of a configuration, the path of its file, if it is one, and the lines of the files that its `ignore-from-file` names.
+// A text of a configuration, the path of its file if it has one, and the lines of the files that
+// its `ignore-from-file` names.
 #[derive(Drop)]
 struct Layer {
     file: Option<String>,
@@ -112,7 +117,7 @@ impl Layer {
         }
     }
 
-    // What the text says over what it extends.
+    // Applies the text to the configuration that it extends.
     fn over(self, rt: &HostRuntime, base: Project<Global>) -> Result<Project<Global>, LoadFault> {
         let bytes = self.bytes.as_slice();
         match Project::read(rt.alloc(), bytes, base, self.ignore_lines.as_str()) {
@@ -122,7 +127,7 @@ impl Layer {
     }
 }
 
-// What a configuration extends that comes with the program.
+// Returns the built-in configuration with this name, if there is one.
 fn built_in(rt: &HostRuntime, name: &str) -> Result<Option<Project<Global>>, AllocError> {
     Ok(match name {
         "default" => Some(Project::standard(rt.alloc())?),
@@ -131,14 +136,16 @@ fn built_in(rt: &HostRuntime, name: &str) -> Result<Option<Project<Global>>, All
     })
 }
 
-// A configuration's texts, each before the one that it extends, and what the last one extends.
+// The texts of a configuration, each before the one that it extends, and the configuration that the
+// last one extends.
 #[derive(Drop)]
 struct Chain {
     layers: Vec<Layer>,
     base: Project<Global>,
 }
 
-/// Loads a configuration with all that it extends, `default` and `relaxed` or files, at most 64 texts. Paths in it are taken from a folder.
+/// A loader of configurations with all that they extend: `default`, `relaxed` or files, at most 64
+/// texts. Relative paths in them start from a folder.
 #[derive(Drop)]
 pub struct Loader<'a> {
     rt: &'a HostRuntime,
@@ -147,7 +154,8 @@ pub struct Loader<'a> {
 }
 
 impl<'a> Loader<'a> {
-    /// A loader of configurations whose paths are taken from `folder`, which ends with `/`, or is empty for the working folder.
+    /// Creates a loader. Relative paths in configurations start from `folder`, which ends with `/`,
+    /// or is empty for the working folder.
     pub fn new(rt: &'a HostRuntime, folder: &'a str) -> Loader<'a> {
         Loader {
             rt,
@@ -156,13 +164,13 @@ impl<'a> Loader<'a> {
         }
     }
 
-    /// The files that were opened, or that could not be.
+    /// Returns the files that were opened, or that could not be opened.
     pub fn into_opened(self) -> Vec<Opened> {
         let Loader { opened, .. } = self;
         opened
     }
 
-    // A path in the folder.
+    // Returns a path, joined to the folder if it is relative.
     fn path_of(&self, path: &str) -> Result<String, AllocError> {
         let mut full = String::new(self.rt.alloc());
         if !path.starts_with('/') {
@@ -194,7 +202,7 @@ impl<'a> Loader<'a> {
         }
     }
 
-    // The lines of these files.
+    // Returns the lines of these files.
     fn lines_of(&mut self, files: &[String]) -> Result<String, LoadFault> {
         let mut lines = String::new(self.rt.alloc());
         for file in files {
@@ -240,7 +248,7 @@ impl<'a> Loader<'a> {
         })
     }
 
-    /// Loads the configuration of this origin.
+    /// Loads a configuration from this origin, with all that it extends.
     pub fn load(&mut self, origin: Origin<'_>) -> Result<Project<Global>, LoadFault> {
         let first = self.layer_of(origin)?;
         let Chain { layers, base } = self.chain_of(first)?;

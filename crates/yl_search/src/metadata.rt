@@ -1,10 +1,11 @@
-//! What the system says of a path.
+//! Reads the metadata of paths.
 use std::alloc::AllocError;
 use std::fs;
 use std::fs::Metadata;
 use std::io::ErrorKind;
 
-/// The metadata of a path, of a link those of what it leads to, or none where they can't be read. The only error is out of memory.
+/// Returns the metadata of a path, or `None` if they cannot be read. Follows links. The only error
+/// is out of memory.
 pub fn metadata_of(rt: &HostRuntime, path: &str) -> Result<Option<Metadata>, AllocError> {
     match fs::metadata(rt, path) {
         Ok(metadata) => Ok(Some(metadata)),

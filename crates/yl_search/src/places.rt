@@ -1,17 +1,18 @@
-//! Where configurations lie.
+//! Finds the files of configurations.
 use crate::metadata::metadata_of;
 use std::alloc::AllocError;
 use std::env;
 use std::env::VarError;
 use std::io::ErrorKind;
 
-// The names that a project's configuration may have.
+// The names that the configuration of a project may have.
 const NAMES: [&str; 3] = [".yamllint", ".yamllint.yaml", ".yamllint.yml"];
 
-// The most bytes of a path on this system, so no more folders lie above one.
+// The maximum length of a path on this system, in bytes. A path has at most that many folders.
 const MOST_FOLDERS: usize = 4096;
 
-/// Whether there is a file of this name, or a link to one.
+/// Returns `true` if there is a file at this path, or a link to one. The only error is out of
+/// memory.
 fn is_file(rt: &HostRuntime, path: &str) -> Result<bool, AllocError> {
     Ok(match metadata_of(rt, path)? {
         Some(metadata) => metadata.is_file(),
@@ -25,7 +26,8 @@ fn joined(rt: &HostRuntime, folder: &str, name: &str) -> Result<String, AllocErr
     Ok(path)
 }
 
-// The first of the names that is a file in a folder, whose path ends with `/` or is empty.
+// Returns the path of the first of the names that is a file in a folder. The path of the folder
+// ends with `/` or is empty.
 fn file_in(rt: &HostRuntime, folder: &str) -> Result<Option<String>, AllocError> {
     for name in NAMES {
         let path = joined(rt, folder, name)?;
@@ -36,7 +38,7 @@ fn file_in(rt: &HostRuntime, folder: &str) -> Result<Option<String>, AllocError>
     Ok(None)
 }
 
-// The folder in which this one lies. `/` lies in itself.
+// Returns the parent of a folder. The parent of `/` is `/`.
 fn above(folder: &str) -> &str {
     match folder.rsplit_once('/') {
         Some(("", _)) | None => "/",
@@ -44,7 +46,7 @@ fn above(folder: &str) -> &str {
     }
 }
 
-// The path of the home folder without `/` at its end, empty where none is known.
+// Returns the path of the home folder without `/` at its end, or an empty path if it is not known.
 fn home(rt: &HostRuntime) -> Result<String, AllocError> {
     match env::home_dir(rt) {
         Ok(Some(home)) => String::from_str(rt.alloc(), home.as_str().trim_end_matches('/')),
@@ -53,9 +55,11 @@ fn home(rt: &HostRuntime) -> Result<String, AllocError> {
     }
 }
 
-/// The path of the project's configuration, if there is one: the first file of the names `.yamllint`, `.yamllint.yaml` and `.yamllint.yml` in a
-/// folder, or else in the folders above, up to the home folder or the root. `folder` is absolute. Where it is the working folder, as `is_here`
-/// says, the path is one from there, as `../.yamllint`; else it is absolute.
+/// Returns the path of the configuration of a project, if there is one. This is the first file with
+/// the name `.yamllint`, `.yamllint.yaml` or `.yamllint.yml` in `folder`, or else in the folders
+/// above it, up to the home folder or the root. `folder` is absolute. If `is_here` is set, `folder`
+/// is the working folder, and the result is a path relative to it, such as `../.yamllint`.
+/// Otherwise the result is absolute. The only error is out of memory.
 pub fn project_file(
     rt: &HostRuntime,
     folder: &str,
@@ -80,7 +84,7 @@ pub fn project_file(
     Ok(None)
 }
 
-// The value of a variable, if it is set and in UTF-8.
+// Returns the value of an environment variable, if it is set and is UTF-8.
 fn variable(rt: &HostRuntime, name: &str) -> Result<Option<String>, AllocError> {
     match env::var(rt, name) {
         Ok(value) => Ok(Some(value)),
@@ -89,7 +93,7 @@ fn variable(rt: &HostRuntime, name: &str) -> Result<Option<String>, AllocError> 
     }
 }
 
-// The path of the user's configuration, whether it is a file or not.
+// Returns the path of the configuration of the user, whether there is such a file or not.
 fn user_path(rt: &HostRuntime) -> Result<String, AllocError> {
     if let Some(path) = variable(rt, "YAMLLINT_CONFIG_FILE")? {
         return match path.as_str().strip_prefix('~') {
@@ -100,15 +104,17 @@ fn user_path(rt: &HostRuntime) -> Result<String, AllocError> {
         };
     }
     match variable(rt, "XDG_CONFIG_HOME")? {
-        // An empty one is the working folder, as yamllint has it.
+        // An empty value stands for the working folder, as in yamllint.
         Some(folder) if folder.is_empty() => String::from_str(rt.alloc(), "yamllint/config"),
         Some(folder) => joined(rt, folder.as_str(), "/yamllint/config"),
         None => joined(rt, home(rt)?.as_str(), "/.config/yamllint/config"),
     }
 }
 
-/// The path of the user's own configuration, if it is a file: what `YAMLLINT_CONFIG_FILE` names, where a leading `~/` is the home folder; else
-/// `yamllint/config` in `XDG_CONFIG_HOME`; else `.config/yamllint/config` in the home folder.
+/// Returns the path of the configuration of the user, if it is a file. This is the path in
+/// `YAMLLINT_CONFIG_FILE`, where a leading `~/` stands for the home folder, else `yamllint/config`
+/// in `XDG_CONFIG_HOME`, else `.config/yamllint/config` in the home folder. The only error is out
+/// of memory.
 pub fn user_file(rt: &HostRuntime) -> Result<Option<String>, AllocError> {
     let path = user_path(rt)?;
     Ok(if is_file(rt, path.as_str())? {

@@ -1,4 +1,4 @@
-//! The files that a run lints.
+//! Finds the files that a run lints.
 use crate::metadata::metadata_of;
 use std::alloc::{AllocError, Global};
 use std::fs::DirEntry;
@@ -6,34 +6,35 @@ use std::io::ErrorKind;
 use std::{fs, io};
 use yl_project::Project;
 
-/// What a walk comes to.
+/// An item of a walk.
 #[derive(Drop)]
 pub enum Found {
     /// Standard input.
     Input,
-    /// The file of this path. A walk does not look whether it can be read.
+    /// The file at this path. A walk does not check whether it can be read.
     File(String),
-    /// A folder that can't be read, or not to its end.
+    /// A folder that cannot be read, or not to its end.
     Unreadable(String),
-    /// A folder with a name that is not UTF-8.
+    /// A folder that contains a name that is not UTF-8.
     BadName(String),
 }
 
-/// A walk over paths: files as they are named, and the YAML files of folders and of the folders in them. Of a folder the files come first, then
-/// its folders, both in the order of their names. Links to files are followed, links to folders only where they are named; pipes, devices and
-/// sockets in folders are passed over.
+/// A walk over paths: files as they are named, and the YAML files in folders and in the folders
+/// below. Of a folder, the files come first and then its folders, both in the order of their names.
+/// Links to files are followed. Links to folders are followed only if they are named. Pipes,
+/// devices and sockets in folders are skipped.
 #[derive(Drop)]
 pub struct Walk<'a> {
     rt: &'a HostRuntime,
     project: &'a Project<Global>,
     paths: &'a [String],
-    // What is found and not yet told, the last one first.
+    // The items that are not yet returned, the last one first.
     ready: Vec<Found>,
     // The folders that are not yet read, the last one first.
     folders: Vec<String>,
 }
 
-// What is in a folder.
+// The contents of a folder.
 #[derive(Drop)]
 struct Listing {
     files: Vec<String>,
@@ -43,7 +44,7 @@ struct Listing {
 }
 
 impl<'a> Walk<'a> {
-    /// A walk over these paths. `-` is standard input.
+    /// Creates a walk over these paths. `-` stands for standard input.
     pub fn new(rt: &'a HostRuntime, project: &'a Project<Global>, paths: &'a [String]) -> Walk<'a> {
         Walk {
             rt,
@@ -54,7 +55,7 @@ impl<'a> Walk<'a> {
         }
     }
 
-    /// What the walk comes to next, or none at its end.
+    /// Returns the next item, or `None` at the end. The only error is out of memory.
     pub fn next(&mut self) -> Result<Option<Found>, AllocError> {
         for _ in 0..u64::MAX {
             if let Some(found) = self.ready.pop() {
@@ -69,7 +70,7 @@ impl<'a> Walk<'a> {
         Ok(None)
     }
 
-    // Takes the next path, if there is one.
+    // Takes the next path. Returns `false` if there is none.
     fn begin(&mut self) -> Result<bool, AllocError> {
         let Some((path, rest)) = self.paths.split_first() else {
             return Ok(false);
@@ -93,7 +94,7 @@ impl<'a> Walk<'a> {
         Ok(true)
     }
 
-    // Reads a folder.
+    // Reads a folder and queues its contents.
     fn enter(&mut self, folder: String) -> Result<(), AllocError> {
         let Some(listing) = self.list(folder.as_str())? else {
             self.ready.push(Found::Unreadable(folder))?;
@@ -127,7 +128,7 @@ impl<'a> Walk<'a> {
         Ok(())
     }
 
-    // What is in a folder, or none where it can't be read.
+    // Returns the contents of a folder, or `None` if it cannot be read.
     fn list(&self, folder: &str) -> Result<Option<Listing>, AllocError> {
         let entries = match fs::read_dir(self.rt, folder) {
             Ok(entries) => entries,
@@ -151,7 +152,7 @@ impl<'a> Walk<'a> {
         Ok(Some(listing))
     }
 
-    // Puts an entry where it belongs.
+    // Adds an entry to the listing, if it is a folder or a YAML file.
     fn take(&self, entry: &DirEntry, listing: &mut Listing) -> Result<(), AllocError> {
         let path = entry.path();
         let kind = match entry.file_type() {
@@ -187,7 +188,7 @@ impl<'a> Walk<'a> {
     }
 }
 
-// Notes why an entry is not there.
+// Records in the listing why an entry could not be read. The only error is out of memory.
 fn note_fault(error: &io::Error, listing: &mut Listing) -> Result<(), AllocError> {
     match error.kind() {
         ErrorKind::OutOfMemory => return Err(AllocError),

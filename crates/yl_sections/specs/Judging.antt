@@ -65,6 +65,7 @@ pub record Reads {A : Type 0} (config : Config) (xs : List LexemeValue) (ns : Li
   pub only : OnlyInnermostWaits d.reader.parser.goals
   pub waits : option_map (λ w. w.index) d.waiting ≡ waiting_anchor d.reader.parser.goals
   pub anchor : IsAnchorOf xs d.waiting
+  pub options : d.options ≡ lexeme_options_of config
   pub version : IsVersion (is_1_2_document xs) d.rules left
   pub found : (n : ℕ) → n ≤ length left
       → d.found.items ++ lexemes_left (is_1_2_document xs) (lexeme_options_of config) d.rules (take n left) (facts_by_lines d.reader.marker (by_line (map token_of left)))

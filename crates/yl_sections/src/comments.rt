@@ -31,15 +31,16 @@ fn last_end<A: Allocator>(
 ) -> Option<LexemeEnd>
     ensures { result ≡ last_lexeme_end last line lexemes.now }
 {
-    let mut last = last;
-    for lexeme in lexemes {
-        let end = lexeme.end();
-        last = Some(LexemeEnd {
-            line: u64::from(line) + u64::from(end.line),
-            col: end.col,
-        });
+    match lexemes {
+        [] => last,
+        [.., lexeme] => {
+            let end = lexeme.end();
+            Some(LexemeEnd {
+                line: u64::from(line) + u64::from(end.line),
+                col: end.col,
+            })
+        }
     }
-    last
 }
 
 /// In which column it is, if it is in this line.
@@ -59,6 +60,7 @@ fn column_in(line: u32, last: Option<LexemeEnd>) -> Option<u32>
 }
 
 /// Puts a comment after those that are kept, if it may silence rules.
+#[inline(never)]
 fn push_addressed<A: Allocator + Copy>(
     alloc: A,
     kept: &mut Vec<KeptComment<A>, A>,

@@ -6,6 +6,7 @@ ghost use Rattle.yl_marks.specs.Keys.{lexeme_at_line};
 ghost use Rattle.yl_events.specs.declared.fault.PlacedParseFault.{PlacedParseFault};
 ghost use Rattle.yl_events.specs.Event.{EventValue};
 ghost use Rattle.yl_events.specs.Named.{waiting_anchor};
+ghost use Rattle.yl_config.specs.declared.config.Config.{Config};
 ghost use Rattle.yl_events.specs.Seen.{event_seen, waiting_value};
 ghost use Rattle.yl_layout.specs.LexemesLeft.{IsVersion, lexemes_left};
 ghost use Rattle.yl_tree.specs.TreeRules.{Finds};
@@ -22,8 +23,8 @@ use yl_config::Config;
 use yl_events::{LineLexemes, Outline, PlacedParseFault, WaitingAnchor};
 use yl_indentation::{Fact, FactReader};
 use yl_layout::{LexemeOptions, LexemeRules};
-use yl_lexeme::{LexemeAtLine, Meter};
-use yl_marks::KeyFacts;
+use yl_lexeme::Meter;
+use yl_marks::{KeyFacts, RowLexemes};
 use yl_text::{Finding, Pos};
 use yl_tree::TreeRules;
 
@@ -45,6 +46,7 @@ impl<A: Allocator> Model for HeldAnchor<A> {
 }
 
 impl<A: Allocator + Copy> HeldAnchor<A> {
+    #[inline(never)]
     fn of(alloc: A, anchor: &WaitingAnchor<'_>) -> Result<HeldAnchor<A>, AllocError>
         ensures { IfOk result (λ a. a ≡ waiting_value anchor.now) }
     {
@@ -66,19 +68,29 @@ impl<A: Allocator + Copy> HeldAnchor<A> {
     }
 }
 
+/// No lexemes: those where a document begins or ends.
+fn no_lexemes<'n, A: Allocator>() -> RowLexemes<'n, A>
+    ensures { map (lexeme_at_line result.line) result.lexemes.now ≡ [] }
+{
+    RowLexemes {
+        line: 0,
+        lexemes: &[],
+    }
+}
+
 /// The lexemes that the outlines of a line may name, by the anchor that waits before it.
 fn lexemes_of_line<'n, A: Allocator + Copy>(
     waiting: &'n Option<HeldAnchor<A>>,
     first: usize,
-    line: &'n [LexemeAtLine<'n, A>],
+    row: &RowLexemes<'n, A>,
 ) -> LineLexemes<'n, A>
-    ensures { result ≡ record { lexemes = map (λ x. lexeme_at_line x.line x.lexeme.now) line.now; first = first; waiting = waiting.now } }
+    ensures { result ≡ record { lexemes = map (lexeme_at_line row.now.line) row.now.lexemes.now; first = first; waiting = waiting.now } }
 {
     let waiting = match waiting {
         None => None,
         Some(anchor) => Some(anchor.lend()),
     };
-    LineLexemes::new(line, first, waiting)
+    LineLexemes::new(row, first, waiting)
 }
 
 /// The anchor of this index, if there is one, as it waits for its node after a line.
@@ -116,18 +128,22 @@ fn tell<A: Allocator + Copy>(
     alloc: A,
     held: &mut Option<HeldAnchor<A>>,
     first: usize,
-    line: &[LexemeAtLine<'_, A>],
+    row: &RowLexemes<'_, A>,
     reader: &DocumentReader<A>,
     tree: &mut TreeRules<A>,
 ) -> Result<(), AllocError>
     ensures events { (es : List EventValue) (all : List FindingValue)
-        → Finds tree.old (map (event_seen (record { lexemes = map (λ x. lexeme_at_line x.line x.lexeme.now) line.now; first = first; waiting = held.old }))
+        → Finds tree.old (map (event_seen (record { lexemes = map (lexeme_at_line row.now.line) row.now.lexemes.now; first = first; waiting = held.old }))
         reader.now.outlines.items ++ es) all
         → OnOk result (Finds tree.new es all) }
-    ensures held { OnOk result (held.new ≡ anchor_held (record { lexemes = map (λ x. lexeme_at_line x.line x.lexeme.now) line.now; first = first; waiting = held.old })
+    ensures held { OnOk result (held.new ≡ anchor_held (record { lexemes = map (lexeme_at_line row.now.line) row.now.lexemes.now; first = first; waiting = held.old })
         (waiting_anchor reader.now.parser.goals)) }
 {
-    let lexemes = lexemes_of_line(held, first, line);
+    let row = RowLexemes {
+        line: row.line,
+        lexemes: row.lexemes,
+    };
+    let lexemes = lexemes_of_line(held, first, &row);
     push_events(&lexemes, &reader.outlines, tree)?;
     let waiting = held_anchor(alloc, &lexemes, reader.parser.waiting())?;
     drop(lexemes);
@@ -135,25 +151,30 @@ fn tell<A: Allocator + Copy>(
     Ok(())
 }
 
-/// What the rules on lexemes find in a line of which only the first so many lexemes count, and in no line after it.
+/// What the rules on lexemes find in a row of which only the first so many lexemes count, and in no line after it.
+#[inline(never)]
 fn find_before<A: Allocator + Copy>(
     options: &LexemeOptions,
-    line: &[LexemeAtLine<'_, A>],
+    row: &RowLexemes<'_, A>,
     keys: &[KeyFacts],
     count: usize,
     rules: &mut LexemeRules,
     found: &mut Vec<Finding<A>, A>,
 ) -> Result<(), AllocError>
-    requires keys { length keys.now ≡ length line.now }
-    requires count { count ≤ length line.now }
+    requires keys { length keys.now ≡ length row.now.lexemes.now }
+    requires count { count ≤ length row.now.lexemes.now }
     ensures { (v : Bool) (rest : List LexemeValue)
-        → IsVersion v rules.old (map (λ x. lexeme_at_line x.line x.lexeme.now) line.now ++ rest)
+        → IsVersion v rules.old (map (lexeme_at_line row.now.line) row.now.lexemes.now ++ rest)
         → OnOk result (found.new.items
-        ≡ found.old.items ++ lexemes_left v options.now rules.old (take count (map (λ x. lexeme_at_line x.line x.lexeme.now) line.now)) (take count keys.now)) }
+        ≡ found.old.items ++ lexemes_left v options.now rules.old (take count (map (lexeme_at_line row.now.line) row.now.lexemes.now)) (take count keys.now)) }
 {
-    let (line, _) = line.split_at(count);
+    let (lexemes, _) = row.lexemes.split_at(count);
     let (keys, _) = keys.split_at(count);
-    rules.read(options, line, keys, found)?;
+    let before = RowLexemes {
+        line: row.line,
+        lexemes,
+    };
+    rules.read_row(options, &before, keys, found)?;
     rules.finish(options, found)
 }
 
@@ -175,7 +196,7 @@ fn found_in_tree<A: Allocator + Copy>(
         return Ok(Vec::new(alloc));
     }
     push_events(
-        &lexemes_of_line(waiting, count, &[]),
+        &lexemes_of_line(waiting, count, &no_lexemes()),
         &reader.outlines,
         &mut tree,
     )?;
@@ -210,6 +231,7 @@ pub struct DocumentJudge<A: Allocator + Copy> {
     /// The anchor that waits for its node.
     waiting: Option<HeldAnchor<A>>,
     places: FactReader<A>,
+    options: LexemeOptions,
     rules: LexemeRules,
     tree: TreeRules<A>,
     facts: Vec<Fact, A>,
@@ -239,13 +261,15 @@ impl<A: Allocator + Copy> DocumentJudge<A> {
     {
         let reader = DocumentReader::begin(alloc, meter)?;
         let mut tree = rules_at_start(alloc, config);
-        push_events(&LineLexemes::new(&[], 0, None), &reader.outlines, &mut tree)?;
+        let none = LineLexemes::new(&no_lexemes(), 0, None);
+        push_events(&none, &reader.outlines, &mut tree)?;
         Ok(DocumentJudge {
             alloc,
             count: 0,
             reader,
             waiting: None,
             places: FactReader::new(alloc),
+            options: lexeme_options(config),
             rules: LexemeRules::new(),
             tree,
             facts: Vec::new(alloc),
@@ -253,39 +277,37 @@ impl<A: Allocator + Copy> DocumentJudge<A> {
         })
     }
 
-    /// Reads the lexemes that begin in the document's next line, whose row begins with so many spaces, or answers the document's fault.
+    /// Reads the lexemes of the document's next row that has some, which begins with so many spaces, or answers the document's fault.
     /// The only error is out of memory, or more lexemes than a `u32` counts.
     pub fn read(
         &mut self,
-        config: &Config,
-        line: &[LexemeAtLine<'_, A>],
+        row: &RowLexemes<'_, A>,
         spaces: u32,
     ) -> Result<Option<PlacedParseFault>, AllocError>
-        ensures { (xs : List LexemeValue) (ns : List ℕ) (left : List LexemeValue)
-            → IsLine ns spaces (map (λ x. lexeme_at_line x.line x.lexeme.now) line.now) left
-            → Reads config.now xs ns (map (λ x. lexeme_at_line x.line x.lexeme.now) line.now ++ left) self.old
-            → IfOk result (λ fault. ReadsLine fault config.now xs ns self.old.count (length line.now) left self.new) }
+        ensures { (config : Config) (xs : List LexemeValue) (ns : List ℕ) (left : List LexemeValue)
+            → IsLine ns spaces (map (lexeme_at_line row.now.line) row.now.lexemes.now) left
+            → Reads config xs ns (map (lexeme_at_line row.now.line) row.now.lexemes.now ++ left) self.old
+            → IfOk result (λ fault. ReadsLine fault config xs ns self.old.count (length row.now.lexemes.now) left self.new) }
     {
         let first = self.count;
-        let fault = self.reader.read(first, line)?;
-        let Some(end) = first.checked_add(line.len()) else {
+        let fault = self.reader.read(first, row)?;
+        let Some(end) = first.checked_add(row.lexemes.len()) else {
             return Err(AllocError);
         };
         self.places.read_line(
-            line,
+            &self.reader.tokens,
             first,
             &self.reader.symbols,
             counted_in(fault, end),
             spaces,
             &mut self.facts,
         )?;
-        let options = lexeme_options(config);
         let keys = &self.reader.keys;
         if let Some(fault) = fault {
             let count = fault.place - first;
             find_before(
-                &options,
-                line,
+                &self.options,
+                row,
                 keys,
                 count,
                 &mut self.rules,
@@ -293,12 +315,13 @@ impl<A: Allocator + Copy> DocumentJudge<A> {
             )?;
             return Ok(Some(fault));
         }
-        self.rules.read(&options, line, keys, &mut self.found)?;
+        self.rules
+            .read_row(&self.options, row, keys, &mut self.found)?;
         tell(
             self.alloc,
             &mut self.waiting,
             first,
-            line,
+            row,
             &self.reader,
             &mut self.tree,
         )?;
@@ -324,21 +347,22 @@ impl<A: Allocator + Copy> DocumentJudge<A> {
     }
 
     /// The document ends. The only error is out of memory.
-    pub fn finish(self, config: &Config) -> Result<DocumentEnd<A>, AllocError>
-        ensures { (xs : List LexemeValue) (ns : List ℕ) → Reads config.now xs ns [] self → IfOk result (λ e. EndsSo config.now xs ns e) }
+    pub fn finish(self) -> Result<DocumentEnd<A>, AllocError>
+        ensures { (config : Config) (xs : List LexemeValue) (ns : List ℕ) → Reads config xs ns [] self → IfOk result (λ e. EndsSo config xs ns e) }
     {
         let DocumentJudge {
             alloc,
             count,
             mut reader,
             waiting,
+            options,
             rules,
             tree,
             facts,
             mut found,
             ..
         } = self;
-        rules.finish(&lexeme_options(config), &mut found)?;
+        rules.finish(&options, &mut found)?;
         let fault = reader.close(count)?;
         let in_tree = found_in_tree(alloc, &waiting, count, &reader, fault, tree)?;
         Ok(DocumentEnd {

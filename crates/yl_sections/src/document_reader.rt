@@ -10,15 +10,30 @@ ghost use Rattle.yl_events.specs.SymbolParsing.{FeedsSymbols, outcome_of_symbols
 
 use std::alloc::{AllocError, Allocator};
 use yl_events::{Outline, PlacedParseFault, SymbolParser};
-use yl_lexeme::{LexemeAtLine, Meter};
-use yl_marks::{KeyFacts, KeyMarker, Symbol};
+use yl_lexeme::Meter;
+use yl_marks::{KeyFacts, KeyMarker, RowLexemes, Symbol, Token, push_tokens};
+
+/// The number of lexemes for which the lists of a row have room from the first row on: most rows have fewer.
+const ROW: usize = 8;
+
+/// Reads the lexemes of a row without their values, in the room of those of an earlier row.
+fn read_tokens<A: Allocator>(
+    row: &RowLexemes<'_, A>,
+    tokens: &mut Vec<Token, A>,
+) -> Result<(), AllocError>
+    ensures { OnOk result (tokens.new.items ≡ map token_of (map (lexeme_at_line row.now.line) row.now.lexemes.now)) }
+{
+    tokens.clear();
+    push_tokens(row, tokens)
+}
 
 /// What counts of the lines of a document that were read, and what the latest of them told.
 #[derive(Drop)]
 pub struct DocumentReader<A: Allocator + Copy> {
     pub marker: KeyMarker<A>,
     pub parser: SymbolParser<A>,
-    /// The latest line's lexemes with their marks, what keys say of each, and what the parser told of them.
+    /// The latest line's lexemes without their values, with their marks, what keys say of each, and what the parser told of them.
+    pub tokens: Vec<Token, A>,
     pub symbols: Vec<Symbol, A>,
     pub keys: Vec<KeyFacts, A>,
     pub outlines: Vec<Outline, A>,
@@ -39,36 +54,40 @@ impl<A: Allocator + Copy> DocumentReader<A> {
         Ok(DocumentReader {
             marker: KeyMarker::new(alloc),
             parser,
-            symbols: Vec::new(alloc),
-            keys: Vec::new(alloc),
+            tokens: Vec::with_capacity(alloc, ROW)?,
+            symbols: Vec::with_capacity(alloc, 2 * ROW)?,
+            keys: Vec::with_capacity(alloc, ROW)?,
             outlines,
         })
     }
 
-    /// Reads the lexemes that begin in the next line, before which the document has `first` lexemes, or answers the document's fault.
+    /// Reads the lexemes of the next row that has some, before which the document has `first` lexemes, or answers the document's fault.
     /// The only error is out of memory, or more lexemes than a `u32` counts.
     pub fn read(
         &mut self,
         first: usize,
-        line: &[LexemeAtLine<'_, A>],
+        row: &RowLexemes<'_, A>,
     ) -> Result<Option<PlacedParseFault>, AllocError>
-        ensures marker { OnOk result (self.new.marker ≡ behind_keyed_line self.old.marker (map token_of (map (λ x. lexeme_at_line x.line x.lexeme.now) line.now))) }
+        ensures tokens { OnOk result (self.new.tokens.items ≡ map token_of (map (lexeme_at_line row.now.line) row.now.lexemes.now)) }
+        ensures marker { OnOk result (self.new.marker ≡ behind_keyed_line self.old.marker (map token_of (map (lexeme_at_line row.now.line) row.now.lexemes.now))) }
         ensures symbols { OnOk result (self.new.symbols.items
-            ≡ marks_of_line self.old.marker.marks (map token_of (map (λ x. lexeme_at_line x.line x.lexeme.now) line.now))) }
+            ≡ marks_of_line self.old.marker.marks (map token_of (map (lexeme_at_line row.now.line) row.now.lexemes.now))) }
         ensures keys { OnOk result (self.new.keys.items
-            ≡ facts_of_line self.old.marker (map token_of (map (λ x. lexeme_at_line x.line x.lexeme.now) line.now))) }
+            ≡ facts_of_line self.old.marker (map token_of (map (lexeme_at_line row.now.line) row.now.lexemes.now))) }
         ensures told { IfOk result (λ fault. FeedsSymbols self.old.parser first []
-            (marks_of_line self.old.marker.marks (map token_of (map (λ x. lexeme_at_line x.line x.lexeme.now) line.now)))
+            (marks_of_line self.old.marker.marks (map token_of (map (lexeme_at_line row.now.line) row.now.lexemes.now)))
             fault self.new.parser self.new.outlines.items) }
-        ensures inside { IfOk result (λ fault. IfSome fault (λ f. (first ≤ f.place) × (f.place < first + length line.now))) }
+        ensures inside { IfOk result (λ fault. IfSome fault (λ f. (first ≤ f.place) × (f.place < first + length row.now.lexemes.now))) }
         ensures steps { IfOk result (λ fault. fault ≡ None
-            → steps (marks_of_line self.old.marker.marks (map token_of (map (λ x. lexeme_at_line x.line x.lexeme.now) line.now))) self.old.parser.goals []
+            → steps (marks_of_line self.old.marker.marks (map token_of (map (lexeme_at_line row.now.line) row.now.lexemes.now))) self.old.parser.goals []
             ≡ Some (record { goals = self.new.parser.goals; events = self.new.outlines.items })) }
     {
+        read_tokens(row, &mut self.tokens)?;
         self.symbols.clear();
         self.keys.clear();
         self.outlines.clear();
-        self.marker.read(line, &mut self.symbols, &mut self.keys)?;
+        self.marker
+            .read(&self.tokens, &mut self.symbols, &mut self.keys)?;
         self.parser.feed(first, &self.symbols, &mut self.outlines)
     }
 

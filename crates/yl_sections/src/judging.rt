@@ -27,7 +27,24 @@ pub struct SectionsJudge<A: Allocator + Copy> {
     kept: Vec<Kept<A>, A>,
 }
 
-/// If a section starts, puts what is kept of the one before it after the rest, and begins with the next one.
+/// Adds what is kept of the section that ends to the rest, and begins with the next one. It is no part of the loop over the rows, whose
+/// frame would hold a section more.
+#[inline(never)]
+fn end_section<A: Allocator + Copy>(
+    alloc: A,
+    config: &Config,
+    judge: &mut SectionJudge<A>,
+    kept: &mut Vec<Kept<A>, A>,
+) -> Result<(), AllocError>
+    ensures { (here : List RecordValue) → Judges config.now here judge.old
+        → OnOk result ((kept.new.items ≡ kept.old.items ++ kept_of_section config.now here ∷ []) × Judges config.now [] judge.new) }
+{
+    let judge = mem::replace(judge, SectionJudge::new(alloc));
+    kept.push(judge.finish(config)?)?;
+    Ok(())
+}
+
+/// If a section starts, adds what is kept of the one before it to the rest, and begins with the next one.
 fn turn<A: Allocator + Copy>(
     alloc: A,
     config: &Config,
@@ -42,9 +59,7 @@ fn turn<A: Allocator + Copy>(
     if !starts {
         return Ok(());
     }
-    let judge = mem::replace(judge, SectionJudge::new(alloc));
-    kept.push(judge.finish(config)?)?;
-    Ok(())
+    end_section(alloc, config, judge, kept)
 }
 
 impl<A: Allocator + Copy> SectionsJudge<A> {

@@ -13,7 +13,6 @@ mod front;
 mod judging;
 mod kept;
 mod laws;
-mod lexemes;
 mod rules;
 mod section_judge;
 mod sections;

@@ -49,6 +49,7 @@ pub fn lexeme_options(config: &Config) -> LexemeOptions
 }
 
 /// What the rule comments finds.
+#[inline(never)]
 pub fn comments_found<A: Allocator + Copy>(
     alloc: A,
     config: &Config,

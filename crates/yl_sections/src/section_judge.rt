@@ -16,13 +16,13 @@ use crate::comments::CommentReader;
 use crate::document_judge::{DocumentEnd, DocumentJudge};
 use crate::fault::{SectionFault, scan_fault_at};
 use crate::kept::Kept;
-use crate::lexemes::lexemes_of_row;
 use crate::rules::is_on;
 use std::alloc::{AllocError, Allocator};
 use yl_config::Config;
 use yl_events::PlacedParseFault;
 use yl_indentation::Fact;
-use yl_lexeme::{Lexeme, LexemeAtLine, Meter};
+use yl_lexeme::{Lexeme, Meter};
+use yl_marks::RowLexemes;
 use yl_record::Record;
 use yl_row::PlacedScanFault;
 use yl_text::{Finding, Pos, RuleId};
@@ -62,30 +62,34 @@ struct TreeFindings<A: Allocator> {
 }
 
 /// Where the lexeme of this index begins.
-fn start_of<A: Allocator>(lexemes: &[LexemeAtLine<'_, A>], i: usize) -> Pos
-    ensures { result ≡ start_at (map (λ x. lexeme_at_line x.line x.lexeme.now) lexemes.now) i }
+fn start_of<A: Allocator>(row: &RowLexemes<'_, A>, i: usize) -> Pos
+    ensures { result ≡ start_at (map (lexeme_at_line row.now.line) row.now.lexemes.now) i }
 {
-    match lexemes.get(i) {
+    match row.lexemes.get(i) {
         None => Pos { line: 0, col: 0 },
-        Some(at) => at.start(),
+        Some(lexeme) => Pos {
+            line: row.line,
+            col: lexeme.start().col,
+        },
     }
 }
 
 /// Reads the lexemes of a document's next row, which has some, at this line of its section. Answers what is told of the document if it has
 /// a fault at one of them.
 fn read_row<A: Allocator + Copy>(
-    alloc: A,
-    config: &Config,
     document: &mut DocumentJudge<A>,
     line: u32,
     row: &Record<A>,
 ) -> Result<Option<StoppedDocument<A>>, AllocError>
-    ensures { (rs : List RecordValue) → line ≡ length rs → 0 < length row.now.entry.lexemes → ReadsRows config.now rs document.old
-        → IfOk result (λ stopped. ReadsRow stopped config.now (rs ++ row.now ∷ []) document.new) }
+    ensures { (config : Config) (rs : List RecordValue) → line ≡ length rs → 0 < length row.now.entry.lexemes → ReadsRows config rs document.old
+        → IfOk result (λ stopped. ReadsRow stopped config (rs ++ row.now ∷ []) document.new) }
 {
-    let lexemes = lexemes_of_row(alloc, line, row.lexemes())?;
+    let lexemes = RowLexemes {
+        line,
+        lexemes: row.lexemes(),
+    };
     let first = document.count();
-    let Some(fault) = document.read(config, &lexemes, row.indentation())? else {
+    let Some(fault) = document.read(&lexemes, row.indentation())? else {
         return Ok(None);
     };
     let place = start_of(&lexemes, fault.place.saturating_sub(first));
@@ -184,6 +188,24 @@ impl<A: Allocator + Copy> Stage<A> {
             ≡ (if has_begun self.old then meter.old else record meter.old { documents = meter.old.documents + 1 })) }
     {
         if let Stage::Before = self {
+            return self.begin_document(alloc, config, meter);
+        }
+        Ok(())
+    }
+
+    /// The same, apart from the loop over the rows, whose frame would hold a document more.
+    #[inline(never)]
+    fn begin_document(
+        &mut self,
+        alloc: A,
+        config: &Config,
+        meter: &mut Meter,
+    ) -> Result<(), AllocError>
+        ensures begun { OnOk result (IsBegun config.now self.old self.new) }
+        ensures counted { OnOk result (meter.new
+            ≡ (if has_begun self.old then meter.old else record meter.old { documents = meter.old.documents + 1 })) }
+    {
+        if let Stage::Before = self {
             if meter.documents == u32::MAX {
                 return Err(AllocError);
             }
@@ -193,20 +215,14 @@ impl<A: Allocator + Copy> Stage<A> {
     }
 
     /// Reads the next row, which has lexemes, at this line of the section. The only error is out of memory.
-    fn read(
-        &mut self,
-        alloc: A,
-        config: &Config,
-        line: u32,
-        row: &Record<A>,
-    ) -> Result<(), AllocError>
-        ensures at { (rs : List RecordValue) → line ≡ length rs → 0 < length row.now.entry.lexemes → IsReady config.now rs self.old
-            → OnOk result (IsAt config.now (rs ++ row.now ∷ []) self.new) }
-        ensures comments { (rs : List RecordValue) → line ≡ length rs → 0 < length row.now.entry.lexemes → IsReady config.now rs self.old
+    fn read(&mut self, line: u32, row: &Record<A>) -> Result<(), AllocError>
+        ensures at { (config : Config) (rs : List RecordValue) → line ≡ length rs → 0 < length row.now.entry.lexemes → IsReady config rs self.old
+            → OnOk result (IsAt config (rs ++ row.now ∷ []) self.new) }
+        ensures comments { (config : Config) (rs : List RecordValue) → line ≡ length rs → 0 < length row.now.entry.lexemes → IsReady config rs self.old
             → OnOk result (KeepsComments rs row.now self.old self.new) }
     {
         if let Stage::In(document) = self {
-            if let Some(stopped) = read_row(alloc, config, document, line, row)? {
+            if let Some(stopped) = read_row(document, line, row)? {
                 *self = Stage::Stopped(stopped);
             }
         }
@@ -233,7 +249,7 @@ impl<A: Allocator + Copy> Stage<A> {
             return Ok(());
         }
         self.begin(alloc, config, meter)?;
-        self.read(alloc, config, line, row)
+        self.read(line, row)
     }
 
     /// The column of the section's first lexeme, if these come next, where it was this before them.
@@ -247,8 +263,8 @@ impl<A: Allocator + Copy> Stage<A> {
     }
 
     /// What is told of the document, where no row is to come. The only error is out of memory.
-    fn finish(self, alloc: A, config: &Config) -> Result<ToldDocument<A>, AllocError>
-        ensures { (rs : List RecordValue) → IsAt config.now rs self → IfOk result (λ t. IsTold config.now rs self t) }
+    fn finish(self, alloc: A) -> Result<ToldDocument<A>, AllocError>
+        ensures { (config : Config) (rs : List RecordValue) → IsAt config rs self → IfOk result (λ t. IsTold config rs self t) }
     {
         match self {
             Stage::Before => Ok(ToldDocument {
@@ -263,7 +279,7 @@ impl<A: Allocator + Copy> Stage<A> {
                     facts,
                     in_tree,
                     fault,
-                } = document.finish(config)?;
+                } = document.finish()?;
                 Ok(ToldDocument {
                     found,
                     facts,
@@ -368,7 +384,7 @@ impl<A: Allocator + Copy> SectionJudge<A> {
             facts,
             in_tree,
             fault: parse_fault,
-        } = stage.finish(alloc, config)?;
+        } = stage.finish(alloc)?;
         let fault = with_scan_fault(parse_fault, scan_fault);
         let mut in_tree = show_or_hide(fault, parse_fault, in_tree);
         found.append(&mut comments.found)?;

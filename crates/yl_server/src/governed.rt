@@ -1,4 +1,4 @@
-//! By what documents are judged, as the files of their folders say it.
+//! The configurations by which documents are judged, according to the files of their folders.
 ghost use Rattle.std.specs.Prelude.{◌≡◌, ◌<◌, ◌||◌, Bool, List, [], ◌∷◌, None, length, is_some};
 ghost use Rattle.std.specs.Option.{option_or};
 ghost use Rattle.yl_workspace.specs.Documents.{with_document_at};
@@ -9,24 +9,25 @@ use yl_config::{Config, ConfigFault};
 use yl_text::LineStore;
 use yl_workspace::Workspace;
 
-/// By what a document is judged, as files say it.
+/// The configuration by which a document is judged, according to files.
 #[derive(Clone, Copy)]
 pub enum Governed {
-    /// By this configuration.
+    /// The document is judged by this configuration.
     By(Config),
-    /// It is ignored: nothing is told of it.
+    /// The document is ignored: nothing is published about it.
     Ignored,
-    /// It is as it was when it was last asked for.
+    /// The document is judged as it was when it was last asked for.
     Same,
-    /// A file that says it has a fault.
+    /// A file of the configuration has a fault.
     Faulty(ConfigFault),
-    /// A file that says it could not be read.
+    /// A file of the configuration could not be read.
     Unreadable,
-    /// There was no memory to read a file that says it.
+    /// There was no memory to read a file of the configuration.
     NoMemory,
 }
 
-/// By what a document is judged from now on, where something is found.
+/// Returns the configuration by which a document is judged from now on, or `Some(None)` if it is
+/// ignored, or `None` if nothing changes.
 fn judged(found: Governed) -> Option<Option<Config>>
     ensures { result ≡ spec.judged found }
 {
@@ -37,7 +38,7 @@ fn judged(found: Governed) -> Option<Option<Config>>
     }
 }
 
-/// What is wrong with what is found.
+/// Returns the fault of what was found, if it has one.
 pub(crate) fn fault_in(found: Governed) -> Option<SettingFault>
     ensures { result ≡ spec.fault_in found }
 {
@@ -49,22 +50,25 @@ pub(crate) fn fault_in(found: Governed) -> Option<SettingFault>
     }
 }
 
-/// By what a document is judged that is opened, for which this is found.
+/// Returns the configuration by which a document is judged that is opened, or `None` if it is
+/// ignored. If `found` is neither a configuration nor `Ignored`, the configuration is `standard`.
 pub(crate) fn judged_at_first(standard: Config, found: Governed) -> Option<Config>
     ensures { result ≡ spec.config_at_first standard None (found ∷ []) }
 {
     judged(found).unwrap_or(Some(standard))
 }
 
-/// What is found of documents: whether one is judged by another, and the first fault.
+/// What was found for documents: whether one was judged again, and the first fault.
 #[derive(Clone, Copy)]
 pub(crate) struct Refreshed {
+    /// Whether a document was judged again.
     pub is_changed: bool,
+    /// The first fault that was found.
     pub fault: Option<SettingFault>,
 }
 
 impl Refreshed {
-    /// The same with what is found of one more.
+    /// Returns `self` with what was found for one more document.
     fn and(self, found: Governed) -> Refreshed
         ensures changed { result.is_changed ≡ self.is_changed || is_some (spec.judged found) }
         ensures fault { result.fault ≡ option_or self.fault (spec.fault_in found) }
@@ -76,7 +80,7 @@ impl Refreshed {
     }
 }
 
-/// Judges the document at an index by what is found for it.
+/// Judges the document at `index` by what was found for it.
 fn govern<S: LineStore>(workspace: &mut Workspace<S>, index: usize, found: Governed)
     requires { index < length workspace.old }
     ensures { (granted : Bool) × (workspace.new ≡ with_document_at index (spec.governed_document found granted) workspace.old) }
@@ -86,7 +90,8 @@ fn govern<S: LineStore>(workspace: &mut Workspace<S>, index: usize, found: Gover
     }
 }
 
-/// Judges each document by what is found for it. `is_known` says that each was asked for since it was opened.
+/// Judges each document by what is found for it, and returns what was found. `is_known` means that
+/// each document was asked for since it was opened.
 pub(crate) fn refresh<S: LineStore, F: ConfigFiles>(
     workspace: &mut Workspace<S>,
     is_known: bool,

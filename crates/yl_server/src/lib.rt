@@ -1,4 +1,4 @@
-//! A Language Server (LSP 3.17): what each message makes of it, and what it sends.
+//! A Language Server (LSP 3.17): how each message changes it, and what it sends.
 #![tactic(auto)]
 
 mod governed;

@@ -1,11 +1,12 @@
-//! How far a server is.
+//! The phases of a server.
 
-/// How far a server is: each phase comes once, in this order.
+/// A phase of a server. Each phase comes once, in this order.
 #[derive(Clone, Copy, Debug, PartialEq, Eq)]
 pub enum Phase {
-    /// It waits for `initialize`.
+    /// The server waits for `initialize`.
     Waiting,
+    /// The server runs.
     Running,
-    /// It was told to shut down.
+    /// The server was asked to shut down.
     Stopped,
 }

@@ -24,31 +24,34 @@ use yl_text::LineStore;
 use yl_units::Encoding;
 use yl_workspace::{Cause, Document, one_report};
 
-/// The version that an editor is told.
+/// The version of the server that it sends to an editor.
 const VERSION: &str = "0.1.0";
 
 /// What a server sends after an event.
 #[derive(Clone, Copy)]
 pub(crate) enum Reply<'a> {
+    /// Nothing is sent.
     Nothing,
-    /// The answer to `initialize`, and what is wrong with the settings.
+    /// The response to `initialize`, and the fault of the settings.
     Welcome(Id<'a>, Option<SettingFault>),
-    /// The answer to `shutdown`.
+    /// The response to `shutdown`.
     Done(Id<'a>),
-    /// The answer to a request that is not met.
+    /// The error response to a request.
     Refused(Id<'a>, Code, &'a str),
-    /// What is told of the document with this URI, and what is wrong with its configuration, or that it could not be entered.
+    /// The publication for the document with this URI, and the fault of its configuration, or that
+    /// the document could not be opened for lack of memory.
     Document(&'a str, Option<SettingFault>),
-    /// What is told of all documents, and what is wrong with their configurations.
+    /// The publications for all documents, and the fault of their configurations.
     All(Option<SettingFault>),
-    /// The answer to a body that was not read, and what is told of all documents.
+    /// The error response to a body that was not read, and the publications for all documents.
     Missed(Code, &'a str),
-    /// What is wrong with configurations or settings, if anything is.
+    /// The fault of configurations or settings, if there is one.
     Fault(Option<SettingFault>),
-    /// The request that the editor tells of changes of files.
+    /// The request that the editor report changes of files.
     Watch,
 }
 
+// Sends an error response.
 fn refuse<W: Write>(
     id: Id<'_>,
     code: Code,
@@ -62,6 +65,7 @@ fn refuse<W: Write>(
     out.send(&Failure { id, code, message })
 }
 
+// Sends the user an error message.
 fn tell<W: Write>(text: &str, out: &mut Output<W>) -> Result<(), SendFault>
     requires { failures_of (watched_of out.old) < 2 ^ 64 - 1 }
     ensures ok { OnOk result (AreSent (sink W.contents out.old out.new) (Told text.now ∷ [])) }
@@ -70,7 +74,7 @@ fn tell<W: Write>(text: &str, out: &mut Output<W>) -> Result<(), SendFault>
     out.send(&ErrorMessage { text })
 }
 
-// Tells the user what is wrong with settings or configurations, and where, if the fault has a place.
+// Sends the user the fault of settings or configurations, with its position if it has one.
 fn tell_one<W: Write>(fault: SettingFault, out: &mut Output<W>) -> Result<(), SendFault>
     requires { failures_of (watched_of out.old) < 2 ^ 64 - 1 }
     ensures ok { OnOk result (AreSent (sink W.contents out.old out.new) (Told (setting_words fault) ∷ [])) }
@@ -87,7 +91,7 @@ fn tell_one<W: Write>(fault: SettingFault, out: &mut Output<W>) -> Result<(), Se
     }
 }
 
-// The same, where something is wrong.
+// Sends the user the fault, if there is one.
 fn tell_fault<W: Write>(fault: Option<SettingFault>, out: &mut Output<W>) -> Result<(), SendFault>
     requires { failures_of (watched_of out.old) < 2 ^ 64 - 1 }
     ensures ok { OnOk result (AreSent (sink W.contents out.old out.new) (told_fault fault)) }
@@ -99,7 +103,7 @@ fn tell_fault<W: Write>(fault: Option<SettingFault>, out: &mut Output<W>) -> Res
     }
 }
 
-// Asks the editor to tell of changes of files.
+// Sends the request that the editor report changes of files.
 fn watch<W: Write>(out: &mut Output<W>) -> Result<(), SendFault>
     requires { failures_of (watched_of out.old) < 2 ^ 64 - 1 }
     ensures ok { OnOk result (AreSent (sink W.contents out.old out.new) (Watches ∷ [])) }
@@ -108,7 +112,7 @@ fn watch<W: Write>(out: &mut Output<W>) -> Result<(), SendFault>
     out.send(&WatchRequest)
 }
 
-// Answers `initialize`.
+// Sends the response to `initialize`.
 fn welcome<W: Write>(id: Id<'_>, encoding: Encoding, out: &mut Output<W>) -> Result<(), SendFault>
     requires { failures_of (watched_of out.old) < 2 ^ 64 - 1 }
     ensures ok { OnOk result (AreSent (sink W.contents out.old out.new) (Initialized (id_view id.entry) encoding ∷ [])) }
@@ -121,7 +125,7 @@ fn welcome<W: Write>(id: Id<'_>, encoding: Encoding, out: &mut Output<W>) -> Res
     out.send(&Answer::new(id, outcome))
 }
 
-// Answers `shutdown`.
+// Sends the response to `shutdown`.
 fn finish<W: Write>(id: Id<'_>, out: &mut Output<W>) -> Result<(), SendFault>
     requires { failures_of (watched_of out.old) < 2 ^ 64 - 1 }
     ensures ok { OnOk result (AreSent (sink W.contents out.old out.new) (Done (id_view id.entry) ∷ [])) }
@@ -130,7 +134,7 @@ fn finish<W: Write>(id: Id<'_>, out: &mut Output<W>) -> Result<(), SendFault>
     out.send(&Answer::new(id, Plain("null")))
 }
 
-/// Why a text is not followed, for people.
+/// Returns the message for users why a text is not followed.
 fn lost_words(cause: Cause) -> &'static str
     ensures { result.now ≡ lost_words cause }
 {
@@ -147,7 +151,7 @@ fn lost_words(cause: Cause) -> &'static str
 }
 
 impl<S: LineStore> Server<S> {
-    /// Sends a reply. On a fault a beginning of it is out.
+    /// Sends a reply. After an error a prefix of it is sent.
     pub(crate) fn send<W: Write>(
         &self,
         reply: Reply<'_>,
@@ -182,7 +186,7 @@ impl<S: LineStore> Server<S> {
         }
     }
 
-    // Publishes the problems of a document that is open, or that one has none which is not.
+    // Publishes the problems of a document if it is open, else that it has none.
     fn tell_of<W: Write>(&self, uri: &str, out: &mut Output<W>) -> Result<(), SendFault>
         requires { failures_of (watched_of out.old) < 2 ^ 64 - 1 }
         ensures ok { OnOk result (AreSent (sink W.contents out.old out.new) (told_of uri.now self.now ∷ [])) }
@@ -201,6 +205,7 @@ impl<S: LineStore> Server<S> {
         }
     }
 
+    // Publishes the problems of all documents.
     fn tell_of_all<W: Write>(&self, out: &mut Output<W>) -> Result<(), SendFault>
         requires { failures_of (watched_of out.old) < 2 ^ 64 - 1 }
         ensures ok { OnOk result (AreSent (sink W.contents out.old out.new) (told_of_all self.now)) }
@@ -212,6 +217,7 @@ impl<S: LineStore> Server<S> {
         Ok(())
     }
 
+    // Publishes the problems of a document.
     fn show<W: Write>(
         &self,
         uri: &str,
@@ -229,7 +235,7 @@ impl<S: LineStore> Server<S> {
         })
     }
 
-    // What a publication shows of a document.
+    // Returns the content of the publication for a document.
     fn content<'d>(&self, document: &'d Document<S>) -> Content<'d, S>
         ensures { content_diagnostics result ≡ document_diagnostics report self.now.how document.now }
     {

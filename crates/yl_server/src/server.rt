@@ -1,4 +1,4 @@
-//! A server, and what each message makes of it.
+//! A server, and how each message changes it.
 ghost use Rattle.std.specs.Prelude.{◌≡◌, ℕ, ◌-◌, ◌^◌, ◌<◌, ◌∷◌, [], Bool, List, map, Option, IfErr, IfOk, Some, option_and_then, option_copied, string_bytes};
 ghost use Rattle.std.specs.Option.{option_map, option_map_or};
 ghost use Rattle.json.specs.Json.{Json};
@@ -40,8 +40,11 @@ use yl_text::LineStore;
 use yl_units::Encoding;
 use yl_workspace::{Cause, Document, Workspace};
 
-/// A server: how far it is, how it shows problems, whether its editor tells of changes of files, the standard configuration, the one that the
-/// settings name and the file that says it, and the documents that are open.
+/// A server.
+///
+/// A server has a phase, and knows how problems are shown and whether its editor reports changes of
+/// files. It has the standard configuration, the configuration that the settings name and its file,
+/// and the documents that are open.
 #[derive(Drop)]
 pub struct Server<S: LineStore> {
     alloc: S::Alloc,
@@ -54,7 +57,7 @@ pub struct Server<S: LineStore> {
     workspace: Workspace<S>,
 }
 
-/// Whether the editor tells by this method that files may be others than they were.
+/// Returns `true` if a notification with this method reports that files may have changed.
 fn tells_of_files(method: &str) -> bool
     ensures { result ≡ spec.tells_of_files method.now }
 {
@@ -63,7 +66,7 @@ fn tells_of_files(method: &str) -> bool
         || method == "workspace/didChangeWorkspaceFolders"
 }
 
-/// The params that are an object.
+/// Returns the params if they are an object.
 fn object_of<'v, 'a, A: Allocator>(params: Option<&'v Value<'a, A>>) -> Option<&'v Value<'a, A>>
     ensures { option_map (λ v. value_view v.now) result ≡ spec.object_of (option_map (λ v. value_view v.now) params.entry) }
 {
@@ -73,7 +76,7 @@ fn object_of<'v, 'a, A: Allocator>(params: Option<&'v Value<'a, A>>) -> Option<&
     }
 }
 
-/// The changes that values are.
+/// Reads the values as changes. The only error is out of memory.
 fn changes_of<'a, A: Allocator + Copy>(
     alloc: A,
     values: &[Value<'a, A>],
@@ -98,7 +101,8 @@ impl<S: LineStore> Model for Server<S> {
 }
 
 impl<S: LineStore> Server<S> {
-    /// A server that waits for `initialize`. By this configuration a document is judged where nothing else is found. It takes no memory.
+    /// Creates a server that waits for `initialize`. A document is judged by `standard` if no other
+    /// configuration is found for it. Does not allocate.
     pub fn new(alloc: S::Alloc, standard: Config) -> Server<S>
         ensures { result ≡ machine.started standard }
     {
@@ -118,36 +122,36 @@ impl<S: LineStore> Server<S> {
         }
     }
 
-    /// How problems are shown.
+    /// Returns how problems are shown.
     pub(crate) fn how(&self) -> Presentation
         ensures { result ≡ self.now.how }
     {
         self.how
     }
 
-    /// In what columns are counted.
+    /// Returns the unit in which columns are counted.
     pub(crate) fn encoding(&self) -> Encoding
         ensures { result ≡ self.now.how.encoding }
     {
         self.how.encoding
     }
 
-    /// The documents that are open.
+    /// Returns the documents that are open.
     pub(crate) fn documents(&self) -> &[Document<S>]
         ensures { result.now ≡ self.now.documents }
     {
         self.workspace.documents()
     }
 
-    /// The document of a URI, if it is open.
+    /// Returns the document with this URI, if it is open.
     pub(crate) fn document(&self, uri: &str) -> Option<&Document<S>>
         ensures { option_copied result ≡ docs.document_at uri.now self.now.documents }
     {
         self.workspace.document(uri)
     }
 
-    /// Does what a body asks for, and sends what it is answered and what is told of documents. Returns the exit
-    /// status where the body asks for the end.
+    /// Handles a body, and sends the response and the publications. Returns the exit status if the
+    /// body asks for the end. After an error a prefix of the messages is sent.
     pub fn handle<F: ConfigFiles, W: Write>(
         &mut self,
         body: &mut [u8],
@@ -164,7 +168,7 @@ impl<S: LineStore> Server<S> {
         Ok(ended)
     }
 
-    // Does what a body asks for. Returns the exit status where it asks for the end.
+    // Handles a body. Returns the reply, and the exit status if the body asks for the end.
     fn meet_body<'a, F: ConfigFiles>(
         &mut self,
         body: &'a mut [u8],
@@ -179,7 +183,7 @@ impl<S: LineStore> Server<S> {
         }
     }
 
-    // A body was not read.
+    // Handles a body that could not be read.
     fn miss_body<'a>(&mut self, fault: BodyFault) -> Reply<'a>
         ensures { IsReplied self.new result (machine.missed (unread_answer fault) self.old) }
     {
@@ -189,7 +193,8 @@ impl<S: LineStore> Server<S> {
         }
     }
 
-    /// A body came for which there was no memory.
+    /// Handles a body for which there was no memory, and sends the response and the publications.
+    /// After an error a prefix of the messages is sent.
     pub fn drop_body<W: Write>(&mut self, out: &mut Output<W>) -> Result<(), SendFault>
         requires { failures_of (watched_of out.old) < 2 ^ 64 - 1 }
         ensures ok { IfOk result (λ _. IsDone self.new (sink W.contents out.old out.new) (machine.missed_for_memory self.old)) }
@@ -199,7 +204,7 @@ impl<S: LineStore> Server<S> {
         self.send(reply, out)
     }
 
-    // A body was not read: it may have been a change.
+    // Drops the texts of all documents, since a body was not read and may have been a change.
     fn miss<'a>(&mut self, code: Code, words: &'a str) -> Reply<'a>
         ensures { IsReplied self.new result (machine.missed (machine.not_read code words.entry.now) self.old) }
     {
@@ -207,7 +212,7 @@ impl<S: LineStore> Server<S> {
         Reply::Missed(code, words)
     }
 
-    // Does what a call asks for. Returns the exit status where it asks for the end.
+    // Handles a call. Returns the reply, and the exit status if the call asks for the end.
     fn meet<'a, F: ConfigFiles>(
         &mut self,
         call: Call<'_, 'a, S::Alloc>,
@@ -228,7 +233,7 @@ impl<S: LineStore> Server<S> {
         }
     }
 
-    // The exit status.
+    // Returns the exit status.
     fn status(&self) -> u8
         ensures { result ≡ machine.status_in self.now.phase }
     {
@@ -314,7 +319,7 @@ impl<S: LineStore> Server<S> {
         }
     }
 
-    // Begins to run where settings are faulty, but not where there was no memory for them.
+    // Starts to run although the settings are faulty, unless the fault is a lack of memory.
     fn begin_faulty<'a>(
         &mut self,
         id: Id<'a>,
@@ -332,7 +337,7 @@ impl<S: LineStore> Server<S> {
         }
     }
 
-    // Begins to run, in the way that the params of `initialize` ask for.
+    // Starts to run as the params of `initialize` ask for.
     fn begin(&mut self, params: &Value<'_, S::Alloc>)
         ensures { self.new ≡ machine.initialized (value_view params.now) self.old }
     {
@@ -342,7 +347,8 @@ impl<S: LineStore> Server<S> {
         self.watches = takes_watchers(params);
     }
 
-    // Puts what settings set in force, with the file that says the configuration. Returns the first fault of what is found for documents.
+    // Applies the values that settings set, with the file of the configuration. Returns the first
+    // fault of what is found for documents.
     fn set<F: ConfigFiles>(
         &mut self,
         config: Option<Config>,
@@ -357,7 +363,8 @@ impl<S: LineStore> Server<S> {
         self.judge_by(config, most, files)
     }
 
-    // Puts a configuration, or none, and a number of problems in force. The file stays.
+    // Applies a configuration, or none, and a maximum number of problems. The file stays. Returns
+    // the first fault of what is found for documents.
     fn judge_by<F: ConfigFiles>(
         &mut self,
         config: Option<Config>,
@@ -428,7 +435,7 @@ impl<S: LineStore> Server<S> {
         Reply::Nothing
     }
 
-    // The editor took the answer to `initialize`: it is asked to tell of changes of files, if it does.
+    // Handles `initialized`: asks the editor to report changes of files, if it can.
     fn start<'a>(&self) -> Reply<'a>
         ensures { (e : Event) → IsReplied self.now result (machine.noticed_running e spec.Starts self.now) }
     {
@@ -446,7 +453,7 @@ impl<S: LineStore> Server<S> {
             return self.spoil(params);
         };
         let (config, fault) = self.found_at_first(opened.uri, files);
-        // One that could not be entered is not open after this, and that is told.
+        // A document that could not be opened is not open after this, and the user gets a message.
         drop(self.workspace.open(config, opened));
         if self.workspace.document(opened.uri).is_none() {
             return Reply::Document(opened.uri, Some(SettingFault::Memory));
@@ -454,7 +461,8 @@ impl<S: LineStore> Server<S> {
         Reply::Document(opened.uri, fault)
     }
 
-    // By what a document is judged that is opened, and what is wrong with what is found for it.
+    // Returns the configuration by which a document is judged that is opened, and the fault of what
+    // is found for it.
     fn found_at_first<F: ConfigFiles>(
         &self,
         uri: &str,
@@ -485,7 +493,7 @@ impl<S: LineStore> Server<S> {
         Reply::Document(uri, None)
     }
 
-    // Makes the changes that values are. None are one of another shape.
+    // Applies the changes that the values are. Without values, applies a change of the wrong shape.
     fn change_text(&mut self, uri: &str, version: &str, values: Option<&[Value<'_, S::Alloc>]>)
         ensures { (granted : List Bool) × (self.new ≡ machine.with_documents (docs.changed self.old.how.encoding granted uri.now version.now
             (option_map_or (λ vs. map (λ v. change_in (value_view v)) vs.now) values.entry (Unread ∷ [])) self.old.documents) self.old) }
@@ -504,7 +512,7 @@ impl<S: LineStore> Server<S> {
         }
     }
 
-    // A message changed a text, and has the shape of no change.
+    // Drops the text of the document of a message that has the wrong shape.
     fn spoil<'a>(&mut self, params: &Value<'a, S::Alloc>) -> Reply<'a>
         ensures { (e : Event) → IsReplied self.new result (machine.noticed_running e (spec.spoils (value_view params.now)) self.old) }
     {
@@ -556,7 +564,7 @@ impl<S: LineStore> Server<S> {
         }
     }
 
-    // Files may be others than they were: what they say is asked for again.
+    // Looks for the configurations again, since files may have changed.
     fn refresh_by<'a, F: ConfigFiles>(&mut self, files: &mut F) -> Reply<'a>
         ensures { (e : Event) × IsReplied self.new result (machine.refreshed_by e self.old.config self.old) }
     {
@@ -570,7 +578,7 @@ impl<S: LineStore> Server<S> {
         Reply::Fault(refreshed.fault)
     }
 
-    // Reads the file of the configuration that the settings name again, if a file says it.
+    // Reads the file of the configuration again, if the settings name a file.
     fn read_again<'a, F: ConfigFiles>(&mut self, files: &mut F) -> Reply<'a>
         ensures { (e : Event) × IsReplied self.new result (machine.read_again e self.old.file self.old) }
     {

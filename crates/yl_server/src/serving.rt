@@ -1,4 +1,4 @@
-//! A run of a server.
+//! Runs a server over a reader and a writer.
 ghost use Rattle.std.specs.Prelude.{◌≡◌, ◌-◌, ◌^◌, ◌<◌, IfOk, IfErr, OnOk};
 ghost use Rattle.std.specs.Io.KnownBytes.{prepend_known};
 ghost use Rattle.yl_text.specs.Watched.{device_of, failures_of};
@@ -16,16 +16,16 @@ use yl_frames::{NextBody, Output, SendFault, next_body};
 use yl_text::{LineStore, Watched};
 use yl_workspace::one_report;
 
-/// Why a run ended early.
+/// The error of a run.
 #[derive(Clone, Copy, Debug, PartialEq, Eq)]
 pub enum ServeFault {
     /// The reader failed.
     Read,
-    /// What the reader gives next is no message.
+    /// The reader gives no message next.
     Header,
     /// The writer failed.
     Write,
-    /// A message has more bytes than a header can say.
+    /// A message to send has more bytes than a header can say.
     TooLong,
 }
 
@@ -38,8 +38,8 @@ fn fault_of(fault: SendFault) -> ServeFault
     }
 }
 
-// Reads the next message and does what it asks for. Returns the exit status where none comes next, and where
-// it asks for the end.
+// Reads the next message and handles it. Returns the exit status if no message is left or the
+// message asks for the end.
 fn take_turn<S: LineStore, F: ConfigFiles, R: Read, W: Write>(
     alloc: S::Alloc,
     server: &mut Server<S>,
@@ -72,12 +72,14 @@ fn take_turn<S: LineStore, F: ConfigFiles, R: Read, W: Write>(
     }
 }
 
-/// Answers an editor by LSP until it asks for the end or its messages end, and returns the exit status: 0
-/// where it asks for the end after `shutdown`, else 1. Each message is answered before the next is read. By
-/// this configuration a document is judged where neither settings nor files say another.
+/// Serves an editor by LSP until it asks for the end or its messages end, and returns the exit
+/// status: 0 if it asks for the end after `shutdown`, else 1. Each message is handled before the
+/// next one is read. A document is judged by `standard` if neither settings nor files say another
+/// configuration.
 ///
-/// The faults: `Read` and `Write` where the device failed. `Header` where the reader gives no message next.
-/// `TooLong` where a message has more bytes than a header can say. What was read before is answered.
+/// Returns `Read` if the reader failed, `Write` if the writer failed, `Header` if the reader gives
+/// no message next or 2^64 - 1 messages were handled, and `TooLong` if a message to send has more
+/// bytes than a header can say. The messages that were read before are handled.
 pub fn serve<S: LineStore, F: ConfigFiles, R: Read, W: Write>(
     alloc: S::Alloc,
     standard: Config,

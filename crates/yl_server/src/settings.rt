@@ -1,4 +1,4 @@
-//! What the settings of an editor set.
+//! Reads the settings of an editor.
 ghost use Rattle.std.specs.Prelude.{◌≡◌, IfOk, IsSome, OnErr, string_bytes};
 ghost use Rattle.std.specs.Option.{option_map};
 ghost use Rattle.json.specs.Value.{value_view};
@@ -15,10 +15,10 @@ use std::alloc::{AllocError, Allocator};
 use yl_config::{Config, ConfigFault, FaultPlace};
 use yl_lsp::{Settings, settings_in};
 
-/// What a configuration was found to be.
+/// The result of looking for a configuration.
 #[derive(Clone, Copy)]
 pub enum Found {
-    /// Its text says this.
+    /// Its text was read, with this result.
     Said(Result<Config, ConfigFault>),
     /// Its file could not be read.
     Unreadable,
@@ -26,33 +26,34 @@ pub enum Found {
     NoMemory,
 }
 
-/// Where the files of configurations are.
+/// A source of configurations, such as the files of a machine.
 pub trait ConfigFiles {
-    /// What the file of this path says as a configuration.
+    /// Reads the file at this path as a configuration.
     fn read(&mut self, path: &str) -> Found;
 
-    /// By what the document with this URI is judged, as the files of its folder say it. `is_known` says that it was asked for since it was
-    /// opened: only then `Same` is an answer.
+    /// Returns the configuration by which the document with this URI is judged, according to the
+    /// files of its folder. `is_known` means that the document was asked for since it was opened.
+    /// Only then may the result be `Same`.
     fn of_document(&mut self, uri: &str, is_known: bool) -> Governed;
 
-    /// The document with this URI is closed: what was kept of it may be forgotten.
+    /// Notifies that the document with this URI was closed. What is cached for it may be dropped.
     fn closed(&mut self, uri: &str);
 }
 
-/// What is wrong with settings, or with what files say.
+/// A fault of settings, or of the files of configurations.
 #[derive(Clone, Copy)]
 pub(crate) enum SettingFault {
-    /// One of them is of another type than it has.
+    /// A setting has the wrong type.
     Shape,
     /// A file of a configuration could not be read.
     Unreadable,
-    /// There was no memory.
+    /// Memory ran out.
     Memory,
     /// A configuration has a fault.
     Refused(ConfigFault),
 }
 
-/// Why a configuration is refused.
+/// Returns the fault of settings whose configuration is refused for `fault`.
 pub(crate) fn refused_by(fault: ConfigFault) -> SettingFault
     ensures { result ≡ refused_by fault }
 {
@@ -63,7 +64,7 @@ pub(crate) fn refused_by(fault: ConfigFault) -> SettingFault
 }
 
 impl SettingFault {
-    /// What the user is told, without the fault's place.
+    /// Returns the message for users, without the position of the fault.
     pub(crate) fn words(self) -> &'static str
         ensures { result.now ≡ fault_words self }
     {
@@ -75,7 +76,8 @@ impl SettingFault {
         }
     }
 
-    /// The fault's place in the configuration, if it has one: a line, and a column in characters, both counted from 1.
+    /// Returns the position of the fault in the configuration, if it has one: a line and a column
+    /// in characters, both counted from 1.
     pub(crate) fn place(self) -> Option<FaultPlace>
         ensures { result ≡ place_of self }
     {
@@ -86,7 +88,7 @@ impl SettingFault {
     }
 }
 
-/// What the user is told of a configuration that is refused, without the place.
+/// Returns the message for users about a refused configuration, without the position.
 fn refused_words(fault: ConfigFault) -> &'static str
     ensures { result.now ≡ fault_words (SettingFault.Refused fault) }
 {
@@ -105,16 +107,18 @@ fn refused_words(fault: ConfigFault) -> &'static str
     }
 }
 
-/// What settings set.
+/// The values that settings set.
 #[derive(Clone, Copy)]
 pub(crate) enum Setting {
-    /// A configuration, and how many problems of a text are shown at the most, each where it is set.
+    /// A configuration and the maximum number of problems that are shown for a text, each if it is
+    /// set.
     Set(Option<Config>, Option<u64>),
-    /// Nothing, since they are faulty, or for want of memory.
+    /// Nothing is set, since the settings have this fault.
     Faulty(SettingFault),
 }
 
-/// The configuration that settings name, if they name one. A text comes before a file.
+/// Returns the configuration that settings name, if they name one. A text takes precedence over a
+/// file.
 fn found_by<A: Allocator + Copy, F: ConfigFiles>(
     alloc: A,
     settings: Settings<'_>,
@@ -131,7 +135,8 @@ fn found_by<A: Allocator + Copy, F: ConfigFiles>(
     }
 }
 
-/// The path of the file that settings name, in a new `String`. A text comes before a file. The error is want of memory for it.
+/// Returns the path of the file that settings name, in a new `String`. Returns `None` if they name
+/// a text. The only error is out of memory.
 pub(crate) fn file_named<A: Allocator + Copy>(
     alloc: A,
     settings: Option<&Value<'_, A>>,
@@ -145,7 +150,7 @@ pub(crate) fn file_named<A: Allocator + Copy>(
     }
 }
 
-/// The path of the file that settings name.
+/// Returns the path of the file that settings name, or `None` if they name a text or no file.
 fn path_in<'a, A: Allocator>(settings: Option<&Value<'a, A>>) -> Option<&'a str>
     ensures { option_map (λ path. path.now) result ≡ spec.file_named (option_map (λ v. value_view v.now) settings.entry) }
 {
@@ -156,7 +161,7 @@ fn path_in<'a, A: Allocator>(settings: Option<&Value<'a, A>>) -> Option<&'a str>
     }
 }
 
-/// What is set where a configuration was found to be this.
+/// Returns the values that settings set if their configuration was found to be `found`.
 pub(crate) fn setting_found(found: Found, most: Option<u64>) -> Setting
     ensures { result ≡ setting_found found most }
 {
@@ -168,7 +173,7 @@ pub(crate) fn setting_found(found: Found, most: Option<u64>) -> Setting
     }
 }
 
-/// What settings set. Those that are not there set nothing.
+/// Returns the values that settings set. Absent settings set nothing.
 pub(crate) fn setting_of<A: Allocator + Copy, F: ConfigFiles>(
     alloc: A,
     settings: Option<&Value<'_, A>>,

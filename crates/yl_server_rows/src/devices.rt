@@ -6,19 +6,20 @@ use std::io::{ErrorKind, Read, Write};
 use yl_config::Config;
 use yl_server::{ConfigFiles, Found, Governed};
 
-/// What devices give and take.
+/// The behaviour of a reader and a writer.
 #[derive(Clone, Copy)]
 pub struct Devices {
-    /// The most bytes of a call.
+    /// The maximum number of bytes of a call.
     pub most: usize,
     /// The read that fails, counted from 1.
     pub bad_read: u64,
-    /// The write that fails, or takes no byte.
+    /// The write that fails or accepts no bytes, counted from 1.
     pub bad_write: u64,
+    /// Whether this write fails. Otherwise it accepts no bytes.
     pub fails: bool,
 }
 
-/// They give and take all.
+/// Devices that never fail, and take all bytes of a call.
 pub const GOOD: Devices = Devices {
     most: usize::MAX,
     bad_read: 0,
@@ -26,15 +27,19 @@ pub const GOOD: Devices = Devices {
     fails: true,
 };
 
-/// Bytes that are read, and how many of them come at once, one number after another.
+/// Bytes that are read, and the lengths of the pieces in which they arrive.
 #[derive(Clone, Copy)]
 pub struct Input<'a> {
+    /// The allocator of the devices.
     pub alloc: Global,
+    /// The bytes.
     pub bytes: &'a [u8],
+    /// The lengths of the pieces, in order.
     pub lengths: &'a [usize],
 }
 
-/// A reader of an input, which notes how much was written where it has to wait for more.
+/// A reader of an input. It notes the number of bytes that are written each time it waits for a
+/// piece.
 #[derive(Drop)]
 pub struct EditorReader<'a> {
     input: Input<'a>,
@@ -42,10 +47,12 @@ pub struct EditorReader<'a> {
     left: usize,
     calls: u64,
     written: &'a Cell<u64>,
+    /// The number of bytes that were written each time the reader waited for a piece.
     pub noted: Vec<u64>,
 }
 
 impl<'a> EditorReader<'a> {
+    /// Creates a reader at the start of an input.
     pub fn new(input: Input<'a>, devices: Devices, written: &'a Cell<u64>) -> EditorReader<'a> {
         EditorReader {
             input,
@@ -57,7 +64,7 @@ impl<'a> EditorReader<'a> {
         }
     }
 
-    // More bytes come, if there are more.
+    // Goes to the next piece, if there is one.
     fn go_on(&mut self) -> Result<(), AllocError> {
         self.noted.push(self.written.get())?;
         if let Some((length, lengths)) = self.input.lengths.split_first() {
@@ -86,16 +93,18 @@ impl Read for EditorReader<'_> {
     }
 }
 
-/// A writer over memory, which tells how much was written.
+/// A writer over memory, which counts the bytes that are written.
 #[derive(Drop)]
 pub struct EditorWriter<'a> {
     devices: Devices,
     calls: u64,
     written: &'a Cell<u64>,
+    /// The bytes that were written.
     pub bytes: Vec<u8>,
 }
 
 impl<'a> EditorWriter<'a> {
+    /// Creates a writer without any bytes.
     pub fn new(alloc: Global, devices: Devices, written: &'a Cell<u64>) -> EditorWriter<'a> {
         EditorWriter {
             devices,
@@ -126,9 +135,12 @@ impl Write for EditorWriter<'_> {
     }
 }
 
-/// Files whose names say what is in them: at the first reading what stands before the first bar, at the next what stands before the next one. At
-/// further readings they are not there. Behind the question mark of a URI stands in the same way what files say of its document, each time that a
-/// document is asked for: a configuration, `ignored` or `unreadable`. Where nothing stands there is no file.
+/// Files whose names are their contents. The first reading gives the part of the name before the
+/// first bar, and the next one the part before the next bar. After the last part, the file cannot
+/// be read. The part of a URI after its question mark is split in the same way. Each part is what
+/// the files say about the document when a document is asked for: a configuration, `ignored` or
+/// `unreadable`. If the part is empty or missing, there is no file. The readings of all files are
+/// counted together, and so are the requests about all documents.
 #[derive(Drop)]
 pub struct Files<A> {
     alloc: A,
@@ -137,6 +149,7 @@ pub struct Files<A> {
 }
 
 impl<A> Files<A> {
+    /// Creates files that were not read yet.
     pub fn new(alloc: A) -> Files<A> {
         Files {
             alloc,
@@ -181,7 +194,8 @@ impl<A: Allocator + Copy> ConfigFiles for Files<A> {
     }
 }
 
-// What the URI of a document has files say of it when documents were asked for so many times.
+// Returns what the files say about the document with this URI, after documents were asked for
+// `askings` times.
 fn said_of(uri: &str, askings: usize) -> &str {
     match uri.split_once('?') {
         Some((_, said)) => said.split('|').nth(askings).unwrap_or(""),

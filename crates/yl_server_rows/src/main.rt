@@ -1,19 +1,25 @@
-//! `yl_server_rows`: reads rows of tests of the Language Server, and prints what comes of each.
+//! `yl_server_rows`: reads rows of tests of the Language Server, and prints the result of each.
 //!
 //! A row is a line as `test_rows` reads it:
 //!
-//!     more, times     how the next text begins
-//!     form WORD TEXT  below, a row that begins with this word is a message whose body is this text. What is left of the row stands for the last `$`
-//!                     of the text, and one of the words before it for each of the others
-//!     bytes TEXT      what the server reads goes on with these bytes, which need not be a message
-//!     serve           the messages that the server sends for what it was given since the last row of these, a line for each, and its status or fault
-//!     try             the same, and how many bytes it has written each time it waits for a message. It is run again with each allocation refused,
-//!                     and what is sent then is told by sums over it, each once; with readers and writers that take few bytes a call, and with each
-//!                     that fails at one of its places; and with each beginning of its input as the whole. Where that is answered otherwise than it
-//!                     has to be, a line says so
+//!     more, times     give the start of the next text
+//!     form WORD TEXT  defines a word. A later row that starts with WORD is a message whose body is
+//!                     TEXT. The rest of that row replaces the last `$` of TEXT, and one of the
+//!                     words before it replaces each of the others
+//!     bytes TEXT      appends these bytes, which need not be a message, to the server's input
+//!     serve           runs the server on the input since the last row of this kind. Prints the
+//!                     messages that it sends, each as a line, and its status or fault
+//!     try             does what `serve` does, and prints the number of bytes that the server has
+//!                     written each time it waits for a message. Runs it again with each
+//!                     allocation refused, and prints a sum over what is sent then, each sum once.
+//!                     Runs it with readers and writers that take few bytes a call, with each that
+//!                     fails at one of its calls, and on each prefix of its input. Prints a line if
+//!                     an answer is wrong
 //!
-//! The path of a configuration's file says what is in it, and the URI of a document what files say of it (`Files`). Each row is printed before what comes of it; empty lines, and those that begin
-//! with `#`, are passed over. Of a message of more than 2,000 bytes the first and the last are printed.
+//! The path of a configuration's file contains its text, and the URI of a document contains what
+//! its files say (`Files`). Each row is printed before its result. Empty lines, and lines that
+//! start with `#`, are skipped. Of a message of more than 2,000 bytes, the start and the end are
+//! printed.
 #![tactic(auto)]
 
 mod devices;

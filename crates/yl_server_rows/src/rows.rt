@@ -1,4 +1,4 @@
-//! Rows, one after another.
+//! Follows rows, one after another.
 use crate::devices::{GOOD, Input};
 use crate::runs::{Ran, run as run_server};
 use crate::telling::{tell, tell_numbers};
@@ -7,8 +7,8 @@ use std::alloc::{AllocError, Global};
 use test_rows::{first_word, push_front, push_unescaped, say};
 use yl_devices::RunFault;
 
-// What is kept between rows: the short words for messages with what they stand for, how the next text begins, the bytes that the server reads, and
-// how long their messages are.
+// What is kept between rows: the words for messages and their texts, the start of the next text,
+// the bytes that the server reads, and the lengths of the messages in them.
 #[derive(Drop)]
 struct Kept<'a> {
     forms: Vec<(&'a str, &'a str)>,
@@ -17,7 +17,8 @@ struct Kept<'a> {
     lengths: Vec<usize>,
 }
 
-// The bytes that a form stands for. What is left of the row stands for the last `$`, and one of its first words for each of the others.
+// Returns the bytes of a form. The rest of the row replaces the last `$`, and one of its first
+// words replaces each of the others.
 fn filled(alloc: Global, form: &str, front: &[u8], row: &str) -> Result<Vec<u8>, AllocError> {
     let mut bytes = Vec::new(alloc);
     let mut rest = row;
@@ -37,13 +38,13 @@ fn filled(alloc: Global, form: &str, front: &[u8], row: &str) -> Result<Vec<u8>,
     Ok(bytes)
 }
 
-// What a word stands for.
+// Returns the form of a word, if it has one.
 fn form_of<'a>(kept: &Kept<'a>, word: &str) -> Option<&'a str> {
     let (_, form) = kept.forms.iter().find(|form| form.0 == word)?;
     Some(*form)
 }
 
-// The input goes on with these bytes, behind the header of a message.
+// Appends the header of a message and these bytes to the input.
 fn push_bytes(kept: &mut Kept<'_>, header: &[u8], bytes: &[u8]) -> Result<(), AllocError> {
     kept.bytes.extend_from_slice(header)?;
     kept.bytes.extend_from_slice(bytes)?;
@@ -51,7 +52,7 @@ fn push_bytes(kept: &mut Kept<'_>, header: &[u8], bytes: &[u8]) -> Result<(), Al
     Ok(())
 }
 
-// The input goes on by what a row says.
+// Appends the bytes or the message of a row to the input.
 fn give(rt: &HostRuntime, kept: &mut Kept<'_>, word: &str, rest: &str) -> Result<(), RunFault> {
     let alloc = rt.alloc();
     if word == "bytes" {
@@ -68,7 +69,8 @@ fn give(rt: &HostRuntime, kept: &mut Kept<'_>, word: &str, rest: &str) -> Result
     Ok(())
 }
 
-// Prints what is answered otherwise than it has to be where devices fail and memory is refused.
+// Runs the server with failing devices and refused allocations, and prints whether an answer is
+// wrong.
 fn try_again(rt: &HostRuntime, input: Input<'_>, whole: &Ran) -> Result<(), RunFault> {
     let trial = Trial { input, whole };
     tell_numbers(rt, "out", whole.noted.as_slice())?;
@@ -82,7 +84,7 @@ fn try_again(rt: &HostRuntime, input: Input<'_>, whole: &Ran) -> Result<(), RunF
     }
 }
 
-// Prints what comes of the input.
+// Runs the server on the input, and prints the result.
 fn serve(rt: &HostRuntime, kept: &mut Kept<'_>, is_tried: bool) -> Result<(), RunFault> {
     let alloc = rt.alloc();
     let input = Input {
@@ -100,7 +102,7 @@ fn serve(rt: &HostRuntime, kept: &mut Kept<'_>, is_tried: bool) -> Result<(), Ru
     Ok(())
 }
 
-// Does what a row says.
+// Follows a row.
 fn follow<'a>(rt: &HostRuntime, kept: &mut Kept<'a>, row: &'a str) -> Result<(), RunFault> {
     let (word, rest) = first_word(row);
     if push_front(rt.alloc(), &mut kept.front, word, rest)? {
@@ -117,7 +119,7 @@ fn follow<'a>(rt: &HostRuntime, kept: &mut Kept<'a>, row: &'a str) -> Result<(),
     }
 }
 
-/// Prints each row, and then does what it says.
+/// Prints each row and follows it.
 pub fn run(rt: &HostRuntime, text: &str) -> Result<(), RunFault> {
     let mut kept = Kept {
         forms: Vec::new(rt.alloc()),

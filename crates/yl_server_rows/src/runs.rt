@@ -1,4 +1,5 @@
-//! Runs of `serve`. What is called here has long clauses, and this function has none, so a call of it brings none with it.
+//! Runs of `serve`. The functions that are called here have long contracts. This function has none,
+//! so that a call of it brings in no contract.
 use crate::devices::{Devices, EditorReader, EditorWriter, Files, Input};
 use std::alloc::Allocator;
 use std::cell::Cell;
@@ -7,17 +8,22 @@ use yl_frames::Output;
 use yl_server::{ServeFault, serve};
 use yl_text::{PlainStore, Watched};
 
-/// What a run answers, what it has written then, how much of that where it waited for more, and how often its devices failed.
+/// The result of a run.
 #[derive(Drop)]
 pub struct Ran {
+    /// The result of `serve`.
     pub answer: Result<u8, ServeFault>,
+    /// The bytes that were written.
     pub out: Vec<u8>,
+    /// The number of bytes that were written each time the reader waited for a piece.
     pub noted: Vec<u64>,
+    /// The number of reads that failed.
     pub read_failures: u64,
+    /// The number of writes that failed.
     pub write_failures: u64,
 }
 
-/// A run over an input.
+/// Runs the server on an input.
 pub fn run<A: Allocator + Copy>(taken: A, input: Input<'_>, devices: Devices) -> Ran {
     let written = Cell::new(0);
     let mut files = Files::new(taken);

@@ -1,4 +1,4 @@
-//! What is printed of a run.
+//! Prints the results of runs.
 use crate::runs::Ran;
 use std::alloc::{AllocError, Global};
 use test_rows::{say, write};
@@ -6,14 +6,15 @@ use yl_devices::{Ahead, RunFault};
 use yl_frames::{NextBody, next_body};
 use yl_text::Watched;
 
-// The first bytes of a message are printed, and of more than so many after them the last, how many there are, and a sum over them.
+// Of a message, the first `FRONT` bytes are printed. If more than `REST` bytes follow these, only
+// the last `BACK` of them are printed, with the length of the message and a sum over it.
 const FRONT: usize = 80;
 
 const REST: usize = 1920;
 
 const BACK: usize = 80;
 
-/// A sum over bytes.
+/// Returns a sum over bytes.
 pub fn sum_of(bytes: &[u8]) -> u32 {
     let mut sum = 0u32;
     for byte in bytes {
@@ -22,7 +23,7 @@ pub fn sum_of(bytes: &[u8]) -> u32 {
     sum
 }
 
-// Puts the line of a message, without its middle where it is long.
+// Appends the line of a message, without the middle of a long message.
 fn push_line(body: &[u8], lines: &mut Vec<u8>) -> Result<(), AllocError> {
     let (front, rest) = body.split_at(body.len().min(FRONT));
     lines.extend_from_slice(front)?;
@@ -36,7 +37,7 @@ fn push_line(body: &[u8], lines: &mut Vec<u8>) -> Result<(), AllocError> {
     Ok(())
 }
 
-// Puts the lines of a message.
+// Appends the lines of a message.
 fn push_message(alloc: Global, body: &[u8], lines: &mut Vec<u8>) -> Result<(), AllocError> {
     push_line(body, lines)?;
     if body.len() > FRONT + REST {
@@ -46,7 +47,7 @@ fn push_message(alloc: Global, body: &[u8], lines: &mut Vec<u8>) -> Result<(), A
     Ok(())
 }
 
-// The lines of the messages that bytes are.
+// Returns the lines of the messages in these bytes.
 fn lines_of(alloc: Global, mut bytes: &[u8]) -> Result<Vec<u8>, RunFault> {
     let mut lines = Vec::new(alloc);
     let mut ahead = Ahead::new();
@@ -72,7 +73,7 @@ pub fn tell(rt: &HostRuntime, ran: &Ran) -> Result<(), RunFault> {
     say(rt, line.as_str())
 }
 
-/// Prints numbers behind a word.
+/// Prints numbers after a word.
 pub fn tell_numbers(rt: &HostRuntime, word: &str, numbers: &[u64]) -> Result<(), RunFault> {
     let mut line = format!(in rt.alloc(); "= {word}")?;
     for number in numbers {

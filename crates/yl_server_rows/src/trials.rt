@@ -1,4 +1,5 @@
-//! What a run has to do where its devices give and take little, where they fail, where its input ends anywhere, and where memory is refused.
+//! Runs of the server with devices that take few bytes or fail, on each prefix of its input, and
+//! with refused allocations.
 use crate::devices::{Devices, GOOD, Input};
 use crate::runs::{Ran, run};
 use crate::telling::sum_of;
@@ -6,30 +7,32 @@ use refusing::Refusing;
 use std::alloc::AllocError;
 use yl_server::ServeFault;
 
-/// What is read again, and what came of it where nothing failed.
+/// An input, and its run without failures.
 #[derive(Clone, Copy)]
 pub struct Trial<'a> {
+    /// The input.
     pub input: Input<'a>,
+    /// The run without failures.
     pub whole: &'a Ran,
 }
 
-// A run with these devices.
+// Runs the server with these devices.
 fn ran(trial: &Trial<'_>, devices: Devices) -> Ran {
     run(trial.input.alloc, trial.input, devices)
 }
 
-// Whether a run did all.
+// Returns `true` if a run did the same as the run without failures.
 fn did_all(trial: &Trial<'_>, ran: &Ran) -> bool {
     let whole = trial.whole;
     ran.answer == whole.answer && ran.out.as_slice() == whole.out.as_slice()
 }
 
-// Whether a run wrote the first bytes of all that is sent.
+// Returns `true` if a run wrote a prefix of what the run without failures wrote.
 fn has_begun(trial: &Trial<'_>, ran: &Ran) -> bool {
     trial.whole.out.as_slice().starts_with(ran.out.as_slice())
 }
 
-// Devices that give and take few bytes a call.
+// Runs the server with devices that take few bytes a call. Returns `true` if each run is right.
 fn goes_in_pieces(trial: &Trial<'_>) -> bool {
     for most in [1, 2, 3, 7, 100] {
         let mut devices = GOOD;
@@ -41,7 +44,8 @@ fn goes_in_pieces(trial: &Trial<'_>) -> bool {
     true
 }
 
-// A writer that fails at one call or takes none, each call in turn, up to the first run that meets none.
+// Runs the server with a writer that fails or accepts no bytes at one call, each call in turn, up
+// to the first run that does not make this call. Returns `true` if each run is right.
 fn stops_at_each_write(trial: &Trial<'_>, fails: bool) -> bool {
     for nth in 1..u64::MAX {
         let ran = ran(
@@ -64,7 +68,8 @@ fn stops_at_each_write(trial: &Trial<'_>, fails: bool) -> bool {
     false
 }
 
-// How many messages end among the first bytes, and whether one ends behind these.
+// Returns the number of messages that end in the first `bytes` bytes, and whether one ends after
+// exactly these.
 fn messages_in(lengths: &[usize], bytes: usize) -> (usize, bool) {
     let mut end = 0usize;
     let mut count = 0usize;
@@ -79,7 +84,7 @@ fn messages_in(lengths: &[usize], bytes: usize) -> (usize, bool) {
     (count, is_between)
 }
 
-// Whether a run wrote what is owed for so many messages.
+// Returns `true` if a run wrote exactly the answers to the first `count` messages.
 fn has_answered(trial: &Trial<'_>, ran: &Ran, count: usize) -> bool {
     let owed = match trial.whole.noted.get(count) {
         Some(owed) => *owed,
@@ -88,7 +93,8 @@ fn has_answered(trial: &Trial<'_>, ran: &Ran, count: usize) -> bool {
     has_begun(trial, ran) && ran.out.len() as u64 == owed
 }
 
-// How a run ends that reads so many messages, and then the end, or a beginning of the next one.
+// Returns how a run ends that reads `count` messages, and then the end of the input or a prefix of
+// the next message.
 fn end_behind(trial: &Trial<'_>, count: usize, is_between: bool) -> Result<u8, ServeFault> {
     if count >= trial.whole.noted.len() {
         trial.whole.answer
@@ -99,7 +105,7 @@ fn end_behind(trial: &Trial<'_>, count: usize, is_between: bool) -> Result<u8, S
     }
 }
 
-// The input ends behind so many bytes.
+// Runs the server on the first `bytes` bytes of the input. Returns `true` if the run is right.
 fn ends_behind(trial: &Trial<'_>, bytes: usize) -> bool {
     let (count, is_between) = messages_in(trial.input.lengths, bytes);
     let mut input = trial.input;
@@ -108,7 +114,8 @@ fn ends_behind(trial: &Trial<'_>, bytes: usize) -> bool {
     ran.answer == end_behind(trial, count, is_between) && has_answered(trial, &ran, count)
 }
 
-// A reader that gives a byte a call fails behind so many of them, unless the run ends before.
+// Runs the server with a reader that fails after `bytes` bytes, which it gives one a call. Returns
+// `true` if the run is right. The run may end before the failure.
 fn stops_behind(trial: &Trial<'_>, bytes: usize) -> bool {
     let (count, _) = messages_in(trial.input.lengths, bytes);
     let mut devices = GOOD;
@@ -122,7 +129,7 @@ fn stops_behind(trial: &Trial<'_>, bytes: usize) -> bool {
     is_stopped && has_answered(trial, &ran, count)
 }
 
-/// What is answered otherwise than it has to be, if anything is.
+/// Returns the first kind of run with a wrong answer, if there is one.
 pub fn failure(trial: &Trial<'_>) -> Option<&'static str> {
     if !goes_in_pieces(trial) {
         return Some("is answered otherwise in pieces");
@@ -141,7 +148,9 @@ pub fn failure(trial: &Trial<'_>) -> Option<&'static str> {
     None
 }
 
-/// A sum over each that is sent otherwise where an allocation is refused, one after another, and the status. None where such a run ends by a fault.
+/// Returns a sum for each run with a refused allocation that differs from the run without failures,
+/// each sum once. A sum covers the bytes that were sent and the status. Returns `None` if such a
+/// run ends with a fault.
 pub fn refused(trial: &Trial<'_>) -> Result<Option<Vec<u64>>, AllocError> {
     let heap = Refusing::new(trial.input.alloc);
     let mut sums = Vec::new(trial.input.alloc);

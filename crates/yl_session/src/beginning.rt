@@ -1,4 +1,4 @@
-//! What a session keeps of a text that it opens.
+//! Computes the state that a session keeps of a text when it opens it.
 ghost use Rattle.std.specs.Prelude.{◌≡◌, IfOk};
 ghost use Rattle.yl_text.specs.Store.{AreLines};
 ghost use Rattle.yl_lint.specs.TextReport.{records_of};
@@ -18,15 +18,18 @@ use yl_parting::FoundProblems;
 use yl_record::Record;
 use yl_text::LineStore;
 
-/// The records of a text, what is known of its sections, and all that is found in it.
+/// The records of a text, the summaries of its sections, and all findings in it.
 #[derive(Drop)]
 pub struct OpenedText<A: Allocator> {
+    /// The record of each row.
     pub records: Chunks<Record<A>, A>,
+    /// The summaries of the sections and their overviews.
     pub known: KnownSections<A>,
+    /// All findings in the text.
     pub found: FoundProblems<A>,
 }
 
-/// What a session keeps of these lines. The only error is out of memory.
+/// Returns the state that a session keeps of these lines. The only error is out of memory.
 pub fn begin<S: LineStore>(
     alloc: S::Alloc,
     config: &Config,

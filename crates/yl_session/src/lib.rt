@@ -1,7 +1,7 @@
-//! The report of a text, and of a text that is kept open and edited.
+//! The report of a text that is kept open and edited.
 //!
-//! A session keeps a record of each row and what is kept of each section. An edit scans the rows that it can have changed, judges the
-//! sections that hold them, and patches what is found.
+//! A session keeps a record of each row and a summary of each section. An edit scans the rows that
+//! it may have changed, judges the sections that contain them, and patches the findings.
 #![tactic(auto)]
 
 mod beginning;

@@ -1,4 +1,4 @@
-//! What an edit is to change, made beside what there is.
+//! Plans what an edit changes, without changing it.
 ghost use Rattle.std.specs.Prelude.{◌≡◌, ◌<◌, ◌^◌, ◌+◌, Some, length, map, vec_len, IfOk};
 ghost use Rattle.std.specs.List.{splice};
 ghost use Rattle.yl_text.specs.Store.{IsRange};
@@ -30,17 +30,23 @@ use yl_rescan::{Rescanned, rescan};
 use yl_sections::Kept;
 use yl_text::LineStore;
 
-/// What an edit is to change: the records of some rows, what is kept of some sections, and what becomes of the overviews of all and of the
-/// problems.
+/// What an edit changes: the records of some rows, the summaries of some sections, the overviews,
+/// and the problems.
 #[derive(Drop)]
 pub struct Plan<A: Allocator> {
+    /// The new records of some rows.
     pub rescan: Rescanned<A>,
+    /// The new summaries of some sections.
     pub rejudged: Rejudged<A>,
+    /// The change of the problems, and the new overviews.
     pub renewal: Renewal<A>,
+    /// The work that the edit took.
     pub work: Work,
 }
 
-/// Makes room for what the plan puts in, and hands out the room that the problems need beside. Where there is no memory, all is as it was.
+/// Allocates the memory that the plan needs in the records, the summaries and the problems, and
+/// returns the spare memory for the problems. The only error is out of memory. The records, the
+/// summaries and the problems stay as they are, also after an error.
 pub fn make_room<A: Allocator + Copy>(
     alloc: A,
     records: &mut Chunks<Record<A>, A>,
@@ -73,8 +79,9 @@ pub fn make_room<A: Allocator + Copy>(
     Ok(spare)
 }
 
-/// What an edit of lines is to change. The records from row `cut` on, where there is one, stand below a scan fault and are as they were before
-/// it. Nothing is changed yet. The only error is out of memory.
+/// Returns what an edit of lines changes. If `cut` is a row, the records from this row on stand
+/// after a scan fault and are as they were before the fault. Changes nothing. The only error is out
+/// of memory.
 pub fn planned<S: LineStore>(
     alloc: S::Alloc,
     config: &Config,

@@ -1,7 +1,8 @@
-//! The records of a text that is opened, and what is kept of its sections.
+//! Reads a text into the records of its rows and the summaries of its sections.
 //!
-//! Rows are recorded one after another. Now and then, at a sound row, the records above it move into chunks,
-//! and a recorder goes on from that row by its state. So no two lists hold the records of a text.
+//! Rows are recorded one after another. From time to time, at a sound row, the records above it
+//! move into chunks, and a new recorder continues from that row with its state. So no two lists
+//! hold the records of a whole text.
 ghost use Rattle.std.specs.Prelude.{◌≡◌, ◌+◌, ◌-◌, ◌<◌, ◌≤◌, ◌^◌, ◌++◌, length, map, IfOk, OnOk};
 ghost use Rattle.yl_text.specs.Store.{AreLines};
 ghost use Rattle.yl_sections.specs.Judge.{kept_of_section};
@@ -18,16 +19,16 @@ use yl_record::{Record, Recorder};
 use yl_sections::{Kept, judge_all};
 use yl_text::{Lines, rows_fit};
 
-/// How many records wait at least before they move into chunks.
+/// The minimum number of records that move into chunks at once.
 const PIECE: usize = 4096;
 
-/// How many records wait before they move behind so many. With each move the places of all chunks are
-/// counted, so the more there are, the more wait.
+/// Returns the number of records that wait before they move, if `moved` records moved before. Each
+/// move counts the positions of all chunks, so the number grows with `moved`.
 fn piece(moved: usize) -> usize {
     PIECE.max(moved / 64)
 }
 
-/// Puts the items, which it takes out of their `Vec`, behind the others.
+/// Appends the items, which it takes out of `new`. The only error is out of memory.
 fn put_behind<T: Drop, A: Allocator + Copy>(
     items: &mut Chunks<T, A>,
     new: &mut Vec<T, A>,
@@ -39,7 +40,7 @@ fn put_behind<T: Drop, A: Allocator + Copy>(
     items.splice(len, len, new)
 }
 
-/// The items in chunks; they are taken out of their `Vec`.
+/// Moves the items of a `Vec` into chunks. The only error is out of memory.
 pub fn in_chunks<T: Drop, A: Allocator + Copy>(
     alloc: A,
     items: &mut Vec<T, A>,
@@ -51,8 +52,9 @@ pub fn in_chunks<T: Drop, A: Allocator + Copy>(
     Ok(list)
 }
 
-/// Where the row that was fed last, row `i`, is sound, moves the records of the rows above it behind the
-/// others, and goes on from that row. The only error is out of memory.
+/// Continues after row `i`, which was read last. If that row is sound, moves the records of the
+/// rows above it into `records` and returns a new recorder that starts at that row. Otherwise
+/// returns `recorder`. The only error is out of memory.
 fn moved_on<'a, L: Lines>(
     alloc: &'a L::Alloc,
     lines: &L,
@@ -79,7 +81,8 @@ fn moved_on<'a, L: Lines>(
     Ok(next)
 }
 
-/// The records of the lines of a text, with the states of the sound ones. The only error is out of memory.
+/// Returns the records of the lines of a text, with the states of the sound ones. The only error is
+/// out of memory.
 fn records_of_lines<L: Lines>(
     alloc: L::Alloc,
     lines: &L,
@@ -103,7 +106,7 @@ fn records_of_lines<L: Lines>(
     Ok(records)
 }
 
-/// The items, each lent.
+/// Returns references to the items. The only error is out of memory.
 fn lent<T: Drop, A: Allocator + Copy>(
     alloc: A,
     items: &Chunks<T, A>,
@@ -118,7 +121,7 @@ fn lent<T: Drop, A: Allocator + Copy>(
     Ok(all)
 }
 
-/// What is kept of each section of these records. The only error is out of memory.
+/// Returns the summary of each section of these records. The only error is out of memory.
 fn kept_of_records<A: Allocator + Copy>(
     alloc: A,
     config: &Config,
@@ -131,7 +134,8 @@ fn kept_of_records<A: Allocator + Copy>(
     judge_all(alloc, config, &lent(alloc, records)?, &mut meter)
 }
 
-/// The records of these lines, and what is kept of their sections. The only error is out of memory.
+/// Returns the records of these lines and the summaries of their sections. The only error is out of
+/// memory.
 pub fn read<L: Lines>(
     alloc: L::Alloc,
     config: &Config,

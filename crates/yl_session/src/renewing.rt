@@ -1,4 +1,4 @@
-//! What becomes of the problems of a text that is edited, and of what is known of its sections.
+//! Computes how an edit changes the problems of a text and the overviews of its sections.
 ghost use Rattle.std.specs.Prelude.{◌≡◌, ◌<◌, true, [], length, IfOk, MatchOption};
 ghost use Rattle.std.specs.List.{AllByRecursion, splice};
 ghost use Rattle.yl_text.specs.Store.{IsRange};
@@ -21,15 +21,17 @@ use yl_patch::patched_problems;
 use yl_rejudge::Rejudged;
 use yl_text::LineStore;
 
-/// What becomes of the problems of a text, and overviews of its sections, if they are others then.
+/// The change of the problems of a text, and new overviews of its sections if they change.
 #[derive(Drop)]
 pub struct Renewal<A: Allocator> {
+    /// The change of the problems.
     pub change: Change<A>,
+    /// The new overviews, or `None` if the old ones stay.
     pub overviews: Option<Vec<Overview, A>>,
 }
 
-/// The edit of the sections that this makes. Where all of them stay, the one that has the lines takes its own place, so that what becomes of the
-/// problems is looked for in its lines.
+/// Returns the edit of the sections. If all sections stay, returns an edit that replaces the
+/// section of the edited lines by itself, so that the problems are looked for in its lines.
 fn section_edit<'a, A: Allocator + Copy>(
     known: &'a KnownSections<A>,
     new: &'a Rejudged<A>,
@@ -52,7 +54,8 @@ fn section_edit<'a, A: Allocator + Copy>(
     SectionEdit::new(kept, overviews, from, new.end, new.kept.as_slice())
 }
 
-/// Overviews of all sections after the edit; none where all of them stay.
+/// Returns the overviews of all sections after the edit, or `None` if all sections stay. The only
+/// error is out of memory.
 fn overviews_by<A: Allocator + Copy>(
     alloc: A,
     all_stay: bool,
@@ -68,7 +71,8 @@ fn overviews_by<A: Allocator + Copy>(
     Ok(Some(after))
 }
 
-/// What becomes of the problems by an edit of lines, where what is kept of the sections becomes this, and of their overviews.
+/// Returns how an edit of lines changes the problems and the overviews, if the summaries of the
+/// sections change as `new` says. The only error is out of memory.
 pub fn renewal_of<S: LineStore>(
     alloc: S::Alloc,
     config: &Config,

@@ -1,4 +1,4 @@
-//! A list of edits, one after another.
+//! Applies a list of edits one after another.
 ghost use Rattle.std.specs.Prelude.{◌≡◌, MatchResult, IfOk};
 ghost use Rattle.yl_text.specs.Fault.{IsText, IsFaultOf};
 
@@ -9,11 +9,14 @@ use std::marker::Model;
 use yl_config::Config;
 use yl_text::{LineStore, Pos, TextFault};
 
-/// An edit: these bytes in place of what stands between two places.
+/// An edit that replaces the range between two positions by bytes.
 #[derive(Drop)]
 pub struct Edit<A: Allocator> {
+    /// The start of the range.
     pub from: Pos,
+    /// The end of the range.
     pub to: Pos,
+    /// The bytes that replace the range.
     pub bytes: Vec<u8, A>,
 }
 
@@ -27,8 +30,10 @@ impl<A: Allocator> Model for Edit<A> {
 
 ghost use Rattle.yl_session.specs.Runs.{Replayed};
 
-/// Opens the bytes, makes each edit in turn, and tells what each was answered. Room for the answers is
-/// taken before the first edit; an edit that is refused leaves the text to the next one as it is.
+/// Opens a session over `bytes`, applies each edit in turn, and returns the session and the result
+/// of each edit. Allocates the list of results before the first edit. An edit that returns an error
+/// leaves the text unchanged for the next one. Returns an error if `Session::open` does, or
+/// `Memory` if there is no memory for the list.
 pub fn replay<S: LineStore>(
     alloc: S::Alloc,
     config: Config,

@@ -1,4 +1,4 @@
-//! What a session knows of the sections of its text.
+//! The summaries of the sections of a text and their overviews.
 ghost use Rattle.std.specs.Prelude.{◌≡◌, Some, vec_len, IfOk};
 ghost use Rattle.std.specs.List.{splice};
 ghost use Rattle.yl_overview.specs.Overview.{AreFew, AreOverviews};
@@ -10,14 +10,16 @@ use yl_overview::{Overview, overviews_of};
 use yl_rejudge::Rejudged;
 use yl_sections::Kept;
 
-/// What is kept of the sections of a text, and an overview of some sections each.
+/// The summaries of the sections of a text, and the overviews, each of several sections.
 #[derive(Drop)]
 pub struct KnownSections<A: Allocator> {
+    /// The summary of each section.
     pub kept: Chunks<Kept<A>, A>,
+    /// The overviews, each of several sections.
     pub overviews: Vec<Overview, A>,
 }
 
-/// What is known of sections of which this is kept. The only error is out of memory.
+/// Returns the summaries `kept` with their overviews. The only error is out of memory.
 pub fn known_of<A: Allocator + Copy>(
     alloc: A,
     kept: Chunks<Kept<A>, A>,
@@ -30,8 +32,8 @@ pub fn known_of<A: Allocator + Copy>(
     Ok(KnownSections { kept, overviews })
 }
 
-/// Keeps this in place of what was kept of some sections, where room was made for it. New overviews take the place of the old ones, if there
-/// are any. It takes no memory.
+/// Replaces the summaries of some sections by `new`, and the overviews by `overviews` if there are
+/// any. The memory must be allocated before. Does not allocate.
 pub fn put_kept<A: Allocator + Copy>(
     known: &mut KnownSections<A>,
     new: &mut Rejudged<A>,

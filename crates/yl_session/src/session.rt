@@ -26,11 +26,14 @@ use yl_record::Record;
 use yl_report::{Problem, status};
 use yl_text::{LineStore, Lines, Pos, Row, TextFault, are_one_place, line_edit, split};
 
-/// The lines of a text, with a record of each, what is kept of its sections and known of them, and all that is found
-/// in it under a configuration, parted into what its report shows and what its first fault and its comments keep from being shown. The records
-/// from row `cut` on, where there is one, stand below a scan fault, behind which nothing is read: they are as they were before it came, so that
-/// they need not be made again once it goes. What is kept of the sections is kept by these records; of those below a fault the report shows
-/// nothing.
+/// A text that is kept open, with its report under a configuration.
+///
+/// A session keeps the lines of the text, a record of each line, the summaries of its sections and
+/// their overviews, and all findings. The findings are split into those that the report shows and
+/// those that its first fault and its comments hide. If `cut` is a row, the records from this row
+/// on stand after a scan fault, after which nothing is read. They are as they were before the
+/// fault, so that they need not be made again once it is gone. The summaries of the sections belong
+/// to these records. The report shows nothing of the sections after a fault.
 #[derive(Drop)]
 pub struct Session<S: LineStore> {
     alloc: S::Alloc,
@@ -74,7 +77,8 @@ impl<S: LineStore> Session<S> {
     ghost use Rattle.yl_report.specs.Report.{status_of};
     ghost use Rattle.yl_session.specs.Runs.{IsAnswer, IsEditWork};
 
-    /// A session over these bytes.
+    /// Opens a session over these bytes. Returns `NotUtf8` if they are not UTF-8, else `TooLarge`
+    /// if they are more than `MAX_BYTES`, else `Memory` if memory runs out.
     pub fn open(alloc: S::Alloc, config: Config, bytes: &[u8]) -> Result<Session<S>, TextFault>
         ensures text { MatchResult result (λ _. IsText bytes.now) (λ fault. IsFaultOf bytes.now fault) }
         ensures shown { IfOk result (λ session. Shows config bytes.now session) }
@@ -104,7 +108,7 @@ impl<S: LineStore> Session<S> {
         })
     }
 
-    /// How many lines the text has.
+    /// Returns the number of lines of the text.
     pub fn len(&self) -> usize
         ensures len { result ≡ length self.now.rows }
         ensures lines { AreLines self.now.rows }
@@ -112,14 +116,14 @@ impl<S: LineStore> Session<S> {
         self.store.len()
     }
 
-    /// The configuration.
+    /// Returns the configuration.
     pub fn config(&self) -> Config
         ensures { result ≡ self.now.config }
     {
         self.config
     }
 
-    /// The lines of the text, as the store that keeps them.
+    /// Returns the store of the lines of the text.
     pub fn lines(&self) -> &S
         ensures rows { S.rows result.now ≡ self.now.rows }
         ensures lines { AreLines self.now.rows }
@@ -127,14 +131,15 @@ impl<S: LineStore> Session<S> {
         &self.store
     }
 
-    /// The bytes of the text, breaks included, in a new `Vec`. The error is want of memory for them.
+    /// Returns the bytes of the text, line breaks included, in a new `Vec`. The only error is out
+    /// of memory.
     pub fn text<A: Allocator>(&self, alloc: A) -> Result<Vec<u8, A>, AllocError>
         ensures { IfOk result (λ text. IsLines text.items self.now.rows) }
     {
         text_in(alloc, &self.store)
     }
 
-    /// A line without its break, counted from 0.
+    /// Returns line `i`, counted from 0, without its line break.
     pub fn line(&self, i: usize) -> &str
         requires { i < length self.now.rows }
         ensures { (p : RowValue) → slice_get self.now.rows i ≡ Some p → result.now ≡ p.text }
@@ -142,7 +147,7 @@ impl<S: LineStore> Session<S> {
         self.store.row(i).as_str()
     }
 
-    /// The report of the text.
+    /// Returns the report of the text.
     pub fn problems(&self) -> &[Problem<S::Alloc>]
         ensures shown { result.now ≡ self.now.problems }
         ensures report { IsReport self.now.config self.now.rows self.now.problems }
@@ -151,14 +156,16 @@ impl<S: LineStore> Session<S> {
         self.found.shown.as_slice()
     }
 
-    /// 1 if the report has an error, else 2 if it has a warning and `strict` is asked, else 0.
+    /// Returns the exit status of the report: 1 if it has an error, else 2 if it has a warning and
+    /// `strict` is set, else 0.
     pub fn status(&self, strict: bool) -> u8
         ensures { result ≡ status_of self.now.problems strict }
     {
         status(self.found.shown.as_slice(), strict)
     }
 
-    /// Puts these rows in place of the lines a to b. All memory is taken before the first change.
+    /// Replaces the lines `a..b` by `rows`. Allocates all memory before the first change. The only
+    /// error is out of memory, after which nothing has changed.
     fn change(
         &mut self,
         a: usize,
@@ -209,7 +216,8 @@ impl<S: LineStore> Session<S> {
         Ok(plan.work)
     }
 
-    /// Puts the bytes in place of the lines a to b, where the rows that result are the lines of the text.
+    /// Replaces the lines `a..b` by the lines of `bytes`. The rows that result must be the lines of
+    /// the text that results. The only error is out of memory, after which nothing has changed.
     fn put(&mut self, a: usize, b: usize, bytes: &[u8]) -> Result<Work, AllocError>
         requires { CanPutLines self.old.rows a b bytes.now }
         ensures ok { OnOk result (Shows self.old.config (put_text self.old.rows a b bytes.now) self.new) }
@@ -224,8 +232,9 @@ impl<S: LineStore> Session<S> {
         self.change(a, b, &mut rows)
     }
 
-    /// Puts the bytes in place of what stands between two places, where that is no fault: by whole lines, whose rest
-    /// is put in again.
+    /// Replaces the range between two positions by `bytes`. The positions and the bytes must be
+    /// valid. Replaces whole lines, and puts the unchanged parts of these lines in again. The only
+    /// error is out of memory, after which nothing has changed.
     fn put_between(&mut self, from: Pos, to: Pos, bytes: &[u8]) -> Result<Work, AllocError>
         requires { CanEdit self.old.rows from to bytes.now }
         ensures ok { OnOk result (Shows self.old.config (edited_text self.old.rows from to bytes.now) self.new) }
@@ -236,13 +245,14 @@ impl<S: LineStore> Session<S> {
         self.put(lines.first, lines.end, lines.bytes.as_slice())
     }
 
-    /// Puts the bytes in place of what stands between two places, whose lines and columns count from 0, columns in
-    /// characters. It is refused for the first cause that stands, `NotUtf8`, `Range` or `TooLarge`, or for `Memory`,
-    /// and then nothing changes. An edit of nothing, no bytes from a place to itself, takes no memory.
+    /// Replaces the range between two positions by `bytes`. Lines and columns count from 0, and
+    /// columns count characters. Returns the first error that applies of `NotUtf8`, `Range` and
+    /// `TooLarge`, or `Memory` if memory runs out. After an error nothing has changed. An empty
+    /// edit, which puts no bytes at a position, does not allocate.
     pub fn edit(&mut self, from: Pos, to: Pos, bytes: &[u8]) -> Result<Work, TextFault>
         ensures answer { IsAnswer self.old.rows from to bytes.now result }
         ensures done { OnOk result (Shows self.old.config (edited_text self.old.rows from to bytes.now) self.new) }
-        // No more than the rows and documents that the edit can have changed.
+        // The work is at most the rows and documents that the edit may have changed.
         ensures work { IfOk result (λ work. ¬ (IsNothing self.old.rows from to bytes.now) → IsEditWork self.old.rows self.new.rows from to bytes.now work) }
         ensures refused { OnErr result (self.new ≡ self.old) }
         ensures nothing { IsEditRange self.old.rows from to → IsNothing self.old.rows from to bytes.now → (result ≡ Ok (record { scanned = 0; documents = 0 })) × (self.new ≡ self.old) }
@@ -264,16 +274,17 @@ impl<S: LineStore> Session<S> {
     }
 }
 
-/// A law: what a session shows follows from its configuration and its text alone, whichever store it has: a
-/// clause sees no store. So after any edits it is what a session shows that is opened over the text that they
-/// left, and sessions over two stores show the same of one text.
+/// A law: what a session shows depends only on its configuration and its text, and not on its
+/// store. So after any edits a session shows what a new session over the resulting text shows, and
+/// sessions over two kinds of store show the same for one text.
 pub fn one_state()
     ensures { OneState }
 {
     one_report();
 }
 
-/// The bytes of the lines of a store, breaks included.
+/// Returns the bytes of the lines of a store, line breaks included. The only error is out of
+/// memory.
 fn text_in<S: LineStore, A: Allocator>(alloc: A, store: &S) -> Result<Vec<u8, A>, AllocError>
     requires { AreLines (S.rows store.now) }
     ensures { IfOk result (λ text. text.items ≡ text_of (S.rows store.now)) }
@@ -287,7 +298,7 @@ fn text_in<S: LineStore, A: Allocator>(alloc: A, store: &S) -> Result<Vec<u8, A>
     Ok(text)
 }
 
-/// Whether the two places are one, and there are no bytes.
+/// Returns `true` if the two positions are the same and there are no bytes.
 fn is_nothing<S: Lines>(lines: &S, from: Pos, to: Pos, bytes: &[u8]) -> bool
     requires lines { AreLines (S.rows lines.now) }
     requires first { IsInText (S.rows lines.now) from }
@@ -297,7 +308,8 @@ fn is_nothing<S: Lines>(lines: &S, from: Pos, to: Pos, bytes: &[u8]) -> bool
     bytes.is_empty() && are_one_place(lines, from, to)
 }
 
-/// The lines of bytes that are put before a line, or at the end.
+/// Returns the lines of `bytes`. If `before` is set, they are put before another line, and so the
+/// last line, which follows the last line break, is left out.
 fn incoming<A: Allocator + Copy>(
     alloc: A,
     before: bool,

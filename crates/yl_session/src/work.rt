@@ -1,9 +1,11 @@
-//! What an edit took.
+//! The work that an edit took.
 
-/// What an edit took: how many rows were scanned, and of how many documents events were derived. Rows
-/// that are only passed do not count, nor does a document that stays as it was.
+/// The work that an edit took. Rows that are only skipped do not count, and neither do documents
+/// that stay as they were.
 #[derive(Clone, Copy, Debug, PartialEq, Eq)]
 pub struct Work {
+    /// The number of rows that were scanned.
     pub scanned: u32,
+    /// The number of documents whose events were derived.
     pub documents: u32,
 }

@@ -1,4 +1,4 @@
-//! Texts that are kept open over either store, and what comes of the rows that ask of them.
+//! Texts that are kept open over both stores, and the answers to rows about them.
 use crate::refused::{edit_growths, list_growths};
 use crate::sessions::{line_start, make, opened, push_answer, push_report, push_state};
 use refusing::Refusing;
@@ -10,68 +10,86 @@ use yl_devices::RunFault;
 use yl_session::{Edit, Session, Work};
 use yl_text::{LineStore, PlainStore, Pos, TextFault};
 
-// What is shown is told by how many bytes it has, if these are more, and by a sum over them.
+// Of a text with more bytes than these, only their number and a sum over them are printed.
 const LONG: usize = 2000;
 
-/// Where an edit is made: in place of the lines from the first to before the second number, or of what stands between two places. Lines and columns
-/// count from 0, columns in characters.
+/// The range of an edit. Lines and columns count from 0, and columns count characters.
 #[derive(Clone, Copy)]
 pub enum EditRange {
+    /// The lines from the first to before the second number.
     Lines(u32, u32),
+    /// The text between two positions.
     Places(Pos, Pos),
 }
 
-/// An edit: where it is made, and the most rows that it may scan, and the most documents of which it may derive events.
+/// An edit, with the limits of its work.
 #[derive(Clone, Copy)]
 pub struct BoundedEdit {
+    /// The range that the edit replaces.
     pub range: EditRange,
+    /// The maximum number of rows that it may scan.
     pub scanned: u32,
+    /// The maximum number of documents whose events it may derive.
     pub documents: u32,
 }
 
-/// What a row asks of a text that is kept open.
+/// A request about a text that is kept open.
 #[derive(Clone, Copy)]
 pub enum Request {
-    /// Its report as it was opened.
+    /// The report of the text.
     Report,
+    /// An edit of the text.
     Edit(BoundedEdit),
-    /// All edits so far as a list.
+    /// All edits so far, made as a list.
     List,
 }
 
-/// What memory is asked for: at least so often, and at most; and whether an edit derives exactly as many documents as it may.
+/// The limits of a request.
 #[derive(Clone, Copy)]
 pub struct Limits {
+    /// The minimum number of allocations.
     pub least: u64,
+    /// The maximum number of allocations.
     pub most: u64,
+    /// Whether an edit must derive the events of exactly as many documents as it may.
     pub is_exact: bool,
 }
 
-/// Any number of times.
+/// No limits.
 pub const NO_LIMITS: Limits = Limits {
     least: 0,
     most: u64::MAX,
     is_exact: false,
 };
 
-/// A row that asks: what it asks, the bytes behind that, and what memory may be asked for.
+/// A request with its bytes and its limits.
 #[derive(Clone, Copy)]
 pub struct Inquiry<'a> {
+    /// The request.
     pub request: Request,
+    /// The bytes after the request in its row.
     pub bytes: &'a [u8],
+    /// The limits of the request.
     pub limits: Limits,
 }
 
-/// A text that was opened, the edits that were made of it, what each was answered, a line for each, where the last of these lines begins, and the
-/// session behind them. The session and the edits take memory from the heap that can refuse it.
+/// A text that was opened, its edits, and the session after them. The session and the edits
+/// allocate from the heap that can refuse allocations.
 #[derive(Drop)]
 pub struct Held<S: LineStore> {
+    /// The allocator of the session and of the edits.
     pub taken: S::Alloc,
+    /// The configuration.
     pub config: Config,
+    /// The text as it was opened.
     pub text: Vec<u8>,
+    /// The edits that were made.
     pub edits: Vec<Edit<S::Alloc>, S::Alloc>,
+    /// The answers to the edits, each as a line.
     pub answers: Vec<u8>,
+    /// The index in `answers` at which the last line starts.
     pub last: usize,
+    /// The session after the edits.
     pub session: Session<S>,
 }
 
@@ -97,7 +115,7 @@ fn hold<S: LineStore>(
     })
 }
 
-// Puts these bytes in place of what stands there, as an edit of this text.
+// Returns the edit that replaces a range of this text by these bytes.
 fn edit_of<S: LineStore>(
     held: &Held<S>,
     range: EditRange,
@@ -111,7 +129,7 @@ fn edit_of<S: LineStore>(
     Ok(Edit { from, to, bytes })
 }
 
-// Puts a line behind a text that says how an edit was answered, with its work if that was not as it may be.
+// Appends a line with the answer to an edit, and with its work if that does not keep to its limits.
 fn push_judged(
     alloc: Global,
     answer: Result<Work, TextFault>,
@@ -128,7 +146,8 @@ fn push_judged(
     push_answer(alloc, answer, out)
 }
 
-// Makes an edit and keeps it, and puts behind a text how it was answered, and how often it asked for memory if that was more than it may.
+// Makes an edit, and keeps it. Appends the answer, and the number of allocations if that exceeds
+// the maximum.
 fn edit_held<S: LineStore>(
     alloc: Global,
     heap: &Refusing<Global>,
@@ -153,7 +172,7 @@ fn edit_held<S: LineStore>(
     Ok(())
 }
 
-// Puts a text behind another; of a long one a line.
+// Appends a text. Of a long text, appends a line about it.
 fn tell(alloc: Global, text: &[u8], out: &mut Vec<u8>) -> Result<(), AllocError> {
     if text.len() <= LONG {
         return out.extend_from_slice(text);
@@ -166,7 +185,8 @@ fn tell(alloc: Global, text: &[u8], out: &mut Vec<u8>) -> Result<(), AllocError>
     out.extend_from_slice(line.as_str().as_bytes())
 }
 
-// Puts the report, or all that a session shows, behind a text. It is looked at where the next growth is refused, and takes no memory.
+// Appends the report, or the whole state of a session. Reading these must not allocate, and the
+// next allocation is refused meanwhile.
 fn tell_shown<S: LineStore>(
     alloc: Global,
     heap: &Refusing<Global>,
@@ -188,8 +208,8 @@ fn tell_shown<S: LineStore>(
     Ok(tell(alloc, shown.as_slice(), out)?)
 }
 
-// Asks again in new sessions, with each growth refused in turn if memory has to be asked for so often at least, and says if it is answered otherwise
-// than it has to be.
+// Repeats a request in new sessions, with each allocation refused in turn if `least` is not 0.
+// Appends a line if an answer is wrong.
 fn ask_anew<S: LineStore>(
     alloc: Global,
     heap: &Refusing<Global>,
@@ -208,7 +228,7 @@ fn ask_anew<S: LineStore>(
     Ok(())
 }
 
-// Does what a row asks, and puts behind a text what comes of it.
+// Answers a request, and appends the answer.
 fn answer<S: LineStore>(
     alloc: Global,
     heap: &Refusing<Global>,
@@ -246,7 +266,8 @@ pub fn open<'a>(
     Ok(Both { plain, chunks })
 }
 
-/// Does what a row asks over both stores. What comes of it over the one, and behind it what over the other if that is not the same.
+/// Answers a request over both stores. Returns the answer over one store, followed by that over the
+/// other if they differ.
 pub fn answer_both(
     alloc: Global,
     heap: &Refusing<Global>,

@@ -1,25 +1,31 @@
-//! `yl_session_rows`: reads rows of tests of texts that are kept open, and prints what comes of each.
+//! `yl_session_rows`: reads rows of tests of texts that are kept open, and prints the result of
+//! each.
 //!
-//! A row is a line as `test_rows` reads it. A text is kept open over both stores, which have to answer the same:
+//! A row is a line as `test_rows` reads it. A text is kept open over both stores, whose answers
+//! must be the same:
 //!
-//!     config TEXT     the configuration of the rows below
+//!     config TEXT     takes the configuration of the next rows
 //!     more, times, keys, stairs
-//!                     how the next text begins
-//!     open TEXT       opens the text that ends so, and shows its report
+//!                     give the start of the next text
+//!     open TEXT       opens the text that ends with TEXT, and prints its report
 //!     edit A B ROWS DOCUMENTS TEXT
-//!                     puts this text in place of the lines from A to before B, and shows the report then. It may scan so many rows, and derive
-//!                     events of so many documents
+//!                     replaces the lines from A to before B by TEXT, and prints the report after
+//!                     it. It may scan at most ROWS rows, and derive the events of at most
+//!                     DOCUMENTS documents
 //!     put LINE COLUMN LINE COLUMN ROWS DOCUMENTS TEXT
-//!                     puts it in place of what stands between two places, and shows the lines, a bar after each, the status, asked without
-//!                     strictness and with it, and the report; looking at these takes no memory
-//!     replay          makes all edits so far as a list of the text that was opened, which has to do what they did one by one
-//!     growths N       what is asked next takes memory at least so often
-//!     most N          the next edit takes memory at most so often
-//!     exactly         the next edit derives events of exactly so many documents
+//!                     replaces the range between two positions by TEXT. Prints the lines with a
+//!                     bar after each, the status with `strict` unset and set, and the report.
+//!                     Reading these must not allocate
+//!     replay          makes all edits so far as a list of edits of the text that was opened. The
+//!                     result must be that of making them one by one
+//!     growths N       the next request allocates at least N times
+//!     most N          the next edit allocates at most N times
+//!     exactly         the next edit derives the events of exactly DOCUMENTS documents
 //!
-//! A number that is `-` is the largest there is. Each row is printed before what comes of it; empty lines, and those that begin with `#`, are passed
-//! over. A text, an edit of it and a list of edits are asked with each growth refused in turn where `growths` stands before them: all has to stay as it
-//! was then, and the edit to be made once there is memory.
+//! The number `-` is the largest number. Each row is printed before its result. Empty lines, and
+//! lines that start with `#`, are skipped. After `growths`, a text, an edit or a list of edits is
+//! also tried with each allocation refused in turn. Nothing may change then, and the edit must
+//! succeed once there is memory.
 #![tactic(auto)]
 
 mod edits;

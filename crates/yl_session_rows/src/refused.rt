@@ -1,4 +1,5 @@
-//! Edits and lists of edits whose growths are refused, each in turn, up to the first run that meets no refusal.
+//! Edits and lists of edits in which each allocation is refused in turn, up to the first run in
+//! which none is.
 use crate::edits::Held;
 use crate::sessions::{Replayed, make, opened, push_answer, push_state, replayed};
 use refusing::Refusing;
@@ -7,14 +8,15 @@ use yl_devices::RunFault;
 use yl_session::{Edit, Session};
 use yl_text::{LineStore, TextFault};
 
-// Has no growth refused any more. Whether the one was that was to be.
+// Stops refusing allocations. Returns `true` if the `n`th allocation was refused.
 fn disarm(heap: &Refusing<Global>, n: u64) -> bool {
     let is_met = n > 0 && !heap.is_armed();
     heap.refuse(0);
     is_met
 }
 
-// What has to be shown where no growth is refused: the answers from this place on, and what the session shows.
+// Returns the text that must be shown if no allocation is refused: the answers from the index
+// `begin` on, and the state of the session.
 fn whole<S: LineStore>(alloc: Global, held: &Held<S>, begin: usize) -> Result<Vec<u8>, RunFault> {
     let answers = held.answers.as_slice().get(begin..).unwrap_or(&[]);
     let mut out = Vec::from_slice(alloc, answers)?;
@@ -22,7 +24,8 @@ fn whole<S: LineStore>(alloc: Global, held: &Held<S>, begin: usize) -> Result<Ve
     Ok(out)
 }
 
-// A new session over the text, after so many of the edits, but the one of this number, which wants memory. What each is answered goes behind a text.
+// Returns a new session over the text, after the first `count` edits. The edit with the index
+// `refused` is not made, and its answer is `Memory`. Appends the answer to each edit.
 fn made<S: LineStore>(
     alloc: Global,
     held: &Held<S>,
@@ -44,8 +47,8 @@ fn made<S: LineStore>(
     Ok(session)
 }
 
-// Makes an edit, the nth growth of which is refused, and at 0 none, and puts behind a text what it is answered and what is shown then. Whether a
-// growth was refused.
+// Makes an edit with the `n`th allocation refused, or none if `n` is 0. Appends the answer and the
+// state of the session. Returns `true` if an allocation was refused.
 fn try_edit<S: LineStore>(
     alloc: Global,
     heap: &Refusing<Global>,
@@ -62,7 +65,9 @@ fn try_edit<S: LineStore>(
     Ok(is_met)
 }
 
-// The same for the last edit in a new session, which is asked again if a growth was refused.
+// Makes the last edit in a new session with the `n`th allocation refused, and again if it was
+// refused. Appends the answers and the states of the session. Returns `true` if an allocation was
+// refused.
 fn try_last<S: LineStore>(
     alloc: Global,
     heap: &Refusing<Global>,
@@ -82,7 +87,8 @@ fn try_last<S: LineStore>(
     Ok(is_met)
 }
 
-// What `try_last` has to show where a growth is refused: the edit wants memory and all is as it was, and then it is made as where none is refused.
+// Returns the text that `try_last` must append if an allocation is refused: the edit fails with
+// `Memory` and changes nothing, and the second edit is made as if no allocation was refused.
 fn last_wanted<S: LineStore>(
     alloc: Global,
     held: &Held<S>,
@@ -97,8 +103,8 @@ fn last_wanted<S: LineStore>(
     Ok(out)
 }
 
-/// How many growths the last edit asks for. Where one is refused, it has to want memory and to change nothing, and asked again it has to be made as where
-/// none is refused; or there is no count.
+/// Returns the number of allocations of the last edit. If one is refused, the edit must fail with
+/// `Memory` and change nothing, and a second edit must succeed. Returns `None` if this is not so.
 pub fn edit_growths<S: LineStore>(
     alloc: Global,
     heap: &Refusing<Global>,
@@ -119,7 +125,8 @@ pub fn edit_growths<S: LineStore>(
     Ok(None)
 }
 
-// Puts behind a text what the edits of a list were answered, and what the session shows behind them; or why there is none.
+// Appends the answers to the edits of a list and the state of the session after them, or the fault
+// if there is no session.
 fn push_replayed<S: LineStore>(
     alloc: Global,
     answer: Result<Replayed<S>, TextFault>,
@@ -135,7 +142,8 @@ fn push_replayed<S: LineStore>(
     push_state(alloc, &session, out)
 }
 
-// Makes all edits as a list, where the nth growth is refused, and at 0 none, and puts behind a text what comes of it. Whether a growth was refused.
+// Makes all edits as a list with the `n`th allocation refused, or none if `n` is 0. Appends the
+// result. Returns `true` if an allocation was refused.
 fn try_list<S: LineStore>(
     alloc: Global,
     heap: &Refusing<Global>,
@@ -155,8 +163,9 @@ fn try_list<S: LineStore>(
     Ok(is_met)
 }
 
-// What `try_list` has to show where a growth is refused: at 0 there is no session, and at a greater number the edit before it in the list wants memory
-// and changes nothing.
+// Returns the text that `try_list` must append if an allocation is refused. If `number` is 0, there
+// is no session. Otherwise the edit before this number in the list fails with `Memory` and changes
+// nothing.
 fn list_wanted<S: LineStore>(
     alloc: Global,
     held: &Held<S>,
@@ -171,7 +180,7 @@ fn list_wanted<S: LineStore>(
     Ok(out)
 }
 
-// The first number, from this one on, at which that has to be shown.
+// Returns the first number, from `from` on, for which `try_list` must append this text.
 fn number_of<S: LineStore>(
     alloc: Global,
     held: &Held<S>,
@@ -187,9 +196,11 @@ fn number_of<S: LineStore>(
     Ok(None)
 }
 
-/// How many growths there are where the text is opened and all edits are made as a list, which has to do what they do one by one. From 1 on each is
-/// refused in turn, from 0 on none is. A growth of opening, and of the list of answers, is answered by the whole, and each later one by the edit that
-/// asked for it, which changes nothing; or there is no count.
+/// Returns the number of allocations of opening the text and making all edits as a list. The result
+/// must be that of making them one by one. Refuses each allocation in turn if `first` is 1, and
+/// none if it is 0. If an allocation of opening or of the list of answers is refused, the whole
+/// list must fail. If a later one is refused, its edit must fail and change nothing. Returns `None`
+/// if this is not so.
 pub fn list_growths<S: LineStore>(
     alloc: Global,
     heap: &Refusing<Global>,

@@ -1,4 +1,4 @@
-//! Rows, one after another.
+//! Follows rows, one after another.
 use crate::edits::{Both, Inquiry, Limits, NO_LIMITS, Request, answer_both, open};
 use crate::sessions::push_answer;
 use crate::words::{Instruction, instruction_of};
@@ -8,8 +8,8 @@ use test_rows::{first_word, push_front, push_unescaped, say, write};
 use yl_config::Config;
 use yl_devices::RunFault;
 
-// What is kept between rows: the configuration, how the next text begins, how often memory may be asked for, and the text that is kept open, with
-// the heap that it takes memory from.
+// What is kept between rows: the configuration, the start of the next text, the limits of
+// allocations, and the text that is kept open, with the heap that it allocates from.
 #[derive(Drop)]
 struct Kept<'a> {
     config: Config,
@@ -19,7 +19,7 @@ struct Kept<'a> {
     both: Option<Both<'a>>,
 }
 
-// Opens the text that is kept, or prints why it is not opened.
+// Opens the text that is kept, or prints the reason for which it is not opened.
 fn reopen(rt: &HostRuntime, kept: &mut Kept<'_>) -> Result<(), RunFault> {
     kept.both = None;
     match open(rt.alloc(), kept.heap, &kept.config, kept.front.as_slice()) {
@@ -35,7 +35,7 @@ fn reopen(rt: &HostRuntime, kept: &mut Kept<'_>) -> Result<(), RunFault> {
     }
 }
 
-// Does what is asked of the text that is open, and prints what comes of it.
+// Answers a request about the open text, and prints the answer.
 fn ask(rt: &HostRuntime, kept: &mut Kept<'_>, request: Request) -> Result<(), RunFault> {
     let Some(both) = &mut kept.both else {
         return say(rt, "no text is open");
@@ -49,7 +49,7 @@ fn ask(rt: &HostRuntime, kept: &mut Kept<'_>, request: Request) -> Result<(), Ru
     write(rt, shown.as_slice())
 }
 
-// Forgets what is kept for one row alone.
+// Clears what is kept for a single row.
 fn forget(kept: &mut Kept<'_>) {
     kept.front.clear();
     kept.limits = NO_LIMITS;
@@ -66,7 +66,7 @@ fn follow_config(rt: &HostRuntime, kept: &mut Kept<'_>, text: &str) -> Result<()
     Ok(())
 }
 
-// Does what is asked of a text that is kept open.
+// Follows a row with a request about a text that is kept open.
 fn follow_asked(
     rt: &HostRuntime,
     kept: &mut Kept<'_>,
@@ -82,7 +82,7 @@ fn follow_asked(
     Ok(())
 }
 
-// Does what a row says.
+// Follows a row.
 fn follow(rt: &HostRuntime, kept: &mut Kept<'_>, row: &str) -> Result<(), RunFault> {
     let (word, rest) = first_word(row);
     match instruction_of(word, rest) {
@@ -100,7 +100,7 @@ fn follow(rt: &HostRuntime, kept: &mut Kept<'_>, row: &str) -> Result<(), RunFau
     Ok(())
 }
 
-/// Prints each row, and then does what it says.
+/// Prints each row and follows it.
 pub fn run(rt: &HostRuntime, text: &str) -> Result<(), RunFault> {
     let heap = Refusing::new(rt.alloc());
     let mut kept = Kept {

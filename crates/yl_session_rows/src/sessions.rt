@@ -1,5 +1,6 @@
-//! Sessions that are opened and edited, over either store, and what they show. What is called here has long clauses, and these functions have none,
-//! so a call of one brings none with it.
+//! Sessions over either store, with their edits and their states. The functions that are called
+//! here have long contracts. These functions have none, so that a call of one brings in no
+//! contract.
 use std::alloc::{AllocError, Global};
 use yl_config::Config;
 use yl_devices::RunFault;
@@ -7,7 +8,7 @@ use yl_report::write_report;
 use yl_session::{Edit, Session, Work, replay};
 use yl_text::{LineStore, Lines, Pos, TextFault, Watched};
 
-/// A session over a text.
+/// Opens a session over a text.
 pub fn opened<S: LineStore>(
     taken: S::Alloc,
     config: &Config,
@@ -24,7 +25,7 @@ pub fn make<S: LineStore>(
     session.edit(edit.from, edit.to, edit.bytes.as_slice())
 }
 
-/// A session, and what each edit of a list was answered.
+/// A session, and the answer to each edit of a list.
 pub type Replayed<S> = (
     Session<S>,
     Vec<Result<Work, TextFault>, <S as Lines>::Alloc>,
@@ -40,7 +41,7 @@ pub fn replayed<S: LineStore>(
     replay(taken, *config, text, edits)
 }
 
-/// The place where the line of this number begins. Behind the last line none does: there it is the end of the text.
+/// Returns the start of a line, or the end of the text if there is no such line.
 pub fn line_start<S: LineStore>(session: &Session<S>, line: u32) -> Pos {
     match session.len().checked_sub(1) {
         Some(last) if last < line as usize => Pos {
@@ -51,7 +52,7 @@ pub fn line_start<S: LineStore>(session: &Session<S>, line: u32) -> Pos {
     }
 }
 
-/// Puts the report behind a text, as it is printed.
+/// Appends the report as it is printed.
 pub fn push_report<S: LineStore>(session: &Session<S>, out: &mut Vec<u8>) -> Result<(), RunFault> {
     let mut out = Watched::new(out);
     match write_report("", session.problems(), false, &mut out) {
@@ -60,7 +61,8 @@ pub fn push_report<S: LineStore>(session: &Session<S>, out: &mut Vec<u8>) -> Res
     }
 }
 
-/// Puts all that a session shows behind a text: its lines, a bar after each, its status, asked without strictness and with it, and its report.
+/// Appends the whole state of a session: its lines with a bar after each, its status with `strict`
+/// unset and set, and its report.
 pub fn push_state<S: LineStore>(
     alloc: Global,
     session: &Session<S>,
@@ -77,7 +79,7 @@ pub fn push_state<S: LineStore>(
     push_report(session, out)
 }
 
-/// Puts a line behind a text that says how an edit or a text was answered: what work it was, or why it was refused.
+/// Appends a line with the answer to an edit or to the opening of a text: its work, or the fault.
 pub fn push_answer(
     alloc: Global,
     answer: Result<Work, TextFault>,

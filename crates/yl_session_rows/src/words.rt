@@ -1,18 +1,23 @@
-//! What rows say.
+//! Reads rows.
 use crate::edits::{BoundedEdit, EditRange, Request};
 use test_rows::first_word;
 use yl_text::Pos;
 
-/// What a row says, but for how the next text begins.
+/// A row, unless it is about the start of the next text.
 pub enum Instruction<'a> {
+    /// The configuration of the next rows.
     Config(&'a str),
+    /// The minimum number of allocations of the next request.
     Growths(u64),
+    /// The maximum number of allocations of the next request.
     Most(u64),
+    /// The next edit must derive the events of exactly as many documents as it may.
     Exactly,
+    /// A request, with the bytes after it.
     Request(Request, &'a str),
 }
 
-// Two numbers, and what is behind them. `-` is the largest there is.
+// Reads two numbers, and returns the text after them. `-` is the largest number.
 fn pair(text: &str) -> Option<(u32, u32, &str)> {
     let (one, text) = first_word(text);
     let (two, text) = first_word(text);
@@ -22,7 +27,7 @@ fn pair(text: &str) -> Option<(u32, u32, &str)> {
     Some((one, two, text))
 }
 
-// An edit of a range, of the work and the bytes that are left.
+// Reads the limits and the bytes of an edit of a range.
 fn edit(range: EditRange, rest: &str) -> Option<Instruction<'_>> {
     let (scanned, documents, text) = pair(rest)?;
     let bounded = BoundedEdit {
@@ -33,13 +38,13 @@ fn edit(range: EditRange, rest: &str) -> Option<Instruction<'_>> {
     Some(Instruction::Request(Request::Edit(bounded), text))
 }
 
-// An edit of lines.
+// Reads an edit of lines.
 fn edit_lines(rest: &str) -> Option<Instruction<'_>> {
     let (a, b, rest) = pair(rest)?;
     edit(EditRange::Lines(a, b), rest)
 }
 
-// An edit between two places.
+// Reads an edit between two positions.
 fn put(rest: &str) -> Option<Instruction<'_>> {
     let (line, col, rest) = pair(rest)?;
     let from = Pos { line, col };
@@ -47,7 +52,7 @@ fn put(rest: &str) -> Option<Instruction<'_>> {
     edit(EditRange::Places(from, Pos { line, col }), rest)
 }
 
-// What a row says of the one behind it.
+// Reads a row about the limits of the next request.
 fn limit(word: &str, rest: &str) -> Option<Instruction<'static>> {
     match word {
         "growths" => Some(Instruction::Growths(rest.parse().ok()?)),
@@ -57,7 +62,7 @@ fn limit(word: &str, rest: &str) -> Option<Instruction<'static>> {
     }
 }
 
-/// What a row says by its word and the rest of it, unless it is none of these.
+/// Reads a row from its first word and the rest of it. Returns `None` if it is none of these rows.
 pub fn instruction_of<'a>(word: &str, rest: &'a str) -> Option<Instruction<'a>> {
     match word {
         "config" => Some(Instruction::Config(rest)),

@@ -1,4 +1,4 @@
-//! How many bytes a session holds.
+//! Tests of the number of bytes that a session holds.
 use crate::sessions::{edit_lines, opened};
 use linked_list_allocator::LocalHeap;
 use std::alloc::{AllocError, Global};
@@ -7,7 +7,7 @@ use yl_chunks::ChunkStore;
 use yl_session::Session;
 use yl_text::LineStore;
 
-// So many lines with a problem each, and one without behind them.
+// Returns a text of `count` lines with a problem each, and one line without a problem after them.
 fn text_of(alloc: Global, count: u32) -> Result<String, AllocError> {
     let mut text = String::new(alloc);
     for _ in 0..count {
@@ -17,8 +17,9 @@ fn text_of(alloc: Global, count: u32) -> Result<String, AllocError> {
     Ok(text)
 }
 
-// How many bytes a session over that text holds behind edits: a fault comes and goes, all but a few lines are replaced with a
-// fault, it is typed on, and goes. What is held then, behind each of the last three.
+// Edits a session over that text: adds a fault and removes it, replaces all but a few lines by a
+// fault, types after the fault, and removes it. Returns the numbers of bytes that the session holds
+// after each of the last three edits.
 fn held<S: LineStore>(
     alloc: Global,
     heap: &LocalHeap,
@@ -37,7 +38,7 @@ fn held<S: LineStore>(
     Ok([came, typed, heap.used()])
 }
 
-// It follows the text that is there, and not what was.
+// The number of bytes depends on the current text, and not on the earlier ones.
 #[test]
 fn what_is_held_follows_the_text(rt: HostRuntime) -> Result<(), Fail> {
     for count in [300, 1200] {

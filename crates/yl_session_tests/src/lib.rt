@@ -1,5 +1,7 @@
-//! Tests that need code of their own: random edits of sessions over both stores, how many bytes a session holds, what is too large, and in how many
-//! writes a report goes out. What edits are answered and what is shown then, also where memory is refused, is told by the rows of `yl_session_rows`.
+//! Tests that need code of their own: random edits of sessions over both stores, the number of
+//! bytes that a session holds, texts that are too large, and the number of writes of a report. The
+//! rows of `yl_session_rows` test the answers to edits and the state after them, also when
+//! allocations are refused.
 #![tactic(auto)]
 
 #[cfg(test)]

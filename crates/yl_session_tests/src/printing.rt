@@ -1,4 +1,4 @@
-//! How a report is written.
+//! Tests of the writes of a report.
 use crate::sessions::opened;
 use std::alloc::Global;
 use std::io::BufWriter;
@@ -10,7 +10,8 @@ use yl_text::{PlainStore, Watched};
 const ERRORS: &[u8] =
     b"f.yaml:1:4: [error] too many spaces after colon (colons)\nf.yaml:1:6: [error] trailing spaces (trailing-spaces)\n";
 
-// The errors of a report go out without its warning, and in one write: a buffer that they fill passes on no less than all of them.
+// The errors of a report are written without its warning, and in one write: a buffer of their
+// length passes on only a write of all of them.
 #[test]
 fn errors_are_written_at_once(rt: HostRuntime) -> Result<(), Fail> {
     let session: Session<PlainStore<Global>> = opened(rt.alloc(), b"a:  1 \n")?;

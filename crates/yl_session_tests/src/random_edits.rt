@@ -1,4 +1,5 @@
-//! Random edits of small texts, over both stores: behind each, a session shows what one shows that is opened over the edited text.
+//! Tests of random edits of small texts, over both stores. After each edit, a session shows what a
+//! new session over the edited text shows.
 use crate::sessions::{edit_lines, opened};
 use crate::shown::state_shown;
 use std::alloc::{AllocError, Global};
@@ -8,10 +9,11 @@ use yl_chunks::ChunkStore;
 use yl_session::Session;
 use yl_text::{LineStore, PlainStore};
 
-// What texts are made of: whole lines. Those that make a fault stand last, so that texts of the first ones alone have none.
+// The pieces of texts, each of whole lines. Those with a fault are last, so that a text of the
+// first ones has no fault.
 static PIECES: &[&str] = &[
-    // Markers, some with a problem in their line, and empty lines at the borders of documents. Some stand here often, so that a text has several
-    // documents.
+    // Markers, some with a problem in their line, and empty lines at the borders of documents. Some
+    // are repeated, so that a text has several documents.
     "---\n",
     "---\n",
     "---\n",
@@ -38,7 +40,7 @@ static PIECES: &[&str] = &[
     "m:\n    n: 1\n",
     "m:\n   - n\n",
     "m:\n- n\n",
-    // Comments that silence.
+    // Comments that hide problems.
     "# yamllint disable\n",
     "# yamllint disable rule:colons\n",
     "# yamllint enable\n",
@@ -46,7 +48,8 @@ static PIECES: &[&str] = &[
     "# yamllint disable-line\n",
     "e:  5 # yamllint disable-line rule:colons\n",
     "# yamllint disable-file\n",
-    // Faults that are told at their place or behind their document, and brackets and quotes that are closed somewhere below or not.
+    // Faults that are found at their position or after their document, and brackets and quotes that
+    // are closed in a later line or never.
     "n: ['1' 2]\n",
     "f: [1,\n",
     "  2]\n",
@@ -56,17 +59,17 @@ static PIECES: &[&str] = &[
     "q: close\"\n",
 ];
 
-// How many of them make no fault.
+// The number of pieces without a fault.
 const SOUND: usize = 31;
 
-// Numbers that look random, the same ones at each run.
+// A generator of pseudorandom numbers, which are the same at each run.
 #[derive(Drop)]
 struct Random {
     seed: u64,
 }
 
 impl Random {
-    // The next number, below a bound.
+    // Returns the next number, which is less than `bound`.
     fn below(&mut self, bound: usize) -> usize {
         self.seed = self
             .seed
@@ -75,14 +78,14 @@ impl Random {
         ((self.seed >> 33) % (bound as u64).max(1)) as usize
     }
 
-    // A number from one to another.
+    // Returns a number from `least` to `most`.
     fn between(&mut self, least: usize, most: usize) -> usize {
         let more = most.saturating_sub(least).saturating_add(1);
         least.saturating_add(self.below(more))
     }
 }
 
-// So many of the first pieces, by their numbers.
+// Returns the indices of `count` random pieces among the first `kinds` pieces.
 fn random_pieces(
     alloc: Global,
     random: &mut Random,
@@ -96,7 +99,7 @@ fn random_pieces(
     Ok(pieces)
 }
 
-// The text that pieces make.
+// Returns the text of pieces.
 fn text_of(alloc: Global, pieces: &[usize]) -> Result<String, AllocError> {
     let mut text = String::new(alloc);
     for piece in pieces {
@@ -105,14 +108,14 @@ fn text_of(alloc: Global, pieces: &[usize]) -> Result<String, AllocError> {
     Ok(text)
 }
 
-// How many lines end in it.
+// Returns the number of lines that end in pieces.
 fn lines_in(alloc: Global, pieces: &[usize]) -> Result<u32, AllocError> {
     let text = text_of(alloc, pieces)?;
     let ends = text.bytes().filter(|byte| *byte == b'\n').count();
     Ok(u32::try_from(ends).unwrap_or(u32::MAX))
 }
 
-// An edit: these pieces in place of those from the first number on, before the second.
+// An edit: these pieces replace those from the first index to before the second.
 #[derive(Drop)]
 struct PiecesEdit {
     from: usize,
@@ -120,7 +123,7 @@ struct PiecesEdit {
     new: Vec<usize>,
 }
 
-// An edit of so many pieces: up to two go, and up to two come.
+// Returns a random edit of `len` pieces, which removes at most two and inserts at most two.
 fn random_edit(
     alloc: Global,
     random: &mut Random,
@@ -134,7 +137,7 @@ fn random_edit(
     Ok(PiecesEdit { from, end, new })
 }
 
-// The pieces behind an edit.
+// Returns the pieces after an edit.
 fn edited(alloc: Global, pieces: &[usize], edit: &PiecesEdit) -> Result<Vec<usize>, AllocError> {
     let mut edited = Vec::new(alloc);
     edited.extend_from_slice(pieces.get(..edit.from).unwrap_or_default())?;
@@ -157,15 +160,15 @@ fn make_edit<S: LineStore>(
     Ok(())
 }
 
-// What a session shows that is opened over the text of these pieces.
+// Returns what a new session over the text of these pieces shows.
 fn shown_anew(alloc: Global, pieces: &[usize]) -> Result<Vec<u8>, Fail> {
     let text = text_of(alloc, pieces)?;
     let session: Session<PlainStore<Global>> = opened(alloc, text.as_bytes())?;
     state_shown(alloc, &session)
 }
 
-// Makes an edit in a session over the text of these pieces, and gives the pieces behind it. The session shows then what one shows that is
-// opened over their text.
+// Makes an edit in a session over the text of these pieces, and returns the pieces after it. The
+// session must then show what a new session over their text shows.
 fn check_edit<S: LineStore>(
     rt: &impl Abort,
     alloc: Global,
@@ -184,7 +187,7 @@ fn check_edit<S: LineStore>(
     Ok(edited)
 }
 
-// The same for random edits of a random text, one after another.
+// Checks random edits of a random text, one after another.
 fn check_text<S: LineStore<Alloc = Global>>(
     rt: &impl Abort,
     alloc: Global,

@@ -1,16 +1,16 @@
-//! Sessions that are opened and edited, over either store, and configurations that are read. These functions have no clauses, so a call of one brings
-//! none of a session's with it.
+//! Sessions over either store, their edits, and configurations. These functions have no contracts,
+//! so that a call of one brings in none of a session's contracts.
 use std::alloc::Global;
 use yl_config::{Config, ConfigFault};
 use yl_session::{Session, Work};
 use yl_text::{LineStore, Pos, TextFault};
 
-/// A session over a text under the standard configuration.
+/// Opens a session over a text under the standard configuration.
 pub fn opened<S: LineStore>(alloc: S::Alloc, text: &[u8]) -> Result<Session<S>, TextFault> {
     Session::open(alloc, Config::standard(), text)
 }
 
-/// Puts these bytes in place of what stands between two places.
+/// Replaces the range between two positions by these bytes.
 pub fn edit<S: LineStore>(
     session: &mut Session<S>,
     from: Pos,
@@ -20,7 +20,8 @@ pub fn edit<S: LineStore>(
     session.edit(from, to, bytes)
 }
 
-/// Puts these bytes in place of the lines from the first to the second number on: between the places where these begin.
+/// Replaces the lines from the first to before the second number by these bytes, as an edit between
+/// the starts of these lines.
 pub fn edit_lines<S: LineStore>(
     session: &mut Session<S>,
     a: u32,
@@ -35,7 +36,7 @@ pub fn edit_lines<S: LineStore>(
     )
 }
 
-/// Why these bytes are no configuration.
+/// Returns the fault of these bytes as a configuration, if they have one.
 pub fn config_fault(alloc: Global, bytes: &[u8]) -> Option<ConfigFault> {
     Config::read(alloc, bytes).err()
 }

@@ -1,11 +1,11 @@
-//! What a session shows, as text.
+//! The state of a session as text.
 use std::alloc::{AllocError, Global};
 use std::test::Fail;
 use yl_report::write_report;
 use yl_session::Session;
 use yl_text::{LineStore, Watched};
 
-/// The lines, a bar after each.
+/// Appends the lines of a session, each followed by a bar.
 fn push_lines<S: LineStore>(session: &Session<S>, out: &mut Vec<u8>) -> Result<(), AllocError> {
     for i in 0..session.len() {
         out.extend_from_slice(session.line(i).as_bytes())?;
@@ -14,7 +14,8 @@ fn push_lines<S: LineStore>(session: &Session<S>, out: &mut Vec<u8>) -> Result<(
     Ok(())
 }
 
-/// All that a session shows: its lines, its status, asked without strictness and with it, and its report.
+/// Returns the state of a session: its lines, its status with `strict` unset and set, and its
+/// report.
 pub fn state_shown<S: LineStore>(alloc: Global, session: &Session<S>) -> Result<Vec<u8>, Fail> {
     let mut out = Vec::new(alloc);
     push_lines(session, &mut out)?;

@@ -1,4 +1,4 @@
-//! Texts, bytes of edits, and configurations that are too large.
+//! Tests of texts, bytes of edits and configurations that are too large.
 use crate::sessions::{config_fault, edit, opened};
 use refusing::Refusing;
 use std::alloc::Global;
@@ -7,13 +7,14 @@ use yl_config::ConfigFault;
 use yl_session::Session;
 use yl_text::{LineStore, PlainStore, Pos, TextFault};
 
-// Why these bytes are not opened.
+// Returns the fault with which these bytes are not opened, if there is one.
 fn fault_of<S: LineStore<Alloc = Global>>(alloc: Global, bytes: &[u8]) -> Option<TextFault> {
     let answer: Result<Session<S>, TextFault> = opened(alloc, bytes);
     answer.err()
 }
 
-// Why these bytes are not put in a line of two characters, in place of those from a column to another, where the first growth is refused.
+// Returns the fault of an edit of the text `a\n`, if there is one. The edit puts these bytes
+// between two columns of the first line, and its first allocation is refused.
 fn edit_fault<S: LineStore>(
     heap: &Refusing<Global>,
     taken: S::Alloc,
@@ -29,7 +30,7 @@ fn edit_fault<S: LineStore>(
     Ok(answer.err())
 }
 
-// As many bytes as a text may have want memory, and one more is too large.
+// A text of the maximum size needs memory, and a text with one more byte is too large.
 #[test]
 fn what_is_too_large_is_refused(rt: HostRuntime) -> Result<(), Fail> {
     let heap = Refusing::new(rt.alloc());
@@ -49,7 +50,8 @@ fn what_is_too_large_is_refused(rt: HostRuntime) -> Result<(), Fail> {
     Ok(())
 }
 
-// Bytes that are no UTF-8 are no configuration, as many as a text may have, and one more is too large.
+// Bytes of the maximum size that are not UTF-8 are not a configuration, and one more byte is too
+// large.
 #[test]
 fn what_is_no_text_is_no_configuration(rt: HostRuntime) -> Result<(), Fail> {
     let bytes = vec![in rt.alloc(); 0xFF_u8; 67_108_865]?;

@@ -1,4 +1,4 @@
-//! Where a program takes its configuration from, and the line of a configuration's fault.
+//! The source of the configuration of a program, and the line of a fault in a configuration.
 #![tactic(auto)]
 
 mod reading;

@@ -1,4 +1,4 @@
-//! The configuration that is asked for.
+//! Reads the configuration that is asked for.
 ghost use Rattle.std.specs.Prelude.{◌≡◌, ◌-◌, ◌^◌, ◌<◌, IfOk, IfErr, Ok, Err, MatchResult};
 ghost use Rattle.yl_text.specs.Watched.{device_of, failures_of};
 ghost use Rattle.yl_devices.specs.Text.{IsReadFault};
@@ -14,8 +14,8 @@ use yl_devices::{ProgramFault, RunFault, read_text, without_mark};
 use yl_programs::{FAULT, stopped};
 use yl_text::Watched;
 
-/// Reads a configuration's text to its end, and returns what the bytes say, less one leading
-/// byte-order mark. The error is `Read` where the reader failed, else `Memory`.
+/// Reads the text of a configuration to its end, and returns the configuration or its fault.
+/// Ignores one leading byte-order mark. The error is `Read` if the reader failed, else `Memory`.
 pub fn read_config<A: Allocator + Copy, R: Read>(
     alloc: A,
     input: &mut Watched<R>,
@@ -31,7 +31,7 @@ pub fn read_config<A: Allocator + Copy, R: Read>(
     Ok(Config::read(alloc, without_mark(bytes.as_slice())))
 }
 
-// What the file of this name says.
+// Reads the file at this path as a configuration.
 fn read_file(rt: &HostRuntime, name: &str) -> Result<Result<Config, ConfigFault>, RunFault> {
     match fs::open(rt, name) {
         Ok(opened) => read_config(rt.alloc(), &mut Watched::new(opened)),
@@ -39,7 +39,7 @@ fn read_file(rt: &HostRuntime, name: &str) -> Result<Result<Config, ConfigFault>
     }
 }
 
-// Says a configuration's fault on standard error, and returns the exit status.
+// Writes the fault of a configuration to standard error, and returns the exit status.
 fn refused(rt: &HostRuntime, program: &str, fault: ConfigFault) -> u8
     ensures { result ≡ FAULT }
 {
@@ -48,7 +48,8 @@ fn refused(rt: &HostRuntime, program: &str, fault: ConfigFault) -> u8
     FAULT
 }
 
-// The configuration, or the exit status once its fault is said.
+// Returns the configuration. If it has a fault, writes the fault to standard error and returns the
+// exit status.
 fn accepted(
     rt: &HostRuntime,
     program: &str,
@@ -62,9 +63,9 @@ fn accepted(
     }
 }
 
-/// The configuration that is asked for: the default one, what a text says, or what a file says. One
-/// leading byte-order mark of a file is dropped, of a text none. Where there is no configuration,
-/// the fault is said on standard error, and the error is the exit status.
+/// Returns the configuration that is asked for: the default one, the one in a text, or the one in a
+/// file. Ignores one leading byte-order mark of a file, but not of a text. If there is no
+/// configuration, writes the fault to standard error. Then the error is the exit status.
 pub fn config_of(rt: &HostRuntime, program: &str, source: &Source) -> Result<Config, u8>
     ensures config { IsSourceAnswer source.now result }
     ensures status { IfErr result (λ status. status ≡ FAULT) }

@@ -1,4 +1,4 @@
-//! The line of a configuration's fault.
+//! Writes the line of a fault in a configuration.
 ghost use Rattle.std.specs.Prelude.{◌≡◌, ◌-◌, ◌^◌, ◌<◌, ◌++◌, codes, OnOk, OnErr, Some};
 ghost use Rattle.std.specs.List.{flat_map};
 ghost use Rattle.std.specs.Io.KnownBytes.{Appends};
@@ -13,18 +13,18 @@ use yl_config::{ConfigFault, FaultPlace};
 use yl_devices::{WriteFault, write_parts};
 use yl_text::Watched;
 
-// The pieces of the line of a fault that has no place.
+// Returns the pieces of the line of a fault without a position.
 fn parts_of<'a>(program: &'a str, fault: &'a str) -> [&'a [u8]; 4]
     ensures { flat_map (λ part. part.now) result
         ≡ program.now ++ codes ": " ++ (codes "configuration: " ++ fault.now) ++ codes "\n" }
 {
-    // Each of these is lent for as long as the other pieces, which an array of them asks.
+    // Each of these is borrowed for `'a`, since all pieces of an array have one type.
     let start: &'a [u8] = b": configuration: ";
     let end: &'a [u8] = b"\n";
     [program.as_bytes(), start, fault.as_bytes(), end]
 }
 
-// The pieces of the line of a fault that has a place.
+// Returns the pieces of the line of a fault with a position.
 fn placed_parts_of<'a>(
     program: &'a str,
     fault: &'a str,
@@ -50,7 +50,7 @@ fn placed_parts_of<'a>(
     ]
 }
 
-// Writes the line of a fault at a place.
+// Writes the line of a fault with its position.
 fn say_place<W: Write>(
     program: &str,
     fault: &str,
@@ -72,8 +72,9 @@ fn say_place<W: Write>(
     write_parts(out, &placed_parts_of(program, fault, line, column))
 }
 
-/// Writes the line of a configuration's fault, as it goes to standard error, and takes no memory.
-/// The line begins with the program's name. On a fault of the writer a beginning of the line is out.
+/// Writes the line of a fault in a configuration, as it goes to standard error. The line starts
+/// with the name of the program. Does not allocate. Returns an error only if the writer failed.
+/// Then a prefix of the line is written.
 pub fn say_config<W: Write>(
     program: &str,
     fault: ConfigFault,

@@ -1,16 +1,19 @@
-//! `yl_text_rows`: reads rows of tests, and prints what comes of each.
+//! `yl_text_rows`: reads rows of tests, and prints the result of each.
 //!
 //! A row is a line as `test_rows` reads it:
 //!
-//!     config TEXT     the configuration of the rows below, or its fault
+//!     config TEXT     takes the configuration of the next rows, or prints its fault
 //!     more, times, keys, stairs
-//!                     how the next text begins
-//!     lint TEXT       what the linter reports of the text that ends so
-//!     lexemes TEXT    and what `yldump` shows of such a text; events and lines too
-//!     growths N       what is asked next takes memory at least so often
+//!                     give the start of the next text
+//!     lint TEXT       prints the report of the text that ends with TEXT
+//!     lexemes TEXT    prints the lexemes of such a text, as `yldump` does
+//!     events TEXT     prints its events
+//!     lines TEXT      prints its lines
+//!     growths N       the next request allocates at least N times
 //!
-//! Each row is printed before what comes of it; empty lines, and those that begin with `#`, are passed over. What is asked of a small text is asked
-//! with each growth refused in turn too, and has to be answered by out of memory.
+//! Each row is printed before its result. Empty lines, and lines that start with `#`, are skipped.
+//! A request about a small text, or after `growths`, is also answered with each allocation refused
+//! in turn. The answer must then be out of memory.
 #![tactic(auto)]
 
 mod rows;

@@ -1,11 +1,12 @@
-//! Rows, one after another.
+//! Follows rows, one after another.
 use crate::views::{SMALL, Wanted, growths, show};
 use std::alloc::Global;
 use test_rows::{first_word, push_front, push_unescaped, say, told_growths, write};
 use yl_config::Config;
 use yl_devices::RunFault;
 
-// What is kept between rows: the configuration, how the next text begins, and how often memory is asked for at least.
+// What is kept between rows: the configuration, the start of the next text, and the minimum number
+// of allocations.
 #[derive(Drop)]
 struct Kept {
     config: Config,
@@ -13,7 +14,7 @@ struct Kept {
     least: u64,
 }
 
-// Asks with each growth refused in turn, and says where it is answered otherwise than it has to be.
+// Answers a request with each allocation refused in turn, and prints whether an answer is wrong.
 fn refuse_each(rt: &HostRuntime, kept: &Kept, wanted: Wanted, text: &str) -> Result<(), RunFault> {
     if text.len() >= SMALL && kept.least == 0 {
         return Ok(());
@@ -22,7 +23,7 @@ fn refuse_each(rt: &HostRuntime, kept: &Kept, wanted: Wanted, text: &str) -> Res
     write(rt, told_growths(count, kept.least).as_bytes())
 }
 
-// Shows what is asked of the text that is kept.
+// Prints the answer to a request about the text that is kept.
 fn show_front(rt: &HostRuntime, kept: &Kept, wanted: Wanted) -> Result<(), RunFault> {
     let Ok(text) = str::from_utf8(kept.front.as_slice()) else {
         return say(rt, "is no text");
@@ -31,14 +32,14 @@ fn show_front(rt: &HostRuntime, kept: &Kept, wanted: Wanted) -> Result<(), RunFa
     show(rt.alloc(), &kept.config, wanted, text, rt.stdout())
 }
 
-// Takes the configuration that is kept as a text, unless that has a fault.
+// Replaces the configuration by the text that is kept, unless that has a fault.
 fn take_config(alloc: Global, kept: &mut Kept) {
     if let Ok(config) = Config::read(alloc, kept.front.as_slice()) {
         kept.config = config;
     }
 }
 
-// What a row asks for by its word.
+// Returns the request of a row by its first word.
 fn wanted_of(word: &str) -> Option<Wanted> {
     match word {
         "config" => Some(Wanted::Fault),
@@ -50,7 +51,7 @@ fn wanted_of(word: &str) -> Option<Wanted> {
     }
 }
 
-// Shows what is asked of a text, and takes a configuration that has no fault.
+// Prints the answer to a request about a text, and takes a configuration that has no fault.
 fn ask(rt: &HostRuntime, kept: &mut Kept, wanted: Wanted, text: &str) -> Result<(), RunFault> {
     push_unescaped(&mut kept.front, text)?;
     show_front(rt, kept, wanted)?;
@@ -62,7 +63,7 @@ fn ask(rt: &HostRuntime, kept: &mut Kept, wanted: Wanted, text: &str) -> Result<
     Ok(())
 }
 
-// Does what a row says.
+// Follows a row.
 fn follow(rt: &HostRuntime, kept: &mut Kept, row: &str) -> Result<(), RunFault> {
     let (word, rest) = first_word(row);
     if let Some(wanted) = wanted_of(word) {
@@ -78,7 +79,7 @@ fn follow(rt: &HostRuntime, kept: &mut Kept, row: &str) -> Result<(), RunFault> 
     say(rt, "is no row")
 }
 
-/// Prints each row, and then does what it says.
+/// Prints each row and follows it.
 pub fn run(rt: &HostRuntime, text: &str) -> Result<(), RunFault> {
     let mut kept = Kept {
         config: Config::standard(),

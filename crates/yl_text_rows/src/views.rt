@@ -1,4 +1,4 @@
-//! What is shown of a text, with memory and where it is refused.
+//! Writes views of a text, also when allocations are refused.
 use refusing::Refusing;
 use std::alloc::{Allocator, Global};
 use std::io::Write;
@@ -9,16 +9,20 @@ use yl_lint::report_of_text;
 use yl_report::write_report;
 use yl_text::{MAX_BYTES, Watched};
 
-/// What is asked of texts of fewer bytes is asked with each growth refused in turn too.
+/// Requests about a text of fewer bytes are also answered with each allocation refused in turn.
 pub const SMALL: usize = 1000;
 
-/// What is asked of a text.
+/// A request about a text.
 #[derive(Clone, Copy, PartialEq, Eq)]
 pub enum Wanted {
     /// The fault of a configuration, if there is one.
+    /// The report of the linter.
     Fault,
+    /// The lexemes and the comments.
     Report,
+    /// The events.
     Lexemes,
+    /// The states of the lines.
     Events,
     Lines,
 }
@@ -59,7 +63,7 @@ fn show_report<A: Allocator + Copy, W: Write + Drop>(
     }
 }
 
-// Writes what `yldump` shows of a text.
+// Writes the view of a text that `yldump` writes.
 fn dump<A: Allocator + Copy, W: Write + Drop>(
     alloc: A,
     wanted: Wanted,
@@ -81,7 +85,7 @@ fn dump<A: Allocator + Copy, W: Write + Drop>(
     }
 }
 
-/// Writes what is asked of a text.
+/// Writes the answer to a request about a text.
 pub fn show<A: Allocator + Copy, W: Write + Drop>(
     alloc: A,
     config: &Config,
@@ -96,7 +100,8 @@ pub fn show<A: Allocator + Copy, W: Write + Drop>(
     }
 }
 
-// Asks with memory that is refused at one growth. Only whether it was answered, refused or otherwise counts.
+// Answers a request with an allocator that refuses one allocation. The answer is dropped, and only
+// the error is returned.
 fn asked(
     global: Global,
     heap: &Refusing<Global>,
@@ -108,7 +113,8 @@ fn asked(
     show(heap, config, wanted, text, &mut bytes)
 }
 
-/// How many growths there are where none is refused. Where one is, out of memory has to be the answer, or there is no count.
+/// Returns the number of allocations of a request. Returns `None` if the request fails without a
+/// refused allocation, or if its error is not out of memory with one.
 pub fn growths(global: Global, config: &Config, wanted: Wanted, text: &str) -> Option<u64> {
     let heap = Refusing::new(global);
     for n in 0..u64::MAX {

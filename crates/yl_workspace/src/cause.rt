@@ -1,14 +1,14 @@
-//! Why the text of a document is not followed.
+//! The causes why the text of a document is not followed.
 
-/// Why the text of a document is not followed any more.
+/// The cause why the text of a document is no longer followed.
 #[derive(Clone, Copy, Debug, PartialEq, Eq)]
 pub enum Cause {
-    /// A growth was refused by the allocator.
+    /// An allocation failed.
     OutOfMemory,
     /// The text would have more than `MAX_BYTES` bytes.
     TooLarge,
-    /// A change was of another shape, or its range ended before its start.
+    /// A change has the wrong shape, or its range ends before its start.
     BadChange,
-    /// A message could not be read: it may have been a change.
+    /// A message could not be read. It may have been a change.
     Missed,
 }

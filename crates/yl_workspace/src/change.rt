@@ -1,4 +1,4 @@
-//! Changes of a text that is followed, or is not.
+//! Applies changes to a text that is followed or is not.
 ghost use Rattle.std.specs.Prelude.{◌≡◌, ◌≤◌, Bool, List, Ok, IfOk, length, map};
 ghost use Rattle.yl_text.specs.Lines.{text_of};
 ghost use Rattle.yl_text.specs.declared.TheConstants.{MAX_BYTES};
@@ -17,7 +17,7 @@ use yl_session::Session;
 use yl_text::{LineStore, MAX_BYTES, TextFault};
 use yl_units::{Encoding, place_of};
 
-/// Why a text is not followed where this is why it was refused.
+/// Returns the cause why a text is not followed after an edit failed with `fault`.
 fn cause_of(fault: TextFault) -> Cause
     ensures { result ≡ spec.cause_of fault }
 {
@@ -28,7 +28,7 @@ fn cause_of(fault: TextFault) -> Cause
     }
 }
 
-/// A session over a text.
+/// Opens a session over a text. Returns the cause if the text cannot be followed.
 pub(crate) fn opened_text<S: LineStore>(
     alloc: S::Alloc,
     config: Config,
@@ -43,7 +43,8 @@ pub(crate) fn opened_text<S: LineStore>(
     }
 }
 
-/// The session after an edit between two places that an editor names.
+/// Returns the session after an edit of the range that an editor names, or the cause if the edit
+/// fails.
 fn edited<S: LineStore>(
     mut session: Session<S>,
     encoding: Encoding,
@@ -61,7 +62,7 @@ fn edited<S: LineStore>(
     }
 }
 
-/// The session after its text was made this one, by an edit of the lines that differ.
+/// Returns the session after its text was replaced by `new`, by an edit of the range that differs.
 fn replaced<S: LineStore>(
     alloc: S::Alloc,
     mut session: Session<S>,
@@ -83,7 +84,7 @@ fn replaced<S: LineStore>(
     }
 }
 
-/// A text that is followed, or not, after it was made this one.
+/// Returns a text, followed or not, after it was replaced by `new`.
 fn renewed<S: LineStore>(
     alloc: S::Alloc,
     config: Config,
@@ -103,7 +104,7 @@ fn renewed<S: LineStore>(
     }
 }
 
-/// A text that is followed, or not, after a change.
+/// Returns a text, followed or not, after a change.
 fn changed<S: LineStore>(
     alloc: S::Alloc,
     config: Config,
@@ -122,7 +123,7 @@ fn changed<S: LineStore>(
     }
 }
 
-/// A text that is followed, or not, after changes in their order.
+/// Returns a text, followed or not, after the changes, applied in order.
 pub(crate) fn changed_by_all<S: LineStore>(
     alloc: S::Alloc,
     config: Config,
@@ -140,7 +141,7 @@ pub(crate) fn changed_by_all<S: LineStore>(
     text
 }
 
-/// A text that is followed, or not, judged anew by this configuration.
+/// Returns a text, followed or not, judged by this configuration.
 pub(crate) fn judged_by<S: LineStore>(
     alloc: S::Alloc,
     config: Config,
@@ -154,7 +155,7 @@ pub(crate) fn judged_by<S: LineStore>(
         return Err(Cause::OutOfMemory);
     };
     drop(session);
-    // The bytes are those of a text, so that only memory can be wanting.
+    // The bytes are those of a text, so the only error is out of memory.
     match Session::open(alloc, config, bytes.as_slice()) {
         Ok(session) => Ok(session),
         Err(_) => Err(Cause::OutOfMemory),

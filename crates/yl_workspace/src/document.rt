@@ -14,8 +14,11 @@ use yl_session::Session;
 use yl_text::LineStore;
 use yl_units::Encoding;
 
-/// A document: its URI and its version as they came, the configuration by which it is judged, or that it is ignored, and a session over its
-/// text, or why the text is not followed any more. A document that is lost keeps no session; one that is ignored keeps it.
+/// A document that an editor has open.
+///
+/// A document has its URI and its version as the editor sent them, the configuration by which it is
+/// judged, and a session over its text, or the cause why the text is no longer followed. A document
+/// may be ignored. A document whose text is lost keeps no session, but an ignored one keeps it.
 #[derive(Drop)]
 pub struct Document<S: LineStore> {
     uri: String<S::Alloc>,
@@ -44,8 +47,9 @@ impl<S: LineStore> Document<S> {
     ghost use Rattle.yl_workspace.specs.Documents.{changed_document, configured_document, lost_document, opened_document};
     ghost use Rattle.yl_workspace.specs.Shown.{IsFollowed, opened_again};
 
-    /// A document that is opened, and ignored where it has no configuration. It fails where there is no memory for its URI or its version;
-    /// where there is none for its text, the text is lost.
+    /// Opens a document. Without a configuration the document is ignored. Returns an error if there
+    /// is no memory for its URI or its version. If there is no memory for its text, the text is
+    /// lost.
     pub(crate) fn opened(
         alloc: S::Alloc,
         config: Option<Config>,
@@ -59,7 +63,8 @@ impl<S: LineStore> Document<S> {
         }
     }
 
-    // The same by a configuration, also of one that is ignored.
+    // Opens a document under this configuration, ignored if `is_ignored` is set. The errors are
+    // those of `opened`.
     fn judged(
         alloc: S::Alloc,
         config: Config,
@@ -80,7 +85,7 @@ impl<S: LineStore> Document<S> {
         })
     }
 
-    /// Opens the document anew. Where there is no memory for that, its text is lost.
+    /// Opens the document again. If there is no memory for that, its text is lost.
     pub(crate) fn open_again(
         &mut self,
         alloc: S::Alloc,
@@ -95,28 +100,28 @@ impl<S: LineStore> Document<S> {
         }
     }
 
-    /// The URI, as it came.
+    /// Returns the URI, as the editor sent it.
     pub fn uri(&self) -> &str
         ensures { result.now ≡ self.now.uri }
     {
         self.uri.as_str()
     }
 
-    /// The version, as it came.
+    /// Returns the version, as the editor sent it.
     pub fn version(&self) -> &str
         ensures { result.now ≡ self.now.version }
     {
         self.version.as_str()
     }
 
-    /// Whether nothing is told of its text.
+    /// Returns `true` if the document is ignored.
     pub fn is_ignored(&self) -> bool
         ensures { result ≡ is_none self.now.config }
     {
         self.is_ignored
     }
 
-    /// The session over the text, or why the text is not followed any more.
+    /// Returns the session over the text, or the cause why the text is no longer followed.
     pub fn session(&self) -> Result<&Session<S>, Cause>
         ensures { MatchResult result (λ session. IsFollowed self.now session.now) (λ cause. self.now.text ≡ Lost cause) }
     {
@@ -126,14 +131,14 @@ impl<S: LineStore> Document<S> {
         }
     }
 
-    /// Lets the text go.
+    /// Drops the session over the text. From then on the text is lost for this cause.
     pub(crate) fn lose(&mut self, cause: Cause)
         ensures { self.new ≡ lost_document cause self.old }
     {
         self.text = Err(cause);
     }
 
-    /// Makes changes in their order, after which the document has this version.
+    /// Applies the changes in order and sets the version.
     pub(crate) fn change(
         &mut self,
         alloc: S::Alloc,
@@ -152,7 +157,7 @@ impl<S: LineStore> Document<S> {
         self.version = version;
     }
 
-    /// Judges the text anew, by this configuration. With none the document is ignored.
+    /// Judges the text by another configuration. Without one the document is ignored.
     pub(crate) fn configure(&mut self, alloc: S::Alloc, config: Option<Config>)
         ensures { (granted : Bool) × (self.new ≡ configured_document config granted self.old) }
     {

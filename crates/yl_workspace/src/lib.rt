@@ -1,4 +1,5 @@
-//! The documents that an editor has open: their texts, followed through its changes, or why they are not followed any more.
+//! The documents that an editor has open: the text of each, followed through its changes, or the
+//! cause why it is no longer followed.
 #![tactic(auto)]
 
 mod cause;

@@ -12,7 +12,8 @@ use yl_lsp::{Change, Opened};
 use yl_text::LineStore;
 use yl_units::Encoding;
 
-/// The documents that are open, in the order in which they were opened. In contracts it is the list of them.
+/// The documents that are open, in the order in which they were opened. Contracts view a workspace
+/// as the list of its documents.
 #[derive(Drop)]
 pub struct Workspace<S: LineStore> {
     alloc: S::Alloc,
@@ -29,7 +30,7 @@ impl<S: LineStore> Model for Workspace<S> {
 }
 
 impl<S: LineStore> Workspace<S> {
-    /// No document is open. It takes no memory.
+    /// Creates a workspace without documents. Does not allocate.
     pub fn new(alloc: S::Alloc) -> Workspace<S>
         ensures { result ≡ [] }
     {
@@ -39,14 +40,14 @@ impl<S: LineStore> Workspace<S> {
         }
     }
 
-    /// The documents.
+    /// Returns the documents.
     pub fn documents(&self) -> &[Document<S>]
         ensures { result.now ≡ self.now }
     {
         self.documents.as_slice()
     }
 
-    /// The document of a URI.
+    /// Returns the document with this URI, if it is open.
     pub fn document(&self, uri: &str) -> Option<&Document<S>>
         ensures { option_copied result ≡ document_at uri.now self.now }
     {
@@ -54,9 +55,10 @@ impl<S: LineStore> Workspace<S> {
         Some(&self.documents[i])
     }
 
-    /// Opens a document, or opens it anew (`textDocument/didOpen`); with no configuration it is ignored. Where there is no memory for its
-    /// text, or to note that it is opened anew, its text is lost; where there is none to enter a document that is not open, that is an error,
-    /// and nothing changes.
+    /// Opens a document, or opens it again (`textDocument/didOpen`). Without a configuration the
+    /// document is ignored. If there is no memory for its text, or for a document that is opened
+    /// again, its text is lost. Returns an error if there is no memory for a document that is not
+    /// open. Then nothing has changed.
     pub fn open(&mut self, config: Option<Config>, document: Opened<'_>) -> Result<(), AllocError>
         ensures opened { (grants : List Bool) × (self.new ≡ opened config grants (opened_value document.entry) self.old) }
         ensures ok { OnOk result (IsSome (document_at document.entry.uri.now self.new)) }
@@ -74,8 +76,8 @@ impl<S: LineStore> Workspace<S> {
         Ok(())
     }
 
-    /// Makes the changes of one message in their order (`textDocument/didChange`). One that can't be made makes the text lost, with its
-    /// cause; of a document that is not open nothing changes.
+    /// Applies the changes of one message in order (`textDocument/didChange`). If a change fails,
+    /// the text is lost for the cause. If the document is not open, nothing changes.
     pub fn change(&mut self, encoding: Encoding, uri: &str, version: &str, changes: &[Change<'_>])
         ensures { (grants : List Bool) × (self.new ≡ changed encoding grants uri.now version.now (map change_value changes.now) self.old) }
     {
@@ -85,14 +87,15 @@ impl<S: LineStore> Workspace<S> {
         }
     }
 
-    /// Closes a document (`textDocument/didClose`). It takes no memory.
+    /// Closes a document (`textDocument/didClose`). Does not allocate.
     pub fn close(&mut self, uri: &str)
         ensures { self.new ≡ closed uri.now self.old }
     {
         remove_each(&mut self.documents, uri);
     }
 
-    /// Lets the text of a document go, if that is open. It takes no memory.
+    /// Drops the text of a document, if the document is open. From then on the text is lost for
+    /// this cause. Does not allocate.
     pub fn lose(&mut self, uri: &str, cause: Cause)
         ensures { self.new ≡ lost cause uri.now self.old }
     {
@@ -101,14 +104,16 @@ impl<S: LineStore> Workspace<S> {
         }
     }
 
-    /// Lets the texts of all documents go. It takes no memory.
+    /// Drops the texts of all documents. From then on they are lost for this cause. Does not
+    /// allocate.
     pub fn lose_all(&mut self, cause: Cause)
         ensures { self.new ≡ all_lost cause self.old }
     {
         lose_each(&mut self.documents, cause);
     }
 
-    /// Judges each text anew, by another configuration; with none all documents are ignored. A text for which there is no memory is lost.
+    /// Judges each text by another configuration. Without one all documents are ignored. A text for
+    /// which there is no memory is lost.
     pub fn configure(&mut self, config: Option<Config>)
         ensures { (grants : List Bool) × (self.new ≡ configured config grants self.old) }
     {
@@ -116,8 +121,8 @@ impl<S: LineStore> Workspace<S> {
         configure_each(alloc, config, &mut self.documents);
     }
 
-    /// Judges the text of the document at an index anew, by another configuration; with none it is ignored. Where there is no memory the text
-    /// is lost.
+    /// Judges the text of the document at `index` by another configuration. Without one the
+    /// document is ignored. If there is no memory, the text is lost.
     pub fn configure_at(&mut self, index: usize, config: Option<Config>)
         requires { index < length self.old }
         ensures { (granted : Bool) × (self.new ≡ configured_at index config granted self.old) }
@@ -127,7 +132,7 @@ impl<S: LineStore> Workspace<S> {
     }
 }
 
-/// The place of the first document of a URI, counted from 0.
+/// Returns the index of the first document with this URI.
 fn position<S: LineStore>(documents: &[Document<S>], uri: &str) -> Option<usize>
     ensures { result ≡ list.position (λ d. bytes_eq d.uri uri.now) documents.now }
 {
@@ -139,14 +144,14 @@ fn position<S: LineStore>(documents: &[Document<S>], uri: &str) -> Option<usize>
     None
 }
 
-/// Removes the documents of a URI.
+/// Removes the documents with this URI.
 fn remove_each<S: LineStore>(documents: &mut Vec<Document<S>, S::Alloc>, uri: &str)
     ensures { documents.new.items ≡ closed uri.now documents.old.items }
 {
     documents.retain(|document| document.uri() != uri);
 }
 
-/// Lets the texts of these documents go.
+/// Drops the texts of these documents.
 fn lose_each<S: LineStore>(documents: &mut [Document<S>], cause: Cause)
     ensures { documents.new ≡ all_lost cause documents.old }
 {
@@ -155,7 +160,7 @@ fn lose_each<S: LineStore>(documents: &mut [Document<S>], cause: Cause)
     }
 }
 
-/// Judges the texts of these documents anew.
+/// Judges the texts of these documents by another configuration.
 fn configure_each<S: LineStore>(
     alloc: S::Alloc,
     config: Option<Config>,
@@ -168,7 +173,7 @@ fn configure_each<S: LineStore>(
     }
 }
 
-/// Judges the text of the document at an index anew.
+/// Judges the text of the document at `index` by another configuration.
 fn configure_one<S: LineStore>(
     alloc: S::Alloc,
     index: usize,

@@ -1,4 +1,5 @@
-//! What changes leave of a text. The expected texts are those of the model of an editor that keeps its text as a list of characters.
+//! Tests of the texts that changes result in. The expected texts are those of a model of an editor
+//! that keeps its text as a list of characters.
 
 use crate::opened::{Open, change, open, text_in};
 use std::alloc::Global;
@@ -8,7 +9,7 @@ use yl_lsp::{Change, Range};
 use yl_units::{EditorPlace, Encoding};
 use yl_workspace::{Cause, Workspace};
 
-// A change in a range.
+// Returns a change in a range.
 fn within<'a>(start: (u64, u64), end: (u64, u64), text: &'a str) -> Change<'a> {
     let start = EditorPlace {
         line: start.0,
@@ -21,7 +22,7 @@ fn within<'a>(start: (u64, u64), end: (u64, u64), text: &'a str) -> Change<'a> {
     Change::Within(Range { start, end }, text)
 }
 
-// What changes leave of a text that was opened.
+// Checks the text of a document after changes.
 fn leaves(
     rt: &impl Abort,
     alloc: Global,

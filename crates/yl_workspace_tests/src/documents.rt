@@ -1,4 +1,4 @@
-//! Which documents are open, and how they are judged.
+//! Tests of the documents that are open, and of the configurations by which they are judged.
 
 use crate::opened::{Open, change, open, problems, text_in};
 use std::test::Fail;

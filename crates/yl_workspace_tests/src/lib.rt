@@ -1,4 +1,4 @@
-//! Tests of open documents: what changes leave, and which documents are open.
+//! Tests of open documents, and of changes of them.
 #![tactic(auto)]
 
 #[cfg(test)]

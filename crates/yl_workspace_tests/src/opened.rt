@@ -1,4 +1,5 @@
-//! Open documents, and what they hold. These functions have no clauses, so a call of one brings none of a workspace's with it.
+//! Open documents, and their texts. These functions have no contracts, so that a call of one brings
+//! in none of a workspace's contracts.
 
 use std::alloc::{AllocError, Global};
 use yl_chunks::ChunkStore;
@@ -7,9 +8,10 @@ use yl_lsp::{Change, Opened};
 use yl_units::Encoding;
 use yl_workspace::{Cause, Document, Workspace};
 
+/// Open documents over a store in chunks.
 pub type Open = Workspace<ChunkStore<Global>>;
 
-/// What the text of a document is, or why it is not followed.
+/// The text of a document, or the cause for which it is not followed.
 pub type TextOf = Result<Vec<u8>, Cause>;
 
 /// Opens a document under the standard configuration.
@@ -18,12 +20,13 @@ pub fn open(documents: &mut Open, uri: &str, version: &str, text: &str) -> Resul
     documents.open(Some(Config::standard()), document)
 }
 
-/// Makes changes of a document.
+/// Changes the text of a document.
 pub fn change(documents: &mut Open, encoding: Encoding, uri: &str, changes: &[Change<'_>]) {
     documents.change(encoding, uri, "2", changes)
 }
 
-/// What the text of a document is.
+/// Returns the text of a document, or the cause for which it is not followed. The only error is out
+/// of memory.
 pub fn text_in(
     alloc: Global,
     document: &Document<ChunkStore<Global>>,
@@ -34,7 +37,8 @@ pub fn text_in(
     }
 }
 
-/// How many problems are shown of a document.
+/// Returns the number of problems of a document. It is 0 if the text of the document is not
+/// followed.
 pub fn problems(document: &Document<ChunkStore<Global>>) -> usize {
     match document.session() {
         Ok(session) => session.problems().len(),

@@ -1,4 +1,4 @@
-//! `yldump`: prints what the scanner and the parser see of a YAML file.
+//! `yldump`: prints what the scanner and the parser find in a YAML file.
 #![tactic(auto)]
 
 use std::process::ExitCode;
@@ -10,12 +10,12 @@ use yl_text::Watched;
 
 const NAME: &str = "yldump";
 
-// The name under which a fault of the file is told.
+// Returns the name of the file in messages.
 fn shown_name(file: &str) -> &str {
     if file == "-" { "stdin" } else { file }
 }
 
-// The bytes of a file, or of standard input at `-`.
+// Returns the bytes of a file, or those of standard input if the name is `-`.
 fn bytes_given(rt: &HostRuntime, file: &str) -> Result<Vec<u8>, RunFault> {
     if file == "-" {
         return read_text(rt.alloc(), &mut Watched::new(rt.stdin()));
@@ -23,7 +23,7 @@ fn bytes_given(rt: &HostRuntime, file: &str) -> Result<Vec<u8>, RunFault> {
     bytes_of(rt, file)
 }
 
-// Shows what is asked for.
+// Writes the view of the file that the arguments ask for.
 fn shown(rt: &HostRuntime, asked: &AskedDump) -> Result<(), RunFault> {
     let bytes = bytes_given(rt, asked.file.as_str())?;
     let text = match text_of(bytes.as_slice()) {
@@ -42,6 +42,7 @@ fn shown(rt: &HostRuntime, asked: &AskedDump) -> Result<(), RunFault> {
     }
 }
 
+// Runs the program, and returns its exit status.
 fn answered(rt: &HostRuntime) -> u8 {
     let words = match words(rt) {
         Ok(words) => words,

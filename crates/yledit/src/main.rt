@@ -1,4 +1,5 @@
-//! `yledit`: prints the problems of a YAML file, and those of each text that commands on standard input make of it.
+//! `yledit`: prints the problems of a YAML file, and those of each text that commands on standard
+//! input make of it.
 #![tactic(auto)]
 
 use std::process::ExitCode;
@@ -13,7 +14,8 @@ use yl_text::Watched;
 
 const NAME: &str = "yledit";
 
-// A fault of the run over a file: what cannot be read after its text was, are the commands.
+// Edits the text of a file by commands on standard input, and returns the exit status. A read fault
+// after the text was read is a fault of standard input.
 fn edited(rt: &HostRuntime, file: &str, asked: &Asked, config: Config) -> u8 {
     let bytes = match bytes_of(rt, file) {
         Ok(bytes) => bytes,

@@ -1,4 +1,4 @@
-//! `zutkrad check`: files and folders linted under a project's configuration.
+//! `zutkrad check`: lints files and folders under the configuration of a project.
 use crate::NAME;
 use crate::progress::Progress;
 use std::alloc::{AllocError, Global};
@@ -16,10 +16,10 @@ use yl_search::{Found, LoadCause, LoadFault, Loader, Origin, Walk, project_file,
 use yl_sources::say_config;
 use yl_text::Watched;
 
-// How standard input is called.
+// The name of standard input in reports.
 const INPUT: &str = "stdin";
 
-// Says a line about a file on standard error, and returns the exit status.
+// Writes a line about a file to standard error, and returns the exit status.
 fn said(rt: &HostRuntime, file: &str, text: &str) -> u8 {
     let start: &[u8] = b": ";
     let end: &[u8] = b"\n";
@@ -60,7 +60,7 @@ fn refused(rt: &HostRuntime, fault: &LoadFault) -> Result<u8, AllocError> {
     }
 }
 
-// The file of the configuration, where none is named.
+// Returns the file of the configuration if no configuration is asked for.
 fn file_of(rt: &HostRuntime) -> Result<Option<String>, AllocError> {
     let here = match env::current_dir(rt) {
         Ok(here) => String::from_str(rt.alloc(), here.as_str())?,
@@ -73,7 +73,7 @@ fn file_of(rt: &HostRuntime) -> Result<Option<String>, AllocError> {
     }
 }
 
-// The configuration that is asked for, or the one that is found.
+// Loads the configuration that is asked for, or else the one that is found.
 fn project_of(rt: &HostRuntime, source: &Source) -> Result<Project<Global>, LoadFault> {
     let mut loader = Loader::new(rt, "");
     match source {
@@ -94,7 +94,7 @@ fn is_set(rt: &HostRuntime, name: &str) -> Result<bool, AllocError> {
     }
 }
 
-// Whether this is a step of a workflow of GitHub.
+// Returns `true` if this is a step of a GitHub workflow.
 fn is_workflow(rt: &HostRuntime) -> Result<bool, AllocError> {
     Ok(is_set(rt, "GITHUB_ACTIONS")? && is_set(rt, "GITHUB_WORKFLOW")?)
 }
@@ -119,15 +119,15 @@ struct Run<'a> {
     printing: Printing,
     lists: bool,
     progress: Progress<'a>,
-    // How many files were looked at.
+    // The number of items of the walk that were taken.
     files: u64,
 }
 
-// A file's status, or `None` where the output can't be written any more.
+// The status of a file, or `None` if the output can no longer be written.
 type Status = Option<u8>;
 
 impl Run<'_> {
-    // Says a fault of a file.
+    // Writes the fault of a file to standard error.
     fn fault(&mut self, file: &str, fault: RunFault) -> Status {
         self.progress.clear();
         Some(stopped(self.rt, NAME, &ProgramFault::Run(file, fault)))
@@ -145,7 +145,7 @@ impl Run<'_> {
         print_report(name, problems.as_slice(), self.printing, &mut out).ok()
     }
 
-    // Lints a file, or prints its name.
+    // Lints a file, or prints its path if the run lists files.
     fn file(&mut self, file: &str) -> Status {
         let config = match self.project.config_for(file) {
             Ok(Some(config)) => config,
@@ -194,7 +194,7 @@ impl Run<'_> {
     }
 }
 
-// Takes each file. The status is that of all of them.
+// Takes each file, and returns the status of all of them.
 fn walked(run: &mut Run<'_>, paths: &[String]) -> Result<u8, AllocError> {
     let mut walk = Walk::new(run.rt, run.project, paths);
     let mut status = 0;
@@ -234,7 +234,7 @@ fn checked(rt: &HostRuntime, asked: &AskedCheck) -> Result<u8, AllocError> {
     walked(&mut run, asked.paths.as_slice())
 }
 
-/// Lints what is asked for, and returns the exit status.
+/// Lints the files that are asked for, and returns the exit status.
 pub fn check(rt: &HostRuntime, asked: &AskedCheck) -> u8 {
     match checked(rt, asked) {
         Ok(status) => status,

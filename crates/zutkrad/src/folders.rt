@@ -1,4 +1,4 @@
-//! The configurations of documents' folders, for `zutkrad server`.
+//! The configurations of the folders of documents, for `zutkrad server`.
 use percent_encoding::{DecodeError, percent_decode_str};
 use std::alloc::{AllocError, Global};
 use std::collections::BTreeMap;
@@ -8,13 +8,13 @@ use yl_project::Project;
 use yl_search::{LoadCause, Loader, Opened, Origin, project_file, user_file};
 use yl_server::Governed;
 
-// A configuration that was loaded, all files that it was loaded from, and the number of that loading.
+// A configuration that was loaded, the files from which it was loaded, and the number of the load.
 #[derive(Drop)]
 struct Loaded {
     project: Result<Project<Global>, LoadCause>,
     opened: Vec<Opened>,
     loading: u64,
-    // How many documents are judged by it.
+    // The number of documents that are judged by it.
     documents: u64,
 }
 
@@ -28,7 +28,8 @@ impl Loaded {
         Ok(true)
     }
 
-    // By what a document is judged whose path is this from the folder of the configuration.
+    // Returns the configuration of a document. `path` is its path from the folder of the
+    // configuration.
     fn found_for(&self, path: &str) -> Result<Governed, AllocError> {
         match &self.project {
             Ok(project) => Ok(match project.config_for(path)? {
@@ -49,7 +50,7 @@ fn fault_of(cause: LoadCause) -> Governed {
     }
 }
 
-// The folder of a file, with `/` at its end; empty where the path is a name alone.
+// Returns the folder of a file, with `/` at its end, or an empty path if `path` is only a name.
 fn folder_of(path: &str) -> &str {
     match path.rsplit_once('/') {
         Some((_, name)) => path.strip_suffix(name).unwrap_or(path),
@@ -57,12 +58,12 @@ fn folder_of(path: &str) -> &str {
     }
 }
 
-// A path from a folder, where it lies there.
+// Returns a path relative to a folder, if it is below the folder, else `path`.
 fn path_from<'a>(folder: &str, path: &'a str) -> &'a str {
     path.strip_prefix(folder).unwrap_or(path)
 }
 
-// The path of the file that a URI names, if it names one of this machine.
+// Returns the path of the file that a URI names, if it names a file of this machine.
 fn path_of(rt: &HostRuntime, uri: &str) -> Result<Option<String>, AllocError> {
     let Some(rest) = uri.strip_prefix("file://") else {
         return Ok(None);
@@ -78,25 +79,27 @@ fn path_of(rt: &HostRuntime, uri: &str) -> Result<Option<String>, AllocError> {
     }
 }
 
-// What a document was judged by when it was last asked for: a file, and which loading of it. Without one it is the standard configuration.
+// The configuration by which a document was judged when it was last asked for: its file and the
+// number of its load. Without a file it is the standard configuration.
 #[derive(Drop)]
 struct Judged {
     file: Option<String>,
     loading: u64,
 }
 
-/// The configurations of folders, and by which of them each open document is judged.
+/// A cache of the configurations of folders, and the one by which each open document is judged.
 #[derive(Drop)]
 pub struct Folders<'a> {
     rt: &'a HostRuntime,
-    // By the paths of their files.
+    // The configurations, by the path of their file.
     loaded: BTreeMap<String, Loaded>,
-    // By the URIs of the documents.
+    // The configuration of each document, by the URI of the document.
     judged: BTreeMap<String, Judged>,
     loadings: u64,
 }
 
 impl<'a> Folders<'a> {
+    /// Creates an empty cache.
     pub fn new(rt: &'a HostRuntime) -> Folders<'a> {
         Folders {
             rt,
@@ -106,7 +109,8 @@ impl<'a> Folders<'a> {
         }
     }
 
-    /// By what a document is judged. `is_known` says that it was asked for since it was opened: only then `Same` is an answer.
+    /// Returns the configuration by which a document is judged. `is_known` means that the document
+    /// was asked for since it was opened. Only then may the result be `Same`.
     pub fn of_document(&mut self, uri: &str, is_known: bool) -> Governed {
         match self.found(uri, is_known) {
             Ok(found) => found,
@@ -114,7 +118,7 @@ impl<'a> Folders<'a> {
         }
     }
 
-    /// Forgets a document that is closed.
+    /// Drops what is cached for a document that was closed.
     pub fn closed(&mut self, uri: &str) {
         if let Some(judged) = self.judged.remove(uri) {
             self.release(judged);
@@ -140,7 +144,8 @@ impl<'a> Folders<'a> {
         Ok(found)
     }
 
-    // Where no configuration is found for a document.
+    // Returns the standard configuration for a document for which no file is found, or `Same` if
+    // the document is judged by it already.
     fn found_none(&mut self, uri: &str, is_known: bool) -> Result<Governed, AllocError> {
         if is_known && self.is_judged_by(uri, None, 0) {
             return Ok(Governed::Same);
@@ -149,7 +154,7 @@ impl<'a> Folders<'a> {
         Ok(Governed::By(Config::standard()))
     }
 
-    // The file of the configuration of a path.
+    // Returns the file of the configuration for a path, if there is one.
     fn file_for(&self, path: &str) -> Result<Option<String>, AllocError> {
         let folder = match folder_of(path).strip_suffix('/') {
             Some("") | None => "/",
@@ -161,7 +166,8 @@ impl<'a> Folders<'a> {
         }
     }
 
-    // The number of the loading of a configuration, which is loaded where it has changed.
+    // Returns the number of the load of a configuration. Loads it if it is not cached or its files
+    // have changed.
     fn loading_of(&mut self, file: &str) -> Result<u64, AllocError> {
         let documents = match self.loaded.get(file) {
             Some(loaded) => {
@@ -198,7 +204,7 @@ impl<'a> Folders<'a> {
         }
     }
 
-    // Notes by what a document is judged from now on.
+    // Records the configuration by which a document is judged from now on.
     fn note(&mut self, uri: &str, file: Option<String>, loading: u64) -> Result<(), AllocError> {
         let key = String::from_str(self.rt.alloc(), uri)?;
         let held = match &file {
@@ -217,7 +223,8 @@ impl<'a> Folders<'a> {
         Ok(())
     }
 
-    // Forgets a configuration by which no document is judged any more.
+    // Counts one document less for its configuration, and drops the configuration if no document is
+    // judged by it any more.
     fn release(&mut self, judged: Judged) {
         let Some(file) = &judged.file else {
             return;

@@ -1,5 +1,8 @@
-//! `zutkrad check`: the problems of files and folders under a project's configuration. `zutkrad server`: the problems of YAML texts in an
-//! editor, as a Language Server over standard input and output.
+//! The program `zutkrad`.
+//!
+//! `zutkrad check` prints the problems of files and folders under the configuration of a project.
+//! `zutkrad server` shows the problems of YAML texts in an editor, as a Language Server over
+//! standard input and output.
 #![tactic(auto)]
 
 mod check;
@@ -22,7 +25,7 @@ use yl_text::Watched;
 
 const NAME: &str = "zutkrad";
 
-// The files of the machine.
+// The source of configurations of the server: the files of this machine.
 #[derive(Drop)]
 struct Files<'a> {
     rt: &'a HostRuntime,
@@ -50,7 +53,7 @@ impl ConfigFiles for Files<'_> {
     }
 }
 
-// What is told of a run that ended early.
+// Returns the fault to report for a run that ended early.
 fn fault_of(fault: ServeFault) -> ProgramFault<'static> {
     match fault {
         ServeFault::Read => ProgramFault::Run("stdin", RunFault::Read),

@@ -1,17 +1,18 @@
-//! How far a long run is, told on a terminal.
+//! Shows the progress of a long run on a terminal.
 use std::io::{IsTerminal, Write};
 use std::time::{Duration, Instant};
 
-// A run that takes no longer tells nothing.
+// The time, in milliseconds, before the first number is shown.
 const PATIENCE: u64 = 1000;
 
-// How long a number stands before the next one.
+// The time, in milliseconds, between two numbers.
 const PAUSE: u64 = 100;
 
-/// A line on standard error that says how many files were looked at. There is none where standard error is no terminal.
+/// A line on standard error that shows a number of files. There is none if standard error is not a
+/// terminal.
 pub struct Progress<'a> {
     rt: &'a HostRuntime,
-    // When the run or the last number began.
+    // The time at which the run started or the last number was shown.
     since: Option<Instant>,
     is_shown: bool,
 }
@@ -27,6 +28,7 @@ impl Drop for Progress<'_> {
 }
 
 impl<'a> Progress<'a> {
+    /// Creates a progress line. It is not shown yet.
     pub fn new(rt: &'a HostRuntime) -> Progress<'a> {
         let since = if rt.stderr().is_terminal() {
             Instant::now(rt).ok()
@@ -40,13 +42,13 @@ impl<'a> Progress<'a> {
         }
     }
 
-    // Whether it is time for another number.
+    // Returns `true` if it is time for the next number.
     fn is_due(&self, now: Instant, since: Instant) -> bool {
         let pause = if self.is_shown { PAUSE } else { PATIENCE };
         now.duration_since(since) >= Duration::from_millis(pause)
     }
 
-    /// Says how many files were looked at, if it is time.
+    /// Shows the number of files, if it is time.
     pub fn tell(&mut self, files: u64) {
         let (Some(since), Ok(now)) = (self.since, Instant::now(self.rt)) else {
             return;
@@ -59,7 +61,7 @@ impl<'a> Progress<'a> {
         }
     }
 
-    /// Takes the line away, before something else is printed.
+    /// Clears the line, before something else is printed.
     pub fn clear(&mut self) {
         if self.is_shown {
             let mut out = self.rt.stderr();

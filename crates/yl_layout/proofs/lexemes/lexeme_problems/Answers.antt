@@ -9,6 +9,6 @@ split_at-requires-2 g c = as_many_keys (λ x. lexeme_at_line x.line x.lexeme.now
 pub returns : goal.returns
 returns g c =
     document_read (λ x. lexeme_at_line x.line x.lexeme.now) c.args.counted c.args.lexemes.now c.split_at.result.0.now c.args.keys.now c.split_at-2.result.0.now
-    c.args.options.now c.new-rules.result c.read.new.self c.new-problems.result.items c.read.new.problems.items c.finish.new.problems.items
+    c.args.options.now c.new-rules.result c.read_all.new.self c.new-problems.result.items c.read_all.new.problems.items c.finish.new.problems.items
     c.split_at.ensures.front c.split_at-2.ensures.front c.requires.keys (search rules) c.new-rules.ensures.version c.new-rules.ensures.whole
-    c.in_ok-read.ensures.found c.in_ok-finish.ensures
+    c.in_ok-read_all.ensures.found c.in_ok-finish.ensures

@@ -1,6 +1,5 @@
 use Rattle.std.proofs.Common.{◌≡◌, ◌+◌, ◌-◌, ◌++◌, ◌∙◌, ◌∷◌, List, Option, ap, length, map, subst, sym}
 use Rattle.std.proofs.lemmas.List.{length-map}
-use Rattle.yl_lexeme.specs.declared.lexeme.LexemeAtLine.{LexemeAtLine}
 use Rattle.yl_lexeme.specs.Lexeme.{LexemeValue}
 use Rattle.yl_marks.specs.Keys.{lexeme_at_line}
 use Rattle.yl_events.specs.declared.fault.PlacedParseFault.{PlacedParseFault}
@@ -12,31 +11,31 @@ use Rattle.yl_sections.proofs.RowJudging.{left_is, moved, row_line, still_some}
 use Rattle.yl_sections.proofs.section_judge.read_row.Goals as goal
 
 pub returns-in_default : goal.returns-in_default
-returns-in_default g c = λ rs at some h more nonempty.
-    let config = c.args.config.now in
+returns-in_default g c = λ config rs at some h more nonempty.
     let r = c.args.row.now in
-    let f : LexemeAtLine g.row.A.Denot → LexemeValue = λ x. lexeme_at_line x.line x.lexeme.now in
-    let line = map f c.deref.result.now in
-    let are : line ≡ map (lexeme_at_line c.args.line) r.entry.lexemes = ap (map f) c.deref.ensures.value ∙ (c.in_ok-lexemes.ensures ∙ ap (map (lexeme_at_line c.args.line)) c.lexemes.ensures) in
+    let f = lexeme_at_line c.args.line in
+    let xs = c.lexemes.result.now in
+    let line = map f xs in
+    let are : line ≡ map f r.entry.lexemes = ap (map f) c.lexemes.ensures in
     let all = rs ++ r ∷ more in
     let left = lexemes_from (length rs + 1) more in
     let reads = subst (λ (ys : List LexemeValue). Reads config (lexemes_of all) (spaces_of all) ys c.args.document.now) (left_is rs more r c.args.line line at are) (h (r ∷ more) (still_some rs more r nonempty)) in
-    let read = c.in_ok-fault.ensures (lexemes_of all) (spaces_of all) left (row_line rs more r c.args.line c.indentation.result line at c.indentation.ensures are some) reads in
+    let read = c.in_ok-fault.ensures config (lexemes_of all) (spaces_of all) left (row_line rs more r c.args.line c.indentation.result line at c.indentation.ensures are some) reads in
     moved rs more r (λ es n. Reads config (lexemes_of es) (spaces_of es) (lexemes_from n more) c.read.new.self)
-    (subst (λ (o : Option PlacedParseFault). ReadsLine o config (lexemes_of all) (spaces_of all) c.args.document.now.count (length c.deref.result.now) left c.read.new.self) c.in_default.is read)
+    (subst (λ (o : Option PlacedParseFault). ReadsLine o config (lexemes_of all) (spaces_of all) c.args.document.now.count (length xs) left c.read.new.self) c.in_default.is read)
 
 pub returns : goal.returns
-returns g c = λ rs at some h.
-    let config = c.args.config.now in
+returns g c = λ config rs at some h.
     let r = c.args.row.now in
     let d = c.args.document.now in
     let fault = c.in-Some.fault in
-    let f : LexemeAtLine g.row.A.Denot → LexemeValue = λ x. lexeme_at_line x.line x.lexeme.now in
-    let line = map f c.deref.result.now in
-    let are : line ≡ map (lexeme_at_line c.args.line) r.entry.lexemes = ap (map f) c.deref.ensures.value ∙ (c.in_ok-lexemes.ensures ∙ ap (map (lexeme_at_line c.args.line)) c.lexemes.ensures) in
-    stopped_in config rs r d c.read.new.self fault line (length c.deref.result.now) c.args.line c.indentation.result at are some c.indentation.ensures (length-map c.deref.result.now f) h
-    (λ xs ns left l reads. subst (λ (o : Option PlacedParseFault). ReadsLine o config xs ns d.count (length c.deref.result.now) left c.read.new.self) c.in-Some.is (c.in_ok-fault.ensures xs ns left l reads))
+    let f = lexeme_at_line c.args.line in
+    let xs = c.lexemes.result.now in
+    let line = map f xs in
+    let are : line ≡ map f r.entry.lexemes = ap (map f) c.lexemes.ensures in
+    stopped_in config rs r d c.read.new.self fault line (length xs) c.args.line c.indentation.result at are some c.indentation.ensures (length-map xs f) h
+    (λ zs ns left l reads. subst (λ (o : Option PlacedParseFault). ReadsLine o config zs ns d.count (length xs) left c.read.new.self) c.in-Some.is (c.in_ok-fault.ensures config zs ns left l reads))
     (record { found = c.take-found.result.0; facts = c.take-found.result.1; place = c.start_of-place.result; text = c.text.result })
     c.take-found.ensures.found c.take-found.ensures.facts
-    (c.start_of-place.ensures ∙ (ap (λ ys. start_at (map f ys) c.saturating_sub.result) (c.deref-2.ensures.value ∙ sym c.deref.ensures.value) ∙ ap (start_at line) (c.saturating_sub.ensures ∙ ap (λ n. fault.place - n) c.count-first.ensures)))
+    (c.start_of-place.ensures ∙ (ap (start_at line) (c.saturating_sub.ensures ∙ ap (λ n. fault.place - n) c.count-first.ensures)))
     c.text.ensures

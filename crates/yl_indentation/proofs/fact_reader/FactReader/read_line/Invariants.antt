@@ -1,5 +1,4 @@
-use Rattle.std.proofs.Common.{◌≡◌, ◌≤◌, ◌<◌, ◌+◌, ◌++◌, ℕ, List, length, map, drop}
-use Rattle.yl_marks.specs.Keys.{lexeme_at_line, token_of}
+use Rattle.std.proofs.Common.{◌≡◌, ◌≤◌, ◌<◌, ◌+◌, ◌++◌, ℕ, List, length, drop}
 use Rattle.yl_marks.specs.declared.token.Token.{Token}
 use Rattle.yl_indentation.specs.LineFacts.{AreIndented, IsLine, NameIndices}
 use Rattle.yl_indentation.specs.SymbolFacts.{behind_symbols, facts_left}
@@ -7,12 +6,12 @@ use Rattle.yl_indentation.proofs.fact_reader.FactReader.read_line.Given as goal
 
 abbrev pub invariant-loop-symbol : goal.invariant-loop-symbol
 invariant-loop-symbol g l =
-    let line = map token_of (map (λ x. lexeme_at_line x.line x.lexeme.now) l.line) in record {
-      facts : (tokens : List Token) (indentations : List ℕ) → IsLine tokens l.first line → AreIndented indentations l.indentation line
+    record {
+      facts : (tokens : List Token) (indentations : List ℕ) → IsLine tokens l.first l.line → AreIndented indentations l.indentation l.line
           → NameIndices (λ i. (l.first ≤ i) × (i < l.first + length l.line)) l.symbols
           → l.facts.items ++ facts_left l.self tokens l.counted indentations (drop l.symbol-index l.symbols)
           ≡ l.fn.facts.items ++ facts_left l.fn.self tokens l.counted indentations l.symbols;
-      after : (tokens : List Token) (indentations : List ℕ) → IsLine tokens l.first line → AreIndented indentations l.indentation line
+      after : (tokens : List Token) (indentations : List ℕ) → IsLine tokens l.first l.line → AreIndented indentations l.indentation l.line
           → NameIndices (λ i. (l.first ≤ i) × (i < l.first + length l.line)) l.symbols
           → behind_symbols tokens indentations l.self (drop l.symbol-index l.symbols) ≡ behind_symbols tokens indentations l.fn.self l.symbols;
     }

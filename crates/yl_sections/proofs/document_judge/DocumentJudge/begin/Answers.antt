@@ -26,12 +26,13 @@ returns-clause-reads g c = λ xs ns some.
       only = only_at_start r.parser c.in_ok-reader.ensures.parser;
       waits = none_at_start r.parser c.in_ok-reader.ensures.parser;
       anchor = tt;
-      version = c.new-3.ensures.version xs;
+      options = c.lexeme_options.ensures;
+      version = c.new-2.ensures.version xs;
       found = λ n within.
-          ap (λ (fs : List FindingValue). fs ++ lexemes_left (is_1_2_document xs) o c.new-3.result (take n xs) (facts_by_lines r.marker (by_line (map token_of xs)))) c.new-5.ensures.items
-          ∙ (found_at_start o c.new-3.result xs r.marker c.in_ok-reader.ensures.marker (λ v ys ks. c.new-3.ensures.whole o v ys ks) n ∙ ap (λ k. lexeme_findings o k xs) {x = n} {y = 0 + n} (omega arith));
-      facts = λ all most. ap (λ (fs : List Fact). fs ++ facts_left c.new-2.result (map token_of xs) all ns (marks_by_lines r.marker.marks (by_line (map token_of xs)))) c.new-4.ensures.items ∙ facts_at_start xs ns c.new-2.result r.marker all c.in_ok-reader.ensures.marker c.new-2.ensures;
+          ap (λ (fs : List FindingValue). fs ++ lexemes_left (is_1_2_document xs) o c.new-2.result (take n xs) (facts_by_lines r.marker (by_line (map token_of xs)))) c.new-4.ensures.items
+          ∙ (found_at_start o c.new-2.result xs r.marker c.in_ok-reader.ensures.marker (λ v ys ks. c.new-2.ensures.whole o v ys ks) n ∙ ap (λ k. lexeme_findings o k xs) {x = n} {y = 0 + n} (omega arith));
+      facts = λ all most. ap (λ (fs : List Fact). fs ++ facts_left c.new.result (map token_of xs) all ns (marks_by_lines r.marker.marks (by_line (map token_of xs)))) c.new-3.ensures.items ∙ facts_at_start xs ns c.new.result r.marker all c.in_ok-reader.ensures.marker c.new.ensures;
       told = gives_document config xs c.push_events.new.tree r.parser r.marker c.in_ok-reader.ensures.marker some
           (λ ws. begins config xs c.rules_at_start-tree.result c.push_events.new.tree r.parser (tree_options_of config) r.outlines.items c.deref.result.now c.in_ok-reader.ensures.parser c.in_ok-reader.ensures.told c.deref.ensures.value refl
-          (fed_at_start xs c.new.result c.rules_at_start-tree.result c.push_events.new.tree r.outlines.items c.deref.result.now c.in_ok-reader.ensures.told c.deref.ensures.value c.in_ok-push_events.ensures) c.rules_at_start-tree.ensures ws);
+          (fed_at_start xs c.new-none.result c.rules_at_start-tree.result c.push_events.new.tree r.outlines.items c.deref.result.now c.in_ok-reader.ensures.told c.deref.ensures.value c.in_ok-push_events.ensures) c.rules_at_start-tree.ensures ws);
     }

@@ -9,8 +9,7 @@ use Rattle.yl_sections.proofs.DocumentJudging.{all_read, ended_so, facts_at_end}
 use Rattle.yl_sections.proofs.document_judge.DocumentJudge.finish.Goals as goal
 
 pub returns : goal.returns
-returns g c = λ xs ns h.
-    let config = c.args.config.now in
+returns g c = λ config xs ns h.
     let self = c.args.self in
     let v = is_1_2_document xs in
     let m = self.reader.marker in
@@ -20,7 +19,7 @@ returns g c = λ xs ns h.
       fault = ended.0;
       after = ended.1;
       found = c.in_ok-finish.ensures v []
-          ∙ (ap (λ (o : LexemeOptions). self.found.items ++ lexemes_left v o self.rules [] []) c.lexeme_options.ensures
+          ∙ (ap (λ (o : LexemeOptions). self.found.items ++ lexemes_left v o self.rules [] []) h.options
           ∙ (h.found 0 (omega (arith)) ∙ ap (λ k. lexeme_findings (lexeme_options_of config) k xs) {x = self.count + 0} {y = length xs} (omega (arith, n))));
       facts = facts_at_end (map token_of xs) ns self.places m.marks (length xs) self.facts.items _ (h.facts (length xs) (omega (arith, n)));
       in_tree = ended.2;

@@ -1,6 +1,7 @@
-use Rattle.std.proofs.Common.{true, ◌<◌, ◌≤◌, ◌+◌, ◌++◌, ◌∙◌, ap, subst, List, map}
+use Rattle.std.proofs.Common.{true, ◌≡◌, ◌<◌, ◌≤◌, ◌+◌, ◌++◌, ◌∙◌, ap, subst, List, map}
 use Rattle.std.specs.Prelude.{IfOk, IfSome}
 use Rattle.yl_marks.specs.declared.symbol.Symbol.{Symbol}
+use Rattle.yl_marks.specs.declared.token.Token.{Token}
 use Rattle.yl_marks.specs.ByLine.{marks_of_line}
 use Rattle.yl_marks.specs.Keys.{lexeme_at_line, token_of}
 use Rattle.yl_events.specs.SymbolParsing.{is_whole}
@@ -11,14 +12,19 @@ use Rattle.yl_sections.proofs.document_reader.DocumentReader.read.Goals as goal
 
 pub feed-requires : goal.feed-requires
 feed-requires g c =
-    let line = map token_of (map (λ x. lexeme_at_line x.line x.lexeme.now) c.args.line.now) in
+    let line = map token_of (map (lexeme_at_line c.args.row.now.line) c.args.row.now.lexemes.now) in
     let marks = marks_of_line c.args.self.now.marker.marks line in
-    ap (is_whole true) (c.deref.ensures.value ∙ (c.in_ok-read.ensures.marks ∙ ap (λ (ws : List Symbol). ws ++ marks) c.clear.ensures.items)) ∙ line_whole c.args.self.now.marker.marks line
+    let tokens_are : c.deref.result.now ≡ line = c.deref.ensures.value ∙ c.in_ok-read_tokens.ensures in
+    let here : c.deref-2.result.now ≡ marks = c.deref-2.ensures.value ∙ (c.in_ok-read.ensures.marks
+    ∙ (ap (λ (ts : List Token). c.clear.new.self.items ++ marks_of_line c.args.self.now.marker.marks ts) tokens_are ∙ ap (λ (ws : List Symbol). ws ++ marks) c.clear.ensures.items)) in
+    ap (is_whole true) here ∙ line_whole c.args.self.now.marker.marks line
 
 pub returns-clause-inside : goal.returns-clause-inside
 returns-clause-inside g c =
-    let line = map token_of (map (λ x. lexeme_at_line x.line x.lexeme.now) c.args.line.now) in
+    let line = map token_of (map (lexeme_at_line c.args.row.now.line) c.args.row.now.lexemes.now) in
     let marks = marks_of_line c.args.self.now.marker.marks line in
-    let long = ap lexeme_count (c.deref.ensures.value ∙ (c.in_ok-read.ensures.marks ∙ ap (λ (ws : List Symbol). ws ++ marks) c.clear.ensures.items))
-    ∙ (line_count c.args.self.now.marker.marks line ∙ tokens_long (λ x. lexeme_at_line x.line x.lexeme.now) c.args.line.now) in
+    let tokens_are : c.deref.result.now ≡ line = c.deref.ensures.value ∙ c.in_ok-read_tokens.ensures in
+    let here : c.deref-2.result.now ≡ marks = c.deref-2.ensures.value ∙ (c.in_ok-read.ensures.marks
+    ∙ (ap (λ (ts : List Token). c.clear.new.self.items ++ marks_of_line c.args.self.now.marker.marks ts) tokens_are ∙ ap (λ (ws : List Symbol). ws ++ marks) c.clear.ensures.items)) in
+    let long = ap lexeme_count here ∙ (line_count c.args.self.now.marker.marks line ∙ tokens_long (lexeme_at_line c.args.row.now.line) c.args.row.now.lexemes.now) in
     subst (λ n. IfOk c.feed.result (λ fault. IfSome fault (λ f. (c.args.first ≤ f.place) × (f.place < c.args.first + n)))) long c.feed.ensures.inside

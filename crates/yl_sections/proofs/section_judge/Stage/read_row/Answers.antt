@@ -17,14 +17,14 @@ pub returns-clause-at : goal.returns-clause-at
 returns-clause-at g c = λ rs at h.
     let left : 0 < length c.lexemes.result.now = not_zero (length c.lexemes.result.now) (sym c.is_empty.ensures ∙ c.if-is_empty.false) in
     let some : 0 < length c.args.row.now.entry.lexemes = subst (λ ys. 0 < length ys) c.lexemes.ensures left in
-    c.read.ensures.at rs at some (begun_ready rs c.args.row.now c.args.config.now c.args.self.now c.begin.new.self c.in_ok-begin.ensures.begun h)
+    c.read.ensures.at c.args.config.now rs at some (begun_ready rs c.args.row.now c.args.config.now c.args.self.now c.begin.new.self c.in_ok-begin.ensures.begun h)
 
 pub returns-clause-commented : goal.returns-clause-commented
 returns-clause-commented g c = λ rs at h.
     let left : 0 < length c.lexemes.result.now = not_zero (length c.lexemes.result.now) (sym c.is_empty.ensures ∙ c.if-is_empty.false) in
     let some : 0 < length c.args.row.now.entry.lexemes = subst (λ ys. 0 < length ys) c.lexemes.ensures left in
     on_ok c.read.result (λ keeps. commented_so rs c.args.row.now c.args.config.now c.args.self.now c.begin.new.self c.read.new.self c.in_ok-begin.ensures.begun h keeps)
-    (c.read.ensures.comments rs at some (begun_ready rs c.args.row.now c.args.config.now c.args.self.now c.begin.new.self c.in_ok-begin.ensures.begun h))
+    (c.read.ensures.comments c.args.config.now rs at some (begun_ready rs c.args.row.now c.args.config.now c.args.self.now c.begin.new.self c.in_ok-begin.ensures.begun h))
 
 pub returns-clause-documents : goal.returns-clause-documents
 returns-clause-documents g c = λ rs at h.

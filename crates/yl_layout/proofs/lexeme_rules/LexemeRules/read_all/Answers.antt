@@ -1,7 +1,7 @@
 use Rattle.std.proofs.Common.{arith, refl}
 use Rattle.yl_marks.specs.Keys.{lexeme_at_line}
 use Rattle.yl_layout.proofs.LexemesLeft.{all_read, lexemes_more, version_at_end, version_more}
-use Rattle.yl_layout.proofs.lexeme_rules.LexemeRules.read.Goals as goal
+use Rattle.yl_layout.proofs.lexeme_rules.LexemeRules.read_all.Goals as goal
 
 pub loop-i-preserved : goal.loop-i-preserved
 loop-i-preserved g c =

@@ -3,7 +3,7 @@ use Rattle.yl_lexeme.specs.Lexeme.{LexemeValue}
 use Rattle.yl_marks.specs.declared.facts.KeyFacts.{KeyFacts}
 use Rattle.yl_marks.specs.Keys.{lexeme_at_line}
 use Rattle.yl_layout.specs.LexemesLeft.{IsVersion, lexemes_left}
-use Rattle.yl_layout.proofs.lexeme_rules.LexemeRules.read.Given as goal
+use Rattle.yl_layout.proofs.lexeme_rules.LexemeRules.read_all.Given as goal
 
 abbrev pub invariant-loop-i : goal.invariant-loop-i
 invariant-loop-i g l = record {
