@@ -1,15 +1,16 @@
--- Meaning: how many lines a text has at the most, and how many characters a line. A text is short enough (`AreLines`), so
--- that a line's number and a column fit what a reader of lines counts by.
+-- Meaning: bounds on the number of lines of a text, and on the number of characters of a line. A
+-- text is short enough (`AreLines`), so the number of a line and a column fit in the integers of a
+-- reader of lines.
 use Rattle.std.specs.Prelude.{◌-◌, ◌^◌, ◌<◌, List, length, All}
 use Rattle.std.specs.Str.{chars}
 use Rattle.yl_text.specs.Lines.{RowValue}
 use Rattle.yl_text.specs.Store.{AreLines}
 
--- fewer lines than a 32-bit number counts, with one to spare
+-- the lines are fewer than 2^32 - 1, the greatest 32-bit number
 abbrev pub AreFew : List RowValue → Type 0
 AreFew ps = length ps < 2 ^ 32 - 1
 
--- fewer characters than 31 bits count
+-- a line has fewer than 2^31 characters without its break
 abbrev pub IsShort : RowValue → Type 0
 IsShort p = length (chars p.text) < 2 ^ 31
 

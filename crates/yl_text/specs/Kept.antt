@@ -1,4 +1,4 @@
--- Bridge: the text and the break of a line, wherever its text lies.
+-- Bridge: the text and the break of a line, wherever its text is stored.
 use Rattle.std.specs.Prelude.{ℕ, List, string_bytes}
 use Rattle.yl_text.specs.declared.row.Break.{Break}
 use Rattle.yl_text.specs.declared.row.KeptLine.{KeptLine}

@@ -1,4 +1,4 @@
--- Bridge: the text of a found problem's message, in UTF-8.
+-- Bridge: the message of a finding, in UTF-8.
 use Rattle.std.specs.Prelude.{ℕ, List, string_bytes}
 use Rattle.yl_text.specs.declared.finding.Message.{Message}
 use Rattle.yl_text.specs.declared.finding.Message.TheVariants.{Fixed, Owned}

@@ -6,10 +6,10 @@ use Rattle.std.specs.List.{prefix_len}
 abbrev pub is_printable_ascii : ℕ → Bool
 is_printable_ascii b = nat_le 0x20 b && nat_le b 0x7E
 
--- the place of the first other byte, else the length
+-- the index of the first byte that is not printable ASCII, or the length
 abbrev pub special_place : List ℕ → ℕ
 special_place = prefix_len is_printable_ascii
 
--- any other byte
+-- the byte is not printable ASCII
 abbrev pub is_special : ℕ → Bool
 is_special b = not (is_printable_ascii b)

@@ -1,4 +1,4 @@
-//! How many lines a text has, and how long they are.
+//! Bounds on the number of lines of a text and on their lengths.
 ghost use Rattle.std.specs.Prelude.{◌≡◌, ℕ, Some, slice_get};
 ghost use Rattle.yl_text.specs.Bounds.{AreFew, IsShort, LinesAreFew, LinesAreShort};
 ghost use Rattle.yl_text.specs.Lines.{RowValue};
@@ -6,14 +6,15 @@ ghost use Rattle.yl_text.specs.Store.{AreLines};
 
 use crate::store::Lines;
 
-/// Laws: the lines of a text are fewer than 2^32 - 1, and each has fewer than 2^31 characters.
+/// Laws: a text has fewer than 2^32 - 1 lines, and each has fewer than 2^31 characters without its
+/// break.
 pub fn lines_are_few_and_short()
     ensures few { LinesAreFew }
     ensures short { LinesAreShort }
 {}
 
-/// The same of the rows of a store: what a reader of lines asks of them follows from their being the
-/// lines of a text.
+/// A law: the rows of a store are fewer than 2^32 - 1, and each has fewer than 2^31 characters
+/// without its break, since they are the lines of a text.
 pub fn rows_fit<S: Lines>(lines: &S)
     requires { AreLines (S.rows lines.now) }
     ensures few { AreFew (S.rows lines.now) }

@@ -1,13 +1,13 @@
-//! The characters of a line.
+//! Decodes lines into characters.
 ghost use Rattle.std.specs.Prelude.{◌≡◌, [], IfOk, OnOk, OnErr, length, IsTrue};
 ghost use Rattle.std.specs.Str.{IsAscii, chars};
 
 use crate::Row;
 use std::alloc::{AllocError, Allocator};
 
-/// Decodes the characters (code points) of a line, without its break, into the buffer in place of
-/// what it holds. So an index of the buffer is a column, counted from 0. On `Err` a growth was
-/// refused, and the buffer is empty.
+/// Decodes a line, without its break, into characters (code points). They replace the items of the
+/// buffer, so an index of the buffer is a column, counted from 0. The only error is out of memory:
+/// then the buffer is empty.
 pub fn characters<A: Allocator, B: Allocator>(
     row: &Row<A>,
     buffer: &mut Vec<char, B>,
@@ -18,8 +18,8 @@ pub fn characters<A: Allocator, B: Allocator>(
     characters_of(row.as_str(), buffer)
 }
 
-/// Decodes the characters (code points) of a text into the buffer in place of what it holds, as
-/// `characters` does for a line.
+/// Decodes a text into characters (code points), which replace the items of the buffer. The only
+/// error is out of memory: then the buffer is empty.
 pub fn characters_of<B: Allocator>(text: &str, buffer: &mut Vec<char, B>) -> Result<(), AllocError>
     ensures ok { OnOk result (buffer.new.items ≡ chars text.now) }
     ensures err { OnErr result (buffer.new.items ≡ []) }
@@ -36,7 +36,8 @@ pub fn characters_of<B: Allocator>(text: &str, buffer: &mut Vec<char, B>) -> Res
     Ok(())
 }
 
-/// Whether all bytes are ASCII. They are all looked at, with no way out on the way, so that several are at once.
+/// Returns whether all bytes are ASCII. Looks at all of them, without an early return, so that
+/// several are compared at once.
 pub(crate) fn are_ascii(bytes: &[u8]) -> bool
     ensures { IsTrue result → IsAscii bytes.now }
 {
@@ -47,7 +48,8 @@ pub(crate) fn are_ascii(bytes: &[u8]) -> bool
     all
 }
 
-/// The bytes, each taken for a character, in place of what the buffer holds.
+/// Converts each byte into the character with this code point. The characters replace the items of
+/// the buffer. The only error is out of memory: then the buffer is empty.
 fn widened<B: Allocator>(bytes: &[u8], buffer: &mut Vec<char, B>) -> Result<(), AllocError>
     ensures ok { OnOk result (buffer.new.items ≡ bytes.now) }
     ensures err { OnErr result (buffer.new.items ≡ []) }
@@ -60,7 +62,8 @@ fn widened<B: Allocator>(bytes: &[u8], buffer: &mut Vec<char, B>) -> Result<(), 
     Ok(())
 }
 
-/// Each byte for a character, in place of the characters.
+/// Replaces each character by the one whose code point is the byte at the same index. Both slices
+/// have the same length.
 fn widen(bytes: &[u8], characters: &mut [char])
     requires { length characters.old ≡ length bytes.now }
     ensures { characters.new ≡ bytes.now }

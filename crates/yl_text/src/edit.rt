@@ -1,4 +1,4 @@
-//! What stands about a line.
+//! Looks at the text before and after a line, and counts the bytes of lines.
 ghost use Rattle.std.specs.Prelude.{◌≡◌, ◌+◌, ◌^◌, ◌<◌, ◌≤◌, ◌↔◌, IsTrue, length, take, slice_get};
 ghost use Rattle.yl_text.specs.Lines.{text_of};
 ghost use Rattle.yl_text.specs.Store.{AreLines, IsRange};
@@ -8,7 +8,7 @@ ghost use Rattle.yl_text.specs.PutLines.{first_byte, front_of, back_of};
 use crate::Break;
 use crate::store::Lines;
 
-/// Whether the text before line a ends in CR.
+/// Returns whether the text before line `a` ends in CR.
 pub fn front_ends_in_cr<S: Lines>(lines: &S, a: usize) -> bool
     requires range { a < length (S.rows lines.now) }
     requires lines { AreLines (S.rows lines.now) }
@@ -17,7 +17,7 @@ pub fn front_ends_in_cr<S: Lines>(lines: &S, a: usize) -> bool
     a > 0 && lines.row(a - 1).end() == Break::Cr
 }
 
-/// Whether the text from line b on begins with LF.
+/// Returns whether the text from line `b` on begins with LF.
 pub fn back_starts_with_lf<S: Lines>(lines: &S, b: usize) -> bool
     requires range { b ≤ length (S.rows lines.now) }
     requires lines { AreLines (S.rows lines.now) }
@@ -30,7 +30,7 @@ pub fn back_starts_with_lf<S: Lines>(lines: &S, b: usize) -> bool
         }
 }
 
-/// How many bytes the lines a to b have, b not included, counted from 0, breaks counted.
+/// Returns the number of bytes of the lines `a..b`, counted from 0, breaks included.
 pub fn bytes_between<S: Lines>(lines: &S, a: usize, b: usize) -> u64
     requires range { IsRange a b (length (S.rows lines.now)) }
     requires lines { AreLines (S.rows lines.now) }

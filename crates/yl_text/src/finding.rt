@@ -1,9 +1,9 @@
-//! What a rule finds.
+//! The findings of rules.
 
 use std::alloc::{AllocError, Allocator};
 use std::marker::Model;
 
-/// A rule, by its name in yamllint's documentation; `Syntax` is that of the text's fault.
+/// A rule, named as in yamllint's documentation. `Syntax` is the rule of the fault of a text.
 #[derive(Clone, Copy, Debug, PartialEq, Eq)]
 pub enum RuleId {
     Anchors,
@@ -31,7 +31,7 @@ impl RuleId {
     ghost use Rattle.std.specs.Prelude.{◌≡◌};
     ghost use Rattle.yl_text.specs.Finding.{rule_name};
 
-    /// The rule's name, as configurations and printed lines have it.
+    /// Returns the name of the rule, as configurations and printed lines have it.
     pub fn name(self) -> &'static str
         ensures { result.now ≡ rule_name self }
     {
@@ -59,7 +59,7 @@ impl RuleId {
     }
 }
 
-/// What is said of a problem: a text that never varies, or one with a number or a name in it.
+/// The message of a finding: a fixed text, or a text with a number or a name in it.
 #[derive(Drop)]
 enum Message<A: Allocator> {
     Fixed(&'static str),
@@ -89,7 +89,8 @@ impl<A: Allocator> Message<A> {
     }
 }
 
-/// A problem before it has a level. Its line and its column count from 1, the column in characters.
+/// A finding of a rule: a problem that has no level yet. Its line and its column count from 1, and
+/// the column counts characters.
 #[derive(Drop)]
 pub struct Finding<A: Allocator> {
     line: u64,
@@ -110,7 +111,8 @@ impl<A: Allocator> Model for Finding<A> {
 impl<A: Allocator> Finding<A> {
     ghost use Rattle.std.specs.Prelude.{◌≡◌, string_bytes, IfOk};
 
-    /// What the rule found at a line and a column, both counted from 1.
+    /// Creates a finding with this message. The line and the column count from 1, and the column
+    /// counts characters.
     pub fn new(line: u64, column: u64, rule: RuleId, message: String<A>) -> Finding<A>
         ensures { result ≡ record { line = line; column = column; rule = rule; message = string_bytes message } }
     {
@@ -122,8 +124,8 @@ impl<A: Allocator> Finding<A> {
         }
     }
 
-    /// What the rule found at a line and a column, both counted from 1, told by a text that never varies. It takes
-    /// no memory.
+    /// Creates a finding with a fixed message. The line and the column count from 1, and the column
+    /// counts characters. Does not allocate.
     pub fn fixed(line: u64, column: u64, rule: RuleId, message: &'static str) -> Finding<A>
         ensures { result ≡ record { line = line; column = column; rule = rule; message = message.now } }
     {
@@ -135,42 +137,43 @@ impl<A: Allocator> Finding<A> {
         }
     }
 
-    /// The line, counted from 1.
+    /// Returns the line, counted from 1.
     pub fn line(&self) -> u64
         ensures { result ≡ self.now.line }
     {
         self.line
     }
 
-    /// The column, counted from 1 in characters.
+    /// Returns the column, in characters, counted from 1.
     pub fn column(&self) -> u64
         ensures { result ≡ self.now.column }
     {
         self.column
     }
 
+    /// Returns the rule.
     pub fn rule(&self) -> RuleId
         ensures { result ≡ self.now.rule }
     {
         self.rule
     }
 
-    /// What is said of the problem.
+    /// Returns the message.
     pub fn message(&self) -> &str
         ensures { result.now ≡ self.now.message }
     {
         self.message.as_str()
     }
 
-    /// Puts it in this line, counted from 1. It takes no memory.
+    /// Sets the line, counted from 1. Does not allocate.
     pub fn set_line(&mut self, line: u64)
         ensures { self.new ≡ record { line = line; column = self.old.column; rule = self.old.rule; message = self.old.message } }
     {
         self.line = line;
     }
 
-    /// A copy that stands in this line, counted from 1. Where what is said never varies, it takes no memory. The only
-    /// error is out of memory.
+    /// Returns a copy of the finding at another line, counted from 1. Does not allocate if the
+    /// message is fixed. The only error is out of memory.
     pub fn copy_at(&self, alloc: A, line: u64) -> Result<Finding<A>, AllocError>
         ensures { IfOk result (λ f. f ≡ record { line = line; column = self.now.column; rule = self.now.rule; message = self.now.message }) }
     {

@@ -1,4 +1,5 @@
-//! Text as lines: rows, stores of rows, edits of them, and devices that count their failures.
+//! The lines of a text: rows, stores of rows, edits and findings. Also readers and writers that
+//! count their failures.
 #![tactic(auto)]
 
 ghost use Rattle.yl_text.specs.Edit.{EditHasOneFault, EditHasNoFaultBeside, EditHasFaultOrNone};
@@ -35,16 +36,17 @@ pub use special::first_special;
 pub use splitting::{FirstLine, cut_line, split};
 pub use store::{LineStore, Lines};
 
-/// The most bytes that a text may have.
+/// The maximum number of bytes of a text (64 MiB).
 pub const MAX_BYTES: usize = 67_108_864;
 
-/// A law: a text has one list of lines, and no other.
+/// A law: a text has exactly one list of lines.
 pub fn one_list_of_lines()
     ensures unique { OneList }
     ensures exists { IsLinesOf }
 {}
 
-/// Laws of edits: made by lines, an edit is that of the text; and it has one fault, or none, and never both.
+/// Laws of edits: an edit made by whole lines results in the lines of the edited text. An edit
+/// either can be made or has exactly one fault.
 pub fn one_answer_to_an_edit()
     ensures splice { EditIsSplice }
     ensures one_fault { EditHasOneFault }

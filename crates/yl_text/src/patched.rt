@@ -1,4 +1,4 @@
-//! Lines of which some are replaced, with nothing copied.
+//! A view of lines of which some are replaced. Copies nothing.
 ghost use Rattle.std.specs.Prelude.{◌≡◌, ◌<◌, ◌≤◌, ◌+◌, ◌^◌, length, slice_get};
 ghost use Rattle.std.specs.List.{splice};
 ghost use Rattle.yl_text.specs.Store.{AreLines, IsRange};
@@ -7,7 +7,7 @@ use crate::Row;
 use crate::store::Lines;
 use std::marker::Model;
 
-/// The lines of a store, with these rows in place of the rows a to b, b not included, counted from 0.
+/// A view of the lines of a store, with other rows in place of the rows `a..b`, counted from 0.
 pub struct Patched<'a, S: Lines> {
     lines: &'a S,
     a: usize,
@@ -40,7 +40,8 @@ impl<S: Lines> Drop for Patched<'_, S> {
 }
 
 impl<'a, S: Lines> Patched<'a, S> {
-    /// These lines with these rows in place of the rows a to b. It takes no memory.
+    /// Creates a view of `lines` with `rows` in place of the rows `a..b`, counted from 0. Does not
+    /// allocate.
     pub fn new(lines: &'a S, a: usize, b: usize, rows: &'a [Row<S::Alloc>]) -> Patched<'a, S>
         requires range { IsRange a b (length (S.rows lines.now)) }
         requires few { length (S.rows lines.now) + length rows.now < 2 ^ 64 }

@@ -1,4 +1,5 @@
-//! Places of a text by bytes, and the edit of lines that an edit between two places is.
+//! Positions in a text by bytes, and the edit of whole lines that makes an edit between two
+//! positions.
 ghost use Rattle.std.specs.Prelude.{◌≡◌, ◌+◌, ◌-◌, ◌<◌, ◌≤◌, ◌↔◌, ◌++◌, true, IsTrue, IfOk, MatchOption, length, take, drop, slice_index, vec_capacity, vec_len, [], ◌^◌, if◌then◌else◌};
 ghost use Rattle.std.specs.Str.{chars, encode_utf8_all, IsAscii, IsUtf8};
 ghost use Rattle.yl_text.specs.Lines.{row_bytes, break_bytes};
@@ -13,29 +14,36 @@ use crate::store::Lines;
 use crate::{Pos, Row};
 use std::alloc::{AllocError, Allocator};
 
-/// An edit of lines: these bytes in place of the lines `first` to `end`, `end` not included, counted from 0.
+/// An edit of whole lines: `bytes` replaces the lines `first..end`, counted from 0.
 #[derive(Drop)]
 pub struct LineEdit<A: Allocator> {
+    /// The first line of the range.
     pub first: usize,
+    /// The line after the last one of the range.
     pub end: usize,
+    /// The bytes that replace the lines of the range.
     pub bytes: Vec<u8, A>,
 }
 
-/// A place by bytes: a line, and how many of its bytes, its break counted, stand before the place.
+/// A position by bytes: a line, and the number of its bytes before the position, break included.
 #[derive(Clone, Copy)]
 pub(crate) struct BytePlace {
+    /// The line, counted from 0.
     pub line: usize,
+    /// The number of bytes of the line before the position.
     pub byte: usize,
 }
 
-/// How many bytes the first characters of a text have, and how many characters there are too few.
+/// The number of bytes of the first characters of a text, and the number of characters that the
+/// text lacks.
 #[derive(Clone, Copy)]
 struct Walked {
     byte: usize,
     left: usize,
 }
 
-/// Walks over so many characters of a text.
+/// Returns the number of bytes of the first `characters` characters of a text, or of all if it has
+/// fewer, and how many it lacks.
 fn walk_over(text: &str, characters: usize) -> Walked
     ensures byte { result.byte ≡ length (encode_utf8_all (take characters (chars text.now))) }
     ensures left { result.left ≡ characters - length (chars text.now) }
@@ -50,7 +58,7 @@ fn walk_over(text: &str, characters: usize) -> Walked
     walk_one_by_one(text, characters)
 }
 
-/// The same, one character after another.
+/// Returns what `walk_over` returns. Looks at one character after another.
 fn walk_one_by_one(text: &str, characters: usize) -> Walked
     ensures byte { result.byte ≡ length (encode_utf8_all (take characters (chars text.now))) }
     ensures left { result.left ≡ characters - length (chars text.now) }
@@ -67,7 +75,8 @@ fn walk_one_by_one(text: &str, characters: usize) -> Walked
     Walked { byte, left }
 }
 
-/// How many bytes the first characters of a line have, its break counted, if it has so many characters.
+/// Returns the number of bytes of the first `characters` characters of a line, break included, or
+/// `None` if the line has fewer characters.
 fn byte_of<A: Allocator>(row: &Row<A>, characters: usize) -> Option<usize>
     requires { length (row_bytes row.now) < 2 ^ 32 }
     ensures { MatchOption result (length (chars (row_bytes row.now)) < characters) (λ byte. IsByteOf (row_bytes row.now) characters byte) }
@@ -79,7 +88,8 @@ fn byte_of<A: Allocator>(row: &Row<A>, characters: usize) -> Option<usize>
     Some(byte + left)
 }
 
-/// The place behind so many bytes of a line: behind all of them it is in the next line, if there is one.
+/// Returns the position after `byte` bytes of a line. After all bytes of a line, it is the start of
+/// the next line, if there is one.
 fn renamed<S: Lines>(lines: &S, line: usize, byte: usize) -> BytePlace
     requires lines { AreLines (S.rows lines.now) }
     requires line { line < length (S.rows lines.now) }
@@ -95,7 +105,7 @@ fn renamed<S: Lines>(lines: &S, line: usize, byte: usize) -> BytePlace
     BytePlace { line, byte }
 }
 
-/// The place by bytes, if it is in the text.
+/// Returns the position by bytes, or `None` if it is not in the text.
 pub(crate) fn byte_place<S: Lines>(lines: &S, place: Pos) -> Option<BytePlace>
     requires { AreLines (S.rows lines.now) }
     ensures { MatchOption result (¬ (IsInText (S.rows lines.now) place))
@@ -111,14 +121,14 @@ pub(crate) fn byte_place<S: Lines>(lines: &S, place: Pos) -> Option<BytePlace>
     }
 }
 
-/// Whether the first place stands behind the second one.
+/// Returns whether the first position is after the second one.
 pub(crate) fn is_behind(one: BytePlace, other: BytePlace) -> bool
     ensures { IsTrue result ↔ IsBehind one.line one.byte other.line other.byte }
 {
     other.line < one.line || other.line == one.line && other.byte < one.byte
 }
 
-/// How many bytes stand between two places.
+/// Returns the number of bytes between two positions. The first is not after the second.
 pub(crate) fn bytes_from_to<S: Lines>(lines: &S, from: BytePlace, to: BytePlace) -> u64
     requires lines { AreLines (S.rows lines.now) }
     requires first { from.line ≤ to.line }
@@ -130,8 +140,8 @@ pub(crate) fn bytes_from_to<S: Lines>(lines: &S, from: BytePlace, to: BytePlace)
     bytes_between(lines, from.line, to.line) + to.byte as u64 - from.byte as u64
 }
 
-/// Whether two places of a text are one, however they are written: the column past a line's break is
-/// column 0 of the next line. It takes no memory.
+/// Returns whether two positions of a text are the same, even if they are written differently: the
+/// column after a line's break is column 0 of the next line. Does not allocate.
 pub fn are_one_place<S: Lines>(lines: &S, from: Pos, to: Pos) -> bool
     requires lines { AreLines (S.rows lines.now) }
     requires from { IsInText (S.rows lines.now) from }
@@ -143,8 +153,9 @@ pub fn are_one_place<S: Lines>(lines: &S, from: Pos, to: Pos) -> bool
     one.line == other.line && one.byte == other.byte
 }
 
-/// The first place of an edit, by bytes of the first line that it touches: where the place begins a line
-/// and the line before that one ends in CR, behind that line.
+/// Returns the first position of an edit, by bytes of the first line that the edit touches. If the
+/// position begins a line and the line before that one ends in CR, it is the end of the line
+/// before.
 fn front_cut<S: Lines>(lines: &S, from: Pos) -> BytePlace
     requires lines { AreLines (S.rows lines.now) }
     requires from { IsInText (S.rows lines.now) from }
@@ -161,7 +172,7 @@ fn front_cut<S: Lines>(lines: &S, from: Pos) -> BytePlace
     }
 }
 
-/// The byte before that place in a line, breaks counted.
+/// Returns the byte before the index `place` of a line, break included.
 fn byte_before<A: Allocator>(row: &Row<A>, place: usize) -> u8
     requires some { 0 < place }
     requires within { place ≤ length (row_bytes row.now) }
@@ -175,7 +186,8 @@ fn byte_before<A: Allocator>(row: &Row<A>, place: usize) -> u8
     }
 }
 
-/// The last byte before what an edit keeps, if one stands there that the lines before don't end in.
+/// Returns the last byte that the edited line has before the text from the second position on: the
+/// last of `bytes`, or else the last before `cut` in its line. Returns `None` if there is neither.
 fn last_before<S: Lines>(lines: &S, cut: BytePlace, bytes: &[u8]) -> Option<u8>
     requires line { cut.line < length (S.rows lines.now) }
     requires within { cut.byte ≤ length (line_bytes (S.rows lines.now) cut.line) }
@@ -189,7 +201,8 @@ fn last_before<S: Lines>(lines: &S, cut: BytePlace, bytes: &[u8]) -> Option<u8>
     }
 }
 
-/// Whether the second place of an edit begins a line, in the old text and in the new one: then that line is kept.
+/// Returns whether the second position of an edit begins a line both in the old text and in the
+/// edited text. That line is then kept.
 fn is_kept<S: Lines>(lines: &S, cut: BytePlace, bytes: &[u8], to: BytePlace) -> bool
     requires lines { AreLines (S.rows lines.now) }
     requires line { cut.line < length (S.rows lines.now) }
@@ -207,15 +220,16 @@ fn is_kept<S: Lines>(lines: &S, cut: BytePlace, bytes: &[u8], to: BytePlace) -> 
     }
 }
 
-/// Behind which lines an edit ends, and from which byte on the rest of the last line is put in again: no
-/// rest of it where it is kept.
+/// The end of an edit of whole lines: the line after the last one that is replaced, and the byte of
+/// the second position's line from which on the rest of this line is put in again. If the line is
+/// kept, that is its number of bytes, so there is no rest.
 #[derive(Clone, Copy)]
 struct Ending {
     line: usize,
     byte: usize,
 }
 
-/// The ending of an edit up to this place in a line of so many bytes.
+/// Returns the end of an edit whose second position is `at`, in a line of `bytes` bytes.
 fn end_of(at: BytePlace, bytes: usize, is_kept: bool) -> Ending
     requires { at.line < 2 ^ 32 }
     ensures line { result.line ≡ (if is_kept then at.line else at.line + 1) }
@@ -234,7 +248,7 @@ fn end_of(at: BytePlace, bytes: usize, is_kept: bool) -> Ending
     }
 }
 
-/// Appends the front of a line, so many bytes.
+/// Appends the first `count` bytes of a line, break included. `piece` has capacity for them.
 fn put_front<A: Allocator, B: Allocator>(row: &Row<A>, count: usize, piece: &mut Vec<u8, B>)
     requires within { count ≤ length (row_bytes row.now) }
     requires room { vec_len piece.old + count ≤ vec_capacity piece.old }
@@ -251,7 +265,8 @@ fn put_front<A: Allocator, B: Allocator>(row: &Row<A>, count: usize, piece: &mut
         .unwrap();
 }
 
-/// Appends the rest of a line, behind so many bytes.
+/// Appends the bytes of a line after the first `count` ones, break included. `piece` has capacity
+/// for them.
 fn put_rest<A: Allocator, B: Allocator>(row: &Row<A>, count: usize, piece: &mut Vec<u8, B>)
     requires within { count ≤ length (row_bytes row.now) }
     requires room { vec_len piece.old + (length (row_bytes row.now) - count) ≤ vec_capacity piece.old }
@@ -267,9 +282,9 @@ fn put_rest<A: Allocator, B: Allocator>(row: &Row<A>, count: usize, piece: &mut 
         .unwrap();
 }
 
-/// The edit of lines that the edit between two places is, where that one can be made. Its bytes are the
-/// front of the first line, the bytes that come in, and the rest of the line of the second place; they
-/// take one growth.
+/// Returns the edit of whole lines that makes an edit between two positions. Its bytes are the
+/// front of the first line, the new bytes, and the rest of the second position's line, unless that
+/// line is kept. Allocates at most once. The only error is out of memory.
 pub fn line_edit<S: Lines, A: Allocator>(
     alloc: A,
     lines: &S,

@@ -10,7 +10,7 @@ use std::alloc::{AllocError, Allocator};
 use std::marker::Model;
 use std::mem;
 
-/// The lines of a text in one `Vec`.
+/// A store of the lines of a text in one `Vec`.
 #[derive(Drop)]
 pub struct PlainStore<A: Allocator> {
     rows: Vec<Row<A>, A>,
@@ -28,7 +28,7 @@ impl<A: Allocator> Model for PlainStore<A> {
     ghost invariant = { λ s. AreLines s.rows.items };
 }
 
-/// How many bytes the rows have, breaks counted.
+/// Returns the number of bytes of the rows, breaks included.
 pub fn bytes_of<A: Allocator>(rows: &[Row<A>]) -> u64
     requires { length (text_of rows.now) < 2 ^ 64 }
     ensures { result ≡ length (text_of rows.now) }
@@ -40,7 +40,7 @@ pub fn bytes_of<A: Allocator>(rows: &[Row<A>]) -> u64
     sum
 }
 
-/// Moves the last items before those from there on.
+/// Moves the last `count` items to the index `from`, before the other items from there on.
 fn move_last_to<T, A: Allocator>(items: &mut Vec<T, A>, from: usize, count: usize)
     requires { from + count ≤ vec_len items.old }
     ensures items { items.new.items ≡ take from items.old.items
@@ -50,7 +50,7 @@ fn move_last_to<T, A: Allocator>(items: &mut Vec<T, A>, from: usize, count: usiz
     items[from..].rotate_right(count);
 }
 
-/// Takes out the items from a to b.
+/// Removes the items `a..b`.
 fn remove_between<T: Drop, A: Allocator>(items: &mut Vec<T, A>, a: usize, b: usize)
     requires { IsRange a b (vec_len items.old) }
     ensures { items.new.items ≡ remove_range items.old.items a b }
@@ -58,7 +58,8 @@ fn remove_between<T: Drop, A: Allocator>(items: &mut Vec<T, A>, a: usize, b: usi
     drop(items.drain(a..b));
 }
 
-/// Puts the new items in place of as many from `a` on, each in the place of one, so that no other moves.
+/// Replaces as many items from `a` on by the new items, so that no other item moves. Leaves `new`
+/// empty.
 fn put_each<T: Drop, A: Allocator>(items: &mut Vec<T, A>, a: usize, new: &mut Vec<T, A>)
     requires { a + vec_len new.old ≤ vec_len items.old }
     ensures items { items.new.items ≡ splice items.old.items a (a + vec_len new.old) new.old.items }
@@ -69,8 +70,8 @@ fn put_each<T: Drop, A: Allocator>(items: &mut Vec<T, A>, a: usize, new: &mut Ve
     new.clear();
 }
 
-/// Puts the new items, which it takes out of their `Vec`, in place of the items a to b, b not included,
-/// counted from 0. There is room for the old and the new ones, so it takes no memory.
+/// Replaces the items `a..b`, counted from 0, by the items of `new`, and leaves `new` empty.
+/// `items` has capacity for its items and the new ones together. Does not allocate.
 pub fn put_between<T: Drop, A: Allocator>(
     items: &mut Vec<T, A>,
     a: usize,

@@ -1,9 +1,12 @@
-//! Places of a text.
+//! Positions in a text.
 
-/// A place: a line and a column, both counted from 0, the column in characters (code points) of the line,
-/// those of its break among them: CR LF are two. The column past a break is column 0 of the next line.
+/// A position in a text: a line and a column. The column counts characters (code points) of the
+/// line, break included: CR LF counts as two. The column after a break is the same position as
+/// column 0 of the next line.
 #[derive(Clone, Copy, Debug, PartialEq, Eq)]
 pub struct Pos {
+    /// The line, counted from 0.
     pub line: u32,
+    /// The column, in characters, counted from 0.
     pub col: u32,
 }

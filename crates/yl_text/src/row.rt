@@ -6,22 +6,22 @@ use arrayvec::ArrayString;
 use std::alloc::{AllocError, Allocator};
 use std::marker::Model;
 
-/// How a line ends: in no break, or in one of the three breaks of YAML 1.2.2, section 5.4 (`b-break`).
-/// The characters 0x85, 0x2028 and 0x2029 are no breaks.
+/// The end of a line: no break, or one of the three breaks of YAML 1.2.2, section 5.4 (`b-break`).
+/// The characters 0x85, 0x2028 and 0x2029 are not breaks.
 #[derive(Clone, Copy, Debug, PartialEq, Eq)]
 pub enum Break {
-    /// In none: the last line of a text, and no other.
+    /// No break. Only the last line of a text has none.
     No,
-    /// In 0x0A alone.
+    /// LF (0x0A) alone.
     Lf,
-    /// In 0x0D and 0x0A, which are one break.
+    /// CR (0x0D) and LF (0x0A), which are one break.
     CrLf,
-    /// In 0x0D alone.
+    /// CR (0x0D) alone.
     Cr,
 }
 
 impl Break {
-    /// How many bytes the break has: 0, 1 or 2.
+    /// Returns the number of bytes of the break: 0, 1 or 2.
     pub fn len(self) -> usize
         ensures { result ≡ length (break_bytes self) }
     {
@@ -32,7 +32,7 @@ impl Break {
         }
     }
 
-    /// The bytes of the break.
+    /// Returns the bytes of the break.
     pub fn as_bytes(self) -> &'static [u8]
         ensures { result.now ≡ break_bytes self }
     {
@@ -45,11 +45,11 @@ impl Break {
     }
 }
 
-/// How many bytes a text has at the most that lies in the line itself.
+/// The maximum number of bytes of a text that is stored in the row itself.
 const SHORT: usize = 16;
 
-/// A line's text in UTF-8 and its break. They stand in one enum, so that a short text, which takes no memory of its own, makes the
-/// line no larger.
+/// The text of a line in UTF-8, and its break. Both are in each variant of one enum, so that a
+/// short text, which has no allocation of its own, makes the row no larger.
 #[derive(Drop)]
 enum KeptLine<A: Allocator> {
     Short {
@@ -62,8 +62,9 @@ enum KeptLine<A: Allocator> {
     },
 }
 
-/// A line: its text in UTF-8, and the break behind it. In contracts it is a `RowValue`, the text's bytes
-/// and the break. A text of at most 16 bytes takes no allocation.
+/// A line: its text in UTF-8, and the break after it. In contracts it is a `RowValue`: the bytes of
+/// the text, and the break. A text of at most 16 bytes is stored in the row itself, without an
+/// allocation.
 #[derive(Drop)]
 pub struct Row<A: Allocator> {
     kept: KeptLine<A>,
@@ -81,7 +82,7 @@ impl<A: Allocator> Model for Row<A> {
 impl<A: Allocator> Row<A> {
     ghost use Rattle.yl_text.specs.Lines.{RowValue};
 
-    /// A line with a copy of this text. It fails for want of memory alone.
+    /// Creates a row with a copy of the text. The only error is out of memory.
     pub fn new(alloc: A, text: &str, end: Break) -> Result<Row<A>, AllocError>
         ensures text { IfOk result (λ row. row.text ≡ text.now) }
         ensures end { IfOk result (λ row. row.end ≡ end) }
@@ -96,7 +97,7 @@ impl<A: Allocator> Row<A> {
         Ok(Row { kept })
     }
 
-    /// The line without its break, not copied.
+    /// Returns the text of the line without its break. Copies nothing.
     pub fn as_str(&self) -> &str
         ensures { result.now ≡ self.now.text }
     {
@@ -106,7 +107,7 @@ impl<A: Allocator> Row<A> {
         }
     }
 
-    /// The break behind the line.
+    /// Returns the break after the line.
     pub fn end(&self) -> Break
         ensures { result ≡ self.now.end }
     {
@@ -116,7 +117,7 @@ impl<A: Allocator> Row<A> {
         }
     }
 
-    /// How many bytes the line has, its break counted.
+    /// Returns the number of bytes of the line, break included.
     pub fn bytes(&self) -> usize
         ensures { result ≡ length self.now.text + length (break_bytes self.now.end) }
     {

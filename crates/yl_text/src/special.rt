@@ -1,12 +1,13 @@
-//! Bytes that need a closer look than printable ASCII.
+//! Finds the bytes that are not printable ASCII.
 ghost use Rattle.std.specs.Prelude.{◌≡◌, ◌+◌, ◌≤◌, drop, length, map, slice_range};
 ghost use Rattle.yl_text.specs.Special.{is_special, special_place};
 ghost use Rattle.std.specs.Simd.Lanes.{mask_l};
 
 use std::simd::prelude::*;
 
-/// The place, in bytes from 0, of the first byte that is not 0x20 to 0x7E (printable ASCII without
-/// the tab, as YAML 1.2.2 chapter 5 has it in `c-printable`), else the length. It takes no memory.
+/// Returns the index of the first byte that is not printable ASCII, or the length if there is none.
+/// Printable ASCII is 0x20 to 0x7E: `c-printable` of YAML 1.2.2, chapter 5, without the tab. Does
+/// not allocate.
 pub fn first_special(bytes: &[u8]) -> usize
     ensures within { result ≤ length bytes.now }
     ensures place { result ≡ special_place bytes.now }
@@ -22,7 +23,8 @@ pub fn first_special(bytes: &[u8]) -> usize
     special_from(bytes, at)
 }
 
-/// The same of the 32 bytes from there on, all looked at at once.
+/// Returns the index, counted from `at`, of the first of the 32 bytes from `at` on that is not
+/// printable ASCII, or 32 if there is none. Compares all of them at once.
 #[inline(always)]
 fn special_lane(bytes: &[u8], at: usize) -> usize
     requires { at + 32 ≤ length bytes.now }
@@ -36,18 +38,20 @@ fn special_lane(bytes: &[u8], at: usize) -> usize
     }
 }
 
-/// The 32 bytes from there on as bits: those that are set stand for the bytes that are not printable.
+/// Returns one bit for each of the 32 bytes from `at` on, the lowest for the first byte. A bit is
+/// set if its byte is not printable ASCII.
 #[inline(always)]
 fn special_lanes(bytes: &[u8], at: usize) -> u64
     requires { at + 32 ≤ length bytes.now }
     ensures { result ≡ mask_l (map is_special (slice_range bytes.now at (at + 32))) }
 {
-    // Less 0x7F, with a wrap below it, the printable bytes are 0xA1 to 0xFF.
+    // Minus 0x7F, modulo 256, the printable bytes are 0xA1 to 0xFF, and the others 0 to 0xA0.
     let moved = u8x32::from_slice(&bytes[at..]) - u8x32::splat(0x7F);
     moved.simd_le(u8x32::splat(0xA0)).to_bitmask()
 }
 
-/// The same of all bytes from there on, one after another.
+/// Returns the index of the first byte from `at` on that is not printable ASCII, or the length if
+/// there is none. Looks at one byte after another.
 fn special_from(bytes: &[u8], at: usize) -> usize
     requires { at ≤ length bytes.now }
     ensures { result ≡ at + special_place (drop at bytes.now) }

@@ -1,4 +1,4 @@
-//! Bytes into lines.
+//! Splits texts into lines.
 ghost use Rattle.std.specs.Prelude.{◌≡◌, ◌≢◌, ◌≤◌, ◌<◌, ◌⊎◌, ◌∷◌, length, take, IfOk, IsUtf8, MatchResult, slice_index};
 ghost use Rattle.yl_text.specs.Lines.{HasNoBreak, lines_of, IsLines};
 ghost use Rattle.yl_text.specs.Split.{BreakAt, lines_behind};
@@ -12,15 +12,18 @@ use crate::special::first_special;
 use memchr::memchr2;
 use std::alloc::{AllocError, Allocator};
 
-/// The first line of a text, its break, and what stands behind that.
+/// The first line of a text, its break, and the rest of the text.
 #[derive(Clone, Copy)]
 pub struct FirstLine<'a> {
+    /// The text of the line, without its break.
     pub line: &'a str,
+    /// The break after the line.
     pub end: Break,
+    /// The text after the break.
     pub rest: &'a str,
 }
 
-/// The place, in bytes from 0, of the first LF or CR, else the length.
+/// Returns the index of the first LF or CR, in bytes from 0, or the length if there is none.
 fn first_break(bytes: &[u8]) -> usize
     ensures within { result ≤ length bytes.now }
     ensures before { HasNoBreak (take result bytes.now) }
@@ -30,8 +33,9 @@ fn first_break(bytes: &[u8]) -> usize
     special + found_break(&bytes[special..])
 }
 
-/// The same, where the first byte is likely to be it, and others that are not printable ASCII are
-/// likely to stand before it.
+/// Returns the index of the first LF or CR, in bytes from 0, or the length if there is none. Looks
+/// at the first byte before it searches, since that byte is most likely to be the break. The search
+/// passes other bytes that are not printable ASCII.
 fn found_break(bytes: &[u8]) -> usize
     ensures within { result ≤ length bytes.now }
     ensures before { HasNoBreak (take result bytes.now) }
@@ -43,7 +47,8 @@ fn found_break(bytes: &[u8]) -> usize
     memchr2(b'\n', b'\r', bytes).unwrap_or(bytes.len())
 }
 
-/// The break that begins at this place, in bytes from 0, if one does.
+/// Returns the break that begins at the index `place`, in bytes from 0, or `Break::No` if none
+/// does.
 fn break_at(bytes: &[u8], place: usize) -> Break
     ensures { BreakAt bytes.now place result }
 {
@@ -60,7 +65,7 @@ fn break_at(bytes: &[u8], place: usize) -> Break
     }
 }
 
-/// The first line of a text, cut off its front with nothing copied.
+/// Splits off the first line of a text. Copies nothing.
 pub fn cut_line(text: &str) -> FirstLine<'_>
     ensures first { lines_of text.now ≡ record { text = result.line.now; end = result.end } ∷ lines_behind result.end result.rest.now }
     ensures utf8 { IsUtf8 result.rest.now }
@@ -76,7 +81,7 @@ pub fn cut_line(text: &str) -> FirstLine<'_>
     }
 }
 
-/// The lines of a text.
+/// Returns the lines of a text. The only error is out of memory.
 fn rows_of<A: Allocator + Copy>(alloc: A, text: &str) -> Result<Vec<Row<A>, A>, AllocError>
     ensures { IfOk result (λ rows. rows.items ≡ lines_of text.now) }
 {
@@ -92,12 +97,12 @@ fn rows_of<A: Allocator + Copy>(alloc: A, text: &str) -> Result<Vec<Row<A>, A>, 
     }
 }
 
-/// The lines of the bytes, cut behind each break of YAML 1.2.2, section 5.4: all but the last end in
-/// one break, the last in none, and CR LF is never cut. So no bytes have one line, and a break at the
-/// end has an empty line behind it.
+/// Splits bytes into the lines of a text, after each break of YAML 1.2.2, section 5.4. Every line
+/// but the last ends in one break, the last one in none, and CR LF is never split. So an empty text
+/// has one line, and a text that ends in a break has an empty last line.
 ///
-/// The faults, in the order in which they are looked for: `NotUtf8`; `TooLarge` for more than
-/// `MAX_BYTES` bytes; `Memory` where a growth was refused.
+/// The errors, in the order in which they are looked for, are `NotUtf8`, `TooLarge` for more than
+/// `MAX_BYTES` bytes, and `Memory`.
 pub fn split<A: Allocator + Copy>(alloc: A, bytes: &[u8]) -> Result<Vec<Row<A>, A>, TextFault>
     ensures text { MatchResult result (λ rows. IsText bytes.now) (λ fault. IsFaultOf bytes.now fault) }
     ensures lines { IfOk result (λ rows. IsLines bytes.now rows.items) }

@@ -9,23 +9,23 @@ use crate::places::{byte_place, bytes_from_to, is_behind};
 use crate::{MAX_BYTES, Pos, Row, TextFault};
 use std::alloc::{AllocError, Allocator};
 
-/// A list of rows, counted from 0.
+/// A list of rows, counted from 0. `Alloc` is the allocator of the rows.
 pub trait Lines {
     type Alloc: Allocator + Copy;
 
     ghost rows: { Self → List RowValue };
 
-    /// How many rows there are.
+    /// Returns the number of rows.
     fn len(&self) -> usize
         ensures { result ≡ length (rows self.now) };
 
-    /// The row at `i`, not copied. It takes no memory.
+    /// Returns the row at the index `i`. Copies nothing and does not allocate.
     fn row(&self, i: usize) -> &Row<Self::Alloc>
         requires { i < length (rows self.now) }
         ensures { slice_get (rows self.now) i ≡ Some result.now };
 
-    /// Rows from the one at `i` on that lie together, for whoever reads one after another; maybe none.
-    /// It takes no memory.
+    /// Returns rows from the index `i` on that are contiguous in memory, to be read one after
+    /// another. The slice may be empty. Does not allocate.
     fn rows_from(&self, i: usize) -> &[Row<Self::Alloc>]
         requires { i < length (rows self.now) }
         ensures { take (length result.now) (drop i (rows self.now)) ≡ result.now }
@@ -35,13 +35,14 @@ pub trait Lines {
     }
 }
 
-/// A store of the lines of a text. `check` says whether an edit between two places can be made, and
-/// `line_edit` by which lines it is made; then the bytes of those are split into rows (the last one, empty
-/// where they end in a break, is left out before a kept line) and `splice` puts them in, so that the rows
-/// that result are the lines of the edited text.
+/// A store of the lines of a text. An edit between two positions is made in steps. `check` returns
+/// whether it can be made, and `line_edit` returns the lines that it replaces and the bytes that
+/// replace them. These bytes are split into rows. If a line that is kept follows, the last of these
+/// rows, which is empty, is left out. `splice` puts the rows in place, so that the rows of the
+/// store are the lines of the edited text.
 pub trait LineStore: Lines + Drop {
-    /// Why the bytes may not be put in place of what stands between two places: the first cause that
-    /// stands, in the order `NotUtf8`, `Range`, `TooLarge`. It answers nothing else, and takes no memory.
+    /// Checks whether `bytes` can replace the text between two positions. Returns the first fault
+    /// in the order `NotUtf8`, `Range`, `TooLarge`, and never `Memory`. Does not allocate.
     final fn check(&self, from: Pos, to: Pos, bytes: &[u8]) -> Result<(), TextFault>
     where
         Self: Sized,
@@ -70,7 +71,8 @@ pub trait LineStore: Lines + Drop {
         Ok(())
     }
 
-    /// A store of these rows, which it takes out of the `Vec`, or nothing where there is no memory.
+    /// Creates a store of these rows, and leaves `rows` empty. The only error is out of memory:
+    /// then `rows` is unchanged.
     fn from_rows(rows: &mut Vec<Row<Self::Alloc>, Self::Alloc>) -> Result<Self, AllocError>
     where
         Self: Sized,
@@ -79,13 +81,13 @@ pub trait LineStore: Lines + Drop {
         ensures taken { OnOk result (rows.new.items ≡ []) }
         ensures err { OnErr result (rows.new.items ≡ rows.old.items) };
 
-    /// How many bytes the text has, breaks counted.
+    /// Returns the number of bytes of the text, breaks included.
     fn bytes(&self) -> u64
         requires { AreLines (Self.rows self.now) }
         ensures { result ≡ length (text_of (Self.rows self.now)) };
 
-    /// Puts these rows, which it takes out of the `Vec`, in place of the rows a to b, b not included.
-    /// Where there is no memory nothing changes.
+    /// Replaces the rows `a..b`, counted from 0, by these rows, and leaves `rows` empty. The only
+    /// error is out of memory: then neither the store nor `rows` has changed.
     fn splice(
         &mut self,
         a: usize,
