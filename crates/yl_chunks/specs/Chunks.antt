@@ -1,4 +1,4 @@
--- Bridge: how a list lies in chunks.
+-- Bridge: how a list is stored in chunks, and the room that is made for an edit of it.
 use Rattle.std.specs.Prelude.{◌≡◌, ℕ, ◌+◌, ◌-◌, ◌*◌, ◌^◌, ◌<◌, ◌≤◌, List, [], length, take, min, All, Vec, vec_len, vec_capacity, slice_get, slice_index, Option, Some, None}
 use Rattle.std.specs.List.{flat_map, splice}
 use Rattle.yl_text.specs.Store.{IsRange}
@@ -8,13 +8,13 @@ use Rattle.yl_chunks.specs.declared.places.Starts.{Starts}
 use Rattle.yl_chunks.specs.declared.room.Fresh.{Fresh}
 use Rattle.yl_chunks.specs.declared.room.Prepared.{Prepared}
 
--- room is made to put so many items in place of those from a to b
+-- room for replacing the items a to b, b not included, by `count` items
 pub record Room : Type 0 where
   pub a : ℕ
   pub b : ℕ
   pub count : ℕ
 
--- a list, and the room that is made for an edit of it
+-- a list, and the room that is made for an edit of it, if any
 pub record ListValue (T : Type 0) : Type 0 where
   pub items : List T
   pub room : Option Room
@@ -23,16 +23,16 @@ pub record ListValue (T : Type 0) : Type 0 where
 abbrev pub items_of : {T A : Type 0} → List (Vec T A) → List T
 items_of = flat_map (λ c. c.items)
 
--- a chunk has an item, and no more than it may
+-- a chunk has 1 to `MOST` items
 abbrev pub IsFilled : {T A : Type 0} → Vec T A → Type 0
 IsFilled c = (0 < length c.items) × (length c.items ≤ MOST)
 
--- a chunk is empty, with room for that many items
+-- a chunk is empty, with capacity for n items
 abbrev pub HasRoom : {T A : Type 0} → ℕ → Vec T A → Type 0
 HasRoom n c = (c.items ≡ []) × (n ≤ vec_capacity c)
 
--- how many items the chunks have, and for each chunk how many of them stand before it; from `turned` on,
--- how many do not
+-- the number of items of the chunks, and an offset for each chunk: the number of items before it,
+-- or, from the chunk `turned` on, the number of items from it on
 pub record ArePlaces {T A : Type 0} (chunks : List (Vec T A)) (places : List ℕ) (turned len : ℕ) : Type 0 where
   pub counted : length places ≡ length chunks
   pub within : turned ≤ length chunks
@@ -43,19 +43,20 @@ pub record ArePlaces {T A : Type 0} (chunks : List (Vec T A)) (places : List ℕ
 abbrev pub AreStarts : {T A : Type 0} → List (Vec T A) → Starts A → Type 0
 AreStarts chunks s = ArePlaces chunks s.places.items s.turned s.len
 
--- filled chunks, and where they begin
+-- chunks that have 1 to `MOST` items, and the offsets at which they begin
 pub record AreChunks {T A : Type 0} (chunks : List (Vec T A)) (starts : Starts A) : Type 0 where
   pub filled : All IsFilled chunks
   pub begin : AreStarts chunks starts
 
--- the chunks from `first` on, before `end`, have `count` items, and those from a to b are some of them
+-- the chunks from `first` to `end`, `end` not included, have `count` items, and a to b is a range
+-- of these
 pub record IsPlace {T A : Type 0} (chunks : List (Vec T A)) (p : Place) : Type 0 where
   pub ordered : p.first ≤ p.end
   pub within : p.end ≤ length chunks
   pub count : length (items_of (take p.first chunks)) + p.count ≡ length (items_of (take p.end chunks))
   pub range : IsRange p.a p.b p.count
 
--- the place in the list of its chunks' item at i
+-- the index in the list of item i of the place's chunks
 abbrev pub in_list : {T A : Type 0} → List (Vec T A) → Place → ℕ → ℕ
 in_list chunks p i = length (items_of (take p.first chunks)) + i
 
@@ -63,18 +64,20 @@ in_list chunks p i = length (items_of (take p.first chunks)) + i
 abbrev pub put_at : {T A : Type 0} → List (Vec T A) → Place → List T → List T
 put_at chunks p new = splice (items_of chunks) (in_list chunks p p.a) (in_list chunks p p.b) new
 
--- how many items the chunks of a place have with so many in place of its own
+-- the number of items of the chunks of a place after `count` items replace those of the place
 abbrev pub left_with : Place → ℕ → ℕ
 left_with p count = p.count - (p.b - p.a) + count
 
--- the one chunk of a place has room for so many items beside its own, and keeps some and not too many
+-- the place has one chunk, which has capacity for `count` more items and is left with 1 to `MOST`
+-- items
 pub record HasChunk {T A : Type 0} (chunks : List (Vec T A)) (p : Place) (count : ℕ) : Type 0 where
   pub one : p.end ≡ p.first + 1
   pub some : 0 < left_with p count
   pub most : left_with p count ≤ MOST
   pub capacity : (c : Vec T A) → slice_get chunks p.first ≡ Some c → vec_len c + count ≤ vec_capacity c
 
--- there are fresh chunks for what the chunks of a place have with so many items in place of its own, and room on the way
+-- there are empty chunks for the items that the chunks of a place have after `count` items replace
+-- its own, and capacity for moving them
 pub record HasFresh {T A : Type 0} (chunks : Vec (Vec T A) A) (places : Vec ℕ A) (p : Place) (count : ℕ) (fresh : Fresh T A) : Type 0 where
   pub empty : fresh.items.items ≡ []
   pub items_room : p.count + count ≤ vec_capacity fresh.items
@@ -88,7 +91,7 @@ abbrev pub HasEither : {T A : Type 0} → Vec (Vec T A) A → Vec ℕ A → Plac
 HasEither chunks places p count None = HasChunk chunks.items p count
 HasEither chunks places p count (Some fresh) = HasFresh chunks places p count fresh
 
--- what is prepared for these chunks is room enough
+-- what was prepared is enough for an edit of these chunks
 pub record IsPrepared {T A : Type 0} (chunks : Vec (Vec T A) A) (places : Vec ℕ A) (r : Prepared T A) : Type 0 where
   pub place : IsPlace chunks.items r.place
   pub few : length (items_of chunks.items) + r.count < 2 ^ 64

@@ -7,7 +7,7 @@ use std::alloc::{AllocError, Allocator};
 use std::marker::Model;
 use yl_text::{LineStore, Lines, Row, bytes_between, bytes_of};
 
-/// The lines of a text in chunks of 1 to `MOST` rows, and how many bytes they have.
+/// A store of the lines of a text in chunks of 1 to `MOST` rows, with their number of bytes.
 #[derive(Drop)]
 pub struct ChunkStore<A: Allocator> {
     rows: Chunks<Row<A>, A>,
@@ -29,7 +29,8 @@ impl<A: Allocator> Model for ChunkStore<A> {
 impl<A: Allocator + Copy> ChunkStore<A> {
     ghost use Rattle.std.specs.Prelude.{◌≤◌};
 
-    /// The fewest rows that one of its chunks has: how well filled they are.
+    /// Returns the number of rows of the smallest chunk, which shows how well the chunks are
+    /// filled.
     pub fn fewest(&self) -> usize
         ensures { result ≤ MOST }
     {

@@ -11,18 +11,23 @@ use crate::spreading::put;
 use std::alloc::{AllocError, Allocator};
 use std::marker::Model;
 
-/// A list of items, kept in chunks of 1 to `MOST` of them. In contracts it is the list, and the room that is
-/// made for an edit of it, if any.
+/// A list of items, stored in chunks of 1 to `MOST` items. In contracts it is the list, and the
+/// room that is made for an edit of it, if any.
 ///
-/// An item is looked for first in the chunk in which it stands where all before it are full, and in the next one. Elsewhere it is found by
-/// a binary search over the places at which the chunks begin, of 8 bytes each. An edit
-/// within a chunk that has room moves the items of that chunk, and the places of the chunks between it and
-/// the last edit's: edits near one another move nearly none. Any other makes the chunks that it touches
-/// anew. A chunk that an edit leaves with few items is joined with one beside it.
+/// An item is looked for first in the chunk that contains it if all chunks before it are full, and
+/// in the next one. Otherwise it is found by a binary search over the offsets at which the chunks
+/// begin, of 8 bytes each.
 ///
-/// `splice` makes an edit at once. `make_room` and `fill_room` make it in two steps, so that several lists
-/// can change together: the first takes all memory and moves no item, and the second only moves items. Room
-/// is kept up to the next edit, or the next call that makes room.
+/// An edit within one chunk that leaves it with `MOST / 4` to `MOST` items moves only items of this
+/// chunk. It also changes the offsets of the chunks between this one and that of the last such
+/// edit, or the end of the list if chunks were made anew since. So edits near one another change
+/// few offsets. Most other edits make the chunks that they touch anew, and count all offsets again.
+/// A chunk that is left with fewer than `MOST / 4` items is joined with one next to it, if there is
+/// one.
+///
+/// `splice` makes an edit in one call. `make_room` and `fill_room` make it in two, so that several
+/// lists can change together: the first does all allocations and leaves the items as they are, and
+/// the second does not allocate. Room is kept until the next edit, or the next call of `make_room`.
 #[derive(Drop)]
 pub struct Chunks<T, A: Allocator> {
     chunks: Vec<Vec<T, A>, A>,
@@ -43,7 +48,7 @@ impl<T, A: Allocator> Model for Chunks<T, A> {
 }
 
 impl<T: Drop, A: Allocator + Copy> Chunks<T, A> {
-    /// An empty list. It takes no memory.
+    /// Creates an empty list. Does not allocate.
     pub fn new(alloc: A) -> Chunks<T, A>
         ensures { result.items ≡ [] }
     {
@@ -58,14 +63,15 @@ impl<T: Drop, A: Allocator + Copy> Chunks<T, A> {
         }
     }
 
-    /// How many items there are.
+    /// Returns the number of items.
     pub fn len(&self) -> usize
         ensures { result ≡ length self.now.items }
     {
         self.starts.len
     }
 
-    /// The fewest items that one of its chunks has, or `MOST` where there is none: how well filled they are.
+    /// Returns the number of items of the smallest chunk, or `MOST` if there is no chunk. It shows
+    /// how well the chunks are filled.
     pub fn fewest(&self) -> usize
         ensures { result ≤ MOST }
     {
@@ -76,7 +82,7 @@ impl<T: Drop, A: Allocator + Copy> Chunks<T, A> {
         fewest
     }
 
-    /// The item at `i`, counted from 0. It takes no memory.
+    /// Returns the item at the index `i`, counted from 0. Does not allocate.
     pub fn get(&self, i: usize) -> &T
         requires { i < length self.now.items }
         ensures { slice_get self.now.items i ≡ Some result.now }
@@ -86,7 +92,8 @@ impl<T: Drop, A: Allocator + Copy> Chunks<T, A> {
         &self.chunks[j][i - start]
     }
 
-    /// The item at `i`, counted from 0, and those behind it in its chunk. It takes no memory.
+    /// Returns the item at the index `i`, counted from 0, and the items after it in its chunk. Does
+    /// not allocate.
     pub fn items_from(&self, i: usize) -> &[T]
         requires { i < length self.now.items }
         ensures some { 0 < length result.now }
@@ -98,9 +105,9 @@ impl<T: Drop, A: Allocator + Copy> Chunks<T, A> {
         items
     }
 
-    /// Puts the new items, which it takes out of their `Vec`, in place of the items a to b, b not
-    /// included, counted from 0. On `Err` a growth was refused: nothing has changed, and the new items
-    /// are where they were.
+    /// Replaces the items `a..b`, counted from 0, by the items of `new`, and leaves `new` empty.
+    /// Room that was made is released. The only error is out of memory: then the items of the list
+    /// and of `new` are unchanged.
     pub fn splice(&mut self, a: usize, b: usize, new: &mut Vec<T, A>) -> Result<(), AllocError>
         requires range { IsRange a b (length self.old.items) }
         requires few { length self.old.items + vec_len new.old < 2 ^ 64 }
@@ -116,9 +123,9 @@ impl<T: Drop, A: Allocator + Copy> Chunks<T, A> {
         Ok(())
     }
 
-    /// Makes room to put so many items in place of those from a to b, b not included, counted from 0, as
-    /// `fill_room` does. No item moves. It takes the place of room that was made before. On `Err` a growth
-    /// was refused.
+    /// Makes room for replacing the items `a..b`, counted from 0, by `count` items with
+    /// `fill_room`. Leaves the items as they are. Room that was made before is released, also after
+    /// an error. The only error is out of memory.
     pub fn make_room(&mut self, a: usize, b: usize, count: usize) -> Result<(), AllocError>
         requires range { IsRange a b (length self.old.items) }
         requires few { length self.old.items + count < 2 ^ 64 }
@@ -132,8 +139,8 @@ impl<T: Drop, A: Allocator + Copy> Chunks<T, A> {
         Ok(())
     }
 
-    /// Puts the new items, which it takes out of their `Vec`, in place of those from a to b, where room was
-    /// made for as many. It takes no memory.
+    /// Replaces the items `a..b`, counted from 0, by the items of `new`, and leaves `new` empty.
+    /// Room was made for as many items in place of the same ones. Does not allocate.
     pub fn fill_room(&mut self, a: usize, b: usize, new: &mut Vec<T, A>)
         requires room { self.old.room ≡ Some (record { a = a; b = b; count = vec_len new.old }) }
         ensures items { self.new.items ≡ splice self.old.items a b new.old.items }

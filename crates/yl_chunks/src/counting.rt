@@ -1,4 +1,4 @@
-//! Where the items of a list stand in its chunks.
+//! Finds the chunks that contain items of a list.
 ghost use Rattle.std.specs.Prelude.{◌≡◌, ◌+◌, ◌-◌, ◌^◌, ◌<◌, ◌≤◌, ℕ, length, take, true, vec_capacity};
 ghost use Rattle.yl_text.specs.Store.{IsRange};
 ghost use Rattle.yl_chunks.specs.Chunks.{items_of, AreStarts, IsPlace, in_list};
@@ -7,7 +7,8 @@ use crate::MOST;
 use crate::places::{Place, Starts, joined};
 use std::alloc::Allocator;
 
-/// Counts where the chunks begin, in place of what was counted.
+/// Counts the offsets at which the chunks begin, in place of the old ones. `starts` has capacity
+/// for them.
 pub(crate) fn count_starts<T, A: Allocator>(chunks: &[Vec<T, A>], starts: &mut Starts<A>)
     requires few { length (items_of chunks.now) < 2 ^ 64 }
     requires room { length chunks.now ≤ vec_capacity starts.old.places }
@@ -23,7 +24,7 @@ pub(crate) fn count_starts<T, A: Allocator>(chunks: &[Vec<T, A>], starts: &mut S
     starts.len = start;
 }
 
-/// How many items stand before a chunk, or how many there are.
+/// Returns the number of items before chunk `j`, or of all items if `j` is the number of chunks.
 #[inline]
 pub(crate) fn start_of<T, A: Allocator>(chunks: &[Vec<T, A>], starts: &Starts<A>, j: usize) -> usize
     requires starts { AreStarts chunks.now starts.now }
@@ -39,11 +40,12 @@ pub(crate) fn start_of<T, A: Allocator>(chunks: &[Vec<T, A>], starts: &Starts<A>
     }
 }
 
-/// How many chunks are looked through from the first one that can hold an item.
+/// The number of chunks that are searched, from the first one that can contain an item on.
 const NEAR: usize = 8;
 
-/// Chunks among which `search` finds its own: the first, and the end. A full list is in chunks of about `MOST` items, so that a few
-/// do but where many chunks have fewer.
+/// Returns the range of chunks that `search` looks through: the first chunk, and the one after the
+/// last. It has at most `NEAR` chunks if the chunks before item `i` have about `MOST` items each,
+/// as most lists do.
 fn near<T, A: Allocator>(chunks: &[Vec<T, A>], starts: &Starts<A>, i: usize) -> (usize, usize)
     requires starts { AreStarts chunks.now starts.now }
     requires some { 0 < length chunks.now }
@@ -62,7 +64,7 @@ fn near<T, A: Allocator>(chunks: &[Vec<T, A>], starts: &Starts<A>, i: usize) -> 
     (first, chunks.len())
 }
 
-/// Finds the last chunk before which no more than `i` items stand.
+/// Returns the last chunk that has at most `i` items before it. Finds it by a binary search.
 fn search<T, A: Allocator>(chunks: &[Vec<T, A>], starts: &Starts<A>, i: usize) -> usize
     requires starts { AreStarts chunks.now starts.now }
     requires some { 0 < length chunks.now }
@@ -82,7 +84,7 @@ fn search<T, A: Allocator>(chunks: &[Vec<T, A>], starts: &Starts<A>, i: usize) -
     low
 }
 
-/// Whether a chunk is the last one before which no more than `i` items stand.
+/// Returns whether chunk `j` is the last one that has at most `i` items before it.
 #[inline]
 fn is_last_start<T, A: Allocator>(
     chunks: &[Vec<T, A>],
@@ -101,8 +103,8 @@ fn is_last_start<T, A: Allocator>(
     j + 1 == chunks.len() || i < start_of(chunks, starts, j + 1)
 }
 
-/// The last chunk before which no more than `i` items stand. Where the chunks before it are full, and
-/// where one of them was cut in two, it is not searched for.
+/// Returns the last chunk that has at most `i` items before it. Finds it without a search if all
+/// chunks before it are full, or if one of them was cut in two.
 #[inline]
 pub(crate) fn last_start<T, A: Allocator>(
     chunks: &[Vec<T, A>],
@@ -125,7 +127,9 @@ pub(crate) fn last_start<T, A: Allocator>(
     search(chunks, starts, i)
 }
 
-/// The chunks that hold the items a to b: the first, and the end.
+/// Returns the range of the chunks that contain the items `a..b`: the first chunk, and the one
+/// after the last. If `a` and `b` are equal, it has one chunk: the last one with at most `a` items
+/// before it.
 fn touched<T, A: Allocator>(
     chunks: &[Vec<T, A>],
     starts: &Starts<A>,
@@ -147,8 +151,8 @@ fn touched<T, A: Allocator>(
     (first, last_start(chunks, starts, b - 1) + 1)
 }
 
-/// The place of the items a to b, b not included, counted from 0. Where few items would be left with
-/// so many in their place, a chunk beside them is in it.
+/// Returns the place of the items `a..b`, counted from 0. It includes a chunk next to theirs if few
+/// items would be left after `put` items replace them.
 pub(crate) fn place_of<T, A: Allocator>(
     chunks: &[Vec<T, A>],
     starts: &Starts<A>,

@@ -1,11 +1,12 @@
-//! Items moved from chunk to chunk. All room is there, so nothing here takes memory.
+//! Moves items from chunk to chunk. All capacity was reserved before, so nothing here allocates.
 ghost use Rattle.std.specs.Prelude.{◌≡◌, ◌+◌, ◌-◌, ◌*◌, ◌^◌, ◌<◌, ◌≤◌, ℕ, [], ◌++◌, All, length, take, drop, min, vec_len, vec_capacity};
 ghost use Rattle.yl_chunks.specs.Chunks.{items_of, IsFilled};
 
 use crate::MOST;
 use std::alloc::Allocator;
 
-/// Moves the last items, that many, into an empty `Vec`.
+/// Moves the last `count` items into `to`, in the same order. `to` is empty and has capacity for
+/// them.
 fn move_last<T: Drop, A: Allocator>(items: &mut Vec<T, A>, count: usize, to: &mut Vec<T, A>)
     requires count { count ≤ vec_len items.old }
     requires empty { to.old.items ≡ [] }
@@ -19,7 +20,8 @@ fn move_last<T: Drop, A: Allocator>(items: &mut Vec<T, A>, count: usize, to: &mu
     to.reverse();
 }
 
-/// Cuts the items into chunks of nearly one size, from the end.
+/// Cuts the items into chunks of nearly one size, from the end, and leaves `items` empty. The
+/// chunks are empty before and have capacity for their items.
 pub(crate) fn cut<T: Drop, A: Allocator>(items: &mut Vec<T, A>, chunks: &mut Vec<Vec<T, A>, A>)
     requires enough { vec_len chunks.old ≤ vec_len items.old }
     requires few { vec_len items.old ≤ MOST * vec_len chunks.old }
@@ -37,7 +39,7 @@ pub(crate) fn cut<T: Drop, A: Allocator>(items: &mut Vec<T, A>, chunks: &mut Vec
     }
 }
 
-/// Moves the items of the chunks p to q to the end of a `Vec`.
+/// Moves the items of the chunks `p..q` to the end of `items`, which has capacity for them.
 pub(crate) fn gather<T: Drop, A: Allocator>(
     chunks: &mut Vec<Vec<T, A>, A>,
     p: usize,

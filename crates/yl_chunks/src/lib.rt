@@ -1,4 +1,5 @@
-//! Lists in chunks, and a store of lines over them: an edit moves the items of a few chunks alone.
+//! Lists in chunks, and a store of lines in chunks. An edit moves the items of the chunks that it
+//! touches, and at most those of one chunk next to them.
 #![tactic(auto)]
 
 ghost use Rattle.std.specs.Prelude.{◌≡◌};
@@ -21,11 +22,11 @@ pub use chunk_store::ChunkStore;
 pub use chunks::Chunks;
 pub use spliced::Spliced;
 
-/// The most items that a chunk may have.
+/// The maximum number of items of a chunk.
 pub const MOST: usize = 256;
 
-/// A law: two stores of one text have the same rows, however they keep them. So whatever follows from the
-/// rows, as all that a session shows, is the same over either.
+/// A law: two stores of one text have the same rows, however they store them. So whatever follows
+/// from the rows, such as all that a session shows, is the same for both.
 pub fn one_list_of_rows<S: LineStore, T: LineStore>(_one: &S, _other: &T)
     requires one { AreLines (S.rows _one.now) }
     requires other { AreLines (T.rows _other.now) }

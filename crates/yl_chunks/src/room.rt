@@ -1,4 +1,4 @@
-//! Room made for an edit before any item moves.
+//! Allocates for an edit before the list changes.
 ghost use Rattle.std.specs.Prelude.{◌≡◌, ◌+◌, ◌-◌, ◌*◌, ◌^◌, ◌<◌, ◌≤◌, All, length, map, vec_len, vec_capacity, slice_get, Some, IfOk, OnOk};
 ghost use Rattle.yl_chunks.specs.Chunks.{items_of, HasRoom, AreChunks, IsPlace, HasFresh, IsPrepared, left_with, room_of, in_list};
 
@@ -6,23 +6,29 @@ use crate::MOST;
 use crate::places::{Place, Starts};
 use std::alloc::{AllocError, Allocator};
 
-/// Fresh chunks with no items yet, and room for all items at once that come into them.
+/// Empty chunks, and a `Vec` that takes all items at once before they are cut into the chunks.
 #[derive(Drop)]
 pub(crate) struct Fresh<T, A: Allocator> {
+    /// An empty `Vec` with capacity for the old items and the new ones.
     pub items: Vec<T, A>,
+    /// The empty chunks.
     pub chunks: Vec<Vec<T, A>, A>,
 }
 
-/// Room to put `count` items in place of those of a place: in fresh chunks, or else in the one chunk that
-/// has them.
+/// Room for replacing the items of a place by `count` items: in empty chunks, or else in the one
+/// chunk of the place.
 #[derive(Drop)]
 pub(crate) struct Prepared<T, A: Allocator> {
+    /// The place of the items that are replaced.
     pub place: Place,
+    /// The number of items that replace them.
     pub count: usize,
+    /// The empty chunks, or `None` if the items are replaced within one chunk.
     pub fresh: Option<Fresh<T, A>>,
 }
 
-/// Empty chunks, each with room for that many items.
+/// Returns `count` empty chunks, each with capacity for `capacity` items. The only error is out of
+/// memory.
 fn empty_chunks<T: Drop, A: Allocator + Copy>(
     alloc: A,
     count: usize,
@@ -38,7 +44,7 @@ fn empty_chunks<T: Drop, A: Allocator + Copy>(
     Ok(chunks)
 }
 
-/// Into how many chunks that many items are cut.
+/// Returns the number of chunks into which so many items are cut.
 fn chunk_count(items: usize) -> usize
     ensures enough { result ≤ items }
     ensures few { items ≤ MOST * result }
@@ -46,7 +52,7 @@ fn chunk_count(items: usize) -> usize
     items.div_ceil(MOST)
 }
 
-/// Makes room in the one chunk of a place.
+/// Reserves capacity for `count` more items in chunk `j`. The only error is out of memory.
 fn prepare_chunk<T: Drop, A: Allocator>(
     chunks: &mut Vec<Vec<T, A>, A>,
     j: usize,
@@ -60,7 +66,9 @@ fn prepare_chunk<T: Drop, A: Allocator>(
     chunks[j].try_reserve(count)
 }
 
-/// Makes fresh chunks for what the chunks of the place have with so many items in place of its own.
+/// Makes empty chunks for the items that the chunks of the place have after `count` items replace
+/// those of the place. Also reserves capacity for these chunks and their offsets in the list. The
+/// only error is out of memory.
 fn prepare_fresh<T: Drop, A: Allocator + Copy>(
     chunks: &mut Vec<Vec<T, A>, A>,
     places: &mut Vec<usize, A>,
@@ -86,8 +94,9 @@ fn prepare_fresh<T: Drop, A: Allocator + Copy>(
     })
 }
 
-/// Makes room to put so many items in place of those of the place: in the chunk that has them, where it
-/// may have as many, else in fresh chunks. No item moves.
+/// Makes room for replacing the items of the place by `count` items: within its chunk if it has one
+/// chunk, which is left with 1 to `MOST` items, else in empty chunks. Leaves the items as they are.
+/// The only error is out of memory.
 pub(crate) fn prepare<T: Drop, A: Allocator + Copy>(
     chunks: &mut Vec<Vec<T, A>, A>,
     starts: &mut Starts<A>,

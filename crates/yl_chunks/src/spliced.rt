@@ -1,4 +1,4 @@
-//! A list of which some items are replaced, with nothing copied.
+//! A view of a list of which some items are replaced. Copies nothing.
 ghost use Rattle.std.specs.Prelude.{◌≡◌, ◌<◌, ◌+◌, ◌^◌, length, slice_get, Some};
 ghost use Rattle.std.specs.List.{splice};
 ghost use Rattle.yl_text.specs.Store.{IsRange};
@@ -7,8 +7,8 @@ use crate::chunks::Chunks;
 use std::alloc::Allocator;
 use std::marker::Model;
 
-/// A list with other items in place of those from a to b, b not included, counted from 0. It lends all of
-/// them. In contracts it is the list that they make.
+/// A view of a list, with other items in place of the items `a..b`, counted from 0. It borrows all
+/// of them. In contracts it is the list that they make.
 pub struct Spliced<'a, T, A: Allocator> {
     list: &'a Chunks<T, A>,
     a: usize,
@@ -40,7 +40,8 @@ impl<T, A: Allocator> Drop for Spliced<'_, T, A> {
 }
 
 impl<'a, T: Drop, A: Allocator + Copy> Spliced<'a, T, A> {
-    /// The list with these items in place of those from a to b.
+    /// Creates a view of `list` with `new` in place of the items `a..b`, counted from 0. Does not
+    /// allocate.
     pub fn new(list: &'a Chunks<T, A>, a: usize, b: usize, new: &'a [T]) -> Spliced<'a, T, A>
         requires range { IsRange a b (length list.now.items) }
         requires few { length list.now.items + length new.now < 2 ^ 64 }
@@ -49,14 +50,14 @@ impl<'a, T: Drop, A: Allocator + Copy> Spliced<'a, T, A> {
         Spliced { list, a, b, new }
     }
 
-    /// How many items there are.
+    /// Returns the number of items.
     pub fn len(&self) -> usize
         ensures { result ≡ length self.now }
     {
         self.list.len() - (self.b - self.a) + self.new.len()
     }
 
-    /// The item at `i`, counted from 0. It takes no memory.
+    /// Returns the item at the index `i`, counted from 0. Does not allocate.
     pub fn get(&self, i: usize) -> &'a T
         requires { i < length self.now }
         ensures { slice_get self.now i ≡ Some result.now }

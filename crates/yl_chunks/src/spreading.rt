@@ -1,5 +1,5 @@
-//! Items put in place of others, in the chunk that has them or in chunks that are made anew. All room is
-//! there, so nothing here takes memory.
+//! Puts items in place of others, within one chunk or in chunks that are made anew. All capacity
+//! was reserved before, so nothing here allocates.
 ghost use Rattle.std.specs.Prelude.{◌≡◌, ◌+◌, ◌^◌, ◌<◌, [], length, vec_len};
 ghost use Rattle.yl_chunks.specs.Chunks.{items_of, AreChunks, IsPlace, HasChunk, HasFresh, IsPrepared, put_at};
 
@@ -11,8 +11,8 @@ use crate::turning::turn;
 use std::alloc::Allocator;
 use yl_text::put_between;
 
-/// Puts the new items in place of those of the place, in fresh chunks, and counts anew where the chunks
-/// begin.
+/// Replaces the items of the place by the new ones, in the empty chunks, and counts all offsets
+/// again. Leaves `new` empty.
 fn put_in_fresh<T: Drop, A: Allocator>(
     chunks: &mut Vec<Vec<T, A>, A>,
     starts: &mut Starts<A>,
@@ -39,8 +39,8 @@ fn put_in_fresh<T: Drop, A: Allocator>(
     count_starts(chunks, starts);
 }
 
-/// Puts the new items in place of those of the place, in the one chunk that has them. No other chunk
-/// changes.
+/// Replaces the items of the place by the new ones, within its one chunk, and leaves `new` empty.
+/// No other chunk changes.
 fn put_in_chunk<T: Drop, A: Allocator>(
     chunks: &mut Vec<Vec<T, A>, A>,
     starts: &mut Starts<A>,
@@ -60,8 +60,8 @@ fn put_in_chunk<T: Drop, A: Allocator>(
     put_between(&mut chunks[place.first], place.a, place.b, new);
 }
 
-/// Puts the new items, which it takes out of their `Vec`, in place of others, where that was prepared for as
-/// many.
+/// Replaces the items of the prepared place by the items of `new`, and leaves `new` empty. `new`
+/// has as many items as the room is for.
 pub(crate) fn put<T: Drop, A: Allocator>(
     chunks: &mut Vec<Vec<T, A>, A>,
     starts: &mut Starts<A>,

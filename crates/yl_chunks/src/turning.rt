@@ -1,11 +1,13 @@
-//! Places that count the items before a chunk, made to count the others, or back.
+//! Changes offsets that count the items before a chunk into those that count the items from it on,
+//! and back.
 ghost use Rattle.std.specs.Prelude.{◌≡◌, ◌≤◌, length};
 ghost use Rattle.yl_chunks.specs.Chunks.{ArePlaces, AreStarts};
 
 use crate::places::Starts;
 use std::alloc::Allocator;
 
-/// Has the places before `to` count the items before their chunks. These are turned up to `turned`.
+/// Changes the offsets of the chunks `turned..to`, so that those before `to` count the items before
+/// their chunks.
 fn turn_on<T, A: Allocator>(
     chunks: &[Vec<T, A>],
     places: &mut [usize],
@@ -24,7 +26,8 @@ fn turn_on<T, A: Allocator>(
     }
 }
 
-/// Has the places from `to` on count the items that do not stand before their chunks.
+/// Changes the offsets of the chunks `to..turned`, so that those from `to` on count the items from
+/// their chunks on.
 fn turn_back<T, A: Allocator>(
     chunks: &[Vec<T, A>],
     places: &mut [usize],
@@ -44,7 +47,7 @@ fn turn_back<T, A: Allocator>(
     }
 }
 
-/// Turns the places at `to`.
+/// Sets `turned` to `to`, and changes the offsets of the chunks between the two.
 pub(crate) fn turn<T, A: Allocator>(chunks: &[Vec<T, A>], starts: &mut Starts<A>, to: usize)
     requires starts { AreStarts chunks.now starts.old }
     requires within { to ≤ length chunks.now }

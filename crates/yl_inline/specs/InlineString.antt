@@ -1,4 +1,4 @@
--- Bridge: the characters of a string, wherever they lie.
+-- Bridge: the characters of a string, wherever they are stored.
 use Rattle.std.specs.Prelude.{ℕ, List, string_bytes}
 use Rattle.std.specs.Str.{chars}
 use Rattle.yl_inline.specs.declared.inline_string.Storage.{Storage}

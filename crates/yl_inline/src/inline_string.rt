@@ -1,4 +1,4 @@
-//! A string that takes no memory of its own while it is short.
+//! A string that can store a short text in the value itself.
 
 ghost use Rattle.std.specs.Prelude.{◌≡◌, [], IfOk, IfSome, string_bytes};
 ghost use Rattle.std.specs.Str.{chars, encode_utf8_all, IsAscii};
@@ -8,10 +8,10 @@ use std::alloc::{AllocError, Allocator};
 use std::marker::Model;
 use std::{fmt, str};
 
-/// How many bytes a text has at the most that lies in the value itself.
+/// The maximum number of bytes of a text that is stored in the value itself.
 const SHORT: usize = 16;
 
-/// A text of few ASCII characters, which lies in the value itself.
+/// A text of at most 16 ASCII characters, stored in the value itself.
 #[derive(Drop)]
 pub struct ShortText {
     text: ArrayString<SHORT>,
@@ -27,7 +27,7 @@ impl Model for ShortText {
 }
 
 impl ShortText {
-    /// The text in UTF-8.
+    /// Returns the text in UTF-8.
     pub fn as_str(&self) -> &str
         ensures { result.now ≡ encode_utf8_all self.now }
     {
@@ -35,14 +35,17 @@ impl ShortText {
     }
 }
 
-/// Where a text lies: in the value itself, or in memory of its own.
+/// The storage of a text: the value itself, or an allocation.
 #[derive(Drop)]
 pub enum Storage<A: Allocator> {
+    /// A text in the value itself.
     Short(ShortText),
+    /// A text in a `String`.
     Long(String<A>),
 }
 
-/// A string. A text of at most 16 ASCII characters lies in the value itself, and takes no allocation.
+/// A string that can store a text of at most 16 ASCII characters in the value itself, without an
+/// allocation. `of_ascii` does so, and `of_string` keeps the `String`.
 #[derive(Drop)]
 pub struct InlineString<A: Allocator> {
     kept: Storage<A>,
@@ -57,7 +60,7 @@ impl<A: Allocator> Model for InlineString<A> {
     ghost view = { λ s. characters_of s.kept };
 }
 
-/// The text of these ASCII characters, if there are few.
+/// Returns the text of these ASCII characters, or `None` if there are more than 16.
 fn short_text(characters: &[char]) -> Option<ArrayString<SHORT>>
     requires { IsAscii characters.now }
     ensures { IfSome result (λ text. text.bytes ≡ characters.now) }
@@ -77,7 +80,7 @@ fn short_text(characters: &[char]) -> Option<ArrayString<SHORT>>
 impl<A: Allocator> InlineString<A> {
     ghost use Rattle.yl_inline.specs.InlineString.{characters_of};
 
-    /// No text.
+    /// Creates an empty string. Does not allocate.
     pub fn new() -> InlineString<A>
         ensures { result ≡ [] }
     {
@@ -87,7 +90,8 @@ impl<A: Allocator> InlineString<A> {
         }
     }
 
-    /// The text of these ASCII characters, if there are at most 16.
+    /// Creates a string of these ASCII characters, or returns `None` if there are more than 16.
+    /// Does not allocate.
     pub fn of_ascii(characters: &[char]) -> Option<InlineString<A>>
         requires { IsAscii characters.now }
         ensures { IfSome result (λ text. text ≡ characters.now) }
@@ -98,7 +102,7 @@ impl<A: Allocator> InlineString<A> {
         })
     }
 
-    /// A text that has memory of its own.
+    /// Creates a string that keeps this `String`, even if its text is short. Does not allocate.
     pub fn of_string(text: String<A>) -> InlineString<A>
         ensures { result ≡ chars (string_bytes text) }
     {
@@ -107,7 +111,7 @@ impl<A: Allocator> InlineString<A> {
         }
     }
 
-    /// The text in UTF-8.
+    /// Returns the text in UTF-8.
     pub fn as_str(&self) -> &str
         ensures { result.now ≡ encode_utf8_all self.now }
     {
@@ -117,14 +121,15 @@ impl<A: Allocator> InlineString<A> {
         }
     }
 
-    /// Where its text lies.
+    /// Returns the storage of the text.
     pub fn into_storage(self) -> Storage<A>
         ensures { characters_of result ≡ self }
     {
         self.kept
     }
 
-    /// The text in memory of its own. The only error is memory.
+    /// Returns the text as a `String`. Allocates only if the text is stored in the value itself.
+    /// The only error is out of memory.
     pub fn into_string(self, alloc: A) -> Result<String<A>, AllocError>
         ensures { IfOk result (λ text. chars (string_bytes text) ≡ self) }
     {

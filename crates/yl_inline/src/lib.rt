@@ -1,4 +1,4 @@
-//! Strings whose short texts lie in the value itself.
+//! Strings that can store a short text in the value itself.
 #![tactic(auto)]
 
 mod inline_string;
