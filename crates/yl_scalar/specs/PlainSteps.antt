@@ -1,4 +1,4 @@
--- Bridge: plain scalars line by line: YAML 1.2.2, 7.3.3 and 6.5.
+-- Bridge: plain scalars, read line by line: YAML 1.2.2, 7.3.3 and 6.5.
 use Rattle.std.specs.Prelude.{ℕ, Bool, true, false, if◌then◌else◌, List, ◌++◌, ◌+◌, length, None}
 use Rattle.std.specs.List.{prefix_len}
 use Rattle.yl_text.specs.Character.{is_white, is_blank, without_front}
@@ -7,8 +7,9 @@ use Rattle.yl_scalar.specs.Reading.{Extent, ScalarOutcomeValue, Whole, ScalarSte
 use Rattle.yl_scalar.specs.Folding.{joint}
 use Rattle.yl_scalar.specs.Plain.{part, reaches_end, continues}
 
--- a scalar that may go on: in a flow collection or not, the least indentation of its lines below, where it ends so far,
--- how many blank lines have passed since, and its value so far
+-- a scalar that may continue: whether it is in a flow collection, the least indentation of its
+-- lines below, the place at which it ends so far, the number of blank lines since, and its value so
+-- far
 pub record PlainReaderValue : Type 0 where
   pub flow : Bool
   pub least : ℕ
@@ -20,18 +21,18 @@ pub record PlainReaderValue : Type 0 where
 abbrev pub plain_extent : PlainReaderValue → Extent
 plain_extent s = record { down = s.down; column = s.column; value = s.value }
 
--- so it stands behind a line, which it reaches the end of or not
+-- the scalar after a line whose end it reaches or not
 abbrev pub plain_step_behind : Bool → PlainReaderValue → ScalarStepValue PlainReaderValue
 plain_step_behind reaches s = if reaches then GoesOn s else EndsIn (plain_extent s)
 
--- the scalar's first line from the scalar on, which begins at this column
+-- the scalar's part of its first line, where the scalar begins at the column `at`
 abbrev pub plain_begin : Bool → ℕ → ℕ → List ℕ → ScalarStepValue PlainReaderValue
 plain_begin flow least at text =
     unless_bad (first_bad (part flow false text)) 0 at
     (plain_step_behind (reaches_end flow false text)
     (record { flow = flow; least = least; down = 0; column = at + length (part flow false text); blanks = 0; value = part flow false text }))
 
--- with a line that goes on with it, below blank ones
+-- the scalar with a line that continues it, below the blank ones
 abbrev pub with_line : PlainReaderValue → List ℕ → PlainReaderValue
 with_line s line = record {
   flow = s.flow;
@@ -50,10 +51,10 @@ plain_step s line =
     (plain_step_behind (reaches_end s.flow true (without_front line)) (with_line s line))
     else EndedAbove (plain_extent s)
 
--- a text may end behind it
+-- a text may end after it
 abbrev pub plain_finish : PlainReaderValue → ScalarOutcomeValue
 plain_finish s = Whole (plain_extent s)
 
--- the scalar that begins at this column, from it on, with the lines below
+-- the scalar that begins at the column `at` of its first line, with the lines below
 abbrev pub plain : Bool → ℕ → ℕ → List ℕ → List (List ℕ) → ScalarOutcomeValue
 plain flow least at text lines = outcome_of_step (λ s. outcome_of_lines plain_step plain_finish s lines) (plain_begin flow least at text)

@@ -8,8 +8,8 @@ use Rattle.yl_scalar.specs.Escape.{escape}
 use Rattle.yl_scalar.specs.declared.answer.ScalarFault.{ScalarFault}
 use Rattle.yl_scalar.specs.declared.answer.ScalarFault.TheVariants.{NotAllowed, BadEscape}
 
--- what a line makes of a quoted scalar: it ends behind so many characters; it goes on behind the break, with the place of the
--- backslash before the break if there is one; or there is a fault
+-- what a line makes of a quoted scalar: the scalar ends after so many characters; or it continues
+-- after the break, before which there may be a backslash at this index; or there is a fault
 pub data Stretch : Type 0 where
   Closes : (text : List ℕ) (place : ℕ) → Stretch
   Breaks : (text : List ℕ) (backslash : Option ℕ) → Stretch
@@ -18,8 +18,9 @@ pub data Stretch : Type 0 where
 abbrev pub quote : Bool → ℕ
 quote double = if double then code "\"" else code "'"
 
--- skip: how many characters belong to an escape that was read. text: what came before, of which `kept` characters stand
--- before the white space at its end that is not escaped. at: how many characters were read
+-- skip: the number of characters left of an escape that was read. text: the value so far, of which
+-- `kept` characters are before the white space at its end that is not escaped. at: the number of
+-- characters that were read
 abbrev pub stretch : Bool → ℕ → List ℕ → ℕ → ℕ → List ℕ → Stretch
 stretch double skip text kept at [] = Breaks (take kept text) None
 stretch double skip text kept at (c ∷ cs) =

@@ -1,5 +1,5 @@
--- Meaning: a quoted scalar as the rows that it takes: YAML 1.2.2, 7.3.1, 7.3.2, 6.5 and 5.7. Its first row is what stands
--- behind the opening quote.
+-- Meaning: a quoted scalar by the rows that it takes: YAML 1.2.2, 7.3.1, 7.3.2, 6.5 and 5.7. Its
+-- first row is what follows the opening quote.
 use Rattle.std.specs.Prelude.{◌≡◌, ℕ, Bool, true, false, not, ◌&&◌, ◌||◌, ◌==◌, nat_lt, if◌then◌else◌, List, [], ◌∷◌, ◌++◌, ◌+◌, ◌-◌, length, take, drop, slice_index, Option, Some, None, option_map, is_some}
 use Rattle.std.specs.List.{prefix_len, list_all}
 use Prim.Native.Char.{code}
@@ -15,13 +15,13 @@ use Rattle.yl_scalar.specs.declared.answer.ScalarFault.TheVariants.{NotAllowed, 
 
 -- ---- what a row is made of
 
--- with what a scalar stops: its closing quote, or a fault
+-- where a scalar stops: at its closing quote, or at a fault
 pub data Stop : Type 0 where
   Closed : Stop
   Faulted : (fault : ScalarFault) → Stop
 
--- a character of the value, as so many characters of the row; white space that no backslash stands before; the backslash at
--- the row's end (s-double-escaped); or that with which the scalar stops
+-- a character of the value, which takes `width` characters of the row; white space that is not
+-- escaped; the backslash at the end of the row (s-double-escaped); or where the scalar stops
 pub data Glyph : Type 0 where
   Content : (c width : ℕ) → Glyph
   White : (c : ℕ) → Glyph
@@ -32,8 +32,8 @@ abbrev pub escaped : Option (ℕ × ℕ) → Glyph
 escaped None = Stops (Faulted BadEscape)
 escaped (Some e) = Content e.0 (e.1 + 2)
 
--- the glyph that begins with this character, by what follows it: a doubled quote is content in single quotes, an escape in
--- double quotes
+-- the glyph that begins with this character, by the characters after it: a doubled quote is content
+-- in single quotes, and an escape in double quotes
 abbrev pub glyph_at : Bool → ℕ → List ℕ → Glyph
 glyph_at double c cs =
     if c == quote double then (if not double && slice_index cs 0 == code "'" then Content c 2 else Stops Closed)
@@ -45,19 +45,19 @@ abbrev pub width : Glyph → ℕ
 width (Content c n) = n
 width _ = 1
 
--- a row's glyphs, from behind so many characters on
+-- the glyphs of a row, after the first `skip` characters
 abbrev pub glyphs : Bool → ℕ → List ℕ → List Glyph
 glyphs double skip [] = []
 glyphs double skip (c ∷ cs) =
     if nat_lt 0 skip then glyphs double (skip - 1) cs else glyph_at double c cs ∷ glyphs double (width (glyph_at double c cs) - 1) cs
 
--- a row below the first begins with its first character that is no white space
+-- the glyphs of a row below the first, from its first character on that is not white space
 abbrev pub row_glyphs : Bool → List ℕ → List Glyph
 row_glyphs double row = glyphs double 0 (without_front row)
 
 -- ---- the extent: up to the first glyph with which the scalar stops
 
--- its column, where the glyphs begin at this one, and the stop
+-- the column of the stop, if the glyphs begin at this one, and the stop
 abbrev pub stop_in : ℕ → List Glyph → Option (ℕ × Stop)
 stop_in column [] = None
 stop_in column (Stops s ∷ gs) = Some (column, s)
@@ -72,7 +72,7 @@ row_stop double row = stop_in (prefix_len is_white row) (row_glyphs double row)
 abbrev pub stops_in : Bool → List ℕ → Bool
 stops_in double row = is_marker row || is_some (row_stop double row)
 
--- how many of the rows stand before that in which it stops
+-- the number of rows before the one in which the scalar stops
 abbrev pub rows_passed : Bool → List (List ℕ) → ℕ
 rows_passed double [] = 0
 rows_passed double (row ∷ rows) = if stops_in double row then 0 else 1 + rows_passed double rows
@@ -95,7 +95,7 @@ abbrev pub is_white_glyph : Glyph → Bool
 is_white_glyph (White c) = true
 is_white_glyph _ = false
 
--- the text of a row that the scalar passes, without the white space that it ends with
+-- the text of a row after which the scalar continues, without the white space at its end
 abbrev pub row_text : List Glyph → List ℕ
 row_text [] = []
 row_text (g ∷ gs) = if list_all is_white_glyph (g ∷ gs) then [] else glyph_text g ++ row_text gs
@@ -109,7 +109,8 @@ backslash_in column (g ∷ gs) = backslash_in (column + width g) gs
 abbrev pub row_backslash : Bool → List ℕ → Option ℕ
 row_backslash double row = backslash_in (prefix_len is_white row) (row_glyphs double row)
 
--- the text of rows and then this, below a row that ends in a backslash or not and so many blank ones
+-- the text of these rows followed by `last`, below `blanks` blank rows and a row that may end in a
+-- backslash
 abbrev pub folded : Bool → Option ℕ → ℕ → List (List ℕ) → List ℕ → List ℕ
 folded double backslash blanks [] last = joint backslash blanks ++ last
 folded double backslash blanks (row ∷ rows) last =
@@ -118,30 +119,31 @@ folded double backslash blanks (row ∷ rows) last =
 
 -- ---- how the scalar ends
 
--- it stops so in this row, with this value if it is closed; or it goes on
+-- the scalar stops in this row, with this value if it is closed; or it continues
 abbrev pub stopped : ℕ → List ℕ → Option (ℕ × Stop) → ScalarOutcomeValue → ScalarOutcomeValue
 stopped down value None more = more
 stopped down value (Some (column, Closed)) more = Whole (record { down = down; column = column + 1; value = value })
 stopped down value (Some (column, Faulted fault)) more = Refused fault down column
 
--- the backslash that ends the last of these rows, or of the row above them, which stands so far down
+-- the place of the backslash that ends the last of these rows, or, if there are none, the row above
+-- them, which is `down` rows below the first
 abbrev pub last_backslash : Bool → ℕ → Option ℕ → List (List ℕ) → Option (ℕ × ℕ)
 last_backslash double down backslash [] = option_map (λ column. (down, column)) backslash
 last_backslash double down backslash (row ∷ rows) = last_backslash double (down + 1) (row_backslash double row) rows
 
--- the text ends before the scalar is closed: with half an escape, or without
+-- the text ends before the scalar is closed: after a backslash, or not
 abbrev pub unclosed : ℕ → Option (ℕ × ℕ) → ScalarOutcomeValue
 unclosed opening None = Refused UnclosedQuote 0 opening
 unclosed opening (Some p) = Refused BadEscape p.0 p.1
 
--- in the row so far down with which the rest of the rows begins, below text
+-- the scalar stops in the first of these rows, `down` rows below its first row, or the text ends
 abbrev pub stopped_below : Bool → ℕ → ℕ → (List ℕ → List ℕ) → Option (ℕ × ℕ) → List (List ℕ) → ScalarOutcomeValue
 stopped_below double opening down above backslash [] = unclosed opening backslash
 stopped_below double opening down above backslash (row ∷ rows) =
     if is_marker row then Refused MarkerInQuote down 0
     else stopped down (above (text_before (row_glyphs double row))) (row_stop double row) (unclosed opening None)
 
--- below a first row of these glyphs, where the scalar passes so many rows
+-- the scalar below a first row of these glyphs, if it passes n rows
 abbrev pub below_first : Bool → ℕ → List Glyph → ℕ → List (List ℕ) → ScalarOutcomeValue
 below_first double opening gs n rows =
     let backslash = backslash_in (opening + 1) gs in
@@ -152,6 +154,6 @@ of_rows double opening first rows =
     let gs = glyphs double 0 first in
     stopped 0 (text_before gs) (stop_in (opening + 1) gs) (below_first double opening gs (rows_passed double rows) rows)
 
--- a quoted scalar is what the rows that it takes make of it
+-- a quoted scalar that is read line by line is the one that is defined by the rows that it takes
 abbrev pub QuotedRowsLaw : Type 0
 QuotedRowsLaw = (double : Bool) (opening : ℕ) (first : List ℕ) (rows : List (List ℕ)) → quoted double opening first rows ≡ of_rows double opening first rows

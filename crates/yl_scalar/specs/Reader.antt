@@ -1,4 +1,4 @@
--- Bridge: what the readers of scalars and their answers say.
+-- Bridge: the values of the readers of scalars, and of their results.
 use Rattle.std.specs.Prelude.{ℕ, ◌+◌, Bool, List}
 use Rattle.yl_scalar.specs.Reading.{Extent, ScalarOutcomeValue, Whole, Refused, ScalarStepValue, GoesOn, EndsIn, EndedAbove, Fails}
 use Rattle.yl_scalar.specs.PlainSteps.{PlainReaderValue}
@@ -16,14 +16,14 @@ use Rattle.yl_scalar.specs.declared.block.BlockReader.{BlockReader}
 abbrev pub extent_at : ScalarPlace → List ℕ → Extent
 extent_at place value = record { down = place.down; column = place.column; value = value }
 
--- what an answer says of a scalar that has this value now and stands so
+-- the value of the result for one line, by the value and the state of the scalar after it
 abbrev pub step_value : {S : Type 0} → ScalarStep → List ℕ → S → ScalarStepValue S
 step_value LineGoesOn value s = GoesOn s
 step_value (LineEndsIn place) value s = EndsIn (extent_at place value)
 step_value (LineEndedAbove place) value s = EndedAbove (extent_at place value)
 step_value (LineFails fault place) value s = Fails fault place.down place.column
 
--- what is said of a whole scalar of this value
+-- the value of the result for a whole scalar that has this value
 abbrev pub outcome_value : ScalarOutcome → List ℕ → ScalarOutcomeValue
 outcome_value (OutcomeWhole place) value = Whole (extent_at place value)
 outcome_value (OutcomeRefused fault place) value = Refused fault place.down place.column
@@ -31,32 +31,32 @@ outcome_value (OutcomeRefused fault place) value = Refused fault place.down plac
 abbrev pub plain_reader_value : {A : Type 0} → PlainReader A → PlainReaderValue
 plain_reader_value r = record { flow = r.flow; least = r.least; down = r.down; column = r.column; blanks = r.blanks; value = r.value }
 
--- how many lines below the first one it has read
+-- the number of lines below the first one that were read
 abbrev pub plain_rows : {A : Type 0} → PlainReader A → ℕ
 plain_rows r = r.down + r.blanks
 
--- it was refused memory
+-- a call ran out of memory
 abbrev pub is_plain_refused : {A : Type 0} → PlainReader A → Bool
 is_plain_refused r = r.failed
 
 abbrev pub quoted_reader_value : {A : Type 0} → QuotedReader A → QuotedReaderValue
 quoted_reader_value r = record { double = r.double; opening = r.opening; down = r.down; blanks = r.blanks; value = r.value.items; backslash = r.backslash }
 
--- how many lines below the first one it has read
+-- the number of lines below the first one that were read
 abbrev pub quoted_rows : {A : Type 0} → QuotedReader A → ℕ
 quoted_rows r = r.down + r.blanks
 
--- it was refused memory
+-- a call ran out of memory
 abbrev pub is_quoted_refused : {A : Type 0} → QuotedReader A → Bool
 is_quoted_refused r = r.failed
 
 abbrev pub block_reader_value : {A : Type 0} → BlockReader A → BlockReaderValue
 block_reader_value r = record { least = r.least; content = r.content; down = r.down; column = r.column; blanks = r.blanks; spaces = r.spaces.items }
 
--- how many lines below the first one it has read
+-- the number of lines below the first one that were read
 abbrev pub block_rows : {A : Type 0} → BlockReader A → ℕ
 block_rows r = r.down + r.blanks
 
--- it was refused memory
+-- a call ran out of memory
 abbrev pub is_block_refused : {A : Type 0} → BlockReader A → Bool
 is_block_refused r = r.failed

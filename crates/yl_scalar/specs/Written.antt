@@ -7,7 +7,7 @@ use Rattle.yl_scalar.specs.Reading.{Whole}
 use Rattle.yl_scalar.specs.Quoted.{quote}
 use Rattle.yl_scalar.specs.QuotedSteps.{quoted}
 
--- a character in double quotes: a quote and a backslash stand behind a backslash
+-- a character in double quotes: a quote and a backslash are written after a backslash
 abbrev pub in_double : ℕ → List ℕ
 in_double c = if c == code "\"" then code "\\" ∷ code "\"" ∷ [] else if c == code "\\" then code "\\" ∷ code "\\" ∷ [] else c ∷ []
 

@@ -12,7 +12,7 @@ use crate::character::{first_bad, indentation, is_blank, is_marker};
 use crate::header::{indicators, misfit};
 use std::alloc::{AllocError, Allocator};
 
-/// A block scalar that may go on below the rows that were read.
+/// A reader of a block scalar, which takes its rows one after another.
 #[derive(Drop)]
 pub struct BlockReader<A: Allocator> {
     least: usize,
@@ -21,12 +21,13 @@ pub struct BlockReader<A: Allocator> {
     down: usize,
     column: usize,
     blanks: usize,
-    /// The leading spaces of each blank row before the content column is known.
+    /// The number of leading spaces of each blank row above the content.
     spaces: Vec<usize, A>,
     failed: bool,
 }
 
-/// The first of these numbers of leading spaces that is greater than the column, with its row.
+/// Returns the first of these numbers of leading spaces that is greater than `column`, after the
+/// number of its row. Rows are counted from 1.
 fn deeper(column: usize, spaces: &[usize]) -> Option<(usize, usize)>
     ensures { result ≡ deeper column 1 spaces.now }
 {
@@ -38,7 +39,7 @@ fn deeper(column: usize, spaces: &[usize]) -> Option<(usize, usize)>
     None
 }
 
-/// What a header that begins at this column is to its scalar.
+/// Reads a header that begins at the column `column`, and returns the result.
 fn read_header(column: usize, header: &[char]) -> ScalarStep
     requires { column + length header.now < 2 ^ 64 }
     ensures { (least : ℕ) → step_value result [] (header_end least (indicators header.now).0 (column + length header.now))
@@ -62,7 +63,7 @@ fn read_header(column: usize, header: &[char]) -> ScalarStep
     }
 }
 
-/// A character in the scalar's first row that is not allowed.
+/// Returns the result for a character in the first row of the scalar that is not allowed.
 fn not_allowed(column: usize) -> ScalarStep
     ensures { result ≡ ScalarStep.Fails ScalarFault.NotAllowed (record { down = 0; column = column }) }
 {
@@ -70,8 +71,10 @@ fn not_allowed(column: usize) -> ScalarStep
 }
 
 impl<A: Allocator + Copy> BlockReader<A> {
-    /// A scalar whose indicator, `|` or `>`, stands at the column `at`, where `header` is the rest of its row behind that. Its
-    /// content has an indentation of `least` at the least, which is one more than that of the surrounding collection.
+    /// Creates a reader of a scalar whose indicator, `|` or `>`, is at the column `at`, and reads
+    /// its header. `header` is the rest of the row after the indicator. The content of the scalar
+    /// is indented by at least `least` spaces, one more than the surrounding collection. Does not
+    /// allocate.
     pub fn begin(alloc: A, least: usize, at: usize, header: &[char]) -> (BlockReader<A>, ScalarStep)
         requires fits { at + 1 + length header.now < 2 ^ 64 }
         requires small { least < 2 ^ 63 }
@@ -98,7 +101,8 @@ impl<A: Allocator + Copy> BlockReader<A> {
         (reader, line)
     }
 
-    /// Reads the next row. Once a call is refused for memory, so is each later one.
+    /// Reads the next row. The only error is out of memory. After an error, every later call
+    /// returns an error.
     pub fn read(&mut self, row: &[char]) -> Result<ScalarStep, AllocError>
         requires { block_rows self.old + 1 < 2 ^ 64 }
         ensures line { IfOk result (λ line. step_value line [] (block_reader_value self.new) ≡ block_step (block_reader_value self.old) row.now) }
@@ -119,7 +123,7 @@ impl<A: Allocator + Copy> BlockReader<A> {
         Ok(self.read_text(row))
     }
 
-    /// Where the scalar ends, if no row follows.
+    /// Returns the place at which the scalar ends, if no row follows.
     pub fn finish(&self) -> ScalarPlace
         ensures { Whole (extent_at result []) ≡ block_finish (block_reader_value self.now) }
     {
@@ -129,7 +133,8 @@ impl<A: Allocator + Copy> BlockReader<A> {
         }
     }
 
-    /// Passes a blank row, whose leading spaces count until the content column is known.
+    /// Passes a blank row. Records its leading spaces if the content column is not known yet. The
+    /// only error is out of memory.
     fn pass_blank(&mut self, row: &[char]) -> Result<ScalarStep, AllocError>
         requires blank { is_blank row.now ≡ true }
         requires fits { block_rows self.old + 1 < 2 ^ 64 }
@@ -147,7 +152,7 @@ impl<A: Allocator + Copy> BlockReader<A> {
         Ok(ScalarStep::GoesOn)
     }
 
-    /// Reads a row that is not blank and no marker.
+    /// Reads a row that is neither blank nor a document marker.
     fn read_text(&mut self, row: &[char]) -> ScalarStep
         requires { block_rows self.old + 1 < 2 ^ 64 }
         ensures line { step_value result [] (block_reader_value self.new)
@@ -171,7 +176,7 @@ impl<A: Allocator + Copy> BlockReader<A> {
         self.take(content, row)
     }
 
-    /// Takes a row of content, which is indented to this column.
+    /// Takes a row of the content, which is indented to the column `content`.
     fn take(&mut self, content: usize, row: &[char]) -> ScalarStep
         requires { block_rows self.old + 1 < 2 ^ 64 }
         ensures line { step_value result [] (block_reader_value self.new) ≡ with_content (block_reader_value self.old) content row.now }

@@ -2,7 +2,8 @@
 ghost use Rattle.std.specs.Prelude.{◌≡◌, ◌≤◌, IfSome, length};
 ghost use Rattle.yl_scalar.specs.Escape.{escape, hex_value, hex_len, simple_escape};
 
-/// The character that one character behind a backslash stands for.
+/// Returns the character that a backslash followed by this one stands for, or `None` if they are no
+/// escape by themselves.
 fn simple_escape(c: char) -> Option<char>
     ensures { result ≡ simple_escape c }
 {
@@ -25,7 +26,8 @@ fn simple_escape(c: char) -> Option<char>
     }
 }
 
-/// How many hexadecimal digits follow the character behind a backslash.
+/// Returns the number of hexadecimal digits that follow this character after a backslash, or 0 if
+/// it takes none.
 fn hex_len(c: char) -> usize
     ensures count { result ≡ hex_len c }
     ensures within { result ≤ 8 }
@@ -38,7 +40,8 @@ fn hex_len(c: char) -> usize
     }
 }
 
-/// The character that hexadecimal digits give.
+/// Returns the character whose code point the hexadecimal digits give, or `None` if one is not a
+/// digit or there is no such character.
 fn hex_value(digits: &[char]) -> Option<char>
     requires { length digits.now ≤ 8 }
     ensures { result ≡ hex_value digits.now }
@@ -51,7 +54,9 @@ fn hex_value(digits: &[char]) -> Option<char>
     char::from_u32(value)
 }
 
-/// What the escape behind a backslash stands for, and how many characters it has behind its first one.
+/// Returns the character that an escape stands for, and the number of characters of the escape
+/// after its first one. `text` is what follows the backslash. Returns `None` if it begins with no
+/// escape, or with one that stands for no character.
 pub fn escape(text: &[char]) -> Option<(char, usize)>
     ensures value { result ≡ escape text.now }
     ensures within { IfSome result (λ e. e.1 ≤ 8) }

@@ -1,4 +1,4 @@
-//! What breaks stand for, and values as text.
+//! Line folding (YAML 1.2.2, 6.5), and values as text in UTF-8.
 ghost use Rattle.std.specs.Prelude.{◌≡◌, ◌++◌, ◌↔◌, ◌∷◌, [], None, IfOk, IsTrue, length, string_bytes};
 ghost use Rattle.std.specs.Char.{len_utf8};
 ghost use Rattle.std.specs.Str.{chars, encode_utf8_all, IsAscii};
@@ -7,7 +7,8 @@ ghost use Rattle.yl_scalar.specs.Folding.{joint};
 use std::alloc::{AllocError, Allocator};
 use yl_inline::InlineString;
 
-/// Adds what a break with this many blank rows behind it stands for.
+/// Appends what a break with `blanks` blank rows after it stands for: a line feed for each blank
+/// row, or a space if there is none. The only error is out of memory.
 pub fn push_break<A: Allocator>(value: &mut Vec<char, A>, blanks: usize) -> Result<(), AllocError>
     ensures { IfOk result (λ _. value.new.items ≡ value.old.items ++ joint None blanks) }
 {
@@ -21,7 +22,9 @@ pub fn push_break<A: Allocator>(value: &mut Vec<char, A>, blanks: usize) -> Resu
     Ok(())
 }
 
-/// Adds what a break behind a backslash or not, with this many blank rows behind it, stands for.
+/// Appends what a break with `blanks` blank rows after it stands for: a line feed for each blank
+/// row. If there is none, it is a space, or nothing if a backslash is before the break. The only
+/// error is out of memory.
 pub fn push_joint<A: Allocator>(
     value: &mut Vec<char, A>,
     backslash: Option<usize>,
@@ -40,7 +43,8 @@ pub fn push_joint<A: Allocator>(
     }
 }
 
-/// Adds what a break with this many blank rows behind it stands for to a value that is kept as text.
+/// Appends to a text what a break with `blanks` blank rows after it stands for: a line feed for
+/// each blank row, or a space if there is none. The only error is out of memory.
 pub fn add_break<A: Allocator>(value: &mut String<A>, blanks: usize) -> Result<(), AllocError>
     ensures { IfOk result (λ _. chars (string_bytes value.new) ≡ chars (string_bytes value.old) ++ joint None blanks) }
 {
@@ -54,7 +58,7 @@ pub fn add_break<A: Allocator>(value: &mut String<A>, blanks: usize) -> Result<(
     Ok(())
 }
 
-/// Adds a character to a value that is kept as text.
+/// Appends a character to a text. The only error is out of memory.
 fn add<A: Allocator>(value: &mut String<A>, c: char) -> Result<(), AllocError>
     ensures { IfOk result (λ _. chars (string_bytes value.new) ≡ chars (string_bytes value.old) ++ c ∷ []) }
 {
@@ -62,14 +66,15 @@ fn add<A: Allocator>(value: &mut String<A>, c: char) -> Result<(), AllocError>
     Ok(())
 }
 
-/// How many bytes the character takes in UTF-8. It is a sum, so that those of several characters are found at once.
+/// Returns the number of bytes of the character in UTF-8. Computes it as a sum, so that several
+/// characters are counted at once.
 fn char_len(c: char) -> usize
     ensures { result ≡ len_utf8 c }
 {
     1 + (c >= '\u{80}') as usize + (c >= '\u{800}') as usize + (c >= '\u{10000}') as usize
 }
 
-/// How many bytes the characters take in UTF-8.
+/// Returns the number of bytes of the characters in UTF-8.
 fn utf8_len(characters: &[char]) -> usize
     ensures { result ≡ length (encode_utf8_all characters.now) }
 {
@@ -80,7 +85,7 @@ fn utf8_len(characters: &[char]) -> usize
     len
 }
 
-/// Adds characters to a value that is kept as text. It takes one allocation at the most.
+/// Appends characters to a text. Allocates at most once. The only error is out of memory.
 pub fn add_characters<A: Allocator>(
     value: &mut String<A>,
     characters: &[char],
@@ -94,7 +99,8 @@ pub fn add_characters<A: Allocator>(
     Ok(())
 }
 
-/// The text of these characters, in UTF-8. It fails for want of memory alone, and takes one allocation of the text's size.
+/// Returns the characters as text in UTF-8. Allocates at most once. The only error is out of
+/// memory.
 pub fn text_of<A: Allocator>(alloc: A, characters: &[char]) -> Result<String<A>, AllocError>
     ensures bytes { IfOk result (λ text. string_bytes text ≡ encode_utf8_all characters.now) }
     ensures characters { IfOk result (λ text. chars (string_bytes text) ≡ characters.now) }
@@ -108,7 +114,8 @@ pub fn text_of<A: Allocator>(alloc: A, characters: &[char]) -> Result<String<A>,
     Ok(text)
 }
 
-/// The same text. It takes an allocation only where there are more than 16 characters, or one is not ASCII.
+/// Returns the characters as a string. Allocates only if there are more than 16 characters or one
+/// is not ASCII. The only error is out of memory.
 pub fn inline_text_of<A: Allocator>(
     alloc: A,
     characters: &[char],
@@ -123,7 +130,7 @@ pub fn inline_text_of<A: Allocator>(
     Ok(InlineString::of_string(text_of(alloc, characters)?))
 }
 
-/// Whether all characters are ASCII.
+/// Returns whether all characters are ASCII.
 fn is_ascii(characters: &[char]) -> bool
     ensures { IsTrue result ↔ IsAscii characters.now }
 {
@@ -134,7 +141,7 @@ fn is_ascii(characters: &[char]) -> bool
     greatest < 128
 }
 
-/// The text of ASCII characters.
+/// Returns the text of ASCII characters. The only error is out of memory.
 fn ascii_text<A: Allocator>(alloc: A, characters: &[char]) -> Result<String<A>, AllocError>
     requires { IsAscii characters.now }
     ensures { IfOk result (λ text. string_bytes text ≡ characters.now) }
@@ -146,7 +153,7 @@ fn ascii_text<A: Allocator>(alloc: A, characters: &[char]) -> Result<String<A>, 
     Ok(text_of_ascii(bytes))
 }
 
-/// The text of ASCII bytes, which are always UTF-8.
+/// Returns the text of ASCII bytes, which are always UTF-8.
 fn text_of_ascii<A: Allocator>(bytes: Vec<u8, A>) -> String<A>
     requires { IsAscii bytes.items }
     ensures { string_bytes result ≡ bytes.items }

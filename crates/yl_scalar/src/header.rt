@@ -4,19 +4,21 @@ ghost use Rattle.yl_scalar.specs.Header.{is_indicator_digit, is_chomping, indica
 
 use crate::character::{is_blank, leading_white};
 
+/// Returns whether the character is an indentation indicator: a digit from 1 to 9.
 fn is_indicator_digit(c: char) -> bool
     ensures { result ≡ is_indicator_digit c }
 {
     '1' <= c && c <= '9'
 }
 
+/// Returns whether the character is a chomping indicator: `+` or `-`.
 fn is_chomping(c: char) -> bool
     ensures { result ≡ is_chomping c }
 {
     c == '+' || c == '-'
 }
 
-/// The character that comes next, or NUL.
+/// Returns the first character, or NUL if there is none.
 fn next(text: &[char]) -> char
     ensures { result ≡ slice_index text.now 0 }
 {
@@ -26,7 +28,7 @@ fn next(text: &[char]) -> char
     }
 }
 
-/// The number that a digit from 1 to 9 writes.
+/// Returns the value of a digit from 1 to 9.
 fn digit(c: char) -> usize
     requires { (48 < c) × (c < 58) }
     ensures value { result ≡ c - 48 }
@@ -35,7 +37,8 @@ fn digit(c: char) -> usize
     (c as u32 - '0' as u32) as usize
 }
 
-/// The indentation indicator, or 0, and how many characters the indicators take.
+/// Returns the indentation indicator, or 0 if there is none, and the number of characters of the
+/// indicators.
 pub fn indicators(header: &[char]) -> (usize, usize)
     ensures value { result ≡ indicators header.now }
     ensures small { result.0 < 10 }
@@ -60,7 +63,8 @@ pub fn indicators(header: &[char]) -> (usize, usize)
     }
 }
 
-/// The index of the first character that fits no header behind its indicators.
+/// Returns the index of the first character after the indicators that does not fit in a header, or
+/// `None` if all fit. White space fits, and a comment after white space.
 #[tactic(auto, using(crate::proofs::Front::white_within))]
 fn misfit_behind(text: &[char]) -> Option<usize>
     ensures place { result ≡ misfit_behind text.now }
@@ -76,7 +80,8 @@ fn misfit_behind(text: &[char]) -> Option<usize>
     Some(white)
 }
 
-/// The index of the first character of a header, from behind its `|` or `>` on, that does not fit.
+/// Returns the index of the first character that does not fit in a header, or `None` if all fit.
+/// The header is what follows `|` or `>` in its row.
 pub fn misfit(header: &[char]) -> Option<usize>
     ensures place { result ≡ misfit header.now }
     ensures within { IfSome result (λ at. at < length header.now) }

@@ -1,8 +1,9 @@
-//! Readers of one scalar each, row by row: plain, quoted and block scalars of YAML 1.2.2.
+//! Readers of plain, quoted and block scalars of YAML 1.2.2. Each reads one scalar, row by row.
 //!
-//! A reader is begun with the rest of the row in which its scalar begins, and is then handed the rows below, one by one, as
-//! characters without their break, until it answers something else than `ScalarStep::GoesOn`. At the text's end it is asked by
-//! `finish`. Places are so many rows below the scalar's first one, and columns count characters from 0.
+//! `begin` takes the rest of the row in which the scalar begins. `read` takes the rows below, one
+//! after another, as characters without their break, until it returns something other than
+//! `ScalarStep::GoesOn`. If the text ends before that, `finish` returns the result. The row of a
+//! place is counted from the first row of the scalar, and its column counts characters from 0.
 #![tactic(auto)]
 
 mod answer;
@@ -30,8 +31,9 @@ pub use plain::{PlainReader, is_safe_next};
 pub use quoted::{QuotedReader, simple_quoted};
 pub use whole::{read_block, read_plain, read_quoted};
 
-/// Laws of the definitions: a plain, a quoted and a block scalar are what the lines that they take make of them, and a text
-/// that is written in quotes is read back.
+/// Laws of the definitions: a plain, a quoted or a block scalar that is read line by line is the
+/// one that is defined by all the lines that it takes, and a text that is written in quotes is read
+/// back.
 pub fn scalars_by_their_lines()
     ensures plain { PlainLaw }
     ensures quoted { QuotedLaw }

@@ -17,7 +17,7 @@ use std::alloc::{AllocError, Allocator};
 use std::mem;
 use yl_inline::InlineString;
 
-/// A plain scalar that may go on below the rows that were read.
+/// A reader of a plain scalar, which takes its rows one after another.
 #[derive(Drop)]
 pub struct PlainReader<A: Allocator> {
     alloc: A,
@@ -30,7 +30,7 @@ pub struct PlainReader<A: Allocator> {
     failed: bool,
 }
 
-/// Whether a plain-safe character comes next.
+/// Returns whether the text begins with a plain-safe character. `flow` is set in a flow collection.
 pub fn is_safe_next(flow: bool, text: &[char]) -> bool
     ensures { result ≡ starts_by (is_plain_safe flow) text.now }
 {
@@ -40,7 +40,8 @@ pub fn is_safe_next(flow: bool, text: &[char]) -> bool
     }
 }
 
-/// How many characters of a row a plain scalar takes at the most.
+/// Returns the number of characters of a row that a plain scalar takes at the most. `behind_space`
+/// is set if white space or the start of the row is before them.
 fn stop(flow: bool, behind_space: bool, text: &[char]) -> usize
     ensures count { result ≡ stop flow behind_space text.now }
     ensures within { result ≤ length text.now }
@@ -62,8 +63,10 @@ fn stop(flow: bool, behind_space: bool, text: &[char]) -> usize
 }
 
 impl<A: Allocator + Copy> PlainReader<A> {
-    /// A scalar that begins at the column `at`, where the rest of its row is `text`. In block context a row below needs an
-    /// indentation of `least` at the least, which is one more than that of the surrounding collection, to go on with it.
+    /// Creates a reader of a scalar that begins at the column `at`, and reads its part of the first
+    /// row. `text` is the row from that column on. Outside flow collections, a row below continues
+    /// the scalar only if it is indented by at least `least` spaces, one more than the surrounding
+    /// collection. The only error is out of memory.
     pub fn begin(
         alloc: A,
         flow: bool,
@@ -104,7 +107,8 @@ impl<A: Allocator + Copy> PlainReader<A> {
         Ok((reader, ScalarStep::EndsIn(ScalarPlace { down: 0, column })))
     }
 
-    /// Reads the next row. Once a call is refused for memory, so is each later one.
+    /// Reads the next row. The only error is out of memory. After an error, every later call
+    /// returns an error.
     pub fn read(&mut self, row: &[char]) -> Result<ScalarStep, AllocError>
         requires { plain_rows self.old + 1 < 2 ^ 64 }
         ensures line { IfOk result (λ line. step_value line (plain_reader_value self.new).value (plain_reader_value self.new)
@@ -147,7 +151,8 @@ impl<A: Allocator + Copy> PlainReader<A> {
         }
     }
 
-    /// Puts a row's part behind the value, and before it what the breaks above the row give. Refused, the reader is of no more use.
+    /// Appends to the value what the breaks above the row stand for, and the scalar's part of the
+    /// row. The only error is out of memory. After an error the value is lost.
     fn push_part(&mut self, part: &[char]) -> Result<(), AllocError>
         ensures value { OnOk result (plain_reader_value self.new ≡ record (plain_reader_value self.old) {
           value = (plain_reader_value self.old).value ++ joint None (plain_reader_value self.old).blanks ++ part.now;
@@ -166,7 +171,7 @@ impl<A: Allocator + Copy> PlainReader<A> {
         Ok(())
     }
 
-    /// Where the scalar ends, if no row follows.
+    /// Returns the place at which the scalar ends, if no row follows.
     pub fn finish(&self) -> ScalarPlace
         ensures { Whole (extent_at result (plain_reader_value self.now).value) ≡ plain_finish (plain_reader_value self.now) }
     {
@@ -176,7 +181,7 @@ impl<A: Allocator + Copy> PlainReader<A> {
         }
     }
 
-    /// The scalar's value so far; the whole value once it has ended.
+    /// Returns the value of the rows that were read: the whole value, once the scalar has ended.
     pub fn into_value(self) -> InlineString<A>
         ensures { result ≡ (plain_reader_value self).value }
     {

@@ -13,7 +13,7 @@ use crate::folding::{inline_text_of, push_joint};
 use std::alloc::{AllocError, Allocator};
 use yl_inline::InlineString;
 
-/// A quoted scalar that goes on below the rows that were read.
+/// A reader of a quoted scalar, which takes its rows one after another.
 #[derive(Drop)]
 pub struct QuotedReader<A: Allocator> {
     double: bool,
@@ -25,34 +25,39 @@ pub struct QuotedReader<A: Allocator> {
     failed: bool,
 }
 
-/// What a row has of a scalar, places counted from where reading began.
+/// The part that a scalar has of a row. Characters are counted from where reading began.
 #[derive(Clone, Copy)]
 enum Part {
-    /// It goes on behind the break, before which a backslash may stand.
+    /// The scalar continues after the break. If a backslash is before the break, this is its index.
     Open(Option<usize>),
-    /// It ends behind this many characters.
+    /// The scalar ends after this many characters.
     Closed(usize),
-    /// This fault stands behind this many characters.
+    /// This fault is after this many characters.
     Faulted(ScalarFault, usize),
 }
 
-/// What stands in a row of a scalar next.
+/// What comes next in a row of a scalar.
 #[derive(Clone, Copy)]
 enum Glyph {
-    /// A character of the value, and how many characters more it takes in the row than its first.
+    /// A character of the value, and the number of characters after the first one that it takes in
+    /// the row.
     Stands(char, usize),
     /// A backslash before the break.
     EndsRow,
+    /// The closing quote.
     Closes,
+    /// A fault.
     Fails(ScalarFault),
 }
 
+/// Returns the quote: a double one if `double` is set, else a single one.
 fn quote(double: bool) -> char
     ensures { result ≡ quote double }
 {
     if double { '"' } else { '\'' }
 }
 
+/// Returns whether the text begins with a single quote.
 fn is_single_quote_next(text: &[char]) -> bool
     ensures { result ≡ (slice_index text.now 0 == 0x27) }
 {
@@ -62,21 +67,21 @@ fn is_single_quote_next(text: &[char]) -> bool
     }
 }
 
-/// Whether a quote with this behind it stands for itself.
+/// Returns whether a quote that `after` follows is doubled, and so stands for itself.
 fn is_doubled(double: bool, after: &[char]) -> bool
     ensures { result ≡ (not double && slice_index after.now 0 == 0x27) }
 {
     !double && is_single_quote_next(after)
 }
 
-/// Whether an escape begins with this character.
+/// Returns whether an escape begins with this character.
 fn begins_escape(double: bool, c: char) -> bool
     ensures { result ≡ (double && c == 0x5C) }
 {
     double && c == '\\'
 }
 
-/// What begins with a character, with this behind it.
+/// Returns what begins with the character `c`, which `after` follows.
 fn next_glyph(double: bool, c: char, after: &[char]) -> Glyph
     ensures { (text : List ℕ) (kept at : ℕ) → stretch double 0 text kept at (c ∷ after.now) ≡ onward double result text kept at after.now }
 {
@@ -102,7 +107,8 @@ fn next_glyph(double: bool, c: char, after: &[char]) -> Glyph
     }
 }
 
-/// The scalar's part of a row that closes it, if each character of the part stands for itself.
+/// Returns the part of the row before the closing quote, if each of its characters stands for
+/// itself. Returns `None` if one does not, or if the row does not close the scalar.
 fn simple_part(double: bool, text: &[char]) -> Option<&[char]>
     ensures part { IfSome result (λ part. (value : List ℕ) → stretch double 0 value (length value) 0 text.now ≡ Closes (value ++ part.now) (length part.now + 1)) }
     ensures within { IfSome result (λ part. length part.now < length text.now) }
@@ -124,8 +130,9 @@ fn simple_part(double: bool, text: &[char]) -> Option<&[char]>
     None
 }
 
-/// The value of a quoted scalar, in double quotes or single ones, that ends in its first row, if each of its characters stands for
-/// itself; `text` is the rest of the row after the opening quote.
+/// Returns the value of a quoted scalar that ends in its first row, if each of its characters
+/// stands for itself, else `None`. `double` is set for double quotes, and `text` is the rest of the
+/// row after the opening quote. Copies nothing.
 pub fn simple_quoted(double: bool, text: &[char]) -> Option<&[char]>
     ensures value { IfSome result (λ part. (opening : ℕ) → quoted_begin double opening text.now ≡ EndsIn (record { down = 0; column = opening + 1 + (length part.now + 1); value = part.now })) }
     ensures within { IfSome result (λ part. length part.now < length text.now) }
@@ -133,7 +140,8 @@ pub fn simple_quoted(double: bool, text: &[char]) -> Option<&[char]>
     simple_part(double, text)
 }
 
-/// Reads a row, behind a value that is kept whole.
+/// Reads a row and appends its text to `value`. Drops the white space at the end of a row after
+/// which the scalar continues, but nothing of the old value. The only error is out of memory.
 fn stretch<A: Allocator>(
     double: bool,
     value: &mut Vec<char, A>,
@@ -172,8 +180,9 @@ fn stretch<A: Allocator>(
 }
 
 impl<A: Allocator + Copy> QuotedReader<A> {
-    /// A scalar whose quote, a double or a single one, opens at the column `opening`, where `text` is the rest of the row
-    /// behind the quote.
+    /// Creates a reader of a scalar whose opening quote, a double or a single one, is at the column
+    /// `opening`, and reads its part of the first row. `text` is the rest of the row after the
+    /// quote. The only error is out of memory.
     pub fn begin(
         alloc: A,
         double: bool,
@@ -201,7 +210,8 @@ impl<A: Allocator + Copy> QuotedReader<A> {
         Ok((reader, line))
     }
 
-    /// Reads the next row. Once a call is refused for memory, so is each later one.
+    /// Reads the next row. The only error is out of memory. After an error, every later call
+    /// returns an error.
     pub fn read(&mut self, row: &[char]) -> Result<ScalarStep, AllocError>
         requires { quoted_rows self.old + 1 < 2 ^ 64 }
         ensures line { IfOk result (λ line. step_value line (quoted_reader_value self.new).value (quoted_reader_value self.new)
@@ -235,8 +245,8 @@ impl<A: Allocator + Copy> QuotedReader<A> {
         Ok(self.take(white, part))
     }
 
-    /// The fault of a text that ends here, and its place: half an escape where it ends directly behind a backslash, else an
-    /// unclosed quote.
+    /// Returns the fault of the scalar if no row follows, and its place: a bad escape if the last
+    /// row ends in a backslash, else an unclosed quote.
     pub fn finish(&self) -> (ScalarFault, ScalarPlace)
         ensures { Refused result.0 (result.1).down (result.1).column ≡ quoted_finish (quoted_reader_value self.now) }
     {
@@ -256,14 +266,16 @@ impl<A: Allocator + Copy> QuotedReader<A> {
         (ScalarFault::UnclosedQuote, place)
     }
 
-    /// The scalar's value so far; the whole value once it has ended.
+    /// Returns the value of the rows that were read: the whole value, once the scalar has ended.
+    /// The only error is out of memory.
     pub fn to_value(&self, alloc: A) -> Result<InlineString<A>, AllocError>
         ensures { IfOk result (λ text. text ≡ (quoted_reader_value self.now).value) }
     {
         inline_text_of(alloc, &self.value)
     }
 
-    /// What a row read from this column on is to the scalar.
+    /// Returns the result of a row that was read from the column `column` on, and records the
+    /// column of a backslash before its break.
     fn take(&mut self, column: usize, part: Part) -> ScalarStep
         requires { FitsBehind column part }
         ensures line { step_value result (quoted_reader_value self.new).value (quoted_reader_value self.new)

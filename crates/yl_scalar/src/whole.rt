@@ -1,4 +1,4 @@
-//! Whole scalars, from their first row to the one behind them.
+//! Reads whole scalars, from their first row on.
 ghost use Rattle.std.specs.Prelude.{◌≡◌, ◌<◌, ◌+◌, ◌^◌, [], IfOk, length, map};
 ghost use Rattle.yl_scalar.specs.PlainSteps.{plain};
 ghost use Rattle.yl_scalar.specs.QuotedSteps.{quoted};
@@ -11,8 +11,9 @@ use crate::plain::PlainReader;
 use crate::quoted::QuotedReader;
 use std::alloc::{AllocError, Allocator};
 
-/// Reads a plain scalar that begins at the column `at`, where `text` is the rest of its row and `rows` are all rows below.
-/// The reader then has its value.
+/// Reads a plain scalar that begins at the column `at`. `text` is its row from that column on, and
+/// `rows` are all rows below. The value is that of the reader that is returned. The only error is
+/// out of memory.
 pub fn read_plain<A: Allocator + Copy>(
     alloc: A,
     flow: bool,
@@ -52,8 +53,9 @@ pub fn read_plain<A: Allocator + Copy>(
     Ok((reader, ScalarOutcome::Whole(place)))
 }
 
-/// Reads a quoted scalar whose quote opens at the column `opening`, where `text` is the rest of its row behind the quote and
-/// `rows` are all rows below. The reader then has its value.
+/// Reads a quoted scalar whose opening quote is at the column `opening`. `text` is the rest of its
+/// row after the quote, and `rows` are all rows below. The value is that of the reader that is
+/// returned. The only error is out of memory.
 pub fn read_quoted<A: Allocator + Copy>(
     alloc: A,
     double: bool,
@@ -92,8 +94,8 @@ pub fn read_quoted<A: Allocator + Copy>(
     Ok((reader, ScalarOutcome::Refused(fault, place)))
 }
 
-/// Reads a block scalar whose indicator stands at the column `at`, where `header` is the rest of its row behind that and `rows`
-/// are all rows below.
+/// Reads a block scalar whose indicator is at the column `at`. `header` is the rest of its row
+/// after the indicator, and `rows` are all rows below. The only error is out of memory.
 pub fn read_block<A: Allocator + Copy>(
     alloc: A,
     least: usize,
