@@ -9,29 +9,31 @@ use Rattle.yl_text.specs.declared.finding.RuleId.TheVariants.{Comments}
 use Rattle.yl_rules.specs.LineLength.{hash_count}
 use Rattle.yl_rules.specs.declared.comments.CommentsOptions.{CommentsOptions}
 
--- fewer characters than the minimum stand between what ends at the one column and what begins at the other
+-- fewer characters than the minimum are between the column at which the lexeme ends and the column
+-- at which the comment begins
 abbrev pub is_too_near : Option ℕ → Option ℕ → ℕ → Bool
 is_too_near (Some least) (Some end) column = nat_lt (column - end) least
 is_too_near _ _ column = false
 
--- `!` and a non-space character follow
+-- `!` and a character that is not white space follow
 abbrev pub is_shebang : List ℕ → Bool
 is_shebang rest = starts_by (λ c. c == code "!") rest && starts_by is_non_space (drop 1 rest)
 
--- no space is asked for where the first line begins with the comment, and it names an interpreter
+-- a space is required and missing. With `ignore_shebangs`, none is required if the comment begins
+-- the text and names an interpreter
 abbrev pub lacks_space : CommentsOptions → ℕ → ℕ → List ℕ → Bool
 lacks_space o line column rest =
     o.require_starting_space && starts_by (λ c. not (c == code " ")) rest
     && not (o.ignore_shebangs && line == 0 && column == 0 && is_shebang rest)
 
--- at the `#`
+-- the finding is at the `#`
 abbrev pub near_findings : CommentsOptions → PlacedCommentValue → List FindingValue
 near_findings o c =
     if is_too_near o.min_spaces_from_content c.behind c.column
     then one_finding Comments (c.line + 1) (c.column + 1) (codes "too few spaces before comment")
     else []
 
--- at the character that stands where a space should, over the characters of the comment
+-- the finding is at the character in place of the space; `cs` are the characters of the comment
 abbrev pub starting_space_in : CommentsOptions → ℕ → ℕ → List ℕ → List FindingValue
 starting_space_in o line column cs =
     if lacks_space o line column (drop (hash_count cs) cs)

@@ -1,4 +1,4 @@
--- Meaning: yamllint's rule empty-lines: runs of lines that are nothing but a break.
+-- Meaning: yamllint's rule empty-lines, on runs of lines that consist of a break only.
 use Rattle.std.specs.Prelude.{ℕ, Bool, true, false, not, ◌&&◌, ◌||◌, ◌==◌, nat_le, if◌then◌else◌, List, [], ◌∷◌, ◌++◌, ◌+◌, length, codes, decimal}
 use Rattle.std.specs.List.{prefix_len}
 use Rattle.yl_text.specs.Character.{starts_by}
@@ -13,27 +13,29 @@ abbrev pub has_break : Break → Bool
 has_break No = false
 has_break _ = true
 
--- the line is nothing but a break
+-- the line consists of a break only
 abbrev pub is_break_only : RowValue → Bool
 is_break_only row = length row.text == 0 && has_break row.end
 
--- the last line comes next, and is empty
+-- the next line is the last one, and empty
 abbrev pub is_text_end : List RowValue → Bool
 is_text_end = starts_by (λ row. length row.text == 0 && not (has_break row.end))
 
--- a run of so many lines, the last of which has this number
+-- a run of `run` lines, the last of which has the number `line`
 abbrev pub too_many_blank_lines : ℕ → ℕ → ℕ → List FindingValue
 too_many_blank_lines run bound line =
     if nat_le run bound then []
     else one_finding EmptyLines line 1 (codes "too many blank lines (" ++ (decimal run ++ (codes " > " ++ (decimal bound ++ codes ")"))))
 
--- a run may be so long as its place says, at the text's end, at its start or elsewhere; a text that is one break alone is let be
+-- the bound of a run is that for the end of a text, for its start, or for elsewhere; a text that
+-- consists of one break has no finding
 abbrev pub run_findings_of : EmptyLinesOptions → ℕ → ℕ → Bool → List FindingValue
 run_findings_of o run line at_end =
     if line == 1 && at_end then []
     else too_many_blank_lines run (if at_end then o.max_end else if run == line then o.max_start else o.max) line
 
--- at a line with which so many such lines end: there the run is judged, if it goes no further
+-- at a line with which a run of `run` lines ends: the run is judged there, if the next line does
+-- not continue it
 abbrev pub at_end_of_run : EmptyLinesOptions → ℕ → ℕ → List RowValue → List FindingValue
 at_end_of_run o run line after =
     if run == 0 || starts_by is_break_only after then [] else run_findings_of o run line (is_text_end after)

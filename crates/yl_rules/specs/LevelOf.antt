@@ -1,11 +1,11 @@
--- Bridge: what levels say of each rule, and where an array keeps what belongs to it.
+-- Bridge: the level of each rule, and the index of a rule in an array.
 use Rattle.std.specs.Prelude.{ℕ, None, slice_index_or}
 use Rattle.yl_text.specs.declared.finding.RuleId.{RuleId}
 use Rattle.yl_text.specs.declared.finding.RuleId.TheVariants.{Anchors, Braces, Brackets, Colons, Commas, Comments, DocumentStart, EmptyLines, Hyphens, Indentation, KeyDuplicates, KeyOrdering, LineLength, NewLineAtEndOfFile, NewLines, QuotedStrings, Syntax, TrailingSpaces, Truthy}
 use Rattle.yl_rules.specs.Levels.{LevelTable, with_syntax}
 use Rattle.yl_rules.specs.declared.level.RuleLevels.{RuleLevels}
 
--- a place for each rule
+-- the index of each rule
 abbrev pub rule_number : RuleId → ℕ
 rule_number Anchors = 0
 rule_number Braces = 1

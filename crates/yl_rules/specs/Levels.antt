@@ -1,4 +1,4 @@
--- Meaning: which rules are on, and how grave what they find is: yamllint's option `level`, and its
+-- Meaning: which rules are on, and the level of their findings: yamllint's option `level`, and its
 -- default configuration.
 use Rattle.std.specs.Prelude.{ℕ, if◌then◌else◌, List, Option, Some, None, codes, bytes_eq}
 use Rattle.yl_text.specs.Finding.{rule_name}
@@ -7,12 +7,12 @@ use Rattle.yl_text.specs.declared.finding.RuleId.TheVariants.{Comments, Document
 use Rattle.yl_rules.specs.declared.level.Level.{Level}
 use Rattle.yl_rules.specs.declared.level.Level.TheVariants.{Error, Warning}
 
--- as printed lines have it
+-- the name in printed lines
 abbrev pub level_name : Level → List ℕ
 level_name Error = codes "error"
 level_name Warning = codes "warning"
 
--- for each rule its level, or none where it is off
+-- the level of each rule, or `None` if it is off
 abbrev pub LevelTable : Type 0
 LevelTable = RuleId → Option Level
 
@@ -21,7 +21,7 @@ abbrev pub with_syntax : RuleId → Option Level → Option Level
 with_syntax Syntax level = Some Error
 with_syntax _ level = level
 
--- no rule is on
+-- no rule but `syntax` is on
 abbrev pub none_on : LevelTable
 none_on rule = with_syntax rule None
 
@@ -34,6 +34,6 @@ default_levels DocumentStart = Some Warning
 default_levels Truthy = Some Warning
 default_levels _ = Some Error
 
--- the table with one rule set, which its name tells
+-- the table with one rule set; rules are compared by their names
 abbrev pub set_level : LevelTable → RuleId → Option Level → LevelTable
 set_level table rule level q = with_syntax q (if bytes_eq (rule_name q) (rule_name rule) then level else table q)

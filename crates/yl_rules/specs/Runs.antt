@@ -1,4 +1,4 @@
--- Meaning: what the rules that look at the lines of a whole text find in it.
+-- Meaning: the findings of the rules that look at the lines of a whole text.
 use Rattle.std.specs.Prelude.{List, ◌++◌}
 use Rattle.yl_text.specs.Finding.{FindingValue}
 use Rattle.yl_text.specs.Lines.{RowValue}

@@ -5,11 +5,11 @@ use Rattle.yl_text.specs.Character.{is_white}
 use Rattle.yl_text.specs.Finding.{FindingValue, one_finding}
 use Rattle.yl_text.specs.declared.finding.RuleId.TheVariants.{TrailingSpaces}
 
--- how many characters of white space (s-white) the line ends in
+-- the number of characters of white space (s-white) at the end of the line
 abbrev pub end_white : List ℕ → ℕ
 end_white cs = suffix_len is_white cs
 
--- at the first character of the white space that the line ends in
+-- the finding is at the first character of the white space at the end of the line
 abbrev pub trailing_spaces : ℕ → List ℕ → List FindingValue
 trailing_spaces line cs =
     if end_white cs == 0 then []

@@ -1,11 +1,11 @@
-//! Comments that speak to the linter.
+//! Comments that are addressed to the linter.
 ghost use Rattle.std.specs.Prelude.{◌≡◌};
 ghost use Rattle.yl_lexeme.specs.PlacedComments.{placed_comment_value};
 ghost use Rattle.yl_rules.specs.Addressed as spec;
 
 use yl_lexeme::PlacedComment;
 
-/// Whether a comment begins as each does that silences a rule.
+/// Returns whether a comment begins with `# yamllint `, as each comment does that silences a rule.
 pub fn is_addressed(comment: &PlacedComment<'_>) -> bool
     ensures { result ≡ spec.is_addressed (placed_comment_value comment.now) }
 {

@@ -1,8 +1,8 @@
-//! The bytes of a line. What is ASCII in them is a character.
+//! The bytes of a line. An ASCII byte is a character.
 ghost use Rattle.std.specs.Prelude.{◌≡◌, ◌==◌, drop};
 ghost use Rattle.std.specs.List.{prefix_len};
 
-/// How many times this byte stands at the front.
+/// Returns how many times this byte occurs at the start.
 pub(crate) fn count_front(bytes: &[u8], wanted: u8) -> usize
     ensures { result ≡ prefix_len (λ b. b == wanted) bytes.now }
 {
@@ -14,7 +14,7 @@ pub(crate) fn count_front(bytes: &[u8], wanted: u8) -> usize
     bytes.len()
 }
 
-/// What follows so many bytes.
+/// Returns the bytes after the first `count` ones, or none if there are fewer.
 pub(crate) fn past(bytes: &[u8], count: usize) -> &[u8]
     ensures { result.now ≡ drop count bytes.now }
 {

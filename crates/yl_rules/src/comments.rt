@@ -13,20 +13,20 @@ use std::alloc::{AllocError, Allocator};
 use yl_lexeme::PlacedComment;
 use yl_text::{Finding, RuleId};
 
-/// What a comment has before it and in it.
+/// The options of the rule comments.
 #[derive(Clone, Copy)]
 pub struct CommentsOptions {
-    /// Whether a space follows the `#` characters.
+    /// Whether a space has to follow the `#` characters.
     pub require_starting_space: bool,
-    /// Whether a first line as `#!/bin/sh` needs no space.
+    /// Whether a comment such as `#!/bin/sh` at the start of a text needs no space.
     pub ignore_shebangs: bool,
-    /// How many characters stand at least between a lexeme and the comment behind it in its line.
-    /// `None` is no bound.
+    /// The minimum number of characters between a lexeme and a comment after it in its line. `None`
+    /// sets no minimum.
     pub min_spaces_from_content: Option<u32>,
 }
 
 impl CommentsOptions {
-    /// Those of yamllint's default configuration.
+    /// Returns the options of yamllint's default configuration.
     pub fn standard() -> CommentsOptions
         ensures { result ≡ record { require_starting_space = true; ignore_shebangs = true; min_spaces_from_content = Some 2 } }
     {
@@ -38,6 +38,7 @@ impl CommentsOptions {
     }
 }
 
+/// Returns whether there is a first byte, and it is not a space.
 fn starts_with_no_space(bytes: &[u8]) -> bool
     ensures { result ≡ starts_by (λ c. not (c == 32)) bytes.now }
 {
@@ -47,7 +48,7 @@ fn starts_with_no_space(bytes: &[u8]) -> bool
     }
 }
 
-/// Whether what follows the `#` characters of a comment names an interpreter.
+/// Returns whether what follows the `#` characters of a comment names an interpreter.
 fn is_shebang(rest: &[u8]) -> bool
     ensures { result ≡ is_shebang rest.now }
 {
@@ -57,6 +58,8 @@ fn is_shebang(rest: &[u8]) -> bool
     }
 }
 
+/// Returns whether `rest`, which follows the `#` characters of a comment, has to begin with a space
+/// and does not. Lines and columns count from 0.
 fn lacks_space(options: &CommentsOptions, line: u32, col: u32, rest: &[u8]) -> bool
     ensures { result ≡ lacks_space options.now line col rest.now }
 {
@@ -65,6 +68,8 @@ fn lacks_space(options: &CommentsOptions, line: u32, col: u32, rest: &[u8]) -> b
         && !(options.ignore_shebangs && line == 0 && col == 0 && is_shebang(rest))
 }
 
+/// Returns whether fewer than `least` characters are between the column `end` and the column `col`.
+/// Returns `false` if there is no minimum or no end.
 fn is_too_near(least: Option<u32>, end: Option<u32>, col: u32) -> bool
     ensures { result ≡ is_too_near least end col }
 {
@@ -74,7 +79,7 @@ fn is_too_near(least: Option<u32>, end: Option<u32>, col: u32) -> bool
     }
 }
 
-/// The problem of a comment that stands too near to what is before it.
+/// Returns the finding of a comment that is too near to the lexeme before it in its line, if it is.
 fn nearness_problem<A: Allocator>(
     comment: &PlacedComment<'_>,
     options: &CommentsOptions,
@@ -94,7 +99,8 @@ fn nearness_problem<A: Allocator>(
     ))
 }
 
-/// The problem of a comment that begins with no space.
+/// Returns the finding of a comment whose `#` characters no space follows, if one has to. Lines and
+/// columns count from 0.
 fn starting_space_problem<A: Allocator>(
     line: u32,
     col: u32,
@@ -117,8 +123,8 @@ fn starting_space_problem<A: Allocator>(
     ))
 }
 
-/// Puts behind `found` what the rule comments finds in a comment. Where there is no memory nothing
-/// is added.
+/// Appends the findings of the rule comments in a comment. The only error is out of memory: then
+/// nothing is appended.
 pub fn push_comment_problems<A: Allocator>(
     comment: &PlacedComment<'_>,
     options: &CommentsOptions,
@@ -132,7 +138,7 @@ pub fn push_comment_problems<A: Allocator>(
     push_both(found, near, bare)
 }
 
-/// What the rule comments finds in these comments.
+/// Returns the findings of the rule comments in these comments. The only error is out of memory.
 pub fn comment_problems<A: Allocator + Copy>(
     alloc: A,
     comments: &[PlacedComment<'_>],

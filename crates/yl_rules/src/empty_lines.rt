@@ -8,30 +8,32 @@ use crate::pushes::push_found;
 use std::alloc::{AllocError, Allocator};
 use yl_text::{Break, Finding, RuleId};
 
-/// How many lines that are nothing but a break may follow each other.
+/// The maximum numbers of successive lines that consist of a break only.
 #[derive(Clone, Copy)]
 pub struct EmptyLinesOptions {
+    /// The maximum elsewhere.
     pub max: u32,
-    /// At the text's start.
+    /// The maximum at the start of a text.
     pub max_start: u32,
-    /// At the text's end.
+    /// The maximum at the end of a text.
     pub max_end: u32,
 }
 
-/// Whether the line is nothing but a break.
+/// Returns whether the line consists of a break only.
 fn is_break_only(text: &str, end: Break) -> bool
     ensures { result ≡ is_break_only (record { text = text.now; end = end }) }
 {
     text.is_empty() && end != Break::No
 }
 
-/// Whether the line is the last one, and empty.
+/// Returns whether the line is the last one of a text, and empty.
 fn is_end(text: &str, end: Break) -> bool
     ensures { result ≡ is_text_end (record { text = text.now; end = end } ∷ []) }
 {
     text.is_empty() && end == Break::No
 }
 
+/// Returns the maximum for a run at the start of a text, at its end, or elsewhere.
 fn most(options: &EmptyLinesOptions, at_start: bool, at_end: bool) -> u32
     ensures { result ≡ (if at_end then (options.now).max_end else if at_start then (options.now).max_start else (options.now).max) }
 {
@@ -44,10 +46,13 @@ fn most(options: &EmptyLinesOptions, at_start: bool, at_end: bool) -> u32
     }
 }
 
-/// As many bytes as a message has that names runs of fewer than ten million lines, so that it grows once.
+/// The capacity of a message, in bytes. It is enough for runs of fewer than ten million lines, so
+/// that the message is allocated once.
 const MESSAGE_BYTES: usize = 40;
 
-/// The problem of a run of so many lines, of which the last has this number, from 1. It stands by itself, so that what passes lines is short.
+/// Returns the finding of a run of `run` lines, if these are more than `most`. `line` is the number
+/// of its last line, counted from 1. It is a function of its own, so that the code for each line
+/// stays short. The only error is out of memory.
 #[inline(never)]
 fn too_many<A: Allocator + Copy>(
     alloc: A,
@@ -65,7 +70,9 @@ fn too_many<A: Allocator + Copy>(
     Ok(Some(Finding::new(line as u64, 1, RuleId::EmptyLines, message)))
 }
 
-/// The same, by where the run stands.
+/// Returns the finding of a run of `run` lines, by its position in the text, if it is too long.
+/// `line` is the number of its last line, counted from 1, and `at_end` is set if only an empty line
+/// follows. The only error is out of memory.
 fn judge<A: Allocator + Copy>(
     alloc: A,
     options: &EmptyLinesOptions,
@@ -81,7 +88,8 @@ fn judge<A: Allocator + Copy>(
     too_many(alloc, run, most(options, run == line, at_end), line)
 }
 
-/// In how many such lines the lines end with this one, from those before it.
+/// Returns the number of lines at the end of the lines up to this one that consist of a break only.
+/// `run` is this number for the lines before.
 pub(crate) fn next_run(run: usize, text: &str, end: Break) -> usize
     requires { run + 1 < 2 ^ 64 }
     ensures value { result ≡ next_run run (record { text = text.now; end = end }) }
@@ -90,8 +98,9 @@ pub(crate) fn next_run(run: usize, text: &str, end: Break) -> usize
     if is_break_only(text, end) { run + 1 } else { 0 }
 }
 
-/// Puts behind `found` the problem of the run of so many lines that the lines end in, of which
-/// there are `count`, if it goes no further with the next line.
+/// Appends the finding of the run of `run` lines at the end of the first `count` lines, if the next
+/// line does not continue the run and the run is too long. The only error is out of memory: then
+/// nothing is appended.
 pub(crate) fn push_run_before<A: Allocator + Copy>(
     alloc: A,
     options: &EmptyLinesOptions,
@@ -111,7 +120,8 @@ pub(crate) fn push_run_before<A: Allocator + Copy>(
     push_found(found, judge(alloc, options, run, count, is_end(text, end))?)
 }
 
-/// The same at the end of the lines.
+/// Appends the finding of the run of `run` lines at the end of `count` lines, if no line follows
+/// and the run is too long. The only error is out of memory.
 pub(crate) fn push_last_run<A: Allocator + Copy>(
     alloc: A,
     options: &EmptyLinesOptions,

@@ -8,7 +8,8 @@ use crate::width::character_count;
 use std::alloc::Allocator;
 use yl_text::{Finding, RuleId};
 
-/// The problem of a text of so many lines, if its last line is not empty.
+/// Returns the finding in a text of `count` lines whose last line is `last`, if that line is not
+/// empty.
 pub(crate) fn end_of_file_problem<A: Allocator>(count: usize, last: &str) -> Option<Finding<A>>
     ensures { option_to_list result ≡ end_of_file_at count (Some (record { text = last.now; end = No })) }
 {

@@ -1,10 +1,10 @@
-//! Levels: how grave a problem is, and which rules are on.
+//! The levels of problems, and the rules that are on.
 ghost use Rattle.std.specs.Prelude.{◌≡◌};
 ghost use Rattle.yl_rules.specs.Levels.{level_name};
 
 use yl_text::RuleId;
 
-/// How grave a problem is.
+/// The level of a problem.
 #[derive(Clone, Copy, Debug, PartialEq, Eq)]
 pub enum Level {
     Error,
@@ -12,7 +12,7 @@ pub enum Level {
 }
 
 impl Level {
-    /// The level's name, as configurations and printed lines have it.
+    /// Returns the name of the level, as configurations and printed lines have it.
     pub fn name(self) -> &'static str
         ensures { result.now ≡ level_name self }
     {
@@ -23,10 +23,10 @@ impl Level {
     }
 }
 
-/// How many rules there are, `syntax` among them.
+/// The number of rules, including `syntax`.
 const RULES: usize = 19;
 
-/// For each rule its level, or none where it is off. `syntax` is always an error.
+/// The level of each rule that is on. `syntax` is always on, at the level `Error`.
 #[derive(Clone, Copy)]
 pub struct RuleLevels {
     levels: [Option<Level>; RULES],
@@ -37,7 +37,7 @@ impl RuleLevels {
     ghost use Rattle.yl_rules.specs.Levels.{none_on, set_level, default_levels};
     ghost use Rattle.yl_rules.specs.LevelOf.{level_of};
 
-    /// No rule is on.
+    /// Returns the levels with every rule off but `syntax`.
     pub fn none() -> RuleLevels
         ensures { level_of result ≡ none_on }
     {
@@ -46,7 +46,7 @@ impl RuleLevels {
         }
     }
 
-    /// Those of yamllint's default configuration.
+    /// Returns the levels of yamllint's default configuration.
     pub fn standard() -> RuleLevels
         ensures { level_of result ≡ default_levels }
     {
@@ -59,7 +59,7 @@ impl RuleLevels {
         RuleLevels { levels }
     }
 
-    /// The same with one rule on at a level, or off.
+    /// Returns these levels with one rule set to a level, or off. `syntax` stays as it is.
     pub fn with(self, rule: RuleId, level: Option<Level>) -> RuleLevels
         ensures { level_of result ≡ set_level (level_of self) rule level }
     {
@@ -68,7 +68,7 @@ impl RuleLevels {
         RuleLevels { levels }
     }
 
-    /// The rule's level, or none where it is off.
+    /// Returns the level of the rule, or `None` if the rule is off.
     pub fn level_of(&self, rule: RuleId) -> Option<Level>
         ensures { result ≡ level_of self.now rule }
     {

@@ -1,4 +1,5 @@
-//! The rules of the linter.
+//! The rules of the linter: the levels of all rules, and the rules on lines and on comments. The
+//! rules on lexemes and on indentation are re-exported.
 #![tactic(auto)]
 
 mod addressed;

@@ -10,7 +10,7 @@ use crate::width::character_count;
 use std::alloc::{AllocError, Allocator};
 use yl_text::{Finding, RuleId};
 
-/// What follows the mark of a comment or of an entry.
+/// Returns what follows the `#` characters of a comment, or the `-` of an entry, and one more byte.
 fn past_mark(bytes: &[u8]) -> &[u8]
     ensures { result.now ≡ past_mark bytes.now }
 {
@@ -21,14 +21,15 @@ fn past_mark(bytes: &[u8]) -> &[u8]
     }
 }
 
+/// Returns whether there are bytes, without a space after the mark.
 fn is_one_word(bytes: &[u8]) -> bool
     ensures { result ≡ is_one_word bytes.now }
 {
     !bytes.is_empty() && !past_mark(bytes).contains(&b' ')
 }
 
-/// Whether the line has no space at which it could be broken. Its bytes tell, since each byte that
-/// counts is ASCII.
+/// Returns whether the line has no space at which it could be broken. Looks at bytes, since only
+/// ASCII characters matter.
 fn is_non_breakable(text: &str) -> bool
     ensures { result ≡ is_non_breakable (chars text.now) }
 {
@@ -37,10 +38,12 @@ fn is_non_breakable(text: &str) -> bool
     is_one_word(inner)
 }
 
-/// As many bytes as a message has that names lines of fewer than a million characters, so that it grows once.
+/// The capacity of a message, in bytes. It is enough for lines of fewer than a billion characters,
+/// so that the message is allocated once.
 const MESSAGE_BYTES: usize = 48;
 
-/// The problem of a line, if it is too long. A line of few bytes has no more characters.
+/// Returns the finding of a line, if it is too long. The number of the line counts from 1. The only
+/// error is out of memory.
 pub(crate) fn line_length_problem<A: Allocator + Copy>(
     alloc: A,
     line: u64,

@@ -9,17 +9,18 @@ use crate::width::character_count;
 use std::alloc::{AllocError, Allocator};
 use yl_text::{Break, Finding, RuleId};
 
-/// How the first line of a text is to end.
+/// The break in which the first line of a text has to end.
 #[derive(Clone, Copy)]
 pub enum NewLine {
-    /// In LF.
+    /// LF.
     Unix,
-    /// In CR LF.
+    /// CR LF.
     Dos,
 }
 
 impl NewLine {
-    /// What is said of a line that ends otherwise, with the break in backslash letters.
+    /// Returns the message about a line that ends in another break. The message has the expected
+    /// break as an escape.
     fn message(self) -> &'static str
         ensures { result.now ≡ wrong_break self }
     {
@@ -29,7 +30,7 @@ impl NewLine {
         }
     }
 
-    /// Whether the break is there and is another.
+    /// Returns whether the line ends in a break other than this one.
     fn is_wrong(self, end: Break) -> bool
         ensures { result ≡ is_wrong_break self end }
     {
@@ -40,7 +41,8 @@ impl NewLine {
     }
 }
 
-/// The problem of a text whose first line this is, if it ends in another break than the one wanted.
+/// Returns the finding in a text with this first line, if the line ends in a break other than
+/// `wanted`.
 fn new_lines_problem<A: Allocator>(wanted: NewLine, text: &str, end: Break) -> Option<Finding<A>>
     ensures { option_to_list result ≡ new_lines wanted (record { text = text.now; end = end } ∷ []) }
 {
@@ -51,8 +53,8 @@ fn new_lines_problem<A: Allocator>(wanted: NewLine, text: &str, end: Break) -> O
     Some(Finding::fixed(1, column, RuleId::NewLines, wanted.message()))
 }
 
-/// Puts behind `found` the problem of the line behind so many, if it is the first and ends in
-/// another break than the one wanted.
+/// Appends the finding of the line after the first `count` lines, if it is the first line and ends
+/// in a break other than `wanted`. The only error is out of memory: then nothing is appended.
 pub(crate) fn push_new_lines<A: Allocator>(
     wanted: NewLine,
     count: usize,

@@ -1,4 +1,4 @@
-//! Lists of what was found, and what is put behind them.
+//! Appends findings to lists.
 ghost use Rattle.std.specs.Prelude.{◌≡◌, ◌+◌, ◌<◌, ◌≤◌, ◌++◌, OnOk, OnErr, vec_len};
 ghost use Rattle.std.specs.Option.{option_to_list};
 ghost use Rattle.std.specs.Vec.{vec_capacity};
@@ -6,7 +6,7 @@ ghost use Rattle.std.specs.Vec.{vec_capacity};
 use std::alloc::{AllocError, Allocator};
 use yl_text::Finding;
 
-/// Puts what was found behind the rest. There is room for it.
+/// Appends a finding, if there is one. The list has capacity for it.
 fn push_reserved<A: Allocator>(found: &mut Vec<Finding<A>, A>, more: Option<Finding<A>>)
     requires { vec_len found.old < vec_capacity found.old }
     ensures items { found.new.items ≡ found.old.items ++ option_to_list more }
@@ -18,7 +18,8 @@ fn push_reserved<A: Allocator>(found: &mut Vec<Finding<A>, A>, more: Option<Find
     }
 }
 
-/// Puts both behind the rest, or neither where there is no memory.
+/// Appends two findings, as far as there are any. The only error is out of memory: then nothing is
+/// appended.
 pub(crate) fn push_both<A: Allocator>(
     found: &mut Vec<Finding<A>, A>,
     first: Option<Finding<A>>,
@@ -36,7 +37,7 @@ pub(crate) fn push_both<A: Allocator>(
     Ok(())
 }
 
-/// Puts what was found behind the rest, or nothing where there is no memory.
+/// Appends a finding, if there is one. The only error is out of memory: then nothing is appended.
 pub(crate) fn push_found<A: Allocator>(
     found: &mut Vec<Finding<A>, A>,
     more: Option<Finding<A>>,

@@ -10,16 +10,17 @@ use crate::trailing_spaces::{end_white, trailing_spaces_problem};
 use std::alloc::{AllocError, Allocator};
 use yl_text::{Finding, Row};
 
-/// Whether the line needs a closer look: it ends in white space, or has more bytes than it may have
-/// characters.
+/// Returns whether the rules may find something in a line: it ends in white space, or has more
+/// bytes than it may have characters.
 fn is_suspect(text: &str, options: &RowOptions) -> bool
     ensures { result ≡ false → (line : ℕ) → line_findings options.now line (chars text.now) ≡ [] }
 {
     text.len() > options.max as usize || end_white(text.as_bytes()) > 0
 }
 
-/// Puts behind `found` what the rules find in a line that needs a closer look. Where there is no memory
-/// nothing is added.
+/// Appends the findings of the rules that look at one line, in a line in which they may find
+/// something. The number of the line counts from 1. The only error is out of memory: then nothing
+/// is appended.
 #[inline(never)]
 fn push_suspect_problems<A: Allocator + Copy>(
     alloc: A,
@@ -36,9 +37,9 @@ fn push_suspect_problems<A: Allocator + Copy>(
     push_both(found, trailing, long)
 }
 
-/// Puts behind `found` what the rules that look at one line find in a line of this text, whose
-/// number counts from 1. Where there is no memory nothing is added; where nothing is found none is
-/// taken.
+/// Appends the findings of the rules that look at one line, in a line of this text. The number of
+/// the line counts from 1. Does not allocate if nothing is found. The only error is out of memory:
+/// then nothing is appended.
 #[inline(always)]
 pub fn push_line_problems<A: Allocator + Copy>(
     alloc: A,
@@ -56,8 +57,9 @@ pub fn push_line_problems<A: Allocator + Copy>(
     push_suspect_problems(alloc, line, text, options, found)
 }
 
-/// Puts behind `found` what the rules that look at one line find in this row, whose number counts
-/// from 1. Where there is no memory nothing is added; where nothing is found none is taken.
+/// Appends the findings of the rules that look at one line, in this row. The number of the line
+/// counts from 1. Does not allocate if nothing is found. The only error is out of memory: then
+/// nothing is appended.
 pub fn push_row_problems<A: Allocator + Copy>(
     alloc: A,
     line: u64,
@@ -71,7 +73,8 @@ pub fn push_row_problems<A: Allocator + Copy>(
     push_line_problems(alloc, line, row.as_str(), options, found)
 }
 
-/// What the rules that look at one line find in this one, whose number counts from 1.
+/// Returns the findings of the rules that look at one line, in this row. The number of the line
+/// counts from 1. The only error is out of memory.
 pub fn row_problems<A: Allocator + Copy>(
     alloc: A,
     line: u64,

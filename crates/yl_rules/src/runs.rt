@@ -15,17 +15,17 @@ use std::alloc::{AllocError, Allocator};
 use std::marker::Model;
 use yl_text::{Break, Finding, Lines, Pos};
 
-/// A reader that is fed a text's lines one after another, and tells what the rules new-lines,
-/// empty-lines and new-line-at-end-of-file find. Of the lines that it passed it keeps a few numbers
-/// and the last one.
+/// A reader that takes the lines of a text one after another and appends the findings of the rules
+/// new-lines, empty-lines and new-line-at-end-of-file. Of the lines that were read it keeps a few
+/// numbers and a reference to the last one.
 #[derive(Drop)]
 pub struct RunReader<'a> {
     options: RunOptions,
-    /// How many lines were passed.
+    /// The number of lines that were read.
     count: usize,
-    /// In how many lines that are nothing but a break they end.
+    /// The number of lines at their end that consist of a break only.
     run: usize,
-    /// The last of them, or an empty text.
+    /// The text of the last one, or an empty text if there is none.
     last: &'a str,
 }
 
@@ -41,7 +41,7 @@ impl<'a> Model for RunReader<'a> {
 }
 
 impl<'a> RunReader<'a> {
-    /// A reader at a text's start.
+    /// Creates a reader at the start of a text.
     pub fn start(options: &RunOptions) -> RunReader<'a>
         ensures at { result ≡ record { options = options.now; count = 0; run = 0; last = [] } }
         ensures left { (rows : List RowValue) → runs_left result rows ≡ run_findings options.now rows }
@@ -54,14 +54,14 @@ impl<'a> RunReader<'a> {
         }
     }
 
-    /// How many lines were passed.
+    /// Returns the number of lines that were read.
     pub fn count(&self) -> u64
         ensures { result ≡ self.now.count }
     {
         self.count as u64
     }
 
-    /// The place behind the last character of the lines that were passed.
+    /// Returns the position after the last character of the lines that were read.
     pub fn end(&self) -> Pos
         requires count { self.now.count < 2 ^ 32 }
         requires last { length self.now.last < 2 ^ 32 }
@@ -73,8 +73,8 @@ impl<'a> RunReader<'a> {
         }
     }
 
-    /// Passes the next line, and puts behind `found` what is found by then. Where there is no
-    /// memory nothing changes.
+    /// Reads the next line, and appends what is found up to it. The only error is out of memory:
+    /// then nothing changes.
     pub fn pass<A: Allocator + Copy>(
         &mut self,
         alloc: A,
@@ -107,7 +107,7 @@ impl<'a> RunReader<'a> {
         Ok(())
     }
 
-    /// Puts behind `found` what is still found where no line follows.
+    /// Appends what is found at the end, if no line follows. The only error is out of memory.
     pub fn finish<A: Allocator + Copy>(
         self,
         alloc: A,
@@ -126,7 +126,8 @@ impl<'a> RunReader<'a> {
     }
 }
 
-/// What the rules new-lines, empty-lines and new-line-at-end-of-file find in a text.
+/// Returns the findings of the rules new-lines, empty-lines and new-line-at-end-of-file in a text.
+/// The only error is out of memory.
 pub fn run_problems<L: Lines>(
     alloc: L::Alloc,
     lines: &L,

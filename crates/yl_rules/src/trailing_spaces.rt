@@ -9,14 +9,14 @@ use crate::width::character_count;
 use std::alloc::Allocator;
 use yl_text::{Finding, RuleId};
 
-/// Whether a byte is white space: a space or a tab.
+/// Returns whether the byte is white space: a space or a tab.
 pub fn is_white(byte: u8) -> bool
     ensures { result ≡ is_white byte }
 {
     byte == b' ' || byte == b'\t'
 }
 
-/// How many bytes of white space the bytes end in.
+/// Returns the number of bytes of white space at the end.
 pub(crate) fn end_white(bytes: &[u8]) -> usize
     ensures { result ≡ end_white bytes.now }
 {
@@ -27,7 +27,7 @@ pub(crate) fn end_white(bytes: &[u8]) -> usize
     bytes.len() - kept
 }
 
-/// The problem of a line, if it ends in white space.
+/// Returns the finding of a line, if it ends in white space. The number of the line counts from 1.
 pub(crate) fn trailing_spaces_problem<A: Allocator>(line: u64, text: &str) -> Option<Finding<A>>
     ensures { option_to_list result ≡ trailing_spaces line (chars text.now) }
 {

@@ -1,8 +1,8 @@
-//! How many characters a line has.
+//! Counts the characters of a line.
 ghost use Rattle.std.specs.Prelude.{◌≡◌, ◌<◌, ◌≤◌, ◌^◌, length};
 ghost use Rattle.std.specs.Str.{chars};
 
-/// How many characters the text has: how many of its bytes begin one.
+/// Returns the number of characters of the text. Counts the bytes at which a character begins.
 pub fn character_count(text: &str) -> usize
     ensures exact { result ≡ length (chars text.now) }
     ensures within { result ≤ length text.now }

@@ -10,7 +10,7 @@ use Rattle.yl_scalar.specs.declared.answer.ScalarFault.TheVariants.{BadHeader, B
 
 -- a scalar that may continue: the least indentation of its content, the column of its content, if
 -- that is known, the place at which it ends so far, the number of blank lines since, and the number
--- of leading spaces of each blank line above its content
+-- of leading spaces of each blank line before the column was known
 pub record BlockReaderValue : Type 0 where
   pub least : ℕ
   pub content : Option ℕ

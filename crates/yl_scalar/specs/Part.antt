@@ -7,7 +7,7 @@ use Rattle.yl_scalar.specs.declared.quoted.Glyph.TheVariants as glyph
 use Rattle.yl_scalar.specs.declared.quoted.Part.{Part}
 use Rattle.yl_scalar.specs.declared.quoted.Part.TheVariants.{Open, Closed, Faulted}
 
--- what a line makes of the scalar, by the part and the value after it
+-- what a line makes of the scalar, by the part and the resulting value
 abbrev pub gives : Part → List ℕ → Stretch
 gives (Open backslash) text = Breaks text backslash
 gives (Closed place) text = Closes text place

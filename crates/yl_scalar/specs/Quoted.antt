@@ -18,9 +18,9 @@ pub data Stretch : Type 0 where
 abbrev pub quote : Bool → ℕ
 quote double = if double then code "\"" else code "'"
 
--- skip: the number of characters left of an escape that was read. text: the value so far, of which
--- `kept` characters are before the white space at its end that is not escaped. at: the number of
--- characters that were read
+-- skip: the number of characters left of an escape or a doubled quote that was read. text: the
+-- value so far, of which `kept` characters are before the white space at its end that is not
+-- escaped. at: the number of characters that were read
 abbrev pub stretch : Bool → ℕ → List ℕ → ℕ → ℕ → List ℕ → Stretch
 stretch double skip text kept at [] = Breaks (take kept text) None
 stretch double skip text kept at (c ∷ cs) =

@@ -34,7 +34,8 @@ quoted_start double opening = record { double = double; opening = opening; down 
 abbrev pub quoted_begin : Bool → ℕ → List ℕ → ScalarStepValue QuotedReaderValue
 quoted_begin double opening text = quoted_step_behind (quoted_start double opening) (opening + 1) (stretch double 0 [] 0 0 text)
 
--- the scalar with what the break above this line stands for, and the blank lines after that break
+-- the scalar with the text that the break above this line gives, together with the blank lines
+-- after that break
 abbrev pub with_break : QuotedReaderValue → QuotedReaderValue
 with_break s = record s { down = s.down + s.blanks + 1; blanks = 0; value = s.value ++ joint s.backslash s.blanks }
 

@@ -21,7 +21,7 @@ pub struct BlockReader<A: Allocator> {
     down: usize,
     column: usize,
     blanks: usize,
-    /// The number of leading spaces of each blank row above the content.
+    /// The number of leading spaces of each blank row before the content column is known.
     spaces: Vec<usize, A>,
     failed: bool,
 }
@@ -73,8 +73,8 @@ fn not_allowed(column: usize) -> ScalarStep
 impl<A: Allocator + Copy> BlockReader<A> {
     /// Creates a reader of a scalar whose indicator, `|` or `>`, is at the column `at`, and reads
     /// its header. `header` is the rest of the row after the indicator. The content of the scalar
-    /// is indented by at least `least` spaces, one more than the surrounding collection. Does not
-    /// allocate.
+    /// is indented by at least `least` spaces, which is one more than the indentation of the
+    /// surrounding collection. Does not allocate.
     pub fn begin(alloc: A, least: usize, at: usize, header: &[char]) -> (BlockReader<A>, ScalarStep)
         requires fits { at + 1 + length header.now < 2 ^ 64 }
         requires small { least < 2 ^ 63 }

@@ -65,8 +65,8 @@ fn stop(flow: bool, behind_space: bool, text: &[char]) -> usize
 impl<A: Allocator + Copy> PlainReader<A> {
     /// Creates a reader of a scalar that begins at the column `at`, and reads its part of the first
     /// row. `text` is the row from that column on. Outside flow collections, a row below continues
-    /// the scalar only if it is indented by at least `least` spaces, one more than the surrounding
-    /// collection. The only error is out of memory.
+    /// the scalar only if it is indented by at least `least` spaces, which is one more than the
+    /// indentation of the surrounding collection. The only error is out of memory.
     pub fn begin(
         alloc: A,
         flow: bool,

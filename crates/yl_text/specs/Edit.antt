@@ -90,8 +90,8 @@ line_of ps p = line_at ps (offset ps p)
 abbrev pub is_behind_cr : List RowValue → Pos → Bool
 is_behind_cr ps p = begins_line (front_at ps p) (back_at ps p) && last_byte (front_at ps p) == code "\r"
 
--- the first line that an edit touches. An LF among the new bytes makes one break with a CR before
--- it, so the line that ends in this CR is touched too
+-- the first line that an edit touches. An LF at the start of the new bytes makes one break with a
+-- CR before it, so the line that ends in this CR is touched too
 abbrev pub first_line : List RowValue → Pos → ℕ
 first_line ps from = if is_behind_cr ps from then line_of ps from - 1 else line_of ps from
 

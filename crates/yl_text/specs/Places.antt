@@ -40,9 +40,9 @@ pub record IsBytePlace (ps : List RowValue) (n i byte : ℕ) : Type 0 where
 abbrev pub IsBehind : ℕ → ℕ → ℕ → ℕ → Type 0
 IsBehind i k j m = (j < i) ⊎ ((j ≡ i) × (m < k))
 
--- the text before a position is the text before its first line, and so many bytes of this line.
--- These bytes, with any text after them, make no break with a CR before them. If there are none of
--- them, the text before them is empty or ends in LF
+-- the text before a position is the text before line a, the first line that an edit from there
+-- touches, and so many bytes of line a. These bytes, with any text after them, make no break with a
+-- CR before them. If there are none of them, the text before them is empty or ends in LF
 pub record IsFrontCut (ps : List RowValue) (p : Pos) (a byte : ℕ) : Type 0 where
   pub first : a ≡ first_line ps p
   pub line : a < length ps
@@ -51,7 +51,8 @@ pub record IsFrontCut (ps : List RowValue) (p : Pos) (a byte : ℕ) : Type 0 whe
   pub apart : (t : List ℕ) → ¬ (Joins (front_of ps a) (take byte (line_bytes ps a) ++ t))
   pub begins : byte ≡ 0 → (front_of ps a ≡ []) ⊎ (last_byte (front_of ps a) ≡ code "\n")
 
--- a line begins after the bytes x and before y, if one begins before x where x is empty
+-- a line begins between x and y: x ends in a break that y does not continue, or x is empty and a
+-- line begins before it
 abbrev pub BeginsBehind : List ℕ → List ℕ → Type 0
 BeginsBehind x y =
     (x ≡ []) ⊎ ((0 < length x) × ((last_byte x ≡ code "\n") ⊎ ((last_byte x ≡ code "\r") × (first_byte y ≢ code "\n"))))
