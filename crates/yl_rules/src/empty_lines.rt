@@ -11,7 +11,7 @@ use yl_text::{Break, Finding, RuleId};
 /// The maximum numbers of successive lines that consist of a break only.
 #[derive(Clone, Copy)]
 pub struct EmptyLinesOptions {
-    /// The maximum elsewhere.
+    /// The maximum, except at the start and at the end of a text.
     pub max: u32,
     /// The maximum at the start of a text.
     pub max_start: u32,
@@ -71,8 +71,8 @@ fn too_many<A: Allocator + Copy>(
 }
 
 /// Returns the finding of a run of `run` lines, by its position in the text, if it is too long.
-/// `line` is the number of its last line, counted from 1, and `at_end` is set if only an empty line
-/// follows. The only error is out of memory.
+/// `line` is the number of its last line, counted from 1, and `at_end` is set if the empty last
+/// line follows. A text that consists of one break has no finding. The only error is out of memory.
 fn judge<A: Allocator + Copy>(
     alloc: A,
     options: &EmptyLinesOptions,
