@@ -1,4 +1,4 @@
--- Meaning: what a document derives by the grammar, and where its parse fault stands.
+-- Meaning: what the grammar derives for a document, and where its parse fault is.
 use Rattle.std.specs.Prelude.{ℕ, zero, suc, ◌≡◌, ◌<◌, ◌≤◌, List, [], ◌∷◌, ◌++◌}
 use Rattle.yl_marks.specs.declared.symbol.Symbol.{Symbol}
 use Rattle.yl_marks.specs.declared.symbol.Symbol.TheVariants.{One}
@@ -12,26 +12,27 @@ pub record Derives (ws : List Symbol) (es : List Outline) : Type 0 where
   pub spelled : spelling tree ≡ ws
   pub events : events tree ≡ es
 
--- some derivation begins so
+-- some derivation begins with these symbols
 pub record BeginsDerivation (front : List Symbol) : Type 0 where
   pub tree : Document
   pub rest : List Symbol
   pub spelled : spelling tree ≡ front ++ rest
 
--- so many lexemes, with the marks before each
+-- the first lexemes, of this number, with the marks before each
 abbrev pub front : ℕ → List Symbol → List Symbol
 front zero ws = []
 front (suc n) [] = []
 front (suc n) (One kind s ∷ ws) = One kind s ∷ front n ws
 front (suc n) (mark ∷ ws) = mark ∷ front (suc n) ws
 
--- how many lexemes there are among the symbols
+-- the number of lexemes among the symbols
 abbrev pub lexeme_count : List Symbol → ℕ
 lexeme_count [] = 0
 lexeme_count (One kind s ∷ ws) = suc (lexeme_count ws)
 lexeme_count (mark ∷ ws) = lexeme_count ws
 
--- the first lexeme with which no beginning of a derivation is left, or the end, where none of them is whole
+-- the fault is at the first lexeme with which no beginning of a derivation is left, or at the end,
+-- if the whole document has no derivation
 pub record HasFaultAt (ws : List Symbol) (place : ℕ) : Type 0 where
   pub inside : place ≤ lexeme_count ws
   pub before : BeginsDerivation (front place ws)

@@ -1,4 +1,4 @@
--- Meaning: events: YAML 1.2.2, 3.1.2. Names and values in UTF-8.
+-- Meaning: events: YAML 1.2.2, 3.1.2. Names and values are in UTF-8.
 use Rattle.std.specs.Prelude.{ℕ, ◌≡◌, Bool, true, false, List, [], map, Option, Some, None, option_map, slice_get}
 use Rattle.std.specs.Option.{option_map_or}
 use Rattle.yl_text.specs.declared.position.Pos.{Pos}
@@ -30,14 +30,14 @@ pub record EventAnchorValue : Type 0 where
   pub name : List ℕ
   pub place : Pos
 
--- an event: the place is that of its content, behind properties
+-- an event; the place is that of its content, after properties
 pub record EventValue : Type 0 where
   pub kind : EventKindValue
   pub place : Option Pos
   pub anchor : Option EventAnchorValue
   pub is_tagged : Bool
 
--- ---- as the code has them
+-- ---- the events of the code
 
 abbrev pub kind_value : EventKind → EventKindValue
 kind_value kind.DocumentStart = DocumentStart
@@ -66,7 +66,7 @@ event_value e = record {
   is_tagged = e.is_tagged;
 }
 
--- ---- names, values and places of a document's lexemes
+-- ---- names, values and places of the lexemes of a document
 
 abbrev pub value_of : Option LexemeValue → List ℕ
 value_of x = option_map_or (λ y. y.value) x []
@@ -80,7 +80,7 @@ value_at xs i = value_of (slice_get xs i)
 abbrev pub start_at : List LexemeValue → ℕ → Pos
 start_at xs i = start_of (slice_get xs i)
 
--- the value at a content's place, if it has one
+-- the value of the lexeme with which the content begins, if there is one
 abbrev pub content_value : List LexemeValue → Option ℕ → List ℕ
 content_value xs place = option_map_or (value_at xs) place []
 
@@ -98,13 +98,13 @@ kind_of xs shape.Empty place = Empty
 abbrev pub anchor_of : List LexemeValue → Option ℕ → Option EventAnchorValue
 anchor_of xs place = option_map (λ i. record { name = value_at xs i; place = start_at xs i }) place
 
--- an event of the document of these lexemes
+-- the event of an outline of the document with these lexemes
 abbrev pub event_of_outline : List LexemeValue → Outline → EventValue
 event_of_outline xs o =
     let place = option_map (start_at xs) o.place in
     record { kind = kind_of xs o.kind o.place; place = place; anchor = anchor_of xs o.anchor; is_tagged = o.is_tagged }
 
--- these are the events of the derivation of the document of these lexemes
+-- es are the events of the derivation of the document with these lexemes
 pub record AreEvents (xs : List LexemeValue) (es : List EventValue) : Type 0 where
   pub outlines : List Outline
   pub derived : Derives (symbols_of_lexemes xs) outlines

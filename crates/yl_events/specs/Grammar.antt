@@ -1,7 +1,7 @@
 -- Meaning: the grammar of a document over its marked lexemes: YAML 1.2.2, 7.4 and 7.5 (nodes, flow
--- collections), 8.2 (block collections), 9.1 and 9.2 (documents). A tree for each derivation, and
--- its spelling before what follows it. A Value without key belongs to the Key before it if that has
--- none yet: `Keyed`.
+-- collections), 8.2 (block collections), 9.1 and 9.2 (documents). A derivation is a tree, and has a
+-- spelling, which stands before the symbols that follow. A Value without a key belongs to the Key
+-- before it, if that has none yet: `Keyed`.
 use Rattle.std.specs.Prelude.{ℕ, List, [], ◌∷◌, Option, Some, None}
 use Rattle.yl_lexeme.specs.declared.lexeme.Kind.{Kind}
 use Rattle.yl_lexeme.specs.declared.lexeme.Style.{Style}
@@ -55,14 +55,15 @@ mutual
     ValueEntry : (colon : ℕ) (value : Value) (more : Pairs) → Pairs
     Others : (more : Keyed) → Pairs
 
-  -- the same, where the first entry is no Value without key: that one would belong to the Key before it
+  -- entries of a block mapping, the first of which is no Value without a key: that one would belong
+  -- to the Key before it
   pub data Keyed : Type 0 where
     NoPair : Keyed
     PairEntry : (at : ℕ) (key : Inline) (colon : ℕ) (value : Value) (more : Pairs) → Keyed
     KeyEntry : (mark : ℕ) (key : Value) (more : Keyed) → Keyed
     KeyValueEntry : (mark : ℕ) (key : Value) (colon : ℕ) (value : Value) (more : Pairs) → Keyed
 
--- Directive* [DocStart], with a Directive the DocStart must be there
+-- Directive* [DocStart]; after a Directive the DocStart must be there
 pub data Start : Type 0 where
   Bare : Start
   Marked : (directives : List ℕ) (start : ℕ) → Start

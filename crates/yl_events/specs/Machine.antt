@@ -15,7 +15,7 @@ use Rattle.yl_events.specs.declared.symbol.Where.TheVariants.{InInline, InBlock}
 use Rattle.yl_events.specs.declared.symbol.Goal.{Goal}
 use Rattle.yl_events.specs.declared.symbol.Goal.TheVariants.{Prefix, Directives, Ending, Formed, Entries, Indentless, Pairs, ValueOf, Colon, Items, ItemEnd, PairEnd, NodeEnd}
 
--- the goals in place of one, and the events
+-- the goals that replace a goal, and the events that are appended
 pub record Turn : Type 0 where
   pub goals : List Goal
   pub events : List Outline
@@ -33,7 +33,7 @@ with_tag None t = Some (Tagged t)
 with_tag (Some (Anchored a)) t = Some (AnchoredTagged a t)
 with_tag _ t = None
 
--- a property more
+-- one property more
 abbrev pub property_turn : Where → Option Properties → Option Turn
 property_turn w None = None
 property_turn w more = turn (Formed w more ∷ []) []
@@ -42,7 +42,7 @@ abbrev pub alias_at : Option Properties → ℕ → Option Turn
 alias_at None s = turn [] (bare_event Alias (Some s) ∷ [])
 alias_at (Some ps) s = None
 
--- a node behind these properties
+-- a node after these properties
 abbrev pub node_turn : Where → Option Properties → Symbol → Option Turn
 node_turn w ps (One Kind.Alias s) = alias_at ps s
 node_turn w ps (One Kind.Anchor s) = property_turn w (with_anchor ps s)
@@ -93,7 +93,7 @@ takes (ItemEnd b) (One Kind.Comma s) = turn (Items b ∷ []) []
 takes (ItemEnd b) (One kind s) = closing_turn b kind
 takes _ _ = None
 
--- it takes some mark
+-- the goal takes some mark
 abbrev pub takes_marks : Goal → Bool
 takes_marks (Formed w ps) = true
 takes_marks Entries = true
@@ -101,7 +101,7 @@ takes_marks Pairs = true
 takes_marks (Items b) = true
 takes_marks _ = false
 
--- the events of a goal that nothing comes for, where it may be left
+-- the events of a goal for which no symbol comes, if it may be left
 abbrev pub leaves : Goal → Option (List Outline)
 leaves Prefix = Some []
 leaves Ending = Some []
@@ -154,7 +154,7 @@ events_with_end (Some out) = Some (out ++ end_event DocumentEnd ∷ [])
 abbrev pub parse : List Symbol → Option (List Outline)
 parse ws = events_with_end (run ws goals_of_document (bare_event DocumentStart None ∷ []))
 
--- how many lexemes the goals take before they refuse a symbol, or the end
+-- the number of lexemes that the goals take before they refuse a symbol, or the end
 abbrev pub count_with : Symbol → ℕ → ℕ
 count_with (One kind s) n = suc n
 count_with _ n = n
@@ -167,11 +167,12 @@ abbrev pub taken_count : List Symbol → List Goal → List Outline → ℕ
 taken_count [] goals out = 0
 taken_count (x ∷ xs) goals out = count_then x (λ s. taken_count xs s.goals s.events) (step goals out x)
 
--- where a document that is not parsed has its fault
+-- the index of the fault in a document that is not parsed
 abbrev pub fault_place : List Symbol → ℕ
 fault_place ws = taken_count ws goals_of_document (bare_event DocumentStart None ∷ [])
 
--- what a goal does to the stack, whose top stands last, and the events; the flag says whether it does
+-- what a goal does to the stack, whose top is last, and to the events; the flag says whether it
+-- takes the symbol
 abbrev pub AnswersTaking : Option Turn → Bool → (old_goals new_goals : List Goal) → (old_events new_events : List Outline) → Type 0
 AnswersTaking None is_taken old new es fs = (is_taken ≡ false) × (new ≡ old) × (fs ≡ es)
 AnswersTaking (Some t) is_taken old new es fs = (is_taken ≡ true) × (reverse new ≡ t.goals ++ reverse old) × (fs ≡ es then t.events)
@@ -180,12 +181,12 @@ abbrev pub AnswersLeaving : Option (List Outline) → Bool → (old_events new_e
 AnswersLeaving None is_left es fs = (is_left ≡ false) × (fs ≡ es)
 AnswersLeaving (Some more) is_left es fs = (is_left ≡ true) × (fs ≡ es then more)
 
--- a step's answer, and the stack and the events that it leaves
+-- the result of a step, and the stack and the events after it
 abbrev pub AnswersStep : Option ParserState → Bool → List Goal → List Outline → Type 0
 AnswersStep None is_taken goals events = is_taken ≡ false
 AnswersStep (Some s) is_taken goals events = (is_taken ≡ true) × (reverse goals ≡ s.goals) × (events ≡ s.events)
 
--- the end of the input: all goals are left, or one may not be
+-- the end of the document: all goals are left, or one of them may not be left
 abbrev pub AnswersFinish : Option (List Outline) → Bool → List Outline → Type 0
 AnswersFinish None is_whole events = is_whole ≡ false
 AnswersFinish (Some es) is_whole events = (is_whole ≡ true) × (events ≡ es)

@@ -1,4 +1,5 @@
--- Bridge: which lexemes are named by what the parser tells, and by what it still has to read. Lexemes go by their index in the document.
+-- Bridge: the lexemes that the outlines of the parser and its goals name. A lexeme is named by its
+-- index in the document.
 use Rattle.std.specs.Prelude.{ℕ, ◌≡◌, ◌<◌, ◌≤◌, ◌+◌, ◌⊎◌, List, [], ◌∷◌, Option, Some, None, IfSome}
 use Rattle.yl_marks.specs.declared.symbol.Symbol.{Symbol}
 use Rattle.yl_marks.specs.declared.symbol.Symbol.TheVariants.{OpenSequence, OpenMapping, BeginKey, Close, One}
@@ -18,7 +19,7 @@ anchor_among (Some (Tagged t)) = None
 anchor_among (Some (AnchoredTagged a t)) = Some a
 anchor_among (Some (TaggedAnchored t a)) = Some a
 
--- the anchor whose node a goal is to read
+-- the anchor whose node the goal is to read
 abbrev pub anchor_of_goal : Goal → Option ℕ
 anchor_of_goal (Formed w ps) = anchor_among ps
 anchor_of_goal _ = None
@@ -33,14 +34,14 @@ abbrev pub NoneWaits : List Goal → Type 0
 NoneWaits [] = Unit {0}
 NoneWaits (g ∷ goals) = (anchor_of_goal g ≡ None) × NoneWaits goals
 
--- none waits but in the innermost
+-- no anchor waits but in the innermost goal
 abbrev pub OnlyInnermostWaits : List Goal → Type 0
 OnlyInnermostWaits [] = Unit {0}
 OnlyInnermostWaits (g ∷ goals) = NoneWaits goals
 
 -- ---- names
 
--- the lexemes that a symbol names are of this kind
+-- the lexemes that a symbol names satisfy Is
 abbrev pub SymbolNames : (ℕ → Type 0) → Symbol → Type 0
 SymbolNames Is (OpenSequence i) = Is i
 SymbolNames Is (OpenMapping i) = Is i
@@ -52,7 +53,7 @@ abbrev pub SymbolsName : (ℕ → Type 0) → List Symbol → Type 0
 SymbolsName Is [] = Unit {0}
 SymbolsName Is (w ∷ ws) = SymbolNames Is w × SymbolsName Is ws
 
--- those that an outline names
+-- the lexemes that an outline names satisfy Is
 abbrev pub OutlineNames : (ℕ → Type 0) → Outline → Type 0
 OutlineNames Is o = IfSome o.place Is × IfSome o.anchor Is
 
@@ -60,10 +61,11 @@ abbrev pub OutlinesName : (ℕ → Type 0) → List Outline → Type 0
 OutlinesName Is [] = Unit {0}
 OutlinesName Is (o ∷ os) = OutlineNames Is o × OutlinesName Is os
 
--- a lexeme of the line of so many lexemes from this index on
+-- i is the index of a lexeme of a line that has `count` lexemes, the first of which has the index
+-- `first`
 abbrev pub IsInLine : (first count : ℕ) → ℕ → Type 0
 IsInLine first count i = (first ≤ i) × (i < first + count)
 
--- one of those, or the anchor that waits
+-- i is the index of one of these lexemes, or of the anchor that waits
 abbrev pub IsNamed : (first count : ℕ) → Option ℕ → ℕ → Type 0
 IsNamed first count waiting i = IsInLine first count i ⊎ (waiting ≡ Some i)

@@ -1,5 +1,5 @@
--- Meaning: the events of a derivation (YAML 1.2.2, 3.1.2), behind those before it. Their contents
--- and anchors go by the indices of lexemes.
+-- Meaning: the events of a derivation (YAML 1.2.2, 3.1.2), appended to those before. Their contents
+-- and anchors are named by the indices of lexemes.
 use Rattle.std.specs.Prelude.{ℕ, true, false, List, [], ◌∷◌, ◌++◌, Option, Some, None}
 use Rattle.yl_events.specs.declared.symbol.Properties.{Properties}
 use Rattle.yl_events.specs.declared.symbol.Properties.TheVariants.{Anchored, Tagged, AnchoredTagged, TaggedAnchored}
@@ -26,7 +26,7 @@ missing_node = bare_event Empty None
 abbrev pub end_event : Shape → Outline
 end_event kind = bare_event kind None
 
--- a flow collection's start and end
+-- the start and the end of a flow collection
 abbrev pub flow_start : BracketKind → Shape
 flow_start Square = SequenceStart
 flow_start Curly = MappingStart
@@ -35,7 +35,8 @@ abbrev pub flow_end : BracketKind → Shape
 flow_end Square = SequenceEnd
 flow_end Curly = MappingEnd
 
--- an item of [ ] with a Key or a Value is a mapping of one pair; an item of { } is an entry of its mapping
+-- an item of [ ] with a Key or a Value is a mapping of one pair; an item of { } is an entry of its
+-- mapping
 abbrev pub pair_start : BracketKind → ℕ → List Outline
 pair_start Square at = bare_event MappingStart (Some at) ∷ []
 pair_start Curly at = []
@@ -44,12 +45,12 @@ abbrev pub pair_end : BracketKind → List Outline
 pair_end Square = end_event MappingEnd ∷ []
 pair_end Curly = []
 
--- in { } a bare node is a key without value
+-- in { } a node alone is a key without a value
 abbrev pub node_end : BracketKind → List Outline
 node_end Square = []
 node_end Curly = missing_node ∷ []
 
--- the events, and behind them these
+-- the events `out`, and after them these
 infixl 65 ◌then◌
 abbrev pub ◌then◌ : List Outline → List Outline → List Outline
 out then [] = out

@@ -1,4 +1,5 @@
--- Bridge: events of a line, of which the code has the line's lexemes and the anchor that waits for its node.
+-- Bridge: the events of a line, by the lexemes of the line and the anchor that waits for its node
+-- before it.
 use Rattle.std.specs.Prelude.{ℕ, ◌≡◌, ◌<◌, ◌+◌, ◌-◌, ◌==◌, nat_lt, if◌then◌else◌, List, [], length, Option, Some, None, IfSome, option_map, slice_get}
 use Rattle.std.specs.Option.{option_map_or}
 use Rattle.yl_text.specs.declared.position.Pos.{Pos}
@@ -18,7 +19,8 @@ pub record WaitingAnchorValue : Type 0 where
 abbrev pub waiting_value : WaitingAnchor → WaitingAnchorValue
 waiting_value w = record { index = w.index; name = w.name.now; place = w.place }
 
--- the lexemes of a line, how many of the document stand before them, and the anchor that waits
+-- the lexemes of a line, the number of lexemes of the document before them, and the anchor that
+-- waits
 pub record LineValue : Type 0 where
   pub lexemes : List LexemeValue
   pub first : ℕ
@@ -29,11 +31,11 @@ abbrev pub waits_at : ℕ → Option WaitingAnchorValue → Option WaitingAnchor
 waits_at i None = None
 waits_at i (Some w) = if w.index == i then Some w else None
 
--- the line's lexeme of this index in the document
+-- the lexeme of the line with this index in the document
 abbrev pub lexeme_of_line : LineValue → ℕ → Option LexemeValue
 lexeme_of_line l i = if nat_lt i l.first then None else slice_get l.lexemes (i - l.first)
 
--- the value and the place of the lexeme of this index
+-- the value and the place of the lexeme with this index
 abbrev pub value_seen : LineValue → ℕ → List ℕ
 value_seen l i = option_map_or (λ w. w.name) (waits_at i l.waiting) (value_of (lexeme_of_line l i))
 
@@ -57,7 +59,7 @@ kind_seen l shape.Empty place = Empty
 abbrev pub anchor_seen : LineValue → Option ℕ → Option EventAnchorValue
 anchor_seen l place = option_map (λ i. record { name = value_seen l i; place = start_seen l i }) place
 
--- the event of an outline that names these lexemes alone
+-- the event of an outline that names only these lexemes
 abbrev pub event_seen : LineValue → Outline → EventValue
 event_seen l o =
     let place = option_map (start_seen l) o.place in
@@ -65,10 +67,10 @@ event_seen l o =
 
 -- ---- in a document
 
--- the lexemes of a document from this index on are these, and perhaps more
+-- the lexemes of the document from the index `first` on begin with these
 abbrev pub HasLine : List LexemeValue → ℕ → List LexemeValue → Type 0
 HasLine xs first line = (i : ℕ) → i < length line → slice_get xs (first + i) ≡ slice_get line i
 
--- the anchor that waits is this one of the document of these lexemes
+-- the anchor that waits is an anchor of the document with these lexemes
 abbrev pub IsAnchorOf : List LexemeValue → Option WaitingAnchorValue → Type 0
 IsAnchorOf xs waiting = IfSome waiting (λ w. (value_at xs w.index ≡ w.name) × (start_at xs w.index ≡ w.place))

@@ -1,5 +1,5 @@
--- Bridge: what is kept of a document's symbols to say which fault comes behind them (YAML 1.2.2,
--- 9.1; 6.9 and 7.1; 7.4 and 8.2).
+-- Bridge: what is kept of the symbols of a document to determine the kind of a fault after them
+-- (YAML 1.2.2, 9.1; 6.9 and 7.1; 7.4 and 8.2).
 use Rattle.std.specs.Prelude.{ℕ, Bool, true, false, ◌||◌, if◌then◌else◌, List, [], ◌∷◌, take, drop}
 use Rattle.yl_lexeme.specs.declared.lexeme.Kind.{Kind}
 use Rattle.yl_marks.specs.declared.symbol.Symbol.{Symbol}
@@ -8,7 +8,8 @@ use Rattle.yl_events.specs.declared.fault.ParseFault.{ParseFault}
 use Rattle.yl_events.specs.declared.fault.ParseFault.TheVariants.{DocumentStartExpected, PropertiesGivenTwice}
 use Rattle.yl_events.specs.Faults.{OpenCollections, open_behind, fault_in, front_len}
 
--- whether the latest symbol is a directive, whether the properties that end with it have an anchor or a tag, and what is open
+-- whether the latest symbol is a directive, whether the properties that end with it have an anchor
+-- and a tag, and what is open
 pub record TrailValue : Type 0 where
   pub at_directive : Bool
   pub with_anchor : Bool
@@ -45,20 +46,20 @@ abbrev pub trail_after : TrailValue → List Symbol → TrailValue
 trail_after t [] = t
 trail_after t (w ∷ ws) = trail_after (trail_behind t w) ws
 
--- a second anchor or tag comes next, or an alias behind properties
+-- a second anchor or tag comes next, or an alias after properties
 abbrev pub comes_twice : TrailValue → List Symbol → Bool
 comes_twice t (One Kind.Anchor i ∷ ws) = t.with_anchor
 comes_twice t (One Kind.Tag i ∷ ws) = t.with_tag
 comes_twice t (One Kind.Alias i ∷ ws) = t.with_anchor || t.with_tag
 comes_twice t _ = false
 
--- the fault, where these symbols come next
+-- the kind of the fault, if these symbols come next
 abbrev pub fault_behind : TrailValue → List Symbol → ParseFault
 fault_behind t behind =
     if t.at_directive then DocumentStartExpected
     else if comes_twice t behind then PropertiesGivenTwice
     else fault_in t.open_ones behind
 
--- the fault at the lexeme of this index among the symbols that come next
+-- the kind of the fault at the lexeme with this index among the symbols that come next
 abbrev pub fault_from : TrailValue → ℕ → List Symbol → ParseFault
 fault_from t place ws = let n = front_len place ws in fault_behind (trail_after t (take n ws)) (drop n ws)

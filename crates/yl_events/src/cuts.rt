@@ -7,7 +7,8 @@ ghost use Rattle.yl_events.specs.Cut.{is_beginning};
 use std::alloc::{AllocError, Allocator};
 use yl_lexeme::{Kind, LexemeAtLine};
 
-/// Whether a document ends with a lexeme of this kind, where a marker `---` comes next, or directives and then one.
+/// Returns whether a document ends with a lexeme of this kind. `is_marked` says whether the lexemes
+/// after it begin with a marker `---`, or with directives and then one.
 fn ends_document(kind: Kind, is_marked: bool) -> bool
     ensures { result ≡ (is_document_end kind || (not (is_directive kind) && is_marked)) }
 {
@@ -18,7 +19,8 @@ fn ends_document(kind: Kind, is_marked: bool) -> bool
     }
 }
 
-/// Whether the lexemes from here on begin with a marker `---`, or with directives and then one.
+/// Returns whether some lexemes begin with a marker `---`, or with directives and then one. `kind`
+/// is the kind of the first of them, and `is_marked` says whether the lexemes after it begin so.
 fn starts_marked(kind: Kind, is_marked: bool) -> bool
     ensures { result ≡ (is_document_start kind || (is_directive kind && is_marked)) }
 {
@@ -29,7 +31,8 @@ fn starts_marked(kind: Kind, is_marked: bool) -> bool
     }
 }
 
-/// The index of the lexeme with which each document of a text begins. The only error is memory.
+/// Returns the index, from 0, of the lexeme with which each document of a text begins, in ascending
+/// order. The only error is out of memory.
 pub fn documents<A: Allocator + Copy>(
     alloc: A,
     lexemes: &[LexemeAtLine<'_, A>],
@@ -52,9 +55,9 @@ pub fn documents<A: Allocator + Copy>(
     Ok(starts)
 }
 
-/// Whether a document begins with a lexeme of this kind, directly behind one of the kind `last`. A text's directives stand only
-/// with its first lexeme, behind a document's end or behind another directive, so that a document that has some begins with the
-/// first of them.
+/// Returns whether a document begins with a lexeme of the kind `kind`, directly after one of the
+/// kind `last`. In a text, a directive is the first lexeme, or comes after a marker `...` or
+/// another directive. So a document that has directives begins with the first of them.
 pub fn begins_document(last: Kind, kind: Kind) -> bool
     ensures { result ≡ is_beginning last kind }
 {

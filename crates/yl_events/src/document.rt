@@ -19,7 +19,7 @@ use yl_lexeme::{LexemeAtLine, Meter};
 use yl_marks::document_marks;
 use yl_text::Pos;
 
-/// The value of the lexeme of this index.
+/// Returns the value of the lexeme with this index, or an empty string if there is none.
 fn value_at<'a, A: Allocator>(lexemes: &[LexemeAtLine<'a, A>], i: usize) -> &'a str
     ensures { result.now ≡ value_at (map (λ x. lexeme_at_line x.line x.lexeme.now) lexemes.now) i }
 {
@@ -29,7 +29,8 @@ fn value_at<'a, A: Allocator>(lexemes: &[LexemeAtLine<'a, A>], i: usize) -> &'a 
     }
 }
 
-/// Where the lexeme of this index begins in the text.
+/// Returns the position at which the lexeme with this index begins in the text, or line 0 and
+/// column 0 if there is none.
 fn start_at<A: Allocator>(lexemes: &[LexemeAtLine<'_, A>], i: usize) -> Pos
     ensures { result ≡ start_at (map (λ x. lexeme_at_line x.line x.lexeme.now) lexemes.now) i }
 {
@@ -39,6 +40,7 @@ fn start_at<A: Allocator>(lexemes: &[LexemeAtLine<'_, A>], i: usize) -> Pos
     }
 }
 
+/// Returns the value of the lexeme with this index, or an empty string if there is no index.
 fn content_value<'a, A: Allocator>(lexemes: &[LexemeAtLine<'a, A>], place: Option<u32>) -> &'a str
     ensures { result.now ≡ content_value (map (λ x. lexeme_at_line x.line x.lexeme.now) lexemes.now) place }
 {
@@ -48,6 +50,8 @@ fn content_value<'a, A: Allocator>(lexemes: &[LexemeAtLine<'a, A>], place: Optio
     }
 }
 
+/// Returns the kind of an event of this shape. `place` is the index of the lexeme with which its
+/// content begins.
 fn kind_of<'a, A: Allocator>(
     lexemes: &[LexemeAtLine<'a, A>],
     shape: Shape,
@@ -68,7 +72,7 @@ fn kind_of<'a, A: Allocator>(
     }
 }
 
-/// The event of an outline of a document with these lexemes.
+/// Returns the event of an outline of a document with these lexemes.
 pub fn event_of<'a, A: Allocator>(lexemes: &[LexemeAtLine<'a, A>], outline: &Outline) -> Event<'a>
     ensures { event_value result ≡ event_of_outline (map (λ x. lexeme_at_line x.line x.lexeme.now) lexemes.now) outline.now }
 {
@@ -91,7 +95,7 @@ pub fn event_of<'a, A: Allocator>(lexemes: &[LexemeAtLine<'a, A>], outline: &Out
     )
 }
 
-/// The events of outlines.
+/// Returns the events of the outlines. The only error is out of memory.
 fn fill_all<'a, A: Allocator + Copy>(
     alloc: A,
     lexemes: &[LexemeAtLine<'a, A>],
@@ -106,7 +110,8 @@ fn fill_all<'a, A: Allocator + Copy>(
     Ok(events)
 }
 
-/// The events of a document with these outlines, or its fault.
+/// Returns the events of a document with these outlines, or its fault and no events. The only error
+/// is out of memory.
 #[tactic(auto, using(crate::proofs::Giving::told_events))]
 fn build<'a, A: Allocator + Copy>(
     alloc: A,
@@ -132,8 +137,9 @@ fn build<'a, A: Allocator + Copy>(
     }
 }
 
-/// The events of one whole document's lexemes, or its parse fault and no events. Counts the document in the meter, also where memory is
-/// refused. The only error is memory.
+/// Returns the events of a document, given by all its lexemes, or its parse fault and no events.
+/// Counts the document in the meter, also after an error. The only error is out of memory, or more
+/// lexemes than a `u32` counts.
 pub fn parse_document<'a, A: Allocator + Copy>(
     alloc: A,
     lexemes: &[LexemeAtLine<'a, A>],

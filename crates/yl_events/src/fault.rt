@@ -1,19 +1,19 @@
 //! Parse faults.
 
-/// Why a document is refused.
+/// The kind of a parse fault: why a document is refused.
 #[derive(Clone, Copy, Debug, PartialEq, Eq)]
 pub enum ParseFault {
-    /// Behind a directive stands no marker `---`.
+    /// A directive is followed by neither a directive nor a marker `---`.
     DocumentStartExpected,
     /// A node has a second anchor or tag, or an alias has properties.
     PropertiesGivenTwice,
-    /// A flow collection goes on otherwise.
+    /// A lexeme cannot continue a flow collection, or the document ends within one.
     CommaOrBracketExpected,
-    /// A block mapping goes on otherwise.
+    /// A lexeme cannot continue a block mapping.
     KeyOrEndOfMappingExpected,
-    /// A block sequence goes on otherwise.
+    /// A lexeme cannot continue a block sequence.
     EntryOrEndOfSequenceExpected,
-    /// More than one node at the top.
+    /// A lexeme outside all collections cannot come there, such as one that begins a second node.
     SecondNode,
 }
 
@@ -21,7 +21,7 @@ impl ParseFault {
     ghost use Rattle.std.specs.Prelude.{◌≡◌};
     ghost use Rattle.yl_events.specs.Faults.{fault_text};
 
-    /// What is said of it.
+    /// Returns the message of the fault.
     pub fn text(self) -> &'static str
         ensures { result.now ≡ fault_text self }
     {
@@ -36,10 +36,12 @@ impl ParseFault {
     }
 }
 
-/// A document's fault: which, and the index of its lexeme in the document; the number of its lexemes stands for the
-/// place behind it.
+/// A parse fault of a document, and where it is.
 #[derive(Clone, Copy)]
 pub struct PlacedParseFault {
+    /// The kind of the fault.
     pub kind: ParseFault,
+    /// The index, from 0, of the lexeme at which the fault is. The number of lexemes of the
+    /// document stands for the position after all of them.
     pub place: usize,
 }

@@ -1,4 +1,4 @@
-//! Documents and events.
+//! The documents of a text, and the events and the parse fault of each.
 #![tactic(auto)]
 
 mod cuts;

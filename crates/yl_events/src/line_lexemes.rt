@@ -10,20 +10,26 @@ use yl_lexeme::LexemeAtLine;
 use yl_marks::RowLexemes;
 use yl_text::Pos;
 
-/// An anchor of an earlier line whose node is still to come: its index among the document's lexemes, its name, and its place in the
-/// text.
+/// An anchor of an earlier line whose node has not begun yet.
 #[derive(Clone, Copy)]
 pub struct WaitingAnchor<'n> {
+    /// The index of the anchor among the lexemes of the document, from 0.
     pub index: u32,
+    /// The name of the anchor.
     pub name: &'n str,
+    /// The position of the anchor in the text.
     pub place: Pos,
 }
 
-/// The lexemes that the outlines of a line may name: those that begin in the line, and the anchor that waits for its node before it.
+/// The lexemes that the outlines of a line may name: those that begin in the line, and the anchor
+/// before the line that waits for its node.
 #[derive(Drop)]
 pub struct LineLexemes<'n, A: Allocator> {
+    /// The lexemes that begin in the line.
     row: RowLexemes<'n, A>,
+    /// The number of lexemes of the document before the line.
     first: usize,
+    /// The anchor that waits before the line, if there is one.
     waiting: Option<WaitingAnchor<'n>>,
 }
 
@@ -43,7 +49,9 @@ impl<'n, A: Allocator> LineLexemes<'n, A> {
     ghost use Rattle.yl_events.specs.Event.{event_value, kind_value};
     ghost use Rattle.yl_events.specs.Seen.{content_seen, event_seen, kind_seen, lexeme_of_line, start_seen, value_seen, waiting_value, waits_at};
 
-    /// The lexemes of a row, before which the document has `first` lexemes and this anchor waits.
+    /// Creates a view of the lexemes of a row. `first` is the number of lexemes of the document
+    /// before the row, and `waiting` is the anchor that waits for its node there. Does not
+    /// allocate.
     pub fn new(
         row: &RowLexemes<'n, A>,
         first: usize,
@@ -61,7 +69,7 @@ impl<'n, A: Allocator> LineLexemes<'n, A> {
         }
     }
 
-    /// The anchor that waits, if it has this index.
+    /// Returns the anchor that waits, if it has this index.
     fn waits_at(&self, i: u32) -> Option<WaitingAnchor<'n>>
         ensures { option_map waiting_value result ≡ waits_at i self.now.waiting }
     {
@@ -71,7 +79,7 @@ impl<'n, A: Allocator> LineLexemes<'n, A> {
         }
     }
 
-    /// The line's lexeme of this index in the document.
+    /// Returns the lexeme of the line with this index in the document, if there is one.
     fn lexeme_at(&self, i: u32) -> Option<LexemeAtLine<'n, A>>
         ensures { option_map (λ x. lexeme_at_line x.line x.lexeme.now) result ≡ lexeme_of_line self.now i }
     {
@@ -88,6 +96,8 @@ impl<'n, A: Allocator> LineLexemes<'n, A> {
         }
     }
 
+    /// Returns the value of the lexeme with this index in the document, or an empty string if it is
+    /// neither in the line nor the anchor that waits.
     fn value_at(&self, i: u32) -> &'n str
         ensures { result.now ≡ value_seen self.now i }
     {
@@ -100,6 +110,8 @@ impl<'n, A: Allocator> LineLexemes<'n, A> {
         }
     }
 
+    /// Returns the position of the lexeme with this index in the document, or line 0 and column 0
+    /// if it is neither in the line nor the anchor that waits.
     fn start_at(&self, i: u32) -> Pos
         ensures { result ≡ start_seen self.now i }
     {
@@ -112,6 +124,7 @@ impl<'n, A: Allocator> LineLexemes<'n, A> {
         }
     }
 
+    /// Returns the value of the lexeme with this index, or an empty string if there is no index.
     fn content_value(&self, place: Option<u32>) -> &'n str
         ensures { result.now ≡ content_seen self.now place }
     {
@@ -121,6 +134,8 @@ impl<'n, A: Allocator> LineLexemes<'n, A> {
         }
     }
 
+    /// Returns the kind of an event of this shape. `place` is the index of the lexeme with which
+    /// its content begins.
     fn kind_of(&self, shape: Shape, place: Option<u32>) -> EventKind<'n>
         ensures { kind_value result ≡ kind_seen self.now shape place }
     {
@@ -137,7 +152,7 @@ impl<'n, A: Allocator> LineLexemes<'n, A> {
         }
     }
 
-    /// The event of an outline that was told of the line.
+    /// Returns the event of an outline of the line.
     pub fn event_of(&self, outline: &Outline) -> Event<'n>
         ensures { event_value result ≡ event_seen self.now outline.now }
     {
@@ -160,7 +175,8 @@ impl<'n, A: Allocator> LineLexemes<'n, A> {
         )
     }
 
-    /// The anchor of this index, in a line or before it, as it waits for its node after the line.
+    /// Returns the anchor with this index, which is in the line or waits before it, as an anchor
+    /// that waits for its node after the line.
     pub fn waiting(&self, i: u32) -> WaitingAnchor<'n>
         ensures { waiting_value result ≡ record { index = i; name = value_seen self.now i; place = start_seen self.now i } }
     {

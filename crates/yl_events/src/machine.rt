@@ -12,6 +12,7 @@ use std::alloc::{AllocError, Allocator};
 use yl_lexeme::Kind;
 use yl_marks::Symbol;
 
+/// Returns the outline of an event without an anchor and without a tag.
 pub fn bare(kind: Shape, place: Option<u32>) -> Outline
     ensures { result ≡ bare_event kind place }
 {
@@ -23,6 +24,7 @@ pub fn bare(kind: Shape, place: Option<u32>) -> Outline
     }
 }
 
+/// Returns the outline of an event of a node with these properties.
 fn decorated(properties: Option<Properties>, kind: Shape, place: Option<u32>) -> Outline
     ensures { result ≡ node_event properties kind place }
 {
@@ -41,7 +43,8 @@ fn decorated(properties: Option<Properties>, kind: Shape, place: Option<u32>) ->
     }
 }
 
-/// Adds an event. Room is made first, so that no event is handed back.
+/// Appends an event. Reserves the capacity first, so that an error does not return the event. The
+/// only error is out of memory.
 fn add<A: Allocator>(event: Outline, events: &mut Vec<Outline, A>) -> Result<(), AllocError>
     ensures { OnOk result (events.new.items ≡ events.old.items then event ∷ []) }
 {
@@ -50,7 +53,7 @@ fn add<A: Allocator>(event: Outline, events: &mut Vec<Outline, A>) -> Result<(),
     Ok(())
 }
 
-/// Tells an event: the goal is reached, and the goals below it are next.
+/// Appends an event, and returns `true`: the goal is reached. The only error is out of memory.
 fn tell<A: Allocator>(event: Outline, events: &mut Vec<Outline, A>) -> Result<bool, AllocError>
     ensures told { OnOk result (events.new.items ≡ events.old.items then event ∷ []) }
     ensures taken { IfOk result (λ taken. taken ≡ true) }
@@ -59,7 +62,7 @@ fn tell<A: Allocator>(event: Outline, events: &mut Vec<Outline, A>) -> Result<bo
     Ok(true)
 }
 
-/// Puts a goal on top.
+/// Pushes a goal onto the stack, and returns `true`. The only error is out of memory.
 fn put<A: Allocator>(goal: Goal, goals: &mut Vec<Goal, A>) -> Result<bool, AllocError>
     ensures goals { OnOk result (reverse goals.new.items ≡ goal ∷ reverse goals.old.items) }
     ensures taken { IfOk result (λ taken. taken ≡ true) }
@@ -69,7 +72,7 @@ fn put<A: Allocator>(goal: Goal, goals: &mut Vec<Goal, A>) -> Result<bool, Alloc
     Ok(true)
 }
 
-/// Properties with an anchor, where they may have one more.
+/// Returns the properties with this anchor added, or `None` if they have an anchor already.
 fn with_anchor(properties: Option<Properties>, anchor: u32) -> Option<Properties>
     ensures { result ≡ with_anchor properties anchor }
 {
@@ -80,7 +83,7 @@ fn with_anchor(properties: Option<Properties>, anchor: u32) -> Option<Properties
     }
 }
 
-/// Properties with a tag, where they may have one more.
+/// Returns the properties with this tag added, or `None` if they have a tag already.
 fn with_tag(properties: Option<Properties>, tag: u32) -> Option<Properties>
     ensures { result ≡ with_tag properties tag }
 {
@@ -91,7 +94,8 @@ fn with_tag(properties: Option<Properties>, tag: u32) -> Option<Properties>
     }
 }
 
-/// A node behind these properties.
+/// Takes a symbol that begins or continues a node after these properties. Returns whether the
+/// symbol is taken. The only error is out of memory.
 fn forms<A: Allocator>(
     place: Where,
     properties: Option<Properties>,
@@ -121,7 +125,8 @@ fn forms<A: Allocator>(
     }
 }
 
-/// The same, at a lexeme.
+/// Takes a lexeme that begins or continues a node after these properties. Returns whether the
+/// lexeme is taken. The only error is out of memory.
 fn form_begins<A: Allocator>(
     place: Where,
     properties: Option<Properties>,
@@ -170,7 +175,8 @@ fn form_begins<A: Allocator>(
     }
 }
 
-/// The end of a flow collection.
+/// Takes the lexeme that ends a flow collection. Returns whether the lexeme is taken. The only
+/// error is out of memory.
 fn closes<A: Allocator>(
     bracket: BracketKind,
     kind: Kind,
@@ -186,7 +192,8 @@ fn closes<A: Allocator>(
     }
 }
 
-/// The beginning of a pair in a flow collection.
+/// Appends the start of a pair in a flow collection. In curly brackets a pair has no event of its
+/// own. The only error is out of memory.
 fn start_pair<A: Allocator>(
     bracket: BracketKind,
     i: u32,
@@ -201,7 +208,8 @@ fn start_pair<A: Allocator>(
     Ok(())
 }
 
-/// An item that is a node.
+/// Takes the first lexeme of an item that is a node, and returns `true`. The only error is out of
+/// memory.
 #[tactic(auto, using(crate::proofs::Pushes::followed_taken))]
 fn bare_item<A: Allocator>(
     bracket: BracketKind,
@@ -219,7 +227,8 @@ fn bare_item<A: Allocator>(
     form_begins(Where::InInline, None, kind, i, goals, events)
 }
 
-/// An item, or the end of a flow collection, at a lexeme.
+/// Takes a lexeme that begins an item of a flow collection, or ends the collection. Returns whether
+/// the lexeme is taken. The only error is out of memory.
 fn item_begins<A: Allocator>(
     bracket: BracketKind,
     kind: Kind,
@@ -255,6 +264,8 @@ fn item_begins<A: Allocator>(
     }
 }
 
+/// Takes a symbol that begins an item of a flow collection, or ends the collection. Returns whether
+/// the symbol is taken. The only error is out of memory.
 fn items_take<A: Allocator>(
     bracket: BracketKind,
     symbol: Symbol,
@@ -279,7 +290,8 @@ fn items_take<A: Allocator>(
     }
 }
 
-/// More entries of a block sequence, or its end.
+/// Takes a symbol that begins an entry of a block sequence, or ends the sequence. Returns whether
+/// the symbol is taken. The only error is out of memory.
 fn take_entries<A: Allocator>(
     symbol: Symbol,
     goals: &mut Vec<Goal, A>,
@@ -299,7 +311,8 @@ fn take_entries<A: Allocator>(
     }
 }
 
-/// More entries of a block mapping, or its end.
+/// Takes a symbol that begins an entry of a block mapping, or ends the mapping. Returns whether the
+/// symbol is taken. The only error is out of memory.
 fn take_pairs<A: Allocator>(
     symbol: Symbol,
     goals: &mut Vec<Goal, A>,
@@ -335,7 +348,8 @@ fn take_pairs<A: Allocator>(
     }
 }
 
-/// Takes a lexeme for a goal that takes no mark.
+/// Takes a lexeme for a goal that takes no mark. Returns whether the lexeme is taken. The only
+/// error is out of memory.
 fn take_lexeme<A: Allocator>(
     goal: Goal,
     kind: Kind,
@@ -380,7 +394,8 @@ fn take_lexeme<A: Allocator>(
     }
 }
 
-/// Takes a symbol for a goal that was on top. If it takes none, nothing changes.
+/// Takes a symbol for a goal that was on top of the stack. Returns whether the symbol is taken. If
+/// it is not, nothing changes. The only error is out of memory.
 fn take<A: Allocator>(
     goal: Goal,
     symbol: Symbol,
@@ -401,7 +416,8 @@ fn take<A: Allocator>(
     }
 }
 
-/// Leaves a goal that nothing comes for, where it may be left.
+/// Leaves a goal for which no symbol comes, and appends its events. Returns `false` and changes
+/// nothing if the goal may not be left. The only error is out of memory.
 fn leave<A: Allocator>(goal: Goal, events: &mut Vec<Outline, A>) -> Result<bool, AllocError>
     ensures { IfOk result (λ is_left. AnswersLeaving (leaves goal) is_left events.old.items events.new.items) }
 {
@@ -422,7 +438,8 @@ fn leave<A: Allocator>(goal: Goal, events: &mut Vec<Outline, A>) -> Result<bool,
     Ok(true)
 }
 
-/// Takes a symbol: goals on top that may be left are left until one takes it.
+/// Takes a symbol. Leaves goals from the top of the stack until one takes it. Returns whether one
+/// does. The only error is out of memory.
 #[inline(never)]
 fn search<A: Allocator>(
     symbol: Symbol,
@@ -442,7 +459,8 @@ fn search<A: Allocator>(
     Ok(false)
 }
 
-/// The same. What most symbols of a document meet is seen here, where nothing is copied, and all else is left to the search.
+/// Takes a symbol, as `search` does. Handles the most frequent cases here, without a move of the
+/// goal, and leaves the others to `search`. The only error is out of memory.
 fn step<A: Allocator>(
     symbol: &Symbol,
     goals: &mut Vec<Goal, A>,
@@ -471,7 +489,7 @@ fn step<A: Allocator>(
     }
 }
 
-/// Leaves all goals, where they may be left.
+/// Leaves all goals. Returns whether all of them may be left. The only error is out of memory.
 pub fn finish<A: Allocator>(
     goals: &mut Vec<Goal, A>,
     events: &mut Vec<Outline, A>,
@@ -486,7 +504,8 @@ pub fn finish<A: Allocator>(
     Ok(true)
 }
 
-/// Takes these symbols, and tells their events behind those before. Answers how many lexemes of them were taken, where one is refused.
+/// Takes these symbols and appends their events. Returns `None` if all are taken, else the number
+/// of lexemes before the symbol that is refused. The only error is out of memory.
 pub fn walk<A: Allocator>(
     symbols: &[Symbol],
     goals: &mut Vec<Goal, A>,

@@ -1,4 +1,4 @@
-//! A document is parsed line by line.
+//! A parser of documents that are given line by line.
 
 ghost use Rattle.std.specs.Prelude.{◌≡◌, [], ◌++◌, ◌+◌, ◌<◌, ◌-◌, ◌^◌, OnOk, IfOk};
 ghost use Rattle.yl_events.specs.Parsing.{no_document, parser_at_start, start_events, document_outcome_of_lines, Feeds, IsOutcome};
@@ -11,13 +11,14 @@ use std::marker::Model;
 use yl_lexeme::Meter;
 use yl_marks::{Marker, Symbol, Token};
 
-/// Parses a document that is fed line by line, and tells its outlines: what counts of the lines that were fed. It is used for one
-/// document after another.
+/// A parser of documents, given line by line, that appends the outlines of their events. Of what
+/// was fed, it holds only what the rest of the document depends on. It may be used for several
+/// documents, one after another.
 #[derive(Drop)]
 pub struct Parser<A: Allocator + Copy> {
     marker: Marker<A>,
     parser: SymbolParser<A>,
-    /// Room for a line's lexemes with their marks.
+    /// The symbols of the latest line. Kept for its capacity.
     symbols: Vec<Symbol, A>,
 }
 
@@ -30,7 +31,8 @@ impl<A: Allocator + Copy> Model for Parser<A> {
 }
 
 impl<A: Allocator + Copy> Parser<A> {
-    /// Where no document has begun: whatever is fed is refused.
+    /// Creates a parser in which no document has begun. It refuses every lexeme until `begin` is
+    /// called.
     pub fn new(alloc: A) -> Parser<A>
         ensures { result ≡ no_document }
     {
@@ -41,8 +43,8 @@ impl<A: Allocator + Copy> Parser<A> {
         }
     }
 
-    /// A document begins, and is counted: what was fed before is forgotten, and all room is kept. The only error is memory; the
-    /// document is counted then too.
+    /// Begins a document, appends its first outline, and counts it in the meter, also after an
+    /// error. Forgets the lines before, and keeps the capacity. The only error is out of memory.
     pub fn begin(
         &mut self,
         outlines: &mut Vec<Outline, A>,
@@ -57,16 +59,17 @@ impl<A: Allocator + Copy> Parser<A> {
         self.parser.begin(outlines, meter)
     }
 
-    /// How many lexemes of the document were fed.
+    /// Returns the number of lexemes of the document that were fed.
     pub fn count(&self) -> usize
         ensures { result ≡ self.now.marks.count }
     {
         self.marker.count()
     }
 
-    /// Takes the lexemes that begin in the document's next line, all of them, and tells their outlines behind those before; or answers
-    /// the document's fault, which it has however it goes on. The only error is memory, or more lexemes than a `usize` counts. Behind
-    /// a fault or an error only `begin` makes the parser fit for use.
+    /// Takes all lexemes that begin in the next line of the document, and appends their outlines.
+    /// Returns the document's fault, if these lexemes imply one whatever follows. The only error is
+    /// out of memory, or more lexemes than a `u32` counts. After a fault or an error, `begin` must
+    /// be called next.
     #[tactic(auto, using(crate::proofs::Counts::line_whole, crate::proofs::Lines::fed_line))]
     pub fn feed(
         &mut self,
@@ -81,7 +84,8 @@ impl<A: Allocator + Copy> Parser<A> {
         self.parser.feed(first, &self.symbols, outlines)
     }
 
-    /// The document ends: tells the last of its outlines, or answers its fault. The only error is memory. Behind it `begin` is next.
+    /// Ends the document: appends the last of its outlines, or returns its fault. The only error is
+    /// out of memory. After this call `begin` must be called next.
     pub fn finish(
         &mut self,
         outlines: &mut Vec<Outline, A>,

@@ -1,4 +1,4 @@
-//! A document is parsed as its symbols come.
+//! A parser of documents that are given symbol by symbol.
 
 ghost use Rattle.std.specs.Prelude.{◌≡◌, ◌≤◌, ◌<◌, ◌++◌, ◌+◌, ◌-◌, ◌^◌, true, reverse, None, Some, OnOk, IfOk, IfSome};
 ghost use Rattle.yl_events.specs.Derives.{lexeme_count};
@@ -18,12 +18,14 @@ use std::marker::Model;
 use yl_lexeme::Meter;
 use yl_marks::Symbol;
 
-/// Parses a document whose symbols are fed some at a time, and tells its outlines: what counts of the symbols that were fed. It is
-/// used for one document after another.
+/// A parser of documents, given some symbols at a time, that appends the outlines of their events.
+/// Of what was fed, it holds only what the rest of the document depends on. It may be used for
+/// several documents, one after another.
 #[derive(Drop)]
 pub struct SymbolParser<A: Allocator> {
-    /// What is still to be read, the innermost last.
+    /// What is still to be read, the innermost goal last.
     goals: Vec<Goal, A>,
+    /// What determines the kind of the next fault.
     trail: Trail<A>,
 }
 
@@ -37,7 +39,8 @@ impl<A: Allocator> Model for SymbolParser<A> {
 }
 
 impl<A: Allocator + Copy> SymbolParser<A> {
-    /// Where no document has begun: whatever is fed is refused.
+    /// Creates a parser in which no document has begun. It refuses every lexeme until `begin` is
+    /// called.
     pub fn new(alloc: A) -> SymbolParser<A>
         ensures { result ≡ no_symbols }
     {
@@ -47,8 +50,8 @@ impl<A: Allocator + Copy> SymbolParser<A> {
         }
     }
 
-    /// A document begins, and is counted: what was fed before is forgotten, and all room is kept. The only error is memory; the
-    /// document is counted then too.
+    /// Begins a document, appends its first outline, and counts it in the meter, also after an
+    /// error. Forgets the symbols before, and keeps the capacity. The only error is out of memory.
     pub fn begin(
         &mut self,
         outlines: &mut Vec<Outline, A>,
@@ -71,9 +74,11 @@ impl<A: Allocator + Copy> SymbolParser<A> {
         Ok(())
     }
 
-    /// Takes the document's next symbols, of which no mark stands behind the last lexeme, and tells their outlines behind those before;
-    /// or answers the document's fault, which it has however it goes on. `first` is how many of its lexemes stand before them. The only
-    /// error is memory, or more lexemes than a `usize` counts. Behind a fault or an error only `begin` makes the parser fit for use.
+    /// Takes the next symbols of the document, and appends their outlines. No mark may come after
+    /// the last lexeme among them. Returns the document's fault, if these symbols imply one
+    /// whatever follows. `first` is the number of lexemes before them. The only error is out of
+    /// memory, or more lexemes than a `usize` counts. After a fault or an error, `begin` must be
+    /// called next.
     #[tactic(auto, using(crate::proofs::Lines::fed_all))]
     pub fn feed(
         &mut self,
@@ -98,7 +103,8 @@ impl<A: Allocator + Copy> SymbolParser<A> {
         }
     }
 
-    /// The anchor that waits for its node, if one does, by its index among the document's lexemes.
+    /// Returns the anchor that waits for its node, if there is one, as its index among the lexemes
+    /// of the document.
     pub fn waiting(&self) -> Option<u32>
         ensures { result ≡ waiting_anchor self.now.goals }
     {
@@ -108,8 +114,9 @@ impl<A: Allocator + Copy> SymbolParser<A> {
         }
     }
 
-    /// The document ends with these symbols: tells the last of its outlines, or answers its fault. `first` is how many of its lexemes
-    /// stand before them. The only error is memory, or more lexemes than a `usize` counts. Behind it `begin` is next.
+    /// Ends the document with these symbols: appends the last of its outlines, or returns its
+    /// fault. `first` is the number of lexemes before the symbols. The only error is out of memory,
+    /// or more lexemes than a `usize` counts. After this call `begin` must be called next.
     #[tactic(auto, using(crate::proofs::Lines::all_told, crate::proofs::Lines::fault_told))]
     pub fn finish(
         &mut self,
@@ -132,7 +139,7 @@ impl<A: Allocator + Copy> SymbolParser<A> {
     }
 }
 
-/// The anchor among properties.
+/// Returns the anchor among the properties, if there is one.
 fn anchor_among(properties: Option<Properties>) -> Option<u32>
     ensures { result ≡ anchor_among properties }
 {
@@ -144,7 +151,9 @@ fn anchor_among(properties: Option<Properties>) -> Option<u32>
     }
 }
 
-/// The fault at the lexeme of the index `place` among the symbols that come next, where `first` lexemes stand before these.
+/// Returns the fault at the lexeme with the index `place` among these symbols, before which the
+/// document has `first` lexemes. The only error is out of memory, or more lexemes than a `usize`
+/// counts.
 fn fault_at<A: Allocator>(
     trail: &mut Trail<A>,
     first: usize,
@@ -160,7 +169,7 @@ fn fault_at<A: Allocator>(
     Ok(PlacedParseFault { kind, place })
 }
 
-/// How many lexemes there are among the symbols.
+/// Returns the number of lexemes among the symbols.
 fn lexeme_count(symbols: &[Symbol]) -> usize
     ensures { result ≡ lexeme_count symbols.now }
 {
@@ -173,7 +182,8 @@ fn lexeme_count(symbols: &[Symbol]) -> usize
     count
 }
 
-/// Takes all symbols of a document, and leaves what is still to be read; or answers how many lexemes are taken before the fault.
+/// Takes the last symbols of a document, and then leaves all goals. Returns `None`, or the number
+/// of lexemes that are taken before the fault. The only error is out of memory.
 fn take_document<A: Allocator>(
     symbols: &[Symbol],
     goals: &mut Vec<Goal, A>,

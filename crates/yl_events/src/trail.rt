@@ -1,4 +1,4 @@
-//! What is kept of a document's symbols to say which fault comes behind them.
+//! What is kept of the symbols of a document to determine the kind of a fault after them.
 
 ghost use Rattle.std.specs.Prelude.{◌≡◌, ◌≤◌, ℕ, length, take, reverse, OnOk, IfOk};
 ghost use Rattle.yl_events.specs.Faults.{with_indentless, blocks_behind, depth_behind, without_closed, fault_in_blocks, fault_in, left_behind, front_len};
@@ -14,13 +14,13 @@ use yl_marks::Symbol;
 /// What is kept of the symbols that were passed.
 #[derive(Drop)]
 pub struct Trail<A: Allocator> {
-    /// The latest is a directive.
+    /// Whether the latest symbol is a directive.
     at_directive: bool,
-    /// The properties that end with the latest have an anchor.
+    /// Whether the properties that end with the latest symbol have an anchor.
     with_anchor: bool,
-    /// They have a tag.
+    /// Whether the properties that end with the latest symbol have a tag.
     with_tag: bool,
-    /// How many brackets are open.
+    /// The number of open brackets.
     depth: usize,
     /// The open block collections, the innermost last.
     blocks: Vec<OpenBlockCollection, A>,
@@ -41,7 +41,7 @@ impl<A: Allocator> Model for Trail<A> {
 }
 
 impl<A: Allocator> Trail<A> {
-    /// Where nothing was passed.
+    /// Creates the trail at the start of a document.
     pub fn new(alloc: A) -> Trail<A>
         ensures { result ≡ no_trail }
     {
@@ -54,7 +54,7 @@ impl<A: Allocator> Trail<A> {
         }
     }
 
-    /// Forgets what was passed, and keeps its room.
+    /// Forgets the symbols that were passed, and keeps the capacity.
     pub fn clear(&mut self)
         ensures { self.new ≡ no_trail }
     {
@@ -65,7 +65,8 @@ impl<A: Allocator> Trail<A> {
         self.blocks.clear();
     }
 
-    /// Passes a symbol. The only error is memory, or more open brackets than a `usize` counts.
+    /// Passes a symbol. The only error is out of memory, or more open brackets than a `usize`
+    /// counts.
     pub fn pass(&mut self, symbol: Symbol) -> Result<(), AllocError>
         ensures { OnOk result (self.new ≡ trail_behind self.old symbol) }
     {
@@ -87,7 +88,8 @@ impl<A: Allocator> Trail<A> {
         Ok(())
     }
 
-    /// Passes all of these symbols.
+    /// Passes all of these symbols. The only error is out of memory, or more open brackets than a
+    /// `usize` counts.
     pub fn pass_all(&mut self, symbols: &[Symbol]) -> Result<(), AllocError>
         ensures { OnOk result (self.new ≡ trail_after self.old symbols.now) }
     {
@@ -97,7 +99,8 @@ impl<A: Allocator> Trail<A> {
         Ok(())
     }
 
-    /// The fault, where these symbols come next and the first lexeme among them, or the end, is refused.
+    /// Returns the kind of the fault, if the symbols `behind` come next, and the first lexeme among
+    /// them, or the end of the document, is refused.
     pub fn fault(&self, behind: &[Symbol]) -> ParseFault
         ensures { result ≡ fault_behind self.now behind.now }
     {
@@ -114,7 +117,7 @@ impl<A: Allocator> Trail<A> {
         fault_in_blocks(&self.blocks[..open])
     }
 
-    /// Whether a second anchor or tag comes next, or an alias behind properties.
+    /// Returns whether a second anchor or tag comes next, or an alias after properties.
     fn comes_twice(&self, behind: &[Symbol]) -> bool
         ensures { result ≡ comes_twice self.now behind.now }
     {
@@ -126,7 +129,9 @@ impl<A: Allocator> Trail<A> {
         }
     }
 
-    /// The fault at the lexeme of this index among the symbols that come next. It passes those before.
+    /// Returns the kind of the fault at the lexeme with this index among the symbols that come
+    /// next. Passes the symbols before it. The only error is out of memory, or more open brackets
+    /// than a `usize` counts.
     pub fn fault_from(&mut self, place: usize, symbols: &[Symbol]) -> Result<ParseFault, AllocError>
         ensures { IfOk result (λ f. f ≡ fault_from self.old place symbols.now) }
     {
@@ -136,7 +141,8 @@ impl<A: Allocator> Trail<A> {
     }
 }
 
-/// Whether the properties that end with this symbol have an anchor, where those before it have one or not.
+/// Returns whether the properties that end with this symbol have an anchor. `had` says whether
+/// those before it have one.
 fn anchor_behind(had: bool, symbol: Symbol) -> bool
     ensures { result ≡ anchor_behind had symbol }
 {
@@ -147,7 +153,8 @@ fn anchor_behind(had: bool, symbol: Symbol) -> bool
     }
 }
 
-/// The same of a tag.
+/// Returns whether the properties that end with this symbol have a tag. `had` says whether those
+/// before it have one.
 fn tag_behind(had: bool, symbol: Symbol) -> bool
     ensures { result ≡ tag_behind had symbol }
 {
@@ -158,7 +165,8 @@ fn tag_behind(had: bool, symbol: Symbol) -> bool
     }
 }
 
-/// An indentless sequence is open in the innermost mapping, or no longer.
+/// Sets whether an indentless sequence is open in the innermost block collection, if that is a
+/// mapping. The only error is out of memory.
 fn set_indentless<A: Allocator>(
     is_open: bool,
     blocks: &mut Vec<OpenBlockCollection, A>,
@@ -175,6 +183,7 @@ fn set_indentless<A: Allocator>(
     Ok(())
 }
 
+/// Updates the open block collections after a symbol. The only error is out of memory.
 fn blocks_behind<A: Allocator>(
     symbol: Symbol,
     blocks: &mut Vec<OpenBlockCollection, A>,
@@ -196,6 +205,8 @@ fn blocks_behind<A: Allocator>(
     Ok(())
 }
 
+/// Returns the number of open brackets after a symbol. Returns `AllocError` if a `usize` cannot
+/// count them.
 fn depth_behind(depth: usize, symbol: Symbol) -> Result<usize, AllocError>
     ensures { IfOk result (λ d. d ≡ depth_behind depth symbol) }
 {
@@ -209,7 +220,8 @@ fn depth_behind(depth: usize, symbol: Symbol) -> Result<usize, AllocError>
     }
 }
 
-/// How many of the blocks are open behind the closings that come next.
+/// Returns the number of these blocks that are still open after the closings with which the symbols
+/// begin.
 fn left_open(behind: &[Symbol], blocks: &[OpenBlockCollection]) -> usize
     ensures left { reverse (take result blocks.now) ≡ without_closed behind.now (reverse blocks.now) }
     ensures within { result ≤ length blocks.now }
@@ -224,6 +236,7 @@ fn left_open(behind: &[Symbol], blocks: &[OpenBlockCollection]) -> usize
     open
 }
 
+/// Returns the kind of a fault outside all brackets, if these blocks are open, the innermost last.
 fn fault_in_blocks(blocks: &[OpenBlockCollection]) -> ParseFault
     ensures { result ≡ fault_in_blocks (reverse blocks.now) }
 {
@@ -234,7 +247,7 @@ fn fault_in_blocks(blocks: &[OpenBlockCollection]) -> ParseFault
     }
 }
 
-/// How many of so many lexemes are left behind a symbol.
+/// Returns how many of `left` lexemes are left after a symbol.
 fn left_behind(symbol: Symbol, left: usize) -> usize
     ensures { result ≡ left_behind symbol left }
 {
@@ -244,7 +257,7 @@ fn left_behind(symbol: Symbol, left: usize) -> usize
     }
 }
 
-/// How many symbols there are up to and with the lexeme of this count.
+/// Returns the number of symbols up to and including the last of the first `place` lexemes.
 fn front_len(place: usize, symbols: &[Symbol]) -> usize
     ensures len { result ≡ front_len place symbols.now }
     ensures within { result ≤ length symbols.now }
