@@ -1,4 +1,4 @@
--- Meaning: yamllint's rule anchors, over a document's events.
+-- Meaning: the findings of yamllint's rule anchors in the events of a document.
 use Rattle.std.specs.Prelude.{ℕ, Bool, true, false, not, ◌&&◌, ◌||◌, if◌then◌else◌, List, [], ◌∷◌, ◌++◌, codes, Option, Some, None, bytes_eq}
 use Rattle.std.specs.List.{list_any}
 use Rattle.std.specs.Option.{option_map_or}
@@ -8,7 +8,7 @@ use Rattle.yl_events.specs.Event.{EventValue, EventAnchorValue, EventKindValue, 
 use Rattle.yl_tree.specs.declared.options.AnchorsOptions.{AnchorsOptions}
 use Rattle.yl_tree.specs.Messages.{name_finding}
 
--- the anchor is there and has this name
+-- there is an anchor, and it has this name
 abbrev pub is_anchor_of : List ℕ → Option EventAnchorValue → Bool
 is_anchor_of name anchor = option_map_or (λ a. bytes_eq a.name name) anchor false
 
@@ -24,7 +24,7 @@ is_alias_of name _ = false
 abbrev pub is_declared : List EventValue → List ℕ → Bool
 is_declared before name = list_any (λ e. is_anchor_of name e.anchor) before
 
--- an alias of this name stands before the next anchor of this name, or the end
+-- an alias of this name comes before the next anchor of this name, or before the end
 abbrev pub is_used : List EventValue → List ℕ → Bool
 is_used [] name = false
 is_used (e ∷ es) name =

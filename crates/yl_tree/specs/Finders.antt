@@ -1,4 +1,5 @@
--- Bridge: what a rule that is fed events one after another finds, by the events that are to come.
+-- Bridge: the findings of a rule that is given events one after another, by the events that are
+-- still to come.
 use Rattle.std.specs.Prelude.{ℕ, ◌≡◌, ◌||◌, Bool, List, [], ◌++◌, map, reverse, Option, Some, None, bytes_eq}
 use Rattle.yl_text.specs.Finding.{FindingValue, at_each}
 use Rattle.yl_events.specs.Event.{EventValue}
@@ -15,8 +16,8 @@ use Rattle.yl_tree.specs.NameSets.{is_among}
 use Rattle.yl_tree.specs.NameStack.{level_at}
 use Rattle.yl_tree.specs.References.{reference_value}
 
--- the walk stands behind some events, at which this was found; with what is found at these, which
--- are to come, it is all that the rule finds
+-- the walk is after some events, with the findings `found` at these; with the findings at the
+-- events es, which are still to come, these are all findings of the rule
 pub record FindsByWalk {M A : Type 0} (speaks_against : List ℕ → List ℕ → Bool) (is_against : M → ℕ → List ℕ → Bool)
     (found_at : List EventValue → EventValue → List EventValue → List FindingValue)
     (w : Walk M A) (found : List FindingValue) (es : List EventValue) (all : List FindingValue) : Type 0 where
@@ -24,7 +25,7 @@ pub record FindsByWalk {M A : Type 0} (speaks_against : List ℕ → List ℕ �
   pub behind : IsBehind speaks_against is_against w before
   pub whole : found ++ at_each found_at before es ≡ all
 
--- with these events to come each of the rules finds all this in the document
+-- ---- if these events come, these are all findings of the rule in the document
 
 abbrev pub FindsDuplicates : {A : Type 0} → DuplicateFinder A → List EventValue → List FindingValue → Type 0
 FindsDuplicates f es all =

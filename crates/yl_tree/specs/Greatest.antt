@@ -1,4 +1,4 @@
--- Bridge: what the greatest of some keys says of them.
+-- Bridge: whether the greatest of some names is greater than a name.
 use Rattle.std.specs.Prelude.{ℕ, Bool, List}
 use Rattle.std.specs.List.{list_any}
 use Rattle.yl_tree.specs.KeyRules.{is_greater}

@@ -1,4 +1,5 @@
--- Meaning: yamllint's rules key-duplicates and key-ordering, over a document's events.
+-- Meaning: the findings of yamllint's rules key-duplicates and key-ordering in the events of a
+-- document.
 use Rattle.std.specs.Prelude.{ℕ, Bool, not, ◌&&◌, ◌||◌, if◌then◌else◌, List, [], codes, Option, Some, None, bytes_eq}
 use Rattle.std.specs.List.{list_any}
 use Rattle.std.specs.Ordering.{is_gt, nat_cmp}
@@ -12,7 +13,8 @@ use Rattle.yl_tree.specs.declared.options.KeyDuplicatesOptions.{KeyDuplicatesOpt
 use Rattle.yl_tree.specs.Messages.{name_finding}
 use Rattle.yl_tree.specs.Keys.{name_of, earlier_keys}
 
--- an event that has a name, if the test of the earlier keys of its mapping says yes
+-- the finding at an event that has a name, if the test is true for the earlier keys of its mapping
+-- and the name
 abbrev pub key_finding : (List (List ℕ) → List ℕ → Bool) → RuleId → List ℕ → List EventValue
     → EventValue → Option (List ℕ) → List FindingValue
 key_finding test rule front before e None = []
@@ -31,11 +33,11 @@ duplicate_at o before e after =
 abbrev pub key_duplicates : KeyDuplicatesOptions → List EventValue → List FindingValue
 key_duplicates o events = at_each (duplicate_at o) [] events
 
--- by code points: at the first that differs, or by length
+-- by code points: at the first one that differs, or by length
 abbrev pub is_greater : List ℕ → List ℕ → Bool
 is_greater a b = is_gt (slice_cmp nat_cmp (chars a) (chars b))
 
--- some earlier key is greater
+-- an earlier key is greater
 abbrev pub misplaced_at : List EventValue → EventValue → List EventValue → List FindingValue
 misplaced_at before e after = key_finding (λ earlier name. list_any (λ key. is_greater key name) earlier)
     KeyOrdering (codes "wrong ordering of key \"") before e (name_of e)

@@ -1,5 +1,5 @@
--- Meaning: the keys of mappings (YAML 1.2.2, 3.2.1.1), read off the events that come before an
--- event, the latest first.
+-- Meaning: the keys of mappings (YAML 1.2.2, 3.2.1.1), by the events that come before an event, the
+-- latest first.
 use Rattle.std.specs.Prelude.{ℕ, suc, Bool, true, false, not, ◌&&◌, ◌==◌, ◌-◌, if◌then◌else◌, List, [], ◌∷◌, Option, Some, None}
 use Rattle.std.specs.List.{filter_map}
 use Rattle.yl_lexeme.specs.declared.lexeme.Style.TheVariants.{Plain, Single, Double}
@@ -31,7 +31,7 @@ name_of e = compared_value e.kind
 
 -- ---- looking back: `skip` counts the collections that ended and whose starts are still to come
 
--- from how many they are behind an event to how many they are before it
+-- the count before an event, by the count after it
 abbrev pub skipped : EventValue → ℕ → ℕ
 skipped e skip =
     if is_collection_end e.kind then suc skip else if is_collection_start e.kind then skip - 1 else skip
@@ -51,7 +51,7 @@ is_mapping_open skip (e ∷ es) =
 
 -- ---- the nodes of a mapping are a key, its value, a key, its value ..
 
--- behind these nodes a key comes next
+-- after these nodes a key comes next
 abbrev pub is_key_next : List EventValue → Bool
 is_key_next [] = true
 is_key_next (n ∷ nodes) = not (is_key_next nodes)
@@ -60,8 +60,8 @@ abbrev pub keys_among : List EventValue → List EventValue
 keys_among [] = []
 keys_among (n ∷ nodes) = if is_key_next nodes then n ∷ keys_among nodes else keys_among nodes
 
--- the names of the earlier keys of the mapping in which the event after these is a key; none where
--- it is no key
+-- the names of the earlier keys of the mapping in which the event after these is a key; none if it
+-- is no key
 abbrev pub earlier_keys : List EventValue → List (List ℕ)
 earlier_keys before =
     if is_mapping_open 0 before && is_key_next (nodes_so_far 0 before)

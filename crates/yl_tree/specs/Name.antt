@@ -1,4 +1,4 @@
--- Bridge: the bytes of a name, wherever they lie.
+-- Bridge: the bytes of a name, wherever they are stored.
 use Rattle.std.specs.Prelude.{ℕ, List, string_bytes}
 use Rattle.yl_tree.specs.declared.name.Storage.{Storage}
 use Rattle.yl_tree.specs.declared.name.Storage.TheVariants.{Short, Long}

@@ -1,4 +1,4 @@
--- Bridge: which names a list or a set has.
+-- Bridge: the names in a list or in a set.
 use Rattle.std.specs.Prelude.{ℕ, Bool, true, List, Option, Some, None, bytes_eq}
 use Rattle.std.specs.List.{list_any}
 use denote.Ref.{Bor}
@@ -11,7 +11,7 @@ is_among names name = list_any (λ x. bytes_eq x name) names
 abbrev pub has_name : {S : Type 0} → HashSet (Bor (List ℕ)) S → List ℕ → Bool
 has_name names name = list_any (λ x. bytes_eq name x.now) names.keys
 
--- it is greater than the greatest, if there is one
+-- the name is greater than the greatest one, if there is one
 abbrev pub is_above : Option (List ℕ) → List ℕ → Bool
 is_above None name = true
 is_above (Some greatest) name = is_greater name greatest

@@ -3,22 +3,23 @@ use Rattle.std.specs.Prelude.{ℕ, zero, suc, ◌≡◌, ◌≤◌, true, false,
 use Rattle.yl_tree.specs.declared.name_stack.Level.{Level}
 use Rattle.yl_tree.specs.NameSets.{is_above, is_among}
 
--- the levels on a stack, the innermost first
+-- the levels of a stack, the innermost first
 abbrev pub levels : List Level → List (List ℕ) → List (List (List ℕ))
 levels [] names = []
 levels (l ∷ ls) names = drop l.begin names ∷ levels ls (take l.begin names)
 
--- none of the names is greater than this one
+-- none of the names is greater than the one with this index
 abbrev pub IsGreatest : ℕ → List (List ℕ) → Type 0
 IsGreatest i names = (q : List ℕ) → is_among names q ≡ true → is_above (slice_get names i) q ≡ false
 
--- each begins among the names before those of the levels in it, and knows its greatest
+-- each level begins within the names before those of the levels in it, or at their end, and has the
+-- index of its greatest name
 abbrev pub AreLevels : List Level → List (List ℕ) → Type 0
 AreLevels [] names = Unit {0}
 AreLevels (l ∷ ls) names =
     (l.begin ≤ length names) × IsGreatest l.greatest (drop l.begin names) × AreLevels ls (take l.begin names)
 
--- the level in which so many others are; no name where there is none
+-- the level within which n others are; no names if there is none
 abbrev pub level_at : ℕ → List (List (List ℕ)) → List (List ℕ)
 level_at n [] = []
 level_at zero (l ∷ ls) = l

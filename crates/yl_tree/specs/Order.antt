@@ -1,4 +1,4 @@
--- Meaning: the order of texts is the same by bytes and by code points.
+-- Meaning: a law: texts have the same order by their bytes as by their code points.
 use Rattle.std.specs.Prelude.{ℕ, ◌≡◌, List}
 use Rattle.std.specs.Ordering.{nat_cmp}
 use Rattle.std.specs.Cmp.Lexicographic.{slice_cmp}

@@ -1,15 +1,15 @@
--- Bridge: which events the rule anchors has to look at, and what it keeps of them.
+-- Bridge: the events that the rule anchors has to look at, and what it keeps of them.
 use Rattle.std.specs.Prelude.{ℕ, Bool, false, ◌||◌, is_some, List, Option, Some, None}
 use Rattle.yl_events.specs.Event.{EventValue, EventAnchorValue, EventKindValue, AliasOf, Empty}
 use Rattle.yl_tree.specs.declared.reference.KeptAnchor.{KeptAnchor}
 use Rattle.yl_tree.specs.declared.reference.Reference.{Reference}
 use Rattle.yl_tree.specs.Anchors.{is_alias_event}
 
--- it has an anchor or is an alias
+-- the event has an anchor or is an alias
 abbrev pub is_reference : EventValue → Bool
 is_reference e = is_some e.anchor || is_alias_event e.kind
 
--- ---- as the code has them
+-- ---- the references of the code
 
 abbrev pub alias_kind : Option (List ℕ) → EventKindValue
 alias_kind None = Empty

@@ -1,4 +1,4 @@
--- Meaning: what yamllint's rules on keys and anchors find in a document's events.
+-- Meaning: the findings of yamllint's rules on keys and anchors in the events of a document.
 use Rattle.std.specs.Prelude.{List, [], ◌++◌, if◌then◌else◌}
 use Rattle.std.specs.Option.{option_map_or}
 use Rattle.yl_text.specs.Finding.{FindingValue}

@@ -1,4 +1,4 @@
-//! The rule anchors, fed a document's events one after another.
+//! The rule anchors, given the events of a document one after another.
 ghost use Rattle.std.specs.Prelude.{◌≡◌, List, [], ◌∷◌, map, IfOk, OnOk};
 ghost use Rattle.yl_text.specs.Finding.{FindingValue};
 ghost use Rattle.yl_events.specs.Event.{EventValue, event_value};
@@ -12,15 +12,15 @@ use std::alloc::{AllocError, Allocator};
 use yl_events::Event;
 use yl_text::Finding;
 
-/// The rule anchors after a document's first events. It keeps what it needs of those that have an
-/// anchor or are an alias, and nothing of others.
+/// The rule anchors after the first events of a document. Keeps what it needs of the events that
+/// have an anchor or are an alias, and nothing of the others.
 #[derive(Drop)]
 pub(crate) struct AnchorFinder<A: Allocator + Copy> {
     options: AnchorsOptions,
     references: Vec<Reference<A>, A>,
 }
 
-/// The events of which this is kept.
+/// Returns the events of which these references are kept. The only error is out of memory.
 fn events_of<A: Allocator + Copy>(
     alloc: A,
     references: &[Reference<A>],
@@ -37,7 +37,7 @@ fn events_of<A: Allocator + Copy>(
 impl<A: Allocator + Copy> AnchorFinder<A> {
     ghost use Rattle.yl_tree.specs.Finders.{FindsAnchors};
 
-    /// Before a document's first event.
+    /// Creates the rule at the start of a document.
     pub(crate) fn new(alloc: A, options: AnchorsOptions) -> Self
         ensures { (es : List EventValue) → FindsAnchors result es (anchors options es) }
     {
@@ -47,7 +47,8 @@ impl<A: Allocator + Copy> AnchorFinder<A> {
         }
     }
 
-    /// Takes the next event.
+    /// Takes the next event. The only error is out of memory. After an error the rule must not be
+    /// used.
     pub(crate) fn push(&mut self, event: &Event<'_>) -> Result<(), AllocError>
         ensures { (es : List EventValue) (all : List FindingValue)
             → FindsAnchors self.old (event_value event.now ∷ es) all
@@ -60,7 +61,7 @@ impl<A: Allocator + Copy> AnchorFinder<A> {
         Ok(())
     }
 
-    /// What the rule found, where no event is to come.
+    /// Returns the findings of the rule, if no event follows. The only error is out of memory.
     pub(crate) fn finish(self) -> Result<Vec<Finding<A>, A>, AllocError>
         ensures { (all : List FindingValue) → FindsAnchors self [] all
             → IfOk result (λ v. v.items ≡ all) }

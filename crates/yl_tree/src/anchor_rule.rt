@@ -18,7 +18,7 @@ use std::alloc::{AllocError, Allocator};
 use yl_events::{Event, EventAnchor, EventKind};
 use yl_text::{Finding, RuleId};
 
-/// Whether the event has an anchor whose name is not among these.
+/// Returns whether the event has an anchor whose name is not among the names that are used.
 fn is_unused<A: Allocator>(event: &Event<'_>, used: &NameSet<'_, A>) -> bool
     ensures { (after : List EventValue) → ((q : List ℕ) → has_name used.now q ≡ is_used after q)
         → result ≡ spec.is_unused (event_value event.now).anchor after }
@@ -29,7 +29,8 @@ fn is_unused<A: Allocator>(event: &Event<'_>, used: &NameSet<'_, A>) -> bool
     }
 }
 
-/// From the names that are used behind an event to those that are used from it on.
+/// Updates the names that are used after an event to those that are used from the event on. The
+/// only error is out of memory.
 fn use_event<'a, A: Allocator + Copy>(
     event: &Event<'a>,
     used: &mut NameSet<'a, A>,
@@ -47,7 +48,8 @@ fn use_event<'a, A: Allocator + Copy>(
     Ok(())
 }
 
-/// For each event, the last one first, whether it has an anchor that is not used.
+/// Returns for each event whether it has an anchor that is not used. The last event is first. The
+/// only error is out of memory.
 fn unused_flags<'a, A: Allocator + Copy>(
     alloc: A,
     events: &[Event<'a>],
@@ -64,7 +66,7 @@ fn unused_flags<'a, A: Allocator + Copy>(
     Ok(flags)
 }
 
-/// Takes the last of the flags.
+/// Removes the last flag and returns it.
 fn next_flag<A: Allocator>(flags: &mut Vec<bool, A>) -> bool
     ensures { (flag : Bool) (later : List Bool) → flags.old.items ≡ reverse (flag ∷ later)
         → (result ≡ flag) × (flags.new.items ≡ reverse later) }
@@ -72,7 +74,7 @@ fn next_flag<A: Allocator>(flags: &mut Vec<bool, A>) -> bool
     flags.pop().unwrap_or(false)
 }
 
-/// Adds the name of the event's anchor.
+/// Adds the name of the event's anchor, if it has one. The only error is out of memory.
 fn declare<'a, A: Allocator + Copy>(
     event: &Event<'a>,
     declared: &mut NameSet<'a, A>,
@@ -86,7 +88,8 @@ fn declare<'a, A: Allocator + Copy>(
     Ok(())
 }
 
-/// The problem of an alias that no anchor of its name comes before.
+/// Returns the finding at an alias of whose name no anchor comes before, if it is forbidden. The
+/// only error is out of memory.
 fn undeclared_alias<A: Allocator>(
     alloc: A,
     event: &Event<'_>,
@@ -115,7 +118,8 @@ fn undeclared_alias<A: Allocator>(
     )
 }
 
-/// The problem of an anchor whose name an earlier one has.
+/// Returns the finding at an anchor whose name an earlier anchor has, if it is forbidden. The only
+/// error is out of memory.
 fn duplicated_anchor<A: Allocator>(
     alloc: A,
     anchor: &EventAnchor<'_>,
@@ -143,7 +147,8 @@ fn duplicated_anchor<A: Allocator>(
     )
 }
 
-/// The problem of an anchor, if it is not used.
+/// Returns the finding at an anchor that is not used, if it is forbidden. The only error is out of
+/// memory.
 fn unused_anchor<A: Allocator>(
     alloc: A,
     anchor: &EventAnchor<'_>,
@@ -168,7 +173,7 @@ fn unused_anchor<A: Allocator>(
     )
 }
 
-/// Puts behind `found` what the rule finds at the event's anchor.
+/// Appends the findings at the event's anchor. The only error is out of memory.
 fn push_anchor_problems<A: Allocator + Copy>(
     alloc: A,
     event: &Event<'_>,
@@ -190,7 +195,7 @@ fn push_anchor_problems<A: Allocator + Copy>(
     push_found(found, unused_anchor(alloc, &anchor, options, is_unused)?)
 }
 
-/// Puts behind `found` what the rule finds at the event.
+/// Appends the findings at the event. The only error is out of memory.
 fn push_problems<A: Allocator + Copy>(
     alloc: A,
     event: &Event<'_>,
@@ -209,24 +214,24 @@ fn push_problems<A: Allocator + Copy>(
     push_anchor_problems(alloc, event, options, declared, is_unused, found)
 }
 
-/// Whether the event has an anchor or is an alias.
+/// Returns whether the event has an anchor or is an alias.
 pub(crate) fn is_reference(event: &Event<'_>) -> bool
     ensures { result ≡ is_reference (event_value event.now) }
 {
     event.anchor().is_some() || matches!(event.kind, EventKind::Alias(_))
 }
 
-/// Whether one of the events has an anchor or is an alias.
+/// Returns whether one of the events has an anchor or is an alias.
 fn has_references(events: &[Event<'_>]) -> bool
     ensures { result ≡ list_any (λ e. is_reference (event_value e)) events.now }
 {
     events.iter().any(|event| is_reference(event))
 }
 
-/// What the rule anchors finds in one document, in the order of the events: undeclared aliases,
-/// anchors that repeat a name, and anchors that are not used. An anchor is used by an alias of its
-/// name after it and before the next anchor of that name. Lines are those of the events, and count
-/// from 1 as columns do. The only error is memory.
+/// Returns the findings of the rule anchors in one document, in the order of the events: undeclared
+/// aliases, anchors that repeat a name, and anchors that are not used. An alias uses the last
+/// anchor of its name before it. Lines and columns of findings count from 1, and columns count
+/// characters. The only error is out of memory.
 pub fn anchors<'a, A: Allocator + Copy>(
     alloc: A,
     events: &[Event<'a>],

@@ -17,13 +17,14 @@ use std::alloc::{AllocError, Allocator};
 use yl_events::Event;
 use yl_text::{Finding, RuleId};
 
+/// Returns whether a key of this name is judged: merge keys `<<` may be exempt.
 fn is_judged(options: &KeyDuplicatesOptions, name: &str) -> bool
     ensures { result ≡ options.now.forbid_duplicated_merge_keys || not (bytes_eq name.now (codes "<<")) }
 {
     options.forbid_duplicated_merge_keys || name != "<<"
 }
 
-/// Whether this name repeats a key, if a key comes next.
+/// Returns whether this name repeats a key that is judged, if a key comes next, else `false`.
 fn is_duplicate<A: Allocator + Copy>(
     walk: &Walk<OpenKeys<A>, A>,
     options: &KeyDuplicatesOptions,
@@ -38,7 +39,8 @@ fn is_duplicate<A: Allocator + Copy>(
     is_judged(options, name) && walk::is_spoken_against(walk, name)
 }
 
-/// Puts behind `found` the problem of an event that repeats a key of its mapping.
+/// Appends the finding at the event, if it repeats a key of its mapping. The only error is out of
+/// memory.
 fn push_duplicate<A: Allocator + Copy>(
     walk: &Walk<OpenKeys<A>, A>,
     event: &Event<'_>,
@@ -81,7 +83,7 @@ pub(crate) struct DuplicateFinder<A: Allocator + Copy> {
 impl<A: Allocator + Copy> DuplicateFinder<A> {
     ghost use Rattle.yl_tree.specs.Finders.{FindsDuplicates};
 
-    /// Before a document's first event.
+    /// Creates the rule at the start of a document.
     pub(crate) fn new(alloc: A, options: KeyDuplicatesOptions) -> Self
         ensures { (es : List EventValue) → FindsDuplicates result es (key_duplicates options es) }
     {
@@ -92,7 +94,8 @@ impl<A: Allocator + Copy> DuplicateFinder<A> {
         }
     }
 
-    /// Takes the next event.
+    /// Takes the next event. The only error is out of memory. After an error the rule must not be
+    /// used.
     pub(crate) fn push(&mut self, event: &Event<'_>) -> Result<(), AllocError>
         ensures { (es : List EventValue) (all : List FindingValue)
             → FindsDuplicates self.old (event_value event.now ∷ es) all
@@ -103,7 +106,7 @@ impl<A: Allocator + Copy> DuplicateFinder<A> {
         Ok(())
     }
 
-    /// What the rule found, where no event is to come.
+    /// Returns the findings of the rule, if no event follows.
     pub(crate) fn finish(self) -> Vec<Finding<A>, A>
         ensures { (all : List FindingValue) → FindsDuplicates self [] all → result.items ≡ all }
     {
@@ -111,9 +114,10 @@ impl<A: Allocator + Copy> DuplicateFinder<A> {
     }
 }
 
-/// What the rule key-duplicates finds in one document: each key that is equal to an earlier one of
-/// its mapping, in the order of the events. Lines are those of the events, and count from 1 as
-/// columns do. The only error is memory.
+/// Returns the findings of the rule key-duplicates in one document, in the order of the events:
+/// each key that is equal to an earlier one of its mapping. Merge keys `<<` may be exempt. Lines
+/// and columns of findings count from 1, and columns count characters. The only error is out of
+/// memory.
 pub fn key_duplicates<'a, A: Allocator + Copy>(
     alloc: A,
     events: &[Event<'a>],

@@ -9,21 +9,22 @@ use crate::name_stack::NameStack;
 use crate::walk::KeyMemory;
 use std::alloc::{AllocError, Allocator};
 
-/// Of each open mapping the greatest of the earlier keys, the last of its level.
+/// The greatest of the earlier keys of each open collection. A level of the stack holds at most
+/// one.
 #[derive(Drop)]
 pub(crate) struct GreatestKeys<A: Allocator + Copy> {
     alloc: A,
     keys: NameStack<A>,
 }
 
-/// Whether the first is greater, by code points.
+/// Returns whether `a` is greater than `b`, by code points.
 pub(crate) fn is_greater(a: &str, b: &str) -> bool
     ensures { result ≡ is_greater a.now b.now }
 {
     a > b
 }
 
-/// Whether one of the names is greater.
+/// Returns whether one of the names is greater than the key.
 fn is_greater_among<A: Allocator>(names: &[Name<A>], key: &str) -> bool
     ensures { result ≡ is_greater_among names.now key.now }
 {

@@ -1,4 +1,4 @@
-//! Problems whose messages name a key or an anchor.
+//! Findings whose messages name a key or an anchor.
 ghost use Rattle.std.specs.Prelude.{◌≡◌, ◌<◌, ◌++◌, ◌/◌, ◌%◌, ◌||◌, ◌==◌, nat_lt, false, ◌∷◌, [], codes, string_bytes, IfOk, OnOk};
 ghost use Rattle.std.specs.Fmt.{digit_glyph};
 ghost use Rattle.std.specs.List.{flat_map};
@@ -9,12 +9,14 @@ ghost use Rattle.yl_tree.specs.Messages.{printed_character, name_finding};
 use std::alloc::{AllocError, Allocator};
 use yl_text::{Finding, Pos, RuleId};
 
+/// Returns whether the character is a control character of ASCII.
 fn is_control(c: char) -> bool
     ensures { result ≡ nat_lt c 0x20 || c == 0x7F }
 {
     c < ' ' || c == '\x7f'
 }
 
+/// Returns the digit of `n` to base 16, in lower case.
 fn digit(n: u32) -> char
     requires { n < 16 }
     ensures value { result ≡ digit_glyph false n }
@@ -27,7 +29,7 @@ fn digit(n: u32) -> char
     }
 }
 
-/// Puts `\x` and two digits behind the text.
+/// Appends `\x` and the two digits of `n` to base 16. The only error is out of memory.
 fn push_number<A: Allocator>(text: &mut String<A>, n: u32) -> Result<(), AllocError>
     requires { n < 128 }
     ensures { OnOk result (string_bytes text.new
@@ -40,6 +42,8 @@ fn push_number<A: Allocator>(text: &mut String<A>, n: u32) -> Result<(), AllocEr
     Ok(())
 }
 
+/// Appends a character, or `\x` and two digits for a control character. The only error is out of
+/// memory.
 fn push_character<A: Allocator>(text: &mut String<A>, c: char) -> Result<(), AllocError>
     ensures { OnOk result (string_bytes text.new ≡ string_bytes text.old ++ printed_character c) }
 {
@@ -51,6 +55,8 @@ fn push_character<A: Allocator>(text: &mut String<A>, c: char) -> Result<(), All
     Ok(())
 }
 
+/// Appends a name, with `\x` and two digits for each control character. The only error is out of
+/// memory.
 fn push_name<A: Allocator>(text: &mut String<A>, name: &str) -> Result<(), AllocError>
     ensures { OnOk result (string_bytes text.new ≡ string_bytes text.old
         ++ flat_map printed_character (chars name.now)) }
@@ -61,6 +67,8 @@ fn push_name<A: Allocator>(text: &mut String<A>, name: &str) -> Result<(), Alloc
     Ok(())
 }
 
+/// Returns the message that consists of `front`, the name and `back`. The only error is out of
+/// memory.
 fn message_of<A: Allocator>(
     alloc: A,
     front: &str,
@@ -76,8 +84,9 @@ fn message_of<A: Allocator>(
     Ok(text)
 }
 
-/// What the rule finds at a place, which counts from 0: a name between words. Without a place it is
-/// nothing.
+/// Returns the finding of a rule at a place, whose message names a key or an anchor between the
+/// words `front` and `back`. `place` counts from 0. Returns `None` if there is no place. The only
+/// error is out of memory.
 pub(crate) fn name_problem<A: Allocator>(
     alloc: A,
     rule: RuleId,
@@ -98,7 +107,7 @@ pub(crate) fn name_problem<A: Allocator>(
     Ok(Some(Finding::new(line, column, rule, message)))
 }
 
-/// Puts what was found behind the rest.
+/// Appends the finding, if there is one. The only error is out of memory.
 pub(crate) fn push_found<A: Allocator>(
     found: &mut Vec<Finding<A>, A>,
     more: Option<Finding<A>>,

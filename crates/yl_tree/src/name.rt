@@ -1,16 +1,17 @@
-//! Names that are owned.
+//! Owned names.
 ghost use Rattle.std.specs.Prelude.{◌≡◌, IfOk};
 
 use arrayvec::ArrayString;
 use std::alloc::{AllocError, Allocator};
 use std::marker::Model;
 
-/// How many bytes a name has at the most that lies in the value itself.
+/// The maximum length of a short name, in bytes.
 const SHORT: usize = 16;
 
-/// A name of few bytes, which lies in the value itself.
+/// A name of at most 16 bytes, stored in the value itself.
 #[derive(Drop)]
 struct ShortName {
+    /// The text of the name.
     text: ArrayString<SHORT>,
 }
 
@@ -23,6 +24,7 @@ impl Model for ShortName {
 }
 
 impl ShortName {
+    /// Returns the text of the name.
     fn as_str(&self) -> &str
         ensures { result.now ≡ self.now }
     {
@@ -30,15 +32,15 @@ impl ShortName {
     }
 }
 
-/// Where a name lies: in the value itself, or in memory of its own.
+/// Where the text of a name is stored: in the value itself, or in an allocation.
 #[derive(Drop)]
 enum Storage<A: Allocator> {
     Short(ShortName),
     Long(String<A>),
 }
 
-/// The name of a key or of an anchor. One of at most 16 bytes lies in the value itself, and takes no
-/// allocation.
+/// The name of a key or of an anchor. A name of at most 16 bytes is stored in the value itself,
+/// without an allocation.
 #[derive(Drop)]
 pub(crate) struct Name<A: Allocator> {
     kept: Storage<A>,
@@ -54,7 +56,7 @@ impl<A: Allocator> Model for Name<A> {
 }
 
 impl<A: Allocator> Name<A> {
-    /// A copy of this name.
+    /// Creates a copy of this name. The only error is out of memory.
     pub(crate) fn of(alloc: A, text: &str) -> Result<Name<A>, AllocError>
         ensures { IfOk result (λ n. n ≡ text.now) }
     {
@@ -65,6 +67,7 @@ impl<A: Allocator> Name<A> {
         Ok(Name { kept })
     }
 
+    /// Returns the text of the name.
     pub(crate) fn as_str(&self) -> &str
         ensures { result.now ≡ self.now }
     {

@@ -8,25 +8,27 @@ use indexmap::IndexSet;
 use std::alloc::{AllocError, Allocator};
 use std::hash::{BuildHasherDefault, FoldHasher};
 
-/// Names, which it does not copy.
+/// A set of borrowed names.
 pub(crate) type NameSet<'a, A> = IndexSet<&'a str, BuildHasherDefault<FoldHasher>, A>;
 
-/// Names, which it owns.
+/// A set of owned names.
 pub(crate) type OwnedNames<A> = IndexSet<String<A>, BuildHasherDefault<FoldHasher>, A>;
 
-/// Whether it is one of these names.
+/// Returns whether `name` is one of these names.
 pub(crate) fn is_among<A: Allocator>(names: &[Name<A>], name: &str) -> bool
     ensures { result ≡ is_among names.now name.now }
 {
     names.iter().any(|other| other.as_str() == name)
 }
 
+/// Returns whether the set has this name.
 pub(crate) fn has_name<A: Allocator>(names: &NameSet<'_, A>, name: &str) -> bool
     ensures { result ≡ has_name names.now name.now }
 {
     names.contains(&name)
 }
 
+/// Inserts a name into the set. The only error is out of memory.
 pub(crate) fn insert_name<'a, A: Allocator + Copy>(
     names: &mut NameSet<'a, A>,
     name: &'a str,
@@ -38,6 +40,7 @@ pub(crate) fn insert_name<'a, A: Allocator + Copy>(
     Ok(())
 }
 
+/// Removes a name from the set, if it has it.
 pub(crate) fn remove_name<'a, A: Allocator>(names: &mut NameSet<'a, A>, name: &'a str)
     ensures { (q : List ℕ) → has_name names.new q
         ≡ not (bytes_eq name.now q) && has_name names.old q }
@@ -45,13 +48,14 @@ pub(crate) fn remove_name<'a, A: Allocator>(names: &mut NameSet<'a, A>, name: &'
     names.swap_remove(&name);
 }
 
+/// Returns whether the set has this name.
 pub(crate) fn has_text<A: Allocator>(names: &OwnedNames<A>, name: &str) -> bool
     ensures { result ≡ contains_text names.now name.now }
 {
     names.contains(name)
 }
 
-/// Puts a name into a set, which has a copy of it.
+/// Inserts a copy of a name into a set. The only error is out of memory.
 fn insert_copy<A: Allocator + Copy>(
     alloc: A,
     names: &mut OwnedNames<A>,
@@ -64,7 +68,7 @@ fn insert_copy<A: Allocator + Copy>(
     Ok(())
 }
 
-/// Puts copies of these names into a set.
+/// Inserts copies of these names into a set. The only error is out of memory.
 pub(crate) fn insert_names<A: Allocator + Copy>(
     alloc: A,
     set: &mut OwnedNames<A>,

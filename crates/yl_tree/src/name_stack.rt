@@ -9,21 +9,25 @@ use crate::name_set::is_among;
 use std::alloc::{AllocError, Allocator};
 use std::marker::Model;
 
-/// Where a level begins, and which of its names is the greatest, if it has one.
+/// The place of a level on the stack, and its greatest name.
 #[derive(Clone, Copy)]
 pub(crate) struct Level {
+    /// The index on the stack at which the level begins.
     begin: usize,
+    /// The index in the level of its greatest name. It has no meaning if the level is empty.
     greatest: usize,
 }
 
-/// Names in levels, of which the innermost takes more. A level is a part of one stack, so that to
-/// open and to close one moves no name. A name that is greater than all of the level is none of
-/// them, which is seen without a look at them.
+/// A stack of names in levels. Names are pushed into the innermost level. A level is a part of the
+/// stack, so it is opened and closed without a move of names. A name that is greater than all names
+/// of a level is not among them: one comparison decides it.
 #[derive(Drop)]
 pub(crate) struct NameStack<A: Allocator> {
+    /// The names of all levels, the outermost level first.
     names: Vec<Name<A>, A>,
+    /// The innermost level.
     innermost: Level,
-    /// The others, the outermost first.
+    /// The other levels, the outermost first.
     outer: Vec<Level, A>,
 }
 
@@ -39,7 +43,8 @@ impl<A: Allocator> Model for NameStack<A> {
     ghost invariant = { λ s. AreLevels (s.innermost ∷ reverse s.outer.items) s.names.items };
 }
 
-/// Whether a name is greater than the greatest of these, if there is one.
+/// Returns whether a name is greater than the one of these with the index `greatest`, or `true` if
+/// there is none.
 fn is_above<A: Allocator>(names: &[Name<A>], greatest: usize, name: &str) -> bool
     ensures { result ≡ is_above (slice_get names.now greatest) name.now }
 {
@@ -50,7 +55,7 @@ fn is_above<A: Allocator>(names: &[Name<A>], greatest: usize, name: &str) -> boo
 }
 
 impl<A: Allocator + Copy> NameStack<A> {
-    /// One level that has no name.
+    /// Creates a stack with one level, which is empty.
     pub(crate) fn new(alloc: A) -> Self
         ensures { result ≡ [] ∷ [] }
     {
@@ -64,19 +69,19 @@ impl<A: Allocator + Copy> NameStack<A> {
         }
     }
 
-    /// The names of the innermost level.
+    /// Returns the names of the innermost level.
     pub(crate) fn innermost(&self) -> &[Name<A>]
         ensures { result.now ≡ level_at 0 self.now }
     {
         &self.names[self.innermost.begin..]
     }
 
-    /// Whether this name is greater than all of the innermost level.
+    /// Returns whether this name is greater than all names of the innermost level.
     pub(crate) fn is_above(&self, name: &str) -> bool {
         is_above(self.innermost(), self.innermost.greatest, name)
     }
 
-    /// Whether it is a name of the innermost level.
+    /// Returns whether the innermost level has this name.
     pub(crate) fn has(&self, name: &str) -> bool
         ensures { result ≡ is_among (level_at 0 self.now) name.now }
     {
@@ -84,7 +89,7 @@ impl<A: Allocator + Copy> NameStack<A> {
         !is_above(names, self.innermost.greatest, name) && is_among(names, name)
     }
 
-    /// Opens a level in the innermost one.
+    /// Opens a level in the innermost one. The only error is out of memory.
     pub(crate) fn open(&mut self) -> Result<(), AllocError>
         ensures { OnOk result (self.new ≡ [] ∷ self.old) }
     {
@@ -96,7 +101,8 @@ impl<A: Allocator + Copy> NameStack<A> {
         Ok(())
     }
 
-    /// Closes the innermost level, and lets its names go.
+    /// Closes the innermost level and removes its names. If it was the only level, an empty one
+    /// remains.
     pub(crate) fn close(&mut self)
         ensures { (n : ℕ) → level_at n self.new ≡ level_at (suc n) self.old }
     {
@@ -113,7 +119,7 @@ impl<A: Allocator + Copy> NameStack<A> {
         }
     }
 
-    /// Puts a name into the innermost level, as its last.
+    /// Appends a name to the innermost level. The only error is out of memory.
     pub(crate) fn push(&mut self, name: Name<A>) -> Result<(), AllocError>
         ensures inner { OnOk result (level_at 0 self.new ≡ level_at 0 self.old ++ name ∷ []) }
         ensures outer { OnOk result ((n : ℕ) → level_at (suc n) self.new ≡ level_at (suc n) self.old) }
@@ -128,7 +134,7 @@ impl<A: Allocator + Copy> NameStack<A> {
         Ok(())
     }
 
-    /// Lets the names of the innermost level go.
+    /// Removes the names of the innermost level.
     pub(crate) fn clear(&mut self)
         ensures inner { level_at 0 self.new ≡ [] }
         ensures outer { (n : ℕ) → level_at (suc n) self.new ≡ level_at (suc n) self.old }

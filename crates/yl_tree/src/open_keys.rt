@@ -12,22 +12,25 @@ use indexmap::IndexSet;
 use std::alloc::{AllocError, Allocator};
 use std::mem;
 
-/// How many keys of a mapping that do not ascend lie on the stack.
+/// The maximum number of keys of one mapping that are on the stack in any order.
 const FEW: usize = 8;
 
-/// The earlier keys of the mappings that are open. Those of one lie on a stack that all share while
-/// they ascend or are few; else the stack has the latest run of them, and a set the others.
+/// The earlier keys of the open mappings. All mappings share one stack. The first eight keys of a
+/// mapping are on it, and then each key that is greater than those of the mapping there. Any other
+/// key moves those into a set, and is the first on the stack again.
 #[derive(Drop)]
 pub(crate) struct OpenKeys<A: Allocator + Copy> {
+    /// The allocator of the sets and of long names.
     alloc: A,
+    /// The keys on the stack, a level for each open collection.
     keys: NameStack<A>,
-    /// The other keys of the innermost mapping, if it has some.
+    /// The keys of the innermost mapping that are in a set, if there are any.
     others: Option<Box<OwnedNames<A>, A>>,
-    /// Those of the mappings around it, the outermost first.
+    /// The sets of the mappings around it, the outermost first.
     outer: Vec<Option<Box<OwnedNames<A>, A>>, A>,
 }
 
-/// Whether it is one of the others, if there are some.
+/// Returns whether the key is in the set, if there is one.
 fn is_other<A: Allocator + Copy>(others: &Option<Box<OwnedNames<A>, A>>, key: &str) -> bool
     ensures { result ≡ is_other others.now key.now }
 {
@@ -37,7 +40,8 @@ fn is_other<A: Allocator + Copy>(others: &Option<Box<OwnedNames<A>, A>>, key: &s
     }
 }
 
-/// Puts these names among the others.
+/// Moves copies of these names into the set, and creates it if there is none. The only error is out
+/// of memory.
 fn put_among_others<A: Allocator + Copy>(
     alloc: A,
     others: &mut Option<Box<OwnedNames<A>, A>>,
@@ -57,7 +61,8 @@ fn put_among_others<A: Allocator + Copy>(
     }
 }
 
-/// Puts the keys of the innermost mapping among its others.
+/// Moves the keys of the innermost mapping from the stack into its set. The only error is out of
+/// memory.
 fn end_run<A: Allocator + Copy>(
     alloc: A,
     keys: &mut NameStack<A>,
@@ -72,7 +77,7 @@ fn end_run<A: Allocator + Copy>(
     Ok(())
 }
 
-/// Takes the others of the mapping around, if it has some.
+/// Removes the set of the next outer mapping and returns it, if there is one.
 fn pop_others<A: Allocator + Copy>(
     outer: &mut Vec<Option<Box<OwnedNames<A>, A>>, A>,
 ) -> Option<Box<OwnedNames<A>, A>>
@@ -113,7 +118,7 @@ impl<A: Allocator + Copy> KeyMemory for OpenKeys<A> {
         self.others = pop_others(&mut self.outer);
     }
 
-    /// A key that ends a run begins the next, so that no run is gone through twice.
+    /// Remembers a key. A key that ends a run begins the next one, so each run is moved once.
     fn remember(&mut self, key: &str) -> Result<(), AllocError> {
         let name = Name::of(self.alloc, key)?;
         if self.keys.innermost().len() < FEW || self.keys.is_above(key) {

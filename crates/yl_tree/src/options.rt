@@ -1,6 +1,6 @@
-//! Options of the tree rules.
+//! The options of the rules on keys and anchors.
 
-/// What the rule key-duplicates reports of merge keys.
+/// The options of the rule key-duplicates.
 #[derive(Clone, Copy)]
 pub struct KeyDuplicatesOptions {
     /// Whether a `<<` that repeats an earlier one of its mapping is reported.
@@ -10,7 +10,7 @@ pub struct KeyDuplicatesOptions {
 impl KeyDuplicatesOptions {
     ghost use Rattle.std.specs.Prelude.{◌≡◌, false};
 
-    /// Those of yamllint's default configuration.
+    /// Returns the options of yamllint's default configuration.
     pub fn standard() -> KeyDuplicatesOptions
         ensures { result ≡ record { forbid_duplicated_merge_keys = false } }
     {
@@ -20,21 +20,21 @@ impl KeyDuplicatesOptions {
     }
 }
 
-/// What the rule anchors reports.
+/// The options of the rule anchors.
 #[derive(Clone, Copy)]
 pub struct AnchorsOptions {
-    /// Whether an alias is reported that no anchor of its name comes before.
+    /// Whether an alias is reported if no anchor of its name comes before it.
     pub forbid_undeclared_aliases: bool,
-    /// Whether an anchor is reported whose name an earlier anchor has.
+    /// Whether an anchor is reported if an earlier anchor has its name.
     pub forbid_duplicated_anchors: bool,
-    /// Whether an anchor is reported that no alias refers to.
+    /// Whether an anchor is reported if no alias refers to it.
     pub forbid_unused_anchors: bool,
 }
 
 impl AnchorsOptions {
     ghost use Rattle.std.specs.Prelude.{◌≡◌, true, false};
 
-    /// Those of yamllint's default configuration.
+    /// Returns the options of yamllint's default configuration.
     pub fn standard() -> AnchorsOptions
         ensures { result ≡ record {
           forbid_undeclared_aliases = true;
@@ -50,11 +50,13 @@ impl AnchorsOptions {
     }
 }
 
-/// For each rule on keys and anchors its options, or none where it is off.
+/// The options of the rules on keys and anchors. A rule without options here is off.
 #[derive(Clone, Copy)]
 pub struct TreeOptions {
+    /// The options of the rule key-duplicates, if it is on.
     pub key_duplicates: Option<KeyDuplicatesOptions>,
-    /// Whether the rule is on: it has no options.
+    /// Whether the rule key-ordering is on. It has no options.
     pub key_ordering: bool,
+    /// The options of the rule anchors, if it is on.
     pub anchors: Option<AnchorsOptions>,
 }

@@ -14,7 +14,8 @@ use std::alloc::{AllocError, Allocator};
 use yl_events::Event;
 use yl_text::{Finding, RuleId};
 
-/// Puts behind `found` the problem of an event that is a key after a greater one of its mapping.
+/// Appends the finding at the event, if it is a key after a greater one of its mapping. The only
+/// error is out of memory.
 fn push_misplaced<A: Allocator + Copy>(
     walk: &Walk<GreatestKeys<A>, A>,
     event: &Event<'_>,
@@ -43,7 +44,7 @@ fn push_misplaced<A: Allocator + Copy>(
     Ok(())
 }
 
-/// The rule key-ordering after a document's first events.
+/// The rule key-ordering after the first events of a document.
 #[derive(Drop)]
 pub(crate) struct MisplacedFinder<A: Allocator + Copy> {
     walk: Walk<GreatestKeys<A>, A>,
@@ -53,7 +54,7 @@ pub(crate) struct MisplacedFinder<A: Allocator + Copy> {
 impl<A: Allocator + Copy> MisplacedFinder<A> {
     ghost use Rattle.yl_tree.specs.Finders.{FindsMisplaced};
 
-    /// Before a document's first event.
+    /// Creates the rule at the start of a document.
     pub(crate) fn new(alloc: A) -> Self
         ensures { (es : List EventValue) → FindsMisplaced result es (key_ordering es) }
     {
@@ -63,7 +64,8 @@ impl<A: Allocator + Copy> MisplacedFinder<A> {
         }
     }
 
-    /// Takes the next event.
+    /// Takes the next event. The only error is out of memory. After an error the rule must not be
+    /// used.
     pub(crate) fn push(&mut self, event: &Event<'_>) -> Result<(), AllocError>
         ensures { (es : List EventValue) (all : List FindingValue)
             → FindsMisplaced self.old (event_value event.now ∷ es) all
@@ -74,7 +76,7 @@ impl<A: Allocator + Copy> MisplacedFinder<A> {
         Ok(())
     }
 
-    /// What the rule found, where no event is to come.
+    /// Returns the findings of the rule, if no event follows.
     pub(crate) fn finish(self) -> Vec<Finding<A>, A>
         ensures { (all : List FindingValue) → FindsMisplaced self [] all → result.items ≡ all }
     {
@@ -82,9 +84,9 @@ impl<A: Allocator + Copy> MisplacedFinder<A> {
     }
 }
 
-/// What the rule key-ordering finds in one document: each key that has a greater one before it in
-/// its mapping, by code points, in the order of the events. Lines are those of the events, and
-/// count from 1 as columns do. The only error is memory.
+/// Returns the findings of the rule key-ordering in one document, in the order of the events: each
+/// key that comes after a greater one, by code points, in its mapping. Lines and columns of
+/// findings count from 1, and columns count characters. The only error is out of memory.
 pub fn key_ordering<'a, A: Allocator + Copy>(
     alloc: A,
     events: &[Event<'a>],

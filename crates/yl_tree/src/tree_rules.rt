@@ -1,4 +1,4 @@
-//! The rules on keys and anchors, fed a document's events one after another.
+//! The rules on keys and anchors, given the events of a document one after another.
 ghost use Rattle.std.specs.Prelude.{◌≡◌, List, [], ◌∷◌, if◌then◌else◌, IfOk, OnOk};
 ghost use Rattle.std.specs.Option.{option_map_or};
 ghost use Rattle.yl_text.specs.Finding.{FindingValue};
@@ -16,18 +16,22 @@ use std::alloc::{AllocError, Allocator};
 use yl_events::Event;
 use yl_text::Finding;
 
-/// The rules on keys and anchors after a document's first events. They own what they keep: what they
-/// found, the keys of open mappings, and the names and places of anchors and aliases. A rule that is
-/// off keeps nothing.
+/// The rules on keys and anchors after the first events of a document. They own what they keep:
+/// their findings, keys of open mappings, and the names and places of anchors and aliases. A rule
+/// that is off keeps nothing.
 #[derive(Drop)]
 pub struct TreeRules<A: Allocator + Copy> {
+    /// The allocator of the findings.
     alloc: A,
+    /// The rule key-duplicates, if it is on.
     key_duplicates: Option<DuplicateFinder<A>>,
+    /// The rule key-ordering, if it is on.
     key_ordering: Option<MisplacedFinder<A>>,
+    /// The rule anchors, if it is on.
     anchors: Option<AnchorFinder<A>>,
 }
 
-/// The rule key-duplicates before a document's first event, if it is on.
+/// Returns the rule key-duplicates at the start of a document, if it is on.
 fn duplicate_finder<A: Allocator + Copy>(
     alloc: A,
     options: &TreeOptions,
@@ -40,7 +44,7 @@ fn duplicate_finder<A: Allocator + Copy>(
     Some(DuplicateFinder::new(alloc, options))
 }
 
-/// The rule key-ordering before a document's first event, if it is on.
+/// Returns the rule key-ordering at the start of a document, if it is on.
 fn misplaced_finder<A: Allocator + Copy>(
     alloc: A,
     options: &TreeOptions,
@@ -55,7 +59,7 @@ fn misplaced_finder<A: Allocator + Copy>(
     Some(MisplacedFinder::new(alloc))
 }
 
-/// The rule anchors before a document's first event, if it is on.
+/// Returns the rule anchors at the start of a document, if it is on.
 fn anchor_finder<A: Allocator + Copy>(alloc: A, options: &TreeOptions) -> Option<AnchorFinder<A>>
     ensures { (es : List EventValue)
         → FindsIf FindsAnchors result es
@@ -65,7 +69,7 @@ fn anchor_finder<A: Allocator + Copy>(alloc: A, options: &TreeOptions) -> Option
     Some(AnchorFinder::new(alloc, options))
 }
 
-/// Gives the next event to the rule key-duplicates, if it is on.
+/// Passes the next event to the rule key-duplicates, if it is on. The only error is out of memory.
 fn push_to_duplicates<A: Allocator + Copy>(
     finder: &mut Option<DuplicateFinder<A>>,
     event: &Event<'_>,
@@ -80,7 +84,7 @@ fn push_to_duplicates<A: Allocator + Copy>(
     }
 }
 
-/// Gives the next event to the rule key-ordering, if it is on.
+/// Passes the next event to the rule key-ordering, if it is on. The only error is out of memory.
 fn push_to_misplaced<A: Allocator + Copy>(
     finder: &mut Option<MisplacedFinder<A>>,
     event: &Event<'_>,
@@ -95,7 +99,7 @@ fn push_to_misplaced<A: Allocator + Copy>(
     }
 }
 
-/// Gives the next event to the rule anchors, if it is on.
+/// Passes the next event to the rule anchors, if it is on. The only error is out of memory.
 fn push_to_anchors<A: Allocator + Copy>(
     finder: &mut Option<AnchorFinder<A>>,
     event: &Event<'_>,
@@ -110,7 +114,7 @@ fn push_to_anchors<A: Allocator + Copy>(
     }
 }
 
-/// What the rule key-duplicates found, if it is on.
+/// Returns the findings of the rule key-duplicates, or none if it is off.
 fn duplicates_found<A: Allocator + Copy>(
     alloc: A,
     finder: Option<DuplicateFinder<A>>,
@@ -124,7 +128,7 @@ fn duplicates_found<A: Allocator + Copy>(
     }
 }
 
-/// What the rule key-ordering found, if it is on.
+/// Returns the findings of the rule key-ordering, or none if it is off.
 fn misplaced_found<A: Allocator + Copy>(
     alloc: A,
     finder: Option<MisplacedFinder<A>>,
@@ -138,7 +142,7 @@ fn misplaced_found<A: Allocator + Copy>(
     }
 }
 
-/// What the rule anchors found, if it is on.
+/// Returns the findings of the rule anchors, or none if it is off. The only error is out of memory.
 fn anchors_found<A: Allocator + Copy>(
     alloc: A,
     finder: Option<AnchorFinder<A>>,
@@ -155,7 +159,7 @@ fn anchors_found<A: Allocator + Copy>(
 impl<A: Allocator + Copy> TreeRules<A> {
     ghost use Rattle.yl_tree.specs.TreeRules.{Finds};
 
-    /// Before a document's first event.
+    /// Creates the rules at the start of a document.
     pub fn new(alloc: A, options: &TreeOptions) -> TreeRules<A>
         ensures { (es : List EventValue) → Finds result es (tree_findings options.now es) }
     {
@@ -167,7 +171,8 @@ impl<A: Allocator + Copy> TreeRules<A> {
         }
     }
 
-    /// Takes the next event. The only error is memory; after it nothing is said of the rules.
+    /// Takes the next event. The only error is out of memory. After an error the rules must not be
+    /// used.
     pub fn push(&mut self, event: &Event<'_>) -> Result<(), AllocError>
         ensures { (es : List EventValue) (all : List FindingValue)
             → Finds self.old (event_value event.now ∷ es) all
@@ -179,8 +184,9 @@ impl<A: Allocator + Copy> TreeRules<A> {
         Ok(())
     }
 
-    /// What the rules found in the document, where no event is to come: key-duplicates,
-    /// key-ordering, anchors, each in the order of the events. The only error is memory.
+    /// Returns the findings of the rules in the document, if no event follows: those of
+    /// key-duplicates, of key-ordering and of anchors, each in the order of the events. The only
+    /// error is out of memory.
     pub fn finish(self) -> Result<Vec<Finding<A>, A>, AllocError>
         ensures { (all : List FindingValue) → Finds self [] all
             → IfOk result (λ v. v.items ≡ all) }

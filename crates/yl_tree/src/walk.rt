@@ -1,5 +1,4 @@
-//! Which events of a document are keys, and what is remembered of the earlier keys of their
-//! mappings.
+//! Finds the events of a document that are keys, and remembers the earlier keys of open mappings.
 ghost use Rattle.std.specs.Prelude.{◌≡◌, ℕ, suc, List, [], ◌∷◌, Bool, false, ◌||◌, ◌&&◌, OnOk, option_copied, option_to_list};
 ghost use Rattle.std.specs.List.{list_any};
 ghost use Rattle.yl_events.specs.Event.{EventValue, event_value, kind_value};
@@ -11,62 +10,68 @@ use std::alloc::{AllocError, Allocator};
 use yl_events::{Event, EventKind};
 use yl_lexeme::Style;
 
-/// What a rule remembers of the earlier keys of the mappings that are open: enough to test a key by
-/// them. It owns what it keeps.
+/// What a rule remembers of the earlier keys of the open collections: enough to judge a key by
+/// them. Owns what it keeps.
 pub(crate) trait KeyMemory: Drop {
+    /// The allocator of the keys.
     type Alloc: Allocator + Copy;
 
-    /// Whether an earlier key, the first, speaks against a key.
+    /// Whether the first key, if it is an earlier one, conflicts with the second.
     ghost speaks_against: { List ℕ → List ℕ → Bool };
 
-    /// Whether a remembered key of an open collection, in which so many others are open, speaks
-    /// against a key.
+    /// Whether a remembered key of an open collection conflicts with a key. The number is that of
+    /// the open collections within this one.
     ghost is_against: { Self → ℕ → List ℕ → Bool };
 
-    /// Nothing is remembered.
+    /// Creates a value for one open collection, without keys.
     fn new(alloc: Self::Alloc) -> Self
     where
         Self: Sized,
         ensures { (n : ℕ) (q : List ℕ) → is_against result n q ≡ false };
 
-    /// Opens a collection in the innermost one.
+    /// Opens a collection in the innermost one. The only error is out of memory.
     fn open(&mut self) -> Result<(), AllocError>
         ensures inner { OnOk result ((q : List ℕ) → is_against self.new 0 q ≡ false) }
         ensures outer { OnOk result ((n : ℕ) (q : List ℕ)
             → is_against self.new (suc n) q ≡ is_against self.old n q) };
 
-    /// Closes the innermost collection, and lets its keys go.
+    /// Closes the innermost collection and forgets its keys.
     fn close(&mut self)
         ensures { (n : ℕ) (q : List ℕ) → is_against self.new n q ≡ is_against self.old (suc n) q };
 
-    /// Remembers a key of the innermost collection.
+    /// Remembers a key of the innermost collection. The only error is out of memory.
     fn remember(&mut self, key: &str) -> Result<(), AllocError>
         ensures inner { OnOk result ((q : List ℕ) → is_against self.new 0 q
             ≡ speaks_against key.now q || is_against self.old 0 q) }
         ensures outer { OnOk result ((n : ℕ) (q : List ℕ)
             → is_against self.new (suc n) q ≡ is_against self.old (suc n) q) };
 
-    /// Whether a remembered key of the innermost collection speaks against this one.
+    /// Returns whether a remembered key of the innermost collection conflicts with this one.
     fn is_against(&self, key: &str) -> bool
         ensures { result ≡ is_against self.now 0 key.now };
 }
 
-/// A collection that is open.
+/// An open collection.
 #[derive(Clone, Copy)]
 pub(crate) struct Frame {
+    /// Whether the collection is a mapping.
     is_mapping: bool,
+    /// Whether its next node is a key, if it is a mapping.
     is_key_next: bool,
 }
 
-/// The collections that are open after a document's first events, and what is remembered of their
-/// keys.
+/// The open collections after the first events of a document, and what is remembered of their keys.
 #[derive(Drop)]
 pub(crate) struct Walk<M, A: Allocator> {
+    /// The innermost open collection. The document itself counts as a collection.
     innermost: Frame,
+    /// The other open collections, the outermost first.
     outer: Vec<Frame, A>,
+    /// What is remembered of the keys.
     memory: M,
 }
 
+/// Returns a collection without nodes.
 fn new_frame(is_mapping: bool) -> Frame
     ensures { Agrees result (new_collection is_mapping) }
 {
@@ -76,12 +81,15 @@ fn new_frame(is_mapping: bool) -> Frame
     }
 }
 
+/// Returns whether a key of a mapping comes next in the collection.
 fn is_key_next(frame: &Frame) -> bool
     ensures { result ≡ frame.now.is_mapping && frame.now.is_key_next }
 {
     frame.is_mapping && frame.is_key_next
 }
 
+/// Remembers a key of the innermost collection, if there is a name. The only error is out of
+/// memory.
 fn remember_some<M: KeyMemory>(memory: &mut M, name: Option<&str>) -> Result<(), AllocError>
     ensures inner { OnOk result ((q : List ℕ) → M.is_against memory.new 0 q
         ≡ list_any (λ k. M.speaks_against k q) (option_to_list (option_copied name.entry))
@@ -95,7 +103,8 @@ fn remember_some<M: KeyMemory>(memory: &mut M, name: Option<&str>) -> Result<(),
     Ok(())
 }
 
-/// Takes a node of this name more.
+/// Takes the next node of the innermost collection. Remembers its name, if it has one and is a key.
+/// The only error is out of memory.
 fn add_node<M: KeyMemory>(
     walk: &mut Walk<M, M::Alloc>,
     name: Option<&str>,
@@ -121,7 +130,7 @@ fn close<M: KeyMemory>(walk: &mut Walk<M, M::Alloc>)
     };
 }
 
-/// Opens a collection in the innermost one.
+/// Opens a collection in the innermost one. The only error is out of memory.
 fn open<M: KeyMemory>(walk: &mut Walk<M, M::Alloc>, is_mapping: bool) -> Result<(), AllocError>
     ensures { (s : OpenNodes) → StandsAt M.speaks_against M.is_against walk.old s
         → OnOk result (StandsAt M.speaks_against M.is_against walk.new (opened is_mapping s)) }
@@ -132,25 +141,28 @@ fn open<M: KeyMemory>(walk: &mut Walk<M, M::Alloc>, is_mapping: bool) -> Result<
     Ok(())
 }
 
+/// Returns whether the event ends a collection.
 fn is_end(kind: &EventKind<'_>) -> bool
     ensures { result ≡ is_collection_end (kind_value kind.now) }
 {
     matches!(kind, EventKind::SequenceEnd | EventKind::MappingEnd)
 }
 
+/// Returns whether the event starts a collection.
 fn is_start(kind: &EventKind<'_>) -> bool
     ensures { result ≡ is_collection_start (kind_value kind.now) }
 {
     matches!(kind, EventKind::SequenceStart | EventKind::MappingStart)
 }
 
+/// Returns whether the event starts a mapping.
 fn is_mapping_start(kind: &EventKind<'_>) -> bool
     ensures { result ≡ is_mapping_start (kind_value kind.now) }
 {
     matches!(kind, EventKind::MappingStart)
 }
 
-/// The value of a plain or quoted scalar.
+/// Returns the value of a plain or quoted scalar, or `None` for any other event.
 pub(crate) fn name_of<'a>(event: &Event<'a>) -> Option<&'a str>
     ensures { option_copied result ≡ name_of (event_value event.now) }
 {
@@ -160,7 +172,7 @@ pub(crate) fn name_of<'a>(event: &Event<'a>) -> Option<&'a str>
     }
 }
 
-/// Before a document's first event.
+/// Creates a walk at the start of a document.
 pub(crate) fn start<M: KeyMemory>(alloc: M::Alloc) -> Walk<M, M::Alloc>
     ensures { IsBehind M.speaks_against M.is_against result [] }
 {
@@ -171,7 +183,7 @@ pub(crate) fn start<M: KeyMemory>(alloc: M::Alloc) -> Walk<M, M::Alloc>
     }
 }
 
-/// Takes one event more.
+/// Takes the next event. The only error is out of memory.
 pub(crate) fn step<M: KeyMemory>(
     walk: &mut Walk<M, M::Alloc>,
     event: &Event<'_>,
@@ -191,7 +203,8 @@ pub(crate) fn step<M: KeyMemory>(
     Ok(())
 }
 
-/// Whether an earlier key of its mapping speaks against this name, if a key comes next.
+/// Returns whether an earlier key of its mapping conflicts with this name, if a key comes next,
+/// else `false`.
 pub(crate) fn is_spoken_against<M: KeyMemory>(walk: &Walk<M, M::Alloc>, name: &str) -> bool
     ensures { (before : List EventValue) → IsBehind M.speaks_against M.is_against walk.now before
         → result ≡ list_any (λ key. M.speaks_against key name.now) (earlier_keys before) }
