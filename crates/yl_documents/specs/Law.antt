@@ -3,6 +3,6 @@ use Rattle.std.specs.Prelude.{◌≡◌, List}
 use Rattle.yl_lexeme.specs.Lexeme.{LexemeValue}
 use Rattle.yl_documents.specs.TextDocuments.{BuiltDocumentValue, AreBuilt}
 
--- of lexemes that are cut so, one list of documents is built
+-- the documents that are built of these lists of lexemes are unique
 abbrev pub OneBuilding : Type 0
 OneBuilding = (xss : List (List LexemeValue)) (ds es : List BuiltDocumentValue) → AreBuilt xss ds → AreBuilt xss es → ds ≡ es

@@ -8,10 +8,12 @@ use std::marker::Model;
 use yl_events::{Built, documents, parse_document};
 use yl_lexeme::{LexemeAtLine, Meter};
 
-/// A document: its lexemes, and what they build.
+/// A document: its lexemes, and its events or its parse fault.
 #[derive(Drop)]
 pub struct BuiltDocument<'a, 'b, A: Allocator> {
+    /// The lexemes of the document.
     pub lexemes: &'b [LexemeAtLine<'a, A>],
+    /// The events of the document, or its parse fault.
     pub built: Built<'a, A>,
 }
 
@@ -26,7 +28,8 @@ impl<'a, 'b, A: Allocator> Model for BuiltDocument<'a, 'b, A> {
     ghost view = { λ d. record { lexemes = map (λ x. lexeme_at_line x.line x.lexeme.now) d.lexemes.now; events = map event_value d.built.events.items; fault = d.built.fault } };
 }
 
-/// What a document's lexemes build.
+/// Parses a document, given by its lexemes. The only error is out of memory, or more lexemes than a
+/// `u32` counts.
 fn build<'a, 'b, A: Allocator + Copy>(
     alloc: A,
     lexemes: &'b [LexemeAtLine<'a, A>],
@@ -37,8 +40,10 @@ fn build<'a, 'b, A: Allocator + Copy>(
     Ok(BuiltDocument { lexemes, built })
 }
 
-/// What the documents build that begin behind so many lexemes with the first of these, and with
-/// those of these indices.
+/// Parses the documents of these lexemes, before which the text has `before` others. One document
+/// begins with the first of the lexemes, and one with each of the indices `places`, which count all
+/// lexemes of the text. The only error is out of memory, or more lexemes of a document than a `u32`
+/// counts.
 fn build_behind<'a, 'b, A: Allocator + Copy>(
     alloc: A,
     before: usize,
@@ -60,7 +65,8 @@ fn build_behind<'a, 'b, A: Allocator + Copy>(
     Ok(all)
 }
 
-/// What the documents of a text's lexemes build.
+/// Returns the documents of a text, given by its lexemes, in order. The only error is out of
+/// memory, or more lexemes of a document than a `u32` counts.
 pub fn build_all<'a, 'b, A: Allocator + Copy>(
     alloc: A,
     lexemes: &'b [LexemeAtLine<'a, A>],

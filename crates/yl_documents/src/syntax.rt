@@ -7,7 +7,8 @@ use std::alloc::Allocator;
 use yl_text::Pos;
 
 impl<'a, 'b, A: Allocator> BuiltDocument<'a, 'b, A> {
-    /// Where the lexeme of this index begins; else, what is behind all lexemes.
+    /// Returns the position at which the lexeme with this index begins, or `behind` if there is
+    /// none.
     fn start_or(&self, behind: Option<Pos>, index: usize) -> Option<Pos>
         ensures { result ≡ start_or behind (slice_get self.now.lexemes index) }
     {
@@ -17,7 +18,8 @@ impl<'a, 'b, A: Allocator> BuiltDocument<'a, 'b, A> {
         }
     }
 
-    /// Where the document's fault stands, if it has one.
+    /// Returns the position of the document's fault, if it has one. `behind` is the position after
+    /// all lexemes of the document. It is `None` if no fault may be there.
     fn place_of_fault(&self, behind: Option<Pos>) -> Option<Pos>
         ensures { result ≡ place_of_parse_fault behind self.now.lexemes self.now.fault }
     {
@@ -28,7 +30,7 @@ impl<'a, 'b, A: Allocator> BuiltDocument<'a, 'b, A> {
     }
 }
 
-/// Where the first of these documents begins; else, behind all of them.
+/// Returns the position at which the first of these documents begins, or `end` if there is none.
 pub fn place_behind<A: Allocator>(
     end: Option<Pos>,
     documents: &[BuiltDocument<'_, '_, A>],
@@ -41,8 +43,8 @@ pub fn place_behind<A: Allocator>(
     }
 }
 
-/// The first of the documents' faults; behind all of them stands this place, if a fault may stand
-/// there.
+/// Returns the position of the first fault of these documents, if one has a fault. `end` is the
+/// position after all of them. It is `None` if no fault may be there.
 fn parse_fault<A: Allocator>(
     end: Option<Pos>,
     documents: &[BuiltDocument<'_, '_, A>],
@@ -60,14 +62,14 @@ fn parse_fault<A: Allocator>(
     None
 }
 
-/// Whether a place of a text stands before another one.
+/// Returns whether the position `p` is before the position `q`.
 pub fn stands_before(p: Pos, q: Pos) -> bool
     ensures { result ≡ stands_before p q }
 {
     p.line < q.line || (p.line == q.line && p.col < q.col)
 }
 
-/// The earlier one of two places.
+/// Returns the earlier of two positions, or the one that there is.
 fn earlier_place(first: Option<Pos>, second: Option<Pos>) -> Option<Pos>
     ensures { result ≡ earlier_place first second }
 {
@@ -79,7 +81,9 @@ fn earlier_place(first: Option<Pos>, second: Option<Pos>) -> Option<Pos>
     }
 }
 
-/// The first fault of a text that ends at this place, by its scan fault and its documents.
+/// Returns the position of the first fault of a text, if it has one. `end` is the end of the text,
+/// and `scan_fault` is the position of its scan fault. Lines and columns count from 0, and columns
+/// count characters.
 pub fn text_fault<A: Allocator>(
     end: Pos,
     scan_fault: Option<Pos>,

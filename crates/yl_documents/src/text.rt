@@ -1,4 +1,4 @@
-//! The lexemes of a text, and where its scan fault and its end stand.
+//! The lexemes of a text, and the positions of its scan fault and of its end.
 ghost use Rattle.std.specs.Prelude.{◌≡◌, ◌<◌, ◌-◌, ◌^◌, All, IfOk, length, map, option_map};
 ghost use Rattle.std.specs.Str.{chars};
 ghost use Rattle.yl_marks.specs.Keys.{lexeme_at_line};
@@ -11,7 +11,7 @@ use yl_lexeme::LexemeAtLine;
 use yl_scan::{LineFault, LineLexeme};
 use yl_text::{Pos, Row};
 
-/// The lexemes at their lines.
+/// Returns the lexemes with their lines. The only error is out of memory.
 pub fn in_text<'a, A: Allocator + Copy>(
     alloc: A,
     lexemes: &'a [LineLexeme<A>],
@@ -28,8 +28,8 @@ pub fn in_text<'a, A: Allocator + Copy>(
     Ok(all)
 }
 
-/// Where a fault stands. A text has no place past those that a `Pos` counts, so that there is never
-/// an error.
+/// Returns the position of a scan fault. Returns `AllocError` if a `Pos` cannot represent it. No
+/// text has such a fault.
 fn place_of(fault: LineFault) -> Result<Pos, AllocError>
     ensures { IfOk result (λ place. place ≡ place_of_fault (fault.line, fault.fault)) }
 {
@@ -40,7 +40,8 @@ fn place_of(fault: LineFault) -> Result<Pos, AllocError>
     }
 }
 
-/// Where the scan fault stands, if there is one.
+/// Returns the position of the scan fault, if there is one. Returns `AllocError` if a `Pos` cannot
+/// represent it. No text has such a fault.
 pub fn place_of_scan_fault(fault: Option<LineFault>) -> Result<Option<Pos>, AllocError>
     ensures { IfOk result (λ place. place ≡ option_map place_of_fault (fault_of fault)) }
 {
@@ -53,14 +54,15 @@ pub fn place_of_scan_fault(fault: Option<LineFault>) -> Result<Option<Pos>, Allo
     }
 }
 
-/// How many characters a line has.
+/// Returns the number of characters of a line.
 fn width_of(text: &str) -> usize
     ensures { result ≡ length (chars text.now) }
 {
     text.chars().count()
 }
 
-/// Where the text of these lines ends.
+/// Returns the position after the last character of these lines. Its line and its column count from
+/// 0, and the column counts characters.
 #[tactic(auto, using(crate::proofs::Ends::short_at, crate::proofs::Ends::ends_at, crate::proofs::Ends::ends_nowhere))]
 pub fn end_of<A: Allocator>(rows: &[Row<A>]) -> Pos
     requires few { length rows.now < 2 ^ 32 - 1 }
