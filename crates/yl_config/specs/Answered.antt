@@ -1,4 +1,4 @@
--- Meaning: an answer, with the configuration as definitions have it.
+-- Meaning: the result of reading a configuration, with the configuration as settings.
 use Rattle.std.specs.Prelude.{Result, Ok, Err}
 use Rattle.yl_config.specs.declared.config.Config.{Config}
 use Rattle.yl_config.specs.declared.fault.ConfigFault.{ConfigFault}

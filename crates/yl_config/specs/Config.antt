@@ -1,4 +1,5 @@
--- Meaning: what a configuration says: for each rule its level, or none where it is off, and the options of the rules.
+-- Meaning: what a configuration says: the level of each rule, or none if it is off, and the options
+-- of the rules.
 use Rattle.yl_rules.specs.declared.options.RowOptions.{RowOptions}
 use Rattle.yl_rules.specs.Levels.{LevelTable}
 use Rattle.yl_rules.specs.LevelOf.{level_of}
@@ -15,6 +16,6 @@ options_of config = config.options
 abbrev pub row_options_of : Config → RowOptions
 row_options_of config = config.options.row
 
--- a configuration, as definitions have it
+-- the settings of a configuration
 abbrev pub config_settings : Config → Settings
 config_settings config = record { levels = levels_of config; options = options_of config }

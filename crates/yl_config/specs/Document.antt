@@ -1,4 +1,4 @@
--- Meaning: what a document of a configuration says, or the first of what does not fit in it.
+-- Meaning: the settings in a document of a configuration, or its fault at the first misfit.
 use Rattle.std.specs.Prelude.{List, [], ◌++◌, Option, Some, None, Result, Ok, Err}
 use Rattle.yl_text.specs.declared.position.Pos.{Pos}
 use Rattle.yl_events.specs.Event.{EventValue}
@@ -14,12 +14,12 @@ use Rattle.yl_config.specs.Settings.{Settings, settings_of}
 abbrev pub root_of : List EventValue → ItemValue
 root_of es = first_item (first_item (nodes_from es)).inside
 
--- a document that begins behind the first one
+-- a second document begins at this position
 abbrev pub next_misfits : Option Pos → List Misfit
 next_misfits None = []
 next_misfits (Some place) = at_key NotAMapping place
 
--- the first misfit, if there is one; else what is said
+-- the fault at the first misfit, if there is one, else the settings
 abbrev pub judgement : Settings → Option Misfit → Result Settings ConfigFault
 judgement s None = Ok s
 judgement s (Some m) = Err (fault_of_misfit m)

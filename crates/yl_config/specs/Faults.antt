@@ -46,6 +46,6 @@ fault_by BadValue p = fault.BadValue p
 fault_by BadLevel p = fault.BadLevel p
 fault_by UnknownExtends p = fault.UnknownExtends p
 
--- of what does not fit
+-- the fault for a misfit
 abbrev pub fault_of_misfit : Misfit → ConfigFault
 fault_of_misfit m = fault_by m.kind (place_from_one m.place)

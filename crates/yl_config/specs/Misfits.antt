@@ -1,4 +1,4 @@
--- Meaning: what does not fit in a configuration, and the first of it.
+-- Meaning: the misfits of a configuration, and the first of them.
 use Rattle.std.specs.Prelude.{ℕ, Bool, ◌&&◌, ◌||◌, ◌==◌, nat_lt, if◌then◌else◌, List, [], ◌∷◌, Option, Some, None, codes, bytes_eq, is_some, unwrap_or, find}
 use Rattle.std.specs.List.{flat_map}
 use Rattle.yl_text.specs.declared.position.Pos.{Pos}
@@ -20,7 +20,7 @@ use Rattle.yl_settings.specs.Words.{is_one_of, plain_word, word, true_words, fal
 
 -- ---- the first of several
 
--- what is told of two at one place
+-- of two misfits at one position, the one of the lower rank comes first
 abbrev pub rank : MisfitKind → ℕ
 rank NotAMapping = 3
 rank UnknownKey = 4
@@ -40,21 +40,21 @@ abbrev pub earlier : Option Misfit → Misfit → Misfit
 earlier None f = f
 earlier (Some e) f = if comes_before f e then f else e
 
--- the first in the text of one and of these; at one place the one of the lesser rank
+-- the first in the text of `first` and these misfits; at one position, the one of the lower rank
 unfoldable pub earliest : Option Misfit → List Misfit → Option Misfit
 earliest first [] = first
 earliest first (f ∷ fs) = earliest (Some (earlier first f)) fs
 
--- ---- places
+-- ---- positions
 
--- of a key, or of the mapping where it is missing; of a value, or of its key
+-- the position of a key, or of the mapping if the key is missing; of a value, or of its key
 abbrev pub place_or : Pos → Option Pos → Pos
 place_or other place = unwrap_or place other
 
 abbrev pub at_key : MisfitKind → Pos → List Misfit
 at_key kind place = record { kind = kind; place = place } ∷ []
 
--- at a value; an alias is none that is looked for
+-- a misfit at a value; an alias is always a BadValue
 abbrev pub at_value : MisfitKind → Pos → EventKindValue → Option Pos → List Misfit
 at_value misfit key kind place = record { kind = if is_alias_event kind then BadValue else misfit; place = place_or key place } ∷ []
 
@@ -84,7 +84,7 @@ checked_rules =
     Anchors ∷ Braces ∷ Brackets ∷ Colons ∷ Commas ∷ Comments ∷ DocumentStart ∷ EmptyLines ∷ Hyphens ∷ Indentation ∷ KeyDuplicates ∷ KeyOrdering
     ∷ LineLength ∷ NewLineAtEndOfFile ∷ NewLines ∷ QuotedStrings ∷ TrailingSpaces ∷ Truthy ∷ []
 
--- the rule of this name, if it is one that is checked
+-- the rule with this name, if it is one that is checked
 abbrev pub rule_named : List ℕ → Option RuleId
 rule_named name = find (λ rule. bytes_eq name (rule_name rule)) checked_rules
 
@@ -99,7 +99,7 @@ turns_on kind = bytes_eq (word kind) (codes "enable") || is_one_of true_words (p
 abbrev pub turns_off : EventKindValue → Bool
 turns_off kind = bytes_eq (word kind) (codes "disable") || is_one_of false_words (plain_word kind)
 
--- nothing in the mapping of an unchecked rule is looked at
+-- the entries in the mapping of an unchecked rule are skipped
 abbrev pub options_misfits : Option RuleId → Pos → Nodes → List Misfit
 options_misfits None mapping inside = []
 options_misfits (Some rule) mapping inside = flat_map (option_misfits rule mapping) (entries_of inside)
@@ -139,7 +139,7 @@ root_entry_misfits mapping e =
 abbrev pub origin : Pos
 origin = record { line = 0; col = 0 }
 
--- of the root of a document
+-- the misfits of a document with this root
 abbrev pub root_misfits : ItemValue → List Misfit
 root_misfits root =
     if starts_mapping root.kind then flat_map (root_entry_misfits (place_or origin root.place)) (entries_of root.inside)

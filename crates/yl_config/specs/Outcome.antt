@@ -1,5 +1,6 @@
--- Meaning: what bytes say as a configuration, or why they are refused. First they may be too large, then they may be no UTF-8; then the
--- text's first fault is told, if it has one; then the first in the text of what does not fit.
+-- Meaning: the result of reading bytes as a configuration: the settings, or the fault. The bytes
+-- may be too large; else they may not be UTF-8; else the text may have a fault; else it may have a
+-- misfit.
 use Rattle.std.specs.Prelude.{◌≡◌, ◌≢◌, ◌<◌, ◌≤◌, ℕ, Bool, false, if◌then◌else◌, List, [], ◌∷◌, length, Option, Some, None, Result, Ok, Err}
 use Rattle.std.specs.Str.{IsUtf8}
 use Rattle.yl_text.specs.declared.position.Pos.{Pos}
@@ -26,12 +27,12 @@ abbrev pub is_lone_end : List LexemeValue → Bool
 is_lone_end (x ∷ []) = is_document_end x.kind
 is_lone_end _ = false
 
--- these from the first on that is one
+-- the documents from the first one that is a document of a configuration on
 abbrev pub from_own : List BuiltDocumentValue → List BuiltDocumentValue
 from_own [] = []
 from_own (d ∷ ds) = if is_lone_end d.lexemes then from_own ds else d ∷ ds
 
--- the first is judged, and where the second begins, if there is one
+-- the first document is judged; a second one is a misfit
 abbrev pub judged_own : List BuiltDocumentValue → Result Settings ConfigFault
 judged_own [] = document_judgement [] None
 judged_own (d ∷ ds) = document_judgement d.events (place_behind None (from_own ds))
@@ -42,11 +43,11 @@ abbrev pub judged_unless : Option Pos → Result Settings ConfigFault → Result
 judged_unless None answer = answer
 judged_unless (Some place) answer = Err (fault.Syntax (place_from_one place))
 
--- what is said of a text with these documents
+-- the result for a text with these documents
 abbrev pub judged_text : TextReading → List BuiltDocumentValue → Result Settings ConfigFault
 judged_text r ds = judged_unless (text_fault r ds) (judged_own (from_own ds))
 
--- this is said of a text that is read to this
+-- the result for a text with this reading
 pub record Says (r : TextReading) (answer : Result Settings ConfigFault) : Type 0 where
   pub documents : List BuiltDocumentValue
   pub built : AreBuilt (documents_of r.lexemes) documents
@@ -54,13 +55,13 @@ pub record Says (r : TextReading) (answer : Result Settings ConfigFault) : Type 
 
 -- ---- bytes
 
--- `Memory` alone may come or not
+-- `Memory` is always possible if the bytes are a text
 abbrev pub IsConfigOf : List ℕ → Result Settings ConfigFault → Type 0
 IsConfigOf t (Err fault.TooLarge) = MAX_BYTES < length t
 IsConfigOf t (Err fault.NotUtf8) = (length t ≤ MAX_BYTES) × ¬ (IsUtf8 t)
 IsConfigOf t (Err fault.Memory) = IsText t
 IsConfigOf t answer = IsText t × Says (reading_of (characters_of (lines_of t))) answer
 
--- what is said of bytes is one thing, want of memory apart
+-- the result for some bytes is unique, unless it is `Memory`
 abbrev pub OneAnswer : Type 0
 OneAnswer = (t : List ℕ) (a b : Result Settings ConfigFault) → a ≢ Err fault.Memory → b ≢ Err fault.Memory → IsConfigOf t a → IsConfigOf t b → a ≡ b

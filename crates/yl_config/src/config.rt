@@ -19,16 +19,19 @@ use yl_settings::{Answer, Item, RuleOptions, standard_rule_options};
 use yl_text::RuleId;
 use yl_tree::{AnchorsOptions, KeyDuplicatesOptions};
 
-/// Which rules are on, at which level, and the options of the rules.
+/// A configuration: which rules are on, at which level, and the options of the rules.
 #[derive(Clone, Copy)]
 pub struct Config {
+    /// The level of each rule that is on.
     levels: RuleLevels,
+    /// The options of all rules.
     options: RuleOptions,
 }
 
 impl Config {
-    /// yamllint's default configuration: all checked rules are on but key-ordering and
-    /// quoted-strings, at level error, but comments, document-start and truthy at level warning.
+    /// Returns yamllint's default configuration: all checked rules are on except key-ordering and
+    /// quoted-strings. comments, document-start and truthy are at level warning, and all others at
+    /// level error.
     pub fn standard() -> Config
         ensures levels { levels_of result ≡ default_levels }
         ensures options { options_of result ≡ standard_rule_options }
@@ -39,7 +42,7 @@ impl Config {
         }
     }
 
-    /// These levels and options.
+    /// Creates a configuration of these levels and options.
     pub fn new(levels: RuleLevels, options: RuleOptions) -> Config
         ensures levels { levels_of result ≡ level_of levels }
         ensures options { options_of result ≡ options }
@@ -47,7 +50,8 @@ impl Config {
         Config { levels, options }
     }
 
-    /// No rule is on; the options are those of the default configuration.
+    /// Returns a configuration with no rule on except `syntax`, and with the options of the default
+    /// configuration.
     pub fn all_off() -> Config
         ensures { config_settings result ≡ all_off }
     {
@@ -57,14 +61,15 @@ impl Config {
         }
     }
 
-    /// Sets a rule's level.
+    /// Sets the level of a rule. `None` turns it off. The rule `syntax` stays on, at level error.
     pub(crate) fn set_level(&mut self, rule: RuleId, level: Option<Level>)
         ensures { config_settings self.new ≡ at_level rule level (config_settings self.old) }
     {
         self.levels = self.levels.with(rule, level);
     }
 
-    /// The same configuration with a rule off.
+    /// Returns the configuration with a rule turned off. The rule `syntax` stays on, at level
+    /// error.
     pub fn without(self, rule: RuleId) -> Config
         ensures { config_settings result ≡ at_level rule None (config_settings self) }
     {
@@ -74,7 +79,8 @@ impl Config {
         }
     }
 
-    /// Sets the option of this name of a rule.
+    /// Sets the option with this name of a rule to the value of `item`, and returns whether there
+    /// is such an option and it takes the value.
     pub(crate) fn set_option(
         &mut self,
         rule: RuleId,
@@ -89,7 +95,7 @@ impl Config {
         self.options.set(rule, name, events, item)
     }
 
-    /// Gives a rule this level and the options that it has in what is extended.
+    /// Gives a rule this level, and the options that it has in `base`.
     pub(crate) fn start_afresh(&mut self, base: &Config, rule: RuleId, level: Option<Level>)
         ensures { config_settings self.new ≡ afresh (config_settings base.now) rule level (config_settings self.old) }
     {
@@ -97,7 +103,8 @@ impl Config {
         self.options.take(rule, &base.options);
     }
 
-    /// Turns a rule on, at its level in what is extended.
+    /// Turns a rule on, at its level in `base`, or at level error if it is off there, and gives it
+    /// the options that it has in `base`.
     pub(crate) fn turn_on(&mut self, base: &Config, rule: RuleId)
         ensures { config_settings self.new ≡ turned_on (config_settings base.now) rule (config_settings self.old) }
     {
@@ -105,112 +112,113 @@ impl Config {
         self.start_afresh(base, rule, Some(level));
     }
 
-    /// For each rule its level, or none where it is off.
+    /// Returns the levels of the rules. A rule without a level is off.
     pub fn levels(&self) -> &RuleLevels
         ensures { level_of result.now ≡ levels_of self.now }
     {
         &self.levels
     }
 
-    /// The options of all rules, of those that are off too.
+    /// Returns the options of all rules, including those that are off.
     pub fn options(&self) -> &RuleOptions
         ensures { result.now ≡ options_of self.now }
     {
         &self.options
     }
 
-    /// The options of the rules that look at one line: line-length.
+    /// Returns the options of the rules that look at one line: line-length.
     pub fn row_options(&self) -> &RowOptions
         ensures { result.now ≡ row_options_of self.now }
     {
         &self.options.row
     }
 
-    /// The options of the rules that look at the lines of a whole text: empty-lines and new-lines.
+    /// Returns the options of the rules that look at the lines of a whole text: empty-lines and
+    /// new-lines.
     pub fn run_options(&self) -> &RunOptions
         ensures { result.now ≡ (options_of self.now).run }
     {
         &self.options.run
     }
 
-    /// The options of comments.
+    /// Returns the options of the rule comments.
     pub fn comments_options(&self) -> &CommentsOptions
         ensures { result.now ≡ (options_of self.now).comments }
     {
         &self.options.comments
     }
 
-    /// The options of braces.
+    /// Returns the options of the rule braces.
     pub fn braces_options(&self) -> &BracketsOptions
         ensures { result.now ≡ (options_of self.now).braces }
     {
         &self.options.braces
     }
 
-    /// The options of brackets.
+    /// Returns the options of the rule brackets.
     pub fn brackets_options(&self) -> &BracketsOptions
         ensures { result.now ≡ (options_of self.now).brackets }
     {
         &self.options.brackets
     }
 
-    /// The options of colons.
+    /// Returns the options of the rule colons.
     pub fn colons_options(&self) -> &ColonsOptions
         ensures { result.now ≡ (options_of self.now).colons }
     {
         &self.options.colons
     }
 
-    /// The options of commas.
+    /// Returns the options of the rule commas.
     pub fn commas_options(&self) -> &CommasOptions
         ensures { result.now ≡ (options_of self.now).commas }
     {
         &self.options.commas
     }
 
-    /// The options of hyphens.
+    /// Returns the options of the rule hyphens.
     pub fn hyphens_options(&self) -> &HyphensOptions
         ensures { result.now ≡ (options_of self.now).hyphens }
     {
         &self.options.hyphens
     }
 
-    /// The options of document-start.
+    /// Returns the options of the rule document-start.
     pub fn document_start_options(&self) -> &DocumentStartOptions
         ensures { result.now ≡ (options_of self.now).document_start }
     {
         &self.options.document_start
     }
 
-    /// The options of truthy.
+    /// Returns the options of the rule truthy.
     pub fn truthy_options(&self) -> &TruthyOptions
         ensures { result.now ≡ (options_of self.now).truthy }
     {
         &self.options.truthy
     }
 
-    /// The options of quoted-strings.
+    /// Returns the options of the rule quoted-strings.
     pub fn quoted_strings_options(&self) -> &QuotedStringsOptions
         ensures { result.now ≡ (options_of self.now).quoted_strings }
     {
         &self.options.quoted_strings
     }
 
-    /// The options of indentation.
+    /// Returns the options of the rule indentation.
     pub fn indentation_options(&self) -> &IndentationOptions
         ensures { result.now ≡ (options_of self.now).indentation }
     {
         &self.options.indentation
     }
 
-    /// The options of key-duplicates.
+    /// Returns the options of the rule key-duplicates.
     pub fn key_duplicates_options(&self) -> &KeyDuplicatesOptions
         ensures { result.now ≡ (options_of self.now).key_duplicates }
     {
         &self.options.key_duplicates
     }
 
-    /// The options of anchors.
+    /// Returns the options of the rule anchors.
     pub fn anchors_options(&self) -> &AnchorsOptions
         ensures { result.now ≡ (options_of self.now).anchors }
     {

@@ -1,4 +1,4 @@
-//! A configuration from the events of its document.
+//! Reads a configuration from the events of its document.
 ghost use Rattle.std.specs.Prelude.{◌≡◌, ◌≤◌, length, map};
 ghost use Rattle.yl_events.specs.Event.{event_value};
 ghost use Rattle.yl_settings.specs.Item.{item_value};
@@ -14,7 +14,8 @@ use yl_events::{Event, EventKind};
 use yl_settings::{Item, first_item};
 use yl_text::Pos;
 
-/// The root of a document with these events; an end where there is none.
+/// Returns the root node of a document with these events. Returns an item of the kind
+/// `DocumentEnd`, without a place, if there is none.
 pub fn root_of<'a>(events: &[Event<'a>]) -> Item<'a>
     ensures root { item_value events.now result ≡ root_of (map event_value events.now) }
     ensures inside { result.inside ≤ length events.now }
@@ -35,7 +36,8 @@ pub fn root_of<'a>(events: &[Event<'a>]) -> Item<'a>
 
 #[tactic(auto, unfolding(crate::specs::Misfits::earliest))]
 impl Reading {
-    /// Notes a second document, where it begins at this place, as what does not fit.
+    /// Notes a second document as a misfit, if there is one. `next` is the position at which it
+    /// begins.
     pub fn note_next(&mut self, next: Option<Pos>)
         ensures first { self.new.first ≡ earliest self.old.first (next_misfits next) }
         ensures config { self.new.config ≡ self.old.config }
@@ -48,13 +50,13 @@ impl Reading {
 }
 
 impl Config {
-    /// What a configuration says whose first document has these events; where there is no document,
-    /// there are none. `next` is the place where a second document begins, if there is one, counted
-    /// from 0.
+    /// Returns the configuration in a document with these events, or its fault. `events` is empty
+    /// if there is no document. `next` is the position at which a second document begins, if there
+    /// is one. Its line and its column count from 0.
     ///
-    /// The fault is the first in the text of what does not fit; of two at one place the one that
-    /// stands first among `NotAMapping`, `UnknownKey`, `UnknownRule`, `UnknownOption`, `BadValue`,
-    /// `BadLevel` and `UnknownExtends`.
+    /// The fault is the first misfit in the text. Of two misfits at one position, the fault is the
+    /// one that comes first among `NotAMapping`, `UnknownKey`, `UnknownRule`, `UnknownOption`,
+    /// `BadValue`, `BadLevel` and `UnknownExtends`.
     pub fn of_document(events: &[Event<'_>], next: Option<Pos>) -> Result<Config, ConfigFault>
         ensures { settings_answer result ≡ document_judgement (map event_value events.now) next }
     {

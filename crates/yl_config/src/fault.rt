@@ -1,4 +1,4 @@
-//! Why a configuration is refused.
+//! The faults of configurations.
 ghost use Rattle.std.specs.Prelude.{◌≡◌};
 ghost use Rattle.yl_config.specs.Faults.{fault_name, fault_of_misfit, fault_place, place_from_one};
 
@@ -7,10 +7,13 @@ use std::fmt;
 use thiserror::Error;
 use yl_text::Pos;
 
-/// A place of a configuration: a line and a column, both counted from 1, the column in characters.
+/// A position in a configuration. The line and the column count from 1, and the column counts
+/// characters.
 #[derive(Clone, Copy, Debug, PartialEq, Eq)]
 pub struct FaultPlace {
+    /// The line, counted from 1.
     pub line: u64,
+    /// The column, in characters, counted from 1.
     pub column: u64,
 }
 
@@ -22,37 +25,37 @@ impl fmt::Display for FaultPlace {
     }
 }
 
-/// Why a configuration is refused. Its text is its name and its place.
+/// Why a configuration is refused. It is displayed as its name and its position.
 #[derive(Clone, Copy, Debug, PartialEq, Eq, Error)]
 pub enum ConfigFault {
     /// The bytes are not UTF-8.
     #[error("NotUtf8")]
     NotUtf8,
-    /// The text is not YAML as it is read here.
+    /// The text has a syntax fault.
     #[error("Syntax at {0}")]
     Syntax(FaultPlace),
     /// The text is not one document whose root is a mapping.
     #[error("NotAMapping at {0}")]
     NotAMapping(FaultPlace),
-    /// The root has no such key.
+    /// The root has a key that is unknown.
     #[error("UnknownKey at {0}")]
     UnknownKey(FaultPlace),
-    /// There is no such rule.
+    /// `rules` names a rule that is unknown.
     #[error("UnknownRule at {0}")]
     UnknownRule(FaultPlace),
-    /// The rule has no such option.
+    /// A rule has no option of this name.
     #[error("UnknownOption at {0}")]
     UnknownOption(FaultPlace),
-    /// The value is none that may stand there.
+    /// A key, a rule or an option does not take the value, or the value is an alias.
     #[error("BadValue at {0}")]
     BadValue(FaultPlace),
-    /// The level is neither `error` nor `warning`.
+    /// The level of a rule is neither `error` nor `warning`.
     #[error("BadLevel at {0}")]
     BadLevel(FaultPlace),
-    /// What is extended is not `default`.
+    /// The value of `extends` is not `default`.
     #[error("UnknownExtends at {0}")]
     UnknownExtends(FaultPlace),
-    /// A growth was refused by the allocator.
+    /// The allocator is out of memory.
     #[error("Memory")]
     Memory,
     /// The text has more than 67,108,864 bytes.
@@ -60,7 +63,7 @@ pub enum ConfigFault {
     TooLarge,
 }
 
-/// A place counted from 1.
+/// Returns the position with its line and column counted from 1.
 pub fn from_one(place: Pos) -> FaultPlace
     ensures { result ≡ place_from_one place }
 {
@@ -71,7 +74,7 @@ pub fn from_one(place: Pos) -> FaultPlace
 }
 
 impl ConfigFault {
-    /// The fault's name, as its text has it.
+    /// Returns the name of the fault, as it is displayed.
     pub fn name(self) -> &'static str
         ensures { result.now ≡ fault_name self }
     {
@@ -90,7 +93,7 @@ impl ConfigFault {
         }
     }
 
-    /// The fault's place, if it has one.
+    /// Returns the position of the fault, if it has one.
     pub fn place(self) -> Option<FaultPlace>
         ensures { result ≡ fault_place self }
     {
@@ -108,7 +111,7 @@ impl ConfigFault {
     }
 }
 
-/// The fault at what does not fit.
+/// Returns the fault for a misfit.
 pub fn fault_of(misfit: Misfit) -> ConfigFault
     ensures { result ≡ fault_of_misfit misfit }
 {

@@ -1,7 +1,7 @@
-//! What a configuration says: which rules are on, at which level, with which options.
+//! Configurations: which rules are on, at which level, with which options.
 //!
-//! `Config::read` reads bytes: their lines, the lexemes of these, the documents, and of the
-//! configuration's one document what it says. `specs/Outcome.antt` is the definition of all that.
+//! `Config::read` reads the bytes of a configuration. It scans and parses their lines, and reads
+//! the levels and options from the one document. `specs/Outcome.antt` defines the result.
 #![tactic(auto)]
 
 ghost use Rattle.yl_config.specs.Outcome.{OneAnswer};
@@ -21,7 +21,7 @@ pub use read::from_own;
 pub use reading::{Reading, rule_named, turns_off, turns_on};
 pub use yl_settings::RuleOptions;
 
-/// A law: of bytes one thing is said, want of memory apart.
+/// A law: the result for some bytes is unique, unless it is `ConfigFault::Memory`.
 pub fn one_answer()
     ensures { OneAnswer }
 {}

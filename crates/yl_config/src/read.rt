@@ -1,4 +1,4 @@
-//! A configuration from its bytes.
+//! Reads a configuration from its bytes.
 ghost use Rattle.std.specs.Prelude.{◌≡◌, ◌<◌, ◌^◌, All, IfOk, length, ◌-◌};
 ghost use Rattle.std.specs.Str.{chars};
 ghost use Rattle.yl_scan.specs.Step.{characters_of};
@@ -16,7 +16,7 @@ use yl_lexeme::{Kind, Meter};
 use yl_scan::scan;
 use yl_text::{MAX_BYTES, Row, TextFault, split};
 
-/// Whether a document is a marker `...` alone.
+/// Returns whether a document consists of a marker `...` alone.
 fn is_lone_end<A: Allocator>(document: &BuiltDocument<'_, '_, A>) -> bool
     ensures { result ≡ is_lone_end document.now.lexemes }
 {
@@ -26,7 +26,8 @@ fn is_lone_end<A: Allocator>(document: &BuiltDocument<'_, '_, A>) -> bool
     }
 }
 
-/// These documents from the first on that is one of a configuration: a marker `...` alone is none.
+/// Returns these documents from the first one that is a document of a configuration on. A marker
+/// `...` alone is none.
 pub fn from_own<'c, 'a, 'b, A: Allocator>(
     documents: &'c [BuiltDocument<'a, 'b, A>],
 ) -> &'c [BuiltDocument<'a, 'b, A>]
@@ -42,7 +43,8 @@ pub fn from_own<'c, 'a, 'b, A: Allocator>(
     rest
 }
 
-/// What is said of these documents.
+/// Returns the configuration in the first of these documents, or its fault. A second document is a
+/// fault.
 fn judge_documents<A: Allocator>(
     documents: &[BuiltDocument<'_, '_, A>],
 ) -> Result<Config, ConfigFault>
@@ -56,7 +58,7 @@ fn judge_documents<A: Allocator>(
     }
 }
 
-/// What is said of the lines of a text. It fails for want of memory alone.
+/// Returns the configuration in the lines of a text, or its fault. The only error is out of memory.
 fn judge_rows<A: Allocator + Copy>(
     alloc: A,
     rows: &[Row<A>],
@@ -76,11 +78,13 @@ fn judge_rows<A: Allocator + Copy>(
 }
 
 impl Config {
-    /// What a configuration says whose text is these bytes, in UTF-8.
+    /// Reads a configuration from the bytes of its text, in UTF-8.
     ///
-    /// The faults, in the order in which they are looked for: `TooLarge`; `NotUtf8`; `Syntax`, at
-    /// the text's first fault; of all that does not fit the first in the text, of two at one place
-    /// the one that stands first among the others. `Memory` where a growth was refused.
+    /// Returns the first fault that applies, in this order: `TooLarge`, `NotUtf8`, `Syntax` at the
+    /// first fault of the text, then the first misfit in the text. Of two misfits at one position,
+    /// the fault is the one that comes first among `NotAMapping`, `UnknownKey`, `UnknownRule`,
+    /// `UnknownOption`, `BadValue`, `BadLevel` and `UnknownExtends`. Returns `Memory` if out of
+    /// memory.
     pub fn read<A: Allocator + Copy>(alloc: A, bytes: &[u8]) -> Result<Config, ConfigFault>
         ensures { IsConfigOf bytes.now (settings_answer result) }
     {

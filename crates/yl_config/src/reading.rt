@@ -1,4 +1,4 @@
-//! What a document says of the rules, and the first of what does not fit.
+//! Reads the levels and options of the rules from a document, and finds the first misfit.
 ghost use Rattle.std.specs.Prelude.{◌≡◌, ◌≤◌, length, Some, None, if◌then◌else◌};
 ghost use Rattle.std.specs.List.{flat_map, list_any};
 ghost use Rattle.yl_events.specs.Event.{kind_value};
@@ -18,22 +18,27 @@ use yl_settings::{
 };
 use yl_text::{Pos, RuleId};
 
-/// Where a text begins.
+/// The position at which a text begins.
 const ORIGIN: Pos = Pos { line: 0, col: 0 };
 
-/// What was read of a configuration's document so far: what it says, and the first in the text of what does not fit.
+/// What was read of the document of a configuration so far.
 #[derive(Clone, Copy)]
 pub struct Reading {
+    /// The configuration, by the entries that were read.
     pub config: Config,
+    /// The first misfit in the text, if there is one.
     pub first: Option<Misfit>,
 }
 
+/// Returns `place`, or `other` if there is none.
 fn place_or(other: Pos, place: Option<Pos>) -> Pos
     ensures { result ≡ place_or other place }
 {
     place.unwrap_or(other)
 }
 
+/// Returns whether the name is that of a rule of yamllint that a configuration may name and that is
+/// not checked.
 fn is_unchecked_rule(name: &str) -> bool
     ensures { result ≡ is_unchecked_rule name.now }
 {
@@ -43,7 +48,7 @@ fn is_unchecked_rule(name: &str) -> bool
     )
 }
 
-/// The rule of this name, if it is one that is checked.
+/// Returns the rule with this name, if it is one that is checked.
 pub fn rule_named(name: &str) -> Option<RuleId>
     ensures { result ≡ rule_named name.now }
 {
@@ -70,14 +75,15 @@ pub fn rule_named(name: &str) -> Option<RuleId>
     }
 }
 
-/// Whether a rule that has this value is on, with the options that it has in what is extended.
+/// Returns whether this value of a rule turns it on, with the options that it has in the
+/// configuration that is extended.
 pub fn turns_on(kind: EventKind<'_>) -> bool
     ensures { result ≡ turns_on (kind_value kind.entry) }
 {
     word(kind) == "enable" || is_true_word(plain_word(kind))
 }
 
-/// Whether a rule that has this value is off.
+/// Returns whether this value of a rule turns it off.
 pub fn turns_off(kind: EventKind<'_>) -> bool
     ensures { result ≡ turns_off (kind_value kind.entry) }
 {
@@ -86,7 +92,7 @@ pub fn turns_off(kind: EventKind<'_>) -> bool
 
 #[tactic(auto, unfolding(crate::specs::Misfits::earliest))]
 impl Reading {
-    /// Notes what does not fit at a key.
+    /// Notes a misfit at a key.
     pub fn note_key(&mut self, kind: MisfitKind, place: Pos)
         ensures first { self.new.first ≡ earliest self.old.first (at_key kind place) }
         ensures config { self.new.config ≡ self.old.config }
@@ -94,7 +100,8 @@ impl Reading {
         self.first = Some(earlier(self.first, Misfit { kind, place }));
     }
 
-    /// Notes what does not fit at a value; an alias is always a `BadValue`. Where the value has no place, `key` is told.
+    /// Notes a misfit at a value. An alias is always a `BadValue`. If the value has no position,
+    /// the misfit is at `key`.
     pub fn note_value(&mut self, kind: MisfitKind, key: Pos, item: &Item<'_>)
         ensures first { self.new.first ≡ earliest self.old.first (at_value kind key (kind_value item.now.kind) item.now.place) }
         ensures config { self.new.config ≡ self.old.config }
@@ -107,7 +114,7 @@ impl Reading {
         self.note_key(kind, place_or(key, item.place));
     }
 
-    /// Notes what is said of an option, if it does not fit.
+    /// Notes a misfit at an option, if it has an unknown name or a wrong value.
     fn note_answer(&mut self, answer: Answer, key: Pos, item: &Item<'_>)
         ensures first { self.new.first ≡ earliest self.old.first (answer_misfits answer key (kind_value item.now.kind) item.now.place) }
         ensures config { self.new.config ≡ self.old.config }
@@ -130,7 +137,7 @@ impl Reading {
         }
     }
 
-    /// Reads one entry of a rule's mapping.
+    /// Reads one entry of a rule's mapping. The keys `ignore` and `ignore-from-file` are skipped.
     fn read_option(&mut self, rule: RuleId, mapping: Pos, events: &[Event<'_>], entry: &EntryAt<'_>)
         requires { entry.now.value.inside ≤ length events.now }
         ensures first { self.new.first ≡ earliest self.old.first (option_misfits rule mapping (entry_value events.now entry.now)) }
@@ -147,7 +154,8 @@ impl Reading {
         }
     }
 
-    /// Reads the entries of a rule's mapping.
+    /// Reads the entries of a rule's mapping. `inside` is the index of the event at which they
+    /// begin.
     fn read_options(&mut self, rule: RuleId, mapping: Pos, events: &[Event<'_>], inside: usize)
         requires { inside ≤ length events.now }
         ensures first { self.new.first ≡ earliest self.old.first (options_misfits (Some rule) mapping (nodes_at events.now inside)) }
@@ -160,7 +168,7 @@ impl Reading {
         }
     }
 
-    /// Reads what a rule is set to.
+    /// Reads the value of a rule. `base` is the configuration that is extended.
     fn read_value(
         &mut self,
         base: &Config,
@@ -185,7 +193,8 @@ impl Reading {
         }
     }
 
-    /// Looks at what an unchecked rule is set to.
+    /// Notes a misfit at the value of an unchecked rule, unless the value turns the rule on or off
+    /// or is a mapping.
     fn pass_value(&mut self, key: Pos, events: &[Event<'_>], item: &Item<'_>)
         requires { item.now.inside ≤ length events.now }
         ensures first { self.new.first ≡ earliest self.old.first (rule_value_misfits None key (item_value events.now item.now)) }
@@ -211,7 +220,7 @@ impl Reading {
         }
     }
 
-    /// Reads the entries of `rules`.
+    /// Reads the entries of `rules`. `inside` is the index of the event at which they begin.
     fn read_rules(&mut self, base: &Config, mapping: Pos, events: &[Event<'_>], inside: usize)
         requires { inside ≤ length events.now }
         ensures first { self.new.first ≡ earliest self.old.first (flat_map (rule_misfits mapping) (entries_of (nodes_at events.now inside))) }
@@ -224,7 +233,7 @@ impl Reading {
         }
     }
 
-    /// Reads what is extended.
+    /// Reads the value of `extends`.
     fn read_extends(&mut self, key: Pos, item: &Item<'_>)
         ensures first { self.new.first ≡ earliest self.old.first (extends_misfits key (kind_value item.now.kind) item.now.place) }
         ensures config { self.new.config ≡ self.old.config }
@@ -234,7 +243,8 @@ impl Reading {
         }
     }
 
-    /// Reads the value of `rules`, which is laid over the configuration that is extended.
+    /// Reads the value of `rules`, and applies its entries to `base`, the configuration that is
+    /// extended. They replace the entries of an earlier `rules`.
     pub fn read_rules_value(
         &mut self,
         base: &Config,
@@ -270,7 +280,7 @@ impl Reading {
         }
     }
 
-    /// Reads the entries of the root.
+    /// Reads the entries of the root. `inside` is the index of the event at which they begin.
     fn read_entries(&mut self, base: &Config, mapping: Pos, events: &[Event<'_>], inside: usize)
         requires { inside ≤ length events.now }
         ensures first { self.new.first ≡ earliest self.old.first (flat_map (root_entry_misfits mapping) (entries_of (nodes_at events.now inside))) }
@@ -284,7 +294,8 @@ impl Reading {
     }
 }
 
-/// Whether the root has a key `extends`.
+/// Returns whether the root has a key `extends`. `inside` is the index of the event at which its
+/// entries begin.
 fn is_extended(events: &[Event<'_>], inside: usize) -> bool
     requires { inside ≤ length events.now }
     ensures { result ≡ list_any is_extends (entries_of (nodes_at events.now inside)) }
@@ -299,7 +310,8 @@ fn is_extended(events: &[Event<'_>], inside: usize) -> bool
     false
 }
 
-/// Reads the root of a document: what it says, and the first of what does not fit.
+/// Reads the root of a document. Returns the configuration and the first misfit. Without a key
+/// `extends`, all rules except `syntax` are off that no entry turns on.
 pub fn read_root(events: &[Event<'_>], root: &Item<'_>) -> Reading
     requires { root.now.inside ≤ length events.now }
     ensures first { result.first ≡ earliest None (root_misfits (item_value events.now root.now)) }
