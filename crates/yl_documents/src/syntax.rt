@@ -69,7 +69,7 @@ pub fn stands_before(p: Pos, q: Pos) -> bool
     p.line < q.line || (p.line == q.line && p.col < q.col)
 }
 
-/// Returns the earlier of two positions, or the one that there is.
+/// Returns the earlier of two positions. If one of them is missing, returns the other.
 fn earlier_place(first: Option<Pos>, second: Option<Pos>) -> Option<Pos>
     ensures { result ≡ earlier_place first second }
 {

@@ -1,4 +1,5 @@
--- Bridge: what is kept of a section, computed: by what is told of its document while the lexemes are read.
+-- Bridge: the summary of a section, computed: by the outcome of its document while the lexemes are
+-- read.
 use Rattle.std.specs.Prelude.{List, [], ◌∷◌, map, Some, None}
 use Rattle.yl_lexeme.specs.Lexeme.{LexemeValue}
 use Rattle.yl_marks.specs.Keys.{token_of}
@@ -15,15 +16,15 @@ abbrev pub built_by : List LexemeValue → DocumentOutcome → BuiltValue
 built_by xs (Events es) = record { events = map (event_of_outline xs) es; fault = None }
 built_by xs (Fails f) = record { events = []; fault = Some f }
 
--- what the document of these lexemes gives
+-- the events or the fault of the document of these lexemes
 abbrev pub document_of : List LexemeValue → BuiltValue
 document_of [] = record { events = []; fault = None }
 document_of (x ∷ xs) = built_by (x ∷ xs) (document_outcome_of_lines parser_at_start start_events (by_line (map token_of (x ∷ xs))))
 
--- what is kept of the section of these rows
+-- the summary of the section of these rows
 unfoldable pub kept_of_section : Config → List RecordValue → KeptValue
 kept_of_section config rs = kept_of config rs (document_of (lexemes_of rs))
 
--- what is computed is what is kept
+-- the summary that is computed is a summary of the section
 abbrev pub KeptIsComputed : Type 0
 KeptIsComputed = (config : Config) (rs : List RecordValue) → IsKept config rs (kept_of_section config rs)

@@ -1,4 +1,5 @@
--- Bridge: a section that is judged row by row: what is known of it before the rows that are to come.
+-- Bridge: a section that is judged row by row: the state of the judge, by the rows that are still
+-- to come.
 use Rattle.std.specs.Prelude.{◌≡◌, ◌≤◌, ◌<◌, ◌+◌, ◌++◌, ℕ, Bool, true, false, List, [], ◌∷◌, map, length, take, Option, Some, None, IfSome, slice_get, slice_index, option_map}
 use Rattle.std.specs.List.{filter}
 use Rattle.std.specs.Option.{option_map_or, option_or}
@@ -39,16 +40,17 @@ use Rattle.yl_sections.specs.Sections.{Parts, lexemes_from, lexemes_of, parts, s
 
 -- ---- the document
 
--- the anchor that waits after a line, by its index
+-- the anchor with this index, as it waits after a line
 abbrev pub anchor_held : LineValue → Option ℕ → Option WaitingAnchorValue
 anchor_held l waiting = option_map (λ i. record { index = i; name = value_seen l i; place = start_seen l i }) waiting
 
--- these begin in this line
+-- these lexemes begin in this line
 abbrev pub BeginIn : ℕ → List LexemeValue → Type 0
 BeginIn line [] = Unit {0}
 BeginIn line (x ∷ xs) = (x.start.line ≡ line) × BeginIn line xs
 
--- these are the lexemes of a line, whose row begins with so many spaces, and those come after them; ns are the spaces of all rows
+-- these are the lexemes of a line, whose row begins with `spaces` spaces, and `left` comes after
+-- them; ns are the numbers of spaces of all rows
 pub record IsLine (ns : List ℕ) (spaces : ℕ) (line left : List LexemeValue) : Type 0 where
   pub at : ℕ
   pub here : BeginIn at line
@@ -56,7 +58,8 @@ pub record IsLine (ns : List ℕ) (spaces : ℕ) (line left : List LexemeValue) 
   pub elsewhere : BeginElsewhere at (map token_of left)
   pub spaces_are : slice_index ns at ≡ spaces
 
--- the document of the lexemes xs, in rows that begin with ns spaces, is judged down to where these lexemes are left
+-- the document of the lexemes xs, in rows that begin with ns spaces, was judged up to the lexemes
+-- `left`
 pub record Reads {A : Type 0} (config : Config) (xs : List LexemeValue) (ns : List ℕ) (left : List LexemeValue) (d : DocumentJudge A) : Type 0 where
   pub front : List LexemeValue
   pub whole : xs ≡ front ++ left
@@ -75,7 +78,8 @@ pub record Reads {A : Type 0} (config : Config) (xs : List LexemeValue) (ns : Li
       ≡ indent_facts (map token_of xs) (marked_lexemes xs) all ns
   pub told : Gives config xs d.tree (outcome_of_symbols d.reader.parser d.count [] (marks_by_lines d.reader.marker.marks (by_line (map token_of left)))) (document_of xs)
 
--- it has this fault at a lexeme of the line of so many lexemes, and what is told of the lexemes before it was told
+-- the document has this fault at a lexeme of a line, and the lexemes before it were judged; `first`
+-- is the index of the first lexeme of the line, and `count` the number of its lexemes
 pub record Stops {A : Type 0} (config : Config) (xs : List LexemeValue) (ns : List ℕ) (first count : ℕ) (f : PlacedParseFault) (d : DocumentJudge A) : Type 0 where
   pub fault : (document_of xs).fault ≡ Some f
   pub there : IsInLine first count f.place
@@ -86,7 +90,7 @@ abbrev pub ReadsLine : {A : Type 0} → Option PlacedParseFault → Config → L
 ReadsLine None config xs ns first count left d = Reads config xs ns left d
 ReadsLine (Some f) config xs ns first count left d = Stops config xs ns first count f d
 
--- it ends: its fault after all lexemes, or what its events have
+-- the end of a document: its fault after all lexemes, or the findings in its events
 pub record EndsSo {A : Type 0} (config : Config) (xs : List LexemeValue) (ns : List ℕ) (e : DocumentEnd A) : Type 0 where
   pub fault : e.fault ≡ (document_of xs).fault
   pub after : IfSome e.fault (λ f. f.place ≡ length xs)
@@ -96,7 +100,7 @@ pub record EndsSo {A : Type 0} (config : Config) (xs : List LexemeValue) (ns : L
 
 -- ---- comments
 
--- where the last lexeme ends, after those of these rows too, the first of which is at this line
+-- the end of the last lexeme after these rows, the first of which is at this line
 abbrev pub end_after : Option LexemeEnd → ℕ → List RecordValue → Option LexemeEnd
 end_after last line [] = last
 end_after last line (r ∷ rs) = end_after (last_lexeme_end last line r.entry.lexemes) (line + 1) rs
@@ -111,12 +115,12 @@ pub record ReadsComments {A : Type 0} (config : Config) (rs : List RecordValue) 
 abbrev pub spaces_of : List RecordValue → List ℕ
 spaces_of rs = map (λ r. r.indentation) rs
 
--- the document of a section is judged, whose first rows are these, whatever rows come
+-- the document of a section that begins with these rows was judged, whatever rows come
 abbrev pub ReadsRows : {A : Type 0} → Config → List RecordValue → DocumentJudge A → Type 0
 ReadsRows config rs d = (more : List RecordValue) → 0 < length (lexemes_of (rs ++ more))
     → Reads config (lexemes_of (rs ++ more)) (spaces_of (rs ++ more)) (lexemes_from (length rs) more) d
 
--- in a section of these rows the document has a fault at a lexeme
+-- the document of the section of these rows has a fault at a lexeme
 pub record IsStopped {A : Type 0} (config : Config) (rs : List RecordValue) (s : StoppedDocument A) : Type 0 where
   pub fault : PlacedParseFault
   pub lexeme : LexemeValue
@@ -127,13 +131,13 @@ pub record IsStopped {A : Type 0} (config : Config) (rs : List RecordValue) (s :
   pub found : s.found.items ≡ lexeme_findings (lexeme_options_of config) fault.place (lexemes_of rs)
   pub facts : s.facts.items ≡ indent_facts (map token_of (lexemes_of rs)) (marked_lexemes (lexemes_of rs)) fault.place (spaces_of rs)
 
--- it has one in these rows, whatever rows come
+-- the document has a fault at a lexeme in these rows, whatever rows come
 pub record StopsIn {A : Type 0} (config : Config) (rs : List RecordValue) (s : StoppedDocument A) : Type 0 where
   pub some : 0 < length (lexemes_of rs)
   pub line : s.place.line < length rs
   pub stopped : (more : List RecordValue) → IsStopped config (rs ++ more) s
 
--- the last of these rows was read, or it has the document's fault
+-- the last of these rows was read, or the document has a fault at a lexeme in it
 abbrev pub ReadsRow : {A : Type 0} → Option (StoppedDocument A) → Config → List RecordValue → DocumentJudge A → Type 0
 ReadsRow None config rs d = ReadsRows config rs d
 ReadsRow (Some s) config rs d = StopsIn config rs s × (s.place.line + 1 ≡ length rs)
@@ -143,7 +147,7 @@ IsAt config rs Before = lexemes_of rs ≡ []
 IsAt config rs (In d) = (0 < length (lexemes_of rs)) × ReadsRows config rs d
 IsAt config rs (Stopped s) = StopsIn config rs s
 
--- the same, where a row with lexemes comes next
+-- the state at which a row with lexemes may come
 abbrev pub IsReady : {A : Type 0} → Config → List RecordValue → Stage A → Type 0
 IsReady config rs Before = ⊥
 IsReady config rs (In d) = ReadsRows config rs d
@@ -154,7 +158,7 @@ has_begun Before = false
 has_begun (In d) = true
 has_begun (Stopped s) = true
 
--- a document has begun, if none had before
+-- the document has begun
 abbrev pub IsBegun : {A : Type 0} → Config → Stage A → Stage A → Type 0
 IsBegun config Before (In d) = (xs : List LexemeValue) (ns : List ℕ) → 0 < length xs → Reads config xs ns xs d
 IsBegun config Before s = ⊥
@@ -166,23 +170,23 @@ shows_comments Before = true
 shows_comments (In d) = true
 shows_comments (Stopped s) = false
 
--- the rows whose comments are shown, of these
+-- those of the rows whose comments are shown
 abbrev pub commented : {A : Type 0} → Stage A → List RecordValue → List RecordValue
 commented Before rs = rs
 commented (In d) rs = rs
 commented (Stopped s) rs = take s.place.line rs
 
--- a row with lexemes more: comments are shown on, or no more are
+-- one more row with lexemes: comments are still shown, or none from it on
 abbrev pub KeepsComments : {A : Type 0} → List RecordValue → RecordValue → Stage A → Stage A → Type 0
 KeepsComments rs r old new =
     (shows_comments new ≡ true → shows_comments old ≡ true) × (shows_comments new ≡ false → commented new (rs ++ r ∷ []) ≡ commented old rs)
 
--- a row more: its comment is shown after those of all rows before it, or no more are
+-- one more row: its comment is shown after those of all rows before it, or none from it on
 abbrev pub IsCommented : {A : Type 0} → List RecordValue → RecordValue → Stage A → Stage A → Type 0
 IsCommented rs r old new =
     (shows_comments new ≡ true → commented old rs ≡ rs) × (shows_comments new ≡ false → commented new (rs ++ r ∷ []) ≡ commented old rs)
 
--- the column of the first lexeme, where these come next
+-- the column of the first lexeme, if these lexemes come next
 abbrev pub first_column : {A : Type 0} → Stage A → ℕ → List LexemeValue → ℕ
 first_column Before first (x ∷ xs) = x.start.col
 first_column _ first xs = first
@@ -197,7 +201,7 @@ pub record Judges {A : Type 0} (config : Config) (rs : List RecordValue) (j : Se
 
 -- ---- the end
 
--- the section's fault, by that which it has without a scan fault
+-- the fault of a section, by its fault without a scan fault and by its scan fault
 abbrev pub with_scan_fault : Option SectionFaultValue → Option SectionFaultValue → Option SectionFaultValue
 with_scan_fault (Some (Here place text)) scanned = Some (Here place text)
 with_scan_fault (Some (Behind text)) scanned = option_or scanned (Some (Behind text))
@@ -213,11 +217,13 @@ pub record IsTold {A : Type 0} (config : Config) (rs : List RecordValue) (stage 
 
 -- ---- sections, one after another
 
--- the sections of rows of which these begin the first, and the parts of the others are these
+-- the sections of some rows: the first one begins with the rows `here`, and the parts of the other
+-- rows are p
 abbrev pub with_front : List RecordValue → Parts → List (List RecordValue)
 with_front here p = (here ++ p.here) ∷ p.later
 
--- these rows were read: what is kept of the sections before the present one, and the present one was judged so far
+-- these rows were read: the sections before the current one have their summaries, and the current
+-- one was judged so far
 pub record JudgesAll {A : Type 0} (config : Config) (rs : List RecordValue) (j : SectionsJudge A) : Type 0 where
   pub done : List (List RecordValue)
   pub here : List RecordValue

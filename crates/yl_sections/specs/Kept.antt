@@ -1,7 +1,8 @@
--- Meaning: what is kept of a section, by itself: lines count from its first row (those of what is found from 1). What the text's fault
--- says of a section follows from the sections' own faults: a section after one with a fault is hidden whole, and one without fault shows
--- all that it has. So what is kept is what the section shows, and no problem needs to know on which lexemes it rests. Rules that look at
--- rows hide nothing, and are no part of it.
+-- Meaning: the summary of a section by itself. Lines count from its first row: those of findings
+-- from 1, others from 0. The first fault of a text follows from the faults of its sections: it
+-- hides the sections after it whole, and nothing of a section before it. So the summary has what
+-- the section shows, and no finding has to name the lexemes on which it depends. The findings of
+-- rules on lines are never hidden, and are no part of the summary.
 use Rattle.std.specs.Prelude.{◌≡◌, ℕ, Bool, true, false, ◌==◌, List, [], ◌∷◌, ◌++◌, ◌+◌, ◌-◌, ◌^◌, min, map, length, take, Option, Some, None, slice_get, is_some, option_map, option_and_then}
 use Rattle.std.specs.Bool.{then_some}
 use Rattle.std.specs.Option.{option_or, option_map_or}
@@ -36,12 +37,12 @@ use Rattle.yl_sections.specs.Sections.{lexemes_of}
 
 -- ---- the document
 
--- its events and no fault, or its fault and no events
+-- the events of a document and no fault, or its fault and no events
 pub record BuiltValue : Type 0 where
   pub events : List EventValue
   pub fault : Option PlacedParseFault
 
--- what the document of these lexemes gives; no lexemes are no document
+-- the events or the fault of the document of these lexemes; without lexemes there is no document
 abbrev pub IsSectionBuilt : List LexemeValue → BuiltValue → Type 0
 IsSectionBuilt [] b = b ≡ record { events = []; fault = None }
 IsSectionBuilt (x ∷ xs) b = Builds (x ∷ xs) b.events b.fault
@@ -50,7 +51,7 @@ abbrev pub document_count : List LexemeValue → ℕ
 document_count [] = 0
 document_count (x ∷ xs) = 1
 
--- how many documents these sections hold
+-- the number of documents in these sections
 abbrev pub documents_in : List (List RecordValue) → ℕ
 documents_in [] = 0
 documents_in (s ∷ ss) = document_count (lexemes_of s) + documents_in ss
@@ -58,12 +59,14 @@ documents_in (s ∷ ss) = document_count (lexemes_of s) + documents_in ss
 -- ---- the section's fault
 
 pub data SectionFaultValue : Type 0 where
-  -- at a place of the section
+  -- at a position of the section
   Here : (place : Pos) (text : List ℕ) → SectionFaultValue
-  -- its document may not end: at the next document's first lexeme, or at the text's end
+  -- the document may not end here: at the first lexeme of the next document, or at the end of the
+  -- text
   Behind : (text : List ℕ) → SectionFaultValue
 
--- of the row at this line. The greatest number of lines and of characters stands for all beyond it: no text has that many
+-- the scan fault of the row at this line; greater numbers of lines and of characters are cut to the
+-- greatest that fits in 32 bits, which no text has
 abbrev pub scan_fault_at : ℕ → PlacedScanFault → SectionFaultValue
 scan_fault_at line f = Here (pos_at (min (line + f.down) (2 ^ 32 - 1)) (min f.column (2 ^ 32 - 1))) (scan.fault_text f.fault)
 
@@ -72,41 +75,43 @@ abbrev pub scan_fault_from : ℕ → List RecordValue → Option SectionFaultVal
 scan_fault_from line [] = None
 scan_fault_from line (r ∷ rs) = option_or (option_map (scan_fault_at line) r.entry.fault) (scan_fault_from (line + 1) rs)
 
--- a parse fault at a lexeme comes before the scan fault, which stands after all lexemes; one after them gives way to it
+-- a parse fault at a lexeme comes before the scan fault, which is after all lexemes; a parse fault
+-- after all lexemes is replaced by it
 abbrev pub section_fault : List LexemeValue → Option PlacedParseFault → Option SectionFaultValue → Option SectionFaultValue
 section_fault xs None scanned = scanned
 section_fault xs (Some f) scanned =
     let text = parse.fault_text f.kind in
     option_or (option_map (λ x. Here x.start text) (slice_get xs f.place)) (option_or scanned (Some (Behind text)))
 
--- how many lexemes come before the parse fault
+-- the number of lexemes before the parse fault
 abbrev pub counted_of : List LexemeValue → Option PlacedParseFault → ℕ
 counted_of xs f = option_map_or (λ e. e.place) f (length xs)
 
--- up to which line, without it, comments are shown: that of a parse fault at a lexeme, else as many as there are rows
+-- the number of rows whose comments are shown: those before a parse fault at a lexeme, or all rows
 abbrev pub comment_lines : ℕ → List LexemeValue → Option PlacedParseFault → ℕ
 comment_lines rows xs f = option_map_or (λ x. x.start.line) (option_and_then (λ e. slice_get xs e.place) f) rows
 
 -- ---- comments
 
--- where the last lexeme ends, after those of the row at this line too
+-- the end of the last lexeme after the row at this line
 abbrev pub last_lexeme_end : Option LexemeEnd → ℕ → List LexemeValue → Option LexemeEnd
 last_lexeme_end last line xs = fold (λ e x. Some (record { line = line + x.end.line; col = x.end.col })) last xs
 
--- with the column where the last lexeme ends, if that is in this line
+-- the comment with the column at which the last lexeme ends, if that is in this line
 abbrev pub comment_at : ℕ → Option LexemeEnd → Option CommentValue → List PlacedCommentValue
 comment_at line last None = []
 comment_at line last (Some c) =
     let behind = option_and_then (λ e. then_some (e.line == line) e.col) last in
     record { line = line; column = c.column; text = c.text; behind = behind } ∷ []
 
--- the comments of these rows, the first of which is at this line; a row's comment comes after its lexemes
+-- the comments of these rows, the first of which is at this line; the comment of a row comes after
+-- its lexemes
 abbrev pub comments_from : Option LexemeEnd → ℕ → List RecordValue → List PlacedCommentValue
 comments_from last line [] = []
 comments_from last line (r ∷ rs) =
     let end = last_lexeme_end last line r.entry.lexemes in comment_at line end r.entry.comment ++ comments_from end (line + 1) rs
 
--- those before this line
+-- the comments of the rows before this line
 abbrev pub shown_comments : ℕ → List RecordValue → List PlacedCommentValue
 shown_comments line rs = comments_from None 0 (take line rs)
 
@@ -131,7 +136,8 @@ lexeme_options_of config = record {
   quoted_strings = then_some (is_on config QuotedStrings) (options_of config).quoted_strings;
 }
 
--- the shebang's place, line 0 and column 0, is the text's first: in the first row of a later section a lexeme stands before any comment
+-- the shebang's position, line 0 and column 0, is the first of the text: in the first row of a
+-- later section a lexeme comes before any comment
 abbrev pub shown_comment_findings : Config → List PlacedCommentValue → List FindingValue
 shown_comment_findings config cs = items_if (is_on config Comments) (flat_map (comment_findings (options_of config).comments) cs)
 
@@ -145,33 +151,34 @@ tree_options_of config = record {
 abbrev pub event_findings : Config → List EventValue → List FindingValue
 event_findings config es = tree_findings (tree_options_of config) es
 
--- a fault hides these
+-- a fault hides the items
 abbrev pub unless_fault : {X : Type 0} → Option SectionFaultValue → List X → List X
 unless_fault fault xs = option_map_or (λ _. []) fault xs
 
--- the events that a scan fault alone hides: without it the section has this fault
+-- the events that only a scan fault hides: without it the section has the fault `parse_fault`
 abbrev pub hidden_events : Option SectionFaultValue → Option SectionFaultValue → List EventValue → List EventValue
 hidden_events fault parse_fault es = option_map_or (λ _. unless_fault parse_fault es) fault []
 
--- ---- what is kept
+-- ---- the summary
 
 pub record KeptValue : Type 0 where
   pub rows : ℕ
-  -- the column of its first lexeme, where the fault of a section before may stand; 0 where it has none
+  -- the column of the first lexeme, where the fault of an earlier section may be; 0 if there is
+  -- none
   pub first : ℕ
-  -- of the lexemes, comments and events that are shown
+  -- the findings in the lexemes, comments and events that are shown
   pub found : List FindingValue
-  -- of the rule indentation, of the lexemes that are shown; lines from 0
+  -- the facts for the rule indentation of the lexemes that are shown; lines count from 0
   pub facts : List Fact
   -- the comments that are shown and may silence rules
   pub comments : List PlacedCommentValue
   pub fault : Option SectionFaultValue
-  -- of the events that a scan fault alone hides
+  -- the findings in the events that only a scan fault hides
   pub hidden : List FindingValue
-  -- the fault without a scan fault in these rows
+  -- the fault without the scan fault in these rows
   pub parse_fault : Option SectionFaultValue
 
--- how many rows these sections have
+-- the number of rows of these sections
 abbrev pub rows_kept : List KeptValue → ℕ
 rows_kept [] = 0
 rows_kept (k ∷ ks) = k.rows + rows_kept ks
@@ -180,7 +187,8 @@ abbrev pub facts_of : Config → List RecordValue → List LexemeValue → ℕ �
 facts_of config rs xs counted =
     items_if (is_on config Indentation) (indent_facts (map token_of xs) (marked_lexemes xs) counted (map (λ r. r.indentation) rs))
 
--- of a section with these lexemes, whose document gives this, and with this fault
+-- the summary of a section with these lexemes, whose document has these events or this fault, and
+-- with the fault `fault`
 abbrev pub kept_with : Config → List RecordValue → List LexemeValue → BuiltValue → Option SectionFaultValue → KeptValue
 kept_with config rs xs b fault =
     let counted = counted_of xs b.fault in
@@ -201,7 +209,7 @@ kept_with config rs xs b fault =
 abbrev pub kept_of : Config → List RecordValue → BuiltValue → KeptValue
 kept_of config rs b = let xs = lexemes_of rs in kept_with config rs xs b (section_fault xs b.fault (scan_fault_from 0 rs))
 
--- k is what is kept of the section of these rows: its document gives so
+-- k is the summary of the section of these rows
 pub record IsKept (config : Config) (rs : List RecordValue) (k : KeptValue) : Type 0 where
   pub document : BuiltValue
   pub built : IsSectionBuilt (lexemes_of rs) document

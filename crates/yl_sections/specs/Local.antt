@@ -1,11 +1,11 @@
--- Meaning: sections of an edited text: cut by what stands near the edit alone.
+-- Meaning: the sections of an edited text: only sections near the edit change.
 use Rattle.std.specs.Prelude.{◌≡◌, ◌⊎◌, ◌<◌, ◌≤◌, ◌+◌, ℕ, Bool, true, false, List, [], ◌∷◌, ◌++◌, length, take, drop, Option, None}
 use Rattle.std.specs.List.{splice}
 use Rattle.yl_lexeme.specs.declared.lexeme.Kind.{Kind}
 use Rattle.yl_record.specs.Records.{RecordValue}
 use Rattle.yl_sections.specs.Sections.{last_kind_from, is_section_start, sections}
 
--- the kind of the last lexeme, after these rows too
+-- the kind of the last lexeme after these rows
 abbrev pub kind_after : Option Kind → List RecordValue → Option Kind
 kind_after last [] = last
 kind_after last (r ∷ rs) = kind_after (last_kind_from last r.entry.lexemes) rs
@@ -19,7 +19,7 @@ begins_section last (r ∷ rs) = is_section_start last r.entry.lexemes
 abbrev pub is_start_at : List RecordValue → ℕ → Bool
 is_start_at rs i = begins_section (kind_after None (take i rs)) (drop i rs)
 
--- how many rows these sections have, and which
+-- the number of rows of these sections, and the rows
 abbrev pub row_total : List (List RecordValue) → ℕ
 row_total [] = 0
 row_total (s ∷ ss) = length s + row_total ss
@@ -28,13 +28,14 @@ abbrev pub all_rows : List (List RecordValue) → List RecordValue
 all_rows [] = []
 all_rows (s ∷ ss) = s ++ all_rows ss
 
--- the rows of sections, one section after another, are all rows
+-- the rows of the sections, one section after another, are all rows
 abbrev pub SectionsAreRows : Type 0
 SectionsAreRows = (rs : List RecordValue) → all_rows (sections rs) ≡ rs
 
--- the new rows are the old ones up to a place at which a section begins, some rows, and the old ones from a place on at which a section
--- begins: then only the sections of the rows between are new. p, q: how many old sections stand before the places x and y; z is y in
--- the new text
+-- the new rows are the old ones up to a place at which a section begins, some rows, and the old
+-- ones from a place on at which a section begins; then only the sections of the rows between
+-- differ. p and q are the numbers of old sections before the places x and y, and z is the place y
+-- in the new rows
 abbrev pub SectionsAreLocal : Type 0
 SectionsAreLocal =
     (old new : List RecordValue) (p q x y z : ℕ)

@@ -1,4 +1,4 @@
--- Bridge: a section's fault as the code keeps it.
+-- Bridge: the fault of a section, as the code holds it.
 use Rattle.yl_sections.specs.Kept.{SectionFaultValue, Here, Behind}
 use Rattle.yl_sections.specs.declared.fault.SectionFault.{SectionFault}
 use Rattle.yl_sections.specs.declared.fault.SectionFault.TheVariants as is

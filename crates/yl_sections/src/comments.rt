@@ -16,14 +16,17 @@ use yl_record::Record;
 use yl_rules::is_addressed;
 use yl_text::Finding;
 
-/// Where a lexeme ends: at this line, from 0 from the section's first row, and behind its last character, from 0 in characters.
+/// The position after the last character of a lexeme.
 #[derive(Clone, Copy)]
 pub struct LexemeEnd {
+    /// The line, counted from 0 from the section's first row.
     pub line: u64,
+    /// The column, in characters, counted from 0.
     pub col: u32,
 }
 
-/// Where the last lexeme ends, after those of the row at this line too.
+/// Returns the end of the last lexeme after a row at `line` with these lexemes. `last` is the end
+/// of the last lexeme before the row.
 fn last_end<A: Allocator>(
     last: Option<LexemeEnd>,
     line: u32,
@@ -43,7 +46,7 @@ fn last_end<A: Allocator>(
     }
 }
 
-/// In which column it is, if it is in this line.
+/// Returns the column of the end of a lexeme, if the end is in this line.
 fn column_in(line: u32, last: Option<LexemeEnd>) -> Option<u32>
     ensures { result ≡ option_and_then (λ e. then_some (e.line == line) e.col) last }
 {
@@ -59,7 +62,7 @@ fn column_in(line: u32, last: Option<LexemeEnd>) -> Option<u32>
     }
 }
 
-/// Puts a comment after those that are kept, if it may silence rules.
+/// Appends a comment, if it may silence rules. The only error is out of memory.
 #[inline(never)]
 fn push_addressed<A: Allocator + Copy>(
     alloc: A,
@@ -74,12 +77,15 @@ fn push_addressed<A: Allocator + Copy>(
     Ok(())
 }
 
-/// The comments of a section, as far as its rows were read: what the rule comments finds in them, and those that may silence rules.
+/// A reader of the comments of a section, whose rows are given one after another.
 #[derive(Drop)]
 pub struct CommentReader<A: Allocator> {
-    /// Where the last lexeme ends.
+    /// The end of the last lexeme, if there is one.
     last: Option<LexemeEnd>,
+    /// The findings of the rule comments. Lines and columns count from 1, lines from the section's
+    /// first row.
     pub found: Vec<Finding<A>, A>,
+    /// The comments that may silence rules.
     pub kept: Vec<KeptComment<A>, A>,
 }
 
@@ -89,7 +95,7 @@ impl<A: Allocator + Copy> CommentReader<A> {
     ghost use Rattle.yl_record.specs.Records.{RecordValue};
     ghost use Rattle.yl_sections.specs.Judging.{ReadsComments};
 
-    /// Before the first row.
+    /// Creates a reader at the start of a section.
     pub fn new(alloc: A) -> CommentReader<A>
         ensures { (config : Config) → ReadsComments config [] result }
     {
@@ -100,7 +106,8 @@ impl<A: Allocator + Copy> CommentReader<A> {
         }
     }
 
-    /// Reads the comment of the next row, at this line, if it has one. The only error is out of memory.
+    /// Reads the comment of the next row, which is at this line of the section, if it has one. The
+    /// only error is out of memory.
     pub fn read(&mut self, config: &Config, line: u32, row: &Record<A>) -> Result<(), AllocError>
         ensures { (rs : List RecordValue) → line ≡ length rs → ReadsComments config.now rs self.old
             → OnOk result (ReadsComments config.now (rs ++ row.now ∷ []) self.new) }
@@ -120,7 +127,8 @@ impl<A: Allocator + Copy> CommentReader<A> {
         self.found.append(&mut found)?;
         push_addressed(alloc, &mut self.kept, &comment)
     }
-    /// The same, if comments are shown.
+    /// Reads the comment of the next row, as `read` does, if `shows` is set, else does nothing. The
+    /// only error is out of memory.
     pub fn read_if(
         &mut self,
         shows: bool,

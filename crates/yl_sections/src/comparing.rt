@@ -1,4 +1,4 @@
-//! Whether what is kept of two sections is the same.
+//! Compares the summaries of two sections.
 ghost use Rattle.std.specs.Prelude.{◌≡◌, true};
 ghost use Rattle.std.specs.Option.{option_map};
 ghost use Rattle.yl_sections.specs.Owned.{section_fault_value};
@@ -9,6 +9,7 @@ use std::alloc::Allocator;
 use yl_indentation::{Expectation, Fact};
 use yl_text::Finding;
 
+/// Returns `true` only if the two findings are equal.
 fn is_same_finding<A: Allocator>(one: &Finding<A>, other: &Finding<A>) -> bool
     ensures { result ≡ true → one.now ≡ other.now }
 {
@@ -18,7 +19,7 @@ fn is_same_finding<A: Allocator>(one: &Finding<A>, other: &Finding<A>) -> bool
         && one.message() == other.message()
 }
 
-/// Whether two lists of problems are the same.
+/// Returns `true` only if the two lists of findings are equal.
 pub fn are_same_findings<A: Allocator>(one: &[Finding<A>], other: &[Finding<A>]) -> bool
     ensures { result ≡ true → one.now ≡ other.now }
 {
@@ -33,6 +34,7 @@ pub fn are_same_findings<A: Allocator>(one: &[Finding<A>], other: &[Finding<A>])
     true
 }
 
+/// Returns `true` only if the two expectations are equal.
 fn is_same_expectation(one: Expectation, other: Expectation) -> bool
     ensures { result ≡ true → one ≡ other }
 {
@@ -44,6 +46,7 @@ fn is_same_expectation(one: Expectation, other: Expectation) -> bool
     }
 }
 
+/// Returns `true` only if the two facts are equal.
 fn is_same_fact(one: Fact, other: Fact) -> bool
     ensures { result ≡ true → one ≡ other }
 {
@@ -52,6 +55,7 @@ fn is_same_fact(one: Fact, other: Fact) -> bool
         && is_same_expectation(one.expectation, other.expectation)
 }
 
+/// Returns `true` only if the two lists of facts are equal.
 fn are_same_facts(one: &[Fact], other: &[Fact]) -> bool
     ensures { result ≡ true → one.now ≡ other.now }
 {
@@ -66,6 +70,7 @@ fn are_same_facts(one: &[Fact], other: &[Fact]) -> bool
     true
 }
 
+/// Returns `true` only if the two columns are equal, or both are missing.
 fn is_same_column(one: Option<u32>, other: Option<u32>) -> bool
     ensures { result ≡ true → one ≡ other }
 {
@@ -76,6 +81,7 @@ fn is_same_column(one: Option<u32>, other: Option<u32>) -> bool
     }
 }
 
+/// Returns `true` only if the two comments are equal.
 fn is_same_comment<A: Allocator>(one: &KeptComment<A>, other: &KeptComment<A>) -> bool
     ensures { result ≡ true → one.now ≡ other.now }
 {
@@ -85,6 +91,7 @@ fn is_same_comment<A: Allocator>(one: &KeptComment<A>, other: &KeptComment<A>) -
         && one.text() == other.text()
 }
 
+/// Returns `true` only if the two lists of comments are equal.
 fn are_same_comments<A: Allocator>(one: &[KeptComment<A>], other: &[KeptComment<A>]) -> bool
     ensures { result ≡ true → one.now ≡ other.now }
 {
@@ -99,6 +106,7 @@ fn are_same_comments<A: Allocator>(one: &[KeptComment<A>], other: &[KeptComment<
     true
 }
 
+/// Returns `true` only if the two faults are equal, or both are missing.
 fn is_same_fault(one: Option<SectionFault>, other: Option<SectionFault>) -> bool
     ensures { result ≡ true → option_map section_fault_value one ≡ option_map section_fault_value other }
 {
@@ -115,7 +123,7 @@ fn is_same_fault(one: Option<SectionFault>, other: Option<SectionFault>) -> bool
 impl<A: Allocator> Kept<A> {
     ghost use Rattle.std.specs.Prelude.{◌≡◌, true};
 
-    /// Whether what is kept of two sections is the same.
+    /// Returns `true` only if the two summaries are equal.
     pub fn is_same(&self, other: &Kept<A>) -> bool
         ensures { result ≡ true → self.now ≡ other.now }
     {

@@ -1,4 +1,4 @@
-//! A document, judged line by line.
+//! Judges a document line by line.
 ghost use Rattle.std.specs.Prelude.{◌≡◌, ◌≤◌, ◌<◌, ◌+◌, ◌-◌, ◌^◌, ◌++◌, ◌∷◌, [], ℕ, Bool, List, map, length, take, Some, None, IfOk, OnOk, string_bytes};
 ghost use Rattle.yl_text.specs.Finding.{FindingValue};
 ghost use Rattle.yl_lexeme.specs.Lexeme.{LexemeValue};
@@ -28,11 +28,14 @@ use yl_marks::{KeyFacts, RowLexemes};
 use yl_text::{Finding, Pos};
 use yl_tree::TreeRules;
 
-/// An anchor of an earlier line whose node is still to come: its index among the document's lexemes, its name, and its place.
+/// An anchor of an earlier line whose node has not begun yet. Owns its name.
 #[derive(Drop)]
 pub struct HeldAnchor<A: Allocator> {
+    /// The index of the anchor among the lexemes of the document, from 0.
     index: u32,
+    /// The name of the anchor.
     name: String<A>,
+    /// The position of the anchor in the section.
     place: Pos,
 }
 
@@ -46,6 +49,7 @@ impl<A: Allocator> Model for HeldAnchor<A> {
 }
 
 impl<A: Allocator + Copy> HeldAnchor<A> {
+    /// Creates a copy of an anchor. The only error is out of memory.
     #[inline(never)]
     fn of(alloc: A, anchor: &WaitingAnchor<'_>) -> Result<HeldAnchor<A>, AllocError>
         ensures { IfOk result (λ a. a ≡ waiting_value anchor.now) }
@@ -57,6 +61,7 @@ impl<A: Allocator + Copy> HeldAnchor<A> {
         })
     }
 
+    /// Returns a view of the anchor. Does not allocate.
     fn lend(&self) -> WaitingAnchor<'_>
         ensures { waiting_value result ≡ self.now }
     {
@@ -68,7 +73,7 @@ impl<A: Allocator + Copy> HeldAnchor<A> {
     }
 }
 
-/// No lexemes: those where a document begins or ends.
+/// Returns an empty row, for the events at the start and at the end of a document.
 fn no_lexemes<'n, A: Allocator>() -> RowLexemes<'n, A>
     ensures { map (lexeme_at_line result.line) result.lexemes.now ≡ [] }
 {
@@ -78,7 +83,9 @@ fn no_lexemes<'n, A: Allocator>() -> RowLexemes<'n, A>
     }
 }
 
-/// The lexemes that the outlines of a line may name, by the anchor that waits before it.
+/// Returns the lexemes that the outlines of a row may name. `waiting` is the anchor that waits
+/// before the row, and `first` is the number of lexemes of the document before it. Does not
+/// allocate.
 fn lexemes_of_line<'n, A: Allocator + Copy>(
     waiting: &'n Option<HeldAnchor<A>>,
     first: usize,
@@ -93,7 +100,8 @@ fn lexemes_of_line<'n, A: Allocator + Copy>(
     LineLexemes::new(row, first, waiting)
 }
 
-/// The anchor of this index, if there is one, as it waits for its node after a line.
+/// Returns a copy of the anchor with this index, as one that waits for its node after a line, if
+/// there is an index. The only error is out of memory.
 fn held_anchor<A: Allocator + Copy>(
     alloc: A,
     lexemes: &LineLexemes<'_, A>,
@@ -107,7 +115,8 @@ fn held_anchor<A: Allocator + Copy>(
     }
 }
 
-/// Feeds the events of the outlines of a line to the rules on keys and anchors.
+/// Passes the events of the outlines of a line to the rules on keys and anchors. The only error is
+/// out of memory.
 fn push_events<A: Allocator + Copy>(
     lexemes: &LineLexemes<'_, A>,
     outlines: &[Outline],
@@ -123,7 +132,8 @@ fn push_events<A: Allocator + Copy>(
     Ok(())
 }
 
-/// What the latest line told goes to the rules on keys and anchors, and the anchor that waits for its node after it is held.
+/// Passes the events of the latest line to the rules on keys and anchors, and holds the anchor that
+/// waits for its node after the line. The only error is out of memory.
 fn tell<A: Allocator + Copy>(
     alloc: A,
     held: &mut Option<HeldAnchor<A>>,
@@ -151,7 +161,8 @@ fn tell<A: Allocator + Copy>(
     Ok(())
 }
 
-/// What the rules on lexemes find in a row of which only the first so many lexemes count, and in no line after it.
+/// Appends the findings of the rules on lexemes in the first `count` lexemes of a row, as if no
+/// lexeme followed them. The only error is out of memory.
 #[inline(never)]
 fn find_before<A: Allocator + Copy>(
     options: &LexemeOptions,
@@ -178,7 +189,8 @@ fn find_before<A: Allocator + Copy>(
     rules.finish(options, found)
 }
 
-/// What the rules on keys and anchors find in a document of so many lexemes that has ended, whose end told these outlines, or this fault.
+/// Returns the findings of the rules on keys and anchors in a document of `count` lexemes, or none
+/// if it has a fault. The reader holds the outlines of its end. The only error is out of memory.
 fn found_in_tree<A: Allocator + Copy>(
     alloc: A,
     waiting: &Option<HeldAnchor<A>>,
@@ -203,7 +215,8 @@ fn found_in_tree<A: Allocator + Copy>(
     tree.finish()
 }
 
-/// How many lexemes count up to the end of a line, before which there are so many, in a document that may have a fault in it.
+/// Returns the number of lexemes of a document that are judged: those before its fault, if it has
+/// one, else `end`.
 fn counted_in(fault: Option<PlacedParseFault>, end: usize) -> usize
     ensures { result ≡ counted_in fault end }
 {
@@ -213,43 +226,58 @@ fn counted_in(fault: Option<PlacedParseFault>, end: usize) -> usize
     }
 }
 
-/// The rules on keys and anchors before a document's first event: what they find is what its own events give, whatever documents came
-/// before.
+/// Returns the rules on keys and anchors at the start of a document. Their findings depend only on
+/// the events of that document.
 fn rules_at_start<A: Allocator + Copy>(alloc: A, config: &Config) -> TreeRules<A>
     ensures { (es : List EventValue) → Finds result es (event_findings config.now es) }
 {
     TreeRules::new(alloc, &tree_options(config))
 }
 
-/// A document, judged as far as its lines were read. Of its lexemes it holds the names of keys and anchors that rules ask for.
+/// A judge of a document, whose lines are given one after another. Of these lines it holds the
+/// names of keys and anchors that rules may still need, the neighbour of the next lexeme, and what
+/// is expected where.
 #[derive(Drop)]
 pub struct DocumentJudge<A: Allocator + Copy> {
+    /// The allocator of the lists.
     alloc: A,
-    /// How many lexemes were read.
+    /// The number of lexemes that were read.
     count: usize,
+    /// The marks and the parser of the document.
     reader: DocumentReader<A>,
-    /// The anchor that waits for its node.
+    /// The anchor that waits for its node, if there is one.
     waiting: Option<HeldAnchor<A>>,
+    /// The reader of the facts.
     places: FactReader<A>,
+    /// The options of the rules on lexemes that are on.
     options: LexemeOptions,
+    /// The rules on lexemes.
     rules: LexemeRules,
+    /// The rules on keys and anchors.
     tree: TreeRules<A>,
+    /// The facts for the rule indentation so far.
     facts: Vec<Fact, A>,
+    /// The findings of the rules on lexemes so far.
     found: Vec<Finding<A>, A>,
 }
 
-/// What was told of a whole document: what the rules on lexemes find, what the rule indentation checks, what the rules on keys and
-/// anchors find, and its fault after all lexemes. Under a fault the last rules find nothing.
+/// The findings and the fault of a whole document that has no fault at a lexeme. Lines count from
+/// the first row of its section.
 #[derive(Drop)]
 pub struct DocumentEnd<A: Allocator> {
+    /// The findings of the rules on lexemes.
     pub found: Vec<Finding<A>, A>,
+    /// The facts for the rule indentation.
     pub facts: Vec<Fact, A>,
+    /// The findings of the rules on keys and anchors. Empty if the document has a fault.
     pub in_tree: Vec<Finding<A>, A>,
+    /// The fault after all lexemes, if there is one.
     pub fault: Option<PlacedParseFault>,
 }
 
 impl<A: Allocator + Copy> DocumentJudge<A> {
-    /// A document begins, and is counted, also where memory is refused. The only error is out of memory.
+    /// Creates a judge at the start of a document, and counts the document in the meter, also after
+    /// an error. The only error is out of memory.
     pub fn begin(
         alloc: A,
         config: &Config,
@@ -277,8 +305,10 @@ impl<A: Allocator + Copy> DocumentJudge<A> {
         })
     }
 
-    /// Reads the lexemes of the document's next row that has some, which begins with so many spaces, or answers the document's fault.
-    /// The only error is out of memory, or more lexemes than a `u32` counts.
+    /// Reads the next row of the document that has lexemes. The row begins with `spaces` spaces.
+    /// Returns the document's fault, if it is at a lexeme of the row. The only error is out of
+    /// memory, or more lexemes than a `u32` counts. After a fault or an error, the judge must not
+    /// read further rows.
     pub fn read(
         &mut self,
         row: &RowLexemes<'_, A>,
@@ -329,14 +359,15 @@ impl<A: Allocator + Copy> DocumentJudge<A> {
         Ok(None)
     }
 
-    /// How many lexemes were read.
+    /// Returns the number of lexemes of the rows that were read without a fault.
     pub fn count(&self) -> usize
         ensures { result ≡ self.now.count }
     {
         self.count
     }
 
-    /// Takes what was told of the document: what the rules on lexemes found, and what the rule indentation checks.
+    /// Removes the findings of the rules on lexemes and the facts for the rule indentation, and
+    /// returns them.
     pub fn take(&mut self) -> (Vec<Finding<A>, A>, Vec<Fact, A>)
         ensures found { result.0.items ≡ self.old.found.items }
         ensures facts { result.1.items ≡ self.old.facts.items }
@@ -346,7 +377,8 @@ impl<A: Allocator + Copy> DocumentJudge<A> {
         (found, facts)
     }
 
-    /// The document ends. The only error is out of memory.
+    /// Returns the findings and the fault of the document, if no row follows. The only error is out
+    /// of memory.
     pub fn finish(self) -> Result<DocumentEnd<A>, AllocError>
         ensures { (config : Config) (xs : List LexemeValue) (ns : List ℕ) → Reads config xs ns [] self → IfOk result (λ e. EndsSo config xs ns e) }
     {

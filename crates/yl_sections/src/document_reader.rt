@@ -1,4 +1,4 @@
-//! The lines of a document, marked and parsed.
+//! Marks and parses a document line by line.
 ghost use Rattle.std.specs.Prelude.{◌≡◌, ◌≤◌, ◌<◌, ◌+◌, ◌^◌, ◌-◌, [], map, length, Some, None, IfOk, IfSome, OnOk};
 ghost use Rattle.yl_marks.specs.ByLine.{marks_of_line};
 ghost use Rattle.yl_marks.specs.FactsByLine.{behind_keyed_line, facts_of_line, key_marker_at_start};
@@ -13,10 +13,11 @@ use yl_events::{Outline, PlacedParseFault, SymbolParser};
 use yl_lexeme::Meter;
 use yl_marks::{KeyFacts, KeyMarker, RowLexemes, Symbol, Token, push_tokens};
 
-/// The number of lexemes for which the lists of a row have room from the first row on: most rows have fewer.
+/// The capacity of the lists of a row, in lexemes. Most rows have fewer lexemes.
 const ROW: usize = 8;
 
-/// Reads the lexemes of a row without their values, in the room of those of an earlier row.
+/// Replaces `tokens` by the lexemes of a row without their values. Keeps the capacity. The only
+/// error is out of memory.
 fn read_tokens<A: Allocator>(
     row: &RowLexemes<'_, A>,
     tokens: &mut Vec<Token, A>,
@@ -27,20 +28,27 @@ fn read_tokens<A: Allocator>(
     push_tokens(row, tokens)
 }
 
-/// What counts of the lines of a document that were read, and what the latest of them told.
+/// A reader of a document, whose lines are given one after another. It holds what the rest of the
+/// document depends on, and the marks and outlines of the latest line.
 #[derive(Drop)]
 pub struct DocumentReader<A: Allocator + Copy> {
+    /// The marker, which puts marks between the lexemes.
     pub marker: KeyMarker<A>,
+    /// The parser of the document.
     pub parser: SymbolParser<A>,
-    /// The latest line's lexemes without their values, with their marks, what keys say of each, and what the parser told of them.
+    /// The lexemes of the latest line, without their values.
     pub tokens: Vec<Token, A>,
+    /// The marked lexemes of the latest line.
     pub symbols: Vec<Symbol, A>,
+    /// For each lexeme of the latest line, what it has to do with keys.
     pub keys: Vec<KeyFacts, A>,
+    /// The outlines of the latest line.
     pub outlines: Vec<Outline, A>,
 }
 
 impl<A: Allocator + Copy> DocumentReader<A> {
-    /// A document begins, and is counted, also where memory is refused. The only error is out of memory.
+    /// Creates a reader at the start of a document, and counts the document in the meter, also
+    /// after an error. The only error is out of memory.
     pub fn begin(alloc: A, meter: &mut Meter) -> Result<DocumentReader<A>, AllocError>
         requires { meter.old.documents < 2 ^ 32 - 1 }
         ensures counted { meter.new ≡ record meter.old { documents = meter.old.documents + 1 } }
@@ -61,8 +69,9 @@ impl<A: Allocator + Copy> DocumentReader<A> {
         })
     }
 
-    /// Reads the lexemes of the next row that has some, before which the document has `first` lexemes, or answers the document's fault.
-    /// The only error is out of memory, or more lexemes than a `u32` counts.
+    /// Reads the next row of the document that has lexemes. `first` is the number of lexemes of the
+    /// document before it. Returns the document's fault, if it is at a lexeme of the row. The only
+    /// error is out of memory, or more lexemes than a `u32` counts.
     pub fn read(
         &mut self,
         first: usize,
@@ -91,7 +100,8 @@ impl<A: Allocator + Copy> DocumentReader<A> {
         self.parser.feed(first, &self.symbols, &mut self.outlines)
     }
 
-    /// The document of so many lexemes ends: answers its fault, if it has one. The only error is out of memory.
+    /// Ends a document of `count` lexemes, and returns its fault, if it has one. `outlines` are
+    /// then those of its end. The only error is out of memory.
     pub fn close(&mut self, count: usize) -> Result<Option<PlacedParseFault>, AllocError>
         ensures { IfOk result (λ fault. IsOutcome
             (outcome_of_symbols self.old.parser count [] (closings_of_all self.old.marker.marks.open_ones)) fault self.new.outlines.items) }

@@ -7,16 +7,19 @@ ghost use Rattle.yl_sections.specs.Owned.{section_fault_value};
 use yl_row::PlacedScanFault;
 use yl_text::Pos;
 
-/// The first fault of a section, and what is said of it.
+/// The first fault of a section, and its message.
 #[derive(Clone, Copy)]
 pub enum SectionFault {
-    /// At this place, whose line counts from 0 from the section's first row, and its column from 0 in characters.
+    /// A fault at this position. Its line counts from 0 from the section's first row, and its
+    /// column counts characters from 0.
     Here(Pos, &'static str),
-    /// After the section: at the next section's first lexeme, or, where it is the last, at the text's end.
+    /// A fault after the section: at the first lexeme of the next section, or at the end of the
+    /// text if the section is the last one.
     Behind(&'static str),
 }
 
-/// A number of lines or characters, or the greatest that a text can have.
+/// Returns `n`, or `u32::MAX` if it does not fit in 32 bits. No text has that many lines or
+/// characters.
 fn saturated(n: usize) -> u32
     ensures { result ≡ min n (2 ^ 32 - 1) }
 {
@@ -27,7 +30,7 @@ fn saturated(n: usize) -> u32
     }
 }
 
-/// The scan fault of the row at this line, if it has one.
+/// Returns the scan fault of the row at this line of a section, if it has one.
 pub fn scan_fault_at(line: usize, fault: Option<PlacedScanFault>) -> Option<SectionFault>
     requires { line < 2 ^ 32 }
     ensures { option_map section_fault_value result ≡ option_map (scan_fault_at line) fault }

@@ -1,4 +1,4 @@
-//! What is kept of a section whose last rows leave it.
+//! The summary of the first rows of a section.
 ghost use Rattle.std.specs.Prelude.{◌≡◌, ◌≤◌, ◌++◌, List, IfOk, OnOk, length, take};
 ghost use Rattle.yl_config.specs.declared.config.Config.{Config};
 ghost use Rattle.yl_record.specs.Records.{RecordValue};
@@ -10,7 +10,7 @@ use std::alloc::{AllocError, Allocator};
 use yl_indentation::Fact;
 use yl_text::Finding;
 
-/// Puts the same findings after the others.
+/// Appends copies of the findings. The only error is out of memory.
 fn push_findings<A: Allocator + Copy>(
     alloc: A,
     all: &mut Vec<Finding<A>, A>,
@@ -24,7 +24,7 @@ fn push_findings<A: Allocator + Copy>(
     Ok(())
 }
 
-/// The same facts.
+/// Returns a copy of the facts. The only error is out of memory.
 fn copied_facts<A: Allocator + Copy>(alloc: A, facts: &[Fact]) -> Result<Vec<Fact, A>, AllocError>
     ensures { IfOk result (λ v. v.items ≡ facts.now) }
 {
@@ -35,7 +35,7 @@ fn copied_facts<A: Allocator + Copy>(alloc: A, facts: &[Fact]) -> Result<Vec<Fac
     Ok(copies)
 }
 
-/// The same comments.
+/// Returns a copy of the comments. The only error is out of memory.
 fn copied_comments<A: Allocator + Copy>(
     alloc: A,
     comments: &[KeptComment<A>],
@@ -49,8 +49,9 @@ fn copied_comments<A: Allocator + Copy>(
     Ok(copies)
 }
 
-/// What is kept of the first so many rows of a section of which this is kept, where all that is read of it begins in them. What a scan
-/// fault below them hid is shown. Derives no document. The only error is out of memory.
+/// Returns the summary of the first `rows` rows of a section that has the summary `kept`. All
+/// lexemes and comments of the section must begin in these rows, and no scan fault may. What a scan
+/// fault after these rows hides is then shown. Parses no document. The only error is out of memory.
 pub fn kept_of_front<A: Allocator + Copy>(
     alloc: A,
     kept: &Kept<A>,

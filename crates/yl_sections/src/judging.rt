@@ -1,4 +1,4 @@
-//! Judging sections, one after another.
+//! Judges the sections of some rows, one after another.
 ghost use Rattle.std.specs.Prelude.{◌≡◌, ◌<◌, ◌+◌, ◌-◌, ◌++◌, ◌∷◌, ◌^◌, [], true, false, List, map, length, IfOk, OnOk};
 ghost use Rattle.yl_config.specs.declared.config.Config.{Config};
 ghost use Rattle.yl_record.specs.Records.{RecordValue};
@@ -16,19 +16,23 @@ use yl_config::Config;
 use yl_lexeme::{Kind, Meter};
 use yl_record::Record;
 
-/// The sections of rows that are read one after another: each is judged as its rows come. Of a row nothing is held but what is told of it,
-/// and names of keys and anchors.
+/// A judge of the sections of rows that are given one after another. Of a row it holds only its
+/// part in the summary of its section, and what the rules may still need of its document.
 #[derive(Drop)]
 pub struct SectionsJudge<A: Allocator + Copy> {
+    /// The allocator of the summaries.
     alloc: A,
-    /// The kind of the last lexeme.
+    /// The kind of the last lexeme, if there is one.
     last: Option<Kind>,
+    /// The judge of the section that was not ended.
     judge: SectionJudge<A>,
+    /// The summaries of the sections that were ended, in order.
     kept: Vec<Kept<A>, A>,
 }
 
-/// Adds what is kept of the section that ends to the rest, and begins with the next one. It is no part of the loop over the rows, whose
-/// frame would hold a section more.
+/// Appends the summary of the section that ends, and begins the next one. This is a separate
+/// function, so that the frame of the loop over the rows does not hold one more section. The only
+/// error is out of memory.
 #[inline(never)]
 fn end_section<A: Allocator + Copy>(
     alloc: A,
@@ -44,7 +48,7 @@ fn end_section<A: Allocator + Copy>(
     Ok(())
 }
 
-/// If a section starts, adds what is kept of the one before it to the rest, and begins with the next one.
+/// Ends a section and begins the next one, if `starts` is set. The only error is out of memory.
 fn turn<A: Allocator + Copy>(
     alloc: A,
     config: &Config,
@@ -63,7 +67,7 @@ fn turn<A: Allocator + Copy>(
 }
 
 impl<A: Allocator + Copy> SectionsJudge<A> {
-    /// Before the first row.
+    /// Creates a judge that has read no rows.
     pub fn new(alloc: A) -> SectionsJudge<A>
         ensures { (config : Config) → JudgesAll config [] result }
     {
@@ -75,8 +79,9 @@ impl<A: Allocator + Copy> SectionsJudge<A> {
         }
     }
 
-    /// Reads the next row, and counts its document in the meter, if one begins there. The only error is out of memory, or more rows of a
-    /// section or more documents than a `u32` counts.
+    /// Reads the next row, and counts its document in the meter, if one begins there. The only
+    /// error is out of memory, or more rows of a section, documents or lexemes of a document than a
+    /// `u32` counts.
     pub fn read(
         &mut self,
         config: &Config,
@@ -95,7 +100,8 @@ impl<A: Allocator + Copy> SectionsJudge<A> {
         Ok(())
     }
 
-    /// What is kept of each section, where no row is to come. The only error is out of memory.
+    /// Returns the summaries of the sections, in order, if no row follows. The only error is out of
+    /// memory.
     pub fn finish(self, config: &Config) -> Result<Vec<Kept<A>, A>, AllocError>
         ensures { (rs : List RecordValue) → JudgesAll config.now rs self → IfOk result (λ v. v.items ≡ map (kept_of_section config.now) (sections rs)) }
     {
@@ -109,7 +115,8 @@ impl<A: Allocator + Copy> SectionsJudge<A> {
     }
 }
 
-/// What is kept of each section of these rows. Counts their documents in the meter. The only error is out of memory.
+/// Returns the summaries of the sections of these rows, in order. Counts their documents in the
+/// meter. The only error is out of memory, or more lexemes of a document than a `u32` counts.
 pub fn judge_all<A: Allocator + Copy>(
     alloc: A,
     config: &Config,

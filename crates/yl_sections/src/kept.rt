@@ -1,4 +1,4 @@
-//! What is kept of a section.
+//! The summary of a section.
 
 use crate::fault::SectionFault;
 use std::alloc::{AllocError, Allocator};
@@ -7,12 +7,16 @@ use yl_indentation::{Fact, Measure};
 use yl_lexeme::PlacedComment;
 use yl_text::Finding;
 
-/// A comment that is kept: its place in the section, and its text.
+/// A comment of a section that may silence rules.
 #[derive(Drop)]
 pub struct KeptComment<A: Allocator> {
+    /// The line, counted from 0 from the section's first row.
     line: u32,
+    /// The column of the `#`, in characters, counted from 0.
     col: u32,
+    /// The column at which the lexeme before the comment in its line ends, if there is one.
     behind: Option<u32>,
+    /// The `#` and the characters after it, without the line break.
     text: String<A>,
 }
 
@@ -29,7 +33,7 @@ impl<A: Allocator + Copy> KeptComment<A> {
     ghost use Rattle.std.specs.Prelude.{◌≡◌, IfOk};
     ghost use Rattle.yl_lexeme.specs.PlacedComments.{placed_comment_value};
 
-    /// A copy of a comment.
+    /// Creates a copy of a comment. The only error is out of memory.
     pub(crate) fn new(alloc: A, comment: &PlacedComment<'_>) -> Result<KeptComment<A>, AllocError>
         ensures { IfOk result (λ c. c ≡ placed_comment_value comment.now) }
     {
@@ -42,7 +46,7 @@ impl<A: Allocator + Copy> KeptComment<A> {
         })
     }
 
-    /// The same comment.
+    /// Returns a copy of the comment. The only error is out of memory.
     pub(crate) fn copied(&self, alloc: A) -> Result<KeptComment<A>, AllocError>
         ensures { IfOk result (λ c. c ≡ self.now) }
     {
@@ -59,28 +63,29 @@ impl<A: Allocator + Copy> KeptComment<A> {
 impl<A: Allocator> KeptComment<A> {
     ghost use Rattle.std.specs.Prelude.{◌≡◌};
 
-    /// Its line, counted from 0 from the section's first row.
+    /// Returns the line, counted from 0 from the section's first row.
     pub fn line(&self) -> u32
         ensures { result ≡ self.now.line }
     {
         self.line
     }
 
-    /// The column of its `#`, from 0 in characters.
+    /// Returns the column of the `#`, in characters, counted from 0.
     pub fn col(&self) -> u32
         ensures { result ≡ self.now.column }
     {
         self.col
     }
 
-    /// The column at which the lexeme before it in its line ends, if one does.
+    /// Returns the column at which the lexeme before the comment in its line ends, in characters,
+    /// if there is one.
     pub fn behind(&self) -> Option<u32>
         ensures { result ≡ self.now.behind }
     {
         self.behind
     }
 
-    /// Its `#` and what follows it up to the break.
+    /// Returns the `#` and the characters after it, without the line break.
     pub fn text(&self) -> &str
         ensures { result.now ≡ self.now.text }
     {
@@ -88,19 +93,29 @@ impl<A: Allocator> KeptComment<A> {
     }
 }
 
-/// What is kept of a section, a run of a text's rows that holds one document: how many rows it has, what the rules on lexemes, comments
-/// and keys find in it, what the rule indentation has to know of it, its comments that may silence rules, and its fault. What its fault
-/// hides is left out, but for what a scan fault alone hides, which is kept beside the rest.
+/// The summary of a section, which is a run of rows of a text that holds at most one document. It
+/// has the findings of the rules on lexemes, comments, keys and anchors, the facts for the rule
+/// indentation, the comments that may silence rules, and the fault. What the fault hides is left
+/// out, except what only a scan fault hides, which is kept separately.
 #[derive(Drop)]
 pub struct Kept<A: Allocator> {
+    /// The number of rows.
     rows: u32,
+    /// The column of the first lexeme, or 0.
     first: u32,
+    /// The findings that are shown.
     found: Vec<Finding<A>, A>,
+    /// The facts for the rule indentation.
     facts: Vec<Fact, A>,
+    /// The measure of the facts.
     measure: Measure,
+    /// The comments that may silence rules.
     comments: Vec<KeptComment<A>, A>,
+    /// The fault, if there is one.
     fault: Option<SectionFault>,
+    /// The findings that only a scan fault hides.
     hidden: Vec<Finding<A>, A>,
+    /// The fault without the scan fault, if there is one.
     parse_fault: Option<SectionFault>,
 }
 
@@ -133,7 +148,7 @@ impl<A: Allocator> Kept<A> {
     ghost use Rattle.yl_indentation.specs.Measures.{measure_of};
     ghost use Rattle.yl_sections.specs.Owned.{section_fault_value};
 
-    /// Of these parts.
+    /// Creates a summary of these parts.
     pub(crate) fn new(
         rows: u32,
         first: u32,
@@ -169,63 +184,66 @@ impl<A: Allocator> Kept<A> {
         }
     }
 
-    /// How many rows it has.
+    /// Returns the number of rows.
     pub fn rows(&self) -> u32
         ensures { result ≡ self.now.rows }
     {
         self.rows
     }
 
-    /// The column of its first lexeme, from 0 in characters; 0 where it has none.
+    /// Returns the column of the first lexeme, in characters, counted from 0. Returns 0 if there is
+    /// no lexeme.
     pub fn first(&self) -> u32
         ensures { result ≡ self.now.first }
     {
         self.first
     }
 
-    /// What the rules on lexemes, comments and keys find in it. Lines count from 1 from its first row, columns from 1 in characters.
+    /// Returns the findings of the rules on lexemes, comments, keys and anchors that are shown.
+    /// Lines count from 1 from the section's first row, and columns count characters from 1.
     pub fn found(&self) -> &[Finding<A>]
         ensures { result.now ≡ self.now.found }
     {
         self.found.as_slice()
     }
 
-    /// What the rule indentation checks in it. Lines count from 0 from its first row.
+    /// Returns the facts for the rule indentation. Lines count from 0 from the section's first row.
     pub fn facts(&self) -> &[Fact]
         ensures { result.now ≡ self.now.facts }
     {
         self.facts.as_slice()
     }
 
-    /// The measure of these facts.
+    /// Returns the measure of the facts.
     pub fn measure(&self) -> Measure
         ensures { result ≡ measure_of self.now.facts }
     {
         self.measure
     }
 
-    /// Its comments that may silence rules.
+    /// Returns the comments that may silence rules.
     pub fn comments(&self) -> &[KeptComment<A>]
         ensures { result.now ≡ self.now.comments }
     {
         self.comments.as_slice()
     }
 
-    /// Its fault, if it has one.
+    /// Returns the fault of the section, if it has one.
     pub fn fault(&self) -> Option<SectionFault>
         ensures { option_map section_fault_value result ≡ self.now.fault }
     {
         self.fault
     }
 
-    /// What the rules on keys find in it, where a scan fault alone hides that; then `found` has nothing of it.
+    /// Returns the findings of the rules on keys and anchors, if only a scan fault hides them.
+    /// `found` then has no findings of these rules.
     pub fn hidden(&self) -> &[Finding<A>]
         ensures { result.now ≡ self.now.hidden }
     {
         self.hidden.as_slice()
     }
 
-    /// The fault that it would have without the scan fault in its rows.
+    /// Returns the fault that the section has without the scan fault in its rows, if there is one.
     pub fn parse_fault(&self) -> Option<SectionFault>
         ensures { option_map section_fault_value result ≡ self.now.parse_fault }
     {

@@ -1,7 +1,8 @@
-//! Sections: the runs of a text's rows that hold one document each, and what is kept of one.
+//! The sections of a text: the runs of its rows that hold one document each. Each section has a
+//! summary.
 //!
-//! A section is judged by itself, with lines counted from its first row. The report of a text takes what is kept of the sections up to
-//! the first that has a fault.
+//! A section is judged by itself, with lines counted from its first row. The report of a text
+//! depends on the summaries of its sections up to the first one with a fault.
 #![tactic(auto)]
 
 mod comments;

@@ -1,4 +1,4 @@
-//! What the rules find in a section.
+//! Applies the rules of a configuration to a section.
 ghost use Rattle.std.specs.Prelude.{◌≡◌, map, IfOk};
 ghost use Rattle.std.specs.Bool.{then_some};
 ghost use Rattle.yl_lexeme.specs.PlacedComments.{placed_comment_value};
@@ -12,21 +12,21 @@ use yl_rules::comment_problems;
 use yl_text::{Finding, RuleId};
 use yl_tree::TreeOptions;
 
-/// Whether a rule is on.
+/// Returns whether a rule is on.
 pub fn is_on(config: &Config, rule: RuleId) -> bool
     ensures { result ≡ is_on config.now rule }
 {
     config.levels().level_of(rule).is_some()
 }
 
-/// The options of a rule that is on.
+/// Returns the options if the rule is on.
 fn options_if<O: Copy>(is_on: bool, options: &O) -> Option<O>
     ensures { result ≡ then_some is_on options.now }
 {
     if is_on { Some(*options) } else { None }
 }
 
-/// The options of the rules on lexemes.
+/// Returns the options of the rules on lexemes that are on.
 pub fn lexeme_options(config: &Config) -> LexemeOptions
     ensures { result ≡ lexeme_options_of config.now }
 {
@@ -48,7 +48,8 @@ pub fn lexeme_options(config: &Config) -> LexemeOptions
     }
 }
 
-/// What the rule comments finds.
+/// Returns the findings of the rule comments, or none if it is off. The only error is out of
+/// memory.
 #[inline(never)]
 pub fn comments_found<A: Allocator + Copy>(
     alloc: A,
@@ -63,7 +64,7 @@ pub fn comments_found<A: Allocator + Copy>(
     comment_problems(alloc, comments, config.comments_options())
 }
 
-/// The options of the rules on keys and anchors.
+/// Returns the options of the rules on keys and anchors that are on.
 pub fn tree_options(config: &Config) -> TreeOptions
     ensures { result ≡ tree_options_of config.now }
 {

@@ -1,4 +1,4 @@
-//! A section, judged row by row.
+//! Judges a section row by row.
 ghost use Rattle.std.specs.Prelude.{◌≡◌, ◌<◌, ◌+◌, ◌-◌, ◌^◌, ◌++◌, ◌∷◌, [], false, if◌then◌else◌, ℕ, List, map, length, IfOk, OnOk};
 ghost use Rattle.std.specs.Option.{option_map, option_or};
 ghost use Rattle.yl_marks.specs.Keys.{lexeme_at_line};
@@ -27,41 +27,56 @@ use yl_record::Record;
 use yl_row::PlacedScanFault;
 use yl_text::{Finding, Pos, RuleId};
 
-/// What was told of a document before its fault at a lexeme, the place of that lexeme in the section, and what is said of the fault.
+/// A document with a fault at a lexeme, and what was found before the fault.
 #[derive(Drop)]
 pub struct StoppedDocument<A: Allocator> {
+    /// The findings of the rules on lexemes.
     found: Vec<Finding<A>, A>,
+    /// The facts for the rule indentation.
     facts: Vec<Fact, A>,
+    /// The position of the lexeme in the section.
     place: Pos,
+    /// The message of the fault.
     text: &'static str,
 }
 
-/// How far the document of a section is.
+/// How far the document of a section was read.
 #[derive(Drop)]
 pub enum Stage<A: Allocator + Copy> {
     /// No lexeme was read.
     Before,
+    /// Some lexemes were read, without a fault at one of them.
     In(DocumentJudge<A>),
+    /// The document has a fault at a lexeme.
     Stopped(StoppedDocument<A>),
 }
 
-/// What was told of the whole document of a section: its fault is that of the section, where the section has no scan fault.
+/// What was found in the whole document of a section. Its fault is that of the section, if the
+/// section has no scan fault.
 #[derive(Drop)]
 pub struct ToldDocument<A: Allocator> {
+    /// The findings of the rules on lexemes.
     found: Vec<Finding<A>, A>,
+    /// The facts for the rule indentation.
     facts: Vec<Fact, A>,
+    /// The findings of the rules on keys and anchors. Empty if the document has a fault.
     in_tree: Vec<Finding<A>, A>,
+    /// The fault of the document, if it has one.
     fault: Option<SectionFault>,
 }
 
-/// What the rules on keys and anchors find in the document of a section, where it is shown, and where a scan fault alone hides it.
+/// The findings of the rules on keys and anchors in the document of a section. At most one of the
+/// lists has findings.
 #[derive(Drop)]
 struct TreeFindings<A: Allocator> {
+    /// The findings that are shown.
     shown: Vec<Finding<A>, A>,
+    /// The findings that only a scan fault hides.
     hidden: Vec<Finding<A>, A>,
 }
 
-/// Where the lexeme of this index begins.
+/// Returns the position at which the lexeme of the row with this index begins, or line 0 and column
+/// 0 if there is none.
 fn start_of<A: Allocator>(row: &RowLexemes<'_, A>, i: usize) -> Pos
     ensures { result ≡ start_at (map (lexeme_at_line row.now.line) row.now.lexemes.now) i }
 {
@@ -74,8 +89,9 @@ fn start_of<A: Allocator>(row: &RowLexemes<'_, A>, i: usize) -> Pos
     }
 }
 
-/// Reads the lexemes of a document's next row, which has some, at this line of its section. Answers what is told of the document if it has
-/// a fault at one of them.
+/// Reads the next row of a document, at this line of its section. The row must have lexemes.
+/// Returns what was found before the fault, if the document has a fault at one of them. The only
+/// error is out of memory, or more lexemes than a `u32` counts.
 fn read_row<A: Allocator + Copy>(
     document: &mut DocumentJudge<A>,
     line: u32,
@@ -102,7 +118,9 @@ fn read_row<A: Allocator + Copy>(
     }))
 }
 
-/// The section's fault, by that of its document and the scan fault in its rows.
+/// Returns the fault of a section: a parse fault at a lexeme, else the scan fault, else a parse
+/// fault after all lexemes. `parsed` is the fault of its document, and `scanned` is the scan fault
+/// in its rows.
 fn with_scan_fault(
     parsed: Option<SectionFault>,
     scanned: Option<SectionFault>,
@@ -116,7 +134,8 @@ fn with_scan_fault(
     }
 }
 
-/// The first scan fault of rows, where it was this before the row at this line.
+/// Returns the first scan fault of some rows. `first` is that of the rows above the row at `line`,
+/// and `fault` is that of the row.
 fn first_fault(
     first: Option<SectionFault>,
     line: u32,
@@ -131,7 +150,9 @@ fn first_fault(
     }
 }
 
-/// Whether this is shown in a section with this fault, or hidden by a scan fault alone; without that the section has the other fault.
+/// Returns the findings of the rules on keys and anchors as shown if the section has no fault, as
+/// hidden if only a scan fault hides them, else no findings. `parse_fault` is the fault of the
+/// section without its scan fault.
 fn show_or_hide<A: Allocator + Copy>(
     fault: Option<SectionFault>,
     parse_fault: Option<SectionFault>,
@@ -159,7 +180,7 @@ fn show_or_hide<A: Allocator + Copy>(
     }
 }
 
-/// What the rule indentation checks, if it is on.
+/// Returns the facts if the rule indentation is on, else an empty list.
 fn checked<A: Allocator>(config: &Config, mut facts: Vec<Fact, A>) -> Vec<Fact, A>
     ensures { result.items ≡ items_if (is_on config.now RuleId.Indentation) facts.items }
 {
@@ -169,7 +190,7 @@ fn checked<A: Allocator>(config: &Config, mut facts: Vec<Fact, A>) -> Vec<Fact, 
     facts
 }
 
-/// What is said of a document's fault after all lexemes.
+/// Returns the fault of a document after all lexemes as a fault of its section.
 fn fault_after(fault: Option<PlacedParseFault>) -> Option<SectionFault>
     ensures { option_map section_fault_value result ≡ option_map (λ f. Behind (fault_text f.kind)) fault }
 {
@@ -180,8 +201,8 @@ fn fault_after(fault: Option<PlacedParseFault>) -> Option<SectionFault>
 }
 
 impl<A: Allocator + Copy> Stage<A> {
-    /// A document begins with the next lexeme, if none has begun, and is counted. The only error is out of memory, or more documents than
-    /// a `u32` counts.
+    /// Begins the document with the next lexeme, if it has not begun, and counts it in the meter.
+    /// The only error is out of memory, or more documents than a `u32` counts.
     fn begin(&mut self, alloc: A, config: &Config, meter: &mut Meter) -> Result<(), AllocError>
         ensures begun { OnOk result (IsBegun config.now self.old self.new) }
         ensures counted { OnOk result (meter.new
@@ -193,7 +214,9 @@ impl<A: Allocator + Copy> Stage<A> {
         Ok(())
     }
 
-    /// The same, apart from the loop over the rows, whose frame would hold a document more.
+    /// Begins the document, if it has not begun, and counts it in the meter. This is a separate
+    /// function, so that the frame of the loop over the rows does not hold one more document. The
+    /// only error is out of memory, or more documents than a `u32` counts.
     #[inline(never)]
     fn begin_document(
         &mut self,
@@ -214,7 +237,8 @@ impl<A: Allocator + Copy> Stage<A> {
         Ok(())
     }
 
-    /// Reads the next row, which has lexemes, at this line of the section. The only error is out of memory.
+    /// Reads the next row, at this line of the section. The row must have lexemes. The only error
+    /// is out of memory, or more lexemes than a `u32` counts.
     fn read(&mut self, line: u32, row: &Record<A>) -> Result<(), AllocError>
         ensures at { (config : Config) (rs : List RecordValue) → line ≡ length rs → 0 < length row.now.entry.lexemes → IsReady config rs self.old
             → OnOk result (IsAt config (rs ++ row.now ∷ []) self.new) }
@@ -229,8 +253,9 @@ impl<A: Allocator + Copy> Stage<A> {
         Ok(())
     }
 
-    /// Reads the next row, at this line of the section, and counts the document in the meter, if it begins there. The only error is out of
-    /// memory, or more documents than a `u32` counts.
+    /// Reads the next row, at this line of the section, and counts the document in the meter, if it
+    /// begins there. The only error is out of memory, or more documents or lexemes than a `u32`
+    /// counts.
     fn read_row(
         &mut self,
         alloc: A,
@@ -252,7 +277,8 @@ impl<A: Allocator + Copy> Stage<A> {
         self.read(line, row)
     }
 
-    /// The column of the section's first lexeme, if these come next, where it was this before them.
+    /// Returns the column of the section's first lexeme, if these lexemes come next. `first` is
+    /// that column before them.
     fn first_column(&self, first: u32, lexemes: &[Lexeme<A>]) -> u32
         ensures { result ≡ first_column self.now first lexemes.now }
     {
@@ -262,7 +288,7 @@ impl<A: Allocator + Copy> Stage<A> {
         }
     }
 
-    /// What is told of the document, where no row is to come. The only error is out of memory.
+    /// Returns what was found in the document, if no row follows. The only error is out of memory.
     fn finish(self, alloc: A) -> Result<ToldDocument<A>, AllocError>
         ensures { (config : Config) (rs : List RecordValue) → IsAt config rs self → IfOk result (λ t. IsTold config rs self t) }
     {
@@ -304,7 +330,7 @@ impl<A: Allocator + Copy> Stage<A> {
         }
     }
 
-    /// Whether comments are still shown.
+    /// Returns whether comments are still shown: the document has no fault at a lexeme.
     fn shows_comments(&self) -> bool
         ensures { result ≡ shows_comments self.now }
     {
@@ -312,21 +338,26 @@ impl<A: Allocator + Copy> Stage<A> {
     }
 }
 
-/// A section, judged as far as its rows were read. Of its rows it holds what is told of them, and what its document holds.
+/// A judge of a section, whose rows are given one after another. Of these rows it holds their part
+/// in the summary of the section, and what the rules may still need of its document.
 #[derive(Drop)]
 pub struct SectionJudge<A: Allocator + Copy> {
+    /// The allocator of the summary.
     alloc: A,
-    /// How many rows were read.
+    /// The number of rows that were read.
     rows: u32,
     /// The column of the first lexeme, or 0.
     first: u32,
+    /// How far the document was read.
     stage: Stage<A>,
+    /// The comments so far.
     comments: CommentReader<A>,
+    /// The first scan fault in the rows, if there is one.
     scan_fault: Option<SectionFault>,
 }
 
 impl<A: Allocator + Copy> SectionJudge<A> {
-    /// Before a section's first row.
+    /// Creates a judge at the start of a section.
     pub fn new(alloc: A) -> SectionJudge<A>
         ensures { (config : Config) → Judges config [] result }
     {
@@ -340,8 +371,8 @@ impl<A: Allocator + Copy> SectionJudge<A> {
         }
     }
 
-    /// Reads the next row of the section, and counts its document in the meter, if it begins there. The only error is out of memory, or
-    /// more rows or documents than a `u32` counts.
+    /// Reads the next row of the section, and counts its document in the meter, if it begins there.
+    /// The only error is out of memory, or more rows, documents or lexemes than a `u32` counts.
     pub fn read(
         &mut self,
         config: &Config,
@@ -367,7 +398,7 @@ impl<A: Allocator + Copy> SectionJudge<A> {
         Ok(())
     }
 
-    /// What is kept of the section, where no row is to come. The only error is out of memory.
+    /// Returns the summary of the section, if no row follows. The only error is out of memory.
     pub fn finish(self, config: &Config) -> Result<Kept<A>, AllocError>
         ensures { (rs : List RecordValue) → Judges config.now rs self → IfOk result (λ k. k ≡ kept_of_section config.now rs) }
     {

@@ -1,4 +1,4 @@
-//! Where sections begin.
+//! Where the sections of a text begin.
 ghost use Rattle.std.specs.Prelude.{◌≡◌, ◌≤◌, map, length, None};
 ghost use Rattle.yl_sections.specs.Sections.{is_section_start, last_kind_from, parts, row_count};
 
@@ -7,7 +7,7 @@ use yl_events::begins_document;
 use yl_lexeme::{Kind, Lexeme};
 use yl_record::Record;
 
-/// The kind of the last lexeme, where it was `last` before these.
+/// Returns the kind of the last lexeme after these lexemes. `last` is that before them.
 pub fn last_kind<A: Allocator>(last: Option<Kind>, lexemes: &[Lexeme<A>]) -> Option<Kind>
     ensures { result ≡ last_kind_from last lexemes.now }
 {
@@ -18,7 +18,8 @@ pub fn last_kind<A: Allocator>(last: Option<Kind>, lexemes: &[Lexeme<A>]) -> Opt
     last
 }
 
-/// Whether a section begins with the row of these lexemes, where `last` is the kind of the last lexeme before them.
+/// Returns whether a section begins with the row that has these lexemes. `last` is the kind of the
+/// last lexeme before them.
 pub fn is_section_start<A: Allocator>(last: Option<Kind>, lexemes: &[Lexeme<A>]) -> bool
     ensures { result ≡ is_section_start last lexemes.now }
 {
@@ -28,7 +29,8 @@ pub fn is_section_start<A: Allocator>(last: Option<Kind>, lexemes: &[Lexeme<A>])
     }
 }
 
-/// How many of these rows their first section has. The others begin with the next section's first row.
+/// Returns the number of rows of the first section of these rows. The other rows begin with the
+/// first row of the next section.
 pub fn section_len<A: Allocator>(records: &[&Record<A>]) -> usize
     ensures count { result ≡ row_count None (map (λ r. r.now) records.now) }
     ensures within { result ≤ length records.now }
