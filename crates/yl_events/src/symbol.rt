@@ -1,5 +1,4 @@
-//! What the grammar reads and what it gives. Lexemes are named by their index in the document, from
-//! 0.
+//! What the grammar reads and gives. Lexemes are named by their index in the document, from 0.
 
 use yl_lexeme::Style;
 

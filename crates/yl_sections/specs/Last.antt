@@ -1,4 +1,4 @@
--- Meaning: laws: what the state of a sound row says of the lexemes in the rows of a text.
+-- Meaning: laws: the lexemes in the rows of a text, by the state of a sound row.
 use Rattle.std.specs.Prelude.{◌≡◌, ℕ, List, [], take, drop, Option, Some, None}
 use Rattle.std.specs.List.{AllByRecursion}
 use Rattle.yl_lexeme.specs.declared.lexeme.Kind.{Kind}

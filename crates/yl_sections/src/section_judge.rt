@@ -51,8 +51,8 @@ pub enum Stage<A: Allocator + Copy> {
     Stopped(StoppedDocument<A>),
 }
 
-/// What was found in the whole document of a section. Its fault is that of the section, if the
-/// section has no scan fault.
+/// What was found in the document of a section, up to its fault. The fault is that of the section,
+/// if the section has no scan fault.
 #[derive(Drop)]
 pub struct ToldDocument<A: Allocator> {
     /// The findings of the rules on lexemes.
