@@ -43,8 +43,8 @@ pub fn from_own<'c, 'a, 'b, A: Allocator>(
     rest
 }
 
-/// Returns the configuration in the first of these documents, or its fault. A second document is a
-/// fault.
+/// Returns the configuration in the one document of a configuration among these, or its fault. A
+/// second one is a misfit.
 fn judge_documents<A: Allocator>(
     documents: &[BuiltDocument<'_, '_, A>],
 ) -> Result<Config, ConfigFault>
