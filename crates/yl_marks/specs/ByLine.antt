@@ -1,5 +1,5 @@
 -- Bridge: the marks of a document, line by line. A key and its Value begin in one line (YAML 1.2.2,
--- 7.4.2 and 8.2.2), so whether a key begins at a lexeme shows in the lexeme's own line.
+-- 7.4.2 and 8.2.2), so whether a key begins at a lexeme depends only on the lexeme's own line.
 use Rattle.std.specs.Prelude.{ℕ, suc, ◌≡◌, ◌≤◌, ◌+◌, ◌==◌, if◌then◌else◌, List, [], ◌∷◌, ◌++◌, length, Option, Some, None}
 use Rattle.yl_lexeme.specs.Keys.{Spot, key_start}
 use Rattle.yl_marks.specs.declared.token.Token.{Token}
@@ -12,17 +12,19 @@ use Rattle.yl_marks.specs.declared.symbol.OpenBlock.{OpenBlock}
 use Rattle.yl_marks.specs.Keys.{depth_behind, place_of, keyed_token_at}
 use Rattle.yl_marks.specs.Marks.{marks, open_behind_all, closings_of_all, symbols_of_tokens}
 
--- what counts of the lexemes of earlier lines
+-- the summary of the lexemes of earlier lines
 pub record MarkerValue : Type 0 where
   pub count : ℕ  -- how many there are
-  pub depth : ℕ  -- how many brackets are open behind them
+  pub depth : ℕ  -- how many brackets are open after them
   pub latest : Option KeyedToken  -- the latest of them
   pub open_ones : List OpenBlock  -- the open block collections, the innermost first
 
 abbrev pub marker_at_start : MarkerValue
 marker_at_start = record { count = 0; depth = 0; latest = None; open_ones = [] }
 
--- lexemes of a line behind so many lexemes, in so many brackets, behind the latest lexeme and behind these of the line, the latest first
+-- the lexemes of a line. `count` lexemes of the document stand before them, `depth` brackets are
+-- open before them, `latest` is the latest lexeme before them, and `line` lists the earlier lexemes
+-- of the line, the latest first
 abbrev pub line_pieces : ℕ → ℕ → Option KeyedToken → List (Spot KeyStart) → List Token → List KeyedToken
 line_pieces count depth latest line [] = []
 line_pieces count depth latest line (x ∷ xs) =
@@ -37,14 +39,14 @@ abbrev pub latest_of : Option KeyedToken → List KeyedToken → Option KeyedTok
 latest_of latest [] = latest
 latest_of latest (p ∷ ps) = latest_of (Some p) ps
 
--- what counts of earlier lexemes and these behind them
+-- `behind` is the summary of the earlier lexemes and these after them
 pub record IsBehind (earlier : Earlier) (xs : List Token) (ps : List KeyedToken) (behind : Earlier) : Type 0 where
   pub count : behind.count ≡ earlier.count + length xs
   pub depth : behind.depth ≡ depth_behind_all earlier.depth xs
   pub latest : behind.latest ≡ latest_of earlier.latest ps
   pub most : behind.depth ≤ behind.count
 
--- a line's lexemes behind those of earlier lines
+-- the lexemes of a line after those of earlier lines
 abbrev pub keyed_tokens_of_line : MarkerValue → List Token → List KeyedToken
 keyed_tokens_of_line b xs = line_pieces b.count b.depth b.latest [] xs
 
@@ -60,18 +62,18 @@ behind_line b xs = let all = keyed_tokens_of_line b xs in record {
   open_ones = open_behind_all all b.open_ones b.count all;
 }
 
--- the lexemes of these lines with their marks, to the document's end
+-- the lexemes of these lines with their marks, to the end of the document
 abbrev pub marks_by_lines : MarkerValue → List (List Token) → List Symbol
 marks_by_lines b [] = closings_of_all b.open_ones
 marks_by_lines b (x ∷ xs) = marks_of_line b x ++ marks_by_lines (behind_line b x) xs
 
--- one more lexeme before those of these lines
+-- these lines with one more lexeme before them
 abbrev pub before_lines : Token → List (List Token) → List (List Token)
 before_lines x [] = (x ∷ []) ∷ []
 before_lines x ([] ∷ ls) = (x ∷ []) ∷ ls
 before_lines x ((y ∷ ys) ∷ ls) = if x.start.line == y.start.line then (x ∷ y ∷ ys) ∷ ls else (x ∷ []) ∷ (y ∷ ys) ∷ ls
 
--- the lexemes by the lines in which they begin
+-- the lexemes, split into the lines in which they begin
 abbrev pub by_line : List Token → List (List Token)
 by_line [] = []
 by_line (x ∷ xs) = before_lines x (by_line xs)

@@ -15,21 +15,22 @@ use Rattle.yl_marks.specs.declared.symbol.Marked.TheVariants as is
 use Rattle.yl_marks.specs.declared.token.Token.{Token}
 use Rattle.yl_marks.specs.Keys.{token_of, keyed_tokens}
 
--- it stands in a mapping of its column
+-- the lexeme belongs to a mapping in its column
 abbrev pub is_in_mapping : Marking → Bool
 is_in_mapping m = m.begins_key || is_key m.piece.kind || (is_value m.piece.kind && not (is_some m.piece.key))
 
--- it goes on with a collection of its column
+-- the lexeme continues a collection in its column
 abbrev pub continues : Marking → OpenBlock → Bool
 continues m c = is_entry m.piece.kind || (c.is_mapping && is_in_mapping m)
 
--- it closes the collection
+-- the lexeme closes the collection
 abbrev pub closes_collection : Marking → OpenBlock → Bool
 closes_collection m c =
     is_document_marker m.piece.kind || (m.piece.depth == 0 && m.piece.is_first
     && (nat_lt m.piece.start.col c.column || (c.column == m.piece.start.col && not (continues m c))))
 
--- the collections that it leaves open, the innermost first, and a Close for each other
+-- the collections that the lexeme leaves open, the innermost first, and a Close for each of the
+-- others (`closings`)
 abbrev pub collections_left : Marking → List OpenBlock → List OpenBlock
 collections_left m [] = []
 collections_left m (c ∷ cs) = if closes_collection m c then collections_left m cs else c ∷ cs
@@ -38,12 +39,12 @@ abbrev pub closings : Marking → List OpenBlock → List Symbol
 closings m [] = []
 closings m (c ∷ cs) = if closes_collection m c then Close ∷ closings m cs else []
 
--- the innermost has this column, and is a mapping if that is asked
+-- the innermost collection has this column, and is a mapping if `only_mapping` is true
 abbrev pub is_in : Bool → ℕ → List OpenBlock → Bool
 is_in only_mapping column [] = false
 is_in only_mapping column (c ∷ cs) = c.column == column && (c.is_mapping || not only_mapping)
 
--- what is opened before it: nothing, or a mapping or a sequence
+-- what opens before the lexeme: nothing, a mapping (true) or a sequence (false)
 abbrev pub collection_to_open : Marking → List OpenBlock → Option Bool
 collection_to_open m cs =
     if nat_lt 0 m.piece.depth || is_document_marker m.piece.kind then None
@@ -57,14 +58,14 @@ with_collection (Some mapping) column cs = record { is_mapping = mapping; column
 abbrev pub opening : Option Bool → ℕ → List Symbol
 opening new i = option_map_or (λ mapping. if mapping then OpenMapping i ∷ [] else OpenSequence i ∷ []) new []
 
--- some Value's key begins at the lexeme of this index
+-- the key of a Value begins at the lexeme of this index
 abbrev pub is_at : ℕ → Option ℕ → Bool
 is_at i key = option_map_or (λ k. k == i) key false
 
 abbrev pub begins_key : ℕ → List KeyedToken → Bool
 begins_key i xs = list_any (λ p. is_at i p.key) xs
 
--- of each lexeme from this index on, whether a key begins there
+-- for each lexeme from this index on, whether a key begins at it
 pub record AreBegins (begins : List Bool) (first : ℕ) (xs : List KeyedToken) : Type 0 where
   pub len : length begins ≡ length xs
   pub each : (i : ℕ) → i < length xs → slice_index_or begins i false ≡ begins_key (first + i) xs
@@ -75,7 +76,8 @@ key_mark begins i = if begins then BeginKey i ∷ [] else []
 abbrev pub closings_of_all : List OpenBlock → List Symbol
 closings_of_all cs = map (λ c. Close) cs
 
--- a lexeme of this index with the marks before it, and the collections that are open behind it
+-- a lexeme of this index with the marks before it, and the collections that are open after it
+-- (`open_behind`)
 abbrev pub marks_at : Marking → ℕ → List OpenBlock → List Symbol
 marks_at m i open_ones =
     closings m open_ones ++ opening (collection_to_open m (collections_left m open_ones)) i ++ key_mark m.begins_key i ++ One m.piece.kind i ∷ []
@@ -83,11 +85,12 @@ marks_at m i open_ones =
 abbrev pub open_behind : Marking → List OpenBlock → List OpenBlock
 open_behind m open_ones = let left = collections_left m open_ones in with_collection (collection_to_open m left) m.piece.start.col left
 
--- a lexeme of this index, and whether a key of these lexemes begins there
+-- a lexeme of this index, and whether a key of one of these lexemes begins at it
 abbrev pub marking : List KeyedToken → ℕ → KeyedToken → Marking
 marking all i x = record { piece = x; begins_key = begins_key i all }
 
--- the lexemes from this index on with their marks, where these collections are open, and those that are open behind them
+-- the lexemes from this index on with their marks, where these collections are open before them,
+-- and the collections that are open after them (`open_behind_all`)
 abbrev pub marks : List KeyedToken → List OpenBlock → ℕ → List KeyedToken → List Symbol
 marks all open_ones i [] = []
 marks all open_ones i (x ∷ xs) = marks_at (marking all i x) i open_ones ++ marks all (open_behind (marking all i x) open_ones) (suc i) xs
@@ -96,7 +99,7 @@ abbrev pub open_behind_all : List KeyedToken → List OpenBlock → ℕ → List
 open_behind_all all open_ones i [] = open_ones
 open_behind_all all open_ones i (x ∷ xs) = open_behind_all all (open_behind (marking all i x) open_ones) (suc i) xs
 
--- a document's lexemes with their marks
+-- the lexemes of a document with their marks
 abbrev pub symbols_of_tokens : List Token → List Symbol
 symbols_of_tokens xs = let all = keyed_tokens [] xs in marks all [] 0 all ++ closings_of_all (open_behind_all all [] 0 all)
 
@@ -105,11 +108,13 @@ symbols_of_lexemes xs = symbols_of_tokens (map token_of xs)
 
 -- ---- as callers see them
 
--- a collection opens in the column of the lexeme before which it opens
+-- the column of the lexeme of this index. A collection opens in the column of the lexeme before
+-- which it opens
 abbrev pub column_at : List Token → ℕ → ℕ
 column_at xs i = option_map_or (λ x. x.start.col) (slice_get xs i) 0
 
--- the same marks; whether a key unit begins at a lexeme stands with the lexeme
+-- the same lexemes and marks, except that whether a key unit begins at a lexeme is a flag of the
+-- lexeme
 abbrev pub as_marked : List Token → Bool → List Symbol → List Marked
 as_marked xs begins [] = []
 as_marked xs begins (OpenSequence i ∷ ws) = is.Open Sequence (column_at xs i) ∷ as_marked xs begins ws

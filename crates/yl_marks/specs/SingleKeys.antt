@@ -1,4 +1,5 @@
--- Bridge: a line in which each key is one scalar or alias, directly before its Value, lexeme by lexeme.
+-- Bridge: the marks and facts, lexeme by lexeme, of a line without properties in which each key is
+-- one scalar or alias, directly before its Value.
 use Rattle.std.specs.Prelude.{ℕ, ◌≡◌, ◌≤◌, ◌+◌, Bool, true, false, not, ◌&&◌, ◌||◌, if◌then◌else◌, List, [], ◌∷◌, ◌++◌, length, Option, Some, None, is_some}
 use Rattle.yl_lexeme.specs.declared.lexeme.Kind.{Kind}
 use Rattle.yl_lexeme.specs.Lexeme.{is_closing, is_leaf, is_property, is_value}
@@ -15,7 +16,7 @@ use Rattle.yl_marks.specs.Marks.{marks_at, open_behind}
 use Rattle.yl_marks.specs.ByLine.{depth_behind_all}
 use Rattle.yl_marks.specs.FactsByLine.{next_ahead}
 
--- no property, and no Value directly behind a closing bracket
+-- no property, and no Value directly after a closing bracket
 abbrev pub may_follow : Bool → Kind → Bool
 may_follow behind_closing kind = not (is_property kind) && not (behind_closing && is_value kind)
 
@@ -27,12 +28,14 @@ has_single_keys behind_closing (x ∷ xs) = may_follow behind_closing x.kind && 
 abbrev pub leaf_place : ℕ → KeyedToken → Option KeyStart
 leaf_place index p = if is_leaf p.kind then place_of index p else None
 
--- a Value comes next whose key begins at this place
+-- the next lexeme is a Value whose key begins at this place
 abbrev pub is_key_next : Option KeyStart → List Token → Bool
 is_key_next place [] = false
 is_key_next place (x ∷ xs) = is_value x.kind && is_some (key_at x.start.col place)
 
--- the lexemes of such a line behind so many lexemes, in so many brackets, behind the latest lexeme, at which a key begins in this place
+-- the lexemes of such a line. `count` lexemes of the document stand before them, `depth` brackets
+-- are open before them, `latest` is the latest lexeme before them, and `place` is where a key may
+-- begin at that lexeme
 abbrev pub single_markings : ℕ → ℕ → Option KeyedToken → Option KeyStart → List Token → List Marking
 single_markings count depth latest place [] = []
 single_markings count depth latest place (x ∷ xs) =
@@ -40,7 +43,8 @@ single_markings count depth latest place (x ∷ xs) =
     let own = leaf_place count p in
     record { piece = p; begins_key = is_key_next own xs } ∷ single_markings (count + 1) (depth_behind x.kind depth) (Some p) own xs
 
--- their marks, from this index on, and the collections that are open behind them
+-- their marks, from this index on, and the collections that are open after them
+-- (`open_behind_each`)
 abbrev pub marks_of : List OpenBlock → ℕ → List Marking → List Symbol
 marks_of open_ones i [] = []
 marks_of open_ones i (m ∷ ms) = marks_at m i open_ones ++ marks_of (open_behind m open_ones) (i + 1) ms
@@ -65,7 +69,8 @@ abbrev pub latest_marked : Option KeyedToken → List Marking → Option KeyedTo
 latest_marked latest [] = latest
 latest_marked latest (m ∷ ms) = latest_marked (Some m.piece) ms
 
--- what counts of earlier lexemes and these of such a line behind them, and what they say of the lexeme ahead
+-- `behind` is the summary of the earlier lexemes and those of such a line after them, and `now`
+-- contains the facts that they decide about the next lexeme
 pub record HasPassed (earlier : Earlier) (said : KeyFacts) (xs : List Token) (behind : Earlier) (now : KeyFacts) : Type 0 where
   pub count : behind.count ≡ earlier.count + length xs
   pub depth : behind.depth ≡ depth_behind_all earlier.depth xs

@@ -1,4 +1,5 @@
--- Bridge: the lexemes that may have marks; others close and open nothing.
+-- Bridge: the lexemes that may have marks. All others open and close no collection, and no key
+-- begins with them.
 use Rattle.std.specs.Prelude.{Bool, ◌||◌}
 use Rattle.yl_lexeme.specs.Lexeme.{is_document_marker, is_entry}
 use Rattle.yl_marks.specs.declared.symbol.Marking.{Marking}

@@ -1,4 +1,4 @@
-//! The marks of a whole document, and what its keys say of its lexemes.
+//! The marks of a whole document, and the facts that its keys decide about its lexemes.
 
 ghost use Rattle.std.specs.Prelude.{◌≡◌, false, map, IfOk};
 ghost use Rattle.yl_marks.specs.Facts.{facts_of_tokens, key_facts};
@@ -13,14 +13,18 @@ use crate::token::{Token, token_of};
 use std::alloc::{AllocError, Allocator};
 use yl_lexeme::LexemeAtLine;
 
-/// A document's lexemes with their marks, and what its keys say of each lexeme.
+/// The lexemes of a document with their marks, and the facts that the keys of the document decide
+/// about each lexeme.
 #[derive(Drop)]
 pub struct DocumentMarks<A: Allocator> {
+    /// The lexemes in order, with the marks between them.
     pub symbols: Vec<Symbol, A>,
+    /// The facts about each lexeme, in order.
     pub keys: Vec<KeyFacts, A>,
 }
 
-/// The column of the lexeme of this index; 0, if there is none.
+/// Returns the column in which the lexeme of index `i` begins, in characters from 0, or 0 if there
+/// is no such lexeme.
 pub fn column_at<A: Allocator>(lexemes: &[LexemeAtLine<'_, A>], i: usize) -> u32
     ensures { result ≡ column_at (map token_of (map (λ x. lexeme_at_line x.line x.lexeme.now) lexemes.now)) i }
 {
@@ -30,7 +34,8 @@ pub fn column_at<A: Allocator>(lexemes: &[LexemeAtLine<'_, A>], i: usize) -> u32
     }
 }
 
-/// The same marks, where whether a key unit begins at a lexeme stands with the lexeme.
+/// Returns the same lexemes and marks, except that whether a key unit begins at a lexeme is a flag
+/// of the lexeme instead of a mark.
 fn as_marked<A: Allocator + Copy>(
     alloc: A,
     lexemes: &[LexemeAtLine<'_, A>],
@@ -61,7 +66,7 @@ fn as_marked<A: Allocator + Copy>(
     Ok(marked)
 }
 
-/// The lexemes without their values.
+/// Returns the lexemes without their values.
 fn tokens_of<A: Allocator + Copy>(
     alloc: A,
     lexemes: &[LexemeAtLine<'_, A>],
@@ -75,7 +80,8 @@ fn tokens_of<A: Allocator + Copy>(
     Ok(tokens)
 }
 
-/// The marks of one whole document, and what its keys say of each of its lexemes, in one pass over its tokens.
+/// Returns the marks of a whole document and the facts that its keys decide about its lexemes.
+/// Reads the tokens line by line.
 fn marks_of_tokens<A: Allocator + Copy>(
     alloc: A,
     tokens: &[Token],
@@ -98,7 +104,9 @@ fn marks_of_tokens<A: Allocator + Copy>(
     Ok(DocumentMarks { symbols, keys })
 }
 
-/// The marks of one whole document, and what its keys say of each of its lexemes. The only error is memory.
+/// Returns the marks of a whole document, and the facts that its keys decide about each of its
+/// lexemes. The only error is out of memory. It is also returned for a document with more than
+/// `u32::MAX` lexemes.
 pub fn document_marks<A: Allocator + Copy>(
     alloc: A,
     lexemes: &[LexemeAtLine<'_, A>],
@@ -110,7 +118,8 @@ pub fn document_marks<A: Allocator + Copy>(
     marks_of_tokens(alloc, &tokens)
 }
 
-/// The lexemes of one whole document, in order, with the marks between them. The only error is memory.
+/// Returns the lexemes of a whole document, in order, with the marks between them. The only error
+/// is out of memory. It is also returned for a document with more than `u32::MAX` lexemes.
 pub fn mark<A: Allocator + Copy>(
     alloc: A,
     lexemes: &[LexemeAtLine<'_, A>],

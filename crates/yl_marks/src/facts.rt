@@ -1,4 +1,4 @@
-//! What the keys of a document say of its lexemes.
+//! The facts that the keys of a document decide about its lexemes.
 
 ghost use Rattle.std.specs.Prelude.{◌≡◌, ◌++◌, IfOk, OnOk, slice_get};
 ghost use Rattle.yl_marks.specs.Marks.{AreBegins};
@@ -8,16 +8,19 @@ use crate::symbol::{KeyedToken, Marking};
 use std::alloc::{AllocError, Allocator};
 use yl_lexeme::Kind;
 
-/// What the keys of a document say of one of its lexemes.
+/// The facts that the keys of a document decide about one of its lexemes.
 #[derive(Clone, Copy)]
 pub struct KeyFacts {
-    /// Of a scalar, whether it is a key: a key unit ends with it, or only properties stand between it and an indicator `?`.
+    /// Whether a key unit ends with the lexeme, or only properties stand between an indicator `?`
+    /// and the lexeme. A scalar with this flag is a key.
     pub is_key: bool,
-    /// Whether a tag is among the properties of the lexeme's own node, which stand directly before it.
+    /// Whether a tag is among the properties of the lexeme's own node, which stand directly before
+    /// the lexeme.
     pub has_tag: bool,
 }
 
-/// Whether a tag is among the properties that end with this lexeme, where one is or is not among those before it.
+/// Returns whether a tag is among the properties that end with this lexeme. `has_tag` says whether
+/// one is among the properties directly before the lexeme.
 fn has_tag_behind(has_tag: bool, m: Marking) -> bool
     ensures { result ≡ has_tag_behind has_tag m }
 {
@@ -28,7 +31,8 @@ fn has_tag_behind(has_tag: bool, m: Marking) -> bool
     }
 }
 
-/// Whether the lexeme is a Key, or a property behind one.
+/// Returns whether the lexeme is a Key, or a property after a Key. `is_key` says whether the
+/// lexemes before it end in a Key with at most properties after it.
 fn is_key_behind(is_key: bool, kind: Kind) -> bool
     ensures { result ≡ is_key_behind is_key kind }
 {
@@ -39,7 +43,7 @@ fn is_key_behind(is_key: bool, kind: Kind) -> bool
     }
 }
 
-/// Whether it is a Value that has a key.
+/// Returns whether there is a lexeme and it is a Value that has a key.
 fn has_key(piece: Option<KeyedToken>) -> bool
     ensures { result ≡ has_key piece }
 {
@@ -49,7 +53,7 @@ fn has_key(piece: Option<KeyedToken>) -> bool
     }
 }
 
-/// The first of them, if there is one.
+/// Returns the first lexeme, if there is one.
 fn first_of(pieces: &[KeyedToken]) -> Option<KeyedToken>
     ensures { result ≡ slice_get pieces.now 0 }
 {
@@ -59,7 +63,8 @@ fn first_of(pieces: &[KeyedToken]) -> Option<KeyedToken>
     }
 }
 
-/// The facts of a lexeme before the next one. `ahead` is what the lexemes before it say of it, where no key begins or ends with it.
+/// Returns the facts about a lexeme that is followed by `next`. `ahead` contains the facts that the
+/// lexemes before it decide about it, if no key begins or ends with it.
 fn fact_by(ahead: KeyFacts, m: Marking, next: Option<KeyedToken>) -> KeyFacts
     ensures { result ≡ fact_by ahead m next }
 {
@@ -70,7 +75,7 @@ fn fact_by(ahead: KeyFacts, m: Marking, next: Option<KeyedToken>) -> KeyFacts
     }
 }
 
-/// What is said of the lexeme behind this one.
+/// Returns the facts that this lexeme and those before it decide about the lexeme after it.
 pub fn next_ahead(ahead: KeyFacts, m: Marking) -> KeyFacts
     ensures { result ≡ next_ahead ahead m }
 {
@@ -80,8 +85,9 @@ pub fn next_ahead(ahead: KeyFacts, m: Marking) -> KeyFacts
     }
 }
 
-/// Puts the facts of the lexemes of a line, from the index `first` on, behind the others, and answers what is said of the lexeme behind
-/// them. `begins` says of each whether a key begins with it.
+/// Appends the facts about the lexemes of a line. Returns what they decide about the lexeme after
+/// them. `first` is the index of the first of them in the document, and `begins` says of each
+/// whether a key begins with it. The only error is out of memory.
 pub fn push_facts<A: Allocator>(
     pieces: &[KeyedToken],
     begins: &[bool],

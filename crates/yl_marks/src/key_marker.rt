@@ -1,4 +1,4 @@
-//! The marks of a document and what its keys say of its lexemes, line by line.
+//! Marks a document line by line, together with the facts that its keys decide about its lexemes.
 
 ghost use Rattle.std.specs.Prelude.{◌≡◌, ◌<◌, ◌+◌, ◌^◌, ◌++◌, false, length, true, OnOk};
 ghost use Rattle.yl_marks.specs.ByLine.{marks_of_line};
@@ -16,17 +16,23 @@ use std::alloc::{AllocError, Allocator};
 use std::marker::Model;
 use yl_lexeme::KeyUnit;
 
-/// Marks a document line by line, and says what its keys say of each lexeme: what counts of the lines read so far.
+/// A reader that takes the lines of a document one after another. It marks their lexemes, and finds
+/// the facts that the keys decide about each lexeme. It keeps a summary of the lines read so far.
 #[derive(Drop)]
 pub struct KeyMarker<A: Allocator + Copy> {
+    /// The summary of the lexemes read so far.
     earlier: Earlier,
-    /// What the lexemes so far say of the one ahead, where no key begins or ends with it.
+    /// The facts that the lexemes so far decide about the next one, if no key begins or ends with
+    /// it.
     ahead: KeyFacts,
     /// The open block collections, the outermost first.
     collections: Vec<OpenBlock, A>,
-    /// Room for a line: the unit that may become a key, the lexemes, and whether a key begins with each.
+    /// The unit that may become a key. Its allocation is reused for each line, as are those of the
+    /// next two fields.
     unit: KeyUnit<KeyStart, A>,
+    /// The lexemes of a line.
     pieces: Vec<KeyedToken, A>,
+    /// Whether a key begins with each of these lexemes.
     begins: Vec<bool, A>,
 }
 
@@ -45,7 +51,7 @@ impl<A: Allocator + Copy> Model for KeyMarker<A> {
 }
 
 impl<A: Allocator + Copy> KeyMarker<A> {
-    /// At the start of a document.
+    /// Creates a marker at the start of a document.
     pub fn new(alloc: A) -> KeyMarker<A>
         ensures { result ≡ key_marker_at_start }
     {
@@ -66,8 +72,10 @@ impl<A: Allocator + Copy> KeyMarker<A> {
         }
     }
 
-    /// Reads the lexemes that begin in the next line, all of them, given as tokens, and puts them with their marks behind the symbols, and what keys say
-    /// of them behind `keys`. The only error is memory, or that the document has more than `u32::MAX` lexemes.
+    /// Reads the next line, given as the tokens of all lexemes that begin in it. Appends the
+    /// lexemes with their marks to `symbols`, and the facts about them to `keys`. The only error is
+    /// out of memory. It is also returned if the document has more than `u32::MAX` lexemes. After
+    /// an error the marker must not be used.
     pub fn read(
         &mut self,
         line: &[Token],
@@ -90,7 +98,7 @@ impl<A: Allocator + Copy> KeyMarker<A> {
         self.read_any(line, symbols, keys)
     }
 
-    /// Reads the lexemes of such a line in one pass.
+    /// Reads the lexemes of a line with single keys in one pass.
     fn read_single_keys(
         &mut self,
         line: &[Token],
@@ -118,7 +126,7 @@ impl<A: Allocator + Copy> KeyMarker<A> {
         Ok(())
     }
 
-    /// Reads the lexemes of any line: first where its keys begin, and then the marks.
+    /// Reads the lexemes of any line: first finds where its keys begin, and then the marks.
     fn read_any(
         &mut self,
         line: &[Token],
@@ -147,7 +155,8 @@ impl<A: Allocator + Copy> KeyMarker<A> {
         Ok(())
     }
 
-    /// The document ends: closes the collections that are open. The only error is memory.
+    /// Ends the document: appends a mark that closes each open collection. The only error is out of
+    /// memory.
     pub fn close(&self, symbols: &mut Vec<Symbol, A>) -> Result<(), AllocError>
         ensures { OnOk result (symbols.new.items ≡ symbols.old.items ++ closings_of_all self.now.marks.open_ones) }
     {

@@ -14,7 +14,8 @@ use crate::token::Token;
 use std::alloc::{AllocError, Allocator};
 use yl_lexeme::{KeyUnit, Kind, is_near};
 
-/// How many brackets are open behind one more lexeme.
+/// Returns how many brackets are open after a lexeme of this kind. `depth` brackets are open before
+/// it.
 pub fn depth_behind(kind: Kind, depth: usize) -> usize
     requires { depth < 2 ^ 64 - 1 }
     ensures one { result ≡ depth_behind kind depth }
@@ -31,6 +32,7 @@ pub fn depth_behind(kind: Kind, depth: usize) -> usize
     }
 }
 
+/// Returns whether no earlier lexeme ends in this line.
 fn is_first(line: u32, latest: Option<KeyedToken>) -> bool
     ensures { result ≡ is_first line latest }
 {
@@ -40,6 +42,7 @@ fn is_first(line: u32, latest: Option<KeyedToken>) -> bool
     }
 }
 
+/// Returns whether the latest lexeme is an opening bracket or a comma.
 fn is_behind_flow(latest: Option<KeyedToken>) -> bool
     ensures { result ≡ opens_item (option_map (λ x. x.kind) latest) }
 {
@@ -49,6 +52,8 @@ fn is_behind_flow(latest: Option<KeyedToken>) -> bool
     }
 }
 
+/// Returns whether the latest lexeme begins in this line and is an Entry, a Key, or a Value without
+/// a key.
 fn is_behind_indicator(line: u32, latest: Option<KeyedToken>) -> bool
     ensures { result
         ≡ option_map_or (λ x. x.start.line == line && asks_behind x.kind x.key) latest false }
@@ -59,7 +64,7 @@ fn is_behind_indicator(line: u32, latest: Option<KeyedToken>) -> bool
     }
 }
 
-/// Whether a key may begin in a line, in so many brackets, behind the latest lexeme.
+/// Returns whether a key may begin in this line, inside `depth` brackets, after the latest lexeme.
 fn may_begin(line: u32, depth: usize, latest: Option<KeyedToken>) -> bool
     ensures { result ≡ may_begin line depth latest }
 {
@@ -70,7 +75,7 @@ fn may_begin(line: u32, depth: usize, latest: Option<KeyedToken>) -> bool
     }
 }
 
-/// The place of a lexeme of this index, if a key may begin at it.
+/// Returns the place of the lexeme of this index, if a key may begin at it.
 pub fn place_of(index: usize, piece: KeyedToken) -> Option<KeyStart>
     ensures { result ≡ place_of index piece }
 {
@@ -80,7 +85,9 @@ pub fn place_of(index: usize, piece: KeyedToken) -> Option<KeyStart>
     })
 }
 
-/// How many lexemes stand before the key of a Value in this column.
+/// Returns the number of lexemes before `key`, which is the place where the key of a Value in this
+/// column begins. Returns `None` if there is no such place, or the Value is more than 1024
+/// characters after it.
 pub fn key_at(column: u32, key: Option<KeyStart>) -> Option<usize>
     ensures { result ≡ key_at column key }
 {
@@ -90,7 +97,8 @@ pub fn key_at(column: u32, key: Option<KeyStart>) -> Option<usize>
     }
 }
 
-/// A lexeme behind the earlier ones, where the key would begin of a Value in its place.
+/// Returns the lexeme with what the earlier lexemes decide about its place. If it is a Value, `key`
+/// is the place where its key would begin.
 pub fn piece_at(token: Token, earlier: Earlier, key: Option<KeyStart>) -> KeyedToken
     ensures { result ≡ keyed_token_at token earlier.depth earlier.latest key }
 {
@@ -114,7 +122,8 @@ pub fn piece_at(token: Token, earlier: Earlier, key: Option<KeyStart>) -> KeyedT
     }
 }
 
-/// The index of the last Value of a line, the latest that asks where a key begins; 0, if there is none.
+/// Returns the index of the last Value in a line, or 0 if there is none. It is the last lexeme for
+/// which the place of a key is looked up.
 fn last_value(tokens: &[Token]) -> usize
     ensures { list_any (λ x. is_value x.kind) (drop (result + 1) tokens.now) ≡ false }
 {
@@ -126,7 +135,8 @@ fn last_value(tokens: &[Token]) -> usize
     0
 }
 
-/// Passes a lexeme, if a Value behind it is still to ask where a key begins.
+/// Adds a lexeme to the unit, if a later Value needs to know where its key begins. The only error
+/// is out of memory.
 fn pass_if_asked<A: Allocator + Copy>(
     is_asked: bool,
     unit: &mut KeyUnit<KeyStart, A>,
@@ -141,8 +151,9 @@ fn pass_if_asked<A: Allocator + Copy>(
     Ok(())
 }
 
-/// Reads the lexemes of a line behind the earlier ones. Answers with what counts of all of them. What `unit` and `pieces` held is
-/// forgotten, and their room used again.
+/// Reads the lexemes of a line, and replaces the contents of `pieces` by them. Returns the summary
+/// of these lexemes and the earlier ones. Discards the contents of `unit`, but reuses its
+/// allocation and that of `pieces`. The only error is out of memory.
 pub fn line_pieces<A: Allocator + Copy>(
     tokens: &[Token],
     mut earlier: Earlier,

@@ -1,7 +1,9 @@
-//! The marks of a document: where its block collections open and close, and where its keys begin (YAML 1.2.2, 7.4.2 and 8.2).
+//! The marks of a document: where its block collections open and close, and where its keys begin
+//! (YAML 1.2.2, 7.4.2 and 8.2).
 //!
-//! The definition, `specs/Marks.antt`, speaks of whole documents. The code reads one line of a document after another: `Marker`, and `KeyMarker`,
-//! which also says what the keys say of each lexeme.
+//! The definition, `specs/Marks.antt`, is of whole documents. The code reads a document line by
+//! line. `Marker` finds the marks, and `KeyMarker` also finds the facts that the keys decide about
+//! each lexeme.
 #![tactic(auto)]
 
 mod document;

@@ -6,7 +6,8 @@ ghost use Rattle.yl_marks.specs.FactsByLine.{KeysByLines};
 
 use crate::token::Token;
 
-/// How many of the tokens, from the first on, begin in the line of the first: so a document is cut into its lines.
+/// Returns how many tokens, from the first on, begin in the line of the first token. Returns 0 if
+/// there are no tokens.
 pub fn line_len(tokens: &[Token]) -> usize
     ensures most { result ≤ length tokens.now }
     ensures some { 0 < length tokens.now → 0 < result }
@@ -29,7 +30,8 @@ pub fn marked_by_lines()
     ensures { MarkedByLines }
 {}
 
-/// A law: what the keys of a document say of its lexemes is what they say of those of its lines, one after another.
+/// A law: the facts that the keys of a document decide about its lexemes are those of its lines,
+/// one after another.
 pub fn keys_by_lines()
     ensures { KeysByLines }
 {}

@@ -1,4 +1,4 @@
-//! The marks of a document, line by line.
+//! Marks a document line by line.
 
 ghost use Rattle.std.specs.Prelude.{◌≡◌, ◌++◌, OnOk};
 ghost use Rattle.yl_marks.specs.ByLine.{marker_at_start, marks_of_line, behind_line};
@@ -12,15 +12,20 @@ use std::alloc::{AllocError, Allocator};
 use std::marker::Model;
 use yl_lexeme::KeyUnit;
 
-/// Marks a document line by line: what counts of the lines read so far.
+/// A reader that takes the lines of a document one after another and marks their lexemes. It keeps
+/// a summary of the lines read so far.
 #[derive(Drop)]
 pub struct Marker<A: Allocator + Copy> {
+    /// The summary of the lexemes read so far.
     earlier: Earlier,
     /// The open block collections, the outermost first.
     collections: Vec<OpenBlock, A>,
-    /// Room for a line: the unit that may become a key, the lexemes, and whether a key begins with each.
+    /// The unit that may become a key. Its allocation is reused for each line, as are those of the
+    /// next two fields.
     unit: KeyUnit<KeyStart, A>,
+    /// The lexemes of a line.
     pieces: Vec<KeyedToken, A>,
+    /// Whether a key begins with each of these lexemes.
     begins: Vec<bool, A>,
 }
 
@@ -35,6 +40,7 @@ impl<A: Allocator + Copy> Model for Marker<A> {
     ghost invariant = { λ m. m.earlier.depth ≤ m.earlier.count };
 }
 
+/// The summary of no lexemes.
 const NOTHING: Earlier = Earlier {
     count: 0,
     depth: 0,
@@ -42,7 +48,7 @@ const NOTHING: Earlier = Earlier {
 };
 
 impl<A: Allocator + Copy> Marker<A> {
-    /// At the start of a document.
+    /// Creates a marker at the start of a document.
     pub fn new(alloc: A) -> Marker<A>
         ensures { result ≡ marker_at_start }
     {
@@ -55,7 +61,7 @@ impl<A: Allocator + Copy> Marker<A> {
         }
     }
 
-    /// A document begins: what was read before says nothing more of it. The room is kept.
+    /// Starts another document: discards what was read before, but keeps the allocations.
     pub fn clear(&mut self)
         ensures { self.new ≡ marker_at_start }
     {
@@ -63,15 +69,17 @@ impl<A: Allocator + Copy> Marker<A> {
         self.collections.clear();
     }
 
-    /// How many lexemes of the document have been read.
+    /// Returns how many lexemes of the document were read.
     pub fn count(&self) -> usize
         ensures { result ≡ self.now.count }
     {
         self.earlier.count
     }
 
-    /// Reads the lexemes that begin in the next line, all of them, and puts them with their marks behind the symbols. The only error
-    /// is memory, or that the document has more than `u32::MAX` lexemes; behind it only `clear` makes the marker fit for use.
+    /// Reads the next line, given as the tokens of all lexemes that begin in it, and appends the
+    /// lexemes with their marks to `symbols`. The only error is out of memory. It is also returned
+    /// if the document has more than `u32::MAX` lexemes. After an error the marker must not be used
+    /// until `clear` is called.
     pub fn read(&mut self, line: &[Token], symbols: &mut Vec<Symbol, A>) -> Result<(), AllocError>
         ensures marks { OnOk result (symbols.new.items ≡ symbols.old.items ++ marks_of_line self.old line.now) }
         ensures behind { OnOk result (self.new ≡ behind_line self.old line.now) }
@@ -93,7 +101,8 @@ impl<A: Allocator + Copy> Marker<A> {
         Ok(())
     }
 
-    /// The document ends: closes the collections that are open. The only error is memory.
+    /// Ends the document: appends a mark that closes each open collection. The only error is out of
+    /// memory.
     pub fn close(&self, symbols: &mut Vec<Symbol, A>) -> Result<(), AllocError>
         ensures { OnOk result (symbols.new.items ≡ symbols.old.items ++ closings_of_all self.now.open_ones) }
     {

@@ -9,6 +9,8 @@ use crate::symbol::{KeyedToken, Marking, OpenBlock, Symbol};
 use std::alloc::{AllocError, Allocator};
 use yl_lexeme::Kind;
 
+/// Returns whether the lexeme belongs to a mapping in its column: a key begins with it, or it is a
+/// Key or a Value without a key.
 fn is_in_mapping(m: Marking) -> bool
     ensures { result ≡ is_in_mapping m }
 {
@@ -26,13 +28,14 @@ fn is_entry(kind: Kind) -> bool
     matches!(kind, Kind::Entry)
 }
 
+/// Returns whether the lexeme continues a collection in its column.
 fn continues(m: Marking, c: OpenBlock) -> bool
     ensures { result ≡ continues m c }
 {
     is_entry(m.piece.kind) || (c.is_mapping && is_in_mapping(m))
 }
 
-/// Whether the lexeme closes the collection.
+/// Returns whether the lexeme closes the collection.
 fn closes(m: Marking, c: OpenBlock) -> bool
     ensures { result ≡ closes_collection m c }
 {
@@ -43,7 +46,7 @@ fn closes(m: Marking, c: OpenBlock) -> bool
             && (column < c.column || (c.column == column && !continues(m, c))))
 }
 
-/// Closes what the lexeme closes.
+/// Closes the collections that the lexeme closes. The only error is out of memory.
 fn close<A: Allocator>(
     m: Marking,
     collections: &mut Vec<OpenBlock, A>,
@@ -61,7 +64,8 @@ fn close<A: Allocator>(
     Ok(())
 }
 
-/// Opens what the lexeme of this index opens.
+/// Opens the collection that the lexeme of this index opens, if any. The only error is out of
+/// memory.
 fn open<A: Allocator>(
     m: Marking,
     i: u32,
@@ -96,7 +100,8 @@ fn open<A: Allocator>(
     Ok(())
 }
 
-/// Notes that a key begins with the lexeme of this index, where the flags are of the lexemes from `first` on.
+/// Records that a key begins with the lexeme of index `key`, if it is among the lexemes of the
+/// flags. They are those from the index `first` on.
 fn note_key(begins: &mut [bool], first: usize, key: Option<usize>)
     ensures { (i : ℕ) → i < length begins.old → slice_index_or begins.new i false ≡ (slice_index_or begins.old i false || is_at (first + i) key) }
 {
@@ -108,7 +113,8 @@ fn note_key(begins: &mut [bool], first: usize, key: Option<usize>)
     }
 }
 
-/// For each lexeme from `first` on, whether some Value's key begins with it.
+/// Replaces the contents of `begins`: for each lexeme of a line, whether the key of a Value of the
+/// line begins with it. `first` is the index of the first lexeme. The only error is out of memory.
 pub fn note_keys<A: Allocator>(
     begins: &mut Vec<bool, A>,
     first: usize,
@@ -124,7 +130,7 @@ pub fn note_keys<A: Allocator>(
     Ok(())
 }
 
-/// The marks of a lexeme of this index, which stand before it.
+/// Appends the marks that stand before the lexeme of this index. The only error is out of memory.
 fn mark_place<A: Allocator>(
     m: Marking,
     i: u32,
@@ -143,7 +149,8 @@ fn mark_place<A: Allocator>(
     Ok(())
 }
 
-/// Whether a lexeme may have marks: it is the first of its line, a document marker or an entry, or stands in a mapping of its column.
+/// Returns `true` if marks may stand before a lexeme: it is the first of its line, a document
+/// marker or an Entry, or it belongs to a mapping in its column. No other lexeme has marks.
 fn may_have_marks(m: Marking) -> bool
     ensures { result ≡ may_have_marks m }
 {
@@ -153,7 +160,7 @@ fn may_have_marks(m: Marking) -> bool
         || is_in_mapping(m)
 }
 
-/// A lexeme with its marks. Most lexemes have none.
+/// Appends a lexeme with its marks. Most lexemes have none. The only error is out of memory.
 #[tactic(auto, using(crate::proofs::Unmarked::unmarked_open, crate::proofs::Unmarked::unmarked_marks))]
 #[inline(always)]
 pub fn mark_one<A: Allocator>(
@@ -174,7 +181,9 @@ pub fn mark_one<A: Allocator>(
     Ok(())
 }
 
-/// The lexemes of a line, from the index `first` on, with their marks. `begins` says of each whether a key begins with it.
+/// Appends the lexemes of a line with their marks. `first` is the index of the first of them in the
+/// document, and `begins` says of each whether a key begins with it. The only error is out of
+/// memory.
 pub fn marks<A: Allocator>(
     pieces: &[KeyedToken],
     begins: &[bool],
@@ -197,7 +206,7 @@ pub fn marks<A: Allocator>(
     Ok(())
 }
 
-/// Closes all collections.
+/// Appends a mark that closes each collection. The only error is out of memory.
 pub fn close_all<A: Allocator>(
     collections: &[OpenBlock],
     symbols: &mut Vec<Symbol, A>,

@@ -1,4 +1,5 @@
-//! Lines in which each key is one scalar or alias, directly before its Value. Most lines are such, and one pass over their lexemes marks them.
+//! Lines without properties in which each key is one scalar or alias, directly before its Value.
+//! Most lines are such, and one pass over their lexemes marks them.
 
 ghost use Rattle.std.specs.Prelude.{◌≡◌, ◌<◌, ◌≤◌, ◌+◌, ◌^◌, ◌++◌, length, reverse, false, None, OnOk, IfOk};
 ghost use Rattle.yl_marks.specs.SingleKeys.{facts_of, has_single_keys, is_key_next, leaf_place, marks_of, may_follow, open_behind_each, single_fact, single_markings, HasPassed};
@@ -11,7 +12,8 @@ use crate::token::Token;
 use std::alloc::{AllocError, Allocator};
 use yl_lexeme::Kind;
 
-/// Whether a lexeme may stand in such a line: it is no property, and no Value directly behind a closing bracket.
+/// Returns whether a lexeme may stand in such a line: it is no property, and no Value directly
+/// after a closing bracket.
 fn may_follow(is_behind_closing: bool, kind: Kind) -> bool
     ensures { result ≡ may_follow is_behind_closing kind }
 {
@@ -22,7 +24,8 @@ fn may_follow(is_behind_closing: bool, kind: Kind) -> bool
     }
 }
 
-/// Whether each key of a line is one scalar or alias, directly before its Value.
+/// Returns whether a line has no property, and no Value directly after a closing bracket. Then each
+/// of its keys is one scalar or alias, directly before its Value.
 pub fn has_single_keys(line: &[Token]) -> bool
     ensures { result ≡ has_single_keys false line.now }
 {
@@ -38,7 +41,7 @@ pub fn has_single_keys(line: &[Token]) -> bool
     true
 }
 
-/// The place of a scalar or an alias of this index, if a key may begin at it.
+/// Returns the place of a scalar or an alias of this index, if a key may begin at it.
 fn leaf_place(index: usize, piece: KeyedToken) -> Option<KeyStart>
     ensures { result ≡ leaf_place index piece }
 {
@@ -48,7 +51,7 @@ fn leaf_place(index: usize, piece: KeyedToken) -> Option<KeyStart>
     }
 }
 
-/// Whether a Value comes next whose key begins at this place.
+/// Returns whether the next lexeme is a Value whose key begins at this place.
 fn is_key_next(place: Option<KeyStart>, behind: &[Token]) -> bool
     ensures { result ≡ is_key_next place behind.now }
 {
@@ -60,7 +63,8 @@ fn is_key_next(place: Option<KeyStart>, behind: &[Token]) -> bool
     }
 }
 
-/// The facts of a lexeme of such a line. `ahead` is what the lexemes before it say of it.
+/// Returns the facts about a lexeme of such a line. `ahead` contains the facts that the lexemes
+/// before it decide about it.
 fn single_fact(ahead: KeyFacts, m: Marking) -> KeyFacts
     ensures { result ≡ single_fact ahead m }
 {
@@ -70,8 +74,9 @@ fn single_fact(ahead: KeyFacts, m: Marking) -> KeyFacts
     }
 }
 
-/// Puts the lexemes of such a line with their marks behind the symbols, and their facts behind `keys`. Answers with what counts of them and
-/// the earlier ones, and what they say of the lexeme behind them.
+/// Appends the lexemes of such a line with their marks to `symbols`, and the facts about them to
+/// `keys`. Returns the summary of these lexemes and the earlier ones, and the facts that they
+/// decide about the lexeme after them. The only error is out of memory.
 pub fn mark_single_keys<A: Allocator>(
     line: &[Token],
     mut earlier: Earlier,

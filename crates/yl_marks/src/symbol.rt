@@ -1,79 +1,97 @@
-//! A document's lexemes with their marks. Lexemes go by their index in the document.
+//! The lexemes of a document with their marks. A lexeme is named by its index in the document.
 
 use yl_lexeme::Kind;
 use yl_text::Pos;
 
-/// How many lexemes a document has at most.
+/// The maximum number of lexemes in a document.
 pub const MOST: usize = u32::MAX as usize;
 
-/// A lexeme, or a mark between lexemes. A mark names the lexeme that it stands before.
+/// A lexeme, or a mark between lexemes. Each mark but `Close` names the lexeme that it stands
+/// before.
 #[derive(Clone, Copy)]
 pub enum Symbol {
+    /// A block sequence opens before the lexeme of this index.
     OpenSequence(u32),
+    /// A block mapping opens before the lexeme of this index.
     OpenMapping(u32),
+    /// A key begins with the lexeme of this index.
     BeginKey(u32),
+    /// The innermost open block collection closes.
     Close,
+    /// The lexeme of this kind and index.
     One(Kind, u32),
 }
 
-/// Where a key may begin: how many lexemes stand before it, and its column.
+/// A place where a key may begin.
 #[derive(Clone, Copy)]
 pub struct KeyStart {
+    /// The number of lexemes before it in the document.
     pub index: usize,
+    /// Its column, in characters from 0.
     pub column: u32,
 }
 
-/// A lexeme without its value, and what the lexemes before it say of its place.
+/// A lexeme without its value, and what the lexemes before it decide about its place.
 #[derive(Clone, Copy)]
 pub struct KeyedToken {
-    /// The line of the text in which it ends.
+    /// The line of the text in which it ends, from 0.
     pub end_line: u64,
-    /// How many brackets are open before it.
+    /// The number of brackets that are open before it.
     pub depth: usize,
-    /// Of a Value that has a key, how many lexemes stand before that key.
+    /// The number of lexemes before its key, if it is a Value that has a key.
     pub key: Option<usize>,
-    /// Where it begins, in the text.
+    /// Where it begins in the text: line and column from 0, the column in characters.
     pub start: Pos,
+    /// Its kind.
     pub kind: Kind,
-    /// No earlier lexeme ends in its line.
+    /// Whether no earlier lexeme ends in its line.
     pub is_first: bool,
-    /// A key may begin with it.
+    /// Whether a key may begin with it.
     pub may_begin: bool,
 }
 
-/// What counts of the lexemes before a place: how many there are, how many brackets are open behind them, and the latest of them.
+/// A summary of the lexemes before a place.
 #[derive(Clone, Copy)]
 pub struct Earlier {
+    /// The number of these lexemes.
     pub count: usize,
+    /// The number of brackets that are open after them.
     pub depth: usize,
+    /// The latest of them.
     pub latest: Option<KeyedToken>,
 }
 
-/// A lexeme, and whether a key begins there.
+/// A lexeme, and whether a key begins with it.
 #[derive(Clone, Copy)]
 pub struct Marking {
+    /// The lexeme.
     pub piece: KeyedToken,
+    /// Whether a key begins with it.
     pub begins_key: bool,
 }
 
-/// An open block collection and its column.
+/// An open block collection.
 #[derive(Clone, Copy)]
 pub struct OpenBlock {
+    /// Whether it is a mapping. Otherwise it is a sequence.
     pub is_mapping: bool,
+    /// Its column, in characters from 0.
     pub column: u32,
 }
 
-/// What a block collection is.
+/// The kinds of block collections.
 #[derive(Clone, Copy)]
 pub enum Collection {
+    /// A sequence.
     Sequence,
+    /// A mapping.
     Mapping,
 }
 
 /// A lexeme of a document, or a mark between its lexemes.
 #[derive(Clone, Copy)]
 pub enum Marked {
-    /// A block collection opens, in this column, counted from 0.
+    /// A block collection of this kind opens in this column, in characters from 0.
     Open(Collection, u32),
     /// The innermost open block collection closes.
     Close,

@@ -11,6 +11,7 @@ use yl_text::Pos;
 /// A lexeme of a document without its value.
 #[derive(Clone, Copy)]
 pub struct Token {
+    /// Its kind.
     pub kind: Kind,
     /// Where it begins in the text: line and column from 0, the column in characters.
     pub start: Pos,
@@ -18,7 +19,7 @@ pub struct Token {
     pub end_line: u64,
 }
 
-/// The token of a lexeme at a line of the text.
+/// Returns the token of a lexeme at a line of the text.
 pub fn token_of<A: Allocator>(at: &LexemeAtLine<'_, A>) -> Token
     ensures { result ≡ token_of (lexeme_at_line at.now.line at.now.lexeme.now) }
 {
@@ -29,7 +30,7 @@ pub fn token_of<A: Allocator>(at: &LexemeAtLine<'_, A>) -> Token
     }
 }
 
-/// Adds the tokens of the lexemes of a row to the others. The only error is out of memory.
+/// Appends the tokens of the lexemes of a row. The only error is out of memory.
 pub fn push_tokens<A: Allocator>(
     row: &RowLexemes<'_, A>,
     tokens: &mut Vec<Token, A>,

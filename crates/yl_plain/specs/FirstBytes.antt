@@ -1,9 +1,9 @@
--- Bridge: what the first byte of a plain scalar says of it.
+-- Bridge: the first bytes of the plain scalars that are not strings.
 use Rattle.std.specs.Prelude.{ℕ, Bool, false, ◌||◌, ◌==◌, List, [], ◌∷◌, codes}
 use Rattle.std.specs.List.{list_any}
 use Rattle.yl_plain.specs.Strings.{is_decimal}
 
--- those with which words and numbers begin
+-- the characters, other than digits, with which such words and numbers begin
 abbrev pub first_bytes : List ℕ
 first_bytes = codes "~.+-nNtTfF"
 

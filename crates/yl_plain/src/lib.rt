@@ -1,4 +1,4 @@
-//! Which plain scalars are strings, by their text alone.
+//! Decides which plain scalars are strings, from their text alone.
 #![tactic(auto)]
 
 mod strings;

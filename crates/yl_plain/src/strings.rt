@@ -1,4 +1,4 @@
-//! Which plain scalars are strings.
+//! Decides which plain scalars are strings.
 ghost use Rattle.std.specs.Prelude.{◌≡◌, ◌≤◌, [], ◌∷◌, length, codes, bytes_eq};
 ghost use Rattle.std.specs.List.{list_all, prefix_len};
 ghost use Rattle.std.specs.Char.{is_digit};
@@ -36,7 +36,7 @@ fn is_one_of(text: &[u8], first: &str, second: &str, third: &str) -> bool
     is_word(text, first) || is_word(text, second) || is_word(text, third)
 }
 
-/// Whether it is null, a truth value or the word for no number.
+/// Returns whether the text is one of the words for null, true, false and not-a-number.
 fn is_reserved_word(text: &[u8]) -> bool
     ensures { result ≡ is_reserved_word text.now }
 {
@@ -97,7 +97,7 @@ fn are_hexadecimal(text: &[u8]) -> bool
     !text.is_empty() && all_hexadecimal(text)
 }
 
-/// The text behind a sign.
+/// Returns the text after its sign, or the whole text if it has no sign.
 fn unsigned(text: &[u8]) -> &[u8]
     ensures { result.now ≡ unsigned_text text.now }
 {
@@ -107,7 +107,7 @@ fn unsigned(text: &[u8]) -> &[u8]
     }
 }
 
-/// How many digits the text begins with.
+/// Returns the number of decimal digits at the beginning of the text.
 fn count_digits(text: &[u8]) -> usize
     ensures count { result ≡ prefix_len is_decimal text.now }
     ensures most { result ≤ length text.now }
@@ -120,7 +120,7 @@ fn count_digits(text: &[u8]) -> usize
     text.len()
 }
 
-/// The text behind the digits that it begins with.
+/// Returns the text after the decimal digits at its beginning.
 fn past_digits(text: &[u8]) -> &[u8]
     ensures { result.now ≡ past_digits text.now }
 {
@@ -137,7 +137,8 @@ fn begins_with_digit(text: &[u8]) -> bool
     }
 }
 
-/// The text behind a point and the digits that follow it.
+/// Returns the text after a point at its beginning and the digits that follow the point. Returns
+/// the whole text if it does not begin with a point.
 fn past_fraction(text: &[u8]) -> &[u8]
     ensures { result.now ≡ past_fraction text.now }
 {
@@ -147,7 +148,7 @@ fn past_fraction(text: &[u8]) -> &[u8]
     }
 }
 
-/// Whether it is nothing, or an exponent.
+/// Returns whether the text is empty or an exponent.
 fn is_exponent(text: &[u8]) -> bool
     ensures { result ≡ is_exponent text.now }
 {
@@ -158,7 +159,8 @@ fn is_exponent(text: &[u8]) -> bool
     }
 }
 
-/// Whether it is a whole number or one with a fraction, perhaps with an exponent.
+/// Returns whether the text is a decimal number without a sign: digits with at most one point, and
+/// perhaps an exponent. A point at its beginning must be followed by a digit.
 fn is_number(text: &[u8]) -> bool
     ensures { result ≡ is_number text.now }
 {
@@ -169,7 +171,7 @@ fn is_number(text: &[u8]) -> bool
     }
 }
 
-/// Whether it is a number to the base 8 or 16.
+/// Returns whether the text is a number in base 8 or 16.
 fn is_based(text: &[u8]) -> bool
     ensures { result ≡ is_based text.now }
 {
@@ -180,14 +182,14 @@ fn is_based(text: &[u8]) -> bool
     }
 }
 
-/// Whether it is a number or an infinity, the sign left out.
+/// Returns whether the text is a decimal number or an infinity. The sign must be removed before.
 fn is_signed(text: &[u8]) -> bool
     ensures { result ≡ is_signed text.now }
 {
     is_number(text) || is_infinity(text)
 }
 
-/// Whether some plain scalar that begins with this byte is no string.
+/// Returns whether a plain scalar that begins with this byte can be something other than a string.
 fn begins_no_string(first: u8) -> bool
     ensures { result ≡ begins_no_string first }
 {
@@ -197,7 +199,8 @@ fn begins_no_string(first: u8) -> bool
     }
 }
 
-/// What the first byte says: whether it may be no string.
+/// Returns whether a plain scalar with the first byte of this value can be something other than a
+/// string. `false` implies that the value is a string.
 fn may_be_no_string(value: &[u8]) -> bool
     ensures { result ≡ may_be_no_string value.now }
 {
@@ -207,7 +210,7 @@ fn may_be_no_string(value: &[u8]) -> bool
     }
 }
 
-/// Whether a plain scalar of this value is a string.
+/// Returns whether a plain scalar with this value, as UTF-8 bytes, is a string.
 pub fn is_string(value: &[u8]) -> bool
     ensures { result ≡ is_string value.now }
 {

@@ -1,4 +1,4 @@
--- Bridge: nodes as the code has them, by the index of their first event.
+-- Bridge: the values of nodes and entries that the code has as indices of events.
 use Rattle.std.specs.Prelude.{ℕ, List, drop, map}
 use Rattle.yl_events.specs.declared.event.Event.{Event}
 use Rattle.yl_events.specs.Event.{event_value, kind_value}
@@ -6,6 +6,7 @@ use Rattle.yl_settings.specs.declared.node.Item.{Item}
 use Rattle.yl_settings.specs.declared.node.EntryAt.{EntryAt}
 use Rattle.yl_settings.specs.Nodes.{Nodes, ItemValue, EntryValue, nodes_from}
 
+-- the nodes from the event of this index on, up to the end of the collection that contains them
 abbrev pub nodes_at : List Event → ℕ → Nodes
 nodes_at events at = nodes_from (map event_value (drop at events))
 

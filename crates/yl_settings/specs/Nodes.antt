@@ -3,12 +3,13 @@ use Rattle.std.specs.Prelude.{Bool, true, false, List, [], ◌∷◌, Option, No
 use Rattle.yl_text.specs.declared.position.Pos.{Pos}
 use Rattle.yl_events.specs.Event.{EventValue, EventKindValue, DocumentStart, DocumentEnd, SequenceStart, SequenceEnd, MappingStart, MappingEnd}
 
--- nodes that follow each other: of the first its kind, its place and what is in it, and then the others
+-- nodes that follow each other: the kind, the place and the contents of the first, and the nodes
+-- after it
 pub data Nodes : Type 0 where
   NoNode : Nodes
   Node : (kind : EventKindValue) (place : Option Pos) (inside more : Nodes) → Nodes
 
--- a document holds its root as a collection holds its nodes
+-- a document contains its root as a collection contains its nodes
 abbrev pub starts : EventKindValue → Bool
 starts DocumentStart = true
 starts SequenceStart = true
@@ -29,7 +30,7 @@ abbrev pub starts_mapping : EventKindValue → Bool
 starts_mapping MappingStart = true
 starts_mapping _ = false
 
--- of nodes by the collections that hold them, the innermost first
+-- a list has the nodes of one collection at each level, the innermost collection first
 abbrev pub innermost : List Nodes → Nodes
 innermost [] = NoNode
 innermost (nodes ∷ outer) = nodes
@@ -38,14 +39,15 @@ abbrev pub outer : List Nodes → List Nodes
 outer [] = []
 outer (nodes ∷ more) = more
 
--- with one event before them
+-- these levels with one event before them
 abbrev pub behind : EventValue → List Nodes → List Nodes
 behind e levels =
     if starts e.kind then Node e.kind e.place (innermost levels) (innermost (outer levels)) ∷ outer (outer levels)
     else if ends e.kind then NoNode ∷ levels
     else Node e.kind e.place NoNode (innermost levels) ∷ outer levels
 
--- the nodes that these events begin up to the end of the collection that holds them, then those behind that one, and so on outwards
+-- the nodes that begin in these events up to the end of the collection that contains them, then
+-- those after that collection, and so on outwards
 unfoldable pub levels_from : List EventValue → List Nodes
 levels_from [] = []
 levels_from (e ∷ es) = behind e (levels_from es)
@@ -53,7 +55,7 @@ levels_from (e ∷ es) = behind e (levels_from es)
 abbrev pub nodes_from : List EventValue → Nodes
 nodes_from es = innermost (levels_from es)
 
--- one node
+-- a node
 pub record ItemValue : Type 0 where
   pub kind : EventKindValue
   pub place : Option Pos
@@ -70,7 +72,7 @@ entries_of (Node key key_place key_inside (Node kind place inside more)) =
     record { key = key; key_place = key_place; value = record { kind = kind; place = place; inside = inside } } ∷ entries_of more
 entries_of _ = []
 
--- the first node
+-- the first node, or an end of a document if there is none
 abbrev pub first_item : Nodes → ItemValue
 first_item NoNode = record { kind = DocumentEnd; place = None; inside = NoNode }
 first_item (Node kind place inside more) = record { kind = kind; place = place; inside = inside }

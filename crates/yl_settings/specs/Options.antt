@@ -1,4 +1,5 @@
--- Meaning: the option table: for each rule its options, and the values that each takes. The defaults stand with the options' types.
+-- Meaning: the option table: the options of each rule, and the values that each option takes. The
+-- default values are in `Standard.antt`.
 use Rattle.std.specs.Prelude.{ℕ, if◌then◌else◌, List, Option, codes, bytes_eq, is_some, unwrap_or}
 use Rattle.yl_text.specs.declared.finding.RuleId.{RuleId}
 use Rattle.yl_text.specs.declared.finding.RuleId.TheVariants.{Anchors, Braces, Brackets, Colons, Commas, Comments, DocumentStart, EmptyLines, Hyphens, Indentation, KeyDuplicates, LineLength, NewLines, QuotedStrings, Truthy}
@@ -21,7 +22,7 @@ use Rattle.yl_settings.specs.declared.table.Answer.TheVariants.{UnknownName, Wro
 use Rattle.yl_settings.specs.Nodes.{ItemValue}
 use Rattle.yl_settings.specs.Values.{flag_in, number_in, limit_in, forbid_in, spaces_in, sequences_in, no_in, new_line_in, quote_type_in, truthy_in}
 
--- what is said of an option, and what its value does to the options of its rule
+-- the result of setting an option, and the change of its rule's options
 pub record Setting (O : Type 0) : Type 0 where
   pub answer : Answer
   pub change : O → O
@@ -29,7 +30,7 @@ pub record Setting (O : Type 0) : Type 0 where
 abbrev pub unknown : {O : Type 0} → Setting O
 unknown = record { answer = UnknownName; change = λ o. o }
 
--- this value, if it is one
+-- the option takes this value, if there is one
 abbrev pub setting_of : {A O : Type 0} → Option A → (Option A → O → O) → Setting O
 setting_of value set = record { answer = if is_some value then Taken else WrongValue; change = set value }
 
@@ -40,7 +41,7 @@ anchors_option name item =
     else if bytes_eq name (codes "forbid-unused-anchors") then setting_of (flag_in item.kind) (λ v o. record o { forbid_unused_anchors = unwrap_or v o.forbid_unused_anchors })
     else unknown
 
--- of braces and of brackets
+-- the options of both braces and brackets
 abbrev pub brackets_option : List ℕ → ItemValue → Setting BracketsOptions
 brackets_option name item =
     if bytes_eq name (codes "forbid") then setting_of (forbid_in item.kind) (λ v o. record o { forbid = unwrap_or v o.forbid })
@@ -122,7 +123,7 @@ truthy_option name item =
     else if bytes_eq name (codes "check-keys") then setting_of (flag_in item.kind) (λ v o. record o { check_keys = unwrap_or v o.check_keys })
     else unknown
 
--- a setting of one rule's options, as one of all options
+-- a setting of the options of one rule, as a setting of all options
 abbrev pub setting_in : {O : Type 0} → ((O → O) → RuleOptions → RuleOptions) → Setting O → Setting RuleOptions
 setting_in on s = record { answer = s.answer; change = on s.change }
 
@@ -144,7 +145,7 @@ option_of QuotedStrings name item = setting_in (λ f o. record o { quoted_string
 option_of Truthy name item = setting_in (λ f o. record o { truthy = f o.truthy }) (truthy_option name item)
 option_of _ name item = unknown
 
--- with one rule's options taken from others
+-- these options, with the options of one rule taken from others
 abbrev pub with_options_of : RuleId → RuleOptions → RuleOptions → RuleOptions
 with_options_of Anchors from o = record o { anchors = from.anchors }
 with_options_of Braces from o = record o { braces = from.braces }

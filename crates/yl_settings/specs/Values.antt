@@ -1,4 +1,4 @@
--- Meaning: the values that options have.
+-- Meaning: the values that options take, and the scalars that denote them.
 use Rattle.std.specs.Prelude.{ℕ, Bool, true, false, if◌then◌else◌, Option, Some, None, codes, bytes_eq, replicate, slice_set}
 use Rattle.yl_rules.specs.declared.level.Level.{Level}
 use Rattle.yl_rules.specs.declared.level.Level.TheVariants.{Error, Warning}
@@ -30,7 +30,7 @@ limit_in kind = limit (plain_word kind)
 abbrev pub level_in : EventKindValue → Option Level
 level_in kind = if bytes_eq (word kind) (codes "error") then Some Error else if bytes_eq (word kind) (codes "warning") then Some Warning else None
 
--- a flag by what it stands for, else what a word says
+-- one value for true, another for false, and a third one if there is no truth value
 abbrev pub flag_or : {A : Type 0} → Option Bool → A → A → Option A → Option A
 flag_or (Some true) one another other = Some one
 flag_or (Some false) one another other = Some another
@@ -52,7 +52,7 @@ sequences_in kind =
     (if bytes_eq (word kind) (codes "whatever") then Some sequences.Whatever
     else if bytes_eq (word kind) (codes "consistent") then Some sequences.Consistent else None)
 
--- a false word alone
+-- a false word, and no other
 abbrev pub no_in : EventKindValue → Option Bool
 no_in kind = flag_or_none (flag_in kind)
   where
@@ -69,13 +69,13 @@ quote_type_in kind =
     else if bytes_eq (word kind) (codes "single") then Some Single
     else if bytes_eq (word kind) (codes "double") then Some Double else None
 
--- with one word more, if it is truthy
+-- the set with one more word. There is none if the word is not truthy
 abbrev pub with_word : Option TruthyWords → Option ℕ → Option TruthyWords
 with_word None index = None
 with_word (Some set) None = None
 with_word (Some set) (Some index) = Some (record { allowed = slice_set set.allowed index true })
 
--- the words of these nodes beside those of a set, if all are truthy
+-- the set with the words of these nodes. There is none unless all of them are truthy
 unfoldable pub words_beside : Option TruthyWords → Nodes → Option TruthyWords
 words_beside set NoNode = set
 words_beside set (Node kind place inside more) = words_beside (with_word set (truthy_index (word kind))) more
@@ -83,6 +83,6 @@ words_beside set (Node kind place inside more) = words_beside (with_word set (tr
 abbrev pub no_words : TruthyWords
 no_words = record { allowed = replicate 18 false }
 
--- a sequence of truthy words
+-- the words of a sequence of truthy words
 abbrev pub truthy_in : ItemValue → Option TruthyWords
 truthy_in item = if starts_sequence item.kind then words_beside (Some no_words) item.inside else None

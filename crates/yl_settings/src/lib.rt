@@ -1,7 +1,7 @@
-//! The options of the rules, and what a node of a document sets them to.
+//! The options of the rules, and how a node of a document sets them.
 //!
-//! A document's nodes are walked over its events; nothing is built of them. The option table says
-//! which options each rule has, and the values that each takes.
+//! The nodes of a document are read directly from its events, and no tree is built. The option
+//! table lists the options of each rule and the values that each option takes.
 #![tactic(auto)]
 
 mod node;

@@ -1,4 +1,4 @@
-//! The nodes of a document, walked over its events. A node goes by the index of its first event.
+//! The nodes of a document, read from its events. A node is named by the index of its first event.
 ghost use Rattle.std.specs.Prelude.{◌≡◌, ◌<◌, ◌≤◌, ◌∷◌, [], map, length, MatchOption, IfSome, drop};
 ghost use Rattle.yl_events.specs.Event.{event_value, kind_value};
 ghost use Rattle.yl_tree.specs.Anchors.{is_alias_event};
@@ -11,28 +11,38 @@ use yl_text::Pos;
 /// A node: its kind, where its content begins, and the index of the first event in it.
 #[derive(Clone, Copy)]
 pub struct Item<'a> {
+    /// The kind of its first event.
     pub kind: EventKind<'a>,
+    /// The position in the text where its content begins, if it has one.
     pub place: Option<Pos>,
+    /// The index of the first event inside the node. For a node that is no collection and no
+    /// document it is the number of events.
     pub inside: usize,
 }
 
-/// A node, and the index of the event behind it.
+/// A node, and where the next node begins.
 #[derive(Clone, Copy)]
 pub struct ItemAt<'a> {
+    /// The node.
     pub item: Item<'a>,
+    /// The index of the event after the node.
     pub more: usize,
 }
 
-/// An entry of a mapping, and the index of the event behind it.
+/// An entry of a mapping, and where the next entry begins.
 #[derive(Clone, Copy)]
 pub struct EntryAt<'a> {
+    /// The kind of the first event of the key.
     pub key: EventKind<'a>,
+    /// The position in the text where the content of the key begins, if it has one.
     pub key_place: Option<Pos>,
+    /// The value.
     pub value: Item<'a>,
+    /// The index of the event after the value.
     pub more: usize,
 }
 
-/// Whether a collection or a document begins.
+/// Returns whether a collection or a document begins.
 fn starts(kind: EventKind<'_>) -> bool
     ensures { result ≡ starts (kind_value kind.entry) }
 {
@@ -42,7 +52,7 @@ fn starts(kind: EventKind<'_>) -> bool
     )
 }
 
-/// Whether a collection or a document ends.
+/// Returns whether a collection or a document ends.
 fn ends(kind: EventKind<'_>) -> bool
     ensures { result ≡ ends (kind_value kind.entry) }
 {
@@ -52,25 +62,29 @@ fn ends(kind: EventKind<'_>) -> bool
     )
 }
 
+/// Returns whether a mapping begins.
 pub fn starts_mapping(kind: EventKind<'_>) -> bool
     ensures { result ≡ starts_mapping (kind_value kind.entry) }
 {
     matches!(kind, EventKind::MappingStart)
 }
 
+/// Returns whether a sequence begins.
 pub fn starts_sequence(kind: EventKind<'_>) -> bool
     ensures { result ≡ starts_sequence (kind_value kind.entry) }
 {
     matches!(kind, EventKind::SequenceStart)
 }
 
+/// Returns whether the event is an alias.
 pub fn is_alias(kind: EventKind<'_>) -> bool
     ensures { result ≡ is_alias_event (kind_value kind.entry) }
 {
     matches!(kind, EventKind::Alias(_))
 }
 
-/// The index of the event behind the collection in which the event of this index stands.
+/// Returns the index of the event after the innermost collection or document that contains the
+/// event of index `at`. Returns the number of events if that collection does not end.
 fn behind_collection(events: &[Event<'_>], at: usize) -> usize
     requires { at ≤ length events.now }
     ensures within { result ≤ length events.now }
@@ -92,7 +106,8 @@ fn behind_collection(events: &[Event<'_>], at: usize) -> usize
     events.len()
 }
 
-/// The first of the nodes that begin with the event of this index.
+/// Returns the node that begins at the event of index `at`. Returns `None` if there is no such
+/// event, or a collection or a document ends with it.
 pub fn first_item<'a>(events: &[Event<'a>], at: usize) -> Option<ItemAt<'a>>
     requires { at ≤ length events.now }
     ensures item { MatchOption result (nodes_at events.now at ≡ NoNode)
@@ -122,7 +137,8 @@ pub fn first_item<'a>(events: &[Event<'a>], at: usize) -> Option<ItemAt<'a>>
     })
 }
 
-/// The first of the entries that begin with the event of this index.
+/// Returns the entry of a mapping whose key begins at the event of index `at`. Returns `None` if no
+/// node begins there, or no node follows it in the same collection.
 pub fn first_entry<'a>(events: &[Event<'a>], at: usize) -> Option<EntryAt<'a>>
     requires { at ≤ length events.now }
     ensures entry { MatchOption result (entries_of (nodes_at events.now at) ≡ [])

@@ -1,4 +1,4 @@
-//! The option table: for each rule its options, and the values that each takes.
+//! The option table: the options of each rule, and the values that each option takes.
 ghost use Rattle.std.specs.Prelude.{◌≡◌, ◌≤◌, length, is_some, unwrap_or, if◌then◌else◌};
 ghost use Rattle.yl_settings.specs.declared.table.Answer.TheVariants.{WrongValue, Taken};
 ghost use Rattle.yl_settings.specs.Item.{item_value};
@@ -19,17 +19,18 @@ use yl_rules::{CommentsOptions, RowOptions, RunOptions};
 use yl_text::RuleId;
 use yl_tree::{AnchorsOptions, KeyDuplicatesOptions};
 
-/// What is said of an option.
+/// The result of setting an option.
 #[derive(Clone, Copy)]
 pub enum Answer {
     /// The rule has no option of this name.
     UnknownName,
     /// The option does not take this value.
     WrongValue,
+    /// The option takes this value.
     Taken,
 }
 
-/// Puts a value into its place, if there is one.
+/// Stores a value at a place, if there is a value.
 fn put<T: Drop>(place: &mut T, value: Option<T>) -> Answer
     ensures answer { result ≡ (if is_some value then Taken else WrongValue) }
     ensures place { place.new ≡ unwrap_or value place.old }
@@ -43,7 +44,7 @@ fn put<T: Drop>(place: &mut T, value: Option<T>) -> Answer
     }
 }
 
-/// What is said of a value that changes nothing.
+/// Returns the result for a value that changes nothing.
 fn take(value: Option<bool>) -> Answer
     ensures { result ≡ (if is_some value then Taken else WrongValue) }
 {
@@ -299,7 +300,8 @@ fn set_truthy(
 }
 
 impl RuleOptions {
-    /// Sets the option of this name of a rule.
+    /// Sets the option `name` of a rule to the value of a node. `events` are the events of the
+    /// document that contains the node. Changes nothing unless it returns `Answer::Taken`.
     #[tactic(auto, unfolding(crate::specs::Options::option_of))]
     pub fn set(&mut self, rule: RuleId, name: &str, events: &[Event<'_>], item: &Item<'_>) -> Answer
         requires { item.now.inside ≤ length events.now }
@@ -344,7 +346,8 @@ impl RuleOptions {
         }
     }
 
-    /// Takes the options of a rule from others.
+    /// Replaces the options of a rule by those in `from`. Leaves the options of all other rules
+    /// unchanged.
     pub fn take(&mut self, rule: RuleId, from: &RuleOptions)
         ensures { self.new ≡ with_options_of rule from.now self.old }
     {

@@ -1,4 +1,4 @@
-//! The values that options have.
+//! Reads the values of options.
 ghost use Rattle.std.specs.Prelude.{◌≡◌, ◌≤◌, length};
 ghost use Rattle.yl_events.specs.Event.{kind_value};
 ghost use Rattle.yl_settings.specs.Item.{item_value};
@@ -13,24 +13,29 @@ use yl_indentation::{IndentSequences, Spaces};
 use yl_layout::{Forbid, QuoteType, TruthyWords};
 use yl_rules::{Level, NewLine};
 
+/// Returns the truth value that a plain scalar denotes, or `None` if it denotes none.
 pub fn flag(kind: EventKind<'_>) -> Option<bool>
     ensures { result ≡ flag_in (kind_value kind.entry) }
 {
     words::flag(words::plain_word(kind))
 }
 
+/// Returns the number that a plain scalar denotes, if it is at least `least` and at most 1,000,000.
 pub fn number(least: u32, kind: EventKind<'_>) -> Option<u32>
     ensures { result ≡ number_in least (kind_value kind.entry) }
 {
     words::number(least, words::plain_word(kind))
 }
 
+/// Returns the bound that a plain scalar denotes: `Some(Some(n))` for a number `n` of at most
+/// 1,000,000, `Some(None)` for -1, which is no bound, and else `None`.
 pub fn limit(kind: EventKind<'_>) -> Option<Option<u32>>
     ensures { result ≡ limit_in (kind_value kind.entry) }
 {
     words::limit(words::plain_word(kind))
 }
 
+/// Returns the level that a plain or quoted scalar names: `error` or `warning`.
 pub fn level(kind: EventKind<'_>) -> Option<Level>
     ensures { result ≡ level_in (kind_value kind.entry) }
 {
@@ -41,6 +46,8 @@ pub fn level(kind: EventKind<'_>) -> Option<Level>
     }
 }
 
+/// Returns which flow collections a scalar forbids: a plain true word, a plain false word, or
+/// `non-empty`.
 pub fn forbid(kind: EventKind<'_>) -> Option<Forbid>
     ensures { result ≡ forbid_in (kind_value kind.entry) }
 {
@@ -54,6 +61,7 @@ pub fn forbid(kind: EventKind<'_>) -> Option<Forbid>
     }
 }
 
+/// Returns the width of an indentation: a plain number of at least 1, or `consistent`.
 pub fn spaces(kind: EventKind<'_>) -> Option<Spaces>
     ensures { result ≡ spaces_in (kind_value kind.entry) }
 {
@@ -66,6 +74,8 @@ pub fn spaces(kind: EventKind<'_>) -> Option<Spaces>
     }
 }
 
+/// Returns how sequences in mappings are indented: a plain true word, a plain false word,
+/// `whatever` or `consistent`.
 pub fn sequences(kind: EventKind<'_>) -> Option<IndentSequences>
     ensures { result ≡ sequences_in (kind_value kind.entry) }
 {
@@ -80,7 +90,7 @@ pub fn sequences(kind: EventKind<'_>) -> Option<IndentSequences>
     }
 }
 
-/// A false word alone.
+/// Returns `Some(false)` for a plain false word, and else `None`.
 pub fn no(kind: EventKind<'_>) -> Option<bool>
     ensures { result ≡ no_in (kind_value kind.entry) }
 {
@@ -90,6 +100,7 @@ pub fn no(kind: EventKind<'_>) -> Option<bool>
     }
 }
 
+/// Returns the line break that a plain or quoted scalar names: `unix` or `dos`.
 pub fn new_line(kind: EventKind<'_>) -> Option<NewLine>
     ensures { result ≡ new_line_in (kind_value kind.entry) }
 {
@@ -100,6 +111,7 @@ pub fn new_line(kind: EventKind<'_>) -> Option<NewLine>
     }
 }
 
+/// Returns the quotes that a plain or quoted scalar names: `any`, `single` or `double`.
 pub fn quote_type(kind: EventKind<'_>) -> Option<QuoteType>
     ensures { result ≡ quote_type_in (kind_value kind.entry) }
 {
@@ -111,7 +123,8 @@ pub fn quote_type(kind: EventKind<'_>) -> Option<QuoteType>
     }
 }
 
-/// The set with one word more, if it is truthy.
+/// Returns the set with one more word. Returns `None` if there is no set, or the scalar is no
+/// truthy word.
 fn with_word(set: Option<TruthyWords>, kind: EventKind<'_>) -> Option<TruthyWords>
     ensures { result ≡ with_word set (truthy_index (word (kind_value kind.entry))) }
 {
@@ -121,7 +134,8 @@ fn with_word(set: Option<TruthyWords>, kind: EventKind<'_>) -> Option<TruthyWord
     }
 }
 
-/// The words of a sequence of truthy words.
+/// Returns the set of the words in a sequence of truthy words. Returns `None` if the node is no
+/// sequence, or one of its nodes is no truthy word.
 pub fn truthy_words(events: &[Event<'_>], item: &Item<'_>) -> Option<TruthyWords>
     requires { item.now.inside ≤ length events.now }
     ensures { result ≡ truthy_in (item_value events.now item.now) }

@@ -1,4 +1,4 @@
-//! The words and numbers that a configuration has as values.
+//! Reads words and numbers in the values of a configuration.
 ghost use Rattle.std.specs.Prelude.{◌≡◌, ◌&&◌, ◌==◌, ◌≤◌, nat_le, if◌then◌else◌, Some, None};
 ghost use Rattle.std.specs.Char.{is_ascii_digit};
 ghost use Rattle.std.specs.List.{list_all};
@@ -11,7 +11,7 @@ use yl_lexeme::Style;
 /// The largest number that an option takes.
 const LARGEST: u32 = 1_000_000;
 
-/// The text of a plain scalar, else nothing.
+/// Returns the text of a plain scalar, or an empty string for anything else.
 pub fn plain_word(kind: EventKind<'_>) -> &str
     ensures { result.now ≡ plain_word (kind_value kind.entry) }
 {
@@ -21,7 +21,7 @@ pub fn plain_word(kind: EventKind<'_>) -> &str
     }
 }
 
-/// The text of a plain or a quoted scalar, else nothing.
+/// Returns the text of a plain or a quoted scalar, or an empty string for anything else.
 pub fn word(kind: EventKind<'_>) -> &str
     ensures { result.now ≡ word (kind_value kind.entry) }
 {
@@ -31,6 +31,7 @@ pub fn word(kind: EventKind<'_>) -> &str
     }
 }
 
+/// Returns whether the word denotes true.
 pub fn is_true_word(word: &str) -> bool
     ensures { result ≡ is_one_of true_words word.now }
 {
@@ -40,6 +41,7 @@ pub fn is_true_word(word: &str) -> bool
     )
 }
 
+/// Returns whether the word denotes false.
 pub fn is_false_word(word: &str) -> bool
     ensures { result ≡ is_one_of false_words word.now }
 {
@@ -49,7 +51,7 @@ pub fn is_false_word(word: &str) -> bool
     )
 }
 
-/// What a true or a false word says.
+/// Returns the truth value that a word denotes, or `None` if it denotes none.
 pub fn flag(word: &str) -> Option<bool>
     ensures { result ≡ flag word.now }
 {
@@ -62,7 +64,7 @@ pub fn flag(word: &str) -> Option<bool>
     }
 }
 
-/// What stands behind a sign.
+/// Returns the word after its sign, or the whole word if it has no sign.
 fn unsigned(word: &[u8]) -> &[u8]
     ensures { result.now ≡ unsigned word.now }
 {
@@ -90,7 +92,7 @@ fn are_digits(bytes: &[u8]) -> bool
     !bytes.is_empty() && all_digits(bytes)
 }
 
-/// The number that digits write, unless it is too large.
+/// Returns the number that these decimal digits denote, unless it is greater than `LARGEST`.
 fn digits_value(digits: &[u8]) -> Option<u32>
     ensures { result ≡ (if nat_le (digits_behind 0 digits.now) 1000000 then Some (digits_behind 0 digits.now) else None) }
 {
@@ -104,7 +106,8 @@ fn digits_value(digits: &[u8]) -> Option<u32>
     Some(value)
 }
 
-/// The number that bytes write, unless they are no digits or it is too large.
+/// Returns the number that these bytes denote. Returns `None` if they are not all decimal digits,
+/// there are none, or the number is greater than `LARGEST`.
 fn small_number(bytes: &[u8]) -> Option<u32>
     ensures { result ≡ small_number bytes.now }
 {
@@ -115,7 +118,8 @@ fn small_number(bytes: &[u8]) -> Option<u32>
     }
 }
 
-/// A number from some least one on.
+/// Returns the number that a word denotes, if it is at least `least` and at most `LARGEST`. The
+/// word may have a sign.
 pub fn number(least: u32, word: &str) -> Option<u32>
     ensures { result ≡ number least word.now }
 {
@@ -126,7 +130,8 @@ pub fn number(least: u32, word: &str) -> Option<u32>
     }
 }
 
-/// A number from -1 on, which is no limit: `None`.
+/// Returns the bound that a word denotes: `Some(Some(n))` for a number `n` of at most `LARGEST`,
+/// `Some(None)` for -1, which is no bound, and else `None`. The word may have a sign.
 pub fn limit(word: &str) -> Option<Option<u32>>
     ensures { result ≡ limit word.now }
 {
