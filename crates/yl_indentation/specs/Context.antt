@@ -1,4 +1,4 @@
--- Bridge: what the code keeps of the elements before a place.
+-- Bridge: the summary that the code keeps of the elements before a place.
 use Rattle.std.specs.Prelude.{Bool, true, false, not, ◌&&◌, ◌||◌, if◌then◌else◌, List, [], ◌∷◌, ◌++◌, Option, Some, None, option_to_list}
 use Rattle.yl_lexeme.specs.Kept.{all_but_first, first_of}
 use Rattle.yl_lexeme.specs.Lexeme.{is_entry, is_key, is_value}
@@ -13,8 +13,8 @@ use Rattle.yl_indentation.specs.declared.fact.Fact.{Fact}
 use Rattle.yl_indentation.specs.Expected.{expectation_of_items}
 use Rattle.yl_indentation.specs.Facts.{fact_at}
 
--- the open collections, the innermost first; the latest lexeme; whether a collection opened
--- directly before the place
+-- the open collections, the innermost first; the latest lexeme; and whether a block collection
+-- opened directly before the place
 pub record ContextValue : Type 0 where
   pub open_ones : List OpenCollection
   pub latest : Option Token
@@ -72,7 +72,7 @@ after e c = record {
   just_opened = is_opening e;
 }
 
--- the innermost collection, without one that opened directly before the place
+-- the innermost open collection, except one that opened directly before the place
 abbrev pub around : Bool → List OpenCollection → Option OpenCollection
 around just_opened os = if just_opened then first_of (all_but_first os) else first_of os
 

@@ -1,4 +1,4 @@
--- Meaning: the elements of a document: its lexemes, each with what stands around it, and the marks
+-- Meaning: the elements of a document: its lexemes, each with its surroundings, and the marks
 -- between them.
 use Rattle.std.specs.Prelude.{ℕ, nat_lt, if◌then◌else◌, List, ◌+◌, Option, Some, None, slice_get, slice_index}
 use Rattle.yl_lexeme.specs.declared.lexeme.Kind.{Kind}
@@ -15,8 +15,8 @@ element_at kind site =
     if is_document_marker kind then Marker site else if is_opening kind then OpeningBracket site
     else if is_closing kind then ClosingBracket site else Other site
 
--- a lexeme of this index, with the one after it and the leading spaces of its line. It counts if it
--- is one of the first `counted`
+-- the lexeme of this index, with the lexeme after it and the number of spaces at the beginning of
+-- its line. It counts if it is one of the first `counted` lexemes
 abbrev pub lexeme_element : List Token → ℕ → List ℕ → ℕ → Option Token → Element
 lexeme_element tokens counted indentations i None = Nothing
 lexeme_element tokens counted indentations i (Some x) =

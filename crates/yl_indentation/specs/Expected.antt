@@ -1,5 +1,5 @@
--- Meaning: where the first lexeme of a line is expected, by what is open around it (yamllint's rule
--- indentation).
+-- Meaning: where the first lexeme of a line is expected, by the collection around it (yamllint's
+-- rule indentation).
 use Rattle.std.specs.Prelude.{Bool, true, false, ◌&&◌, ◌||◌, ◌==◌, if◌then◌else◌, List, [], ◌∷◌, Option, Some, None}
 use Rattle.std.specs.Option.{option_map_or}
 use Rattle.yl_lexeme.specs.Lexeme.{is_closing, is_property, is_entry, is_key, is_value, is_comma}
@@ -16,15 +16,17 @@ abbrev pub is_mapping : Collection → Bool
 is_mapping Sequence = false
 is_mapping Mapping = true
 
--- the items of brackets: where the first lexeme in them stands, if that is in their line
+-- where the items of brackets are expected: at the column of the first lexeme in the brackets, if
+-- it is in the line of the opening bracket
 abbrev pub expectation_of_items : Site → Expectation
 expectation_of_items site =
     let beyond = Beyond site.indentation in
     option_map_or (λ x. if x.start.line == site.token.start.line then At x.start.col else beyond) site.next beyond
 
--- in the innermost of these open collections, behind the latest lexeme: at column 0, if none is open.
--- In a mapping's column only the first entry of a sequence is checked. In brackets a lexeme may stand
--- anywhere after a key, a value or a property
+-- where a lexeme is expected in the innermost of these open collections, after the latest lexeme:
+-- at column 0, if no collection is open. Of the entries in a mapping's column only the first one of
+-- a sequence is checked. In brackets a lexeme may stand in any column after a key, a value or a
+-- property
 abbrev pub expectation_in : List OpenCollection → Option Token → Token → Option Expectation
 expectation_in [] latest x = Some (At 0)
 expectation_in (Block collection column in_entries ∷ os) latest x =

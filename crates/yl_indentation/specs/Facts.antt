@@ -1,5 +1,5 @@
 -- Meaning: the checked places of a document (yamllint's rule indentation). Elements before a place
--- are listed with the latest first, open collections with the innermost first.
+-- are listed with the latest first, and open collections with the innermost first.
 use Rattle.std.specs.Prelude.{ℕ, true, false, not, ◌&&◌, ◌||◌, nat_lt, if◌then◌else◌, List, [], ◌∷◌, ◌++◌, map, drop, Option, Some, None, option_map, option_to_list}
 use Rattle.std.specs.Option.{option_or, option_map_or}
 use Rattle.yl_lexeme.specs.declared.lexeme.Kind.{Kind}
@@ -27,14 +27,14 @@ abbrev pub latest_lexeme : List Element → Option Token
 latest_lexeme [] = None
 latest_lexeme (e ∷ es) = option_or (option_map (λ site. site.token) (site_of e)) (latest_lexeme es)
 
--- with one more lexeme in them. The innermost, a block, is in entries while the latest of its own
--- entries, keys and values is an entry
+-- the open collections with one more lexeme in the innermost one. If that is a block, it is in
+-- entries while the latest of its own entries, keys and values is an entry
 abbrev pub behind_lexeme : Kind → List OpenCollection → List OpenCollection
 behind_lexeme kind (Block collection column in_entries ∷ os) =
     Block collection column (is_entry kind || (not (is_key kind || is_value kind) && in_entries)) ∷ os
 behind_lexeme kind os = os
 
--- the collections that these elements leave open, in blocks and brackets alike
+-- the collections, both blocks and brackets, that these elements leave open
 abbrev pub left_open : List Element → List OpenCollection
 left_open [] = []
 left_open (Opening collection column ∷ es) = Block collection column false ∷ left_open es
@@ -44,13 +44,13 @@ left_open (Other site ∷ es) = behind_lexeme site.token.kind (left_open es)
 left_open (Nothing ∷ es) = left_open es
 left_open (_ ∷ es) = drop 1 (left_open es)
 
--- those around a place: without one that opens directly before it
+-- the collections around a place, except one that opens directly before it
 abbrev pub open_around : List Element → List OpenCollection
 open_around (Opening collection column ∷ es) = left_open es
 open_around es = left_open es
 
--- the fact of a lexeme in these open collections, behind the latest lexeme. Checked are the first
--- lexemes of lines that begin in no lexeme, but for markers and directives
+-- the fact of a lexeme in these open collections, after the latest lexeme. A lexeme is checked if
+-- it counts, no earlier lexeme ends in its line, and it is neither a marker nor a directive
 abbrev pub fact_at : List OpenCollection → Option Token → Site → List Fact
 fact_at os latest site =
     let x = site.token in
@@ -64,8 +64,8 @@ facts_after before [] = []
 facts_after before (e ∷ es) =
     option_map_or (fact_at (open_around before) (latest_lexeme before)) (site_of e) [] ++ facts_after (e ∷ before) es
 
--- the checked places of a document with these lexemes and marks: of the first `counted` lexemes,
--- where these are the leading spaces of the lines
+-- the checked places of a document with these lexemes and marks. Only the first `counted` lexemes
+-- count, and `indentations` contains the number of spaces at the beginning of each line
 abbrev pub indent_facts : List Token → List Marked → ℕ → List ℕ → List Fact
 indent_facts tokens marks counted indentations =
     facts_after [] (map (element_of tokens counted indentations) marks)

@@ -1,4 +1,4 @@
--- Bridge: the facts of a document as its lines come, of which each is read by its own lexemes.
+-- Bridge: the facts of a document, line by line, each line from its own lexemes alone.
 use Rattle.std.specs.Prelude.{ℕ, Bool, ◌≡◌, ◌≢◌, ◌+◌, ◌-◌, nat_lt, List, [], ◌∷◌, ◌++◌, length, Option, Some, None, slice_get, slice_index}
 use Rattle.std.specs.List.{AllByRecursion}
 use Rattle.yl_marks.specs.declared.token.Token.{Token}
@@ -11,12 +11,12 @@ use Rattle.yl_indentation.specs.declared.element.Element.TheVariants.{Opening, C
 use Rattle.yl_indentation.specs.Elements.{element_at}
 use Rattle.yl_indentation.specs.SlimElements.{slim_element}
 
--- none is the first of these, or it begins in another line
+-- there are no lexemes, or the first of them begins in another line
 abbrev pub BeginElsewhere : ℕ → List Token → Type 0
 BeginElsewhere line [] = Unit {0}
 BeginElsewhere line (x ∷ xs) = x.start.line ≢ line
 
--- of a document's lexemes, those of one line, with so many before them
+-- these are the lexemes of one line of a document, with `first` lexemes before them
 pub record IsLine (tokens : List Token) (first : ℕ) (xs : List Token) : Type 0 where
   pub before : List Token
   pub rest : List Token
@@ -26,11 +26,12 @@ pub record IsLine (tokens : List Token) (first : ℕ) (xs : List Token) : Type 0
   pub here : AllByRecursion (λ x. x.start.line ≡ line) xs
   pub elsewhere : BeginElsewhere line rest
 
--- by the leading spaces of all lines, the lines of these have so many
+-- each line in which one of these lexemes begins has `n` spaces at its beginning
 abbrev pub AreIndented : List ℕ → ℕ → List Token → Type 0
 AreIndented indentations n xs = AllByRecursion (λ x. slice_index indentations x.start.line ≡ n) xs
 
--- each symbol that names a lexeme, but for one that says that a key begins, names one with an index of this kind
+-- each symbol that names a lexeme, except a mark that a key begins, names an index with the
+-- property `Is`
 abbrev pub NameIndices : (ℕ → Type 0) → List Symbol → Type 0
 NameIndices Is [] = Unit {0}
 NameIndices Is (OpenSequence i ∷ ws) = Is i × NameIndices Is ws
@@ -39,15 +40,16 @@ NameIndices Is (BeginKey i ∷ ws) = NameIndices Is ws
 NameIndices Is (Close ∷ ws) = NameIndices Is ws
 NameIndices Is (One kind i ∷ ws) = Is i × NameIndices Is ws
 
--- ---- by the line's lexemes alone
+-- ---- from the lexemes of the line alone
 
--- one of them, with the one after it in the line
+-- a lexeme of the line, with the lexeme after it in the line
 abbrev pub lexeme_in_line : List Token → ℕ → Bool → ℕ → Option Token → Element
 lexeme_in_line xs i counts n None = Nothing
 lexeme_in_line xs i counts n (Some x) =
     element_at x.kind (record { token = x; next = slice_get xs (i + 1); indentation = n; counts = counts })
 
--- the element of a symbol, where so many lexemes stand before the line's, and so many spaces at its start
+-- the element of a symbol in a line, with `first` lexemes before the line and `n` spaces at its
+-- beginning
 abbrev pub element_in_line : List Token → ℕ → ℕ → ℕ → Symbol → Option Element
 element_in_line xs first counted n (OpenSequence i) = Some (Opening Sequence (column_at xs (i - first)))
 element_in_line xs first counted n (OpenMapping i) = Some (Opening Mapping (column_at xs (i - first)))

@@ -13,16 +13,16 @@ use Rattle.yl_indentation.specs.declared.options.IndentSequences.{IndentSequence
 use Rattle.yl_indentation.specs.declared.options.IndentSequences.TheVariants.{Indented, NotIndented, Whatever, Consistent}
 use Rattle.yl_indentation.specs.Measures.{empty_measure, and_later, measure_at, measure_of, is_flush}
 
--- an entry in a mapping is to be indented from it; flush: the text's first such entry stands in its
--- mapping's column
+-- an entry in a mapping must be indented from the mapping's column. `flush` says that the first
+-- such entry of the text stands in its mapping's column, and `at_base` that this one does
 abbrev pub is_indented : IndentSequences → Bool → Bool → Bool
 is_indented Indented flush at_base = true
 is_indented NotIndented flush at_base = false
 is_indented Whatever flush at_base = not at_base
 is_indented Consistent flush at_base = not flush
 
--- the width at a place: the number given, or the first step of the text up to it, of those places
--- where a step is expected
+-- the width of an indentation at a place: the number that the option gives, or the first step of
+-- the text up to the place
 abbrev pub width_by_spaces : Spaces → Bool → Measure → Option ℕ
 width_by_spaces (Every n) with_entries here = Some n
 width_by_spaces _ with_entries here = if with_entries then here.step_with_entries else here.step
@@ -43,30 +43,30 @@ finding_by choice flush width f (Beyond base) = finding_by_width width base f
 finding_by choice flush width f (EntryIn base) =
     if is_indented choice flush (f.column == base) then finding_by_width width base f else not_as_expected base f
 
--- here: the measure of the text's facts up to this one
+-- the problem of a fact, where `here` is the measure of the facts of the text up to it
 abbrev pub finding_at : IndentationOptions → Measure → Bool → Fact → List FindingValue
 finding_at options here flush f =
     let choice = options.indent_sequences in
     finding_by choice flush (width_by_spaces options.spaces (is_indented choice flush false) here) f f.expectation
 
--- the problems of a document's facts, by the measure of the facts before them and that of the whole
--- text
+-- the problems of the facts of a document, from the measure of the facts before them and the
+-- measure of the whole text
 abbrev pub indent_problems : IndentationOptions → Measure → Measure → List Fact → List FindingValue
 indent_problems options before whole [] = []
 indent_problems options before whole (f ∷ fs) =
     let here = and_later before (measure_at f.column f.expectation) in
     finding_at options here (is_flush whole) f ++ indent_problems options here whole fs
 
--- the problems of a text's facts
+-- the problems of the facts of a text
 abbrev pub text_problems : IndentationOptions → List Fact → List FindingValue
 text_problems options fs = indent_problems options empty_measure (measure_of fs) fs
 
--- the facts of documents one after another
+-- the facts of documents, one after another
 abbrev pub facts_of_all : List (List Fact) → List Fact
 facts_of_all [] = []
 facts_of_all (d ∷ ds) = d ++ facts_of_all ds
 
--- the problems of documents one after another, after facts of this measure
+-- the problems of documents, one after another, after facts of the measure `before`
 abbrev pub document_problems : IndentationOptions → Measure → Measure → List (List Fact)
     → List FindingValue
 document_problems options before whole [] = []

@@ -1,4 +1,4 @@
--- Bridge: the facts of a document as its symbols come, by what is kept of those before.
+-- Bridge: the facts of a document, symbol by symbol, from a summary of the symbols before.
 use Rattle.std.specs.Prelude.{ℕ, ◌≡◌, ◌≤◌, nat_lt, List, [], ◌∷◌, ◌++◌, map, Option, Some, None, slice_get}
 use Rattle.yl_lexeme.specs.Lexeme.{LexemeValue}
 use Rattle.yl_marks.specs.declared.token.Token.{Token}
@@ -16,8 +16,8 @@ use Rattle.yl_indentation.specs.SlimElements.{slim_element}
 use Rattle.yl_indentation.specs.Facts.{indent_facts}
 use Rattle.yl_indentation.specs.Context.{ContextValue, nothing_open, after, fact_in}
 
--- the element of a symbol, in a document with these lexemes, as far as it is asked for. That a key
--- begins is none
+-- the element of a symbol in a document with these lexemes, without the surroundings that no rule
+-- uses. A mark that a key begins has no element
 abbrev pub element_of_symbol : List Token → ℕ → List ℕ → Symbol → Option Element
 element_of_symbol tokens counted indentations (OpenSequence i) =
     Some (Opening Sequence (column_at tokens i))
@@ -36,7 +36,7 @@ abbrev pub after_if : Option Element → ContextValue → ContextValue
 after_if None c = c
 after_if (Some e) c = after e c
 
--- behind one more symbol. Which lexemes count has no part in it
+-- the summary after one more symbol. It does not depend on which lexemes count
 abbrev pub behind_symbol : List Token → List ℕ → ContextValue → Symbol → ContextValue
 behind_symbol tokens indentations c w = after_if (element_of_symbol tokens 0 indentations w) c
 
@@ -45,7 +45,7 @@ behind_symbols tokens indentations c [] = c
 behind_symbols tokens indentations c (w ∷ ws) =
     behind_symbols tokens indentations (behind_symbol tokens indentations c w) ws
 
--- the facts of these symbols of a document with these lexemes, of which the first `counted` count
+-- the facts of these symbols, in a document with these lexemes of which the first `counted` count
 abbrev pub facts_left : ContextValue → List Token → ℕ → List ℕ → List Symbol → List Fact
 facts_left c tokens counted indentations [] = []
 facts_left c tokens counted indentations (w ∷ ws) =
@@ -54,20 +54,21 @@ facts_left c tokens counted indentations (w ∷ ws) =
 
 -- ---- laws
 
--- all symbols of a document have its facts
+-- the facts of all symbols of a document are the facts of the document
 abbrev pub FactsAreBySymbols : Type 0
 FactsAreBySymbols = (xs : List LexemeValue) (counted : ℕ) (indentations : List ℕ) →
     facts_left nothing_open (map token_of xs) counted indentations (symbols_of_lexemes xs)
     ≡ indent_facts (map token_of xs) (marked_lexemes xs) counted indentations
 
--- the facts of symbols one after another
+-- the facts of symbols followed by later symbols are those of the former and then those of the
+-- latter
 abbrev pub FactsGoOn : Type 0
 FactsGoOn = (c : ContextValue) (tokens : List Token) (counted : ℕ) (indentations : List ℕ)
     (ws later : List Symbol) → facts_left c tokens counted indentations (ws ++ later)
     ≡ facts_left c tokens counted indentations ws
     ++ facts_left (behind_symbols tokens indentations c ws) tokens counted indentations later
 
--- it counts only which of the lexemes among the symbols count
+-- the facts of symbols depend on `counted` only through which lexemes among the symbols count
 abbrev pub CountedAsFarAsAsked : Type 0
 CountedAsFarAsAsked = (c : ContextValue) (tokens : List Token) (counted other : ℕ)
     (indentations : List ℕ) (ws : List Symbol) →

@@ -1,4 +1,4 @@
-//! Facts that have the same problems, whichever of two measures the facts before them have.
+//! Decides whether facts have the same problems after earlier facts of either of two measures.
 ghost use Rattle.std.specs.Prelude.{◌≡◌, true};
 ghost use Rattle.yl_indentation.specs.declared.options.IndentationOptions.{IndentationOptions};
 ghost use Rattle.yl_indentation.specs.Measures.{is_flush};
@@ -8,9 +8,10 @@ ghost use Rattle.yl_indentation.specs.Onward.{AreJudgedAlike};
 use crate::fact::{Expectation, Fact};
 use crate::measure::{Measure, is_same_step};
 
-/// Whether the same is found at a place, where the facts up to it have the one measure or the other.
-/// An entry in a mapping is judged by the step with entries alone; and it makes no difference whether the
-/// first entry in a mapping is still to come or stands in a column of its own.
+/// Returns `true` only if the same is found at a place, whether `one` or `other` is the measure of
+/// the facts up to it. `false` implies nothing. The step that counts entries is the only one that
+/// matters for an entry in a mapping. A measure without such an entry is judged like one whose
+/// first entry stands outside the mapping's column.
 fn is_judged_alike(fact: Fact, one: Measure, other: Measure) -> bool
     ensures { result ≡ true → (o : IndentationOptions)
         → finding_at o one (is_flush one) fact ≡ finding_at o other (is_flush other) fact }
@@ -29,8 +30,9 @@ fn is_judged_alike(fact: Fact, one: Measure, other: Measure) -> bool
     }
 }
 
-/// Whether it is seen that these facts have the same problems behind facts of either measure, under
-/// any options; false says nothing. It looks no further once both measures are the same.
+/// Returns `true` only if these facts have the same problems after earlier facts of either measure,
+/// under any options. `false` implies nothing. Reads no further facts once both measures are the
+/// same.
 pub fn are_judged_alike(facts: &[Fact], one: Measure, other: Measure) -> bool
     ensures { result ≡ true → AreJudgedAlike one other facts.now }
 {

@@ -1,4 +1,4 @@
-//! What is kept of the elements before a place.
+//! A summary of the elements before a place.
 ghost use Rattle.std.specs.Prelude.{◌≡◌, ◌++◌, ◌&&◌, ◌||◌, not, nat_lt, true, OnOk, reverse};
 ghost use Rattle.std.specs.Option.{option_map_or, option_to_list};
 ghost use Rattle.yl_lexeme.specs.Directives.{is_directive};
@@ -20,13 +20,16 @@ use yl_marks::{Collection, Token};
 /// An open collection.
 #[derive(Clone, Copy)]
 pub enum OpenCollection {
-    /// One in a block, with its column, and whether the latest of its own entries, keys and values
-    /// is an entry.
+    /// A block collection: its kind, its column in characters from 0, and whether the latest of its
+    /// own entries, keys and values is an entry.
     Block(Collection, u32, bool),
-    /// One in brackets: the leading spaces of its line, and where its items are expected.
+    /// A collection in brackets: the number of spaces at the beginning of its line, and where its
+    /// items are expected.
     Brackets(u32, Expectation),
 }
 
+/// Returns whether the latest of the entries, keys and values of a collection is an entry after a
+/// lexeme of this kind. `before` says whether it is one before that lexeme.
 fn is_entry_after(kind: Kind, before: bool) -> bool
     ensures { result ≡ is_entry_after kind before }
 {
@@ -37,6 +40,7 @@ fn is_entry_after(kind: Kind, before: bool) -> bool
     }
 }
 
+/// Returns the collection with a lexeme of this kind added.
 fn with_lexeme_in(kind: Kind, opened: OpenCollection) -> OpenCollection
     ensures { result ≡ with_lexeme_in kind opened }
 {
@@ -48,8 +52,7 @@ fn with_lexeme_in(kind: Kind, opened: OpenCollection) -> OpenCollection
     }
 }
 
-/// Notes a lexeme in the innermost collection: whether the latest of the collection's own entries,
-/// keys and values is an entry.
+/// Adds a lexeme of this kind to the innermost collection. The only error is out of memory.
 fn note<A: Allocator>(
     kind: Kind,
     collections: &mut Vec<OpenCollection, A>,
@@ -66,7 +69,8 @@ fn note<A: Allocator>(
     Ok(())
 }
 
-/// Opens and closes the collections that the element opens and closes.
+/// Opens and closes the collections that the element opens and closes. The only error is out of
+/// memory.
 fn pass_open<A: Allocator>(
     element: Element,
     collections: &mut Vec<OpenCollection, A>,
@@ -92,7 +96,7 @@ fn pass_open<A: Allocator>(
     Ok(())
 }
 
-/// The innermost open collection, without one that opened directly before the place.
+/// Returns the innermost open collection, except one that opened directly before the place.
 fn around(just_opened: bool, collections: &[OpenCollection]) -> Option<OpenCollection>
     ensures { result ≡ around just_opened (reverse collections.now) }
 {
@@ -102,6 +106,8 @@ fn around(just_opened: bool, collections: &[OpenCollection]) -> Option<OpenColle
     }
 }
 
+/// Returns where a lexeme is expected in the collection around it, or `None` if its place is not
+/// checked.
 fn expectation_around(
     around: Option<OpenCollection>,
     latest: Option<Token>,
@@ -120,6 +126,8 @@ fn expectation_around(
     }
 }
 
+/// Returns whether the lexeme counts, begins a line, and is neither a document marker nor a
+/// directive.
 fn is_checked(site: Site, latest: Option<Token>) -> bool
     ensures { result ≡ (site.counts
         && not (is_document_marker site.token.kind || is_directive site.token.kind)
@@ -128,13 +136,14 @@ fn is_checked(site: Site, latest: Option<Token>) -> bool
     site.counts && is_content(site.token.kind) && begins_line(site.token, latest)
 }
 
-/// What counts of the elements before a place.
+/// A summary of the elements before a place.
 #[derive(Drop)]
 pub struct Context<A: Allocator> {
     /// The open collections, the outermost first.
     collections: Vec<OpenCollection, A>,
+    /// The latest lexeme.
     latest: Option<Token>,
-    /// A collection opened directly before the place.
+    /// Whether a block collection opened directly before the place.
     just_opened: bool,
 }
 
@@ -152,7 +161,7 @@ impl<A: Allocator> Model for Context<A> {
 }
 
 impl<A: Allocator> Context<A> {
-    /// At the start of a document.
+    /// Creates a summary for the start of a document.
     pub fn new(alloc: A) -> Context<A>
         ensures { result ≡ nothing_open }
     {
@@ -163,6 +172,7 @@ impl<A: Allocator> Context<A> {
         }
     }
 
+    /// Returns the fact of a lexeme at this place, if the place is checked.
     fn fact_here(&self, site: Site) -> Option<Fact>
         ensures { option_to_list result ≡ fact_here self.now site }
     {
@@ -180,8 +190,9 @@ impl<A: Allocator> Context<A> {
         }
     }
 
-    /// Adds the fact of a lexeme that is no bracket and no marker, as most are, if its place is
-    /// checked, and goes on after it. The only error is out of memory.
+    /// Appends the fact of a lexeme that is no bracket and no document marker, if its place is
+    /// checked, and adds the lexeme to the summary. Most lexemes are of this sort. The only error
+    /// is out of memory. After an error the context must not be used.
     pub fn read_other(&mut self, site: Site, facts: &mut Vec<Fact, A>) -> Result<(), AllocError>
         ensures facts { OnOk result (facts.new.items ≡ facts.old.items ++ fact_in self.old (Other site)) }
         ensures behind { OnOk result (self.new ≡ after (Other site) self.old) }
@@ -195,7 +206,7 @@ impl<A: Allocator> Context<A> {
         Ok(())
     }
 
-    /// The fact of an element, if its place is checked.
+    /// Returns the fact of an element, if it is a lexeme and its place is checked.
     pub fn fact(&self, element: Element) -> Option<Fact>
         ensures { option_to_list result ≡ fact_in self.now element }
     {
@@ -208,8 +219,8 @@ impl<A: Allocator> Context<A> {
         }
     }
 
-    /// Goes on after an element. The only error is out of memory; the context then says nothing
-    /// more of the document.
+    /// Adds an element to the summary. The only error is out of memory. After an error the context
+    /// must not be used.
     pub fn pass(&mut self, element: Element) -> Result<(), AllocError>
         ensures { OnOk result (self.new ≡ after element self.old) }
     {

@@ -1,5 +1,4 @@
-//! The elements of a document: its lexemes, each with what stands around it, and the marks
-//! between them.
+//! The elements of a document: its lexemes, each with its surroundings, and the marks between them.
 ghost use Rattle.std.specs.Prelude.{◌≡◌, ◌<◌, ◌+◌, ◌-◌, None, map, length, nat_lt, slice_get, slice_index};
 ghost use Rattle.yl_marks.specs.Keys.{lexeme_at_line, token_of};
 ghost use Rattle.yl_marks.specs.Marks.{column_at};
@@ -11,37 +10,40 @@ use std::alloc::Allocator;
 use yl_lexeme::{Kind, LexemeAtLine};
 use yl_marks::{Collection, Marked, Symbol, Token, token_of};
 
-/// A lexeme and what stands around it.
+/// A lexeme with its surroundings.
 #[derive(Clone, Copy)]
 pub struct Site {
+    /// The lexeme.
     pub token: Token,
-    /// The lexeme after it.
+    /// The lexeme after it. The code sets it only for an opening bracket.
     pub next: Option<Token>,
-    /// How many spaces its line begins with.
+    /// The number of spaces at the beginning of its line. The code sets it only for an opening
+    /// bracket.
     pub indentation: u32,
-    /// Whether it is one of those whose place is checked.
+    /// Whether it is one of the lexemes that count. The places of the others are not checked.
     pub counts: bool,
 }
 
 /// An element of a document.
 #[derive(Clone, Copy)]
 pub enum Element {
-    /// A block collection opens, in this column.
+    /// A block collection of this kind opens in this column, in characters from 0.
     Opening(Collection, u32),
     /// The innermost block collection closes.
     Closing,
-    /// `---` or `...`.
+    /// The marker `---` or `...`.
     Marker(Site),
-    /// `[` or `{`.
+    /// The bracket `[` or `{`.
     OpeningBracket(Site),
-    /// `]` or `}`.
+    /// The bracket `]` or `}`.
     ClosingBracket(Site),
     /// Any other lexeme.
     Other(Site),
-    /// No lexeme has the mark's index.
+    /// A mark with the index of no lexeme.
     Nothing,
 }
 
+/// Returns the token of the lexeme of index `i`, if there is one.
 fn token_at<A: Allocator>(lexemes: &[LexemeAtLine<'_, A>], i: usize) -> Option<Token>
     ensures { result
         ≡ slice_get (map token_of (map (λ x. lexeme_at_line x.line x.lexeme.now) lexemes.now)) i }
@@ -52,6 +54,7 @@ fn token_at<A: Allocator>(lexemes: &[LexemeAtLine<'_, A>], i: usize) -> Option<T
     }
 }
 
+/// Returns the number of spaces at the beginning of a line, or 0 if there is no such line.
 fn indentation_at(indentations: &[u32], line: u32) -> u32
     ensures { result ≡ slice_index indentations.now line }
 {
@@ -61,6 +64,7 @@ fn indentation_at(indentations: &[u32], line: u32) -> u32
     }
 }
 
+/// Returns the element of a lexeme with its surroundings.
 #[inline(always)]
 fn element_at(site: Site) -> Element
     ensures { result ≡ element_at site.token.kind site }
@@ -73,7 +77,7 @@ fn element_at(site: Site) -> Element
     }
 }
 
-/// The element of a lexeme without what stands around it.
+/// Returns the element of a lexeme without its surroundings.
 #[inline(always)]
 fn alone(token: Token, counts: bool) -> Element
     ensures { result ≡ element_at token.kind (record { token = token; next = None; indentation = 0; counts = counts }) }
@@ -86,8 +90,8 @@ fn alone(token: Token, counts: bool) -> Element
     })
 }
 
-/// The element of the lexeme of this index. What stands around it is looked at only where it opens
-/// brackets: of no other element is it asked.
+/// Returns the element of the lexeme of index `i`. Sets its surroundings only if it is an opening
+/// bracket, since no rule uses those of other lexemes.
 fn element_of_lexeme<A: Allocator>(
     lexemes: &[LexemeAtLine<'_, A>],
     counted: usize,
@@ -114,8 +118,9 @@ fn element_of_lexeme<A: Allocator>(
     })
 }
 
-/// The element of a mark, in a document with these lexemes, of which the first `counted` count, as
-/// far as it is asked for. `indentations` are the leading spaces of its lines.
+/// Returns the element of a mark in a document with these lexemes, of which the first `counted`
+/// count. `indentations` contains the number of spaces at the beginning of each line. Sets the
+/// surroundings of a lexeme only if it is an opening bracket.
 pub fn element_of<A: Allocator>(
     lexemes: &[LexemeAtLine<'_, A>],
     counted: usize,
@@ -133,6 +138,7 @@ pub fn element_of<A: Allocator>(
     }
 }
 
+/// Returns the token of index `i` in a line, if there is one.
 #[inline(always)]
 fn token_in(line: &[Token], i: usize) -> Option<Token>
     ensures { result ≡ slice_get line.now i }
@@ -143,7 +149,7 @@ fn token_in(line: &[Token], i: usize) -> Option<Token>
     }
 }
 
-/// The column of the token of this index; 0, if there is none.
+/// Returns the column of the token of index `i` in a line, or 0 if there is none.
 #[inline(always)]
 fn column_in(line: &[Token], i: usize) -> u32
     ensures { result ≡ column_at line.now i }
@@ -154,8 +160,9 @@ fn column_in(line: &[Token], i: usize) -> u32
     }
 }
 
-/// The element of the lexeme of this index in a line that begins with so many spaces. What stands around it is looked at only where it
-/// opens brackets: the lexeme after it in the line, and these spaces.
+/// Returns the element of the lexeme of index `i` in a line that begins with `indentation` spaces.
+/// Sets its surroundings only if it is an opening bracket. The next lexeme is then the one after it
+/// in the line.
 #[inline(always)]
 fn lexeme_in_line(line: &[Token], i: usize, counts: bool, indentation: u32) -> Element
     ensures { result ≡ slim_element (lexeme_in_line line.now i counts indentation (slice_get line.now i)) }
@@ -174,8 +181,10 @@ fn lexeme_in_line(line: &[Token], i: usize, counts: bool, indentation: u32) -> E
     })
 }
 
-/// The element of a symbol of a line that begins with so many spaces, as far as it is asked for, where `first` lexemes stand before the
-/// line's. That a key begins is none.
+/// Returns the element of a symbol in a line that begins with `indentation` spaces. `first` is the
+/// number of lexemes before the line, and the first `counted` lexemes of the document count.
+/// Returns `None` for the mark that a key begins. Sets the surroundings of a lexeme only if it is
+/// an opening bracket.
 #[inline(always)]
 pub fn element_in_line(
     line: &[Token],

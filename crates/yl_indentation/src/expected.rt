@@ -11,7 +11,7 @@ use crate::fact::Expectation;
 use yl_lexeme::Kind;
 use yl_marks::{Collection, Token};
 
-/// Whether the lexeme before it ends in an earlier line.
+/// Returns whether no earlier lexeme ends in the line in which this one begins.
 pub fn begins_line(token: Token, latest: Option<Token>) -> bool
     ensures { result ≡ option_map_or (λ l. nat_lt l.end_line token.start.line) latest true }
 {
@@ -21,14 +21,15 @@ pub fn begins_line(token: Token, latest: Option<Token>) -> bool
     }
 }
 
-/// Neither `---`, `...` nor a directive.
+/// Returns whether the kind is neither `---`, `...` nor a directive.
 pub fn is_content(kind: Kind) -> bool
     ensures { result ≡ not (is_document_marker kind || is_directive kind) }
 {
     !matches!(kind, Kind::DocStart | Kind::DocEnd | Kind::Directive)
 }
 
-/// Whether a lexeme may stand anywhere after this one.
+/// Returns whether the latest lexeme is a Key, a Value or a property. After it a lexeme in brackets
+/// may stand in any column.
 fn is_after_freeing(latest: Option<Token>) -> bool
     ensures { result
         ≡ option_map_or (λ l. is_key l.kind || is_value l.kind || is_property l.kind) latest false }
@@ -42,7 +43,8 @@ fn is_after_freeing(latest: Option<Token>) -> bool
     }
 }
 
-/// Where items are expected in the brackets that open here.
+/// Returns where items are expected in the brackets that open here: at the column of the next
+/// lexeme if it is in the same line, and else beyond the indentation of the line.
 pub fn expectation_of_items(site: Site) -> Expectation
     ensures { result ≡ expectation_of_items site }
 {
@@ -52,6 +54,9 @@ pub fn expectation_of_items(site: Site) -> Expectation
     }
 }
 
+/// Returns where a lexeme is expected in brackets, or `None` if its place is not checked.
+/// `indentation` is the number of spaces at the beginning of the line of the opening bracket, and
+/// `items` is where items are expected.
 pub fn expectation_in_brackets(
     indentation: u32,
     items: Expectation,
@@ -68,8 +73,9 @@ pub fn expectation_in_brackets(
     }
 }
 
-/// In a block collection. `in_entries`: the latest of the collection's own entries, keys and values
-/// is an entry.
+/// Returns where a lexeme is expected in a block collection, or `None` if its place is not checked.
+/// `in_entries` says whether the latest of the collection's own entries, keys and values is an
+/// entry.
 pub fn expectation_in_block(
     collection: Collection,
     column: u32,

@@ -1,22 +1,24 @@
-//! What is expected at the checked places of a document.
+//! The checked places of a document, and what is expected there.
 
 /// Where a lexeme is expected. Columns count from 0 in characters.
 #[derive(Clone, Copy)]
 pub enum Expectation {
     /// At this column.
     At(u32),
-    /// Past this column, by the width of an indentation.
+    /// Beyond this column, by the width of an indentation.
     Beyond(u32),
-    /// The first entry of a sequence in a mapping of this column, by the option indent-sequences.
+    /// As the option `indent-sequences` says, for the first entry of a sequence in a mapping of
+    /// this column.
     EntryIn(u32),
 }
 
 /// A checked place: the first lexeme of a line, and where it is expected.
 #[derive(Clone, Copy)]
 pub struct Fact {
-    /// Its line, counted as the lexemes' lines.
+    /// Its line, counted from 0 as the lines of the lexemes are.
     pub line: u32,
-    /// The column at which it was found, from 0 in characters.
+    /// The column in which the lexeme begins, from 0 in characters.
     pub column: u32,
+    /// Where the lexeme is expected.
     pub expectation: Expectation,
 }

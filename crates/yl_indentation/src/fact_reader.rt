@@ -1,4 +1,4 @@
-//! The checked places of a document, as its symbols come.
+//! Reads the checked places of a document line by line.
 ghost use Rattle.std.specs.Prelude.{◌≡◌, ◌≤◌, ◌<◌, ◌+◌, ◌++◌, ℕ, List, length, OnOk};
 ghost use Rattle.yl_indentation.specs.Context.{nothing_open};
 ghost use Rattle.yl_indentation.specs.LineFacts.{element_in_line, AreIndented, IsLine, NameIndices};
@@ -12,8 +12,8 @@ use std::alloc::{AllocError, Allocator};
 use std::marker::Model;
 use yl_marks::{Symbol, Token};
 
-/// Reads the symbols of a document some at a time, and tells its checked places: what counts of the
-/// symbols read so far.
+/// A reader that takes the symbols of a document, line by line, and finds its checked places. It
+/// keeps a summary of the symbols read so far.
 #[derive(Drop)]
 pub struct FactReader<A: Allocator> {
     context: Context<A>,
@@ -28,7 +28,7 @@ impl<A: Allocator> Model for FactReader<A> {
 }
 
 impl<A: Allocator> FactReader<A> {
-    /// At the start of a document.
+    /// Creates a reader at the start of a document.
     pub fn new(alloc: A) -> FactReader<A>
         ensures { result ≡ nothing_open }
     {
@@ -37,7 +37,7 @@ impl<A: Allocator> FactReader<A> {
         }
     }
 
-    /// Reads one symbol of a line.
+    /// Reads one symbol of a line. The only error is out of memory.
     fn read_symbol_of_line(
         &mut self,
         line: &[Token],
@@ -58,9 +58,11 @@ impl<A: Allocator> FactReader<A> {
         }
     }
 
-    /// Reads the document's next symbols, all of one line, by the tokens of that line alone: adds the checked places among them to the others,
-    /// with what is expected there. `first` lexemes of the document stand before the line's, of which the first `counted` of the document count,
-    /// and the line begins with `indentation` spaces. The only error is out of memory; the reader then says nothing more of the document.
+    /// Reads the next symbols of the document, all of which are in one line, and appends the
+    /// checked places among them, with what is expected there. Needs only the tokens of that line.
+    /// `first` is the number of lexemes before the line, the first `counted` lexemes of the
+    /// document count, and the line begins with `indentation` spaces. The only error is out of
+    /// memory. After an error the reader must not be used.
     pub fn read_line(
         &mut self,
         line: &[Token],
@@ -88,8 +90,9 @@ impl<A: Allocator> FactReader<A> {
     }
 }
 
-/// Laws: the facts of a document are those of its symbols, one after another; of a lexeme's index it
-/// counts only whether it is below `counted`; and from there on there are none.
+/// Laws: the facts of a document are those of its symbols, one after another. Of the index of a
+/// lexeme only one thing matters, which is whether it is below `counted`. Lexemes from the index
+/// `counted` on have no facts.
 pub fn facts_are_by_symbols()
     ensures all { FactsAreBySymbols }
     ensures go_on { FactsGoOn }

@@ -14,7 +14,8 @@ use std::alloc::{AllocError, Allocator};
 use yl_lexeme::LexemeAtLine;
 use yl_marks::Marked;
 
-/// Adds the fact of an element, if its place is checked, and goes on after it.
+/// Appends the fact of an element, if its place is checked, and adds the element to the context.
+/// The only error is out of memory.
 pub fn push_fact<A: Allocator>(
     element: Element,
     context: &mut Context<A>,
@@ -32,7 +33,7 @@ pub fn push_fact<A: Allocator>(
     context.pass(element)
 }
 
-/// The facts by what is kept of the elements before each place.
+/// Returns the facts of a document. Keeps a summary of the elements before each place.
 fn facts_in<A: Allocator + Copy>(
     alloc: A,
     lexemes: &[LexemeAtLine<'_, A>],
@@ -53,10 +54,10 @@ fn facts_in<A: Allocator + Copy>(
     Ok(facts)
 }
 
-/// The checked places of one whole document, in order, with what is expected there: the first
-/// lexemes of lines among the first `counted` lexemes. `marks` are the marks of all lexemes.
-/// `indentations` has for each line, by the lexemes' line numbers, how many spaces it begins with.
-/// The only error is out of memory.
+/// Returns the checked places of a whole document, in order, with what is expected there. They are
+/// the first lexemes of lines among the first `counted` lexemes. `marks` are the marks of all
+/// lexemes. `indentations` contains the number of spaces at the beginning of each line, by the line
+/// numbers of the lexemes. The only error is out of memory.
 pub fn indent_facts<A: Allocator + Copy>(
     alloc: A,
     lexemes: &[LexemeAtLine<'_, A>],

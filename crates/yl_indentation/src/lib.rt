@@ -1,10 +1,11 @@
-//! The rule indentation: where the first lexemes of lines are expected, and the problems of those
+//! The rule `indentation`: where the first lexemes of lines are expected, and the problems of those
 //! that stand elsewhere.
 //!
 //! The definition, `specs/Facts.antt`, looks back over the lexemes and marks before a place. The
-//! code keeps the collections that are open: `specs/Context.antt`. `FactReader` reads a document's
-//! symbols as they come: `specs/SymbolFacts.antt`, and a line's by that line's lexemes alone:
-//! `specs/LineFacts.antt`. What a text decides for all its documents is their `Measure`.
+//! code keeps the collections that are open (`specs/Context.antt`). `FactReader` reads a document
+//! line by line, each line from its own lexemes alone (`specs/SymbolFacts.antt` and
+//! `specs/LineFacts.antt`). A `Measure` contains what the facts of a text decide for all its
+//! documents.
 #![tactic(auto)]
 
 ghost use Rattle.yl_indentation.specs.Laws.{MeasureIsLocal, ProblemsAreByDocuments, FactsCountEntriesOnceSeen, BothCountEntriesOnceSeen, FindingLooksBack, ProblemsLookBack, ProblemsOfSomeLookBack, TextProblemsGoOnward, TextProblemsLookBack};
@@ -28,20 +29,21 @@ pub use measure::Measure;
 pub use options::{IndentSequences, IndentationOptions, Spaces};
 pub use problems::indent_problems;
 
-/// A law: the measure of facts one after another is that of the earlier ones and then that of the
-/// later ones.
+/// A law: the measure of two lists of facts, one after the other, is the measure of the earlier
+/// list joined with that of the later list.
 pub fn measure_is_local()
     ensures { MeasureIsLocal }
 {}
 
-/// A law: the problems of a text are those of its documents, one after another, each by the measure
-/// of the earlier ones and that of all.
+/// A law: the problems of a text are those of its documents, one after another. Those of each
+/// depend on its facts, the measure of the earlier documents, and the measure of all documents.
 pub fn problems_are_by_documents()
     ensures { ProblemsAreByDocuments }
 {}
 
-/// Laws: the measure of the whole text is never needed. What is found at a place, and so the problems
-/// of facts, do not depend on what stands behind them. Each is by the measure of the facts up to it.
+/// Laws: the measure of the whole text is never needed. What is found at a place, and so the
+/// problems of facts, depends only on the measure of the facts up to it, and not on the facts after
+/// it.
 pub fn problems_look_back()
     ensures facts { FactsCountEntriesOnceSeen }
     ensures both { BothCountEntriesOnceSeen }

@@ -1,24 +1,25 @@
-//! What the facts of a text decide for all of it.
+//! What the facts of a text decide for the whole text.
 ghost use Rattle.std.specs.Prelude.{◌≡◌, ◌-◌, true};
 ghost use Rattle.std.specs.Option.{option_or};
 ghost use Rattle.yl_indentation.specs.Measures.{empty_measure, and_later, positive_step, measure_at, measure_of, is_flush};
 
 use crate::fact::{Expectation, Fact};
 
-/// What facts decide: the first step, which is the width where the option spaces is consistent, and
-/// how sequences in mappings stand. A measure is kept of each document; that of a text is made of
-/// them by `and_later`. Steps are in characters.
+/// What facts decide: the first step, which is the width of an indentation if the option `spaces`
+/// is `consistent`, and the indentation of sequences in mappings. `and_later` joins the measures of
+/// documents to that of a text. Steps are in characters.
 #[derive(Clone, Copy)]
 pub struct Measure {
-    /// The first positive distance of a lexeme from its base, entries in mappings left out.
+    /// The first positive distance of a lexeme from its base, without entries in mappings.
     pub step: Option<u32>,
-    /// The same, entries in mappings counted.
+    /// The first positive distance of a lexeme from its base, including entries in mappings.
     pub step_with_entries: Option<u32>,
-    /// Whether the first entry in a mapping stands in the mapping's column.
+    /// Whether the first entry in a mapping stands in the mapping's column. `None` if there is no
+    /// such entry.
     pub flush: Option<bool>,
 }
 
-/// The earlier one, if there is one.
+/// Returns the earlier value, or the later one if there is no earlier one.
 fn first<T: Copy>(earlier: Option<T>, later: Option<T>) -> Option<T>
     ensures { result ≡ option_or earlier later }
 {
@@ -28,7 +29,8 @@ fn first<T: Copy>(earlier: Option<T>, later: Option<T>) -> Option<T>
     }
 }
 
-/// How far a column stands past a base, if it does.
+/// Returns the number of characters from `base` to `column`, or `None` if `column` is not beyond
+/// `base`.
 fn positive_step(column: u32, base: u32) -> Option<u32>
     ensures { result ≡ positive_step (column - base) }
 {
@@ -39,7 +41,7 @@ fn positive_step(column: u32, base: u32) -> Option<u32>
     }
 }
 
-/// Whether two steps are the same, or neither is there.
+/// Returns `true` only if two steps are equal, or both are missing.
 pub(crate) fn is_same_step(one: Option<u32>, other: Option<u32>) -> bool
     ensures { result ≡ true → one ≡ other }
 {
@@ -50,7 +52,7 @@ pub(crate) fn is_same_step(one: Option<u32>, other: Option<u32>) -> bool
     }
 }
 
-/// Whether two first entries stand alike, or neither is there.
+/// Returns `true` only if both values are equal, or both are missing.
 pub(crate) fn is_same_flush(one: Option<bool>, other: Option<bool>) -> bool
     ensures { result ≡ true → one ≡ other }
 {
@@ -62,7 +64,7 @@ pub(crate) fn is_same_flush(one: Option<bool>, other: Option<bool>) -> bool
 }
 
 impl Measure {
-    /// The measure of no facts.
+    /// Returns the measure of no facts.
     pub fn empty() -> Measure
         ensures { result ≡ empty_measure }
     {
@@ -73,7 +75,7 @@ impl Measure {
         }
     }
 
-    /// The measure of one fact.
+    /// Returns the measure of one fact.
     pub(crate) fn at(fact: Fact) -> Measure
         ensures { result ≡ measure_at fact.column fact.expectation }
     {
@@ -95,7 +97,7 @@ impl Measure {
         }
     }
 
-    /// The measure of earlier facts and then of later ones.
+    /// Returns the measure of earlier facts, which have the measure `self`, followed by later ones.
     pub fn and_later(self, later: Measure) -> Measure
         ensures { result ≡ and_later self later }
     {
@@ -106,7 +108,8 @@ impl Measure {
         }
     }
 
-    /// Whether the first entry in a mapping stands in the mapping's column; false where there is none.
+    /// Returns whether the first entry in a mapping stands in the mapping's column. Returns `false`
+    /// if there is no such entry.
     pub(crate) fn is_flush(self) -> bool
         ensures { result ≡ is_flush self }
     {
@@ -116,7 +119,7 @@ impl Measure {
         }
     }
 
-    /// Whether two measures are the same.
+    /// Returns `true` only if two measures are equal.
     pub fn is_same(self, other: Measure) -> bool
         ensures { result ≡ true → self ≡ other }
     {
@@ -125,7 +128,7 @@ impl Measure {
             && is_same_flush(self.flush, other.flush)
     }
 
-    /// The measure of these facts.
+    /// Returns the measure of these facts.
     pub fn of(facts: &[Fact]) -> Measure
         ensures { result ≡ measure_of facts.now }
     {

@@ -1,36 +1,39 @@
-//! The options of the rule indentation.
+//! The options of the rule `indentation`.
 ghost use Rattle.std.specs.Prelude.{◌≡◌};
 
-/// How far a block is indented from the one around it: yamllint's option spaces.
+/// The width of an indentation, which is yamllint's option `spaces`.
 #[derive(Clone, Copy)]
 pub enum Spaces {
-    /// As far as the first such block of the text.
+    /// The width of the first indentation in the text.
     Consistent,
-    /// So many characters.
+    /// This number of characters.
     Every(u32),
 }
 
-/// Whether sequences in mappings are indented from them: yamllint's option indent-sequences.
+/// Whether sequences in mappings are indented, which is yamllint's option `indent-sequences`.
 #[derive(Clone, Copy)]
 pub enum IndentSequences {
+    /// They are indented from the mapping's column.
     Indented,
-    /// They stand in the mapping's own column.
+    /// They stand in the mapping's column.
     NotIndented,
-    /// Both pass.
+    /// Both are allowed.
     Whatever,
-    /// As the first such sequence of the text.
+    /// They are indented if and only if the first one in the text is.
     Consistent,
 }
 
-/// The options of yamllint's rule indentation.
+/// The options of the rule `indentation`.
 #[derive(Clone, Copy)]
 pub struct IndentationOptions {
+    /// The width of an indentation.
     pub spaces: Spaces,
+    /// Whether sequences in mappings are indented.
     pub indent_sequences: IndentSequences,
 }
 
 impl IndentationOptions {
-    /// Those of yamllint's default configuration.
+    /// Returns the options of yamllint's default configuration.
     pub fn standard() -> IndentationOptions
         ensures { result ≡ record {
           spaces = Spaces.Consistent;

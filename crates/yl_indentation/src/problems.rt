@@ -1,4 +1,4 @@
-//! The problems of the rule indentation.
+//! The problems of the rule `indentation`.
 ghost use Rattle.std.specs.Prelude.{◌≡◌, ◌++◌, ◌+◌, [], codes, decimal, false, if◌then◌else◌, nat_lt, IfOk, OnOk, string_bytes};
 ghost use Rattle.yl_text.specs.declared.finding.RuleId.TheVariants.{Indentation};
 ghost use Rattle.yl_text.specs.Finding.{one_finding};
@@ -10,8 +10,9 @@ use crate::options::{IndentSequences, IndentationOptions, Spaces};
 use std::alloc::{AllocError, Allocator};
 use yl_text::{Finding, RuleId};
 
-/// Whether an entry in a mapping is to be indented from it. `at_base`: it stands in the mapping's
-/// column.
+/// Returns whether an entry in a mapping must be indented from the mapping's column. `flush` says
+/// whether the first such entry in the text stands in its mapping's column, and `at_base` whether
+/// this one does.
 fn is_indented(choice: IndentSequences, flush: bool, at_base: bool) -> bool
     ensures { result ≡ is_indented choice flush at_base }
 {
@@ -23,7 +24,8 @@ fn is_indented(choice: IndentSequences, flush: bool, at_base: bool) -> bool
     }
 }
 
-/// The width at a place, where `here` is the measure of the facts up to it.
+/// Returns the width of an indentation at a place, if one is known. `here` is the measure of the
+/// facts up to the place.
 fn width(options: &IndentationOptions, here: Measure, flush: bool) -> Option<u32>
     ensures { result ≡ width_by_spaces options.now.spaces
         (is_indented options.now.indent_sequences flush false) here }
@@ -37,10 +39,11 @@ fn width(options: &IndentationOptions, here: Measure, flush: bool) -> Option<u32
     }
 }
 
-/// As many bytes as a message has whose columns are below a thousand, so that it grows once.
+/// Enough bytes for a message with columns below 1000, so that its text is allocated only once.
 const MESSAGE_BYTES: usize = 48;
 
-/// What is said of a lexeme that is not in the column in which it is expected.
+/// Returns the message about a lexeme that is not in the expected column. The only error is out of
+/// memory.
 fn other_column_text<A: Allocator + Copy>(
     alloc: A,
     expected: u64,
@@ -58,7 +61,8 @@ fn other_column_text<A: Allocator + Copy>(
     Ok(text)
 }
 
-/// What is said of a lexeme before the first column in which it may be.
+/// Returns the message about a lexeme before the first allowed column. The only error is out of
+/// memory.
 fn least_column_text<A: Allocator + Copy>(alloc: A, least: u64) -> Result<String<A>, AllocError>
     ensures { IfOk result (λ text. string_bytes text
         ≡ codes "wrong indentation: expected at least " ++ decimal least) }
@@ -68,7 +72,7 @@ fn least_column_text<A: Allocator + Copy>(alloc: A, least: u64) -> Result<String
     Ok(text)
 }
 
-/// Adds the problem of a fact that is not in this column.
+/// Appends a problem if the fact is not in the column `expected`. The only error is out of memory.
 fn push_not_as_expected<A: Allocator + Copy>(
     alloc: A,
     expected: u64,
@@ -88,7 +92,7 @@ fn push_not_as_expected<A: Allocator + Copy>(
     Ok(())
 }
 
-/// Adds the problem of a fact that is before this column.
+/// Appends a problem if the fact is before the column `least`. The only error is out of memory.
 fn push_not_beyond<A: Allocator + Copy>(
     alloc: A,
     least: u64,
@@ -110,7 +114,8 @@ fn push_not_beyond<A: Allocator + Copy>(
     Ok(())
 }
 
-/// Adds the problem of a fact that is not as far past its base as the width says.
+/// Appends a problem if the fact is not `width` characters beyond its base. Without a width, any
+/// column beyond the base is allowed. The only error is out of memory.
 fn push_by_width<A: Allocator + Copy>(
     alloc: A,
     width: Option<u32>,
@@ -127,7 +132,8 @@ fn push_by_width<A: Allocator + Copy>(
     }
 }
 
-/// Adds the problem of a fact, by the width of an indentation at its place.
+/// Appends the problem of a fact, if it has one. `width` is the width of an indentation at its
+/// place. The only error is out of memory.
 fn push_by<A: Allocator + Copy>(
     alloc: A,
     choice: IndentSequences,
@@ -149,7 +155,8 @@ fn push_by<A: Allocator + Copy>(
     }
 }
 
-/// Adds the problem of a fact, where `here` is the measure of the facts up to it.
+/// Appends the problem of a fact, if it has one. `here` is the measure of the facts up to it. The
+/// only error is out of memory.
 fn push_found<A: Allocator + Copy>(
     alloc: A,
     options: &IndentationOptions,
@@ -165,9 +172,9 @@ fn push_found<A: Allocator + Copy>(
     push_by(alloc, options.indent_sequences, flush, width, fact, found)
 }
 
-/// The problems of one document's facts. `before` is the measure of the facts of all earlier
-/// documents of the text, `whole` that of all its facts. Lines and columns of problems count from
-/// 1. The only error is out of memory.
+/// Returns the problems of the facts of one document. `before` is the measure of the facts of all
+/// earlier documents of the text, and `whole` is the measure of all facts of the text. Lines and
+/// columns of problems count from 1. The only error is out of memory.
 pub fn indent_problems<A: Allocator + Copy>(
     alloc: A,
     facts: &[Fact],

@@ -1,4 +1,4 @@
--- Meaning: yamllint's rules braces and brackets, which are one rule over two kinds of flow
+-- Meaning: yamllint's rules braces and brackets, which are one rule for two kinds of flow
 -- collections.
 use Rattle.std.specs.Prelude.{ℕ, Bool, true, false, if◌then◌else◌, List, [], ◌++◌, ◌+◌, codes, Option, Some, None}
 use Rattle.std.specs.Option.{option_or}
@@ -37,8 +37,8 @@ forbidden_text Sequence = codes "forbidden flow sequence"
 
 -- ---- the rule
 
--- the bounds on the distance of two lexemes of which one is a bracket, and on that of two brackets
--- with nothing between
+-- the problems of the distance between two lexemes of which one is a bracket, and of the distance
+-- between two brackets with nothing between them (`inside_empty`)
 abbrev pub inside : Flow → BracketsOptions → Span → Span → List FindingValue
 inside flow o x y =
     too_few (rule_of flow) o.min_spaces_inside x y (codes "too few spaces inside " ++ rule_name (rule_of flow))
@@ -51,11 +51,11 @@ inside_empty flow o x y =
     ++ too_many (rule_of flow) (option_or o.max_spaces_inside_empty o.max_spaces_inside) x y
     (codes "too many spaces inside empty " ++ rule_name (rule_of flow))
 
--- told of the character behind the bracket
+-- reported at the character after the bracket
 abbrev pub forbidden_finding : Flow → Span → List FindingValue
 forbidden_finding flow x = one_finding (rule_of flow) (x.start.line + 1) (x.start.col + 2) (forbidden_text flow)
 
--- at an opening bracket and the lexeme behind it
+-- at an opening bracket and the lexeme after it
 abbrev pub behind_opening_at : Flow → BracketsOptions → Forbid → Span → Option Span → List FindingValue
 behind_opening_at flow o Everything x after = forbidden_finding flow x
 behind_opening_at flow o _ x None = []

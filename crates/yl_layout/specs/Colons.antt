@@ -14,7 +14,7 @@ abbrev pub is_alias : Kind → Bool
 is_alias Alias = true
 is_alias _ = false
 
--- an alias needs the space: its name may hold a colon
+-- one space after an alias is needed, since its name may contain a colon
 abbrev pub before_colon : ColonsOptions → Option Span → Span → List FindingValue
 before_colon o None y = []
 before_colon o (Some x) y =

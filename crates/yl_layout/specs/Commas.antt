@@ -7,8 +7,8 @@ use Rattle.yl_layout.specs.declared.span.Span.{Span}
 use Rattle.yl_layout.specs.declared.commas.CommasOptions.{CommasOptions}
 use Rattle.yl_layout.specs.Spans.{too_many, too_few}
 
--- a comma whose line has nothing before it, where that is bounded: told of the column before it, or
--- of the first
+-- a comma that is the first lexeme of its line, if there is a maximum before commas. It is reported
+-- at the column before the comma, or at the first column
 abbrev pub first_comma : CommasOptions → Span → List FindingValue
 first_comma o y =
     if is_some o.max_spaces_before

@@ -18,8 +18,8 @@ abbrev pub is_end_marker : Kind → Bool
 is_end_marker DocEnd = true
 is_end_marker _ = false
 
--- a document begins with its content, which is no directive and no marker: behind nothing, or the
--- end of another
+-- a document begins with this lexeme as its content. The lexeme is neither a directive nor a
+-- marker, and it comes first or after the end marker of another document
 abbrev pub is_bare : Option Span → Span → Bool
 is_bare before x = not (is_directive x.kind) && not (is_document_marker x.kind)
     && option_map_or (λ y. is_end_marker y.kind) before true

@@ -7,7 +7,7 @@ use Rattle.yl_layout.specs.declared.span.Span.{Span}
 use Rattle.yl_layout.specs.declared.hyphens.HyphensOptions.{HyphensOptions}
 use Rattle.yl_layout.specs.Spans.{too_many_behind}
 
--- at a lexeme and the one behind it, if the rule is on
+-- at a lexeme and the one after it, if the rule is on
 abbrev pub hyphens : Option HyphensOptions → Span → Option Span → List FindingValue
 hyphens None x after = []
 hyphens (Some o) x after =

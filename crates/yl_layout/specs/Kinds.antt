@@ -1,4 +1,4 @@
--- Bridge: what the rules on lexemes find at a lexeme, by its kind.
+-- Bridge: the problems that the rules on lexemes find at a lexeme, by its kind.
 use Rattle.std.specs.Prelude.{Bool, true, false, List, [], ◌++◌, Option}
 use Rattle.yl_lexeme.specs.declared.lexeme.Kind.{Kind}
 use Rattle.yl_lexeme.specs.declared.lexeme.Kind.TheVariants.{Directive, DocStart, DocEnd, Entry, Key, Value, Comma, SeqOpen, SeqClose, MapOpen, MapClose, Alias, Anchor, Tag, Scalar}
@@ -12,8 +12,8 @@ use Rattle.yl_layout.specs.Commas.{commas}
 use Rattle.yl_layout.specs.DocumentStart.{document_start}
 use Rattle.yl_layout.specs.Hyphens.{hyphens}
 
--- at a lexeme of this kind: one rule at most finds something but for the rules on documents and
--- values
+-- at a lexeme of this kind, what the rules other than document-start and those on values find. At
+-- each kind at most one of these rules finds something
 abbrev pub indicator_findings :
     Kind → LexemeOptions → Option Span → Span → Option Span → List FindingValue
 indicator_findings MapOpen o before x after = brackets Mapping o.braces before x after
@@ -32,7 +32,7 @@ indicator_findings Anchor o before x after = []
 indicator_findings Tag o before x after = []
 indicator_findings (Scalar style) o before x after = []
 
--- at a lexeme of this kind they may find something
+-- these rules may find something at a lexeme of this kind
 abbrev pub is_indicator : Kind → Bool
 is_indicator MapOpen = true
 is_indicator MapClose = true
@@ -50,7 +50,7 @@ flow_findings o before x after =
     brackets Mapping o.braces before x after ++ (brackets Sequence o.brackets before x after
     ++ commas o.commas before x after)
 
--- those on block collections and documents
+-- the rules on block collections and documents, at a lexeme between its neighbours
 abbrev pub block_findings : LexemeOptions → Option Span → Span → Option Span → List FindingValue
 block_findings o before x after =
     colons o.colons before x after ++ (hyphens o.hyphens x after

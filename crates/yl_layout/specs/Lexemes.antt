@@ -1,4 +1,4 @@
--- Meaning: what the rules on lexemes find in the lexemes of a document.
+-- Meaning: the problems that the rules on lexemes find in a document.
 use Rattle.std.specs.Prelude.{ℕ, Bool, List, [], ◌∷◌, ◌++◌, take, Option, Some, None}
 use Rattle.yl_lexeme.specs.Lexeme.{LexemeValue}
 use Rattle.yl_marks.specs.declared.facts.KeyFacts.{KeyFacts}
@@ -17,7 +17,7 @@ use Rattle.yl_layout.specs.QuotedStrings.{quoted_strings}
 use Rattle.yl_layout.specs.Truthy.{truthy}
 use Rattle.yl_layout.specs.Version.{is_1_2_document}
 
--- the rules on values, by whether the document says that it is one of YAML 1.2
+-- the rules on values. `is_1_2` says whether the document declares itself to be one of YAML 1.2
 abbrev pub value_findings : Bool → LexemeOptions → Span → List ℕ → KeyFacts → List FindingValue
 value_findings is_1_2 o x value key =
     truthy is_1_2 o.truthy x value key ++ quoted_strings o.quoted_strings x value key
@@ -36,15 +36,16 @@ abbrev pub first_span : List LexemeValue → Option Span
 first_span [] = None
 first_span (x ∷ xs) = Some (span_of x)
 
--- at each of these lexemes, which follow one more; beside each stands what the document's keys say
--- of it
+-- the problems at each of these lexemes, which come after the lexeme `before`. Each has beside it
+-- the facts that the keys of the document decide about it
 abbrev pub findings_behind : Bool → LexemeOptions → Option Span → List LexemeValue → List KeyFacts → List FindingValue
 findings_behind is_1_2 o before (x ∷ xs) (key ∷ keys) =
     findings_at is_1_2 o before (span_of x) x.value key (first_span xs)
     ++ findings_behind is_1_2 o (Some (span_of x)) xs keys
 findings_behind is_1_2 o before _ _ = []
 
--- in a document of which so many lexemes count; whether one is a key may show behind them
+-- the problems at the first `counted` lexemes of a document. Whether one of them is a key may
+-- depend on a lexeme after them
 abbrev pub lexeme_findings : LexemeOptions → ℕ → List LexemeValue → List FindingValue
 lexeme_findings o counted xs =
     findings_behind (is_1_2_document xs) o None (take counted xs) (key_facts xs)

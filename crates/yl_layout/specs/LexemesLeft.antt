@@ -1,4 +1,5 @@
--- Bridge: what the rules on lexemes still find in a document, by what they know of the lexemes that were read.
+-- Bridge: the problems that the rules on lexemes still find in a document, from a summary of the
+-- lexemes that were read.
 use Rattle.std.specs.Prelude.{Bool, true, false, ◌≡◌, ◌&&◌, ◌||◌, if◌then◌else◌, List, [], ◌++◌, ℕ, Option, Some, None}
 use Rattle.std.specs.Option.{option_map_or}
 use Rattle.yl_lexeme.specs.Lexeme.{LexemeValue}
@@ -14,38 +15,40 @@ use Rattle.yl_layout.specs.Lexemes.{findings_behind, first_span, value_findings}
 use Rattle.yl_layout.specs.Spans.{span_of}
 use Rattle.yl_layout.specs.Version.{is_1_2_document}
 
--- what counts of the lexemes that were read
+-- the summary of the lexemes that were read
 pub record LexemesRead : Type 0 where
   pub latest : Option Span  -- the latest of them
   pub earlier : Option Span  -- the one before it
-  pub waits : Bool  -- what is found at the latest is still to be told: it is an indicator, and the one after it was not seen yet
-  pub is_1_2 : Bool  -- a directive said that the document is one of YAML 1.2
+  pub waits : Bool  -- the latest is an indicator, so the problems at it are still to come
+  pub is_1_2 : Bool  -- a directive declares the document to be one of YAML 1.2
   pub in_directives : Bool  -- all of them are directives
 
 abbrev pub none_read : LexemesRead
 none_read = record { latest = None; earlier = None; waits = false; is_1_2 = false; in_directives = true }
 
--- the document is one of YAML 1.2, by what was read and by these lexemes that are to come
+-- the document is one of YAML 1.2, by the lexemes that were read and those that follow
 abbrev pub IsVersion : Bool → LexemesRead → List LexemeValue → Type 0
 IsVersion v r xs = v ≡ (r.is_1_2 || (r.in_directives && is_1_2_document xs))
 
--- what is found at an indicator between its neighbours
+-- the problems at an indicator between its neighbours
 abbrev pub findings_at_indicator : LexemeOptions → Option Span → Span → Option Span → List FindingValue
 findings_at_indicator o before x after =
     indicator_findings x.kind o before x after ++ document_start o.document_start before x
 
--- what waits, where this lexeme comes next or none
+-- the problems that are still to come at the latest lexeme, where `after` is the next one, if any
 abbrev pub findings_waiting : LexemeOptions → LexemesRead → Option Span → List FindingValue
 findings_waiting o r after =
     if r.waits then option_map_or (λ x. findings_at_indicator o r.earlier x after) r.latest [] else []
 
--- what is still found in the document, where these lexemes come and count, beside each what the document's keys say of it
+-- the problems that are still to come in the document, if these lexemes follow and all of them
+-- count. Each has beside it the facts that the keys of the document decide about it
 abbrev pub lexemes_left : Bool → LexemeOptions → LexemesRead → List LexemeValue → List KeyFacts → List FindingValue
 lexemes_left v o r xs ks = findings_waiting o r (first_span xs) ++ findings_behind v o r.latest xs ks
 
 -- ---- one more lexeme
 
--- what is told of a lexeme after the latest one before the lexeme after it is seen: nothing of an indicator
+-- the problems at the next lexeme that are found before the lexeme after it is read: none if the
+-- lexeme is an indicator, and else all
 abbrev pub findings_told : Bool → LexemeOptions → Option Span → Span → List ℕ → KeyFacts → List FindingValue
 findings_told v o before x value key =
     if is_indicator x.kind then []

@@ -12,7 +12,7 @@ use Rattle.yl_layout.specs.declared.quoted_strings.QuoteType.TheVariants.{Any, S
 use Rattle.yl_layout.specs.declared.quoted_strings.QuotedStringsOptions.{QuotedStringsOptions}
 use Rattle.yl_plain.specs.Strings.{is_string}
 
--- a scalar quoted otherwise than is asked
+-- a scalar that is quoted differently from what the options require
 abbrev pub is_misquoted : Bool → QuoteType → Kind → List ℕ → Bool
 is_misquoted required quotes (Scalar style.Plain) value = required && is_string value
 is_misquoted required Double (Scalar style.Single) value = true

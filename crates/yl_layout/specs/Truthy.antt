@@ -12,13 +12,13 @@ use Rattle.yl_layout.specs.declared.span.Span.{Span}
 use Rattle.yl_layout.specs.declared.truthy.TruthyWords.{TruthyWords}
 use Rattle.yl_layout.specs.declared.truthy.TruthyOptions.{TruthyOptions}
 
--- in the order of ASCII
+-- the truthy words, in ASCII order
 abbrev pub truthy_words : List (List ℕ)
 truthy_words = codes "FALSE" ∷ codes "False" ∷ codes "NO" ∷ codes "No" ∷ codes "OFF" ∷ codes "ON"
     ∷ codes "Off" ∷ codes "On" ∷ codes "TRUE" ∷ codes "True" ∷ codes "YES" ∷ codes "Yes"
     ∷ codes "false" ∷ codes "no" ∷ codes "off" ∷ codes "on" ∷ codes "true" ∷ codes "yes" ∷ []
 
--- those among them that the core schema of YAML 1.2 has (YAML 1.2.2, 10.3.2)
+-- the truthy words of the core schema of YAML 1.2 (YAML 1.2.2, 10.3.2)
 abbrev pub core_words : List (List ℕ)
 core_words =
     codes "FALSE" ∷ codes "False" ∷ codes "TRUE" ∷ codes "True" ∷ codes "false" ∷ codes "true" ∷ []
@@ -26,7 +26,7 @@ core_words =
 abbrev pub truthy_index : List ℕ → Option ℕ
 truthy_index word = position_from (λ w. bytes_eq w word) 0 truthy_words
 
--- it lists the words that are allowed
+-- the message, which lists the words that are allowed
 abbrev pub truthy_text : TruthyWords → List ℕ
 truthy_text words = codes "truthy value should be one of ["
     ++ (join_by (λ w. w) (codes ", ") (items_where_true words.allowed truthy_words) ++ codes "]")
@@ -35,8 +35,8 @@ abbrev pub is_plain : Kind → Bool
 is_plain (Scalar Plain) = true
 is_plain _ = false
 
--- a plain scalar without tag whose value is a truthy word that is not allowed; a document that says
--- that it is one of YAML 1.2 has the words of the core schema alone
+-- a plain scalar without a tag whose value is a truthy word that is not allowed. In a document that
+-- declares itself to be one of YAML 1.2, only the words of the core schema are truthy
 abbrev pub is_truthy : Bool → TruthyOptions → Kind → List ℕ → KeyFacts → Bool
 is_truthy is_1_2 o kind value key = is_plain kind && not key.has_tag && (o.check_keys || not key.is_key)
     && option_map_or (λ i. not (slice_index_or o.allowed_values.allowed i false)) (truthy_index value) false

@@ -1,4 +1,4 @@
-//! The rules braces and brackets: one rule over two kinds of flow collections.
+//! The rules `braces` and `brackets`, which are one rule for two kinds of flow collections.
 ghost use Rattle.std.specs.Prelude.{◌≡◌, ◌++◌, ◌+◌, ◌<◌, ◌^◌, Some, OnOk};
 ghost use Rattle.yl_layout.specs.Brackets.{before_closing, behind_opening_at, brackets, forbidden_finding, inside, inside_empty};
 
@@ -8,23 +8,31 @@ use std::alloc::{AllocError, Allocator};
 use yl_lexeme::Kind;
 use yl_text::{Finding, Pos, RuleId};
 
-/// Which flow collections are forbidden.
+/// The flow collections that are forbidden.
 #[derive(Clone, Copy, PartialEq, Eq)]
 pub enum Forbid {
+    /// None of them.
     Nothing,
-    /// Those that hold something.
+    /// Collections that are not empty.
     NonEmpty,
+    /// All of them.
     Everything,
 }
 
-/// How many characters may stand behind an opening bracket and before a closing one, in one line.
-/// `None` is no bound; of empty collections it is the bound of the others.
+/// The options of the rules `braces` and `brackets`. Each bound is on the number of characters
+/// between a bracket and its neighbour inside the brackets, if both are in one line. `None` is no
+/// bound.
 #[derive(Clone, Copy)]
 pub struct BracketsOptions {
+    /// The flow collections that are forbidden.
     pub forbid: Forbid,
+    /// The minimum inside brackets that are not empty.
     pub min_spaces_inside: Option<u32>,
+    /// The maximum inside brackets that are not empty.
     pub max_spaces_inside: Option<u32>,
+    /// The minimum inside empty brackets. If it is `None`, `min_spaces_inside` applies.
     pub min_spaces_inside_empty: Option<u32>,
+    /// The maximum inside empty brackets. If it is `None`, `max_spaces_inside` applies.
     pub max_spaces_inside_empty: Option<u32>,
 }
 
@@ -32,7 +40,7 @@ impl BracketsOptions {
     ghost use Rattle.std.specs.Prelude.{◌≡◌};
     ghost use Rattle.yl_layout.specs.Standard.{standard_brackets};
 
-    /// Those of yamllint's default configuration.
+    /// Returns the options of yamllint's default configuration.
     pub fn standard() -> BracketsOptions
         ensures { result ≡ standard_brackets }
     {
@@ -46,10 +54,12 @@ impl BracketsOptions {
     }
 }
 
-/// The two kinds of flow collections.
+/// The two kinds of flow collections, each of which has its own rule.
 #[derive(Clone, Copy)]
 pub(crate) enum Flow {
+    /// Mappings in braces.
     Mapping,
+    /// Sequences in brackets.
     Sequence,
 }
 
@@ -58,6 +68,7 @@ impl Flow {
     ghost use Rattle.yl_text.specs.Finding.{rule_name};
     ghost use Rattle.yl_layout.specs.Brackets.{closes, forbidden_text, opens, rule_of};
 
+    /// Returns the rule on this kind.
     fn rule(self) -> RuleId
         ensures { result ≡ rule_of self }
     {
@@ -67,6 +78,7 @@ impl Flow {
         }
     }
 
+    /// Returns whether a lexeme opens a collection of this kind.
     fn opens(self, kind: Kind) -> bool
         ensures { result ≡ opens self kind }
     {
@@ -76,6 +88,7 @@ impl Flow {
         }
     }
 
+    /// Returns whether a lexeme closes a collection of this kind.
     fn closes(self, kind: Kind) -> bool
         ensures { result ≡ closes self kind }
     {
@@ -131,7 +144,8 @@ impl Flow {
     }
 }
 
-/// Holds the distance of two lexemes against the bounds inside brackets.
+/// Appends the problems of the distance between a bracket and its neighbour inside the brackets.
+/// The only error is out of memory.
 fn push_inside<A: Allocator>(
     problems: &mut Vec<Finding<A>, A>,
     flow: Flow,
@@ -162,7 +176,8 @@ fn push_inside<A: Allocator>(
     Ok(())
 }
 
-/// The same of two brackets with nothing between them.
+/// Appends the problems of the distance between two brackets with nothing between them. The only
+/// error is out of memory.
 fn push_inside_empty<A: Allocator>(
     problems: &mut Vec<Finding<A>, A>,
     flow: Flow,
@@ -185,6 +200,8 @@ fn push_inside_empty<A: Allocator>(
     Ok(())
 }
 
+/// Appends the problem of a forbidden collection. It is reported at the character after the opening
+/// bracket. The only error is out of memory.
 fn push_forbidden<A: Allocator>(
     problems: &mut Vec<Finding<A>, A>,
     flow: Flow,
@@ -199,7 +216,8 @@ fn push_forbidden<A: Allocator>(
     report(problems, flow.rule(), line, column, flow.forbidden_text())
 }
 
-/// At an opening bracket and the lexeme behind it.
+/// Appends the problems at an opening bracket and the lexeme after it. The only error is out of
+/// memory.
 fn push_behind_opening<A: Allocator>(
     problems: &mut Vec<Finding<A>, A>,
     flow: Flow,
@@ -225,7 +243,8 @@ fn push_behind_opening<A: Allocator>(
     }
 }
 
-/// At a closing bracket and the lexeme before it.
+/// Appends the problems at a closing bracket and the lexeme before it. The only error is out of
+/// memory.
 fn push_before_closing<A: Allocator>(
     problems: &mut Vec<Finding<A>, A>,
     flow: Flow,
@@ -266,7 +285,8 @@ fn push_brackets_by<A: Allocator>(
     }
 }
 
-/// Puts behind the problems what the rule finds at a lexeme between its neighbours, if it is on.
+/// Appends the problems that the rule finds at a lexeme between its neighbours. Appends nothing if
+/// the rule is off. The only error is out of memory.
 pub(crate) fn push_brackets<A: Allocator>(
     problems: &mut Vec<Finding<A>, A>,
     flow: Flow,

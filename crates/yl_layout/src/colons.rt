@@ -1,4 +1,4 @@
-//! The rule colons.
+//! The rule `colons`.
 ghost use Rattle.std.specs.Prelude.{◌≡◌, ◌++◌, codes, Some, OnOk};
 ghost use Rattle.yl_layout.specs.Colons.{before_colon, colons};
 ghost use Rattle.yl_layout.specs.Spans.{too_many_behind};
@@ -9,16 +9,18 @@ use std::alloc::{AllocError, Allocator};
 use yl_lexeme::Kind;
 use yl_text::{Finding, RuleId};
 
-/// How many characters may stand before and behind a `:`, and behind a `?`, in one line. `None` is
-/// no bound.
+/// The options of the rule `colons`. Each bound is on the number of characters between two lexemes
+/// of one line. `None` is no bound.
 #[derive(Clone, Copy)]
 pub struct ColonsOptions {
+    /// The maximum before a `:`.
     pub max_spaces_before: Option<u32>,
+    /// The maximum after a `:` or a `?`.
     pub max_spaces_after: Option<u32>,
 }
 
 impl ColonsOptions {
-    /// Those of yamllint's default configuration.
+    /// Returns the options of yamllint's default configuration.
     pub fn standard() -> ColonsOptions
         ensures { result ≡ record { max_spaces_before = Some 0; max_spaces_after = Some 1 } }
     {
@@ -41,7 +43,7 @@ fn push_before_colon<A: Allocator>(
         return Ok(());
     };
     let y = &place.here;
-    // An alias needs one space: its name may hold a colon.
+    // One space after an alias is needed, since its name may contain a colon.
     if matches!(x.kind, Kind::Alias) && distance(x, y) == Some(1) {
         return Ok(());
     }
@@ -90,7 +92,8 @@ fn push_colons_by<A: Allocator>(
     }
 }
 
-/// Puts behind the problems what the rule finds at a lexeme between its neighbours, if it is on.
+/// Appends the problems that the rule finds at a lexeme between its neighbours. Appends nothing if
+/// the rule is off. The only error is out of memory.
 pub(crate) fn push_colons<A: Allocator>(
     problems: &mut Vec<Finding<A>, A>,
     options: &Option<ColonsOptions>,

@@ -1,4 +1,4 @@
-//! The rule commas.
+//! The rule `commas`.
 ghost use Rattle.std.specs.Prelude.{◌≡◌, ◌++◌, ◌+◌, ◌<◌, ◌^◌, Some, OnOk};
 ghost use Rattle.yl_layout.specs.Commas.{before_comma, behind_comma, commas, first_comma};
 
@@ -8,16 +8,20 @@ use std::alloc::{AllocError, Allocator};
 use yl_lexeme::Kind;
 use yl_text::{Finding, RuleId};
 
-/// How many characters may stand before and behind a `,` in one line. `None` is no bound.
+/// The options of the rule `commas`. Each bound is on the number of characters between two lexemes
+/// of one line. `None` is no bound.
 #[derive(Clone, Copy)]
 pub struct CommasOptions {
+    /// The maximum before a `,`. If there is one, a `,` must not be the first lexeme of its line.
     pub max_spaces_before: Option<u32>,
+    /// The minimum after a `,`.
     pub min_spaces_after: Option<u32>,
+    /// The maximum after a `,`.
     pub max_spaces_after: Option<u32>,
 }
 
 impl CommasOptions {
-    /// Those of yamllint's default configuration.
+    /// Returns the options of yamllint's default configuration.
     pub fn standard() -> CommasOptions
         ensures { result ≡ record {
           max_spaces_before = Some 0;
@@ -33,7 +37,9 @@ impl CommasOptions {
     }
 }
 
-/// At a comma whose line has nothing before it.
+/// Appends the problem of a comma that is the first lexeme of its line, if there is a maximum
+/// before commas. It is reported at the character before the comma, or at the first one of the
+/// line. The only error is out of memory.
 fn push_first_comma<A: Allocator>(
     problems: &mut Vec<Finding<A>, A>,
     options: &CommasOptions,
@@ -142,7 +148,8 @@ fn push_commas_by<A: Allocator>(
     Ok(())
 }
 
-/// Puts behind the problems what the rule finds at a lexeme between its neighbours, if it is on.
+/// Appends the problems that the rule finds at a lexeme between its neighbours. Appends nothing if
+/// the rule is off. The only error is out of memory.
 pub(crate) fn push_commas<A: Allocator>(
     problems: &mut Vec<Finding<A>, A>,
     options: &Option<CommasOptions>,

@@ -1,4 +1,4 @@
-//! The rule document-start.
+//! The rule `document-start`.
 ghost use Rattle.std.specs.Prelude.{◌≡◌, not, ◌&&◌, ◌++◌, ◌+◌, ◌<◌, ◌^◌, true, false, codes, Some, OnOk};
 ghost use Rattle.std.specs.Option.{option_map_or};
 ghost use Rattle.yl_lexeme.specs.Directives.{is_directive};
@@ -12,14 +12,16 @@ use std::alloc::{AllocError, Allocator};
 use yl_lexeme::Kind;
 use yl_text::{Finding, Pos, RuleId};
 
-/// Whether the marker `---` must stand before a document, or must not.
+/// The options of the rule `document-start`.
 #[derive(Clone, Copy)]
 pub struct DocumentStartOptions {
+    /// Whether each document must begin with the marker `---`. Otherwise no document may begin with
+    /// it.
     pub present: bool,
 }
 
 impl DocumentStartOptions {
-    /// Those of yamllint's default configuration.
+    /// Returns the options of yamllint's default configuration.
     pub fn standard() -> DocumentStartOptions
         ensures { result ≡ record { present = true } }
     {
@@ -27,14 +29,14 @@ impl DocumentStartOptions {
     }
 }
 
-/// Whether the kind is no directive and no marker.
+/// Returns whether the kind is neither a directive nor a document marker.
 fn is_content(kind: Kind) -> bool
     ensures { result ≡ (not (is_directive kind) && not (is_document_marker kind)) }
 {
     !matches!(kind, Kind::Directive | Kind::DocStart | Kind::DocEnd)
 }
 
-/// Whether nothing stands before, or the end of another document.
+/// Returns whether no lexeme comes before, or the one before is the marker `...`.
 fn is_behind_end(before: &Option<Span>) -> bool
     ensures { result ≡ option_map_or (λ y. is_end_marker y.kind) before.now true }
 {
@@ -44,7 +46,8 @@ fn is_behind_end(before: &Option<Span>) -> bool
     }
 }
 
-/// Whether a document begins with its content.
+/// Returns whether a document begins with this lexeme, and the lexeme is neither a directive nor a
+/// document marker.
 fn is_bare(before: &Option<Span>, x: &Span) -> bool
     ensures { result ≡ is_bare before.now x.now }
 {
@@ -131,7 +134,8 @@ fn push_forbidden_start<A: Allocator>(
     }
 }
 
-/// Puts behind the problems what the rule finds at a lexeme and the one before it, if it is on.
+/// Appends the problem that the rule finds at a lexeme, given the lexeme before it. Appends nothing
+/// if the rule is off. The only error is out of memory.
 pub(crate) fn push_document_start<A: Allocator>(
     problems: &mut Vec<Finding<A>, A>,
     options: &Option<DocumentStartOptions>,

@@ -1,4 +1,4 @@
-//! The rule hyphens.
+//! The rule `hyphens`.
 ghost use Rattle.std.specs.Prelude.{◌≡◌, ◌++◌, Some, OnOk};
 ghost use Rattle.yl_layout.specs.Hyphens.{hyphens};
 
@@ -8,14 +8,16 @@ use std::alloc::{AllocError, Allocator};
 use yl_lexeme::Kind;
 use yl_text::{Finding, RuleId};
 
-/// How many characters may stand behind a `-` in one line. `None` is no bound.
+/// The options of the rule `hyphens`.
 #[derive(Clone, Copy)]
 pub struct HyphensOptions {
+    /// The maximum number of characters between a `-` and the next lexeme of its line. `None` is no
+    /// bound.
     pub max_spaces_after: Option<u32>,
 }
 
 impl HyphensOptions {
-    /// Those of yamllint's default configuration.
+    /// Returns the options of yamllint's default configuration.
     pub fn standard() -> HyphensOptions
         ensures { result ≡ record { max_spaces_after = Some 1 } }
     {
@@ -25,7 +27,8 @@ impl HyphensOptions {
     }
 }
 
-/// Puts behind the problems what the rule finds at a lexeme and the one behind it, if it is on.
+/// Appends the problem that the rule finds at a lexeme, given the lexeme after it. Appends nothing
+/// if the rule is off. The only error is out of memory.
 pub(crate) fn push_hyphens<A: Allocator>(
     problems: &mut Vec<Finding<A>, A>,
     options: &Option<HyphensOptions>,

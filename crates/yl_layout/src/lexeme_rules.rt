@@ -1,4 +1,4 @@
-//! The rules on lexemes, which read a document's lexemes some at a time.
+//! The rules on lexemes, which read the lexemes of a document part by part.
 ghost use Rattle.std.specs.Prelude.{◌≡◌, ◌++◌, OnOk};
 ghost use Rattle.yl_layout.specs.DocumentStart.{document_start};
 ghost use Rattle.yl_layout.specs.Kinds.{indicator_findings, is_indicator};
@@ -20,7 +20,7 @@ use yl_lexeme::{Kind, LexemeAtLine};
 use yl_marks::{KeyFacts, RowLexemes};
 use yl_text::Finding;
 
-/// Whether the rules on indicators may find something at a lexeme of this kind.
+/// Returns whether the rules on indicators may find something at a lexeme of this kind.
 fn is_indicator(kind: Kind) -> bool
     ensures { result ≡ is_indicator kind }
 {
@@ -37,7 +37,8 @@ fn is_indicator(kind: Kind) -> bool
     )
 }
 
-/// The rules on indicators: at a lexeme of each kind at most one of them finds something.
+/// Appends the problems that the rules on indicators find at a lexeme between its neighbours. At
+/// each kind of lexeme at most one of these rules finds something. The only error is out of memory.
 fn push_by_kind<A: Allocator>(
     problems: &mut Vec<Finding<A>, A>,
     options: &LexemeOptions,
@@ -66,7 +67,7 @@ fn push_by_kind<A: Allocator>(
     }
 }
 
-/// All that is found at an indicator between its neighbours.
+/// Appends all problems at an indicator between its neighbours. The only error is out of memory.
 fn push_at_indicator<A: Allocator>(
     problems: &mut Vec<Finding<A>, A>,
     options: &LexemeOptions,
@@ -85,7 +86,8 @@ fn push_at_indicator<A: Allocator>(
     Ok(())
 }
 
-/// The rules on values, by whether the document says that it is one of YAML 1.2.
+/// Appends the problems that the rules on values find at a lexeme. `is_1_2` says whether a
+/// directive declares the document to be one of YAML 1.2. The only error is out of memory.
 fn push_values<A: Allocator + Copy>(
     problems: &mut Vec<Finding<A>, A>,
     is_1_2: bool,
@@ -102,19 +104,20 @@ fn push_values<A: Allocator + Copy>(
     Ok(())
 }
 
-/// The rules on lexemes, in a document some of whose lexemes were read. What they find at a bracket, a comma, a `:`, a `?` or a `-` is told
-/// once the lexeme after it is read, or none is to come.
+/// A reader that takes the lexemes of a document part by part and finds the problems of the rules
+/// on lexemes. The problems at a bracket, a comma, a `:`, a `?` or a `-` are appended only when the
+/// next lexeme is read, or at the end.
 #[derive(Drop)]
 pub struct LexemeRules {
     /// The latest lexeme.
     latest: Option<Span>,
-    /// The one before it.
+    /// The lexeme before the latest one.
     earlier: Option<Span>,
-    /// What is found at the latest is still to be told.
+    /// Whether the problems at the latest lexeme are still to be appended.
     waits: bool,
-    /// A directive said that the document is one of YAML 1.2.
+    /// Whether a directive declares the document to be one of YAML 1.2.
     is_1_2: bool,
-    /// All lexemes so far are directives.
+    /// Whether all lexemes so far are directives.
     in_directives: bool,
 }
 
@@ -145,7 +148,7 @@ impl LexemeRules {
     ghost use Rattle.yl_layout.specs.Version.{is_1_2_document};
     ghost use Rattle.yl_layout.specs.declared.options.LexemeOptions.{LexemeOptions};
 
-    /// At the start of a document.
+    /// Creates a reader at the start of a document.
     pub fn new() -> LexemeRules
         ensures start { result ≡ none_read }
         ensures version { (xs : List LexemeValue) → IsVersion (is_1_2_document xs) result xs }
@@ -161,7 +164,8 @@ impl LexemeRules {
         }
     }
 
-    /// What waits is told, where this lexeme comes next or none.
+    /// Appends the problems at the latest lexeme that are still to be appended. `after` is the next
+    /// lexeme, or `None` at the end. The only error is out of memory.
     fn tell_waiting<A: Allocator>(
         &self,
         options: &LexemeOptions,
@@ -185,7 +189,8 @@ impl LexemeRules {
         push_at_indicator(problems, options, &place)
     }
 
-    /// What can be told of the next lexeme before the one after it is read.
+    /// Appends the problems at the next lexeme. Appends none if it is an indicator, since the
+    /// problems there may depend on the lexeme after it. The only error is out of memory.
     fn tell_next<A: Allocator + Copy>(
         &self,
         options: &LexemeOptions,
@@ -205,7 +210,7 @@ impl LexemeRules {
         Ok(())
     }
 
-    /// Keeps the next lexeme.
+    /// Stores the next lexeme as the latest one.
     fn keep<A: Allocator>(&mut self, here: Span, at: &LexemeAtLine<'_, A>)
         requires { here ≡ span_of (lexeme_at_line at.now.line at.now.lexeme.now) }
         ensures { self.new ≡ after_lexeme self.old (lexeme_at_line at.now.line at.now.lexeme.now) }
@@ -217,7 +222,7 @@ impl LexemeRules {
         self.waits = is_indicator(here.kind);
     }
 
-    /// Reads the next lexeme.
+    /// Reads the next lexeme and appends problems. The only error is out of memory.
     fn read_lexeme<A: Allocator + Copy>(
         &mut self,
         options: &LexemeOptions,
@@ -238,10 +243,12 @@ impl LexemeRules {
         Ok(())
     }
 
-    /// Reads the document's next lexemes, those of a row, and adds to the problems what the rules find, lexeme by lexeme. `keys` says
-    /// of each of them what the document's keys say of it. Lexemes that do not count, as those from a fault on, are not to be read. A
-    /// problem's line counts from 1 from where the lexemes' lines count from 0, its column from 1 in characters. The only error is out of
-    /// memory, which is taken for what is found and nothing else; the rules then say nothing more of the document.
+    /// Reads the next lexemes of the document, which are those of a row, and appends the problems
+    /// that the rules find, lexeme by lexeme. `keys` contains the facts that the keys of the
+    /// document decide about each of these lexemes. Lexemes that do not count, such as those from a
+    /// fault on, must not be read. Lines and columns of problems count from 1, columns in
+    /// characters. Line 1 of a problem is line 0 of the lexemes. Allocates only for the problems.
+    /// The only error is out of memory. After an error the reader must not be used.
     pub fn read_row<A: Allocator + Copy>(
         &mut self,
         options: &LexemeOptions,
@@ -267,7 +274,8 @@ impl LexemeRules {
         Ok(())
     }
 
-    /// Reads the document's next lexemes, of any lines, as `read_row` does those of a row.
+    /// Reads the next lexemes of the document, which may be in any lines, in the same way as
+    /// `read_row`. The only error is out of memory.
     pub(crate) fn read_all<A: Allocator + Copy>(
         &mut self,
         options: &LexemeOptions,
@@ -291,7 +299,8 @@ impl LexemeRules {
         Ok(())
     }
 
-    /// No lexeme is to come that counts: tells what was not told yet. The only error is out of memory.
+    /// Appends the problems that are still to be appended, if no other lexeme of the document
+    /// counts. The only error is out of memory.
     pub fn finish<A: Allocator>(
         &self,
         options: &LexemeOptions,

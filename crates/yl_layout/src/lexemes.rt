@@ -1,4 +1,4 @@
-//! What the rules on lexemes find in a document.
+//! The problems that the rules on lexemes find in a document.
 ghost use Rattle.std.specs.Prelude.{◌≡◌, ◌≤◌, map, length, IfOk};
 ghost use Rattle.yl_marks.specs.Keys.{lexeme_at_line};
 ghost use Rattle.yl_marks.specs.Facts.{key_facts};
@@ -11,11 +11,11 @@ use yl_lexeme::LexemeAtLine;
 use yl_marks::KeyFacts;
 use yl_text::Finding;
 
-/// What the rules on lexemes find in a whole document of which the first `counted` lexemes count,
-/// lexeme by lexeme. `keys` are the document's, of `key_facts`: whether a lexeme is a key may show
-/// behind those that count. A problem's line counts from 1 from where the lexemes' lines count from
-/// 0, its column from 1 in characters. The only error is memory, which is taken for what is found
-/// and nothing else.
+/// Returns the problems that the rules on lexemes find at the first `counted` lexemes of a whole
+/// document, lexeme by lexeme. `keys` contains the facts that the keys of the document decide about
+/// all its lexemes, since a later lexeme may decide whether one is a key. Lines and columns of
+/// problems count from 1, columns in characters. Line 1 of a problem is line 0 of the lexemes.
+/// Allocates only for the problems. The only error is out of memory.
 pub fn lexeme_problems<A: Allocator + Copy>(
     alloc: A,
     lexemes: &[LexemeAtLine<'_, A>],

@@ -1,5 +1,5 @@
-//! The rules on the lexemes of a document: spaces round brackets, commas, colons and hyphens, the
-//! document's start, truthy words and quotes.
+//! The rules on the lexemes of a document: `braces`, `brackets`, `colons`, `commas`,
+//! `document-start`, `hyphens`, `quoted-strings` and `truthy`.
 #![tactic(auto)]
 
 mod brackets;

@@ -9,23 +9,31 @@ use crate::hyphens::HyphensOptions;
 use crate::quoted_strings::QuotedStringsOptions;
 use crate::truthy::TruthyOptions;
 
-/// For each rule on lexemes its options, or none where it is off.
+/// The options of each rule on lexemes, or `None` for a rule that is off.
 #[derive(Clone, Copy)]
 pub struct LexemeOptions {
+    /// The options of the rule `braces`.
     pub braces: Option<BracketsOptions>,
+    /// The options of the rule `brackets`.
     pub brackets: Option<BracketsOptions>,
+    /// The options of the rule `colons`.
     pub colons: Option<ColonsOptions>,
+    /// The options of the rule `commas`.
     pub commas: Option<CommasOptions>,
+    /// The options of the rule `hyphens`.
     pub hyphens: Option<HyphensOptions>,
+    /// The options of the rule `document-start`.
     pub document_start: Option<DocumentStartOptions>,
+    /// The options of the rule `truthy`.
     pub truthy: Option<TruthyOptions>,
+    /// The options of the rule `quoted-strings`.
     pub quoted_strings: Option<QuotedStringsOptions>,
 }
 
 impl LexemeOptions {
     ghost use Rattle.yl_layout.specs.Standard.{standard_options};
 
-    /// Those of yamllint's default configuration, where quoted-strings is off.
+    /// Returns the options of yamllint's default configuration, in which `quoted-strings` is off.
     pub fn standard() -> LexemeOptions
         ensures { result ≡ standard_options }
     {

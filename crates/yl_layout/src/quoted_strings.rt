@@ -1,4 +1,4 @@
-//! The rule quoted-strings.
+//! The rule `quoted-strings`.
 ghost use Rattle.std.specs.Prelude.{◌≡◌, ◌++◌, ◌+◌, ◌<◌, ◌^◌, true, Some, OnOk};
 ghost use Rattle.yl_layout.specs.QuotedStrings.{is_misquoted, quoted_strings};
 
@@ -10,11 +10,14 @@ use yl_marks::KeyFacts;
 use yl_plain::is_string;
 use yl_text::{Finding, Pos, RuleId};
 
-/// The quotes that strings are to have.
+/// The quotes that a quoted string must have.
 #[derive(Clone, Copy)]
 pub enum QuoteType {
+    /// Any quotes.
     Any,
+    /// Single quotes.
     Single,
+    /// Double quotes.
     Double,
 }
 
@@ -22,7 +25,7 @@ impl QuoteType {
     ghost use Rattle.std.specs.Prelude.{◌≡◌};
     ghost use Rattle.yl_layout.specs.QuotedStrings.{misquoted_text};
 
-    /// What is said of a string that has other quotes, or none.
+    /// Returns the message about a string that has other quotes, or none.
     fn text(self) -> &'static str
         ensures { result.now ≡ misquoted_text self }
     {
@@ -34,15 +37,18 @@ impl QuoteType {
     }
 }
 
-/// Which quotes strings are to have, and whether they must have quotes.
+/// The options of the rule `quoted-strings`.
 #[derive(Clone, Copy)]
 pub struct QuotedStringsOptions {
+    /// The quotes that a quoted string must have.
     pub quote_type: QuoteType,
+    /// Whether a plain scalar that is a string is a problem.
     pub required: bool,
 }
 
 impl QuotedStringsOptions {
-    /// Those that yamllint takes where a configuration gives none.
+    /// Returns the options that yamllint takes if a configuration sets none: any quotes, and each
+    /// string must be quoted.
     pub fn standard() -> QuotedStringsOptions
         ensures { result ≡ record { quote_type = QuoteType.Any; required = true } }
     {
@@ -53,7 +59,7 @@ impl QuotedStringsOptions {
     }
 }
 
-/// Whether a scalar written so is quoted otherwise than the options ask.
+/// Returns whether a scalar of this style is quoted differently from what the options require.
 fn is_misquoted_style(options: &QuotedStringsOptions, style: Style, value: &[u8]) -> bool
     ensures { result ≡ is_misquoted options.now.required options.now.quote_type (Kind.Scalar style) value.now }
 {
@@ -65,6 +71,7 @@ fn is_misquoted_style(options: &QuotedStringsOptions, style: Style, value: &[u8]
     }
 }
 
+/// Returns whether a lexeme is a scalar that is quoted differently from what the options require.
 fn is_misquoted(options: &QuotedStringsOptions, kind: Kind, value: &[u8]) -> bool
     ensures { result ≡ is_misquoted options.now.required options.now.quote_type kind value.now }
 {
@@ -99,7 +106,8 @@ fn push_quoted_strings_by<A: Allocator>(
     )
 }
 
-/// Puts behind the problems what the rule finds at a lexeme and its value, if it is on.
+/// Appends the problem that the rule finds at a lexeme with this value. Appends nothing if the rule
+/// is off. The only error is out of memory.
 pub(crate) fn push_quoted_strings<A: Allocator>(
     problems: &mut Vec<Finding<A>, A>,
     options: &Option<QuotedStringsOptions>,

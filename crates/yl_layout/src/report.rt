@@ -1,4 +1,4 @@
-//! What is put behind the problems that were found.
+//! Appends problems.
 ghost use Rattle.std.specs.Prelude.{◌≡◌, ◌++◌, ◌+◌, ◌<◌, ◌^◌, OnOk};
 ghost use Rattle.yl_text.specs.Finding.{one_finding};
 ghost use Rattle.yl_layout.specs.Spans.{too_few, too_many, too_many_behind};
@@ -7,7 +7,7 @@ use crate::span::{Place, Span, distance, is_less};
 use std::alloc::{AllocError, Allocator};
 use yl_text::{Finding, RuleId};
 
-/// Puts a problem behind the others. Line and column count from 1.
+/// Appends a problem. Its line and column count from 1. The only error is out of memory.
 pub(crate) fn report<A: Allocator>(
     problems: &mut Vec<Finding<A>, A>,
     rule: RuleId,
@@ -22,8 +22,8 @@ pub(crate) fn report<A: Allocator>(
     Ok(())
 }
 
-/// Puts a problem behind the others if more characters stand between two lexemes of a line than
-/// may.
+/// Appends a problem if two lexemes are in one line and more than `most` characters are between
+/// them. It is reported at the character before the second lexeme. The only error is out of memory.
 pub(crate) fn report_too_many<A: Allocator>(
     problems: &mut Vec<Finding<A>, A>,
     rule: RuleId,
@@ -42,7 +42,8 @@ pub(crate) fn report_too_many<A: Allocator>(
     report(problems, rule, line, u64::from(y.start.col), message)
 }
 
-/// The same where fewer characters stand between them than must.
+/// Appends a problem if two lexemes are in one line and fewer than `least` characters are between
+/// them. It is reported at the second lexeme. The only error is out of memory.
 pub(crate) fn report_too_few<A: Allocator>(
     problems: &mut Vec<Finding<A>, A>,
     rule: RuleId,
@@ -62,7 +63,9 @@ pub(crate) fn report_too_few<A: Allocator>(
     report(problems, rule, line, column, message)
 }
 
-/// The same where too many characters stand behind a lexeme, if another follows it.
+/// Appends a problem if the next lexeme is in the same line and more than `most` characters are
+/// between the two. It is reported at the character before the next lexeme. The only error is out
+/// of memory.
 pub(crate) fn report_too_many_behind<A: Allocator>(
     problems: &mut Vec<Finding<A>, A>,
     rule: RuleId,

@@ -1,4 +1,4 @@
-//! The rule truthy.
+//! The rule `truthy`.
 ghost use Rattle.std.specs.Prelude.{◌≡◌, not, ◌||◌, ◌++◌, ◌+◌, ◌<◌, ◌^◌, false, Some, OnOk, bytes_eq, slice_index_or};
 ghost use Rattle.std.specs.List.{list_any};
 ghost use Rattle.std.specs.Option.{option_map_or};
@@ -12,10 +12,10 @@ use yl_lexeme::{Kind, Style};
 use yl_marks::KeyFacts;
 use yl_text::{Finding, Pos, RuleId};
 
-/// A set of truthy words. A word goes by its index, which `index_of` tells.
+/// A set of truthy words. A word is named by its index, which `index_of` returns.
 #[derive(Clone, Copy)]
 pub struct TruthyWords {
-    /// For each truthy word, in the order of ASCII, whether it is in the set.
+    /// Whether each truthy word is in the set, in ASCII order of the words.
     pub allowed: [bool; 18],
 }
 
@@ -23,7 +23,7 @@ impl TruthyWords {
     ghost use Rattle.std.specs.Prelude.{◌≡◌, ◌<◌, false, true, replicate, slice_index_or, slice_set};
     ghost use Rattle.yl_layout.specs.Truthy.{truthy_index};
 
-    /// None of them.
+    /// Creates an empty set.
     pub fn none() -> TruthyWords
         ensures { result.allowed ≡ replicate 18 false }
     {
@@ -32,7 +32,7 @@ impl TruthyWords {
         }
     }
 
-    /// The same set with the word of this index.
+    /// Returns the set with the word of this index added.
     pub fn with(self, index: usize) -> TruthyWords
         requires { index < 18 }
         ensures { result.allowed ≡ slice_set self.allowed index true }
@@ -42,14 +42,14 @@ impl TruthyWords {
         TruthyWords { allowed }
     }
 
-    /// The index of a word, if it is truthy.
+    /// Returns the index of a word, or `None` if it is not truthy.
     pub fn index_of(word: &[u8]) -> Option<usize>
         ensures { result ≡ truthy_index word.now }
     {
         word_index(word)
     }
 
-    /// Whether the word of this index is in the set.
+    /// Returns whether the word of this index is in the set.
     pub fn has(&self, index: usize) -> bool
         requires { index < 18 }
         ensures { result ≡ slice_index_or self.now.allowed index false }
@@ -58,10 +58,12 @@ impl TruthyWords {
     }
 }
 
-/// Which truthy words may stand, and whether keys are looked at.
+/// The options of the rule `truthy`.
 #[derive(Clone, Copy)]
 pub struct TruthyOptions {
+    /// The truthy words that are allowed.
     pub allowed_values: TruthyWords,
+    /// Whether keys are checked.
     pub check_keys: bool,
 }
 
@@ -69,7 +71,8 @@ impl TruthyOptions {
     ghost use Rattle.std.specs.Prelude.{◌≡◌};
     ghost use Rattle.yl_layout.specs.Standard.{standard_truthy};
 
-    /// Those of yamllint's default configuration: `true` and `false` are allowed.
+    /// Returns the options of yamllint's default configuration: `true` and `false` are allowed, and
+    /// keys are checked.
     pub fn standard() -> TruthyOptions
         ensures { result ≡ standard_truthy }
     {
@@ -80,20 +83,21 @@ impl TruthyOptions {
     }
 }
 
+/// Returns whether a lexeme of this kind is a plain scalar.
 fn is_plain(kind: Kind) -> bool
     ensures { result ≡ is_plain kind }
 {
     matches!(kind, Kind::Scalar(Style::Plain))
 }
 
-/// Whether the options ask for this lexeme to be looked at.
+/// Returns whether the options require that this lexeme is checked.
 fn is_asked(options: &TruthyOptions, key: KeyFacts) -> bool
     ensures { result ≡ options.now.check_keys || not key.is_key }
 {
     options.check_keys || !key.is_key
 }
 
-/// Whether there is such a word, and it is not allowed.
+/// Returns whether there is a word and it is not allowed.
 fn is_wrong(words: &TruthyWords, index: Option<usize>) -> bool
     ensures { result ≡ option_map_or (λ i. not (slice_index_or words.now.allowed i false)) index false }
 {
@@ -103,7 +107,7 @@ fn is_wrong(words: &TruthyWords, index: Option<usize>) -> bool
     }
 }
 
-/// Whether a word is a truthy one of the core schema of YAML 1.2.
+/// Returns whether the word is a truthy word of the core schema of YAML 1.2.
 fn is_core_word(word: &[u8]) -> bool
     ensures { result ≡ list_any (λ w. bytes_eq w word.now) core_words }
 {
@@ -115,14 +119,16 @@ fn is_core_word(word: &[u8]) -> bool
         || is_word("true", word)
 }
 
-/// Whether a truthy word is one in its document: one of YAML 1.2 has those of the core schema alone.
+/// Returns whether a truthy word counts as such in its document. In a document that declares itself
+/// to be one of YAML 1.2 only the words of the core schema do.
 fn is_word_there(is_1_2: bool, word: &[u8]) -> bool
     ensures { result ≡ not is_1_2 || list_any (λ w. bytes_eq w word.now) core_words }
 {
     !is_1_2 || is_core_word(word)
 }
 
-/// Whether a lexeme is a plain scalar without tag whose value is a truthy word of its document that is not allowed.
+/// Returns whether a lexeme is a plain scalar without a tag whose value is a truthy word of its
+/// document that is not allowed. Returns `false` for a key if keys are not checked.
 fn is_truthy(is_1_2: bool, options: &TruthyOptions, kind: Kind, value: &str, key: KeyFacts) -> bool
     ensures { result ≡ is_truthy is_1_2 options.now kind value.now key }
 {
@@ -173,8 +179,9 @@ fn push_truthy_by<A: Allocator + Copy>(
     }
 }
 
-/// Puts behind the problems what the rule finds at a lexeme and its value, if it is on, by whether the document says that it is one
-/// of YAML 1.2.
+/// Appends the problem that the rule finds at a lexeme with this value. `is_1_2` says whether a
+/// directive declares the document to be one of YAML 1.2. Appends nothing if the rule is off. The
+/// only error is out of memory.
 pub(crate) fn push_truthy<A: Allocator + Copy>(
     problems: &mut Vec<Finding<A>, A>,
     is_1_2: bool,

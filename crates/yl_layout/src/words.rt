@@ -1,4 +1,4 @@
-//! The truthy words and the text that lists them.
+//! The truthy words, and the message that lists the allowed ones.
 ghost use Rattle.std.specs.Prelude.{◌≡◌, ◌++◌, ◌<◌, ◌∷◌, ℕ, List, bytes_eq, codes, Some, IfOk, OnOk, string_bytes, if◌then◌else◌};
 ghost use Rattle.std.specs.List.{slice_get};
 ghost use Rattle.yl_layout.specs.Truthy.{truthy_index, truthy_text, truthy_words};
@@ -8,10 +8,10 @@ ghost use Rattle.yl_layout.specs.TruthyLetters.{is_first_letter, may_be_truthy};
 use crate::truthy::TruthyWords;
 use std::alloc::{AllocError, Allocator};
 
-/// How many truthy words there are.
+/// The number of truthy words.
 const WORDS: usize = 18;
 
-/// The truthy word of this index, in the order of ASCII.
+/// Returns the truthy word of this index, in ASCII order.
 fn word_at(index: usize) -> &'static str
     requires { index < 18 }
     ensures { slice_get truthy_words index ≡ Some result.now }
@@ -38,7 +38,7 @@ fn word_at(index: usize) -> &'static str
     }
 }
 
-/// Whether some truthy word begins with this letter and has so many more.
+/// Returns whether some truthy word begins with this letter and has `more` further letters.
 fn is_first_letter(more: usize, letter: u8) -> bool
     ensures { result ≡ is_first_letter more letter }
 {
@@ -48,7 +48,8 @@ fn is_first_letter(more: usize, letter: u8) -> bool
         || (more == 4 && matches!(letter, b'F' | b'f'))
 }
 
-/// What the length and the first letter say: whether a word may be truthy.
+/// Returns whether some truthy word has the length and the first letter of this word. `false`
+/// implies that the word is not truthy.
 fn may_be_truthy(word: &[u8]) -> bool
     ensures { result ≡ may_be_truthy word.now }
 {
@@ -58,14 +59,14 @@ fn may_be_truthy(word: &[u8]) -> bool
     }
 }
 
-/// Whether a text is this word.
+/// Returns whether the text is this word.
 pub(crate) fn is_word(word: &str, text: &[u8]) -> bool
     ensures { result ≡ bytes_eq word.now text.now }
 {
     word.as_bytes() == text
 }
 
-/// The index of a word, if it is truthy.
+/// Returns the index of a word, or `None` if it is not truthy.
 pub(crate) fn word_index(word: &[u8]) -> Option<usize>
     ensures { result ≡ truthy_index word.now }
 {
@@ -80,7 +81,8 @@ pub(crate) fn word_index(word: &[u8]) -> Option<usize>
     None
 }
 
-/// Puts a word behind a list of words.
+/// Appends a word to a list of words. Appends a comma and a space before it, unless it is the
+/// first. The only error is out of memory.
 fn push_word<A: Allocator>(
     text: &mut String<A>,
     is_first: bool,
@@ -96,7 +98,8 @@ fn push_word<A: Allocator>(
     Ok(())
 }
 
-/// Puts a word behind a list of words, if it is allowed. Answers whether the next one is the first.
+/// Appends a word to a list of words, if it is allowed. Returns whether the next word is the first
+/// of the list. The only error is out of memory.
 fn push_if_allowed<A: Allocator>(
     text: &mut String<A>,
     is_first: bool,
@@ -115,7 +118,8 @@ fn push_if_allowed<A: Allocator>(
     Ok(false)
 }
 
-/// What is said of a truthy word that is not among these.
+/// Returns the message about a truthy word that is not in this set. The only error is out of
+/// memory.
 pub(crate) fn truthy_text<A: Allocator>(
     alloc: A,
     words: &TruthyWords,

@@ -151,8 +151,8 @@ fn pass_if_asked<A: Allocator + Copy>(
     Ok(())
 }
 
-/// Reads the lexemes of a line, and replaces the contents of `pieces` by them. Returns the summary
-/// of these lexemes and the earlier ones. Discards the contents of `unit`, but reuses its
+/// Reads the lexemes of a line, and replaces the contents of `pieces` with them. Returns the
+/// summary of these lexemes and the earlier ones. Discards the contents of `unit`, but reuses its
 /// allocation and that of `pieces`. The only error is out of memory.
 pub fn line_pieces<A: Allocator + Copy>(
     tokens: &[Token],

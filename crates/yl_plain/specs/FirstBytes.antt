@@ -3,7 +3,7 @@ use Rattle.std.specs.Prelude.{ℕ, Bool, false, ◌||◌, ◌==◌, List, [], �
 use Rattle.std.specs.List.{list_any}
 use Rattle.yl_plain.specs.Strings.{is_decimal}
 
--- the characters, other than digits, with which such words and numbers begin
+-- the characters, other than digits, with which the words and numbers that are not strings begin
 abbrev pub first_bytes : List ℕ
 first_bytes = codes "~.+-nNtTfF"
 

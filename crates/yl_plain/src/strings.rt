@@ -182,7 +182,7 @@ fn is_based(text: &[u8]) -> bool
     }
 }
 
-/// Returns whether the text is a decimal number or an infinity. The sign must be removed before.
+/// Returns whether the text is a decimal number or an infinity, without a sign.
 fn is_signed(text: &[u8]) -> bool
     ensures { result ≡ is_signed text.now }
 {
@@ -210,7 +210,8 @@ fn may_be_no_string(value: &[u8]) -> bool
     }
 }
 
-/// Returns whether a plain scalar with this value, as UTF-8 bytes, is a string.
+/// Returns whether a plain scalar with this value, as UTF-8 bytes, is a string. Returns `true` for
+/// an empty value, which no plain scalar has.
 pub fn is_string(value: &[u8]) -> bool
     ensures { result ≡ is_string value.now }
 {

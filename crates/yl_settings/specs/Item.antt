@@ -1,4 +1,4 @@
--- Bridge: the values of nodes and entries that the code has as indices of events.
+-- Bridge: nodes and entries as the code represents them, by the indices of events.
 use Rattle.std.specs.Prelude.{ℕ, List, drop, map}
 use Rattle.yl_events.specs.declared.event.Event.{Event}
 use Rattle.yl_events.specs.Event.{event_value, kind_value}

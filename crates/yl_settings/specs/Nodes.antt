@@ -30,7 +30,8 @@ abbrev pub starts_mapping : EventKindValue → Bool
 starts_mapping MappingStart = true
 starts_mapping _ = false
 
--- a list has the nodes of one collection at each level, the innermost collection first
+-- the nodes of the innermost collection, and those of the others (`outer`). Nested collections are
+-- listed with the innermost first
 abbrev pub innermost : List Nodes → Nodes
 innermost [] = NoNode
 innermost (nodes ∷ outer) = nodes

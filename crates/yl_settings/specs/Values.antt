@@ -30,7 +30,7 @@ limit_in kind = limit (plain_word kind)
 abbrev pub level_in : EventKindValue → Option Level
 level_in kind = if bytes_eq (word kind) (codes "error") then Some Error else if bytes_eq (word kind) (codes "warning") then Some Warning else None
 
--- one value for true, another for false, and a third one if there is no truth value
+-- one value for true, another for false, and `other` if there is no truth value
 abbrev pub flag_or : {A : Type 0} → Option Bool → A → A → Option A → Option A
 flag_or (Some true) one another other = Some one
 flag_or (Some false) one another other = Some another

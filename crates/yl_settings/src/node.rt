@@ -8,12 +8,12 @@ ghost use Rattle.yl_settings.specs.Item.{entry_value, nodes_at};
 use yl_events::{Event, EventKind};
 use yl_text::Pos;
 
-/// A node: its kind, where its content begins, and the index of the first event in it.
+/// A node.
 #[derive(Clone, Copy)]
 pub struct Item<'a> {
     /// The kind of its first event.
     pub kind: EventKind<'a>,
-    /// The position in the text where its content begins, if it has one.
+    /// The position in the text where the content of a collection, a scalar or an alias begins.
     pub place: Option<Pos>,
     /// The index of the first event inside the node. For a node that is no collection and no
     /// document it is the number of events.
@@ -34,7 +34,8 @@ pub struct ItemAt<'a> {
 pub struct EntryAt<'a> {
     /// The kind of the first event of the key.
     pub key: EventKind<'a>,
-    /// The position in the text where the content of the key begins, if it has one.
+    /// The position in the text where the content of the key begins, if the key is a collection, a
+    /// scalar or an alias.
     pub key_place: Option<Pos>,
     /// The value.
     pub value: Item<'a>,

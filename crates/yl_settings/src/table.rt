@@ -300,8 +300,8 @@ fn set_truthy(
 }
 
 impl RuleOptions {
-    /// Sets the option `name` of a rule to the value of a node. `events` are the events of the
-    /// document that contains the node. Changes nothing unless it returns `Answer::Taken`.
+    /// Sets the option `name` of a rule to the value of the node `item`. `events` are the events of
+    /// the document that contains the node. Changes nothing unless it returns `Answer::Taken`.
     #[tactic(auto, unfolding(crate::specs::Options::option_of))]
     pub fn set(&mut self, rule: RuleId, name: &str, events: &[Event<'_>], item: &Item<'_>) -> Answer
         requires { item.now.inside ≤ length events.now }
@@ -346,7 +346,7 @@ impl RuleOptions {
         }
     }
 
-    /// Replaces the options of a rule by those in `from`. Leaves the options of all other rules
+    /// Replaces the options of a rule with those in `from`. Leaves the options of all other rules
     /// unchanged.
     pub fn take(&mut self, rule: RuleId, from: &RuleOptions)
         ensures { self.new ≡ with_options_of rule from.now self.old }
