@@ -24,7 +24,7 @@ ProblemsAreByDocuments = (options : IndentationOptions) (documents : List (List 
 abbrev pub FactsCountEntriesOnceSeen : Type 0
 FactsCountEntriesOnceSeen = (fs : List Fact) → CountsEntriesOnceSeen (measure_of fs)
 
--- the same is true of the measure of earlier facts followed by later ones
+-- if this is true of two measures, it is true of the two joined
 abbrev pub BothCountEntriesOnceSeen : Type 0
 BothCountEntriesOnceSeen = (earlier later : Measure) → CountsEntriesOnceSeen earlier
     → CountsEntriesOnceSeen later → CountsEntriesOnceSeen (and_later earlier later)

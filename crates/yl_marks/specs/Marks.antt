@@ -58,7 +58,7 @@ with_collection (Some mapping) column cs = record { is_mapping = mapping; column
 abbrev pub opening : Option Bool → ℕ → List Symbol
 opening new i = option_map_or (λ mapping. if mapping then OpenMapping i ∷ [] else OpenSequence i ∷ []) new []
 
--- the key of a Value begins at the lexeme of this index
+-- the lexeme of this index is the one at which this key begins
 abbrev pub is_at : ℕ → Option ℕ → Bool
 is_at i key = option_map_or (λ k. k == i) key false
 

@@ -75,7 +75,8 @@ fn fact_by(ahead: KeyFacts, m: Marking, next: Option<KeyedToken>) -> KeyFacts
     }
 }
 
-/// Returns the facts that this lexeme and those before it decide about the lexeme after it.
+/// Returns the facts that this lexeme and those before it decide about the lexeme after it, if no
+/// key begins or ends with that one.
 pub fn next_ahead(ahead: KeyFacts, m: Marking) -> KeyFacts
     ensures { result ≡ next_ahead ahead m }
 {

@@ -46,7 +46,8 @@ fn closes(m: Marking, c: OpenBlock) -> bool
             && (column < c.column || (c.column == column && !continues(m, c))))
 }
 
-/// Closes the collections that the lexeme closes. The only error is out of memory.
+/// Removes the collections that the lexeme closes, and appends a mark for each of them. The only
+/// error is out of memory.
 fn close<A: Allocator>(
     m: Marking,
     collections: &mut Vec<OpenBlock, A>,
@@ -64,8 +65,8 @@ fn close<A: Allocator>(
     Ok(())
 }
 
-/// Opens the collection that the lexeme of this index opens, if any. The only error is out of
-/// memory.
+/// Adds the collection that opens before the lexeme of this index, if any, and appends its mark.
+/// The only error is out of memory.
 fn open<A: Allocator>(
     m: Marking,
     i: u32,

@@ -64,7 +64,7 @@ fn is_key_next(place: Option<KeyStart>, behind: &[Token]) -> bool
 }
 
 /// Returns the facts about a lexeme of such a line. `ahead` contains the facts that the lexemes
-/// before it decide about it.
+/// before it decide about it, if no key begins or ends with it.
 fn single_fact(ahead: KeyFacts, m: Marking) -> KeyFacts
     ensures { result ≡ single_fact ahead m }
 {
