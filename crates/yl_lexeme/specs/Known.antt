@@ -6,10 +6,12 @@ use Rattle.yl_lexeme.specs.Lexeme.{is_document_marker, is_opening, is_closing}
 use Rattle.yl_lexeme.specs.Kept.{KeyUnitValue, all_but_first, key_unit_behind}
 use Rattle.yl_lexeme.specs.Past.{PastLexeme, Context, spot, open_brackets, levels, is_flow, opens_item, asks_behind, cut, levels_with}
 
--- levels: one more than each column, the greatest first. brackets: the open ones, the innermost first. asks: the latest lexeme is
--- an Entry, a Key or a Value without key. unit: where the unit that the latest lexemes make begins, if a key may begin there.
--- outer: the same for each bracket of this row that is open, the innermost first. property: of a latest lexeme that is a property,
--- whether it is an anchor, and its column, if a key may begin there
+-- levels: one more than each column, in descending order. brackets: the open ones, the innermost
+-- first. last: the kind of the latest lexeme. asks: the latest lexeme of the row is an Entry, a Key
+-- or a Value without a key. unit: the column at which the unit of the latest lexemes begins, if a
+-- key may begin there. outer: the same column for each bracket of this row that is open, the
+-- innermost first. property: if the latest lexeme is a property, whether it is an anchor, and its
+-- column, if a key may begin there
 pub record SurroundingsValue : Type 0 where
   pub levels : List ℕ
   pub brackets : List Kind
@@ -28,7 +30,7 @@ context_of k = record {
   start = k.unit;
 }
 
--- at the start of a row
+-- what is kept at the start of a row
 abbrev pub row_start : List ℕ → List Kind → Option Kind → SurroundingsValue
 row_start levels brackets last =
     record { levels = levels; brackets = brackets; last = last; asks = false; unit = None; outer = []; property = None }
@@ -36,17 +38,18 @@ row_start levels brackets last =
 abbrev pub new_row : SurroundingsValue → SurroundingsValue
 new_row k = row_start k.levels k.brackets k.last
 
--- at a place, which removes the columns that are greater if it is first in its row, out of brackets
+-- what is kept at a position: the first one of a row, outside of brackets, removes the greater
+-- columns
 abbrev pub surroundings_at : Bool → ℕ → SurroundingsValue → SurroundingsValue
 surroundings_at first column k = record k { levels = cut (first && not (is_flow k.brackets)) column k.levels }
 
--- before any lexeme
+-- what is kept before any lexeme
 abbrev pub no_surroundings : SurroundingsValue
 no_surroundings = row_start [] [] None
 
--- ---- behind one more lexeme
+-- ---- after one more lexeme
 
--- its own column, if a key may begin at it
+-- the column of the lexeme, if a key may begin there
 abbrev pub own_column : PastLexeme → Option ℕ
 own_column x = (spot x).start
 
@@ -54,7 +57,7 @@ abbrev pub brackets_with : Kind → List Kind → List Kind
 brackets_with kind brackets =
     if is_document_marker kind then [] else if is_closing kind then all_but_first brackets else if is_opening kind then kind ∷ brackets else brackets
 
--- what is kept of the row's unit
+-- what is kept of the unit of the row
 abbrev pub row_unit : SurroundingsValue → KeyUnitValue ℕ
 row_unit k = record { unit = k.unit; outer = k.outer; property = k.property }
 
@@ -75,7 +78,7 @@ surroundings_behind x k = record {
   property = (key_unit_behind x.kind (own_column x) (row_unit k)).property;
 }
 
--- what is kept behind the lexemes of a row, and those before
+-- what is kept after the lexemes of a row, and those before the row
 abbrev pub surroundings_of : List PastLexeme → List PastLexeme → SurroundingsValue
 surroundings_of [] older = row_start (levels older) (open_brackets 0 older) (option_map (λ x. x.kind) (slice_get older 0))
 surroundings_of (x ∷ here) older = surroundings_behind x (surroundings_of here older)

@@ -1,10 +1,10 @@
--- Meaning: what clauses see of lexemes and comments.
+-- Meaning: lexemes and comments, as contracts see them, and the kinds of lexemes.
 use Rattle.std.specs.Prelude.{ℕ, Bool, true, false, List, Option}
 use Rattle.yl_text.specs.declared.position.Pos.{Pos}
 use Rattle.yl_lexeme.specs.declared.lexeme.Kind.{Kind}
 use Rattle.yl_lexeme.specs.declared.lexeme.Kind.TheVariants.{DocStart, DocEnd, Entry, Key, Value, Comma, SeqOpen, SeqClose, MapOpen, MapClose, Alias, Anchor, Tag, Scalar}
 
--- a lexeme: its lines count from that in which it begins; the value in UTF-8
+-- a lexeme; its lines count from the one in which it begins, and its value is in UTF-8
 pub record LexemeValue : Type 0 where
   pub kind : Kind
   pub start : Pos
@@ -16,7 +16,8 @@ pub record CommentValue : Type 0 where
   pub column : ℕ
   pub text : List ℕ
 
--- a comment in a text: its place, from 0; its text, `#` up to the break, in UTF-8; where the lexeme before it in its line ends
+-- a comment in a text: its line and column, from 0; its text, from the `#` up to the break, in
+-- UTF-8; and the column after the lexeme before it, if one ends in its line
 pub record PlacedCommentValue : Type 0 where
   pub line : ℕ
   pub column : ℕ

@@ -1,4 +1,4 @@
--- Bridge: a lexeme of its parts, wherever its value lies.
+-- Bridge: the lexeme that its parts make, wherever its value is stored.
 use Rattle.std.specs.Prelude.{string_bytes}
 use Rattle.std.specs.Str.{chars, encode_utf8_all}
 use Rattle.yl_lexeme.specs.Lexeme.{LexemeValue}

@@ -1,5 +1,6 @@
--- Meaning: what the earlier lexemes say of a place: YAML 1.2.2, chapters 6 to 8. They are listed
--- with the latest first: here, those that begin in this line, and older, those before.
+-- Meaning: the context that the lexemes before a position give: YAML 1.2.2, chapters 6 to 8.
+-- Lexemes are listed with the latest first: `here` those that begin in this line, and `older` those
+-- before it.
 use Rattle.std.specs.Prelude.{ℕ, Bool, true, false, not, ◌&&◌, ◌||◌, ◌==◌, nat_lt, nat_le, if◌then◌else◌, List, [], ◌∷◌, ◌++◌, map, ◌+◌, ◌-◌, Option, Some, None, is_some, option_map, option_and_then, unwrap_or, slice_get}
 use Rattle.std.specs.Bool.{then_some}
 use Rattle.std.specs.Option.{option_map_or}
@@ -7,8 +8,8 @@ use Rattle.yl_lexeme.specs.declared.lexeme.Kind.{Kind}
 use Rattle.yl_lexeme.specs.Lexeme.{is_document_marker, is_opening, is_closing, is_entry, is_key, is_value, is_comma}
 use Rattle.yl_lexeme.specs.Keys.{Spot, key_start}
 
--- first: nothing but white space stands before it in its line. flow: it stands in brackets. begins: a key may begin at it.
--- key: of a Value, the column of its key's first lexeme, if it has a key
+-- first: only white space is before it in its line. flow: it is in brackets. begins: a key may
+-- begin at it. key: for a Value, the column of the first lexeme of its key, if it has a key
 pub record PastLexeme : Type 0 where
   pub kind : Kind
   pub column : ℕ
@@ -19,7 +20,8 @@ pub record PastLexeme : Type 0 where
 
 -- ---- brackets (flow collections: 7.4)
 
--- the open brackets, the innermost first; skip counts closing brackets that are still to meet their partners
+-- the open brackets, the innermost first; skip counts the closing brackets whose partners are yet
+-- to be found
 abbrev pub open_brackets : ℕ → List PastLexeme → List Kind
 open_brackets skip [] = []
 open_brackets skip (x ∷ xs) =
@@ -30,45 +32,49 @@ open_brackets skip (x ∷ xs) =
 
 -- ---- keys (implicit keys: 7.4.2, 8.2.2)
 
--- a lexeme with its column, if a key may begin at it
+-- a lexeme with its column, if a key may begin there
 abbrev pub spot : PastLexeme → Spot ℕ
 spot x = record { kind = x.kind; start = then_some x.begins x.column }
 
--- no more than 1024 characters before this column
+-- whether the start is at most 1024 characters before this column
 abbrev pub is_near : ℕ → ℕ → Bool
 is_near column start = nat_le column (start + 1024)
 
--- the column of the key of a Value at this column, by where the unit directly before it begins
+-- the column of the key of a Value in this column, where the unit directly before the Value begins
+-- at `start`
 abbrev pub near : ℕ → Option ℕ → Option ℕ
 near column start = option_and_then (λ start. then_some (nat_le start column && is_near column start) start) start
 
+-- whether an item of a flow collection may begin after this last lexeme
 abbrev pub opens_item : Option Kind → Bool
 opens_item last = option_map_or (λ k. is_opening k || is_comma k) last false
 
--- an Entry, a Key, or a Value without key
+-- whether it is an Entry, a Key, or a Value without a key
 abbrev pub asks_behind : Kind → Option ℕ → Bool
 asks_behind kind key = is_entry kind || is_key kind || (is_value kind && not (is_some key))
 
 -- ---- columns (indentation: 6.1, 8.2)
 
--- n + 1, where the columns are listed each one more and the greatest first
+-- one more than the greatest column, or 0 if there is none; the columns are listed as one more, in
+-- descending order
 abbrev pub level : List ℕ → ℕ
 level [] = 0
 level (l ∷ ls) = l
 
+-- the columns with this one, if it is greater than all
 abbrev pub with_column : ℕ → List ℕ → List ℕ
 with_column column levels = if nat_le (level levels) column then (column + 1) ∷ levels else levels
 
--- without the columns that are greater than this one
+-- the columns without those that are greater than this one
 abbrev pub up_to : ℕ → List ℕ → List ℕ
 up_to column [] = []
 up_to column (l ∷ ls) = if nat_lt (column + 1) l then up_to column ls else l ∷ ls
 
--- a first lexeme removes the columns greater than its own
+-- a lexeme that is the first of its line removes the columns that are greater than its own
 abbrev pub cut : Bool → ℕ → List ℕ → List ℕ
 cut removes column levels = if removes then up_to column levels else levels
 
--- behind a lexeme, where these are the columns before it
+-- the columns after a lexeme, where these are the columns before it
 abbrev pub levels_with : PastLexeme → List ℕ → List ℕ
 levels_with x levels =
     if is_document_marker x.kind then []
@@ -81,9 +87,10 @@ abbrev pub levels : List PastLexeme → List ℕ
 levels [] = []
 levels (x ∷ xs) = levels_with x (levels xs)
 
--- ---- all of it
+-- ---- the context
 
--- what surrounds a place. behind: a key may begin behind the last lexeme. start: where a Value's key would begin, if not too far
+-- the context of a position. behind: a key may begin after the last lexeme. start: the column at
+-- which the unit begins that may be the key of a Value
 pub record Context : Type 0 where
   pub levels : List ℕ
   pub brackets : List Kind
@@ -110,7 +117,8 @@ context_from here older =
 abbrev pub may_begin : Bool → Context → Bool
 may_begin first a = if in_flow a then a.behind else first || a.behind
 
--- at a place, which removes the columns that are greater if it is first in its row, out of brackets
+-- the context at a position: the first one of a row, outside of brackets, removes the greater
+-- columns
 abbrev pub at_place : Bool → ℕ → Context → Context
 at_place first column a = record a { levels = cut (first && not (in_flow a)) column a.levels }
 

@@ -1,4 +1,4 @@
--- Bridge: a comment as it is handed in.
+-- Bridge: the value of a comment at its position in a text.
 use Rattle.yl_lexeme.specs.declared.placed.PlacedComment.{PlacedComment}
 use Rattle.yl_lexeme.specs.Lexeme.{PlacedCommentValue}
 

@@ -1,4 +1,4 @@
--- Bridge: what the scanner's surroundings keep.
+-- Bridge: the value of the surroundings that a scanner keeps.
 use Rattle.yl_lexeme.specs.declared.surroundings.Surroundings.{Surroundings}
 use Rattle.yl_lexeme.specs.Known.{SurroundingsValue}
 

@@ -1,4 +1,4 @@
-//! Items that no longer change, and that stacks share.
+//! Immutable blocks of items that stacks share.
 
 ghost use Rattle.std.specs.Prelude.{◌≡◌, ◌≤◌, ◌++◌, [], IfOk, IsTrue, MatchOption, length, reverse};
 ghost use Rattle.yl_lexeme.specs.Blocks.{items_under};
@@ -10,13 +10,14 @@ use std::alloc::{AllocError, Allocator};
 use std::marker::Model;
 use std::rc::Rc;
 
-/// Items that no longer change, and those below them.
+/// A block of items and the blocks below it.
 #[derive(Drop)]
 struct Block<T: Copy, A: Allocator> {
-    /// The highest.
+    /// The highest item of the block.
     last: T,
-    /// Those before it, the highest at the end.
+    /// The other items of the block, the highest at the end.
     more: Vec<T, A>,
+    /// The block below, if there is one.
     below: Option<Rc<Block<T, A>, A>>,
 }
 
@@ -36,7 +37,8 @@ impl<T: Copy, A: Allocator> Model for Block<T, A> {
     ghost size_decreases = { λ a h. Prim.grind (arith, length-append (reverse a.more.items) (items_under a.below)) };
 }
 
-/// The same blocks, which take no room.
+/// Returns a reference to the same blocks. Allocates nothing. Returns an error only if there are
+/// more references to them than can be counted.
 fn share_blocks<T: Copy, A: Allocator>(
     blocks: &Option<Rc<Block<T, A>, A>>,
 ) -> Result<Option<Rc<Block<T, A>, A>>, AllocError>
@@ -48,7 +50,8 @@ fn share_blocks<T: Copy, A: Allocator>(
     }
 }
 
-/// Blocks of items, seen as the list of them from the top down. A copy shares them.
+/// A list of blocks of items. A contract sees the list of all items from the top down. Copies share
+/// the blocks.
 pub(crate) struct Blocks<T: Copy, A: Allocator> {
     highest: Option<Rc<Block<T, A>, A>>,
 }
@@ -63,13 +66,15 @@ impl<T: Copy, A: Allocator> Model for Blocks<T, A> {
 }
 
 impl<T: Copy, A: Allocator + Copy> Blocks<T, A> {
+    /// Creates an empty list.
     pub(crate) fn new() -> Blocks<T, A>
         ensures { result ≡ [] }
     {
         Blocks { highest: None }
     }
 
-    /// The same blocks, which take no room.
+    /// Returns a list of the same blocks. Allocates nothing. Returns an error only if there are
+    /// more references to them than can be counted.
     pub(crate) fn share(&self) -> Result<Blocks<T, A>, AllocError>
         ensures { IfOk result (λ b. b ≡ self.now) }
     {
@@ -78,7 +83,8 @@ impl<T: Copy, A: Allocator + Copy> Blocks<T, A> {
         })
     }
 
-    /// These blocks, and above them one more of these items, the highest at the end.
+    /// Returns these blocks with one more block of `items` above them, the highest item at the end.
+    /// The only error is out of memory.
     pub(crate) fn with(&self, alloc: A, items: &[T]) -> Result<Blocks<T, A>, AllocError>
         ensures { IfOk result (λ b. b ≡ reverse items.now ++ self.now) }
     {
@@ -99,7 +105,9 @@ impl<T: Copy, A: Allocator + Copy> Blocks<T, A> {
         }
     }
 
-    /// What is left without the highest item, if there is one: the other items of its block, the highest at the end, and the blocks below.
+    /// Returns what is left without the highest item: the other items of its block, the highest at
+    /// the end, and the blocks below it. Returns `None` if there is no item. Allocates nothing.
+    /// Returns an error only if there are more references to the blocks than can be counted.
     pub(crate) fn opened(&self) -> Result<Option<(&[T], Blocks<T, A>)>, AllocError>
         ensures { IfOk result (λ opened. MatchOption opened (self.now ≡ []) (λ rest. all_but_first self.now ≡ reverse rest.0.now ++ rest.1)) }
     {
@@ -113,7 +121,7 @@ impl<T: Copy, A: Allocator + Copy> Blocks<T, A> {
         }
     }
 
-    /// The highest item, if there is one.
+    /// Returns the highest item, if there is one.
     pub(crate) fn top(&self) -> Option<T>
         ensures { result ≡ first_of self.now }
     {
@@ -123,6 +131,7 @@ impl<T: Copy, A: Allocator + Copy> Blocks<T, A> {
         }
     }
 
+    /// Removes all items.
     pub(crate) fn clear(&mut self)
         ensures { self.new ≡ [] }
     {
@@ -130,7 +139,7 @@ impl<T: Copy, A: Allocator + Copy> Blocks<T, A> {
     }
 }
 
-/// Pushes items, the first one first.
+/// Pushes the items, the first one first. The only error is out of memory.
 pub(crate) fn push_all<T: Copy + Default, A: Allocator + Copy>(
     top: &mut SmallVec<T, 8, &A>,
     items: &[T],
@@ -143,7 +152,7 @@ pub(crate) fn push_all<T: Copy + Default, A: Allocator + Copy>(
     Ok(())
 }
 
-/// What lies below a block.
+/// Returns the block below a block, and drops the block itself.
 fn below_of<T: Copy, A: Allocator>(block: Block<T, A>) -> Option<Rc<Block<T, A>, A>>
     ensures { length (items_under result) ≤ length block.1 }
 {
@@ -151,7 +160,8 @@ fn below_of<T: Copy, A: Allocator>(block: Block<T, A>) -> Option<Rc<Block<T, A>,
     below
 }
 
-/// Drops blocks one after another: a drop of one that drops the next would take room for each.
+/// Drops blocks one after another, up to one that is still shared. A loop does this, since a
+/// recursive drop would use stack space for each block.
 fn drop_blocks<T: Copy, A: Allocator>(highest: Option<Rc<Block<T, A>, A>>) {
     let mut next = highest;
     while let Some(block) = next {
@@ -169,11 +179,12 @@ impl<T: Copy, A: Allocator> Drop for Blocks<T, A> {
     }
 }
 
-/// The items of a stack from the top down.
+/// An iterator over the items of a stack from the top down.
 #[derive(Drop)]
 pub struct Items<'s, T: Copy, A: Allocator> {
-    /// The highest at the end.
+    /// The next items, the highest at the end.
     run: &'s [T],
+    /// The blocks below them.
     below: &'s Option<Rc<Block<T, A>, A>>,
 }
 
@@ -187,6 +198,8 @@ impl<'s, T: Copy, A: Allocator> Model for Items<'s, T, A> {
 }
 
 impl<'s, T: Copy, A: Allocator> Items<'s, T, A> {
+    /// Creates an iterator over the items of `run`, from its end, and then over those of the blocks
+    /// below them.
     pub(crate) fn new(run: &'s [T], below: &'s Blocks<T, A>) -> Items<'s, T, A>
         ensures { result ≡ reverse run.now ++ below.now }
     {
@@ -196,7 +209,7 @@ impl<'s, T: Copy, A: Allocator> Items<'s, T, A> {
         }
     }
 
-    /// The next one, if there is one.
+    /// Returns the next item, or `None` if there is none left.
     pub fn next(&mut self) -> Option<T>
         ensures item { result ≡ first_of self.old }
         ensures rest { self.new ≡ all_but_first self.old }
@@ -218,7 +231,8 @@ impl<'s, T: Copy, A: Allocator> Items<'s, T, A> {
         }
     }
 
-    /// Whether both have the same items, which are fewer than so many, by a test of items. It compares no more of them.
+    /// Returns whether both have the same number of items, fewer than `most`, and the items are
+    /// equal in pairs. Compares at most `most` pairs. Advances both iterators.
     pub fn are_few_and_like(&mut self, other: &mut Items<'_, T, A>, most: usize) -> bool
     where
         T: PartialEq,
@@ -240,7 +254,8 @@ impl<'s, T: Copy, A: Allocator> Items<'s, T, A> {
         false
     }
 
-    /// Whether both have the same items, by a test of items.
+    /// Returns whether both have the same number of items and the items are equal in pairs.
+    /// Advances both iterators.
     pub fn are_like(&mut self, other: &mut Items<'_, T, A>) -> bool
     where
         T: PartialEq,

@@ -1,4 +1,4 @@
-//! Lexemes and comments: what the scanner reads of a text.
+//! Lexemes and comments, which the scanner reads from a text.
 
 use crate::version::is_version_1_2;
 use std::alloc::Allocator;
@@ -6,21 +6,26 @@ use std::marker::Model;
 use yl_inline::{InlineString, ShortText, Storage};
 use yl_text::Pos;
 
-/// How a scalar is written: YAML 1.2.2, 7.3 and 8.1.
+/// The style of a scalar (YAML 1.2.2, 7.3 and 8.1).
 #[derive(Clone, Copy, Debug, PartialEq, Eq)]
 pub enum Style {
+    /// A plain scalar.
     Plain,
+    /// A scalar in single quotes.
     Single,
+    /// A scalar in double quotes.
     Double,
+    /// A literal block scalar: `|`.
     Literal,
+    /// A folded block scalar: `>`.
     Folded,
 }
 
-/// What a lexeme is: the indicators and markers of YAML 1.2.2, chapters 6 to 9, and its scalars. The default is what a
-/// `SmallVec` fills its unused room with, and says nothing.
+/// The kind of a lexeme: the indicators and markers of YAML 1.2.2, chapters 6 to 9, and its
+/// scalars. The default value has no meaning. A `SmallVec` fills its unused capacity with it.
 #[derive(Clone, Copy, Debug, Default, PartialEq, Eq)]
 pub enum Kind {
-    /// A directive: `%` and what follows.
+    /// A directive: `%` and the text after it.
     Directive,
     /// The marker `---`.
     #[default]
@@ -47,8 +52,9 @@ pub enum Kind {
     Alias,
     /// An anchor: `&` and its name.
     Anchor,
-    /// A tag: `!` and what follows.
+    /// A tag: `!` and the text after it.
     Tag,
+    /// A scalar of a style.
     Scalar(Style),
 }
 
@@ -57,35 +63,38 @@ impl Kind {
     ghost use Rattle.yl_lexeme.specs.Lexeme.{is_document_marker, is_opening, is_closing};
     ghost use Rattle.yl_lexeme.specs.Past.{opens_item, asks_behind};
 
-    /// Whether it is `---` or `...`.
+    /// Returns whether it is `---` or `...`.
     pub fn is_document_marker(self) -> bool
         ensures { result ≡ is_document_marker self }
     {
         matches!(self, Kind::DocStart | Kind::DocEnd)
     }
 
-    /// Whether it is `[` or `{`.
+    /// Returns whether it is `[` or `{`.
     pub fn is_opening(self) -> bool
         ensures { result ≡ is_opening self }
     {
         matches!(self, Kind::SeqOpen | Kind::MapOpen)
     }
 
-    /// Whether it is `]` or `}`.
+    /// Returns whether it is `]` or `}`.
     pub fn is_closing(self) -> bool
         ensures { result ≡ is_closing self }
     {
         matches!(self, Kind::SeqClose | Kind::MapClose)
     }
 
-    /// Whether an item of a flow collection may begin behind it: it is `[`, `{` or `,`.
+    /// Returns whether an item of a flow collection may begin after it: whether it is `[`, `{` or
+    /// `,`.
     pub fn opens_item(self) -> bool
         ensures { result ≡ opens_item (Some self) }
     {
         self.is_opening() || matches!(self, Kind::Comma)
     }
 
-    /// Whether it asks for a node of a block collection: it is an entry, a key, or a value without key.
+    /// Returns whether a node of a block collection may follow it in its line: whether it is an
+    /// entry, a key, or a value without a key. `key` is the column of the key of a value, if it has
+    /// one.
     pub fn asks(self, key: Option<usize>) -> bool
         ensures { result ≡ asks_behind self key }
     {
@@ -97,16 +106,18 @@ impl Kind {
     }
 }
 
-/// A lexeme, whose value lies in it or in memory of its own. All fields stand in one enum, so that its tag takes the room that
-/// the kind leaves before the column.
+/// The fields of a lexeme, whose value is either in the lexeme or allocated. Each variant has all
+/// fields, so that the tag of the enum takes bytes that are unused between the kind and the column.
 #[derive(Drop)]
 enum Parts<A: Allocator> {
+    /// A value that is in the lexeme.
     Short {
         kind: Kind,
         column: u32,
         end: Pos,
         value: ShortText,
     },
+    /// A value that is allocated.
     Long {
         kind: Kind,
         column: u32,
@@ -115,9 +126,10 @@ enum Parts<A: Allocator> {
     },
 }
 
-/// A lexeme. Its lines count from the line in which it begins, its columns from 0 in characters; its end is
-/// behind its last character. The value is that of a plain or quoted scalar, the name of an anchor or an
-/// alias, the text of a directive, and of all else empty.
+/// A lexeme. Lines count from the line in which it begins, which is line 0. Columns count from 0,
+/// in characters. The end is the position after the last character. The value is that of a plain or
+/// quoted scalar, the name of an anchor or an alias, or the text of a directive. It is empty for
+/// all other kinds.
 #[derive(Drop)]
 pub struct Lexeme<A: Allocator> {
     parts: Parts<A>,
@@ -137,7 +149,7 @@ impl<A: Allocator> Lexeme<A> {
     ghost use Rattle.std.specs.Str.{encode_utf8_all};
     ghost use Rattle.yl_lexeme.specs.Version.{is_yaml_1_2};
 
-    /// A lexeme that begins at this column, of these parts.
+    /// Creates a lexeme that begins at this column of line 0.
     pub fn new(kind: Kind, column: u32, end: Pos, value: InlineString<A>) -> Lexeme<A>
         ensures { result ≡ record { kind = kind; start = record { line = 0; col = column }; end = end; value = encode_utf8_all value } }
     {
@@ -161,6 +173,7 @@ impl<A: Allocator> Lexeme<A> {
         }
     }
 
+    /// Returns the kind.
     pub fn kind(&self) -> Kind
         ensures { result ≡ self.now.kind }
     {
@@ -170,7 +183,7 @@ impl<A: Allocator> Lexeme<A> {
         }
     }
 
-    /// Where it begins; the line is 0.
+    /// Returns the position of the first character. Its line is 0.
     pub fn start(&self) -> Pos
         ensures { result ≡ self.now.start }
     {
@@ -184,7 +197,8 @@ impl<A: Allocator> Lexeme<A> {
         }
     }
 
-    /// Where it ends, behind its last character.
+    /// Returns the position after the last character. Its line counts from the line in which the
+    /// lexeme begins.
     pub fn end(&self) -> Pos
         ensures { result ≡ self.now.end }
     {
@@ -194,7 +208,7 @@ impl<A: Allocator> Lexeme<A> {
         }
     }
 
-    /// Its value.
+    /// Returns the value.
     pub fn value(&self) -> &str
         ensures { result.now ≡ self.now.value }
     {
@@ -204,7 +218,8 @@ impl<A: Allocator> Lexeme<A> {
         }
     }
 
-    /// Whether it is the directive that says that its document is one of YAML 1.2: the words `%YAML` and `1.2` with white space between.
+    /// Returns whether it is the directive of a document of YAML 1.2: the words `%YAML` and `1.2`
+    /// with white space between them.
     pub fn is_yaml_1_2(&self) -> bool
         ensures { result ≡ is_yaml_1_2 self.now }
     {
@@ -212,7 +227,8 @@ impl<A: Allocator> Lexeme<A> {
     }
 }
 
-/// A comment: the column of its `#`, from 0 in characters, and the text from there to before the break.
+/// A comment: the column of its `#`, in characters from 0, and its text from the `#` to the end of
+/// the line, without the line break.
 #[derive(Drop)]
 pub struct Comment<A: Allocator> {
     col: u32,
@@ -231,21 +247,21 @@ impl<A: Allocator> Model for Comment<A> {
 impl<A: Allocator> Comment<A> {
     ghost use Rattle.std.specs.Prelude.{◌≡◌, string_bytes};
 
-    /// A comment of these parts.
+    /// Creates a comment from the column of its `#` and its text.
     pub fn new(col: u32, text: String<A>) -> Comment<A>
         ensures { result ≡ record { column = col; text = string_bytes text } }
     {
         Comment { col, text }
     }
 
-    /// The column of its `#`, from 0 in characters.
+    /// Returns the column of the `#`, in characters from 0.
     pub fn col(&self) -> u32
         ensures { result ≡ self.now.column }
     {
         self.col
     }
 
-    /// Its text, with the `#`.
+    /// Returns the text, with the `#`.
     pub fn text(&self) -> &str
         ensures { result.now ≡ self.now.text }
     {
@@ -253,17 +269,19 @@ impl<A: Allocator> Comment<A> {
     }
 }
 
-/// A lexeme at a line of the text, counted from 0.
+/// A lexeme and the line of the text in which it begins.
 #[derive(Clone, Copy)]
 pub struct LexemeAtLine<'a, A: Allocator> {
+    /// The line in which the lexeme begins, counted from 0.
     pub line: u32,
+    /// The lexeme.
     pub lexeme: &'a Lexeme<A>,
 }
 
 impl<'a, A: Allocator> LexemeAtLine<'a, A> {
     ghost use Rattle.std.specs.Prelude.{◌≡◌};
 
-    /// Where it begins in the text.
+    /// Returns the position in the text at which the lexeme begins.
     pub fn start(&self) -> Pos
         ensures { result ≡ record { line = self.now.line; col = self.now.lexeme.now.start.col } }
     {

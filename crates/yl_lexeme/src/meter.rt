@@ -1,17 +1,18 @@
-//! How much work was done.
+//! Counts the work that was done.
 
-/// Counts the rows that were scanned and the documents that were looked at: whose events were derived, or which were seen to
-/// tell the same as before. Each counts once.
+/// Counters of the work that was done.
 #[derive(Clone, Copy, Debug, PartialEq, Eq)]
 pub struct Meter {
+    /// The number of rows that were scanned. A call that returned an error counts too.
     pub lines: u32,
+    /// The number of derivations of the events of a document that were begun.
     pub documents: u32,
 }
 
 impl Meter {
     ghost use Rattle.std.specs.Prelude.{◌≡◌};
 
-    /// A meter that has counted nothing.
+    /// Creates a meter at 0.
     pub fn new() -> Meter
         ensures { result ≡ record { lines = 0; documents = 0 } }
     {

@@ -1,13 +1,14 @@
-//! Comments at their places in a text.
+//! Comments at their positions in a text.
 
-/// A comment at a place, which counts from 0, the column in characters.
+/// A comment at its position in a text. Lines count from 0, and columns from 0 in characters.
 #[derive(Clone, Copy)]
 pub struct PlacedComment<'a> {
+    /// The line.
     pub line: u32,
-    /// The column of its `#`.
+    /// The column of the `#`.
     pub col: u32,
-    /// Its `#` and what follows it up to the break.
+    /// The text from the `#` to the end of the line, without the line break.
     pub text: &'a str,
-    /// The column at which the lexeme before it in its line ends, if one does.
+    /// The column after the lexeme before it, if a lexeme before it ends in its line.
     pub behind: Option<u32>,
 }

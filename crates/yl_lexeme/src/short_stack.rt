@@ -1,4 +1,4 @@
-//! Short stacks.
+//! Stacks whose topmost items need no allocation, and whose other items are shared.
 
 ghost use Rattle.std.specs.Prelude.{◌≡◌, ◌∷◌, ◌++◌, [], IfOk, IsTrue, OnErr, reverse};
 ghost use Rattle.yl_lexeme.specs.Kept.{all_but_first, first_of};
@@ -10,15 +10,16 @@ use smallvec::SmallVec;
 use std::alloc::{AllocError, Allocator};
 use std::marker::Model;
 
-/// How many items of a stack are compared with those that were kept, at most.
+/// The maximum number of items that are compared by `keeps`.
 const COMPARED: usize = 64;
 
-/// A stack, seen as the list of its items from the top down. Eight take no memory, and what lies below is shared with those that were
-/// kept.
+/// A stack. A contract sees the list of its items from the top down. Up to eight items need no
+/// allocation. The items below them are in blocks that are shared with kept stacks.
 #[derive(Drop)]
 pub struct ShortStack<'a, T: Copy + Default, A: Allocator + Copy> {
-    /// The highest, at most eight.
+    /// The topmost items, the highest at the end.
     top: SmallVec<T, 8, &'a A>,
+    /// The items below them.
     below: Blocks<T, A>,
 }
 
@@ -31,7 +32,7 @@ impl<'a, T: Copy + Default, A: Allocator + Copy> Model for ShortStack<'a, T, A> 
 }
 
 impl<'a, T: Copy + Default, A: Allocator + Copy> ShortStack<'a, T, A> {
-    /// A stack of these items, the highest at the end.
+    /// Creates a stack of these items, the highest at the end.
     pub fn on(top: SmallVec<T, 8, &'a A>) -> ShortStack<'a, T, A>
         ensures { result ≡ reverse top.entry.items }
     {
@@ -41,7 +42,7 @@ impl<'a, T: Copy + Default, A: Allocator + Copy> ShortStack<'a, T, A> {
         }
     }
 
-    /// One more. The only error is memory, and then nothing has changed.
+    /// Pushes an item. The only error is out of memory, after which the stack is unchanged.
     pub fn push(&mut self, item: T) -> Result<(), AllocError>
         ensures pushed { IfOk result (λ _. self.new ≡ item ∷ self.old) }
         ensures err { OnErr result (self.new ≡ self.old) }
@@ -55,7 +56,7 @@ impl<'a, T: Copy + Default, A: Allocator + Copy> ShortStack<'a, T, A> {
         Ok(())
     }
 
-    /// Takes the top item off, if there is one. The only error is memory.
+    /// Removes the top item, if there is one. The only error is out of memory.
     pub fn pop(&mut self) -> Result<(), AllocError>
         ensures { IfOk result (λ _. self.new ≡ all_but_first self.old) }
     {
@@ -72,7 +73,7 @@ impl<'a, T: Copy + Default, A: Allocator + Copy> ShortStack<'a, T, A> {
         Ok(())
     }
 
-    /// The top item, if there is one.
+    /// Returns the top item, if there is one.
     #[inline(always)]
     pub fn top(&self) -> Option<T>
         ensures { result ≡ first_of self.now }
@@ -83,6 +84,7 @@ impl<'a, T: Copy + Default, A: Allocator + Copy> ShortStack<'a, T, A> {
         }
     }
 
+    /// Removes all items.
     pub fn clear(&mut self)
         ensures { self.new ≡ [] }
     {
@@ -90,14 +92,15 @@ impl<'a, T: Copy + Default, A: Allocator + Copy> ShortStack<'a, T, A> {
         self.below.clear();
     }
 
-    /// The items from the top down.
+    /// Returns an iterator over the items from the top down.
     pub fn items(&self) -> Items<'_, T, A>
         ensures { result ≡ self.now }
     {
         Items::new(self.top.as_slice(), &self.below)
     }
 
-    /// Puts the items of a kept stack onto this one, which is empty. The only error is memory.
+    /// Puts the items of a kept stack into this stack, which must be empty. The only error is out
+    /// of memory.
     pub fn resume(&mut self, kept: &KeptStack<T, A>) -> Result<(), AllocError>
         requires { self.old ≡ [] }
         ensures { IfOk result (λ _. self.new ≡ kept.now) }
@@ -109,10 +112,13 @@ impl<'a, T: Copy + Default, A: Allocator + Copy> ShortStack<'a, T, A> {
     }
 }
 
-/// A stack that is kept, seen as the list of its items from the top down. At most eight lie in it, and the others are shared.
+/// A copy of a stack that is kept. A contract sees the list of its items from the top down. At most
+/// eight items are in the value itself. The others are in shared blocks.
 #[derive(Drop)]
 pub struct KeptStack<T: Copy, A: Allocator> {
+    /// The topmost items, the highest at the end.
     top: ArrayVec<T, 8>,
+    /// The items below them.
     below: Blocks<T, A>,
 }
 
@@ -125,7 +131,8 @@ impl<T: Copy, A: Allocator> Model for KeptStack<T, A> {
 }
 
 impl<T: Copy, A: Allocator + Copy> KeptStack<T, A> {
-    /// Keeps a stack, in room that is empty. It takes no memory where the highest items are eight or fewer. The only error is memory.
+    /// Creates a copy of a stack. `room` must be empty. Allocates only if more than eight items of
+    /// the stack are outside its shared blocks. The only error is out of memory.
     pub fn of(
         room: ArrayVec<T, 8>,
         stack: &ShortStack<'_, T, A>,
@@ -147,14 +154,15 @@ impl<T: Copy, A: Allocator + Copy> KeptStack<T, A> {
 }
 
 impl<T: Copy, A: Allocator> KeptStack<T, A> {
-    /// The items from the top down.
+    /// Returns an iterator over the items from the top down.
     pub fn items(&self) -> Items<'_, T, A>
         ensures { result ≡ self.now }
     {
         Items::new(self.top.as_slice(), &self.below)
     }
 
-    /// Whether a stack is the one that was kept, by a test of items. Of a stack of 64 items or more it says that it is not.
+    /// Returns whether a stack has the items of this copy, compared in pairs. Returns `false` for a
+    /// stack of 64 items or more.
     pub fn keeps(&self, stack: &ShortStack<'_, T, A>) -> bool
     where
         T: PartialEq + Default,
@@ -164,7 +172,7 @@ impl<T: Copy, A: Allocator> KeptStack<T, A> {
         self.items().are_few_and_like(&mut stack.items(), COMPARED)
     }
 
-    /// Whether two stacks are the same, by a test of items.
+    /// Returns whether two copies have the same items, compared in pairs.
     pub fn is_like(&self, other: &KeptStack<T, A>) -> bool
     where
         T: PartialEq,

@@ -1,4 +1,4 @@
-//! Stacks.
+//! A plain stack.
 
 ghost use Rattle.std.specs.Prelude.{◌≡◌, [], ◌∷◌, IfOk};
 ghost use Rattle.yl_lexeme.specs.Kept.{all_but_first, first_of};
@@ -6,9 +6,10 @@ ghost use Rattle.yl_lexeme.specs.Kept.{all_but_first, first_of};
 use std::alloc::{AllocError, Allocator};
 use std::marker::Model;
 
-/// A stack, seen as the list of its items from the top down.
+/// A stack. A contract sees the list of its items from the top down.
 #[derive(Drop)]
 pub struct Stack<T: Copy, A: Allocator + Copy> {
+    /// The items, the top one at the end.
     items: Vec<T, A>,
 }
 
@@ -21,6 +22,7 @@ impl<T: Copy, A: Allocator + Copy> Model for Stack<T, A> {
 }
 
 impl<T: Copy, A: Allocator + Copy> Stack<T, A> {
+    /// Creates an empty stack.
     pub fn new(alloc: A) -> Stack<T, A>
         ensures { result ≡ [] }
     {
@@ -29,6 +31,7 @@ impl<T: Copy, A: Allocator + Copy> Stack<T, A> {
         }
     }
 
+    /// Pushes an item. The only error is out of memory.
     pub fn push(&mut self, item: T) -> Result<(), AllocError>
         ensures { IfOk result (λ _. self.new ≡ item ∷ self.old) }
     {
@@ -36,7 +39,7 @@ impl<T: Copy, A: Allocator + Copy> Stack<T, A> {
         Ok(())
     }
 
-    /// Takes the top item off, if there is one.
+    /// Removes the top item and returns it. Returns `None` if there is none.
     pub fn pop(&mut self) -> Option<T>
         ensures top { result ≡ first_of self.old }
         ensures rest { self.new ≡ all_but_first self.old }
@@ -44,6 +47,7 @@ impl<T: Copy, A: Allocator + Copy> Stack<T, A> {
         self.items.pop()
     }
 
+    /// Removes all items.
     pub fn clear(&mut self)
         ensures { self.new ≡ [] }
     {

@@ -1,4 +1,4 @@
-//! What the earlier lexemes say of a place.
+//! The context that the lexemes before a position give.
 
 ghost use Rattle.std.specs.Prelude.{◌≡◌, ◌≤◌, ◌<◌, ◌+◌, ◌^◌, [], IfOk, None, false};
 ghost use Rattle.std.specs.Option.{ForSome};
@@ -13,35 +13,36 @@ use crate::unit::KeyUnit;
 use smallvec::SmallVec;
 use std::alloc::{AllocError, Allocator};
 
-/// One more than each column of an open block collection, the innermost on top.
+/// The columns of the open block collections, each plus one, the innermost on top.
 pub type ColumnStack<'a, A> = ShortStack<'a, u32, A>;
 
 /// The open brackets, the innermost on top.
 pub type BracketStack<'a, A> = ShortStack<'a, Kind, A>;
 
-/// What the earlier lexemes say of a place.
+/// The context that the lexemes before a position give. Columns count from 0, in characters.
 #[derive(Drop)]
 pub struct Surroundings<'a, A: Allocator + Copy> {
-    /// One more than each column of an open block collection.
+    /// The column of each open block collection, plus one, the innermost on top.
     pub levels: ColumnStack<'a, A>,
-    /// The open brackets.
+    /// The open brackets, the innermost on top.
     pub brackets: BracketStack<'a, A>,
-    /// The kind of the last lexeme.
+    /// The kind of the last lexeme, if there is one.
     pub last: Option<Kind>,
-    /// The last lexeme of the row is an entry, a key, or a value without key.
+    /// Whether the last lexeme of the row is an entry, a key, or a value without a key.
     pub asks: bool,
-    /// Where the unit begins that the last lexemes of the row make: its column.
+    /// The column at which the unit of the latest lexemes of the row begins, which may become a
+    /// key.
     pub unit: KeyUnit<usize, A>,
 }
 
-/// Whether a key that begins in a column is not too far before this one: at most 1024 characters.
+/// Returns whether `column` is at most 1024 characters after `start`, or not after it at all.
 pub fn is_near(column: usize, start: usize) -> bool
     ensures { result ≡ is_near column start }
 {
     column.saturating_sub(start) <= 1024
 }
 
-/// The start of a key, if it is before this column and not too far.
+/// Returns the start of a key if it is at or before `column`, by at most 1024 characters.
 pub fn near(column: usize, start: Option<usize>) -> Option<usize>
     ensures key { result ≡ near column start }
     ensures before { ForSome result (λ key. key ≤ column) }
@@ -52,7 +53,7 @@ pub fn near(column: usize, start: Option<usize>) -> Option<usize>
     }
 }
 
-/// Drops the columns greater than this one.
+/// Removes the columns that are greater than `column`. The only error is out of memory.
 #[inline(always)]
 fn cut<A: Allocator + Copy>(
     levels: &mut ColumnStack<'_, A>,
@@ -69,7 +70,7 @@ fn cut<A: Allocator + Copy>(
     Ok(())
 }
 
-/// Adds a column, if it is greater than all.
+/// Adds a column if it is greater than all others. The only error is out of memory.
 #[inline(always)]
 fn add_column<A: Allocator + Copy>(
     levels: &mut ColumnStack<'_, A>,
@@ -86,7 +87,7 @@ fn add_column<A: Allocator + Copy>(
 }
 
 impl<'a, A: Allocator + Copy> Surroundings<'a, A> {
-    /// Nothing has been read.
+    /// Creates the context at the start of a text.
     pub fn new(alloc: &'a A) -> Surroundings<'a, A>
         ensures { surroundings_value result ≡ row_start [] [] None }
     {
@@ -99,7 +100,8 @@ impl<'a, A: Allocator + Copy> Surroundings<'a, A> {
         }
     }
 
-    /// At the start of a row, with these columns, each one more, and brackets, and this last kind.
+    /// Creates the context at the start of a row from the columns, each plus one, the brackets, and
+    /// the kind of the last lexeme. The only error is out of memory.
     pub fn at_row_start(
         alloc: &'a A,
         levels: &KeptStack<u32, A>,
@@ -115,7 +117,7 @@ impl<'a, A: Allocator + Copy> Surroundings<'a, A> {
         Ok(surroundings)
     }
 
-    /// Forgets what counts within a row alone.
+    /// Moves to the start of the next row: removes what holds only within a row.
     pub fn new_row(&mut self)
         ensures { surroundings_value self.new ≡ new_row (surroundings_value self.old) }
     {
@@ -123,13 +125,15 @@ impl<'a, A: Allocator + Copy> Surroundings<'a, A> {
         self.unit.new_line();
     }
 
+    /// Returns whether a bracket is open.
     pub fn in_flow(&self) -> bool
         ensures { result ≡ in_flow (context_of (surroundings_value self.now)) }
     {
         self.brackets.top().is_some()
     }
 
-    /// Whether a key may begin at a place, which is first in its row or not.
+    /// Returns whether a key may begin at the position. `first` says whether the position is the
+    /// first one of its row that is not white space.
     pub fn may_begin(&self, first: bool) -> bool
         ensures { result ≡ may_begin first (context_of (surroundings_value self.now)) }
     {
@@ -140,7 +144,7 @@ impl<'a, A: Allocator + Copy> Surroundings<'a, A> {
         }
     }
 
-    /// One more than the column of the innermost block collection, or 0.
+    /// Returns the column of the innermost open block collection, plus one, or 0 if none is open.
     pub fn level(&self) -> usize
         ensures level { result ≡ level (context_of (surroundings_value self.now)).levels }
         ensures bound { result < 2 ^ 32 }
@@ -148,7 +152,8 @@ impl<'a, A: Allocator + Copy> Surroundings<'a, A> {
         self.levels.top().unwrap_or(0) as usize
     }
 
-    /// A lexeme begins at this column, first in its row or not.
+    /// Moves to the column at which a lexeme begins. If the lexeme is the first of its row and no
+    /// bracket is open, removes the greater columns. The only error is out of memory.
     pub fn reach(&mut self, first: bool, at: usize) -> Result<(), AllocError>
         requires { at < 2 ^ 31 }
         ensures { IfOk result (λ _. surroundings_value self.new ≡ surroundings_at first at (surroundings_value self.old)) }
@@ -159,7 +164,8 @@ impl<'a, A: Allocator + Copy> Surroundings<'a, A> {
         Ok(())
     }
 
-    /// One more lexeme has been read, at this column.
+    /// Passes a lexeme that begins at this column. `first` says whether it is the first of its row.
+    /// The only error is out of memory.
     #[inline(always)]
     pub fn pass(&mut self, kind: Kind, first: bool, at: usize) -> Result<(), AllocError>
         requires { at < 2 ^ 31 }
@@ -181,7 +187,8 @@ impl<'a, A: Allocator + Copy> Surroundings<'a, A> {
     }
 }
 
-/// Whether a lexeme at a column asks for a node of a block collection, where the unit before it begins at `start`.
+/// Returns whether a lexeme at a column is an entry, a key, or a value without a key. `start` is
+/// the column at which the unit before it begins.
 fn asks_behind(kind: Kind, at: usize, start: Option<usize>) -> bool
     ensures { result ≡ asks_behind kind (near at start) }
 {
@@ -191,7 +198,9 @@ fn asks_behind(kind: Kind, at: usize, start: Option<usize>) -> bool
     }
 }
 
-/// A lexeme at a column, where the unit before it begins at `start`.
+/// Changes the columns to those after a lexeme at this column. `flow` says whether a bracket is
+/// open before it. `first` says whether it is the first of its row. `start` is the column at which
+/// the unit before it begins. The only error is out of memory.
 #[inline(always)]
 fn pass_levels<A: Allocator + Copy>(
     levels: &mut ColumnStack<'_, A>,
@@ -221,6 +230,7 @@ fn pass_levels<A: Allocator + Copy>(
     }
 }
 
+/// Changes the open brackets to those after a lexeme of this kind. The only error is out of memory.
 #[inline(always)]
 fn pass_brackets<A: Allocator + Copy>(
     brackets: &mut BracketStack<'_, A>,

@@ -1,4 +1,4 @@
-//! The unit that the latest lexemes of a line make, which may become a key (YAML 1.2.2, 7.4.2 and 8.2.2).
+//! The unit of the latest lexemes of a line, which may become a key (YAML 1.2.2, 7.4.2 and 8.2.2).
 
 ghost use Rattle.std.specs.Prelude.{◌≡◌, Some, IfOk};
 ghost use Rattle.yl_lexeme.specs.Kept.{no_key_unit, property_pair, content_start, property_start, key_unit_behind};
@@ -8,20 +8,24 @@ use crate::stack::Stack;
 use std::alloc::{AllocError, Allocator};
 use std::marker::Model;
 
-/// A latest lexeme that is a property, and its place, if a key may begin there.
+/// A property that is the latest lexeme.
 #[derive(Clone, Copy)]
 struct Property<T: Copy> {
+    /// Whether it is an anchor. Else it is a tag.
     is_anchor: bool,
+    /// Its position, if a key may begin there.
     start: Option<T>,
 }
 
-/// What the lexemes of a line that have been read say of a key: where the unit begins that the latest ones make, a content with its
-/// properties or properties alone. A `T` stands for a place. What is kept is what looking back over the line finds (`unit_suffices`).
+/// The position at which the unit of the latest lexemes of a line begins. A unit is a content with
+/// its properties, or properties alone. A `T` stands for a position. By the law `unit_suffices`,
+/// looking back over the line finds the same position.
 #[derive(Drop)]
 pub struct KeyUnit<T: Copy, A: Allocator + Copy> {
-    /// Where that unit begins, if a key may begin there.
+    /// The position at which the unit begins, if a key may begin there.
     unit: Option<T>,
-    /// The same for each open bracket of the line.
+    /// For each open bracket of the line, the position at which the unit of the bracket begins, if
+    /// a key may begin there. The innermost bracket is on top.
     outer: Stack<Option<T>, A>,
     /// The latest lexeme, if it is a property.
     property: Option<Property<T>>,
@@ -36,7 +40,7 @@ impl<T: Copy, A: Allocator + Copy> Model for KeyUnit<T, A> {
 }
 
 impl<T: Copy, A: Allocator + Copy> KeyUnit<T, A> {
-    /// At the start of a line.
+    /// Creates the value for the start of a line.
     pub fn new(alloc: A) -> KeyUnit<T, A>
         ensures { result ≡ no_key_unit }
     {
@@ -47,7 +51,7 @@ impl<T: Copy, A: Allocator + Copy> KeyUnit<T, A> {
         }
     }
 
-    /// A new line begins: what was read says no more of a key.
+    /// Moves to the start of the next line, in which no lexeme was read.
     pub fn new_line(&mut self)
         ensures { self.new ≡ no_key_unit }
     {
@@ -56,14 +60,16 @@ impl<T: Copy, A: Allocator + Copy> KeyUnit<T, A> {
         self.property = None;
     }
 
-    /// Where a key begins that ends with the latest lexeme.
+    /// Returns the position at which a key begins whose last lexeme is the latest one, if there can
+    /// be such a key.
     pub fn start(&self) -> Option<T>
         ensures { result ≡ self.now.unit }
     {
         self.unit
     }
 
-    /// One more lexeme of the line has been read; `own` is its place, if a key may begin at it. The only error is memory.
+    /// Passes a lexeme of the line. `own` is its position, if a key may begin there. The only error
+    /// is out of memory.
     #[inline(always)]
     pub fn pass(&mut self, kind: Kind, own: Option<T>) -> Result<(), AllocError>
         ensures { IfOk result (λ _. self.new ≡ key_unit_behind kind own self.old) }
@@ -99,7 +105,7 @@ impl<T: Copy, A: Allocator + Copy> KeyUnit<T, A> {
         }
     }
 
-    /// One more property of the line has been read, behind a property or none.
+    /// Passes a property of the line. `property` is the lexeme before it, if that is a property.
     fn pass_property(&mut self, is_anchor: bool, own: Option<T>, property: Option<Property<T>>)
         ensures { self.new ≡ record {
           unit = property_start is_anchor own (property_pair property);
@@ -115,7 +121,8 @@ impl<T: Copy, A: Allocator + Copy> KeyUnit<T, A> {
     }
 }
 
-/// Where the unit begins that a content ends.
+/// Returns the position at which the unit begins whose content is the latest lexeme. `own` is the
+/// position of the content, and `unit` is that of the properties directly before it.
 fn content_start<T: Copy>(
     own: Option<T>,
     unit: Option<T>,
@@ -129,7 +136,7 @@ fn content_start<T: Copy>(
     }
 }
 
-/// Where the properties begin that one ends.
+/// Returns the position at which the properties begin of which the latest lexeme is the last.
 fn property_start<T: Copy>(
     is_anchor: bool,
     own: Option<T>,

@@ -1,15 +1,16 @@
-//! The directive that says that a document is one of YAML 1.2: YAML 1.2.2, 6.8.1.
+//! Recognizes the directive of a document of YAML 1.2 (YAML 1.2.2, 6.8.1).
 ghost use Rattle.std.specs.Prelude.{◌≡◌, ◌&&◌, bytes_eq, codes, drop, take};
 ghost use Rattle.yl_text.specs.Character.{is_white};
 ghost use Rattle.yl_lexeme.specs.Version.{is_behind_white};
 
+/// Returns whether the byte is a space or a tab.
 fn is_white(c: u8) -> bool
     ensures { result ≡ is_white c }
 {
     c == b' ' || c == b'\t'
 }
 
-/// Whether a text is white space, of one character or more, and then the word `1.2`.
+/// Returns whether the text is one or more characters of white space and then the word `1.2`.
 fn is_behind_white(text: &[u8]) -> bool
     ensures { result ≡ is_behind_white (codes "1.2") text.now }
 {
@@ -25,7 +26,7 @@ fn is_behind_white(text: &[u8]) -> bool
     false
 }
 
-/// Whether a text consists of the words `%YAML` and `1.2` with white space between.
+/// Returns whether the text consists of the words `%YAML` and `1.2` with white space between them.
 pub(crate) fn is_version_1_2(text: &[u8]) -> bool
     ensures { result ≡ (bytes_eq (take 5 text.now) (codes "%YAML") && is_behind_white (codes "1.2") (drop 5 text.now)) }
 {
