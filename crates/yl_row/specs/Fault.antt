@@ -1,4 +1,4 @@
--- Meaning: scan faults and their places.
+-- Meaning: scan faults, their messages and their positions.
 use Rattle.std.specs.Prelude.{ℕ, Bool, true, false, List, codes}
 use Rattle.yl_scalar.specs.declared.answer.ScalarFault.{ScalarFault}
 use Rattle.yl_scalar.specs.declared.answer.ScalarFault.TheVariants as scalar
@@ -22,6 +22,7 @@ fault_text EmptyName = codes "empty anchor or alias name"
 fault_text BadTag = codes "bad tag"
 fault_text ContentAfterDocumentEnd = codes "content after document end"
 
+-- a fault in the row in which the lexeme begins
 abbrev pub fault_at : ScanFault → ℕ → PlacedScanFault
 fault_at fault column = record { fault = fault; down = 0; column = column }
 

@@ -1,4 +1,4 @@
--- Bridge: what a scalar's reader and its answers say.
+-- Bridge: the values of a reader of a scalar and of what it returns.
 use Rattle.std.specs.Prelude.{ℕ, List, []}
 use Rattle.yl_scalar.specs.declared.answer.ScalarStep.{ScalarStep}
 use Rattle.yl_scalar.specs.declared.answer.ScalarOutcome.{ScalarOutcome}
@@ -13,7 +13,7 @@ scalar_reader_value (Plain r) = InPlain (plain_reader_value r)
 scalar_reader_value (Quoted r) = InQuoted (quoted_reader_value r)
 scalar_reader_value (Block r) = InBlock (block_reader_value r)
 
--- how many rows it has read below its first one
+-- the number of rows below the first one that were read
 abbrev pub rows_of : {A : Type 0} → ScalarReader A → ℕ
 rows_of (Plain r) = plain_rows r
 rows_of (Quoted r) = quoted_rows r
@@ -24,9 +24,10 @@ value_of (Plain r) = (plain_reader_value r).value
 value_of (Quoted r) = (quoted_reader_value r).value
 value_of (Block r) = []
 
--- what an answer says of the reader that gave it
+-- the value of what a reader returns for a row
 abbrev pub reader_step_value : {A : Type 0} → ScalarStep → ScalarReader A → ScalarStepValue ScalarReaderValue
 reader_step_value line r = step_value line (value_of r) (scalar_reader_value r)
 
+-- the value of what a reader returns at the end of the text
 abbrev pub reader_outcome_value : {A : Type 0} → ScalarOutcome → ScalarReader A → ScalarOutcomeValue
 reader_outcome_value o r = outcome_value o (value_of r)

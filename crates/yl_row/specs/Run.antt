@@ -1,4 +1,4 @@
--- Bridge: the rows of a text from what a scanner keeps of the lexemes before them.
+-- Bridge: the entries of the rows of a text, by what a scanner keeps of the lexemes before them.
 use Rattle.std.specs.Prelude.{ℕ, zero, suc, Bool, true, false, ◌&&◌, ◌==◌, nat_lt, if◌then◌else◌, List, [], ◌∷◌, ◌+◌, ◌-◌, Option, None}
 use Rattle.std.specs.Option.{option_or}
 use Prim.Native.Char.{code}
@@ -8,7 +8,7 @@ use Rattle.yl_lexeme.specs.Past.{past_lexeme}
 use Rattle.yl_lexeme.specs.Known.{SurroundingsValue, context_of, new_row, surroundings_at, no_surroundings, surroundings_behind}
 use Rattle.yl_row.specs.Entries.{RowEntry, RowReading, reading_below, reading_or_fault, comment_or, comment_of, lexeme_of, after_lexeme, quiet, entries_below, entry_of, sound_state}
 
--- k: at the lexeme's place
+-- k: what is kept at the position of the lexeme
 abbrev pub lexeme_reading_by : Option ℕ → Bool → ℕ → SurroundingsValue → (ℕ → SurroundingsValue → RowReading SurroundingsValue) → FoundLexemeValue → RowReading SurroundingsValue
 lexeme_reading_by tab first at k more found =
     let k' = surroundings_behind (past_lexeme at first (context_of k) found.kind) k in
@@ -24,7 +24,8 @@ row_reading_by rows tab skip behind_space first at k (c ∷ cs) =
     else lexeme_reading_by tab first at (surroundings_at first at k) (λ skip k. row_reading_by rows tab skip false false (at + 1) k cs)
     (found_at rows tab first at (context_of (surroundings_at first at k)) c cs)
 
--- so many rows further down, behind a column if that is not the next one's start
+-- the entries from the row on that is so many rows further down; column is 0 there, or the column
+-- after a lexeme that ends in that row
 abbrev pub entries_by : Bool → ℕ → ℕ → SurroundingsValue → List (List ℕ) → List RowEntry
 entries_by is_text_start down column k [] = []
 entries_by is_text_start (suc zero) column k (row ∷ rows) =

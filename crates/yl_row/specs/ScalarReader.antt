@@ -1,4 +1,4 @@
--- Bridge: a scalar that may go on in the row below, of any style.
+-- Bridge: the reader of a scalar of any style that may go on in the row below.
 use Rattle.std.specs.Prelude.{ℕ, ◌+◌, ◌≤◌, List, length}
 use Rattle.yl_scalar.specs.Reading.{ScalarOutcomeValue, ScalarStepValue, GoesOn, EndsIn, EndedAbove, Fails, outcome_of_lines}
 use Rattle.yl_scalar.specs.PlainSteps.{PlainReaderValue, plain_step, plain_finish}
@@ -12,48 +12,48 @@ pub data ScalarReaderValue : Type 0 where
   InQuoted : (s : QuotedReaderValue) → ScalarReaderValue
   InBlock : (s : BlockReaderValue) → ScalarReaderValue
 
--- the same of a scalar that stands otherwise
+-- the same step, with its state mapped
 abbrev pub map_step : {S T : Type 0} → (S → T) → ScalarStepValue S → ScalarStepValue T
 map_step f (GoesOn s) = GoesOn (f s)
 map_step f (EndsIn e) = EndsIn e
 map_step f (EndedAbove e) = EndedAbove e
 map_step f (Fails fault down column) = Fails fault down column
 
--- what the next row makes of it
+-- what the next row makes of the scalar
 abbrev pub reader_step : ScalarReaderValue → List ℕ → ScalarStepValue ScalarReaderValue
 reader_step (InPlain s) row = map_step InPlain (plain_step s row)
 reader_step (InQuoted s) row = map_step InQuoted (quoted_step s row)
 reader_step (InBlock s) row = map_step InBlock (block_step s row)
 
--- what the text's end makes of it
+-- what the end of the text makes of the scalar
 abbrev pub reader_finish : ScalarReaderValue → ScalarOutcomeValue
 reader_finish (InPlain s) = plain_finish s
 reader_finish (InQuoted s) = quoted_finish s
 reader_finish (InBlock s) = block_finish s
 
--- a scalar that stands so, with these rows below
+-- the scalar that a reader in this state and these rows below give
 abbrev pub open_found : Style → ℕ → ScalarReaderValue → List (List ℕ) → FoundLexemeValue
 open_found style at m rows = scalar_found style at (outcome_of_lines reader_step reader_finish m rows)
 
--- how many rows below its first one it has read
+-- the number of rows below the first one that were read
 abbrev pub rows_in : ScalarReaderValue → ℕ
 rows_in (InPlain s) = s.down + s.blanks
 rows_in (InQuoted s) = s.down + s.blanks
 rows_in (InBlock s) = s.down + s.blanks
 
--- the blank lines whose spaces are kept are those that have passed
+-- the spaces are kept of no more blank rows than the rows below the first one that were read
 abbrev pub KeepsSpaces : ScalarReaderValue → Type 0
 KeepsSpaces (InPlain s) = Unit {0}
 KeepsSpaces (InQuoted s) = Unit {0}
 KeepsSpaces (InBlock s) = length s.spaces ≤ s.down + s.blanks
 
--- where it ends so far lies in the row that was read last, which is so long; of a quoted scalar no end is known
+-- the column of the end so far is at most n; for a quoted scalar no end is known
 abbrev pub ColumnBy : ℕ → ScalarReaderValue → Type 0
 ColumnBy n (InPlain s) = s.column ≤ n
 ColumnBy n (InQuoted s) = Unit {0}
 ColumnBy n (InBlock s) = s.column ≤ n
 
--- the same of what a row made of it: it stands so, or it has ended
+-- after a row, the column of the end so far, or of the end, is at most n
 abbrev pub StepBy : ℕ → ScalarStepValue ScalarReaderValue → Type 0
 StepBy n (GoesOn m) = ColumnBy n m
 StepBy n (EndsIn e) = e.column ≤ n

@@ -14,7 +14,7 @@ use Rattle.yl_row.specs.declared.fault.PlacedScanFault.{PlacedScanFault}
 use Rattle.yl_row.specs.Fault.{fault_at}
 use Rattle.yl_row.specs.Step.{FoundLexemeValue, found_in_row, is_value_at, closes, tab_before, name_found, tag_found, tag_len}
 
--- what a character is at a place, before that text
+-- the kind of lexeme that a character before this text is
 abbrev pub sign_at : Context → ℕ → List ℕ → Option Kind
 sign_at a c cs =
     if c == code "-" && is_blank (take 1 cs) then Some Entry
@@ -27,7 +27,7 @@ sign_at a c cs =
     else if c == code "," then Some Comma
     else None
 
--- a tab before it, or that fault if no key may begin there
+-- a tab before the lexeme, or else the given fault if no key may begin there
 abbrev pub refused : Option ℕ → Bool → ℕ → Context → ScanFault → Option PlacedScanFault
 refused tab first at a fault = option_or (tab_before tab at) (then_some (not (may_begin first a)) (fault_at fault at))
 
@@ -45,6 +45,6 @@ sign_fault tab first at a _ = None
 abbrev pub sign_found : Option ℕ → Bool → ℕ → Context → Kind → FoundLexemeValue
 sign_found tab first at a kind = found_in_row kind (at + 1) [] (sign_fault tab first at a kind)
 
--- an alias, an anchor or a tag, by its indicator and the text behind it
+-- an alias, an anchor or a tag, by its indicator and the text after it
 abbrev pub named_at : ℕ → ℕ → List ℕ → FoundLexemeValue
 named_at at c cs = if c == code "&" then name_found Anchor at cs else if c == code "*" then name_found Alias at cs else tag_found at cs (tag_len cs)

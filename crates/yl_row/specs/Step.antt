@@ -1,5 +1,5 @@
--- Meaning: one lexeme: YAML 1.2.2, chapters 6 to 9, from its first character on, the rest of its
--- line and the lines below.
+-- Meaning: one lexeme, from its first character on, by the rest of its line and the lines below:
+-- YAML 1.2.2, chapters 6 to 9.
 use Rattle.std.specs.Prelude.{ℕ, Bool, true, false, not, ◌&&◌, ◌||◌, ◌==◌, nat_lt, if◌then◌else◌, List, [], ◌∷◌, ◌+◌, take, drop, length, slice_index, Option, Some, None, option_map, codes, option_and_then, unwrap_or}
 use Rattle.std.specs.List.{prefix_len, position, list_any}
 use Rattle.std.specs.Bool.{then_some}
@@ -25,7 +25,8 @@ use Rattle.yl_row.specs.Fault.{fault_at, of_scalar}
 pub use Rattle.yl_lexeme.specs.Directives.{is_directive_place}
 use Rattle.yl_lexeme.specs.Past.{Context, in_flow, may_begin, level, near}
 
--- what stands at a place: a lexeme that ends so many lines further down, before a column, its value in UTF-8, and its first fault
+-- a lexeme at a position: it ends so many lines further down, before a column; its value is in
+-- UTF-8; and its first fault
 pub record FoundLexemeValue : Type 0 where
   pub kind : Kind
   pub down : ℕ
@@ -35,16 +36,19 @@ pub record FoundLexemeValue : Type 0 where
 
 -- ---- words
 
--- how much of an anchor's or an alias's name, or of a tag, comes next (ns-anchor-char, ns-tag-char and more)
+-- the number of characters at the front that are of the name of an anchor or an alias, or of a tag
+-- (ns-anchor-char, ns-tag-char and more)
 abbrev pub name_len : List ℕ → ℕ
 name_len = prefix_len (λ c. is_non_space c && not (is_flow_indicator c))
 
--- a directive's text goes up to a comment behind white space, or the line's end (l-directive)
+-- the text of a directive ends before a comment after white space, or at the end of the line
+-- (l-directive)
 abbrev pub directive_len : Bool → List ℕ → ℕ
 directive_len behind_space [] = 0
 directive_len behind_space (c ∷ cs) = if c == code "#" && behind_space then 0 else 1 + directive_len (is_white c) cs
 
--- a tag's length behind its `!`, or none if it is bad (c-ns-tag-property): no name goes on behind a verbatim one's `>`
+-- the length of a tag after its `!`, or none if the tag is bad (c-ns-tag-property): no name
+-- directly follows the `>` of a verbatim tag
 abbrev pub tag_len : List ℕ → Option ℕ
 tag_len cs =
     if slice_index cs 0 == code "<"
@@ -53,7 +57,7 @@ tag_len cs =
 
 -- ---- places
 
--- a plain scalar may begin so (ns-plain-first)
+-- whether a plain scalar may begin with this character before this text (ns-plain-first)
 abbrev pub is_plain_start : Bool → ℕ → List ℕ → Bool
 is_plain_start flow c cs =
     if c == code "-" || c == code "?" || c == code ":" then starts_by (is_plain_safe flow) cs
@@ -66,11 +70,12 @@ is_quoted_or_closing (Some SeqClose) = true
 is_quoted_or_closing (Some MapClose) = true
 is_quoted_or_closing _ = false
 
--- a Value's colon, by what follows it (7.4.2: directly behind a key like JSON's it needs no space)
+-- whether a colon is a Value, by the text after it (7.4.2: directly after a key like those of JSON
+-- it needs no space)
 abbrev pub is_value_at : Bool → Option Kind → List ℕ → Bool
 is_value_at flow last rest = is_blank (take 1 rest) || (flow && (is_flow_indicator (slice_index rest 0) || is_quoted_or_closing last))
 
--- the innermost bracket is of this kind
+-- whether the innermost bracket is of this kind
 abbrev pub closes : Bool → List Kind → Bool
 closes sequence [] = false
 closes sequence (SeqOpen ∷ ks) = sequence
@@ -78,20 +83,21 @@ closes sequence (k ∷ ks) = not sequence
 
 -- ---- faults
 
--- the first character that is not allowed in what begins at a column
+-- the fault of the first character that is not allowed in the text that begins at a column
 abbrev pub bad_in : ℕ → List ℕ → Option PlacedScanFault
 bad_in column cs = option_map (λ i. fault_at NotAllowed (column + i)) (first_bad cs)
 
--- the row's first tab, if it stands before a column
+-- the fault of the first tab of the row, if the tab is before a column
 abbrev pub tab_before : Option ℕ → ℕ → Option PlacedScanFault
 tab_before tab column = option_and_then (λ tab. then_some (nat_lt tab column) (fault_at TabInIndentation tab)) tab
 
--- the row's first tab, if the row does not begin inside a lexeme
+-- the first tab of the row, if the row does not begin inside a lexeme
 abbrev pub first_tab : Bool → List ℕ → Option ℕ
 first_tab inside row = if inside then None else position (λ c. c == code "\t") row
 
--- ---- the lexeme at a place: the rows below, the row's first tab, whether the place is first in its row, its column, what
--- surrounds it, its character, and the row behind that
+-- ---- the lexeme at a position: the rows below, the first tab of the row, whether the position is
+-- the first of the row that is not white space, its column, its context, its character, and the
+-- rest of the row after that
 
 abbrev pub found_in_row : Kind → ℕ → List ℕ → Option PlacedScanFault → FoundLexemeValue
 found_in_row kind column value fault = record { kind = kind; down = 0; column = column; value = value; fault = fault }
@@ -111,6 +117,7 @@ abbrev pub tag_found : ℕ → List ℕ → Option ℕ → FoundLexemeValue
 tag_found at cs None = found_in_row Tag (at + 1) [] (Some (fault_at BadTag at))
 tag_found at cs (Some len) = found_in_row Tag (at + 1 + len) [] (bad_in (at + 1) (take len cs))
 
+-- an anchor, an alias, a tag or a scalar
 abbrev pub word_at : List (List ℕ) → ℕ → Context → ℕ → List ℕ → FoundLexemeValue
 word_at rows at a c cs =
     if c == code "&" then name_found Anchor at cs
@@ -123,7 +130,7 @@ word_at rows at a c cs =
     else if is_plain_start (in_flow a) c cs then scalar_found Plain at (plain_scalar (in_flow a) (level a.levels) at (c ∷ cs) rows)
     else found_in_row (Scalar Plain) at [] (Some (fault_at NotAllowed at))
 
--- refused: a tab before it, or that fault if no key may begin there
+-- refused: a tab before the lexeme, or else the given fault if no key may begin there
 abbrev pub block_at : List (List ℕ) → Option ℕ → Bool → ℕ → Context → ℕ → List ℕ → FoundLexemeValue
 block_at rows tab first at a c cs =
     let sign = λ (kind : Kind) (fault : Option PlacedScanFault). found_in_row kind (at + 1) [] fault in
@@ -140,7 +147,8 @@ block_at rows tab first at a c cs =
     else if c == code "," then sign Comma (then_some (not (in_flow a)) (fault_at NotAllowed at))
     else word_at rows at a c cs
 
--- document markers (9.1.2) and directives (6.8) stand at a row's start alone; behind a document's end, no more than a comment may
+-- document markers (9.1.2) and directives (6.8) are only at the start of a row; after the end
+-- marker of a document, only a comment may follow in its row
 abbrev pub document_at : ℕ → List ℕ → Context → Option FoundLexemeValue
 document_at c cs a =
     let directive = without_end (take (directive_len false (c ∷ cs)) (c ∷ cs)) in
@@ -154,6 +162,7 @@ document_at c cs a =
 unfoldable pub found_at : List (List ℕ) → Option ℕ → Bool → ℕ → Context → ℕ → List ℕ → FoundLexemeValue
 found_at rows tab first at a c cs = unwrap_or (if at == 0 then document_at c cs a else None) (block_at rows tab first at a c cs)
 
--- a tab before a place that is first in its row: a fault that comes before those in the lexeme
+-- a tab before a position that is the first of its row, outside of brackets: a fault that comes
+-- before those in the lexeme
 abbrev pub place_fault : Option ℕ → Bool → ℕ → Context → Option PlacedScanFault
 place_fault tab first at a = if first && not (in_flow a) then tab_before tab at else None

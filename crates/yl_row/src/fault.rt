@@ -1,4 +1,4 @@
-//! Scan faults: why a text is cut into lexemes no further.
+//! Scan faults: the reasons why no further lexemes are read.
 
 ghost use Rattle.std.specs.Prelude.{◌≡◌};
 ghost use Rattle.std.specs.Bool.{then_some};
@@ -7,41 +7,43 @@ ghost use Rattle.yl_row.specs.Fault.{fault_at, fault_text, of_scalar};
 
 use yl_scalar::ScalarFault;
 
-/// Why scanning stops.
+/// The reason why no further lexemes are read.
 #[derive(Clone, Copy, Debug, PartialEq, Eq)]
 pub enum ScanFault {
     /// A character that YAML does not allow here.
     NotAllowed,
-    /// A tab before a block lexeme that has to be indented by spaces.
+    /// A tab before a lexeme that only spaces may indent.
     TabInIndentation,
-    /// The indicator `-` where no entry may stand.
+    /// The indicator `-` where no entry is allowed.
     EntryNotAllowed,
-    /// The indicator `?` where no key may stand.
+    /// The indicator `?` where no key is allowed.
     KeyNotAllowed,
-    /// The indicator `:` where no value may stand.
+    /// The indicator `:` where no value is allowed.
     ValueNotAllowed,
     /// A quoted scalar whose closing quote is missing.
     UnclosedQuote,
     /// A document marker inside a quoted scalar.
     MarkerInQuote,
-    /// An escape that YAML does not know, or half of one.
+    /// An escape that YAML does not define, an incomplete one, or one whose number is no character.
     BadEscape,
-    /// A block scalar's header with something that does not fit.
+    /// A character in the header of a block scalar that does not fit.
     BadHeader,
-    /// A blank line before a block scalar's content that is indented deeper.
+    /// A blank line before the content of a block scalar that has more leading spaces than the
+    /// content.
     BadIndentation,
-    /// A closing bracket that closes no bracket of its kind.
+    /// A closing bracket that is not of the kind of the innermost open bracket, or without an open
+    /// bracket.
     BracketWithoutPartner,
     /// An anchor or an alias without a name.
     EmptyName,
-    /// A tag that is not closed, or that something stands directly behind.
+    /// A verbatim tag that is not closed, or that a name directly follows.
     BadTag,
-    /// Something behind the marker of a document's end, in its line.
+    /// Anything but a comment after the end marker of a document, in its line.
     ContentAfterDocumentEnd,
 }
 
 impl ScanFault {
-    /// What is wrong, in words.
+    /// Returns the message of the fault.
     pub fn text(self) -> &'static str
         ensures { result.now ≡ fault_text self }
     {
@@ -64,7 +66,7 @@ impl ScanFault {
     }
 }
 
-/// The scan fault that a scalar's fault is.
+/// Returns the scan fault of a fault of a scalar.
 pub fn of_scalar(fault: ScalarFault) -> ScanFault
     ensures { result ≡ of_scalar fault }
 {
@@ -78,16 +80,19 @@ pub fn of_scalar(fault: ScalarFault) -> ScanFault
     }
 }
 
-/// A scan fault and its place: so many rows below the one in which the lexeme begins that it interrupts, and the column, in
-/// characters from 0.
+/// A scan fault and its position, relative to the row in which the lexeme begins that it
+/// interrupts.
 #[derive(Clone, Copy, PartialEq, Eq)]
 pub struct PlacedScanFault {
+    /// The fault.
     pub fault: ScanFault,
+    /// The number of rows from the row in which the lexeme begins to that of the fault.
     pub down: usize,
+    /// The column, in characters from 0.
     pub column: usize,
 }
 
-/// A fault of the row in which the lexeme begins, if it is so.
+/// Returns the fault at this column of the row in which the lexeme begins, if `holds` is set.
 pub fn when(holds: bool, fault: ScanFault, column: usize) -> Option<PlacedScanFault>
     ensures { result ≡ then_some holds (fault_at fault column) }
 {
@@ -102,7 +107,7 @@ pub fn when(holds: bool, fault: ScanFault, column: usize) -> Option<PlacedScanFa
     }
 }
 
-/// The first fault that there is.
+/// Returns the first fault, or the other one if there is no first.
 pub fn or_else(
     fault: Option<PlacedScanFault>,
     other: Option<PlacedScanFault>,

@@ -1,4 +1,4 @@
-//! The lexeme that stands at a place of a row.
+//! Finds the lexeme at a position of a row.
 
 ghost use Rattle.std.specs.Prelude.{◌≡◌, ◌≤◌, ◌<◌, ◌+◌, ◌-◌, ◌^◌, ◌∷◌, [], if◌then◌else◌, IfOk, Some, None, Option, option_map, Bool, List, ℕ, length, drop, string_bytes};
 ghost use Rattle.std.specs.Str.{encode_utf8_all};
@@ -34,26 +34,31 @@ use yl_scalar::{
     is_marker_of, leading_white, simple_quoted,
 };
 
-/// A lexeme that ends in its row, before a column.
+/// A lexeme that ends in its row, or has a fault.
 #[derive(Drop)]
 pub struct FoundLexeme<A: Allocator> {
+    /// The kind.
     pub kind: Kind,
+    /// The column after the last character. For a scalar with a fault it is the column of the first
+    /// character, and for a bad tag the column after the `!`.
     pub column: u32,
+    /// The value.
     pub value: InlineString<A>,
-    /// The first fault in it.
+    /// The first fault in the lexeme.
     pub fault: Option<PlacedScanFault>,
 }
 
-/// What stands at a place.
+/// What begins at a position.
 #[derive(Drop)]
 pub enum Beginning<A: Allocator + Copy> {
-    /// A lexeme that ends in its row.
+    /// A lexeme that ends in its row, or has a fault.
     Ended(FoundLexeme<A>),
     /// A scalar that may go on in the row below.
     Open(Style, ScalarReader<A>),
 }
 
-/// The first character that is not allowed in what begins at a column.
+/// Returns the fault of the first character that is not allowed in the text that begins at
+/// `column`.
 pub fn bad_in(column: usize, text: &[char]) -> Option<PlacedScanFault>
     requires { column + length text.now < 2 ^ 63 }
     ensures { result ≡ bad_in column text.now }
@@ -64,7 +69,8 @@ pub fn bad_in(column: usize, text: &[char]) -> Option<PlacedScanFault>
     }
 }
 
-/// Something behind a document's end that is no comment.
+/// Returns the fault of anything but a comment after the end marker of a document. `text` is the
+/// text after the marker, and begins at `column`.
 fn behind_end(column: usize, text: &[char]) -> Option<PlacedScanFault>
     requires { column + length text.now < 2 ^ 63 }
     ensures { result ≡ option_map (λ i. fault_at ContentAfterDocumentEnd (column + i)) (misfit_behind text.now) }
@@ -78,7 +84,7 @@ fn behind_end(column: usize, text: &[char]) -> Option<PlacedScanFault>
     )
 }
 
-/// A lexeme with no value.
+/// Returns a lexeme without a value that ends before `column`.
 fn sign<A: Allocator>(kind: Kind, column: u32, fault: Option<PlacedScanFault>) -> FoundLexeme<A>
     ensures { found_lexeme_value result ≡ found_in_row kind column [] fault }
 {
@@ -90,7 +96,7 @@ fn sign<A: Allocator>(kind: Kind, column: u32, fault: Option<PlacedScanFault>) -
     }
 }
 
-/// A directive may stand behind this lexeme.
+/// Returns whether a directive may follow this last lexeme.
 fn is_directive_place(last: Option<Kind>) -> bool
     ensures { result ≡ is_directive_place last }
 {
@@ -100,7 +106,8 @@ fn is_directive_place(last: Option<Kind>) -> bool
     }
 }
 
-/// A document marker or a directive at a row's start.
+/// Returns the document marker or the directive at the start of a row, if there is one. `text` is
+/// the row: the character `c`, and then `rest`. The only error is out of memory.
 fn document_at<A: Allocator + Copy>(
     alloc: A,
     surroundings: &Surroundings<'_, A>,
@@ -135,7 +142,8 @@ fn document_at<A: Allocator + Copy>(
     Ok(None)
 }
 
-/// An anchor or an alias, by the text behind its indicator.
+/// Returns an anchor or an alias at the column `at`. `text` is the text after its indicator. The
+/// only error is out of memory.
 fn name_found<A: Allocator + Copy>(
     alloc: A,
     kind: Kind,
@@ -158,7 +166,7 @@ fn name_found<A: Allocator + Copy>(
     })
 }
 
-/// A tag, by the text behind its indicator.
+/// Returns a tag at the column `at`. `text` is the text after the `!`.
 fn tag_found<A: Allocator>(at: usize, text: &[char]) -> FoundLexeme<A>
     requires fits { at + length text.now < 2 ^ 31 }
     ensures { found_lexeme_value result ≡ tag_found at text.now (tag_len text.now) }
@@ -173,7 +181,8 @@ fn tag_found<A: Allocator>(at: usize, text: &[char]) -> FoundLexeme<A>
     }
 }
 
-/// An anchor, an alias or a tag, by its indicator and the text behind it.
+/// Returns an anchor, an alias or a tag at the column `at`. Its indicator is `c`, and `rest` is the
+/// text after it. The only error is out of memory.
 #[inline(never)]
 fn named_at<A: Allocator + Copy>(
     alloc: A,
@@ -193,7 +202,8 @@ fn named_at<A: Allocator + Copy>(
     Ok(tag_found(at, rest))
 }
 
-/// A scalar whose first row has been read.
+/// Returns a scalar at the column `at` whose first row was read. `line` says what that row is to
+/// the scalar. The only error is out of memory.
 #[inline(always)]
 fn begun<A: Allocator + Copy>(
     alloc: A,
@@ -231,7 +241,8 @@ fn begun<A: Allocator + Copy>(
     }
 }
 
-/// A quoted scalar whose quotes stand in one row, with this between them, each character for itself.
+/// Returns a quoted scalar at the column `at` whose quotes are in one row. `part` is the text
+/// between them, in which each character stands for itself. The only error is out of memory.
 fn simple_found<A: Allocator + Copy>(
     alloc: A,
     style: Style,
@@ -249,6 +260,8 @@ fn simple_found<A: Allocator + Copy>(
     })
 }
 
+/// Returns the quoted scalar at the column `at`. `double` says whether the quotes are double ones,
+/// and `rest` is the text after the opening quote. The only error is out of memory.
 #[tactic(auto, using(crate::proofs::Modes::said_by_style, crate::proofs::Modes::quoted_alike, crate::proofs::Modes::quoted_ends, crate::proofs::Modes::ends_by))]
 #[inline(always)]
 fn quoted_found<A: Allocator + Copy>(
@@ -270,6 +283,8 @@ fn quoted_found<A: Allocator + Copy>(
     begun(alloc, style, at, ScalarReader::Quoted(reader), line)
 }
 
+/// Returns the block scalar at the column `at`. `least` is the least indentation of its content,
+/// and `rest` is the text after its indicator. The only error is out of memory.
 #[tactic(auto, using(crate::proofs::Modes::said_by_style, crate::proofs::Modes::block_alike, crate::proofs::Modes::block_ends, crate::proofs::Modes::ends_by))]
 fn block_found<A: Allocator + Copy>(
     alloc: A,
@@ -287,6 +302,10 @@ fn block_found<A: Allocator + Copy>(
     begun(alloc, style, at, ScalarReader::Block(reader), line)
 }
 
+/// Returns the plain scalar at the column `at`, or a fault if none may begin there. `flow` says
+/// whether a bracket is open, and `least` is the least indentation of the rows below that go on
+/// with the scalar outside of brackets. `text` is the text from `at` on: the character `c`, and
+/// then `rest`. The only error is out of memory.
 #[tactic(auto, using(crate::proofs::Modes::said_by_style, crate::proofs::Modes::plain_alike, crate::proofs::Modes::plain_ends, crate::proofs::Modes::ends_by))]
 #[inline(always)]
 fn plain_found<A: Allocator + Copy>(
@@ -312,7 +331,8 @@ fn plain_found<A: Allocator + Copy>(
     begun(alloc, Style::Plain, at, ScalarReader::Plain(reader), line)
 }
 
-/// An anchor, an alias, a tag or a scalar.
+/// Returns the anchor, the alias, the tag or the scalar at the column `at`. `text` is the text from
+/// there on: the character `c`, and then `rest`. The only error is out of memory.
 #[inline(always)]
 fn word_at<A: Allocator + Copy>(
     alloc: A,
@@ -348,8 +368,9 @@ fn word_at<A: Allocator + Copy>(
     plain_found(alloc, flow, least, at, c, rest, text)
 }
 
-/// The lexeme at a column of a row that is no indicator of a collection. It is the character `c` with `rest` behind it, `text`
-/// together.
+/// Returns the lexeme at the column `at`, which is not the indicator of a collection. `text` is the
+/// text of the row from there on: the character `c`, and then `rest`. The only error is out of
+/// memory.
 #[tactic(auto, unfolding(crate::specs::Step::found_at))]
 pub fn found_at<A: Allocator + Copy>(
     alloc: A,

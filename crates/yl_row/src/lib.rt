@@ -1,7 +1,8 @@
-//! The lexemes of one row, and the comment that it may end with.
+//! Reads the lexemes of one row, and the comment at its end.
 //!
-//! The definition of what a text consists of is `specs/Entries.antt`: it reads whole lexemes out of the whole text and looks back over
-//! all lexemes before a place. The code reads one row, from the `Surroundings` that the rows above leave.
+//! The definition of what a text consists of is `specs/Entries.antt`. It reads whole lexemes out of
+//! the whole text and looks back over all lexemes before a position. The code reads one row at a
+//! time, from the `Surroundings` after the rows above.
 #![tactic(auto)]
 
 ghost use Rattle.yl_row.specs.Begins.{BlockBegins, PlainBegins, QuotedBegins};
@@ -21,13 +22,15 @@ pub use reader::ScalarReader;
 pub use row::{OpenScalar, RowEnd, read_row};
 pub use word::first_tab;
 
-/// A law: what `Surroundings` keep of the lexemes before a row suffices to read it as the definition does.
+/// A law: reading a row from the `Surroundings` of the lexemes before it gives what the definition
+/// gives.
 pub fn kept_suffices()
     ensures { KeptSuffices }
 {}
 
-/// A law: behind a scalar that may go on below, the row in which it begins holds nothing but white space, and the scalar so far ends
-/// within that row.
+/// Laws: a plain or block scalar that may go on in the row below ends, so far, within the row in
+/// which it begins, and only white space follows there. The reader of such a scalar, of any style,
+/// has read no row below.
 pub fn scalars_begin()
     ensures plain { PlainBegins }
     ensures quoted { QuotedBegins }

@@ -1,4 +1,4 @@
-//! A scalar that may go on in the row below, of any style.
+//! A reader of a scalar of any style that may go on in the row below.
 
 ghost use Rattle.std.specs.Prelude.{◌≡◌, ◌≤◌, ◌<◌, ◌+◌, ◌^◌, IfOk};
 ghost use Rattle.yl_row.specs.ScalarReader.{reader_step, reader_finish};
@@ -8,16 +8,20 @@ use std::alloc::{AllocError, Allocator};
 use yl_inline::InlineString;
 use yl_scalar::{BlockReader, PlainReader, QuotedReader, ScalarOutcome, ScalarStep};
 
-/// The reader of a scalar that may go on below.
+/// A reader of a scalar that may go on in the row below.
 #[derive(Drop)]
 pub enum ScalarReader<A: Allocator + Copy> {
+    /// A reader of a plain scalar.
     Plain(PlainReader<A>),
+    /// A reader of a quoted scalar.
     Quoted(QuotedReader<A>),
+    /// A reader of a block scalar.
     Block(BlockReader<A>),
 }
 
 impl<A: Allocator + Copy> ScalarReader<A> {
-    /// Reads the next row: the reader behind it, and what the row was to the scalar.
+    /// Reads the next row. Returns the reader after it, and what the row is to the scalar. The only
+    /// error is out of memory.
     pub fn read(self, row: &[char]) -> Result<(ScalarReader<A>, ScalarStep), AllocError>
         requires { rows_of self + 1 < 2 ^ 64 }
         ensures line { IfOk result (λ r. reader_step_value r.1 r.0 ≡ reader_step (scalar_reader_value self) row.now) }
@@ -42,7 +46,7 @@ impl<A: Allocator + Copy> ScalarReader<A> {
         }
     }
 
-    /// What the end of the text makes of the scalar.
+    /// Returns what the scalar is if the text ends here: its end, or its fault.
     pub fn finish(&self) -> ScalarOutcome
         ensures { reader_outcome_value result self.now ≡ reader_finish (scalar_reader_value self.now) }
     {
@@ -56,7 +60,8 @@ impl<A: Allocator + Copy> ScalarReader<A> {
         }
     }
 
-    /// The scalar's value so far; a block scalar's is not read.
+    /// Returns the value of the scalar as far as it was read. That of a block scalar is empty,
+    /// since it is not read. The only error is out of memory.
     #[inline(always)]
     pub fn into_value(self, alloc: A) -> Result<InlineString<A>, AllocError>
         ensures { IfOk result (λ text. text ≡ value_of self) }

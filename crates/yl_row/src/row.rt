@@ -1,4 +1,4 @@
-//! The lexemes of a row.
+//! Reads the lexemes of a row.
 
 ghost use Rattle.std.specs.Prelude.{◌≡◌, ◌≤◌, ◌<◌, ◌+◌, ◌-◌, ◌++◌, ◌^◌, ◌∷◌, [], false, IfOk, List, Option, Some, None, ℕ, length};
 ghost use Rattle.yl_lexeme.specs.Known.{SurroundingsValue, context_of, surroundings_at};
@@ -24,37 +24,40 @@ use yl_lexeme::{Comment, Kind, Lexeme, Style, Surroundings};
 use yl_scalar::{is_white, text_of};
 use yl_text::Pos;
 
-/// A scalar that may go on in the row below, and where it begins.
+/// A scalar that may go on in the row below, and the column at which it begins.
 #[derive(Drop)]
 pub struct OpenScalar<A: Allocator + Copy> {
+    /// The style.
     pub style: Style,
+    /// The column at which the scalar begins, in characters from 0.
     pub at: usize,
+    /// The reader of the scalar, after the rows that were read.
     pub reader: ScalarReader<A>,
 }
 
-/// What comes behind a lexeme.
+/// What follows a lexeme.
 #[derive(Drop)]
 pub enum Next<A: Allocator + Copy> {
-    /// It ends before this column.
+    /// The lexeme ends before this column, and reading goes on there.
     Behind(usize),
-    /// A scalar that may go on in the row below.
+    /// The lexeme is a scalar that may go on in the row below.
     Opens(Style, ScalarReader<A>),
-    /// None: there is a fault.
+    /// There is a fault, and nothing more is read.
     Stops(PlacedScanFault),
 }
 
-/// How a row ends.
+/// How the reading of a row ends.
 #[derive(Drop)]
 pub enum RowEnd<A: Allocator + Copy> {
-    /// It is read, and may have a comment.
+    /// The row is read to its end, and has this comment, if any.
     Read(Option<Comment<A>>),
-    /// A scalar may go on in the row below.
+    /// The row ends with a scalar that may go on in the row below.
     Opens(OpenScalar<A>),
-    /// There is a fault.
+    /// There is a fault, and nothing more is read.
     Stops(PlacedScanFault),
 }
 
-/// The lexeme that was found at a column.
+/// Returns the lexeme that was found at the column `at`.
 fn lexeme_of<A: Allocator>(at: usize, found: FoundLexeme<A>) -> Lexeme<A>
     requires { at < 2 ^ 32 }
     ensures { result ≡ lexeme_of at (found_lexeme_value found) }
@@ -72,7 +75,8 @@ fn lexeme_of<A: Allocator>(at: usize, found: FoundLexeme<A>) -> Lexeme<A>
     Lexeme::new(kind, at as u32, end, value)
 }
 
-/// Adds a lexeme of the row. Room for sixteen is made at once.
+/// Appends a lexeme of the row. Before the first one, reserves space for sixteen. The only error is
+/// out of memory.
 #[inline(always)]
 fn add<A: Allocator>(lexemes: &mut Vec<Lexeme<A>, A>, lexeme: Lexeme<A>) -> Result<(), AllocError>
     ensures { IfOk result (λ _. lexemes.new.items ≡ lexemes.old.items ++ lexeme ∷ []) }
@@ -84,7 +88,7 @@ fn add<A: Allocator>(lexemes: &mut Vec<Lexeme<A>, A>, lexeme: Lexeme<A>) -> Resu
     Ok(())
 }
 
-/// The lexeme of one character at a column.
+/// Returns a lexeme of one character at the column `at`.
 fn sign<A: Allocator>(kind: Kind, at: usize) -> Lexeme<A>
     requires { at < 2 ^ 31 }
     ensures { result ≡ lexeme_of at (found_in_row kind (at + 1) [] None) }
@@ -97,7 +101,8 @@ fn sign<A: Allocator>(kind: Kind, at: usize) -> Lexeme<A>
     Lexeme::new(kind, column, end, InlineString::new())
 }
 
-/// Passes a scalar that may go on below, unless there is a fault before it.
+/// Passes a scalar that may go on in the row below, unless there is a fault before it. The only
+/// error is out of memory.
 #[tactic(auto, using(crate::proofs::Took::open_goes, crate::proofs::Took::open_stops))]
 fn open_lexeme<A: Allocator + Copy>(
     surroundings: &mut Surroundings<'_, A>,
@@ -122,7 +127,8 @@ fn open_lexeme<A: Allocator + Copy>(
     }
 }
 
-/// Passes a lexeme that ends in its row, unless there is a fault before it or in it.
+/// Passes and appends a lexeme that ends in its row, unless there is a fault before it or in it.
+/// The end marker of a document is appended in spite of a fault. The only error is out of memory.
 #[tactic(auto, using(crate::proofs::Took::ended_goes, crate::proofs::Took::ended_stops, crate::proofs::Took::ended_document))]
 fn ended_lexeme<A: Allocator + Copy>(
     surroundings: &mut Surroundings<'_, A>,
@@ -159,6 +165,7 @@ fn ended_lexeme<A: Allocator + Copy>(
     }
 }
 
+/// Returns whether it is the end marker of a document.
 fn ends_document(kind: Kind) -> bool
     ensures { result ≡ ends_document kind }
 {
@@ -168,7 +175,8 @@ fn ends_document(kind: Kind) -> bool
     }
 }
 
-/// Passes a lexeme of one character, of this kind, or answers the first fault before it and in it.
+/// Passes and appends a lexeme of one character, of this kind, or returns the first fault before it
+/// or in it. The only error is out of memory.
 #[tactic(auto, using(crate::proofs::Took::ended_goes, crate::proofs::Took::ended_stops))]
 fn take_sign<A: Allocator + Copy>(
     surroundings: &mut Surroundings<'_, A>,
@@ -195,7 +203,8 @@ fn take_sign<A: Allocator + Copy>(
     }
 }
 
-/// Reads the lexeme at a column, if it is none of one character. It is the character `c` with `rest` behind it, `text` together.
+/// Reads the lexeme at the column `at`, if it is not of one character. `text` is the text of the
+/// row from there on: the character `c`, and then `rest`. The only error is out of memory.
 fn lexeme<A: Allocator + Copy>(
     alloc: A,
     surroundings: &mut Surroundings<'_, A>,
@@ -228,7 +237,8 @@ fn lexeme<A: Allocator + Copy>(
     }
 }
 
-/// The comment that a row ends with, which begins at this column.
+/// Reads the comment that begins at the column `at`, with which the row ends. `text` is its text.
+/// The only error is out of memory.
 fn comment<A: Allocator + Copy>(alloc: A, at: usize, text: &[char]) -> Result<RowEnd<A>, AllocError>
     requires { at + length text.now < 2 ^ 31 }
     ensures read { IfOk result (λ end. EndsInComment at text.now end) }
@@ -240,7 +250,9 @@ fn comment<A: Allocator + Copy>(alloc: A, at: usize, text: &[char]) -> Result<Ro
     Ok(RowEnd::Read(Some(Comment::new(at as u32, text_of(alloc, text)?))))
 }
 
-/// Reads a row: it begins behind `skip` characters of a lexeme, or at its start.
+/// Reads a row, and appends its lexemes. `skip` is the number of characters at its start that
+/// belong to a lexeme that began above. `fresh` says whether the row begins inside no lexeme. `tab`
+/// is the column of the first tab that may be a fault. The only error is out of memory.
 pub fn read_row<A: Allocator + Copy>(
     alloc: A,
     surroundings: &mut Surroundings<'_, A>,

@@ -1,4 +1,5 @@
-//! Lexemes of one character: the indicators of block collections (YAML 1.2.2, 8.2) and of flow collections (7.4).
+//! Lexemes of one character: the indicators of block collections (YAML 1.2.2, 8.2) and of flow
+//! collections (7.4).
 
 ghost use Rattle.std.specs.Prelude.{◌≡◌, not, if◌then◌else◌, IfSome, Some, None, false};
 ghost use Rattle.std.specs.Bool.{then_some};
@@ -17,7 +18,7 @@ use crate::word::{is_flow_indicator_next, is_space_next};
 use std::alloc::Allocator;
 use yl_lexeme::{Kind, Style, Surroundings, near};
 
-/// The row's first tab, if it stands before a column.
+/// Returns the fault of the first tab of the row, if the tab is before `column`.
 fn tab_before(tab: Option<usize>, column: usize) -> Option<PlacedScanFault>
     ensures { result ≡ tab_before tab column }
 {
@@ -27,6 +28,7 @@ fn tab_before(tab: Option<usize>, column: usize) -> Option<PlacedScanFault>
     }
 }
 
+/// Returns the fault, or `None` if a bracket is open.
 fn in_block<A: Allocator + Copy>(
     surroundings: &Surroundings<'_, A>,
     fault: Option<PlacedScanFault>,
@@ -36,7 +38,8 @@ fn in_block<A: Allocator + Copy>(
     if surroundings.in_flow() { None } else { fault }
 }
 
-/// A tab before a place that is first in its row, out of brackets.
+/// Returns the fault of the first tab of the row, if the tab is before the position `at`, this is
+/// the first one of the row that is not white space, and no bracket is open.
 pub fn place_fault<A: Allocator + Copy>(
     surroundings: &Surroundings<'_, A>,
     tab: Option<usize>,
@@ -52,7 +55,8 @@ pub fn place_fault<A: Allocator + Copy>(
     }
 }
 
-/// Whether the innermost bracket is of this kind.
+/// Returns whether the innermost open bracket is `[`, if `sequence` is set, or else `{`. Returns
+/// `false` if no bracket is open.
 fn closes<A: Allocator + Copy>(sequence: bool, surroundings: &Surroundings<'_, A>) -> bool
     ensures { result ≡ closes sequence (context_of (surroundings_value surroundings.now)).brackets }
 {
@@ -63,7 +67,8 @@ fn closes<A: Allocator + Copy>(sequence: bool, surroundings: &Surroundings<'_, A
     }
 }
 
-/// A closing bracket that is not of the innermost bracket's kind.
+/// Returns the fault of a closing bracket whose kind is not that of the innermost open bracket.
+/// `sequence` says whether it is `]`.
 fn unpaired<A: Allocator + Copy>(
     sequence: bool,
     at: usize,
@@ -78,6 +83,7 @@ fn unpaired<A: Allocator + Copy>(
     )
 }
 
+/// Returns whether it is a quoted scalar or a closing bracket.
 fn is_quoted_or_closing(last: Option<Kind>) -> bool
     ensures { result ≡ is_quoted_or_closing last }
 {
@@ -87,14 +93,16 @@ fn is_quoted_or_closing(last: Option<Kind>) -> bool
     }
 }
 
-/// A value's colon, by what follows it.
+/// Returns whether a colon is the indicator of a value. `flow` says whether a bracket is open,
+/// `last` is the kind of the lexeme before the colon, and `rest` is the text after it.
 fn is_value_at(flow: bool, last: Option<Kind>, rest: &[char]) -> bool
     ensures { result ≡ is_value_at flow last rest.now }
 {
     is_space_next(rest) || (flow && (is_flow_indicator_next(rest) || is_quoted_or_closing(last)))
 }
 
-/// The kind of the lexeme of one character that stands at a place, if one does: the character is `c`, with `rest` behind it.
+/// Returns the kind of the lexeme of one character at a position, if there is such a lexeme. The
+/// character is `c`, and `rest` is the text of the row after it.
 pub fn sign_at<A: Allocator + Copy>(
     surroundings: &Surroundings<'_, A>,
     c: char,
@@ -116,7 +124,8 @@ pub fn sign_at<A: Allocator + Copy>(
     }
 }
 
-/// The fault in a value at a column, out of brackets.
+/// Returns the fault in a value at the column `at`, outside of brackets. `tab` is the column of the
+/// first tab of the row, and `first` says whether the value is the first lexeme of the row.
 fn value_fault<A: Allocator + Copy>(
     surroundings: &Surroundings<'_, A>,
     tab: Option<usize>,
@@ -138,7 +147,9 @@ fn value_fault<A: Allocator + Copy>(
     }
 }
 
-/// The fault in a lexeme of one character, of this kind and at this column.
+/// Returns the fault in a lexeme of one character, of this kind and at the column `at`. `tab` is
+/// the column of the first tab of the row, and `first` says whether the lexeme is the first one of
+/// the row.
 pub fn sign_fault<A: Allocator + Copy>(
     surroundings: &Surroundings<'_, A>,
     tab: Option<usize>,

@@ -1,4 +1,4 @@
-//! Words in a row: names, tags, directives, markers, and what may follow them.
+//! Words in a row (names, tags, directives and markers), and what may follow them.
 
 ghost use Rattle.std.specs.Prelude.{◌≡◌, ◌≤◌, ◌==◌, ◌&&◌, ◌+◌, ◌<◌, ◌^◌, IfSome, length, slice_index, false, drop, option_and_then, take, not};
 ghost use Rattle.std.specs.Bool.{then_some};
@@ -9,13 +9,15 @@ ghost use Rattle.yl_text.specs.Character.{is_flow_indicator, without_end, is_bla
 
 use yl_scalar::{is_flow_indicator, is_safe_next, is_white, without_end};
 
+/// Returns whether the character may be in a name: whether it is neither white space nor a flow
+/// indicator.
 fn is_name_character(c: char) -> bool
     ensures { result ≡ (is_non_space c && not (is_flow_indicator c)) }
 {
     !is_white(c) && !is_flow_indicator(c)
 }
 
-/// How many characters of a name the text begins with.
+/// Returns the number of characters of the name at the start of the text.
 pub fn name_len(text: &[char]) -> usize
     ensures count { result ≡ name_len text.now }
     ensures within { result ≤ length text.now }
@@ -23,7 +25,7 @@ pub fn name_len(text: &[char]) -> usize
     text.iter().take_while(|c| is_name_character(**c)).count()
 }
 
-/// White space, a break or the end comes next.
+/// Returns whether the text is empty or begins with white space.
 pub fn is_space_next(text: &[char]) -> bool
     ensures { result ≡ is_blank (take 1 text.now) }
 {
@@ -33,6 +35,7 @@ pub fn is_space_next(text: &[char]) -> bool
     }
 }
 
+/// Returns whether the text begins with a flow indicator.
 pub fn is_flow_indicator_next(text: &[char]) -> bool
     ensures { result ≡ is_flow_indicator (slice_index text.now 0) }
 {
@@ -42,7 +45,7 @@ pub fn is_flow_indicator_next(text: &[char]) -> bool
     }
 }
 
-/// The character `#` comes next.
+/// Returns whether the text begins with `#`.
 pub fn is_comment_next(text: &[char]) -> bool
     ensures { result ≡ (slice_index text.now 0 == 35) }
 {
@@ -52,13 +55,15 @@ pub fn is_comment_next(text: &[char]) -> bool
     }
 }
 
-/// A comment begins with this character: `#` at the row's start or behind white space.
+/// Returns whether a comment begins with this character: whether it is `#`, and `behind_space` is
+/// set, which says that it is after white space or at the start of the row.
 pub fn begins_comment(c: char, behind_space: bool) -> bool
     ensures { result ≡ (c == 35 && behind_space) }
 {
     c == '#' && behind_space
 }
 
+/// Returns whether the text begins with `<`.
 fn is_verbatim_next(text: &[char]) -> bool
     ensures { result ≡ (slice_index text.now 0 == 60) }
 {
@@ -68,7 +73,8 @@ fn is_verbatim_next(text: &[char]) -> bool
     }
 }
 
-/// How much of the text is a directive's, white space at its end counted.
+/// Returns the number of characters of the directive at the start of the text, including white
+/// space at its end.
 fn directive_len(text: &[char]) -> usize
     ensures count { result ≡ directive_len false text.now }
     ensures within { result ≤ length text.now }
@@ -83,7 +89,7 @@ fn directive_len(text: &[char]) -> usize
     text.len()
 }
 
-/// The directive that the text begins with.
+/// Returns the directive at the start of the text, without white space at its end.
 pub fn directive(text: &[char]) -> &[char]
     ensures directive { result.now ≡ without_end (take (directive_len false text.now) text.now) }
     ensures within { length result.now ≤ length text.now }
@@ -91,7 +97,7 @@ pub fn directive(text: &[char]) -> &[char]
     without_end(&text[..directive_len(text)])
 }
 
-/// The place of the first `>`.
+/// Returns the index of the first `>`.
 fn closing_of(text: &[char]) -> Option<usize>
     ensures place { result ≡ position (λ c. c == 62) text.now }
     ensures within { IfSome result (λ place. place < length text.now) }
@@ -99,7 +105,8 @@ fn closing_of(text: &[char]) -> Option<usize>
     text.iter().position(|c| *c == '>')
 }
 
-/// How many characters a verbatim tag has behind its `!`, if it is not bad, by the place of its `>`.
+/// Returns the number of characters of a verbatim tag after its `!`, or `None` if the tag is bad.
+/// `close` is the index of the first `>` in the text after the `!`.
 fn verbatim_len(text: &[char], close: Option<usize>) -> Option<usize>
     requires { ForSome close (λ place. place < length text.now) }
     ensures count { result ≡ option_and_then (λ end. then_some (name_len (drop (end + 1) text.now) == 0) (end + 1)) close }
@@ -117,7 +124,8 @@ fn verbatim_len(text: &[char], close: Option<usize>) -> Option<usize>
     }
 }
 
-/// How many characters a tag has behind its `!`, if it is not bad.
+/// Returns the number of characters of a tag after its `!`, or `None` if the tag is bad. `text` is
+/// the text after the `!`.
 pub fn tag_len(text: &[char]) -> Option<usize>
     ensures count { result ≡ tag_len text.now }
     ensures within { IfSome result (λ len. len ≤ length text.now) }
@@ -128,7 +136,8 @@ pub fn tag_len(text: &[char]) -> Option<usize>
     Some(name_len(text))
 }
 
-/// A plain scalar may begin with this character, before that text.
+/// Returns whether a plain scalar may begin with the character `c`, before `text`. `flow` says
+/// whether a bracket is open.
 #[inline(always)]
 pub fn is_plain_start(flow: bool, c: char, text: &[char]) -> bool
     ensures { result ≡ is_plain_start flow c text.now }
@@ -156,7 +165,7 @@ pub fn is_plain_start(flow: bool, c: char, text: &[char]) -> bool
     }
 }
 
-/// The place of the first tab.
+/// Returns the column of the first tab, in characters from 0.
 pub fn first_tab(row: &[char]) -> Option<usize>
     ensures { result ≡ position (λ c. c == 9) row.now }
 {
@@ -166,7 +175,7 @@ pub fn first_tab(row: &[char]) -> Option<usize>
     None
 }
 
-/// Whether the row has a tab. All of it is looked at, several characters at once.
+/// Returns whether the row has a tab. Looks at all characters, several at a time.
 fn has_tab(row: &[char]) -> bool
     ensures { result ≡ list_any (λ c. c == 9) row.now }
 {
