@@ -1,11 +1,11 @@
--- Meaning: what the rows of a text tell, each with its line.
+-- Meaning: what the rows of a text report, each with its line.
 use Rattle.std.specs.Prelude.{ℕ, List, [], ◌∷◌, ◌++◌, ◌+◌, map, Option, Some, None, option_to_list}
 use Rattle.yl_row.specs.declared.fault.PlacedScanFault.{PlacedScanFault}
 use Rattle.yl_lexeme.specs.Lexeme.{LexemeValue, CommentValue}
 use Rattle.yl_row.specs.Entries.{RowEntry, LineStateValue}
 
--- lexemes, comments and the fault with the line of the row in which they begin (a fault's lexeme), and the
--- state of each line that is sound
+-- lexemes and comments with the line in which they begin, the state of each line that is sound, and
+-- the fault with the line in which its lexeme begins
 pub record ScanOutput : Type 0 where
   pub lexemes : List (ℕ × LexemeValue)
   pub comments : List (ℕ × CommentValue)
@@ -30,8 +30,9 @@ abbrev pub fault_in : ℕ → Option PlacedScanFault → Option (ℕ × PlacedSc
 fault_in line None = None
 fault_in line (Some f) = Some (line, f)
 
--- what a step tells: a lexeme that began in a row above, with its line; the row's lexemes and comment; the row's state, if it is sound; a
--- fault, with the line of the row in which its lexeme began
+-- what a step reports: a lexeme that began in a row above, with its line; the lexemes and the
+-- comment of the row; the state of the row, if it is sound; and a fault, with the line in which its
+-- lexeme began
 pub record StepValue : Type 0 where
   pub above : Option (ℕ × LexemeValue)
   pub lexemes : List LexemeValue
@@ -39,7 +40,7 @@ pub record StepValue : Type 0 where
   pub state : Option LineStateValue
   pub fault : Option (ℕ × PlacedScanFault)
 
--- told of the row at this line, and then what comes
+-- what the row at this line reports, and then what follows
 abbrev pub output_with_step : ℕ → StepValue → ScanOutput → ScanOutput
 output_with_step line t o = record {
   lexemes = option_to_list t.above ++ (map (at_line line) t.lexemes ++ o.lexemes);
@@ -51,11 +52,11 @@ output_with_step line t o = record {
 abbrev pub entry_step : ℕ → RowEntry → StepValue
 entry_step line e = record { above = None; lexemes = e.lexemes; comment = e.comment; state = e.state; fault = fault_in line e.fault }
 
--- the rows from this line on
+-- what rows with these entries report, from this line on
 abbrev pub output_of_entries : ℕ → List RowEntry → ScanOutput
 output_of_entries line [] = no_output
 output_of_entries line (e ∷ es) = output_with_step line (entry_step line e) (output_of_entries (line + 1) es)
 
--- a row that tells nothing
+-- the step of a row that reports nothing
 abbrev pub silent_step : StepValue
 silent_step = record { above = None; lexemes = []; comment = None; state = None; fault = None }

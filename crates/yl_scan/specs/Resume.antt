@@ -1,4 +1,5 @@
--- Bridge: what the rows of a text from a sound one on consist of, by its state; laws of restart.
+-- Bridge: what the rows of a text from a sound one on consist of, by its state, and the laws of
+-- reading again from there.
 use Rattle.std.specs.Prelude.{◌≡◌, ◌++◌, ◌-◌, ◌≤◌, ℕ, false, true, List, take, drop, Some}
 use Rattle.yl_lexeme.specs.Known.{row_start}
 use Rattle.yl_row.specs.Entries.{RowEntry, LineStateValue, Stopped, Stands, stopped_rows, entries}
@@ -11,23 +12,24 @@ abbrev pub from_state : LineStateValue → List (List ℕ) → List RowEntry
 from_state Stopped rows = stopped_rows false 0 rows
 from_state (Stands levels brackets last) rows = entries_by true 0 0 (row_start levels brackets last) rows
 
--- where a scanner stands before a sound row with this state
+-- the phase of a scanner before a sound row with this state
 abbrev pub phase_at : LineStateValue → PhaseValue
 phase_at Stopped = Halted false 0
 phase_at (Stands levels brackets last) = Fresh true (row_start levels brackets last)
 
+-- what the rows from a sound row on consist of depends on its state and on these rows alone
 abbrev pub ResumeLaw : Type 0
 ResumeLaw = (t : List (List ℕ)) (i : ℕ) (s : LineStateValue) → state_at (entries t) i ≡ Some s → drop i (entries t) ≡ from_state s (drop i t)
 
--- what an edited text consists of: above a sound row that stands above the edit, what the old text did; from it on, what its state and
--- the rows say
+-- what an edited text consists of: above a sound row above the edit, what the text before the edit
+-- does, and from that row on, what its state and the rows give
 abbrev pub RestartLaw : Type 0
 RestartLaw =
     (old new : List (List ℕ)) (r : ℕ) (s : LineStateValue) → AreSameAbove r old new → state_at (entries new) r ≡ Some s
     → entries new ≡ take r (entries old) ++ from_state s (drop r new)
 
--- and from a row on that is sound in both with the same state, where the rows from there on are the same, what the old text did: the
--- rows between are to be read
+-- and from a row on that is sound in both texts with the same state, if the rows from there on are
+-- equal, what the text before the edit does; only the rows between these two have to be read
 abbrev pub ConvergenceLaw : Type 0
 ConvergenceLaw =
     (old new : List (List ℕ)) (r m n : ℕ) (s z : LineStateValue) → AreSameAbove r old new → state_at (entries new) r ≡ Some s

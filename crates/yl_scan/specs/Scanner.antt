@@ -1,4 +1,4 @@
--- Bridge: where a scanner stands before a row, and what its steps keep in order.
+-- Bridge: the phase of a scanner before a row, and what its steps keep in order.
 use Rattle.std.specs.Prelude.{◌≡◌, ◌<◌, ◌⊎◌, ℕ, ◌+◌, ◌-◌, ◌^◌, Bool, true, false, List, Option, Some, None}
 use Rattle.std.specs.Option.{ForSome}
 use Rattle.yl_scalar.specs.declared.answer.ScalarPlace.{ScalarPlace}
@@ -19,8 +19,8 @@ use Rattle.yl_scan.specs.Output.{silent_step}
 use Rattle.yl_scan.specs.Remaining.{PhaseValue, Fresh, Within, Halted}
 use Rattle.yl_scan.specs.Step.{step_value}
 
--- a scanner: how many rows it was fed, where it stands before the next one, whether its steps are to hold states, and whether it was
--- refused memory
+-- a scanner. line: the number of rows that were read. stand: the phase before the next one. states:
+-- its steps hold states. refused: a call ran out of memory
 pub record ScannerValue : Type 0 where
   pub line : ℕ
   pub stand : PhaseValue
@@ -32,13 +32,13 @@ phase_value start k Between = Fresh start k
 phase_value start k (CodeWithin begun o) = Within begun o.style o.at (scalar_reader_value o.reader) k
 phase_value start k (CodeHalted reach) = Halted reach.to_end reach.down
 
--- what is known of the lexemes before, unless a fault has come before
+-- what is known of the lexemes before, unless reading has stopped at a fault
 abbrev pub surroundings_in : PhaseValue → Option SurroundingsValue
 surroundings_in (Fresh start k) = Some k
 surroundings_in (Within begun style at m k) = Some k
 surroundings_in (Halted to_end down) = None
 
--- what stands before the next row, if it is sound
+-- the state of the next row, if it is sound
 abbrev pub state_before : PhaseValue → LineStateValue
 state_before (Fresh start k) = state_of (context_of k)
 state_before (Within begun style at m k) = state_of (context_of k)
@@ -56,11 +56,12 @@ BeginsAt line (Fresh start k) = Unit {0}
 BeginsAt line (Within begun style at m k) = begun ≡ line
 BeginsAt line (Halted to_end down) = Unit {0}
 
--- the lexeme from above that a step tells is the scalar that was in progress
+-- the lexeme from above that a step reports is the scalar that was in progress
 abbrev pub EndsOpen : {A : Type 0} → ℕ → Option ℕ → Step A → Type 0
 EndsOpen line begun step = ForSome step.ended (λ e. begun ≡ Some (line - e.ago))
 
--- and the scalar in progress behind the row began in it, or was in progress before it, and the row tells nothing
+-- and the scalar in progress after the row began in the row, or was in progress before it, and the
+-- row reports nothing
 pub record IsInOrder {A : Type 0} (line : ℕ) (begun behind : Option ℕ) (step : Step A) : Type 0 where
   pub above : EndsOpen line begun step
   pub next : ForSome behind (λ b. b ≡ line) ⊎ (((s : LineStateValue) → step_value line s step ≡ silent_step) × (behind ≡ begun))
@@ -70,7 +71,8 @@ is_halted (Fresh start k) = false
 is_halted (Within begun style at m k) = false
 is_halted (Halted to_end down) = true
 
--- a scalar in progress began above, has read all rows since, and stands within columns that fit
+-- a scalar in progress began above this line, its reader has read all rows since, and its columns
+-- fit
 pub record IsUnderWay (line begun at : ℕ) (m : ScalarReaderValue) : Type 0 where
   pub above : begun < line
   pub rows : rows_in m ≡ line - (begun + 1)
@@ -83,6 +85,6 @@ IsInStep line Between = Unit {0}
 IsInStep line (CodeWithin begun o) = IsUnderWay line begun o.at (scalar_reader_value o.reader)
 IsInStep line (CodeHalted reach) = Unit {0}
 
--- a scalar's lexeme that ends before this place
+-- the lexeme of a scalar that ends before this position
 abbrev pub scalar_lexeme : Style → ℕ → ScalarPlace → List ℕ → LexemeValue
 scalar_lexeme style at place value = lexeme_of at (scalar_found style at (Whole (extent_at place value)))

@@ -1,4 +1,4 @@
--- Bridge: what a state shows of what it keeps.
+-- Bridge: the value of a state.
 use Rattle.std.specs.Prelude.{Option, Some, None}
 use Rattle.std.specs.declared.rc.Rc.{Rc}
 use Rattle.yl_scan.specs.declared.state.Standing.{Standing}

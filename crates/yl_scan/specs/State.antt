@@ -15,7 +15,7 @@ abbrev pub is_stopped : LineStateValue → Bool
 is_stopped Stopped = true
 is_stopped (Stands levels brackets last) = false
 
--- kinds by number
+-- a number for each kind of lexeme
 abbrev pub kind_number : Kind → ℕ
 kind_number Directive = 0
 kind_number DocStart = 1
@@ -41,7 +41,7 @@ abbrev pub last_number : Option Kind → ℕ
 last_number None = 1
 last_number (Some k) = kind_number k + 2
 
--- a state by its parts
+-- the parts of a state
 abbrev pub levels_in : LineStateValue → List ℕ
 levels_in Stopped = []
 levels_in (Stands levels brackets last) = levels
@@ -54,13 +54,13 @@ abbrev pub last_in : LineStateValue → ℕ
 last_in Stopped = 0
 last_in (Stands levels brackets last) = last_number last
 
--- two states are the same
+-- whether two states are the same, by their parts
 abbrev pub state_eq : LineStateValue → LineStateValue → Bool
 state_eq = eq_of_both (on levels_in (pointwise nat_eq)) (eq_of_both (on brackets_in (pointwise (on kind_number nat_eq))) (on last_in nat_eq))
 
 pub state_equivalence : IsEquivalence state_eq
 state_equivalence = and_equiv (on_equiv levels_in nat_list_eq_equiv) (and_equiv (on_equiv brackets_in (lists_equiv (on_equiv kind_number nat_eq_equiv))) (on_equiv last_in nat_eq_equiv))
 
--- that they are found to be the same says that they are
+-- two states compare as equal if and only if they are the same
 abbrev pub EqualsExactly : Type 0
 EqualsExactly = (s t : LineStateValue) → IsTrue (state_eq s t) ↔ (s ≡ t)

@@ -1,4 +1,4 @@
--- Meaning: what a scanner's step tells of its row, and of what began in the rows above.
+-- Meaning: what a step of a scanner reports of its row, and of what began in the rows above.
 use Rattle.std.specs.Prelude.{◌≡◌, ◌≤◌, ◌<◌, ℕ, ◌-◌, Bool, true, false, List, [], map, Option, Some, None, option_map, option_to_list}
 use Rattle.std.specs.Option.{ForSome}
 use Rattle.std.specs.Str.{chars}
@@ -13,20 +13,20 @@ use Rattle.yl_scan.specs.declared.step.Soundness.TheVariants.{NotSound, Sound, S
 use Rattle.yl_row.specs.Entries.{LineStateValue, Stopped}
 use Rattle.yl_scan.specs.Output.{ScanOutput, StepValue}
 
--- what began so many rows before this line
+-- a lexeme or a fault that began so many rows above this line, with its own line
 abbrev pub lexeme_above_at : {A : Type 0} → ℕ → LexemeAbove A → ℕ × LexemeValue
 lexeme_above_at line e = (line - e.ago, e.lexeme)
 
 abbrev pub fault_above_at : ℕ → FaultAbove → ℕ × PlacedScanFault
 fault_above_at line f = (line - f.ago, f.fault)
 
--- the state of a row, by what stands before it and by whether it is sound
+-- the state of a row: s is the state at its start, which it has if it is sound
 abbrev pub state_by : LineStateValue → Soundness → Option LineStateValue
 state_by s NotSound = None
 state_by s Sound = Some s
 state_by s SoundStopped = Some Stopped
 
--- or none, where states are not wanted
+-- the same state, or none if states are not wanted
 abbrev pub state_for : Option LineStateValue → Soundness → Option LineStateValue
 state_for None _ = None
 state_for (Some s) sound = state_by s sound
@@ -36,7 +36,7 @@ is_sound NotSound = false
 is_sound Sound = true
 is_sound SoundStopped = true
 
--- what a step tells of the row at a line, where this stands before the row
+-- what a step reports of the row at a line, where s is the state at the start of the row
 abbrev pub step_value : {A : Type 0} → ℕ → LineStateValue → Step A → StepValue
 step_value line s step = record {
   above = option_map (lexeme_above_at line) step.ended;
@@ -46,7 +46,8 @@ step_value line s step = record {
   fault = option_map (fault_above_at line) step.failed;
 }
 
--- what a step tells of the rows above this line began in one of them, and a fault there or in the row itself
+-- a lexeme of a step that began above this line is of a line of the text, and a fault is of such a
+-- line or of this one
 abbrev pub IsAbove : {A : Type 0} → ℕ → LexemeAbove A → Type 0
 IsAbove line e = (0 < e.ago) × (e.ago ≤ line)
 
@@ -56,11 +57,11 @@ IsNotBelow line f = f.ago ≤ line
 abbrev pub BeginsInText : {A : Type 0} → ℕ → Step A → Type 0
 BeginsInText line s = ForSome s.ended (IsAbove line) × ForSome s.failed (IsNotBelow line)
 
--- a fault of the row itself, if there is one
+-- a fault, if there is one, is in a lexeme that begins in the row itself
 abbrev pub FailsHere : {A : Type 0} → Step A → Type 0
 FailsHere s = ForSome s.failed (λ f. f.ago ≡ 0)
 
--- what is told at the text's end, of no row
+-- what the end of the text reports, which belongs to no row
 abbrev pub at_end : StepValue → ScanOutput
 at_end t = record { lexemes = option_to_list t.above; comments = []; states = []; fault = t.fault }
 

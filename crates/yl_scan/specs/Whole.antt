@@ -1,4 +1,4 @@
--- Meaning: what a whole text holds.
+-- Meaning: what a whole text consists of, as `scan` returns it.
 use Rattle.std.specs.Prelude.{ℕ, Bool, List, ◌++◌, map, Option, option_map, is_some}
 use Rattle.yl_lexeme.specs.Lexeme.{LexemeValue, CommentValue}
 use Rattle.yl_row.specs.declared.fault.PlacedScanFault.{PlacedScanFault}
@@ -23,7 +23,7 @@ comments_in xs = map comment_in xs
 abbrev pub fault_of : Option LineFault → Option (ℕ × PlacedScanFault)
 fault_of f = option_map fault_in f
 
--- what is kept of what a text's rows told: of states, whether there is one
+-- what the rows of a text reported; of states, only whether there is one
 pub record ScannedTextValue : Type 0 where
   pub lexemes : List (ℕ × LexemeValue)
   pub comments : List (ℕ × CommentValue)
@@ -36,6 +36,6 @@ text_value_of_output o = record { lexemes = o.lexemes; comments = o.comments; so
 abbrev pub scanned_text_value : {A : Type 0} → ScannedText A → ScannedTextValue
 scanned_text_value s = record { lexemes = map lexeme_in s.lexemes.items; comments = comments_in s.comments.items; sound = s.sound.items; fault = fault_of s.fault }
 
--- what rows told, and then what further rows tell
+-- what rows reported, and then what further rows report
 abbrev pub text_value_then : ScannedTextValue → ScanOutput → ScannedTextValue
 text_value_then h p = record { lexemes = h.lexemes ++ p.lexemes; comments = h.comments ++ p.comments; sound = h.sound ++ map is_some p.states; fault = first_fault h.fault p.fault }

@@ -1,4 +1,4 @@
-//! What stands before a row, where it is wanted.
+//! The state before a row, if states are wanted.
 
 ghost use Rattle.std.specs.Prelude.{◌≡◌, if◌then◌else◌, IfOk, Some, None, Bool};
 ghost use Rattle.yl_lexeme.specs.Known.{new_row};
@@ -12,7 +12,8 @@ use crate::step::Soundness;
 use std::alloc::{AllocError, Allocator};
 use yl_lexeme::Surroundings;
 
-/// What stands before the next row, if states are wanted. The only error is memory.
+/// Returns the state that the next row has if it is sound, or `None` if states are not wanted. The
+/// only error is out of memory.
 pub fn state_before<A: Allocator + Copy>(
     is_wanted: bool,
     alloc: A,
@@ -34,7 +35,8 @@ pub fn state_before<A: Allocator + Copy>(
     }
 }
 
-/// The state of a row, by what stands before it, if that is wanted, and by whether it is sound.
+/// Returns the state of a row. `before` is the state at its start, if states are wanted, and
+/// `sound` says whether the row is sound.
 #[inline(always)]
 pub fn state_for<A: Allocator + Copy>(
     before: Option<LineState<A>>,

@@ -1,4 +1,4 @@
-//! Rows that hold a comment alone.
+//! Reads rows that hold only a comment, without decoding their characters.
 
 ghost use Rattle.std.specs.Prelude.{◌≡◌, ◌≤◌, ◌<◌, ◌^◌, [], IfOk, IfSome, IsTrue, None, Some, ℕ, true, length};
 ghost use Rattle.std.specs.List.{prefix_len};
@@ -18,7 +18,7 @@ use std::alloc::{AllocError, Allocator};
 use yl_lexeme::Comment;
 use yl_text::first_special;
 
-/// How many bytes of white space the row begins with.
+/// Returns the number of bytes of white space at the front of the row.
 fn white_len(bytes: &[u8]) -> usize
     ensures count { result ≡ prefix_len is_white bytes.now }
     ensures within { result ≤ length bytes.now }
@@ -29,7 +29,7 @@ fn white_len(bytes: &[u8]) -> usize
         .count()
 }
 
-/// Whether the character `#` comes next.
+/// Returns whether the text begins with `#`.
 fn begins_comment(bytes: &[u8]) -> bool
     ensures { result ≡ starts_by is_sign bytes.now }
 {
@@ -39,7 +39,7 @@ fn begins_comment(bytes: &[u8]) -> bool
     }
 }
 
-/// Whether this is a comment of printable ASCII.
+/// Returns whether the text is a comment of printable ASCII.
 fn is_plain_comment(bytes: &[u8]) -> bool
     ensures sign { IsTrue result → starts_by is_sign bytes.now ≡ true }
     ensures printable { IsTrue result → special_place bytes.now ≡ length bytes.now }
@@ -47,7 +47,8 @@ fn is_plain_comment(bytes: &[u8]) -> bool
     begins_comment(bytes) && first_special(bytes) == bytes.len()
 }
 
-/// Where a row's comment begins, in bytes from 0, if it is of printable ASCII and the row has nothing before it but white space.
+/// Returns the byte offset of the comment of a row, if the comment is printable ASCII and only
+/// white space is before it.
 fn comment_place(bytes: &[u8]) -> Option<usize>
     ensures { IfSome result (λ at. PlainCommentAt bytes.now at) }
 {
@@ -58,8 +59,8 @@ fn comment_place(bytes: &[u8]) -> Option<usize>
     None
 }
 
-/// The comment of a row of this text, if it is of printable ASCII and the row has nothing before it but white space. The row is not
-/// looked at by characters. The only error is memory.
+/// Returns the comment of a row, if the comment is printable ASCII and only white space is before
+/// it. Reads the bytes of the row and not its characters. The only error is out of memory.
 fn lone_comment<A: Allocator + Copy>(alloc: A, text: &str) -> Result<Option<Comment<A>>, AllocError>
     requires { length (chars text.now) < 2 ^ 31 }
     ensures { IfOk result (λ found. IfSome found (λ comment. HoldsAlone (chars text.now) comment)) }
@@ -73,7 +74,9 @@ fn lone_comment<A: Allocator + Copy>(alloc: A, text: &str) -> Result<Option<Comm
     }
 }
 
-/// The same of a row before which the scanner stands so, if it stands between lexemes.
+/// Returns the comment of a row, if the scanner is between lexemes before it, the comment is
+/// printable ASCII, and only white space is before it. `resting` is the phase before the row. The
+/// only error is out of memory.
 #[inline(always)]
 pub fn comment_between<A: Allocator + Copy>(
     alloc: A,
@@ -90,7 +93,8 @@ pub fn comment_between<A: Allocator + Copy>(
     }
 }
 
-/// What a row tells that holds this comment alone.
+/// Returns the step of a row that holds only this comment. `before` is the state of the row, if
+/// states are wanted.
 pub fn comment_row<A: Allocator + Copy>(
     alloc: A,
     before: Option<LineState<A>>,

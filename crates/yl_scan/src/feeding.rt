@@ -1,4 +1,4 @@
-//! What a row tells, by where the scanner stands before it.
+//! Reads a row in each phase of the scanner.
 
 ghost use Rattle.std.specs.Prelude.{◌≡◌, ◌≤◌, ◌<◌, ◌+◌, ◌-◌, ◌^◌, ◌==◌, ◌∷◌, [], not, ◌&&◌, ◌||◌, true, false, if◌then◌else◌, IfOk, OnErr, OnOk, List, ℕ, nat_le, Bool, Option, IsSome, is_some, length};
 ghost use Rattle.yl_lexeme.specs.Lexeme.{LexemeValue};
@@ -33,7 +33,7 @@ use yl_row::{
 use yl_scalar::{ScalarFault, ScalarOutcome, ScalarPlace, ScalarStep, is_blank};
 use yl_text::Pos;
 
-/// Whether a lexeme ends in its row before a column or at it.
+/// Returns whether a lexeme ends in the row in which it begins, and no further than at `column`.
 fn ends_by<A: Allocator>(column: usize, lexeme: &Lexeme<A>) -> bool
     ensures { result ≡ (lexeme.now.end.line == 0 && nat_le lexeme.now.end.col column) }
 {
@@ -41,6 +41,7 @@ fn ends_by<A: Allocator>(column: usize, lexeme: &Lexeme<A>) -> bool
     end.line == 0 && end.col as usize <= column
 }
 
+/// Returns whether it is a tab in indentation.
 fn is_tab(fault: ScanFault) -> bool
     ensures { result ≡ is_tab fault }
 {
@@ -50,6 +51,7 @@ fn is_tab(fault: ScanFault) -> bool
     }
 }
 
+/// Returns whether it is an unclosed quote.
 fn is_unclosed(fault: ScanFault) -> bool
     ensures { result ≡ is_unclosed fault }
 {
@@ -59,7 +61,8 @@ fn is_unclosed(fault: ScanFault) -> bool
     }
 }
 
-/// Takes the lexemes back that end past a fault's place. Only a tab can stand before some that were read.
+/// Removes the lexemes that end after the position of a fault. Only a tab can be before lexemes
+/// that were read.
 fn keep<A: Allocator>(lexemes: &mut Vec<Lexeme<A>, A>, fault: PlacedScanFault)
     ensures { lexemes.new.items ≡ lexemes_up_to_fault (Some fault) lexemes.old.items }
 {
@@ -68,7 +71,7 @@ fn keep<A: Allocator>(lexemes: &mut Vec<Lexeme<A>, A>, fault: PlacedScanFault)
     }
 }
 
-/// How far a fault reaches.
+/// Returns the rows that a fault reaches.
 fn reach_of(fault: PlacedScanFault) -> Reach
     ensures end { result.to_end ≡ is_unclosed fault.fault }
     ensures down { result.down ≡ fault.down }
@@ -79,7 +82,7 @@ fn reach_of(fault: PlacedScanFault) -> Reach
     }
 }
 
-/// A row that tells nothing but whether it is sound.
+/// Returns a step that reports only whether the row is sound. Allocates nothing.
 pub fn silent<A: Allocator + Copy>(
     alloc: A,
     before: Option<LineState<A>>,
@@ -100,7 +103,8 @@ pub fn silent<A: Allocator + Copy>(
     }
 }
 
-/// How many lexemes of a row that was read to this end are told late: a scalar that may go on below is, once it has ended.
+/// Returns the number of lexemes of a row that later rows report: 1 if the row ends with a scalar
+/// that may go on below, or else 0.
 fn late_lexemes<A: Allocator + Copy>(end: &RowEnd<A>) -> usize
     ensures { result ≤ 1 }
 {
@@ -110,7 +114,7 @@ fn late_lexemes<A: Allocator + Copy>(end: &RowEnd<A>) -> usize
     }
 }
 
-/// What a row tells that was read to this end. Puts where it leaves the scanner.
+/// Returns the step of a row that was read to this end, and sets the phase after it.
 #[inline(always)]
 fn row_end<A: Allocator + Copy>(
     line: u32,
@@ -168,14 +172,14 @@ fn row_end<A: Allocator + Copy>(
     }
 }
 
-/// The first tab of a row, if it does not begin inside a lexeme.
+/// Returns the column of the first tab of a row, if the row begins inside no lexeme.
 fn tab_of(fresh: bool, row: &[char]) -> Option<usize>
     ensures { result ≡ first_tab (not fresh) row.now }
 {
     if fresh { first_tab(row) } else { None }
 }
 
-/// Whether a row is sound that begins inside no lexeme.
+/// Returns whether a row is sound that begins inside no lexeme and is not below a fault.
 fn sound_start(line: u32, row: &[char]) -> Soundness
     ensures { (s : LineStateValue) → state_by s result ≡ (if (line == 0) || not (is_blank row.now) then Some s else None) }
 {
@@ -186,14 +190,15 @@ fn sound_start(line: u32, row: &[char]) -> Soundness
     }
 }
 
-/// Whether a row is sound that a fault reaches so far.
+/// Returns whether a row below a fault is sound. `reach` says which rows the fault reaches, from
+/// this one on.
 fn is_sound_behind(reach: Reach, row: &[char]) -> bool
     ensures { result ≡ ((reach.down == 0) && not reach.to_end && not (is_blank row.now)) }
 {
     reach.down == 0 && !reach.to_end && !is_blank(row)
 }
 
-/// That a fault has come before, if the row is sound.
+/// Returns the soundness of a row below a fault.
 pub fn stopped_if(is_sound: bool) -> Soundness
     ensures { (s : LineStateValue) → state_by s result ≡ (if is_sound then Some Stopped else None) }
 {
@@ -204,7 +209,8 @@ pub fn stopped_if(is_sound: bool) -> Soundness
     }
 }
 
-/// Reads a row from a column on, at its start or behind a lexeme that began above.
+/// Reads a row from its start, or after a lexeme that began above and ends before the column
+/// `skip`. The only error is out of memory.
 #[inline(always)]
 fn read_on<A: Allocator + Copy>(
     alloc: A,
@@ -247,7 +253,7 @@ fn read_on<A: Allocator + Copy>(
     Ok(row_end(line, before, sound, lexemes, end, resting))
 }
 
-/// Reads a row that begins inside no lexeme.
+/// Reads a row that begins inside no lexeme. The only error is out of memory.
 #[inline(always)]
 fn fresh_row<A: Allocator + Copy>(
     alloc: A,
@@ -286,7 +292,8 @@ fn fresh_row<A: Allocator + Copy>(
     )
 }
 
-/// A scalar that ends before this place, which began at this column.
+/// Returns the lexeme of a scalar that began at the column `at` and ends before `place`. The only
+/// error is out of memory.
 fn scalar_lexeme<A: Allocator + Copy>(
     alloc: A,
     style: Style,
@@ -310,7 +317,7 @@ fn scalar_lexeme<A: Allocator + Copy>(
     ))
 }
 
-/// A scalar's fault.
+/// Returns the fault of a scalar that began `ago` rows above.
 fn scalar_failed(ago: u32, fault: ScalarFault, place: ScalarPlace) -> FaultAbove
     ensures { result ≡ record { ago = ago; fault = record { fault = of_scalar fault; down = place.down; column = place.column } } }
 {
@@ -324,7 +331,7 @@ fn scalar_failed(ago: u32, fault: ScalarFault, place: ScalarPlace) -> FaultAbove
     }
 }
 
-/// Reads a row that begins inside a scalar, or directly behind it.
+/// Reads a row that begins inside a scalar, or directly after it. The only error is out of memory.
 fn within_row<A: Allocator + Copy>(
     alloc: A,
     surroundings: &mut Surroundings<'_, A>,
@@ -393,7 +400,7 @@ fn within_row<A: Allocator + Copy>(
     }
 }
 
-/// Passes a row behind a fault.
+/// Passes a row below a fault.
 fn halted_row<A: Allocator + Copy>(
     alloc: A,
     before: Option<LineState<A>>,
@@ -418,7 +425,8 @@ fn halted_row<A: Allocator + Copy>(
     step
 }
 
-/// Reads a row where the scanner stood in this phase before it, which was taken out. Puts the phase behind it.
+/// Reads a row in the phase `taken`, and sets the phase after it in `resting`. The only error is
+/// out of memory.
 #[inline(always)]
 fn taken_row<A: Allocator + Copy>(
     alloc: A,
@@ -460,8 +468,9 @@ fn taken_row<A: Allocator + Copy>(
     }
 }
 
-/// Reads a row where the scanner stands in this phase before it, its lexemes into a list whose room is used from row to row. Puts the phase
-/// behind it. Where the scanner stands between lexemes the phase stays in its place, since it is large to move.
+/// Reads a row in the phase `resting`, and sets the phase after it. Reads the lexemes into a list
+/// whose capacity is used from row to row. Between lexemes the phase is not moved, since it is
+/// large. The only error is out of memory.
 #[inline(always)]
 pub fn fed_row<A: Allocator + Copy>(
     alloc: A,
@@ -493,7 +502,8 @@ pub fn fed_row<A: Allocator + Copy>(
     }
 }
 
-/// What the text's end tells of a scalar in progress, behind so many rows.
+/// Returns what the end of the text reports of a scalar in progress. `line` is the number of rows
+/// that were read. The only error is out of memory.
 fn ended_scalar<A: Allocator + Copy>(
     alloc: A,
     line: u32,
@@ -521,7 +531,8 @@ fn ended_scalar<A: Allocator + Copy>(
     }
 }
 
-/// What the text's end tells, behind so many rows.
+/// Returns what the end of the text reports. `line` is the number of rows that were read. The only
+/// error is out of memory.
 pub fn ended_text<A: Allocator + Copy>(
     alloc: A,
     line: u32,

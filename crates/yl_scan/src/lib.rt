@@ -1,7 +1,8 @@
-//! Lexemes and comments of a text that is fed row by row.
+//! Scans a text, row by row, into lexemes and comments.
 //!
-//! The definition of what a text consists of is `Entries` of yl_row. `Scanner` carries what is in progress from row to row: what a row
-//! tells, and what the rows below still tell behind it, is what the rows from it on tell (`specs/Output.antt`).
+//! The definition of what a text consists of is `Entries` of yl_row. A `Scanner` carries what is in
+//! progress from row to row. What it reports of a row, followed by what it reports of the rows
+//! below, is what the rows from that one on consist of (`specs/Output.antt`).
 #![tactic(auto)]
 
 ghost use Rattle.yl_scan.specs.Laws.{ScalarsCarry};
@@ -28,27 +29,31 @@ pub use whole::{LineComment, LineFault, LineLexeme, ScannedText, scan};
 pub use yl_lexeme::{Comment, Kind, Lexeme, LexemeAtLine, Meter, Style};
 pub use yl_row::{PlacedScanFault, ScanFault};
 
-/// A law: a scalar that is carried from row to row gives what it gives when it is read whole.
+/// A law: a scalar that is carried from row to row gives what it gives when it is read as a whole.
 pub fn scalars_carry()
     ensures { ScalarsCarry }
 {}
 
-/// A law: what the rows from a sound row on consist of depends on its state alone.
+/// A law: what the rows from a sound row on consist of depends on the state of that row and on
+/// these rows alone.
 pub fn resume_law()
     ensures { ResumeLaw }
 {}
 
-/// A law: whether a row is sound, its state, and what the rows before it consist of depend on the rows down to it alone.
+/// A law: whether a row is sound, and its state, depend only on the rows up to and including it. If
+/// it is sound, this holds for what the rows above it consist of, too.
 pub fn prefix_law()
     ensures { PrefixLaw }
 {}
 
-/// A law: rows that are the same, from sound rows with the same state on, consist of the same.
+/// A law: equal rows consist of the same in two texts, if the first of them is sound in both, with
+/// the same state. If the state is that of a row below a fault, they consist of nothing.
 pub fn shift_law()
     ensures { ShiftLaw }
 {}
 
-/// A law: what a text consists of once it was edited, by what it did before and what is read anew from a sound row above the edit on.
+/// Laws: what an edited text consists of, by what the text before the edit consists of, and by what
+/// is read again from a sound row above the edit on.
 pub fn restart_law()
     ensures restart { RestartLaw }
     ensures convergence { ConvergenceLaw }
@@ -56,12 +61,14 @@ pub fn restart_law()
     ensures above { AboveLaw }
 {}
 
-/// A law: states that are found to be equal are the same.
+/// A law: two states compare as equal if and only if they are the same.
 pub fn states_equal()
     ensures { EqualsExactly }
 {}
 
-/// Laws: what rows tell, they tell in turn, by their lines; and what was told of rows says what they consist of.
+/// Laws: what rows report is what the first of them report and then what the others report. Equal
+/// rows report the same from sound rows with the same state on, at their own lines. What rows
+/// report determines what they consist of, and the rows above all that is in progress are complete.
 pub fn told_by_lines()
     ensures in_turn { ToldInTurn }
     ensures moves { ToldMoves }

@@ -1,22 +1,25 @@
-//! Where a scanner stands between two rows.
+//! The phase of a scanner between two rows.
 
 use std::alloc::Allocator;
 use yl_row::OpenScalar;
 
-/// How far a fault reaches: so many rows further, or to the text's end.
+/// The rows that a fault reaches.
 #[derive(Clone, Copy)]
 pub struct Reach {
+    /// Whether it reaches to the end of the text.
     pub to_end: bool,
+    /// The number of rows that it still reaches.
     pub down: usize,
 }
 
-/// Where a scanner stands before a row.
+/// The phase of a scanner before a row.
 #[derive(Drop)]
 pub enum Phase<A: Allocator + Copy> {
     /// Between lexemes.
     Between,
-    /// Within a scalar that began at this line, counted from 0.
+    /// Within a scalar that began in this row. Rows count from 0, from the one at which the scanner
+    /// was created.
     Within(u32, OpenScalar<A>),
-    /// Behind a fault.
+    /// After a fault.
     Halted(Reach),
 }

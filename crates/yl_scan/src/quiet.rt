@@ -1,4 +1,4 @@
-//! Rows that tell no more than whether they are sound, known by their text alone.
+//! Recognizes rows that report only whether they are sound, by their text alone.
 
 ghost use Rattle.std.specs.Prelude.{◌≡◌, ◌+◌, ◌==◌, ◌∷◌, [], not, ◌&&◌, ◌||◌, false, if◌then◌else◌, IfSome, List, ℕ, None, Some, is_some};
 ghost use Rattle.std.specs.Str.{chars};
@@ -17,21 +17,23 @@ use crate::step::{Soundness, Step};
 use std::alloc::Allocator;
 use yl_scalar::is_white;
 
-/// Whether a row has white space only.
+/// Returns whether the row has only white space.
 fn is_blank_text(text: &str) -> bool
     ensures { result ≡ is_blank (chars text.now) }
 {
     text.chars().all(|c| is_white(c))
 }
 
-/// Whether a row is sound that a fault does not reach, unless it reaches to the end.
+/// Returns whether a row is sound after a fault whose reach counts no further rows. `to_end` says
+/// that the fault reaches to the end of the text, so that no row is sound.
 fn is_sound_past(to_end: bool, text: &str) -> bool
     ensures { result ≡ (not to_end && not (is_blank (chars text.now))) }
 {
     !to_end && !is_blank_text(text)
 }
 
-/// What a row of this text tells after a fault that does not reach it, unless it reaches to the end.
+/// Returns the step of a row after a fault whose reach counts no further rows. `to_end` says that
+/// the fault reaches to the end of the text.
 fn stopped_row<A: Allocator + Copy>(alloc: A, states: bool, to_end: bool, text: &str) -> Step<A>
     ensures told { (line : ℕ) (s : LineStateValue) → step_value line s result ≡ record { above = None; lexemes = []; comment = None; state = (if not to_end && not (is_blank (chars text.now)) then Some Stopped else None); fault = None } }
     ensures state { result.state ≡ (if states then state_by Stopped result.sound else None) }
@@ -46,8 +48,9 @@ fn stopped_row<A: Allocator + Copy>(alloc: A, states: bool, to_end: bool, text: 
     silent(alloc, before, stopped_if(is_sound_past(to_end, text)))
 }
 
-/// What a row tells after which the scanner stands as it does before it, if the row's text alone says so: a blank row between lexemes
-/// that is not the text's first, and a row after a fault that does not reach it, or that reaches to the end. It takes no memory.
+/// Returns the step of a row that does not change the phase of the scanner, if the text of the row
+/// alone says so, or else `None`. Such a row is a blank row between lexemes, other than row 0, or a
+/// row after a fault whose reach counts no further rows. Allocates nothing.
 #[inline(always)]
 pub fn quiet_row<A: Allocator + Copy>(
     alloc: A,

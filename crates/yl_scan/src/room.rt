@@ -1,4 +1,4 @@
-//! Where the lexemes of a row are read to.
+//! The list into which the lexemes of a row are read.
 
 ghost use Rattle.std.specs.Prelude.{◌≡◌, ◌≤◌, IfOk};
 
@@ -6,15 +6,17 @@ use std::alloc::{AllocError, Allocator};
 use std::mem;
 use yl_lexeme::Lexeme;
 
-/// The list that the lexemes of a row are read to.
+/// The list into which the lexemes of a row are read.
 #[derive(Drop)]
 pub struct Room<A: Allocator> {
+    /// The lexemes.
     pub lexemes: Vec<Lexeme<A>, A>,
-    /// A list that was told comes back, so that its room is used again.
+    /// Whether the caller gives lists back, so that their capacity is used again.
     pub comes_back: bool,
 }
 
-/// The same lexemes in a new list, in no more room than they and so many that come late take. The list keeps its room.
+/// Moves the lexemes into another list, whose capacity fits them and `late` more. The empty list
+/// keeps its capacity. The only error is out of memory.
 fn fitted<A: Allocator + Copy>(
     alloc: A,
     list: &mut Vec<Lexeme<A>, A>,
@@ -28,7 +30,9 @@ fn fitted<A: Allocator + Copy>(
     Ok(lexemes)
 }
 
-/// The lexemes, to be told: in the list itself where it comes back, and else in no more room than they and so many that come late take.
+/// Returns the lexemes of the row that was read. If the caller gives lists back, they are in the
+/// list itself, and else in a list whose capacity fits them and `late` more. The only error is out
+/// of memory.
 #[inline(always)]
 pub fn read_lexemes<A: Allocator + Copy>(
     alloc: A,

@@ -1,4 +1,4 @@
-//! The scanner, which is fed a text's rows.
+//! The scanner, which reads the rows of a text one after another.
 
 ghost use Rattle.std.specs.Prelude.{◌≡◌, ◌<◌, ◌+◌, ◌-◌, ◌^◌, ◌∷◌, [], ◌||◌, true, false, if◌then◌else◌, IfOk, OnOk, OnErr, IsErr, List, ℕ, None, is_some, length};
 ghost use Rattle.std.specs.Option.{ForSome};
@@ -25,22 +25,27 @@ use std::marker::Model;
 use yl_lexeme::{BracketStack, ColumnStack, Kind, Lexeme, Meter, Surroundings};
 use yl_text::{Row, characters_of};
 
-/// A scanner. It is fed a text's rows from the first on, and tells what each row tells.
+/// A scanner. It reads the rows of a text one after another, from the first or from a sound row on,
+/// and returns what each row reports.
 #[derive(Drop)]
 pub struct Scanner<'a, A: Allocator + Copy> {
+    /// The allocator.
     alloc: A,
+    /// The context that the lexemes before the next row give.
     surroundings: Surroundings<'a, A>,
-    /// The characters of the row.
+    /// A buffer for the characters of a row.
     characters: Vec<char, A>,
+    /// The list into which the lexemes of a row are read.
     room: Room<A>,
+    /// The phase before the next row.
     resting: Phase<A>,
-    /// How many rows were fed.
+    /// The number of rows that were read.
     line: u32,
-    /// The steps are to hold states.
+    /// Whether the steps hold states.
     states: bool,
-    /// The state that was made last.
+    /// The state that was created last.
     latest: Option<LineState<A>>,
-    /// A call was refused for memory.
+    /// Whether a call returned an error.
     refused: bool,
 }
 
@@ -58,7 +63,7 @@ impl<'a, A: Allocator + Copy> Model for Scanner<'a, A> {
 }
 
 impl<'a, A: Allocator + Copy> Scanner<'a, A> {
-    /// A scanner that stands so, before any row was fed.
+    /// Creates a scanner in this phase, before its first row.
     fn before(
         alloc: &'a A,
         surroundings: Surroundings<'a, A>,
@@ -84,7 +89,7 @@ impl<'a, A: Allocator + Copy> Scanner<'a, A> {
         }
     }
 
-    /// A scanner at a text's start, whose steps hold states.
+    /// Creates a scanner at the start of a text. Its steps hold states.
     pub fn start(alloc: &'a A) -> Scanner<'a, A>
         ensures { result ≡ record { line = 0; stand = Fresh true no_surroundings; states = true; refused = false } }
     {
@@ -92,7 +97,7 @@ impl<'a, A: Allocator + Copy> Scanner<'a, A> {
         Scanner::before(alloc, surroundings, Phase::Between, true)
     }
 
-    /// A scanner at a text's start, whose steps hold no states, and which makes none.
+    /// Creates a scanner at the start of a text. Its steps hold no states, and it creates none.
     pub fn start_without_states(alloc: &'a A) -> Scanner<'a, A>
         ensures { result ≡ record { line = 0; stand = Fresh true no_surroundings; states = false; refused = false } }
     {
@@ -100,8 +105,8 @@ impl<'a, A: Allocator + Copy> Scanner<'a, A> {
         Scanner::before(alloc, surroundings, Phase::Between, false)
     }
 
-    /// A scanner before a sound row with this state, whose steps hold states. It counts its rows from that one on. The only error is
-    /// memory.
+    /// Creates a scanner before a sound row with this state. Its steps hold states. It counts rows
+    /// from that one on. The only error is out of memory.
     pub fn resume(alloc: &'a A, state: &LineState<A>) -> Result<Scanner<'a, A>, AllocError>
         ensures at { IfOk result (λ s. s ≡ record { line = 0; stand = phase_at state.now; states = true; refused = false }) }
         ensures told { IfOk result (λ s. (rows : List (List ℕ)) → remaining_output s.line s.stand rows ≡ output_of_entries 0 (from_state state.now rows)) }
@@ -126,6 +131,7 @@ impl<'a, A: Allocator + Copy> Scanner<'a, A> {
         }
     }
 
+    /// Reads the next row. The only error is out of memory.
     #[inline(always)]
     fn read(&mut self, text: &str) -> Result<Step<A>, AllocError>
         requires fits { length (chars text.now) < 2 ^ 31 }
@@ -170,7 +176,8 @@ impl<'a, A: Allocator + Copy> Scanner<'a, A> {
         )
     }
 
-    /// Reads the next row, and counts it. The only error is memory, and each later call answers it too.
+    /// Reads the next row, and counts it in the meter. The only error is out of memory. After an
+    /// error each later call returns an error too.
     pub fn feed(&mut self, row: &Row<A>, meter: &mut Meter) -> Result<Step<A>, AllocError>
         requires fits { length (chars row.now.text) < 2 ^ 31 }
         requires few { self.old.line < 2 ^ 32 - 1 }
@@ -192,8 +199,8 @@ impl<'a, A: Allocator + Copy> Scanner<'a, A> {
         self.feed_text(row.as_str(), meter)
     }
 
-    /// Reads the next row, given as its text without its break, and counts it. The only error is memory, and each later call answers
-    /// it too.
+    /// Reads the next row, given as its text without its line break, and counts it in the meter.
+    /// The only error is out of memory. After an error each later call returns an error too.
     pub fn feed_text(&mut self, text: &str, meter: &mut Meter) -> Result<Step<A>, AllocError>
         requires fits { length (chars text.now) < 2 ^ 31 }
         requires few { self.old.line < 2 ^ 32 - 1 }
@@ -221,8 +228,9 @@ impl<'a, A: Allocator + Copy> Scanner<'a, A> {
         step
     }
 
-    /// Takes back a list of lexemes that a step told, so that its room is used again. What is in it goes. The lists that are told from
-    /// here on have more room than their lexemes take.
+    /// Takes a list of lexemes, which a step held, and uses its capacity again. The lexemes in it
+    /// are dropped when a later row is read. After this call the lists in steps may have more
+    /// capacity than their lexemes need.
     pub fn take_back(&mut self, lexemes: Vec<Lexeme<A>, A>)
         ensures { self.new ≡ self.old }
     {
@@ -230,14 +238,16 @@ impl<'a, A: Allocator + Copy> Scanner<'a, A> {
         self.room.comes_back = true;
     }
 
-    /// How many rows were fed.
+    /// Returns the number of rows that were read. A row whose call returned an error may be counted
+    /// or not.
     pub fn line(&self) -> u32
         ensures { result ≡ self.now.line }
     {
         self.line
     }
 
-    /// The row in which the scalar in progress began, counted as `line` counts, if there is one.
+    /// Returns the row in which the scalar in progress begins, if there is one. Rows count from 0,
+    /// from the one at which the scanner was created.
     pub fn begun(&self) -> Option<u32>
         ensures { result ≡ begun_at self.now.stand }
     {
@@ -247,7 +257,7 @@ impl<'a, A: Allocator + Copy> Scanner<'a, A> {
         }
     }
 
-    /// Whether a fault has come before.
+    /// Returns whether reading has stopped at a fault.
     pub fn is_stopped(&self) -> bool
         ensures { result ≡ is_halted self.now.stand }
     {
@@ -257,28 +267,31 @@ impl<'a, A: Allocator + Copy> Scanner<'a, A> {
         }
     }
 
-    /// One more than the column of each open block collection, counted from 0 in characters, the innermost on top.
+    /// Returns the column of each open block collection, plus one, the innermost on top. Columns
+    /// count from 0, in characters. After a fault the result has no meaning.
     pub fn levels(&self) -> &ColumnStack<'a, A>
         ensures { ForSome (surroundings_in self.now.stand) (λ k. result.now ≡ k.levels) }
     {
         &self.surroundings.levels
     }
 
-    /// The open brackets, the innermost on top.
+    /// Returns the open brackets, the innermost on top. After a fault the result has no meaning.
     pub fn brackets(&self) -> &BracketStack<'a, A>
         ensures { ForSome (surroundings_in self.now.stand) (λ k. result.now ≡ k.brackets) }
     {
         &self.surroundings.brackets
     }
 
-    /// The kind of the last lexeme.
+    /// Returns the kind of the last lexeme, if there is one. After a fault the result has no
+    /// meaning.
     pub fn last(&self) -> Option<Kind>
         ensures { ForSome (surroundings_in self.now.stand) (λ k. result ≡ k.last) }
     {
         self.surroundings.last
     }
 
-    /// What the text's end tells. The only error is memory, also where a call before was refused it.
+    /// Returns what the end of the text reports. The only error is out of memory. Returns an error
+    /// if a call before returned one.
     pub fn finish(self) -> Result<Step<A>, AllocError>
         ensures told { IfOk result (λ step. (s : LineStateValue) → remaining_output self.entry.line self.entry.stand [] ≡ at_end (step_value self.entry.line s step)) }
         ensures in_text { IfOk result (λ step. BeginsInText self.entry.line step) }

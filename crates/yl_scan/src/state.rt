@@ -1,4 +1,4 @@
-//! What must be known at a sound row.
+//! The states of sound rows.
 
 ghost use Rattle.std.specs.Prelude.{◌≡◌, ◌↔◌, IfOk, IsTrue, MatchOption};
 ghost use Rattle.yl_row.specs.Entries.{Stopped, Stands};
@@ -10,22 +10,24 @@ use std::marker::Model;
 use std::rc::Rc;
 use yl_lexeme::{BracketStack, ColumnStack, KeptStack, Kind, Surroundings};
 
-/// What must be known at a sound row that no fault stands before.
+/// The state of a sound row that is not below a fault.
 #[derive(Drop)]
 pub struct Standing<A: Allocator> {
-    /// One more than the column of each open block collection, counted from 0 in characters, the innermost on top.
+    /// The column of each open block collection, plus one, the innermost on top. Columns count from
+    /// 0, in characters.
     pub levels: KeptStack<u32, A>,
     /// The open brackets, the innermost on top.
     pub brackets: KeptStack<Kind, A>,
-    /// The kind of the last lexeme.
+    /// The kind of the last lexeme, if there is one.
     pub last: Option<Kind>,
 }
 
-/// What must be known at a sound row: the columns, the open brackets and the last lexeme's kind, or that a fault has come before.
-/// It is one pointer, and rows with equal states share what it points to.
+/// The state of a sound row, from which reading can resume: the columns of the open block
+/// collections, the open brackets and the kind of the last lexeme, or that a fault is above. A
+/// state is one pointer. Rows with equal states may share what it points to.
 #[derive(Drop)]
 pub struct LineState<A: Allocator> {
-    /// Nothing, if a fault has come before.
+    /// The state, or `None` below a fault.
     standing: Option<Rc<Standing<A>, A>>,
 }
 
@@ -39,13 +41,14 @@ impl<A: Allocator> Model for LineState<A> {
 }
 
 impl<A: Allocator + Copy> LineState<A> {
-    /// A fault has come before.
+    /// Returns the state of a row below a fault. Allocates nothing.
     pub fn stopped() -> LineState<A>
         ensures { result ≡ Stopped }
     {
         LineState { standing: None }
     }
 
+    /// Creates the state of a row from the context at its start. The only error is out of memory.
     fn of(alloc: A, surroundings: &Surroundings<'_, A>) -> Result<LineState<A>, AllocError>
         ensures { IfOk result (λ s. s ≡ Stands surroundings.now.levels surroundings.now.brackets surroundings.now.last) }
     {
@@ -59,8 +62,9 @@ impl<A: Allocator + Copy> LineState<A> {
         })
     }
 
-    /// What stands before a row, by what is known there: the latest state, if it is the same, and else a new one, which is the latest
-    /// then. The only error is memory.
+    /// Returns the state of a row from the context at its start. Returns the state `latest` again
+    /// if it is found to be the same. Else creates a state and puts it into `latest`. The only
+    /// error is out of memory.
     pub fn before(
         latest: &mut Option<LineState<A>>,
         alloc: A,
@@ -78,7 +82,8 @@ impl<A: Allocator + Copy> LineState<A> {
         Ok(state)
     }
 
-    /// Whether this is what stands before a row, by what is known there. Of 64 columns or brackets or more it says that it is not.
+    /// Returns whether this is the state of a row with this context at its start. Returns `false`
+    /// if 64 or more columns or brackets are open.
     fn shows(&self, surroundings: &Surroundings<'_, A>) -> bool
         ensures { IsTrue result → self.now ≡ Stands surroundings.now.levels surroundings.now.brackets surroundings.now.last }
     {
@@ -95,7 +100,8 @@ impl<A: Allocator + Copy> LineState<A> {
 }
 
 impl<A: Allocator> LineState<A> {
-    /// The same state, which takes no room. It fails where more are shared than can be counted.
+    /// Returns the same state. Allocates nothing. Returns an error only if there are more
+    /// references to it than can be counted.
     pub fn share(&self) -> Result<LineState<A>, AllocError>
         ensures { IfOk result (λ s. s ≡ self.now) }
     {
@@ -107,7 +113,7 @@ impl<A: Allocator> LineState<A> {
         }
     }
 
-    /// What is known, if no fault has come before.
+    /// Returns the state of a row that is not below a fault, or else `None`.
     pub fn standing(&self) -> Option<&Standing<A>>
         ensures { MatchOption result (self.now ≡ Stopped) (λ s. self.now ≡ Stands s.now.levels s.now.brackets s.now.last) }
     {
@@ -117,13 +123,14 @@ impl<A: Allocator> LineState<A> {
         }
     }
 
-    /// Whether a fault has come before.
+    /// Returns whether it is the state of a row below a fault.
     pub fn is_stopped(&self) -> bool
         ensures { result ≡ is_stopped self.now }
     {
         self.standing.is_none()
     }
 
+    /// Returns whether the states are the same.
     fn is_same(&self, other: &LineState<A>) -> bool
         ensures { IsTrue result ↔ (self.now ≡ other.now) }
     {
@@ -135,12 +142,14 @@ impl<A: Allocator> LineState<A> {
     }
 }
 
+/// Returns whether the columns are the kept ones. Returns `false` for 64 or more.
 fn keeps_levels<A: Allocator + Copy>(kept: &KeptStack<u32, A>, levels: &ColumnStack<'_, A>) -> bool
     ensures { IsTrue result → kept.now ≡ levels.now }
 {
     kept.keeps(levels)
 }
 
+/// Returns whether the brackets are the kept ones. Returns `false` for 64 or more.
 fn keeps_brackets<A: Allocator + Copy>(
     kept: &KeptStack<Kind, A>,
     brackets: &BracketStack<'_, A>,
@@ -150,18 +159,21 @@ fn keeps_brackets<A: Allocator + Copy>(
     kept.keeps(brackets)
 }
 
+/// Returns whether the columns are the same.
 fn same_levels<A: Allocator>(a: &KeptStack<u32, A>, b: &KeptStack<u32, A>) -> bool
     ensures { IsTrue result ↔ (a.now ≡ b.now) }
 {
     a.is_like(b)
 }
 
+/// Returns whether the brackets are the same.
 fn same_brackets<A: Allocator>(a: &KeptStack<Kind, A>, b: &KeptStack<Kind, A>) -> bool
     ensures { IsTrue result ↔ (a.now ≡ b.now) }
 {
     a.is_like(b)
 }
 
+/// Returns whether the states are the same.
 fn same_standing<A: Allocator>(a: &Standing<A>, b: &Standing<A>) -> bool
     ensures { IsTrue result ↔ (Stands a.now.levels a.now.brackets a.now.last ≡ Stands b.now.levels b.now.brackets b.now.last) }
 {

@@ -1,4 +1,4 @@
-//! What a whole text holds: its rows are fed one after another.
+//! Scans a whole text, row by row.
 
 ghost use Rattle.std.specs.Prelude.{◌≡◌, ◌<◌, ◌+◌, ◌-◌, ◌^◌, ◌++◌, [], IfOk, OnOk, ℕ, Option, None, All, length, map, option_map, option_to_list};
 ghost use Rattle.std.specs.Option.{ForSome};
@@ -15,37 +15,48 @@ use yl_lexeme::{Comment, Lexeme, Meter};
 use yl_row::PlacedScanFault;
 use yl_text::Row;
 
-/// A lexeme, and the line in which it begins, counted from 0.
+/// A lexeme, and the line in which it begins.
 #[derive(Drop)]
 pub struct LineLexeme<A: Allocator> {
+    /// The line, counted from 0.
     pub line: u32,
+    /// The lexeme.
     pub lexeme: Lexeme<A>,
 }
 
-/// A comment, and its line, counted from 0.
+/// A comment, and its line.
 #[derive(Drop)]
 pub struct LineComment<A: Allocator> {
+    /// The line, counted from 0.
     pub line: u32,
+    /// The comment.
     pub comment: Comment<A>,
 }
 
-/// A fault, and the line in which its lexeme begins, counted from 0.
+/// A fault, and the line in which its lexeme begins.
 #[derive(Clone, Copy)]
 pub struct LineFault {
+    /// The line in which the lexeme begins, counted from 0.
     pub line: u32,
+    /// The fault. Its position is relative to that line.
     pub fault: PlacedScanFault,
 }
 
-/// What a text holds: its lexemes and comments in order, whether each line is sound, and the scan fault if there is one.
+/// What a text consists of.
 #[derive(Drop)]
 pub struct ScannedText<A: Allocator> {
+    /// The lexemes, in order.
     pub lexemes: Vec<LineLexeme<A>, A>,
+    /// The comments, in order.
     pub comments: Vec<LineComment<A>, A>,
+    /// For each line, whether it is sound.
     pub sound: Vec<bool, A>,
+    /// The scan fault, if there is one.
     pub fault: Option<LineFault>,
 }
 
-/// Adds a lexeme that began so many rows before this line, if there is one.
+/// Appends a lexeme that began in a row above `line`, if there is one. The only error is out of
+/// memory.
 fn add_ended<A: Allocator>(
     all: &mut Vec<LineLexeme<A>, A>,
     line: u32,
@@ -61,7 +72,7 @@ fn add_ended<A: Allocator>(
     Ok(())
 }
 
-/// Adds the lexemes of a line.
+/// Appends the lexemes of a line. The only error is out of memory.
 fn add_lexemes<A: Allocator>(
     all: &mut Vec<LineLexeme<A>, A>,
     line: u32,
@@ -75,7 +86,7 @@ fn add_lexemes<A: Allocator>(
     Ok(())
 }
 
-/// Adds the comment of a line, if there is one.
+/// Appends the comment of a line, if there is one. The only error is out of memory.
 fn add_comment<A: Allocator>(
     all: &mut Vec<LineComment<A>, A>,
     line: u32,
@@ -89,7 +100,7 @@ fn add_comment<A: Allocator>(
     Ok(())
 }
 
-/// The first of two faults; the second began so many rows before this line.
+/// Returns the first of two faults. `failed` is a fault that the step of `line` reports.
 fn first_of(fault: Option<LineFault>, line: u32, failed: Option<FaultAbove>) -> Option<LineFault>
     requires { ForSome failed (IsNotBelow line) }
     ensures { fault_of result ≡ first_fault (fault_of fault) (option_map (fault_above_at line) failed) }
@@ -104,7 +115,7 @@ fn first_of(fault: Option<LineFault>, line: u32, failed: Option<FaultAbove>) -> 
 }
 
 impl<A: Allocator + Copy> ScannedText<A> {
-    /// What a text of no rows holds.
+    /// Creates the value for a text without rows.
     fn empty(alloc: A) -> ScannedText<A>
         ensures { scanned_text_value result ≡ text_value_of_output no_output }
     {
@@ -116,7 +127,7 @@ impl<A: Allocator + Copy> ScannedText<A> {
         }
     }
 
-    /// Adds what the row at this line told.
+    /// Adds what the row at this line reports. The only error is out of memory.
     fn add_row(&mut self, line: u32, step: Step<A>) -> Result<(), AllocError>
         requires { BeginsInText line step }
         ensures { OnOk result ((s : LineStateValue) → scanned_text_value self.new ≡ text_value_then (scanned_text_value self.old) (output_with_step line (step_value line s step) no_output)) }
@@ -137,7 +148,8 @@ impl<A: Allocator + Copy> ScannedText<A> {
         Ok(())
     }
 
-    /// Adds what the text's end told behind so many rows.
+    /// Adds what the end of the text reports. `line` is the number of rows. The only error is out
+    /// of memory.
     fn add_end(&mut self, line: u32, step: Step<A>) -> Result<(), AllocError>
         requires { BeginsInText line step }
         ensures { OnOk result ((s : LineStateValue) → scanned_text_value self.new ≡ text_value_then (scanned_text_value self.old) (at_end (step_value line s step))) }
@@ -148,7 +160,8 @@ impl<A: Allocator + Copy> ScannedText<A> {
     }
 }
 
-/// What a text of these rows holds. The meter counts each row. It fails for want of memory alone.
+/// Returns what a text of these rows consists of. Counts each row in the meter. The only error is
+/// out of memory.
 pub fn scan<A: Allocator + Copy>(
     alloc: A,
     rows: &[Row<A>],
