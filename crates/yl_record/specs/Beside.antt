@@ -1,4 +1,4 @@
--- Bridge: what a record shows of what it has beside its lexemes.
+-- Bridge: the parts of what a record has besides its lexemes.
 use Rattle.std.specs.Prelude.{ℕ, Option, Some, None}
 use Rattle.yl_lexeme.specs.Lexeme.{CommentValue}
 use Rattle.yl_row.specs.Entries.{LineStateValue}

@@ -1,4 +1,4 @@
--- Bridge: the parts of records, and what is put into them late.
+-- Bridge: the parts of records, and what later rows put into them.
 use Rattle.std.specs.Prelude.{◌≤◌, ◌<◌, ℕ, zero, suc, Bool, true, false, List, [], ◌∷◌, ◌++◌, ◌+◌, ◌-◌, map, Option, Some, None}
 use Rattle.yl_lexeme.specs.Lexeme.{LexemeValue}
 use Rattle.yl_row.specs.declared.fault.PlacedScanFault.{PlacedScanFault}
@@ -31,7 +31,8 @@ with_fault_in n f [] = []
 with_fault_in zero f (e ∷ es) = entry_with_fault f e ∷ es
 with_fault_in (suc n) f (e ∷ es) = e ∷ with_fault_in n f es
 
--- the same, if there is one; so many rows were taken
+-- a lexeme or a fault, put into the row in which the lexeme began, if there is one; taken: the
+-- number of rows before these that were released
 abbrev pub with_lexeme_above : ℕ → Option (ℕ × LexemeValue) → List RowEntry → List RowEntry
 with_lexeme_above taken None es = es
 with_lexeme_above taken (Some p) es = with_last (p.0 - taken) p.1 es
@@ -40,15 +41,15 @@ abbrev pub with_fault_above : ℕ → Option (ℕ × PlacedScanFault) → List R
 with_fault_above taken None es = es
 with_fault_above taken (Some p) es = with_fault_in (p.0 - taken) p.1 es
 
--- what a step tells of its row alone
+-- what a step reports of its own row
 abbrev pub entry_of_step : StepValue → RowEntry
 entry_of_step t = record { state = t.state; lexemes = t.lexemes; comment = t.comment; fault = None }
 
--- the rows that were told so far, and what a step tells
+-- the rows so far, and what a step reports of its own row and of them
 abbrev pub entries_with_step : ℕ → StepValue → List RowEntry → List RowEntry
 entries_with_step taken t es = with_fault_above taken t.fault (with_lexeme_above taken t.above es ++ entry_of_step t ∷ [])
 
--- what is told at the text's end
+-- the rows so far, and what the end of the text reports of them
 abbrev pub entries_with_end : ℕ → StepValue → List RowEntry → List RowEntry
 entries_with_end taken t es = with_fault_above taken t.fault (with_lexeme_above taken t.above es)
 
@@ -56,6 +57,6 @@ entries_with_end taken t es = with_fault_above taken t.fault (with_lexeme_above 
 abbrev pub with_state : Option LineStateValue → StepValue → StepValue
 with_state x t = record { above = t.above; lexemes = t.lexemes; comment = t.comment; state = x; fault = t.fault }
 
--- what began so many rows before this line began in one of so many rows, behind so many that were taken
+-- the row `ago` rows before this line is one of `count` rows, before which so many were released
 abbrev pub LiesIn : (taken count line ago : ℕ) → Type 0
 LiesIn taken count line ago = (taken + ago ≤ line) × (line < taken + count + ago)

@@ -1,4 +1,5 @@
--- Meaning: what is kept of a text, row by row: with how many spaces a row begins, and its entry.
+-- Meaning: what is kept of a text, row by row: the number of spaces at the start of a row, and its
+-- entry.
 use Rattle.std.specs.Prelude.{ℕ, List, [], ◌∷◌, map}
 use Rattle.std.specs.Str.{chars}
 use Rattle.yl_text.specs.Character.{indentation}
@@ -12,7 +13,7 @@ pub record RecordValue : Type 0 where
   pub indentation : ℕ
   pub entry : RowEntry
 
--- entries, each with how many spaces its row begins with
+-- entries, each with the number of spaces at the start of its row
 abbrev pub records_with : List ℕ → List RowEntry → List RecordValue
 records_with (n ∷ ns) (e ∷ es) = record { indentation = n; entry = e } ∷ records_with ns es
 records_with _ _ = []

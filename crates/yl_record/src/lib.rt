@@ -1,7 +1,8 @@
-//! Records: what a scanner tells of a text, kept row by row.
+//! Records: what is kept of a text, row by row.
 //!
-//! A record is a row's entry by the definition of what a text consists of (`Entries` of yl_row), and how many spaces the row begins with.
-//! What a row tells may belong to the record of an earlier one; only the `Recorder` knows.
+//! A record is the entry of a row by the definition of what a text consists of (`Entries` of
+//! yl_row), and the number of spaces at the start of the row. What a scanner reports of a row may
+//! belong to the record of an earlier row. The `Recorder` puts it there.
 #![tactic(auto)]
 
 mod record;

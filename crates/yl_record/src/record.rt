@@ -1,4 +1,4 @@
-//! What is kept of a row.
+//! The record of a row.
 
 ghost use Rattle.std.specs.Prelude.{◌≡◌, ◌<◌, ◌^◌, ◌++◌, ◌∷◌, [], ℕ, List, None, Some, true, false, IfOk, OnOk, length};
 ghost use Rattle.std.specs.Str.{chars};
@@ -19,25 +19,31 @@ use yl_scan::LineState;
 /// What few rows have.
 #[derive(Drop)]
 pub struct Extra<A: Allocator> {
+    /// The comment that begins in the row.
     pub comment: Option<Comment<A>>,
+    /// The scan fault of the lexeme that begins in the row.
     pub fault: Option<PlacedScanFault>,
 }
 
-/// What a record has beside its lexemes. Its parts stand in one enum, so that they take no room where they are missing, and the
-/// indentation lies next to the tag.
+/// What a record has besides its lexemes. Each variant has all fields, so that a missing part takes
+/// no bytes, and the indentation is next to the tag.
 #[derive(Drop)]
 enum Beside<A: Allocator> {
+    /// Neither a state nor an extra.
     Alone {
         indentation: u32,
     },
+    /// A state.
     WithState {
         indentation: u32,
         state: LineState<A>,
     },
+    /// An extra.
     WithExtra {
         indentation: u32,
         extra: Box<Extra<A>, A>,
     },
+    /// A state and an extra.
     WithBoth {
         indentation: u32,
         state: LineState<A>,
@@ -45,11 +51,14 @@ enum Beside<A: Allocator> {
     },
 }
 
-/// What is kept of a row: its state if it is sound, the lexemes and the comment that begin in it, with places relative to it, the scan
-/// fault of the lexeme that begins in it, and how many spaces it begins with.
+/// The record of a row: its state if it is sound, the lexemes and the comment that begin in it,
+/// with positions relative to the row, the scan fault of the lexeme that begins in it, and the
+/// number of spaces at its start.
 #[derive(Drop)]
 pub struct Record<A: Allocator> {
+    /// The lexemes that begin in the row, in order.
     lexemes: Vec<Lexeme<A>, A>,
+    /// What the record has besides them.
     beside: Beside<A>,
 }
 
@@ -68,7 +77,7 @@ impl<A: Allocator> Model for Record<A> {
 impl<A: Allocator> Record<A> {
     ghost use Rattle.std.specs.Prelude.{◌≡◌, option_map};
 
-    /// The row's state, if the row is sound and states are wanted.
+    /// Returns the state of the row, if the row is sound and states are wanted.
     pub fn state(&self) -> Option<&LineState<A>>
         ensures { option_map (λ s. s.now) result ≡ self.now.entry.state }
     {
@@ -80,14 +89,14 @@ impl<A: Allocator> Record<A> {
         }
     }
 
-    /// The lexemes that begin in the row, in order.
+    /// Returns the lexemes that begin in the row, in order.
     pub fn lexemes(&self) -> &[Lexeme<A>]
         ensures { result.now ≡ self.now.entry.lexemes }
     {
         self.lexemes.as_slice()
     }
 
-    /// The comment that begins in the row.
+    /// Returns the comment that begins in the row, if there is one.
     pub fn comment(&self) -> Option<&Comment<A>>
         ensures { option_map (λ c. c.now) result ≡ self.now.entry.comment }
     {
@@ -99,7 +108,8 @@ impl<A: Allocator> Record<A> {
         }
     }
 
-    /// The text's scan fault, if the lexeme that it interrupts begins in the row. Its place is relative to the row.
+    /// Returns the scan fault of the text, if the lexeme that it interrupts begins in the row. Its
+    /// position is relative to the row.
     pub fn fault(&self) -> Option<PlacedScanFault>
         ensures { result ≡ self.now.entry.fault }
     {
@@ -111,7 +121,7 @@ impl<A: Allocator> Record<A> {
         }
     }
 
-    /// How many spaces the row begins with.
+    /// Returns the number of spaces at the start of the row.
     pub fn indentation(&self) -> u32
         ensures { result ≡ self.now.indentation }
     {
@@ -125,8 +135,8 @@ impl<A: Allocator> Record<A> {
 }
 
 impl<A: Allocator + Copy> Record<A> {
-    /// The record of a row of this text at which reading has stopped. Nothing is read of the row but whether it is blank and how many
-    /// spaces it begins with. Takes no memory.
+    /// Creates the record of a row below a fault, at which reading has stopped. Reads only whether
+    /// the row is blank, and the number of spaces at its start. Allocates nothing.
     pub fn unread(alloc: A, text: &str) -> Record<A>
         requires { length (chars text.now) < 2 ^ 31 }
         ensures { (rows : List (List ℕ)) → records_from Stopped (chars text.now ∷ rows) ≡ result ∷ records_from Stopped rows }
@@ -143,7 +153,7 @@ impl<A: Allocator + Copy> Record<A> {
     }
 }
 
-/// An indentation, and a state if there is one.
+/// Returns an indentation with a state, if there is one.
 fn beside_of<A: Allocator>(indentation: u32, state: Option<LineState<A>>) -> Beside<A>
     ensures indentation { indentation_beside result ≡ indentation }
     ensures state { state_beside result ≡ state }
@@ -156,7 +166,7 @@ fn beside_of<A: Allocator>(indentation: u32, state: Option<LineState<A>>) -> Bes
     }
 }
 
-/// The same, with what few rows have in place of what it had of that.
+/// Returns the value with `extra` in place of its own extra, if it has one.
 fn with_extra<A: Allocator>(beside: Beside<A>, extra: Box<Extra<A>, A>) -> Beside<A>
     ensures indentation { indentation_beside result ≡ indentation_beside beside }
     ensures state { state_beside result ≡ state_beside beside }
@@ -183,8 +193,9 @@ fn with_extra<A: Allocator>(beside: Beside<A>, extra: Box<Extra<A>, A>) -> Besid
     }
 }
 
-/// The record of a row that told this, with its fault and a scalar that ends below it left out. The list is kept as it is: a scanner
-/// makes it no larger than its lexemes and that scalar take.
+/// Returns the record of a row, without its fault and without a scalar that ends in a row below.
+/// Keeps the capacity of `lexemes`. A scanner to which no list is given back makes it fit the
+/// lexemes and that scalar. The only error is out of memory.
 pub fn record_of<A: Allocator + Copy>(
     alloc: A,
     indentation: u32,
@@ -206,7 +217,7 @@ pub fn record_of<A: Allocator + Copy>(
     Ok(Record { lexemes, beside })
 }
 
-/// Adds a lexeme behind the others.
+/// Appends a lexeme to a record. The only error is out of memory.
 pub fn push_lexeme<A: Allocator>(row: &mut Record<A>, lexeme: Lexeme<A>) -> Result<(), AllocError>
     ensures { OnOk result (row.new ≡ record { indentation = row.old.indentation; entry = entry_with_last lexeme row.old.entry }) }
 {
@@ -215,7 +226,7 @@ pub fn push_lexeme<A: Allocator>(row: &mut Record<A>, lexeme: Lexeme<A>) -> Resu
     Ok(())
 }
 
-/// Sets the fault, if there is a place for it.
+/// Sets the fault if the value has an extra. Returns whether it has one.
 fn fault_is_set<A: Allocator>(beside: &mut Beside<A>, fault: PlacedScanFault) -> bool
     ensures indentation { indentation_beside beside.new ≡ indentation_beside beside.old }
     ensures state { state_beside beside.new ≡ state_beside beside.old }
@@ -237,7 +248,7 @@ fn fault_is_set<A: Allocator>(beside: &mut Beside<A>, fault: PlacedScanFault) ->
     }
 }
 
-/// Sets the fault.
+/// Sets the fault of a record. The only error is out of memory.
 pub fn set_fault<A: Allocator>(
     alloc: A,
     row: &mut Record<A>,

@@ -1,4 +1,4 @@
-//! The recorder, which makes records of the rows that it is fed.
+//! The recorder, which makes the records of the rows that it reads.
 
 ghost use Rattle.std.specs.Prelude.{◌≡◌, ◌≤◌, ◌<◌, ◌+◌, ◌-◌, ◌^◌, ◌∷◌, [], true, false, IfOk, OnOk, OnErr, IsErr, IsSome, List, ℕ, None, length, take, drop, option_map, slice_get, vec_len};
 ghost use Rattle.std.specs.Str.{chars};
@@ -20,17 +20,21 @@ use std::marker::Model;
 use yl_lexeme::Meter;
 use yl_scan::{LineState, Scanner};
 
-/// A recorder. It is fed a text's rows, from the first on or from a sound one on, and makes their records. What a row tells may belong
-/// to the record of an earlier row: a record is complete once no lexeme is in progress that began in its row or above it.
+/// A recorder. It reads the rows of a text, from the first or from a sound one on, and makes their
+/// records. What it reads in a row may belong to the record of an earlier row. A record is complete
+/// once no scalar is in progress that began in its row or above it.
 #[derive(Drop)]
 pub struct Recorder<'a, A: Allocator + Copy> {
+    /// The allocator.
     alloc: A,
+    /// The scanner of the rows.
     scanner: Scanner<'a, A>,
-    /// The records of the rows that were fed and not taken, without the scalar in progress.
+    /// The records of the rows that were read, without those that were released, and without the
+    /// scalar in progress.
     records: Vec<Record<A>, A>,
-    /// How many rows were taken.
+    /// The number of records that were released.
     taken: u32,
-    /// A call was refused for memory.
+    /// Whether a call returned an error.
     refused: bool,
 }
 
@@ -46,7 +50,8 @@ impl<'a, A: Allocator + Copy> Model for Recorder<'a, A> {
     ghost invariant = { λ r. r.refused ≡ false → KeepsStep r.records.items r.taken r.scanner };
 }
 
-/// Feeds the scanner a row, and adds what it tells to the records, behind so many that were taken.
+/// Reads a row with the scanner, and adds what it reports to the records. `taken` is the number of
+/// records that were released. The only error is out of memory.
 fn feed_row<A: Allocator + Copy>(
     alloc: A,
     scanner: &mut Scanner<'_, A>,
@@ -70,7 +75,8 @@ fn feed_row<A: Allocator + Copy>(
     add_row(alloc, records, taken, line, text, step)
 }
 
-/// The records when the text ends, behind so many that were taken.
+/// Adds what the end of the text reports to the records. `taken` is the number of records that were
+/// released. The only error is out of memory.
 fn end_rows<A: Allocator + Copy>(
     alloc: A,
     scanner: Scanner<'_, A>,
@@ -85,7 +91,7 @@ fn end_rows<A: Allocator + Copy>(
     add_end(alloc, records, taken, line, step)
 }
 
-/// Takes so many records from the front on, and lets them go.
+/// Drops the first `count` records.
 fn remove_front<A: Allocator>(records: &mut Vec<Record<A>, A>, count: usize)
     requires { IsRange 0 count (vec_len records.old) }
     ensures { records.new.items ≡ remove_range records.old.items 0 count }
@@ -93,7 +99,8 @@ fn remove_front<A: Allocator>(records: &mut Vec<Record<A>, A>, count: usize)
     drop(records.drain(0..count));
 }
 
-/// How many of so many records are complete, where the scalar in progress began in this row, and so many rows were taken.
+/// Returns how many of `count` records are complete. `begun` is the row in which the scalar in
+/// progress began, and `taken` is the number of records that were released.
 fn complete_len(begun: Option<u32>, taken: u32, count: usize) -> usize
     ensures { result ≡ complete_before count taken begun }
 {
@@ -104,6 +111,7 @@ fn complete_len(begun: Option<u32>, taken: u32, count: usize) -> usize
 }
 
 impl<'a, A: Allocator + Copy> Recorder<'a, A> {
+    /// Creates a recorder over a scanner that has read no row.
     fn over(alloc: &'a A, scanner: Scanner<'a, A>) -> Recorder<'a, A>
         requires line { scanner.line ≡ 0 }
         requires fresh { begun_at scanner.stand ≡ None }
@@ -118,7 +126,7 @@ impl<'a, A: Allocator + Copy> Recorder<'a, A> {
         }
     }
 
-    /// A recorder at a text's start.
+    /// Creates a recorder at the start of a text.
     pub fn start(alloc: &'a A) -> Recorder<'a, A>
         ensures at { result ≡ record { records = []; taken = 0; stand = Fresh true no_surroundings; states = true; refused = false } }
         ensures told { (rows : List (List ℕ)) → recorded result rows ≡ records rows }
@@ -127,7 +135,7 @@ impl<'a, A: Allocator + Copy> Recorder<'a, A> {
         Recorder::over(alloc, scanner)
     }
 
-    /// A recorder at a text's start whose records hold no states.
+    /// Creates a recorder at the start of a text whose records hold no states.
     pub fn start_without_states(alloc: &'a A) -> Recorder<'a, A>
         ensures at { result ≡ record { records = []; taken = 0; stand = Fresh true no_surroundings; states = false; refused = false } }
         ensures told { (rows : List (List ℕ)) → recorded result rows ≡ records_without_states rows }
@@ -136,7 +144,7 @@ impl<'a, A: Allocator + Copy> Recorder<'a, A> {
         Recorder::over(alloc, scanner)
     }
 
-    /// A recorder before a sound row with this state. The only error is memory.
+    /// Creates a recorder before a sound row with this state. The only error is out of memory.
     pub fn resume(alloc: &'a A, state: &LineState<A>) -> Result<Recorder<'a, A>, AllocError>
         ensures at { IfOk result (λ r. r ≡ record { records = []; taken = 0; stand = phase_at state.now; states = true; refused = false }) }
         ensures told { IfOk result (λ r. (rows : List (List ℕ)) → recorded r rows ≡ records_from state.now rows) }
@@ -145,8 +153,8 @@ impl<'a, A: Allocator + Copy> Recorder<'a, A> {
         Ok(Recorder::over(alloc, scanner))
     }
 
-    /// Reads the next row, given as its text without its break, and counts it. The only error is memory, and each later call answers it
-    /// too.
+    /// Reads the next row, given as its text without its line break, and counts it in the meter.
+    /// The only error is out of memory. After an error each later call returns an error too.
     pub fn feed_text(&mut self, text: &str, meter: &mut Meter) -> Result<(), AllocError>
         requires fits { length (chars text.now) < 2 ^ 31 }
         requires few { self.old.refused ≡ false → self.old.taken + length self.old.records < 2 ^ 32 - 1 }
@@ -177,14 +185,16 @@ impl<'a, A: Allocator + Copy> Recorder<'a, A> {
         Ok(())
     }
 
-    /// How many rows were fed, also those that were taken.
+    /// Returns the number of rows that were read, including those whose records were released.
+    /// After an error the result has no meaning.
     pub fn line(&self) -> u32
         ensures { self.now.refused ≡ false → result ≡ self.now.taken + length self.now.records }
     {
         self.scanner.line()
     }
 
-    /// The state of the row that was fed last, if it is sound, states are wanted, and its record was not taken.
+    /// Returns the state of the row that was read last. Returns `None` if that row is not sound, if
+    /// states are not wanted, or if its record was released.
     pub fn state(&self) -> Option<&LineState<A>>
         ensures { option_map (λ s. s.now) result ≡ state_in (slice_get self.now.records (length self.now.records - 1)) }
     {
@@ -194,8 +204,9 @@ impl<'a, A: Allocator + Copy> Recorder<'a, A> {
         }
     }
 
-    /// The records that are complete, from the first one that was not taken on: those of the rows above the one in which the scalar in
-    /// progress began, or of all rows that were fed. No call may have been refused.
+    /// Returns the complete records, from the first one that was not released on: those of the rows
+    /// above the one in which the scalar in progress began, or of all rows that were read. No call
+    /// may have returned an error.
     pub fn complete(&self) -> &[Record<A>]
         requires { self.now.refused ≡ false }
         ensures count { length result.now ≡ complete_count self.now }
@@ -206,7 +217,7 @@ impl<'a, A: Allocator + Copy> Recorder<'a, A> {
         &self.records[..count]
     }
 
-    /// Takes so many of the complete records, from the first on, and lets them go. No call may have been refused.
+    /// Releases the first `count` of the complete records. No call may have returned an error.
     pub fn let_go(&mut self, count: usize)
         requires whole { self.old.refused ≡ false }
         requires complete { count ≤ complete_count self.old }
@@ -217,7 +228,8 @@ impl<'a, A: Allocator + Copy> Recorder<'a, A> {
         self.taken += count as u32;
     }
 
-    /// The records of the rows that were fed and not taken, without the last one, which is sound. No call may have been refused.
+    /// Returns the records of the rows that were read, without those that were released, and
+    /// without the last one, whose row must be sound. No call may have returned an error.
     pub fn cut(self) -> Vec<Record<A>, A>
         requires whole { self.refused ≡ false }
         requires sound { IsSome (state_in (slice_get self.records (length self.records - 1))) }
@@ -229,8 +241,9 @@ impl<'a, A: Allocator + Copy> Recorder<'a, A> {
         records
     }
 
-    /// The records of all rows that were fed and not taken, where these are the last ones of the text. The only error is memory, also
-    /// where a call before was refused it.
+    /// Returns the records of all rows that were read, without those that were released. The last
+    /// row that was read is the last one of the text. The only error is out of memory. Returns an
+    /// error if a call before returned one.
     pub fn finish(self) -> Result<Vec<Record<A>, A>, AllocError>
         ensures told { IfOk result (λ records. records.items ≡ recorded self.entry []) }
         ensures stays { self.entry.refused ≡ true → IsErr result }

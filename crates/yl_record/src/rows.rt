@@ -1,4 +1,5 @@
-//! Records one after another, and what is put into them late.
+//! Adds rows to a list of records, and puts what later rows report into the record to which it
+//! belongs.
 
 ghost use Rattle.std.specs.Prelude.{◌≡◌, ◌<◌, ◌+◌, ◌++◌, ◌^◌, ◌∷◌, [], OnOk, length, option_map};
 ghost use Rattle.std.specs.Option.{ForSome};
@@ -17,7 +18,7 @@ use yl_lexeme::Lexeme;
 use yl_row::PlacedScanFault;
 use yl_scan::{FaultAbove, LexemeAbove, Step};
 
-/// Adds a lexeme to the record at this place.
+/// Appends a lexeme to the record at index `at`. The only error is out of memory.
 fn put_lexeme<A: Allocator>(
     records: &mut Vec<Record<A>, A>,
     at: usize,
@@ -31,7 +32,7 @@ fn put_lexeme<A: Allocator>(
     push_lexeme(&mut records[at], lexeme)
 }
 
-/// Sets the fault of the record at this place.
+/// Sets the fault of the record at index `at`. The only error is out of memory.
 fn put_fault<A: Allocator>(
     alloc: A,
     records: &mut Vec<Record<A>, A>,
@@ -46,7 +47,8 @@ fn put_fault<A: Allocator>(
     set_fault(alloc, &mut records[at], fault)
 }
 
-/// Adds a lexeme that began so many rows before this line, if there is one.
+/// Appends a lexeme that began in a row above `line` to the record of that row, if there is one.
+/// `taken` is the number of records that were released. The only error is out of memory.
 #[inline(always)]
 fn add_ended<A: Allocator>(
     records: &mut Vec<Record<A>, A>,
@@ -67,7 +69,9 @@ fn add_ended<A: Allocator>(
     }
 }
 
-/// Sets a fault in a lexeme that began so many rows before this line, if there is one.
+/// Sets the fault that the step of `line` reports in the record of the row in which its lexeme
+/// began, if there is one. `taken` is the number of records that were released. The only error is
+/// out of memory.
 #[inline(always)]
 fn add_failed<A: Allocator>(
     alloc: A,
@@ -92,7 +96,9 @@ fn add_failed<A: Allocator>(
     }
 }
 
-/// Adds the record of the row of this text, and what its step tells of the rows above.
+/// Appends the record of the row `line`, whose text is `text`, and puts what its step reports of
+/// the rows above into their records. `taken` is the number of records that were released. The only
+/// error is out of memory.
 pub fn add_row<A: Allocator + Copy>(
     alloc: A,
     records: &mut Vec<Record<A>, A>,
@@ -123,7 +129,8 @@ pub fn add_row<A: Allocator + Copy>(
     add_failed(alloc, records, taken, line, failed)
 }
 
-/// Adds what the text's end tells, behind so many rows.
+/// Puts what the end of the text reports into the records. `line` is the number of rows, and
+/// `taken` is the number of records that were released. The only error is out of memory.
 pub fn add_end<A: Allocator + Copy>(
     alloc: A,
     records: &mut Vec<Record<A>, A>,

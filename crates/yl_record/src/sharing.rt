@@ -1,4 +1,4 @@
-//! States that rows share.
+//! Shares equal states of rows.
 
 ghost use Rattle.std.specs.Prelude.{◌≡◌, IfOk, IsTrue};
 ghost use Rattle.yl_row.specs.Entries.{Stands};
@@ -8,24 +8,27 @@ use std::alloc::{AllocError, Allocator};
 use yl_lexeme::{KeptStack, Kind};
 use yl_scan::{LineState, Standing};
 
-/// Among how many of the last rows an equal state is looked for.
+/// The number of rows above that are searched for an equal state.
 const ROWS: usize = 16;
 
-/// How many columns or brackets of two states are compared, at most.
+/// The maximum number of columns and of brackets of two states that are compared.
 const COMPARED: usize = 64;
 
+/// Returns whether the columns are the same. Returns `false` for 64 or more.
 fn has_same_levels<A: Allocator>(a: &KeptStack<u32, A>, b: &KeptStack<u32, A>) -> bool
     ensures { IsTrue result → a.now ≡ b.now }
 {
     a.items().are_few_and_like(&mut b.items(), COMPARED)
 }
 
+/// Returns whether the brackets are the same. Returns `false` for 64 or more.
 fn has_same_brackets<A: Allocator>(a: &KeptStack<Kind, A>, b: &KeptStack<Kind, A>) -> bool
     ensures { IsTrue result → a.now ≡ b.now }
 {
     a.items().are_few_and_like(&mut b.items(), COMPARED)
 }
 
+/// Returns whether the states are the same. Returns `false` for 64 or more columns or brackets.
 fn is_same_standing<A: Allocator>(a: &Standing<A>, b: &Standing<A>) -> bool
     ensures { IsTrue result → Stands a.now.levels a.now.brackets a.now.last ≡ Stands b.now.levels b.now.brackets b.now.last }
 {
@@ -34,8 +37,8 @@ fn is_same_standing<A: Allocator>(a: &Standing<A>, b: &Standing<A>) -> bool
         && has_same_brackets(&a.brackets, &b.brackets)
 }
 
-/// Whether two states are the same. Of 64 columns or brackets or more it says that they are not, and so of states behind a fault, which
-/// take no memory.
+/// Returns whether the states are the same. Returns `false` for 64 or more columns or brackets, and
+/// for states below a fault, which have nothing to share.
 fn is_same_state<A: Allocator>(a: &LineState<A>, b: &LineState<A>) -> bool
     ensures { IsTrue result → a.now ≡ b.now }
 {
@@ -45,8 +48,9 @@ fn is_same_state<A: Allocator>(a: &LineState<A>, b: &LineState<A>) -> bool
     }
 }
 
-/// The same state, and the memory of an equal one of the last rows in place of its own, if there is one. It fails where more are shared
-/// than can be counted.
+/// Returns the same state. If one of the last `ROWS` records has an equal state, the result shares
+/// the allocation of that state. Returns an error only if there are more references to it than can
+/// be counted.
 pub fn shared<A: Allocator>(
     records: &[Record<A>],
     state: Option<LineState<A>>,

@@ -6,28 +6,29 @@ ghost use Rattle.yl_text.specs.Character.{indentation, is_blank};
 
 use yl_scalar::is_white;
 
-/// Whether the row has white space only.
+/// Returns whether the row has only white space.
 pub fn is_blank(text: &str) -> bool
     ensures { result ≡ is_blank (chars text.now) }
 {
     text.chars().all(|c| is_white(c))
 }
 
-/// How many bytes at the front are spaces.
+/// Returns the number of spaces at the front.
 fn leading_spaces_in(bytes: &[u8]) -> usize
     ensures { result ≡ indentation bytes.now }
 {
     bytes.iter().take_while(|byte| **byte == b' ').count()
 }
 
-/// How many spaces a row begins with. A space is one byte, and no byte of another character is one.
+/// Returns the number of spaces at the start of a row. Counts bytes: a space is one byte, and no
+/// byte of another character is equal to it.
 fn leading_spaces(text: &str) -> usize
     ensures { result ≡ indentation (chars text.now) }
 {
     leading_spaces_in(text.as_bytes())
 }
 
-/// The same, of a row that is not too long.
+/// Returns the number of spaces at the start of a row of fewer than 2^31 characters.
 pub fn spaces_before(text: &str) -> u32
     requires { length (chars text.now) < 2 ^ 31 }
     ensures { result ≡ indentation (chars text.now) }
