@@ -25,8 +25,8 @@ pub struct Extra<A: Allocator> {
     pub fault: Option<PlacedScanFault>,
 }
 
-/// What a record has besides its lexemes. Each variant has all fields, so that a missing part takes
-/// no bytes, and the indentation is next to the tag.
+/// What a record has besides its lexemes. One enum has all these fields, so that its tag takes
+/// bytes next to the indentation that are otherwise unused.
 #[derive(Drop)]
 enum Beside<A: Allocator> {
     /// Neither a state nor an extra.
