@@ -6,9 +6,9 @@ use Rattle.yl_lexeme.specs.Lexeme.{is_opening, is_closing, is_property, is_ancho
 use Rattle.yl_lexeme.specs.Keys.{Spot}
 
 -- unit: the position at which the unit of the latest lexemes begins, if a key may begin there.
--- outer: the same position for the unit of each open bracket of the line, the innermost first.
--- property: if the latest lexeme is a property, whether it is an anchor, and its position, if a key
--- may begin there
+-- outer: for each open bracket of the line, the position at which its unit begins, if a key may
+-- begin there, the innermost bracket first. property: if the latest lexeme is a property, whether
+-- it is an anchor, and its position, if a key may begin there
 pub record KeyUnitValue (T : Type 0) : Type 0 where
   pub unit : Option T
   pub outer : List (Option T)

@@ -9,9 +9,9 @@ use Rattle.yl_lexeme.specs.Past.{PastLexeme, Context, spot, open_brackets, level
 -- levels: one more than each column, in descending order. brackets: the open ones, the innermost
 -- first. last: the kind of the latest lexeme. asks: the latest lexeme of the row is an Entry, a Key
 -- or a Value without a key. unit: the column at which the unit of the latest lexemes begins, if a
--- key may begin there. outer: the same column for each bracket of this row that is open, the
--- innermost first. property: if the latest lexeme is a property, whether it is an anchor, and its
--- column, if a key may begin there
+-- key may begin there. outer: for each open bracket of this row, the column at which its unit
+-- begins, if a key may begin there, the innermost bracket first. property: if the latest lexeme is
+-- a property, whether it is an anchor, and its column, if a key may begin there
 pub record SurroundingsValue : Type 0 where
   pub levels : List ℕ
   pub brackets : List Kind

@@ -5,7 +5,7 @@
 pub struct Meter {
     /// The number of rows that were scanned. A call that returned an error counts too.
     pub lines: u32,
-    /// The number of derivations of the events of a document that were begun.
+    /// The number of derivations of the events of a document. Each counts when it begins.
     pub documents: u32,
 }
 

@@ -53,10 +53,11 @@ entries_with_step taken t es = with_fault_above taken t.fault (with_lexeme_above
 abbrev pub entries_with_end : ℕ → StepValue → List RowEntry → List RowEntry
 entries_with_end taken t es = with_fault_above taken t.fault (with_lexeme_above taken t.above es)
 
--- the same step, with another state
+-- a step with another state
 abbrev pub with_state : Option LineStateValue → StepValue → StepValue
 with_state x t = record { above = t.above; lexemes = t.lexemes; comment = t.comment; state = x; fault = t.fault }
 
--- the row `ago` rows before this line is one of `count` rows, before which so many were released
+-- the row `ago` rows before this line is one of `count` rows, before which `taken` rows were
+-- released
 abbrev pub LiesIn : (taken count line ago : ℕ) → Type 0
 LiesIn taken count line ago = (taken + ago ≤ line) × (line < taken + count + ago)

@@ -34,7 +34,7 @@ abbrev pub entries_with_scalar : (told : List RowEntry) (line begun taken at : �
 entries_with_scalar told line begun taken at f k rows None = with_last (begun - taken) (lexeme_of at f) told ++ entries_by false (rows_to line begun f.down) f.column k rows
 entries_with_scalar told line begun taken at f k rows (Some g) = with_fault_in (begun - taken) g told ++ stopped_rows (is_unclosed g.fault) (rows_to line begun g.down) rows
 
--- the rows so far, before which so many were released, and the rows that follow
+-- the rows so far, before which `taken` rows were released, and the rows that follow
 abbrev pub entries_with_rest : (told : List RowEntry) (taken : ℕ) → PhaseValue → List (List ℕ) → List RowEntry
 entries_with_rest told taken (Fresh start k) rows = told ++ entries_by start 0 0 k rows
 entries_with_rest told taken (Within begun style at m k) rows = let f = open_found style at m rows in entries_with_scalar told (taken + length told) begun taken at f k rows f.fault
@@ -48,7 +48,7 @@ abbrev pub if_wanted : Bool → List RowEntry → List RowEntry
 if_wanted true es = es
 if_wanted false es = map without_state es
 
--- these records, before which so many were released, and those of the rows that follow
+-- these records, before which `taken` records were released, and those of the rows that follow
 abbrev pub recorded_of : List RecordValue → (taken : ℕ) (states : Bool) → PhaseValue → List (List ℕ) → List RecordValue
 recorded_of rs taken states stand rows = records_with (indentations_in rs ++ map indentation rows) (if_wanted states (entries_with_rest (entries_in rs) taken stand rows))
 

@@ -24,8 +24,8 @@ FailsOnce (e ∷ es) = AreFaultless es ⊎ ((e.fault ≡ None) × FailsOnce es)
 abbrev pub IsInside : RowEntry → Type 0
 IsInside e = (e.lexemes ≡ []) × (e.state ≡ None)
 
--- a scalar in progress began in one of these rows, before which so many were released, and the rows
--- below that one are inside it
+-- a scalar in progress began in one of these rows, before which `taken` rows were released, and the
+-- rows below that one are inside it
 pub record IsOpenSince (told : List RowEntry) (taken begun : ℕ) : Type 0 where
   pub least : taken ≤ begun
   pub most : begun < taken + length told
@@ -38,7 +38,7 @@ pub record IsRecording (told : List RowEntry) (taken : ℕ) (states : Bool) (sta
   pub faultless : is_halted stand ≡ false → AreFaultless told
   pub wanted : if_wanted states told ≡ told
 
--- the number of complete records, of so many before which so many were released: those above the
+-- the number of complete records, of `count` before which `taken` were released: those above the
 -- row in which the scalar in progress began
 abbrev pub complete_before : ℕ → ℕ → Option ℕ → ℕ
 complete_before count taken None = count

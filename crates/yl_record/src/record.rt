@@ -16,7 +16,7 @@ use yl_lexeme::{Comment, Lexeme};
 use yl_row::PlacedScanFault;
 use yl_scan::LineState;
 
-/// What few rows have.
+/// The parts of a record that few rows have.
 #[derive(Drop)]
 pub struct Extra<A: Allocator> {
     /// The comment that begins in the row.

@@ -241,9 +241,9 @@ impl<'a, A: Allocator + Copy> Recorder<'a, A> {
         records
     }
 
-    /// Returns the records of all rows that were read, without those that were released. The last
-    /// row that was read is the last one of the text. The only error is out of memory. Returns an
-    /// error if a call before returned one.
+    /// Returns the records of all rows that were read, without those that were released. The text
+    /// ends after the last row that was read. The only error is out of memory. Returns an error if
+    /// a call before returned one.
     pub fn finish(self) -> Result<Vec<Record<A>, A>, AllocError>
         ensures told { IfOk result (λ records. records.items ≡ recorded self.entry []) }
         ensures stays { self.entry.refused ≡ true → IsErr result }

@@ -48,9 +48,9 @@ fn is_same_state<A: Allocator>(a: &LineState<A>, b: &LineState<A>) -> bool
     }
 }
 
-/// Returns the same state. If one of the last `ROWS` records has an equal state, the result shares
-/// the allocation of that state. Returns an error only if there are more references to it than can
-/// be counted.
+/// Returns the state. If one of the last `ROWS` records has an equal state, the result shares the
+/// allocation of that one. Returns an error only if there are more references to it than can be
+/// counted.
 pub fn shared<A: Allocator>(
     records: &[Record<A>],
     state: Option<LineState<A>>,

@@ -22,7 +22,7 @@ pub record Rests (at : ℕ) (text : List ℕ) (m : ScalarReaderValue) : Type 0 w
   pub blank : BlankBehind at text m
   pub column : ColumnBy (at + length text) m
 
--- the same for what that row made of the scalar, if it may go on below
+-- if a scalar may go on below after the row in which it begins, its reader has read that row
 abbrev pub BeginsAt : ℕ → List ℕ → ScalarStepValue ScalarReaderValue → Type 0
 BeginsAt at text (GoesOn m) = Rests at text m
 BeginsAt at text (EndsIn e) = Unit {0}

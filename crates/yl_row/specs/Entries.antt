@@ -28,8 +28,8 @@ pub record RowEntry : Type 0 where
   pub comment : Option CommentValue
   pub fault : Option PlacedScanFault
 
--- what a row holds from a position on; the row, so many rows down, and the column from which on the
--- next lexeme may begin; and what is known there
+-- what a row holds from a position on. down and column: the next lexeme may begin from that column
+-- on, so many rows further down. behind: what is known there
 pub record RowReading (S : Type 0) : Type 0 where
   pub lexemes : List LexemeValue
   pub comment : Option CommentValue
@@ -127,7 +127,7 @@ entry_of s r = record { state = s; lexemes = lexemes_up_to_fault r.fault r.lexem
 abbrev pub sound_state : Bool → List ℕ → Context → Option LineStateValue
 sound_state is_text_start row a = if is_text_start || not (is_blank row) then Some (state_of a) else None
 
--- the entries from the row on that is so many rows further down; column is 0 there, or the column
+-- the entries from the row on that is `down` rows further down; column is 0 there, or the column
 -- after a lexeme that ends in that row
 abbrev pub entries_from : Bool → ℕ → ℕ → List PastLexeme → List (List ℕ) → List RowEntry
 entries_from is_start down column older [] = []

@@ -24,7 +24,7 @@ row_reading_by rows tab skip behind_space first at k (c ∷ cs) =
     else lexeme_reading_by tab first at (surroundings_at first at k) (λ skip k. row_reading_by rows tab skip false false (at + 1) k cs)
     (found_at rows tab first at (context_of (surroundings_at first at k)) c cs)
 
--- the entries from the row on that is so many rows further down; column is 0 there, or the column
+-- the entries from the row on that is `down` rows further down; column is 0 there, or the column
 -- after a lexeme that ends in that row
 abbrev pub entries_by : Bool → ℕ → ℕ → SurroundingsValue → List (List ℕ) → List RowEntry
 entries_by is_text_start down column k [] = []

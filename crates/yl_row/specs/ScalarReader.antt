@@ -12,7 +12,7 @@ pub data ScalarReaderValue : Type 0 where
   InQuoted : (s : QuotedReaderValue) → ScalarReaderValue
   InBlock : (s : BlockReaderValue) → ScalarReaderValue
 
--- the same step, with its state mapped
+-- a step whose state is mapped
 abbrev pub map_step : {S T : Type 0} → (S → T) → ScalarStepValue S → ScalarStepValue T
 map_step f (GoesOn s) = GoesOn (f s)
 map_step f (EndsIn e) = EndsIn e

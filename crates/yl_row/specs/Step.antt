@@ -25,8 +25,8 @@ use Rattle.yl_row.specs.Fault.{fault_at, of_scalar}
 pub use Rattle.yl_lexeme.specs.Directives.{is_directive_place}
 use Rattle.yl_lexeme.specs.Past.{Context, in_flow, may_begin, level, near}
 
--- a lexeme at a position: it ends so many lines further down, before a column; its value is in
--- UTF-8; and its first fault
+-- a lexeme at a position. down: the number of lines from its first to its last one. column: the one
+-- after its last character. value: in UTF-8. fault: the first one in it
 pub record FoundLexemeValue : Type 0 where
   pub kind : Kind
   pub down : ℕ

@@ -28,9 +28,9 @@ pub fn kept_suffices()
     ensures { KeptSuffices }
 {}
 
-/// Laws: a plain or block scalar that may go on in the row below ends, so far, within the row in
-/// which it begins, and only white space follows there. The reader of such a scalar, of any style,
-/// has read no row below.
+/// Laws of the reader of a scalar that may go on below, after the row in which the scalar begins.
+/// It has read no row below. A plain or block scalar ends, so far, within that row, and only white
+/// space follows there.
 pub fn scalars_begin()
     ensures plain { PlainBegins }
     ensures quoted { QuotedBegins }

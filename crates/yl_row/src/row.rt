@@ -252,7 +252,8 @@ fn comment<A: Allocator + Copy>(alloc: A, at: usize, text: &[char]) -> Result<Ro
 
 /// Reads a row, and appends its lexemes. `skip` is the number of characters at its start that
 /// belong to a lexeme that began above. `fresh` says whether the row begins inside no lexeme. `tab`
-/// is the column of the first tab that may be a fault. The only error is out of memory.
+/// is the column of its first tab, if the row begins inside no lexeme. The only error is out of
+/// memory.
 pub fn read_row<A: Allocator + Copy>(
     alloc: A,
     surroundings: &mut Surroundings<'_, A>,

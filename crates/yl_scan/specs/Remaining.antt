@@ -17,7 +17,7 @@ output_of_row line rows state r =
     output_with_step line (entry_step line (entry_of state r)) (output_of_entries (line + 1) (entries_below (λ down column k. entries_by false down column k rows) rows r r.fault))
 
 -- the phase of a scanner before a row: between lexemes; within a scalar that began at a line and a
--- column; or after a fault, whose reach goes so many rows further, or to the end of the text
+-- column; or after a fault, which reaches `down` rows further, or to the end of the text
 pub data PhaseValue : Type 0 where
   Fresh : (is_text_start : Bool) (k : SurroundingsValue) → PhaseValue
   Within : (begun : ℕ) (style : Style) (at : ℕ) (m : ScalarReaderValue) (k : SurroundingsValue) → PhaseValue
@@ -30,13 +30,13 @@ output_with_lexeme_above line begun x o = record { lexemes = (begun, x) ∷ o.le
 abbrev pub output_with_fault_above : ℕ → PlacedScanFault → ScanOutput → ScanOutput
 output_with_fault_above begun f o = record { lexemes = o.lexemes; comments = o.comments; states = o.states; fault = Some (begun, f) }
 
--- the number of rows from the row before this line down to a position that is so many rows below
--- the line in which its lexeme began
+-- the number of rows from the row before this line to one that is `down` rows below the line
+-- `begun`
 abbrev pub rows_to : ℕ → ℕ → ℕ → ℕ
 rows_to line begun down = down - (line - (begun + 1))
 
--- what the rows from this line on report after a scalar that began in a row above, and that they
--- end or that has a fault
+-- what the rows from this line on report, if a scalar that began in a row above ends in them or has
+-- a fault
 abbrev pub output_of_scalar : ℕ → ℕ → ℕ → FoundLexemeValue → SurroundingsValue → List (List ℕ) → Option PlacedScanFault → ScanOutput
 output_of_scalar line begun at f k rows None = output_with_lexeme_above line begun (lexeme_of at f) (output_of_entries line (entries_by false (rows_to line begun f.down) f.column k rows))
 output_of_scalar line begun at f k rows (Some g) = output_with_fault_above begun g (output_of_entries line (stopped_rows (is_unclosed g.fault) (rows_to line begun g.down) rows))

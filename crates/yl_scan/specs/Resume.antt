@@ -21,8 +21,8 @@ phase_at (Stands levels brackets last) = Fresh true (row_start levels brackets l
 abbrev pub ResumeLaw : Type 0
 ResumeLaw = (t : List (List ℕ)) (i : ℕ) (s : LineStateValue) → state_at (entries t) i ≡ Some s → drop i (entries t) ≡ from_state s (drop i t)
 
--- what an edited text consists of: above a sound row above the edit, what the text before the edit
--- does, and from that row on, what its state and the rows give
+-- what an edited text consists of: above a sound row down to which both texts are the same, what
+-- the text before the edit does, and from that row on, what its state and the rows give
 abbrev pub RestartLaw : Type 0
 RestartLaw =
     (old new : List (List ℕ)) (r : ℕ) (s : LineStateValue) → AreSameAbove r old new → state_at (entries new) r ≡ Some s

@@ -60,8 +60,8 @@ BeginsAt line (Halted to_end down) = Unit {0}
 abbrev pub EndsOpen : {A : Type 0} → ℕ → Option ℕ → Step A → Type 0
 EndsOpen line begun step = ForSome step.ended (λ e. begun ≡ Some (line - e.ago))
 
--- and the scalar in progress after the row began in the row, or was in progress before it, and the
--- row reports nothing
+-- a lexeme from above is the scalar that was in progress; and the scalar in progress after the row
+-- began in the row, or was in progress before it and the row reports nothing
 pub record IsInOrder {A : Type 0} (line : ℕ) (begun behind : Option ℕ) (step : Step A) : Type 0 where
   pub above : EndsOpen line begun step
   pub next : ForSome behind (λ b. b ≡ line) ⊎ (((s : LineStateValue) → step_value line s step ≡ silent_step) × (behind ≡ begun))

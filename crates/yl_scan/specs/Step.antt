@@ -26,7 +26,7 @@ state_by s NotSound = None
 state_by s Sound = Some s
 state_by s SoundStopped = Some Stopped
 
--- the same state, or none if states are not wanted
+-- the state of a row, or none if states are not wanted
 abbrev pub state_for : Option LineStateValue → Soundness → Option LineStateValue
 state_for None _ = None
 state_for (Some s) sound = state_by s sound

@@ -179,7 +179,8 @@ fn tab_of(fresh: bool, row: &[char]) -> Option<usize>
     if fresh { first_tab(row) } else { None }
 }
 
-/// Returns whether a row is sound that begins inside no lexeme and is not below a fault.
+/// Returns the soundness of a row that begins inside no lexeme and is not below a fault. `line` is
+/// its number, counted from 0.
 fn sound_start(line: u32, row: &[char]) -> Soundness
     ensures { (s : LineStateValue) → state_by s result ≡ (if (line == 0) || not (is_blank row.now) then Some s else None) }
 {
@@ -198,7 +199,7 @@ fn is_sound_behind(reach: Reach, row: &[char]) -> bool
     reach.down == 0 && !reach.to_end && !is_blank(row)
 }
 
-/// Returns the soundness of a row below a fault.
+/// Returns the soundness of a row below a fault. `is_sound` says whether the row is sound.
 pub fn stopped_if(is_sound: bool) -> Soundness
     ensures { (s : LineStateValue) → state_by s result ≡ (if is_sound then Some Stopped else None) }
 {
@@ -331,7 +332,8 @@ fn scalar_failed(ago: u32, fault: ScalarFault, place: ScalarPlace) -> FaultAbove
     }
 }
 
-/// Reads a row that begins inside a scalar, or directly after it. The only error is out of memory.
+/// Reads a row with a scalar in progress, which may end in the row or have ended above it. The only
+/// error is out of memory.
 fn within_row<A: Allocator + Copy>(
     alloc: A,
     surroundings: &mut Surroundings<'_, A>,

@@ -1,8 +1,8 @@
 //! Scans a text, row by row, into lexemes and comments.
 //!
 //! The definition of what a text consists of is `Entries` of yl_row. A `Scanner` carries what is in
-//! progress from row to row. What it reports of a row, followed by what it reports of the rows
-//! below, is what the rows from that one on consist of (`specs/Output.antt`).
+//! progress from row to row. What it reports of a row, and then of the rows below, is what all rows
+//! from that one on report (`specs/Output.antt`).
 #![tactic(auto)]
 
 ghost use Rattle.yl_scan.specs.Laws.{ScalarsCarry};

@@ -100,8 +100,8 @@ impl<A: Allocator + Copy> LineState<A> {
 }
 
 impl<A: Allocator> LineState<A> {
-    /// Returns the same state. Allocates nothing. Returns an error only if there are more
-    /// references to it than can be counted.
+    /// Returns a state that shares what this one points to. Allocates nothing. Returns an error
+    /// only if there are more references to it than can be counted.
     pub fn share(&self) -> Result<LineState<A>, AllocError>
         ensures { IfOk result (λ s. s ≡ self.now) }
     {
