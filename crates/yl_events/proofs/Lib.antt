@@ -9,6 +9,10 @@ pub mod Trails
 pub mod Parts
 pub mod Lines
 pub mod ToldBehind
+pub mod States
+pub mod ParsedAlikeSteps
+pub mod ParsedAlikeFaults
+pub mod ParsedAlike
 pub mod Named
 pub mod Seen
 pub mod Giving

@@ -11,5 +11,7 @@ pub mod Event
 pub mod Built
 pub mod Parsing
 pub mod SymbolParsing
+pub mod State
+pub mod ParsedAlike
 pub mod Named
 pub mod Seen

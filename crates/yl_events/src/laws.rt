@@ -12,6 +12,7 @@ ghost use Rattle.yl_events.specs.Derives.{Derives, HasFaultAt};
 ghost use Rattle.yl_events.specs.Event.{EventValue, AreEvents};
 ghost use Rattle.yl_events.specs.Parsing.{parser_at_start, start_events, document_outcome_of_lines, Gives};
 ghost use Rattle.yl_events.specs.SymbolParsing.{ToldBehind};
+ghost use Rattle.yl_events.specs.ParsedAlike.{SymbolsAreParsedAlike};
 
 /// Laws: a document has at most one list of events. `marked` says so of its marked lexemes, and
 /// `events` of its lexemes.
@@ -44,4 +45,11 @@ pub fn documents_cut_by_two()
 /// change them.
 pub fn told_behind()
     ensures { ToldBehind }
+{}
+
+/// A law: two parsers in the same state tell the same of the same symbols, but for how many lexemes
+/// come before and which lexemes are anchors, and are in the same state after them. A state has no
+/// index of a lexeme.
+pub fn symbols_are_parsed_alike()
+    ensures { SymbolsAreParsedAlike }
 {}

@@ -3,7 +3,7 @@
 use yl_lexeme::Style;
 
 /// The kind of the brackets of a flow collection.
-#[derive(Clone, Copy)]
+#[derive(Clone, Copy, PartialEq, Eq)]
 pub enum BracketKind {
     /// The brackets `[` and `]` of a sequence.
     Square,
@@ -13,7 +13,7 @@ pub enum BracketKind {
 
 /// The properties of a node: at most one anchor and one tag, at least one of them, in either order.
 /// Each is given by the index of its lexeme.
-#[derive(Clone, Copy)]
+#[derive(Clone, Copy, PartialEq, Eq)]
 pub enum Properties {
     /// An anchor.
     Anchored(u32),
@@ -63,7 +63,7 @@ pub struct Outline {
 }
 
 /// Which nodes may come at a place.
-#[derive(Clone, Copy)]
+#[derive(Clone, Copy, PartialEq, Eq)]
 pub enum Where {
     /// A node that may be a key: it is not missing, and no block collection.
     InInline,
@@ -72,7 +72,7 @@ pub enum Where {
 }
 
 /// What the parser has still to read.
-#[derive(Clone, Copy)]
+#[derive(Clone, Copy, PartialEq, Eq)]
 pub enum Goal {
     /// The directives of a document and its marker `---`, all of which may be missing.
     Prefix,
@@ -104,7 +104,7 @@ pub enum Goal {
 
 /// An open block collection. For a mapping, the flag says whether an indentless sequence is open in
 /// it.
-#[derive(Clone, Copy)]
+#[derive(Clone, Copy, PartialEq, Eq)]
 pub enum OpenBlockCollection {
     /// A block sequence.
     InSequence,

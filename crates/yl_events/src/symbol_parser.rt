@@ -6,12 +6,14 @@ ghost use Rattle.yl_events.specs.DocumentOutcome.{AnswersDocument, steps};
 ghost use Rattle.yl_events.specs.Named.{anchor_among, waiting_anchor};
 ghost use Rattle.yl_events.specs.Machine.{run, taken_count};
 ghost use Rattle.yl_events.specs.Parsing.{start_events, IsOutcome};
+ghost use Rattle.yl_events.specs.State.{parser_state};
 ghost use Rattle.yl_events.specs.SymbolParsing.{no_symbols, symbols_at_start, outcome_of_symbols, is_whole, FeedsSymbols};
-ghost use Rattle.yl_events.specs.Trail.{fault_from};
+ghost use Rattle.yl_events.specs.Trail.{fault_from, trail_after};
 
 use crate::fault::PlacedParseFault;
 use crate::machine::{bare, finish, walk};
 use crate::symbol::{Goal, Outline, Properties, Shape, Where};
+use crate::symbol_parser_state::SymbolParserState;
 use crate::trail::Trail;
 use std::alloc::{AllocError, Allocator};
 use std::marker::Model;
@@ -48,6 +50,20 @@ impl<A: Allocator + Copy> SymbolParser<A> {
             goals: Vec::new(alloc),
             trail: Trail::new(alloc),
         }
+    }
+
+    /// Creates a parser in this state, which takes the rest of the document from the state's row
+    /// on. An anchor that waits for its node has the index 0. The only error is out of memory.
+    #[tactic(auto, using(crate::proofs::States::state_again))]
+    pub fn resume(state: &SymbolParserState<A>) -> Result<SymbolParser<A>, AllocError>
+        ensures same { IfOk result (λ parser. parser ≡ state.now) }
+        ensures state { IfOk result (λ parser. parser_state parser ≡ state.now) }
+    {
+        let saved = state.goals();
+        let mut goals = Vec::with_capacity(*saved.allocator(), saved.len())?;
+        goals.extend_from_slice(saved)?;
+        let trail = state.trail().try_clone()?;
+        Ok(SymbolParser { goals, trail })
     }
 
     /// Begins a document, appends its first outline, and counts it in the meter, also after an
@@ -90,6 +106,7 @@ impl<A: Allocator + Copy> SymbolParser<A> {
         ensures told { IfOk result (λ fault. FeedsSymbols self.old first outlines.old.items symbols.now fault self.new outlines.new.items) }
         ensures inside { IfOk result (λ fault. IfSome fault (λ f. (first ≤ f.place) × (f.place < first + lexeme_count symbols.now))) }
         ensures steps { IfOk result (λ fault. fault ≡ None → steps symbols.now self.old.goals outlines.old.items ≡ Some (record { goals = self.new.goals; events = outlines.new.items })) }
+        ensures trail { IfOk result (λ fault. fault ≡ None → self.new.trail ≡ trail_after self.old.trail symbols.now) }
     {
         match walk(symbols, &mut self.goals, outlines)? {
             None => {
@@ -101,6 +118,14 @@ impl<A: Allocator + Copy> SymbolParser<A> {
                 Ok(Some(fault))
             }
         }
+    }
+
+    /// Returns what the parser holds, without the indices of lexemes. The only error is out of
+    /// memory.
+    pub fn state(&self) -> Result<SymbolParserState<A>, AllocError>
+        ensures { IfOk result (λ state. state ≡ parser_state self.now) }
+    {
+        SymbolParserState::new(*self.goals.allocator(), &self.goals, &self.trail)
     }
 
     /// Returns the anchor that waits for its node, if there is one, as its index among the lexemes

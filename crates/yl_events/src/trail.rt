@@ -1,6 +1,6 @@
 //! What is kept of the symbols of a document to determine the kind of a fault after them.
 
-ghost use Rattle.std.specs.Prelude.{◌≡◌, ◌≤◌, ℕ, length, take, reverse, OnOk, IfOk};
+ghost use Rattle.std.specs.Prelude.{◌≡◌, ◌≤◌, ◌↔◌, ℕ, length, take, reverse, IsTrue, OnOk, IfOk};
 ghost use Rattle.yl_events.specs.Faults.{with_indentless, blocks_behind, depth_behind, without_closed, fault_in_blocks, fault_in, left_behind, front_len};
 ghost use Rattle.yl_events.specs.Trail.{no_trail, trail_behind, trail_after, is_directive, anchor_behind, tag_behind, comes_twice, fault_behind, fault_from};
 
@@ -52,6 +52,18 @@ impl<A: Allocator> Trail<A> {
             depth: 0,
             blocks: Vec::new(alloc),
         }
+    }
+
+    /// Returns whether the two trails are equal.
+    #[tactic(auto, using(crate::proofs::States::same_reversed))]
+    pub fn is_same(&self, other: &Trail<A>) -> bool
+        ensures { IsTrue result ↔ self.now ≡ other.now }
+    {
+        self.at_directive == other.at_directive
+            && self.with_anchor == other.with_anchor
+            && self.with_tag == other.with_tag
+            && self.depth == other.depth
+            && are_same_blocks(&self.blocks, &other.blocks)
     }
 
     /// Forgets the symbols that were passed, and keeps the capacity.
@@ -139,6 +151,30 @@ impl<A: Allocator> Trail<A> {
         self.pass_all(&symbols[..n])?;
         Ok(self.fault(&symbols[n..]))
     }
+}
+
+impl<A: Allocator + Copy> Trail<A> {
+    /// Returns a copy of the trail. The only error is out of memory.
+    pub fn try_clone(&self) -> Result<Trail<A>, AllocError>
+        ensures { IfOk result (λ trail. trail ≡ self.now) }
+    {
+        let mut blocks = Vec::with_capacity(*self.blocks.allocator(), self.blocks.len())?;
+        blocks.extend_from_slice(&self.blocks)?;
+        Ok(Trail {
+            at_directive: self.at_directive,
+            with_anchor: self.with_anchor,
+            with_tag: self.with_tag,
+            depth: self.depth,
+            blocks,
+        })
+    }
+}
+
+/// Returns whether the two lists of open block collections are equal.
+fn are_same_blocks(one: &[OpenBlockCollection], other: &[OpenBlockCollection]) -> bool
+    ensures { IsTrue result ↔ one.now ≡ other.now }
+{
+    one == other
 }
 
 /// Returns whether the properties that end with this symbol have an anchor. `had` says whether
