@@ -7,4 +7,7 @@ pub mod BySymbols
 pub mod LineFacts
 pub mod NamedIndices
 pub mod Places
+pub mod FactsAlikeMoved
+pub mod FactsAlikeElements
+pub mod FactsAlike
 pub mod Examples

@@ -9,3 +9,4 @@ pub mod Onward
 pub mod Laws
 pub mod SymbolFacts
 pub mod LineFacts
+pub mod FactsAlike

@@ -1,21 +1,24 @@
 //! A summary of the elements before a place.
-ghost use Rattle.std.specs.Prelude.{◌≡◌, ◌++◌, ◌&&◌, ◌||◌, not, nat_lt, true, OnOk, reverse};
+ghost use Rattle.std.specs.Prelude.{◌≡◌, ◌↔◌, ◌++◌, ◌&&◌, ◌||◌, not, nat_lt, true, IfOk, IsTrue, OnOk, reverse};
 ghost use Rattle.std.specs.Option.{option_map_or, option_to_list};
 ghost use Rattle.yl_lexeme.specs.Directives.{is_directive};
 ghost use Rattle.yl_lexeme.specs.Lexeme.{is_document_marker};
 ghost use Rattle.yl_indentation.specs.Expected.{expectation_in};
 ghost use Rattle.yl_indentation.specs.declared.element.Element.TheVariants.{Other};
 ghost use Rattle.yl_indentation.specs.Context.{nothing_open, is_entry_after, with_lexeme_in, with_lexeme, open_after, after, around, fact_here, fact_in};
+ghost use Rattle.yl_indentation.specs.FactsAlike.{context_state, IsAbove};
 
 use crate::element::{Element, Site};
 use crate::expected::{
     begins_line, expectation_in_block, expectation_in_brackets, expectation_of_items, is_content,
 };
 use crate::fact::{Expectation, Fact};
+use crate::fact_reader_state::FactReaderState;
 use std::alloc::{AllocError, Allocator};
 use std::marker::Model;
 use yl_lexeme::Kind;
 use yl_marks::{Collection, Token};
+use yl_text::Pos;
 
 /// An open collection.
 #[derive(Clone, Copy)]
@@ -26,6 +29,33 @@ pub enum OpenCollection {
     /// A collection in brackets: the number of spaces at the beginning of its line, and where its
     /// items are expected.
     Brackets(u32, Expectation),
+}
+
+/// Returns whether the kinds of block collections are the same.
+fn is_same_collection(one: Collection, other: Collection) -> bool
+    ensures { IsTrue result ↔ (one ≡ other) }
+{
+    matches!(
+        (one, other),
+        (Collection::Sequence, Collection::Sequence) | (Collection::Mapping, Collection::Mapping)
+    )
+}
+
+impl OpenCollection {
+    /// Returns whether the open collections are the same.
+    pub(crate) fn is_same(self, other: OpenCollection) -> bool
+        ensures { IsTrue result ↔ (self ≡ other) }
+    {
+        match (self, other) {
+            (OpenCollection::Block(a, m, one), OpenCollection::Block(b, n, other)) => {
+                is_same_collection(a, b) && m == n && one == other
+            }
+            (OpenCollection::Brackets(m, one), OpenCollection::Brackets(n, other)) => {
+                m == n && one.is_same(other)
+            }
+            _ => false,
+        }
+    }
 }
 
 /// Returns whether the latest of the entries, keys and values of a collection is an entry after a
@@ -234,5 +264,51 @@ impl<A: Allocator> Context<A> {
             _ => {}
         }
         Ok(())
+    }
+}
+
+/// Returns a lexeme of this kind at the start of line 0.
+fn in_first_line(kind: Kind) -> Token
+    ensures kind { result.kind ≡ kind }
+    ensures end { result.end_line ≡ 0 }
+{
+    Token {
+        kind,
+        start: Pos { line: 0, col: 0 },
+        end_line: 0,
+    }
+}
+
+impl<A: Allocator + Copy> Context<A> {
+    /// Returns what the summary contains, without lines. The only error is out of memory.
+    pub fn state(&self) -> Result<FactReaderState<A>, AllocError>
+        ensures { IfOk result (λ s. s ≡ context_state self.now) }
+    {
+        let latest = match self.latest {
+            None => None,
+            Some(token) => Some(token.kind),
+        };
+        Ok(FactReaderState {
+            collections: Vec::from_slice(*self.collections.allocator(), &self.collections)?,
+            latest,
+            just_opened: self.just_opened,
+        })
+    }
+
+    /// Creates a summary with this state. Puts the latest lexeme into line 0. The only error is out
+    /// of memory.
+    pub fn resume(state: &FactReaderState<A>) -> Result<Context<A>, AllocError>
+        ensures state { IfOk result (λ c. context_state c ≡ state.now) }
+        ensures above { IfOk result (λ c. IsAbove 1 c) }
+    {
+        let latest = match state.latest {
+            None => None,
+            Some(kind) => Some(in_first_line(kind)),
+        };
+        Ok(Context {
+            collections: Vec::from_slice(*state.collections.allocator(), &state.collections)?,
+            latest,
+            just_opened: state.just_opened,
+        })
     }
 }

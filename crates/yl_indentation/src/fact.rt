@@ -1,4 +1,5 @@
 //! The checked places of a document, and what is expected there.
+ghost use Rattle.std.specs.Prelude.{◌≡◌, ◌↔◌, IsTrue};
 
 /// Where a lexeme is expected. Columns count from 0 in characters.
 #[derive(Clone, Copy)]
@@ -10,6 +11,20 @@ pub enum Expectation {
     /// As the option `indent-sequences` says, for the first entry of a sequence in a mapping of
     /// this column.
     EntryIn(u32),
+}
+
+impl Expectation {
+    /// Returns whether the expectations are the same.
+    pub(crate) fn is_same(self, other: Expectation) -> bool
+        ensures { IsTrue result ↔ (self ≡ other) }
+    {
+        match (self, other) {
+            (Expectation::At(m), Expectation::At(n)) => m == n,
+            (Expectation::Beyond(m), Expectation::Beyond(n)) => m == n,
+            (Expectation::EntryIn(m), Expectation::EntryIn(n)) => m == n,
+            _ => false,
+        }
+    }
 }
 
 /// A checked place: the first lexeme of a line, and where it is expected.

@@ -1,12 +1,14 @@
 //! Reads the checked places of a document line by line.
-ghost use Rattle.std.specs.Prelude.{◌≡◌, ◌≤◌, ◌<◌, ◌+◌, ◌++◌, ℕ, List, length, OnOk};
+ghost use Rattle.std.specs.Prelude.{◌≡◌, ◌≤◌, ◌<◌, ◌+◌, ◌++◌, ℕ, List, length, IfOk, OnOk};
 ghost use Rattle.yl_indentation.specs.Context.{nothing_open};
+ghost use Rattle.yl_indentation.specs.FactsAlike.{context_state, FactsAreAlike, IsAbove};
 ghost use Rattle.yl_indentation.specs.LineFacts.{element_in_line, AreIndented, IsLine, NameIndices};
 ghost use Rattle.yl_indentation.specs.SymbolFacts.{after_if, behind_symbols, facts_if, facts_left, CountedAsFarAsAsked, FactsAreBySymbols, FactsGoOn, NoneBehindTheCounted};
 
 use crate::context::Context;
 use crate::element::element_in_line;
 use crate::fact::Fact;
+use crate::fact_reader_state::FactReaderState;
 use crate::facts::push_fact;
 use std::alloc::{AllocError, Allocator};
 use std::marker::Model;
@@ -90,6 +92,26 @@ impl<A: Allocator> FactReader<A> {
     }
 }
 
+impl<A: Allocator + Copy> FactReader<A> {
+    /// Returns what the reader holds, without lines. The only error is out of memory.
+    pub fn state(&self) -> Result<FactReaderState<A>, AllocError>
+        ensures { IfOk result (λ s. s ≡ context_state self.now) }
+    {
+        self.context.state()
+    }
+
+    /// Creates a reader that goes on from a state. Puts the latest lexeme into line 0, so the lines
+    /// to be read count from 1. The only error is out of memory.
+    pub fn resume(state: &FactReaderState<A>) -> Result<FactReader<A>, AllocError>
+        ensures state { IfOk result (λ r. context_state r ≡ state.now) }
+        ensures above { IfOk result (λ r. IsAbove 1 r) }
+    {
+        Ok(FactReader {
+            context: Context::resume(state)?,
+        })
+    }
+}
+
 /// Laws: the facts of a document are those of its symbols, one after another. Of the index of a
 /// lexeme only one thing matters, which is whether it is below `counted`. Lexemes from the index
 /// `counted` on have no facts.
@@ -98,4 +120,10 @@ pub fn facts_are_by_symbols()
     ensures go_on { FactsGoOn }
     ensures counted { CountedAsFarAsAsked }
     ensures none { NoneBehindTheCounted }
+{}
+
+/// A law: the facts of rows, and what the reader holds after them, depend on the state before them,
+/// but on no line numbers and on no counts of lexemes.
+pub fn facts_are_alike()
+    ensures { FactsAreAlike }
 {}

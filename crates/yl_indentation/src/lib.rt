@@ -4,8 +4,9 @@
 //! The definition, `specs/Facts.antt`, looks back over the lexemes and marks before a place. The
 //! code keeps the collections that are open (`specs/Context.antt`). `FactReader` reads a document
 //! line by line, each line from its own lexemes alone (`specs/SymbolFacts.antt` and
-//! `specs/LineFacts.antt`). A `Measure` contains what the facts of a text decide for all its
-//! documents.
+//! `specs/LineFacts.antt`). A `FactReaderState` contains what a reader holds before a row, and a
+//! reader resumes from it (`specs/FactsAlike.antt`). A `Measure` contains what the facts of a text
+//! decide for all its documents.
 #![tactic(auto)]
 
 ghost use Rattle.yl_indentation.specs.Laws.{MeasureIsLocal, ProblemsAreByDocuments, FactsCountEntriesOnceSeen, BothCountEntriesOnceSeen, FindingLooksBack, ProblemsLookBack, ProblemsOfSomeLookBack, TextProblemsGoOnward, TextProblemsLookBack};
@@ -16,6 +17,7 @@ mod element;
 mod expected;
 mod fact;
 mod fact_reader;
+mod fact_reader_state;
 mod facts;
 mod measure;
 mod options;
@@ -23,7 +25,8 @@ mod problems;
 
 pub use alike::are_judged_alike;
 pub use fact::{Expectation, Fact};
-pub use fact_reader::{FactReader, facts_are_by_symbols};
+pub use fact_reader::{FactReader, facts_are_alike, facts_are_by_symbols};
+pub use fact_reader_state::FactReaderState;
 pub use facts::indent_facts;
 pub use measure::Measure;
 pub use options::{IndentSequences, IndentationOptions, Spaces};
