@@ -10,4 +10,5 @@ pub mod Places
 pub mod FactsAlikeMoved
 pub mod FactsAlikeElements
 pub mod FactsAlike
+pub mod RowFacts
 pub mod Examples
