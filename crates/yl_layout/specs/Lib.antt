@@ -12,4 +12,5 @@ pub mod QuotedStrings
 pub mod Lexemes
 pub mod Kinds
 pub mod LexemesLeft
+pub mod LexemesAlike
 pub mod Standard

@@ -13,12 +13,13 @@ use crate::hyphens::push_hyphens;
 use crate::options::LexemeOptions;
 use crate::quoted_strings::push_quoted_strings;
 use crate::span::{Place, Span, span_of};
+use crate::state::LexemeRulesState;
 use crate::truthy::push_truthy;
 use std::alloc::{AllocError, Allocator};
 use std::marker::Model;
 use yl_lexeme::{Kind, LexemeAtLine};
 use yl_marks::{KeyFacts, RowLexemes};
-use yl_text::Finding;
+use yl_text::{Finding, Pos};
 
 /// Returns whether the rules on indicators may find something at a lexeme of this kind.
 fn is_indicator(kind: Kind) -> bool
@@ -136,13 +137,14 @@ impl Model for LexemeRules {
 }
 
 impl LexemeRules {
-    ghost use Rattle.std.specs.Prelude.{◌≡◌, ◌++◌, ◌∷◌, ◌&&◌, ◌||◌, Bool, List, [], length, map, Some, None, OnOk};
+    ghost use Rattle.std.specs.Prelude.{◌≡◌, ◌++◌, ◌∷◌, ◌&&◌, ◌||◌, Bool, List, [], false, length, map, Some, None, OnOk};
     ghost use Rattle.yl_lexeme.specs.Lexeme.{LexemeValue};
     ghost use Rattle.yl_lexeme.specs.Version.{is_yaml_1_2};
     ghost use Rattle.yl_lexeme.specs.Directives.{is_directive};
     ghost use Rattle.yl_marks.specs.declared.facts.KeyFacts.{KeyFacts};
     ghost use Rattle.yl_marks.specs.Keys.{lexeme_at_line};
     ghost use Rattle.yl_layout.specs.Lexemes.{findings_behind};
+    ghost use Rattle.yl_layout.specs.LexemesAlike.{IsAbove, lexemes_state};
     ghost use Rattle.yl_layout.specs.LexemesLeft.{after_lexeme, findings_told, findings_waiting, lexemes_left, none_read, IsVersion};
     ghost use Rattle.yl_layout.specs.Spans.{span_of};
     ghost use Rattle.yl_layout.specs.Version.{is_1_2_document};
@@ -161,6 +163,47 @@ impl LexemeRules {
             waits: false,
             is_1_2: false,
             in_directives: true,
+        }
+    }
+
+    /// Creates a reader before a row, from what is known of the lexemes before that row. Rows that
+    /// are read then are in line 1 or later, since the latest lexeme is put into line 0. No problem
+    /// is still to be appended.
+    pub fn resume(state: LexemeRulesState) -> LexemeRules
+        ensures state { lexemes_state result ≡ state }
+        ensures above { IsAbove 1 result }
+        ensures none { result.waits ≡ false }
+    {
+        let latest = match state.latest {
+            None => None,
+            Some(kind) => Some(Span {
+                kind,
+                start: Pos { line: 0, col: 0 },
+                end_line: 0,
+                end_col: 0,
+            }),
+        };
+        LexemeRules {
+            latest,
+            earlier: None,
+            waits: false,
+            is_1_2: state.is_1_2,
+            in_directives: state.in_directives,
+        }
+    }
+
+    /// Returns what is known of the lexemes so far, without lines.
+    pub fn state(&self) -> LexemeRulesState
+        ensures { result ≡ lexemes_state self.now }
+    {
+        let latest = match self.latest {
+            None => None,
+            Some(x) => Some(x.kind),
+        };
+        LexemeRulesState {
+            latest,
+            is_1_2: self.is_1_2,
+            in_directives: self.in_directives,
         }
     }
 
@@ -296,6 +339,23 @@ impl LexemeRules {
         for (i, at) in lexemes.iter().enumerate() {
             self.read_lexeme(options, at, keys[i], problems)?;
         }
+        Ok(())
+    }
+
+    /// Appends the problems at the latest lexeme that are still to be appended, as if no lexeme
+    /// followed it. If the state is settled, a lexeme in a later row does not change them. The only
+    /// error is out of memory. After an error the reader must not be used.
+    pub fn settle<A: Allocator>(
+        &mut self,
+        options: &LexemeOptions,
+        problems: &mut Vec<Finding<A>, A>,
+    ) -> Result<(), AllocError>
+        ensures found { OnOk result (problems.new.items
+            ≡ problems.old.items ++ findings_waiting options.now self.old None) }
+        ensures settled { OnOk result (self.new ≡ record self.old { waits = false }) }
+    {
+        self.tell_waiting(options, None, problems)?;
+        self.waits = false;
         Ok(())
     }
 

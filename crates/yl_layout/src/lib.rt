@@ -13,6 +13,7 @@ mod options;
 mod quoted_strings;
 mod report;
 mod span;
+mod state;
 mod truthy;
 mod words;
 
@@ -25,4 +26,5 @@ pub use lexeme_rules::LexemeRules;
 pub use lexemes::lexeme_problems;
 pub use options::LexemeOptions;
 pub use quoted_strings::{QuoteType, QuotedStringsOptions};
+pub use state::{LexemeRulesState, lexemes_are_judged_alike};
 pub use truthy::{TruthyOptions, TruthyWords};
