@@ -23,6 +23,7 @@ use Rattle.yl_layout.specs.Kinds.{indicator_findings, is_indicator}
 use Rattle.yl_layout.specs.Lexemes.{findings_at, findings_behind, first_span, lexeme_findings, value_findings}
 use Rattle.yl_layout.specs.LexemesLeft.{LexemesRead, IsVersion, after_lexeme, findings_at_indicator, findings_told, findings_waiting, lexemes_left}
 use Rattle.yl_layout.specs.QuotedStrings.{is_misquoted, quoted_strings}
+use Rattle.yl_layout.specs.LexemesAlike.{after_lexemes}
 use Rattle.yl_layout.specs.Spans.{span_of}
 use Rattle.yl_layout.specs.Truthy.{truthy}
 use Rattle.yl_layout.specs.Version.{is_1_2_document}
@@ -185,6 +186,15 @@ module _ {X : Type 0} (f : X → LexemeValue) (xs : List X) (i : ℕ) where
       ap (λ (l : List KeyFacts). found ++ lexemes_left v o r later (l ++ ks)) (sym (drop_all i keys (omega arith)))
       ∙ ap (λ (l : List X). found ++ lexemes_left v o r (map f l ++ later) (drop i keys ++ ks)) (sym (drop_all i xs h))
       ∙ total_is
+
+  pub summary_more : (r n total : LexemesRead) (x d : X) → i < length xs → x ≡ get_or xs i d → n ≡ after_lexeme r (f x)
+      → after_lexemes r (map f (drop i xs)) ≡ total → after_lexemes n (map f (drop (i + 1) xs)) ≡ total
+  summary_more r n total x d h x_is n_is total_is =
+      ap (λ (m : LexemesRead). after_lexemes m (map f (drop (i + 1) xs))) n_is
+      ∙ ap (λ (l : List X). after_lexemes r (map f l)) (sym (next_of xs x d h x_is)) ∙ total_is
+
+  pub summary_at_end : (r total : LexemesRead) → length xs ≤ i → after_lexemes r (map f (drop i xs)) ≡ total → r ≡ total
+  summary_at_end r total h total_is = ap (λ (l : List X). after_lexemes r (map f l)) (sym (drop_all i xs h)) ∙ total_is
 
   pub version_at_end : (v : Bool) (r : LexemesRead) (rest : List LexemeValue) → length xs ≤ i → IsVersion v r (map f (drop i xs) ++ rest) → IsVersion v r rest
   version_at_end v r rest h before = subst (λ (l : List X). IsVersion v r (map f l ++ rest)) (drop_all i xs h) before

@@ -144,7 +144,7 @@ impl LexemeRules {
     ghost use Rattle.yl_marks.specs.declared.facts.KeyFacts.{KeyFacts};
     ghost use Rattle.yl_marks.specs.Keys.{lexeme_at_line};
     ghost use Rattle.yl_layout.specs.Lexemes.{findings_behind};
-    ghost use Rattle.yl_layout.specs.LexemesAlike.{IsAbove, lexemes_state};
+    ghost use Rattle.yl_layout.specs.LexemesAlike.{IsAbove, after_lexemes, lexemes_state};
     ghost use Rattle.yl_layout.specs.LexemesLeft.{after_lexeme, findings_told, findings_waiting, lexemes_left, none_read, IsVersion};
     ghost use Rattle.yl_layout.specs.Spans.{span_of};
     ghost use Rattle.yl_layout.specs.Version.{is_1_2_document};
@@ -308,6 +308,8 @@ impl LexemeRules {
         ensures version { (v : Bool) (rest : List LexemeValue)
             → IsVersion v self.old (map (lexeme_at_line row.now.line) row.now.lexemes.now ++ rest)
             → OnOk result (IsVersion v self.new rest) }
+        ensures read { OnOk result (self.new
+            ≡ after_lexemes self.old (map (lexeme_at_line row.now.line) row.now.lexemes.now)) }
     {
         let line = row.line;
         for (i, lexeme) in row.lexemes.iter().enumerate() {

@@ -1,6 +1,6 @@
 use Rattle.std.proofs.Common.{arith, refl}
 use Rattle.yl_marks.specs.Keys.{lexeme_at_line}
-use Rattle.yl_layout.proofs.LexemesLeft.{all_read, lexemes_more, version_at_end, version_more}
+use Rattle.yl_layout.proofs.LexemesLeft.{all_read, lexemes_more, summary_at_end, summary_more, version_at_end, version_more}
 use Rattle.yl_layout.proofs.lexeme_rules.LexemeRules.read_row.Goals as goal
 
 pub loop-i-preserved : goal.loop-i-preserved
@@ -11,6 +11,8 @@ loop-i-preserved g c =
           c.in_ok-read_lexeme.ensures.read c.in_ok-read_lexeme.ensures.told (c.loop-i.invariant.version v rest h) (c.loop-i.invariant.found v rest later ks h);
       version = λ v rest h. version_more (lexeme_at_line c.args.row.now.line) c.args.row.now.lexemes.now c.loop-i.i v r _ _ _ rest c.loop-i-test.true c.lexeme-item.is
           c.in_ok-read_lexeme.ensures.read (c.loop-i.invariant.version v rest h);
+      read = summary_more (lexeme_at_line c.args.row.now.line) c.args.row.now.lexemes.now c.loop-i.i r _ _ _ _ c.loop-i-test.true c.lexeme-item.is
+          c.in_ok-read_lexeme.ensures.read c.loop-i.invariant.read;
     }
 
 pub returns-clause-found : goal.returns-clause-found
@@ -21,3 +23,7 @@ returns-clause-found g c = λ v rest later ks h.
 pub returns-clause-version : goal.returns-clause-version
 returns-clause-version g c = λ v rest h.
     version_at_end (lexeme_at_line c.args.row.now.line) c.args.row.now.lexemes.now c.loop-i.i v c.loop-i.self rest (omega arith) (c.loop-i.invariant.version v rest h)
+
+pub returns-clause-read : goal.returns-clause-read
+returns-clause-read g c =
+    summary_at_end (lexeme_at_line c.args.row.now.line) c.args.row.now.lexemes.now c.loop-i.i c.loop-i.self _ (omega arith) c.loop-i.invariant.read

@@ -2,6 +2,7 @@ use Rattle.std.proofs.Common.{◌≡◌, ◌++◌, Bool, List, drop, map}
 use Rattle.yl_lexeme.specs.Lexeme.{LexemeValue}
 use Rattle.yl_marks.specs.declared.facts.KeyFacts.{KeyFacts}
 use Rattle.yl_marks.specs.Keys.{lexeme_at_line}
+use Rattle.yl_layout.specs.LexemesAlike.{after_lexemes}
 use Rattle.yl_layout.specs.LexemesLeft.{IsVersion, lexemes_left}
 use Rattle.yl_layout.proofs.lexeme_rules.LexemeRules.read_row.Given as goal
 
@@ -14,4 +15,6 @@ invariant-loop-i g l = record {
   version : (v : Bool) (rest : List LexemeValue)
       → IsVersion v l.fn.self (map (lexeme_at_line l.row.line) l.row.lexemes.now ++ rest)
       → IsVersion v l.self (map (lexeme_at_line l.row.line) (drop l.i l.row.lexemes.now) ++ rest);
+  read : after_lexemes l.self (map (lexeme_at_line l.row.line) (drop l.i l.row.lexemes.now))
+      ≡ after_lexemes l.fn.self (map (lexeme_at_line l.row.line) l.row.lexemes.now);
 }
