@@ -10,3 +10,7 @@ pub mod Columns
 pub mod Indices
 pub mod SingleKeys
 pub mod Unmarked
+pub mod MarksAlikeKeys
+pub mod MarksAlikePieces
+pub mod MarksAlikeMarks
+pub mod MarksAlike

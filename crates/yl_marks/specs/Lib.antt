@@ -5,3 +5,4 @@ pub mod Facts
 pub mod FactsByLine
 pub mod SingleKeys
 pub mod Unmarked
+pub mod MarksAlike

@@ -9,7 +9,7 @@ use std::alloc::{AllocError, Allocator};
 use yl_lexeme::Kind;
 
 /// The facts that the keys of a document decide about one of its lexemes.
-#[derive(Clone, Copy)]
+#[derive(Clone, Copy, PartialEq, Eq)]
 pub struct KeyFacts {
     /// Whether a key unit ends with the lexeme, or only properties stand between an indicator `?`
     /// and the lexeme. A scalar with this flag is a key.

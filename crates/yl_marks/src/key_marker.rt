@@ -1,13 +1,15 @@
 //! Marks a document line by line, together with the facts that its keys decide about its lexemes.
 
-ghost use Rattle.std.specs.Prelude.{◌≡◌, ◌<◌, ◌+◌, ◌^◌, ◌++◌, false, length, true, OnOk};
+ghost use Rattle.std.specs.Prelude.{◌≡◌, ◌<◌, ◌+◌, ◌^◌, ◌++◌, false, length, true, IfOk, OnOk};
 ghost use Rattle.yl_marks.specs.ByLine.{marks_of_line};
 ghost use Rattle.yl_marks.specs.FactsByLine.{behind_keyed_line, facts_of_line, key_marker_at_start};
 ghost use Rattle.yl_marks.specs.Marks.{closings_of_all};
+ghost use Rattle.yl_marks.specs.MarksAlike.{IsAbove, key_marker_state};
 ghost use Rattle.yl_marks.specs.SingleKeys.{has_single_keys};
 
 use crate::facts::{KeyFacts, push_facts};
 use crate::keys::line_pieces;
+use crate::marker_state::{MarkerState, copy_collections};
 use crate::marks::{close_all, marks, note_keys};
 use crate::single_keys::{has_single_keys, mark_single_keys};
 use crate::symbol::{Earlier, KeyStart, KeyedToken, MOST, OpenBlock, Symbol};
@@ -70,6 +72,42 @@ impl<A: Allocator + Copy> KeyMarker<A> {
             pieces: Vec::new(alloc),
             begins: Vec::new(alloc),
         }
+    }
+
+    /// Returns the state after the lines read so far. The only error is out of memory.
+    pub fn state(&self) -> Result<MarkerState<A>, AllocError>
+        ensures { IfOk result (λ s. s ≡ key_marker_state self.now) }
+    {
+        let collections = copy_collections(*self.collections.allocator(), &self.collections)?;
+        Ok(MarkerState {
+            depth: self.earlier.depth,
+            latest: self.earlier.latest.map(|piece| piece.kind),
+            ahead: self.ahead,
+            collections,
+        })
+    }
+
+    /// Creates a marker that goes on from a state. The lines that it reads next count from 1, since
+    /// its latest lexeme is in line 0. It counts lexemes from the number of open brackets on. The
+    /// only error is out of memory.
+    pub fn resume(state: &MarkerState<A>) -> Result<KeyMarker<A>, AllocError>
+        ensures state { IfOk result (λ m. key_marker_state m ≡ state.now) }
+        ensures above { IfOk result (λ m. IsAbove 1 m.marks) }
+        ensures count { IfOk result (λ m. m.marks.count ≡ m.marks.depth) }
+    {
+        let alloc = *state.collections.allocator();
+        Ok(KeyMarker {
+            earlier: Earlier {
+                count: state.depth,
+                depth: state.depth,
+                latest: state.latest_above(),
+            },
+            ahead: state.ahead,
+            collections: copy_collections(alloc, &state.collections)?,
+            unit: KeyUnit::new(alloc),
+            pieces: Vec::new(alloc),
+            begins: Vec::new(alloc),
+        })
     }
 
     /// Reads the next line, given as the tokens of all lexemes that begin in it. Appends the

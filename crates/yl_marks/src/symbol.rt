@@ -71,7 +71,7 @@ pub struct Marking {
 }
 
 /// An open block collection.
-#[derive(Clone, Copy)]
+#[derive(Clone, Copy, PartialEq, Eq)]
 pub struct OpenBlock {
     /// Whether it is a mapping. Otherwise it is a sequence.
     pub is_mapping: bool,
