@@ -1,7 +1,7 @@
 //! Line folding (YAML 1.2.2, 6.5), and values as text in UTF-8.
 ghost use Rattle.std.specs.Prelude.{◌≡◌, ◌++◌, ◌↔◌, ◌∷◌, [], None, IfOk, IsTrue, length, string_bytes};
 ghost use Rattle.std.specs.Char.{len_utf8};
-ghost use Rattle.std.specs.Str.{chars, encode_utf8_all, IsAscii};
+ghost use Rattle.std.specs.Str.{chars, encode_utf8_all, IsAscii, IsUtf8};
 ghost use Rattle.yl_scalar.specs.Folding.{joint};
 
 use std::alloc::{AllocError, Allocator};
@@ -86,7 +86,7 @@ fn utf8_len(characters: &[char]) -> usize
 }
 
 /// Appends characters to a text. Allocates at most once. The only error is out of memory.
-pub fn add_characters<A: Allocator>(
+fn add_characters<A: Allocator>(
     value: &mut String<A>,
     characters: &[char],
 ) -> Result<(), AllocError>
@@ -97,6 +97,45 @@ pub fn add_characters<A: Allocator>(
         add(value, *c)?;
     }
     Ok(())
+}
+
+/// Returns a text with the characters after it. Allocates at most once. The only error is out of
+/// memory.
+pub fn with_characters<A: Allocator>(
+    text: String<A>,
+    characters: &[char],
+) -> Result<String<A>, AllocError>
+    ensures { IfOk result (λ r. chars (string_bytes r) ≡ chars (string_bytes text) ++ characters.now) }
+{
+    if is_ascii(characters) {
+        let text = with_ascii(text, characters)?;
+        return Ok(text);
+    }
+    let mut text = text;
+    add_characters(&mut text, characters)?;
+    Ok(text)
+}
+
+/// Returns a text with ASCII characters after it. Allocates at most once. The only error is out of
+/// memory.
+fn with_ascii<A: Allocator>(text: String<A>, characters: &[char]) -> Result<String<A>, AllocError>
+    requires { IsAscii characters.now }
+    ensures { IfOk result (λ r. string_bytes r ≡ string_bytes text ++ characters.now) }
+{
+    let mut bytes = text.into_bytes();
+    bytes.try_reserve(characters.len())?;
+    for c in characters {
+        bytes.push_reserved(*c as u8);
+    }
+    Ok(text_of_utf8(bytes))
+}
+
+/// Returns the text of bytes that are UTF-8.
+fn text_of_utf8<A: Allocator>(bytes: Vec<u8, A>) -> String<A>
+    requires { IsUtf8 bytes.items }
+    ensures { string_bytes result ≡ bytes.items }
+{
+    unsafe { String::from_utf8_unchecked(bytes) }
 }
 
 /// Returns the characters as text in UTF-8. Allocates at most once. The only error is out of

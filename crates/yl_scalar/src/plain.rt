@@ -12,7 +12,7 @@ use crate::character::{
     first_bad, indentation, is_blank, is_flow_indicator, is_marker, is_plain_safe, is_white,
     leading_white, without_end,
 };
-use crate::folding::{add_break, add_characters, inline_text_of};
+use crate::folding::{add_break, inline_text_of, with_characters};
 use std::alloc::{AllocError, Allocator};
 use std::mem;
 use yl_inline::InlineString;
@@ -165,7 +165,7 @@ impl<A: Allocator + Copy> PlainReader<A> {
         let value = mem::replace(&mut self.value, InlineString::new());
         let mut value = value.into_string(self.alloc)?;
         add_break(&mut value, self.blanks)?;
-        add_characters(&mut value, part)?;
+        let value = with_characters(value, part)?;
         self.value = InlineString::of_string(value);
         self.failed = false;
         Ok(())

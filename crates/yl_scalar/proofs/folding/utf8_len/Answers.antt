@@ -1,8 +1,7 @@
-use Rattle.std.proofs.Common.{◌≡◌, ◌+◌, ◌≤◌, ◌*◌, length, take, get_or, ap, sym, arith}
+use Rattle.std.proofs.Common.{◌≡◌, length, get_or, ap, sym, arith}
 use Rattle.std.proofs.lemmas.List.{get_or_read}
 use Rattle.std.proofs.lemmas.Str.{length-encode, len_utf8_bounds}
 use Rattle.std.specs.Char.{encode_utf8}
-use Rattle.std.specs.Str.{encode_utf8_all}
 use Rattle.yl_scalar.proofs.Encodes.{length_more}
 use Rattle.yl_scalar.proofs.folding.utf8_len.Goals as goal
 
