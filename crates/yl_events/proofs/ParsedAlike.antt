@@ -16,7 +16,8 @@ use Rattle.yl_events.specs.Trail.{TrailValue, trail_after, fault_from}
 use Rattle.yl_events.specs.DocumentOutcome.{Events, Fails, document_outcome, steps}
 use Rattle.yl_events.specs.SymbolParsing.{SymbolParserValue, outcome_of_symbols}
 use Rattle.yl_events.specs.State.{goal_state, parser_state}
-use Rattle.yl_events.specs.ParsedAlike.{symbol_after, symbols_after, outline_shape, outline_after, outcome_shape, outcome_after, steps_shape, steps_after, SymbolsAreParsedAlike}
+use Rattle.yl_marks.specs.MarksAlike.{symbol_after}
+use Rattle.yl_events.specs.ParsedAlike.{symbols_after, outline_shape, outline_after, outcome_shape, outcome_after, steps_shape, steps_after, SymbolsAreParsedAlike}
 use Rattle.yl_events.proofs.ParsedAlikeSteps.{bare_index, bare_symbol, bare_outline, bare_events, bare_state, run_bare, taken_bare, steps_bare}
 use Rattle.yl_events.proofs.ParsedAlikeFaults.{trail_bare, fault_bare}
 

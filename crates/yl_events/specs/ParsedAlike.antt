@@ -2,7 +2,7 @@
 -- index. How many lexemes come before moves the places of what is told, and nothing else.
 use Rattle.std.specs.Prelude.{ℕ, ◌≡◌, ◌+◌, List, [], map, Option, Some, None, option_map}
 use Rattle.yl_marks.specs.declared.symbol.Symbol.{Symbol}
-use Rattle.yl_marks.specs.declared.symbol.Symbol.TheVariants.{OpenSequence, OpenMapping, BeginKey, Close, One}
+use Rattle.yl_marks.specs.MarksAlike.{symbol_after}
 use Rattle.yl_events.specs.declared.symbol.Outline.{Outline}
 use Rattle.yl_events.specs.Machine.{ParserState}
 use Rattle.yl_events.specs.Trail.{trail_after}
@@ -10,14 +10,7 @@ use Rattle.yl_events.specs.DocumentOutcome.{DocumentOutcome, Events, Fails, step
 use Rattle.yl_events.specs.SymbolParsing.{SymbolParserValue, outcome_of_symbols}
 use Rattle.yl_events.specs.State.{goal_state, parser_state}
 
--- a symbol whose lexeme counts from this one on
-abbrev pub symbol_after : ℕ → Symbol → Symbol
-symbol_after n (OpenSequence i) = OpenSequence (n + i)
-symbol_after n (OpenMapping i) = OpenMapping (n + i)
-symbol_after n (BeginKey i) = BeginKey (n + i)
-symbol_after n Close = Close
-symbol_after n (One kind i) = One kind (n + i)
-
+-- symbols whose lexemes count from this one on
 abbrev pub symbols_after : ℕ → List Symbol → List Symbol
 symbols_after n ws = map (symbol_after n) ws
 

@@ -7,7 +7,8 @@ use Rattle.yl_indentation.specs.declared.fact.Fact.{Fact}
 use Rattle.yl_indentation.specs.Context.{ContextValue}
 use Rattle.yl_indentation.specs.SymbolFacts.{element_of_symbol, facts_if, after_if, behind_symbol}
 use Rattle.yl_indentation.proofs.BySymbols.{after_counted}
-use Rattle.yl_indentation.specs.FactsAlike.{symbol_after, fact_below, context_state, with_earlier, facts_of_rows, after_rows, FactsAreAlike}
+use Rattle.yl_marks.specs.MarksAlike.{symbol_after}
+use Rattle.yl_indentation.specs.FactsAlike.{fact_below, context_state, with_earlier, facts_of_rows, after_rows, FactsAreAlike}
 use Rattle.yl_indentation.proofs.FactsAlikeMoved.{element_below, symbol_moved}
 use Rattle.yl_indentation.proofs.FactsAlikeElements.{AreAlike, alike_above, facts_alike, alike_after_if}
 

@@ -20,7 +20,8 @@ use Rattle.yl_indentation.specs.Expected.{expectation_of_items, expectation_in}
 use Rattle.yl_indentation.specs.Facts.{fact_at}
 use Rattle.yl_indentation.specs.Context.{ContextValue, open_after, latest_after, is_opening, after, around, fact_here, fact_in}
 use Rattle.yl_indentation.specs.SymbolFacts.{facts_if, after_if}
-use Rattle.yl_indentation.specs.FactsAlike.{token_below, fact_below, ContextState, context_state, IsAbove}
+use Rattle.yl_marks.specs.MarksAlike.{token_below}
+use Rattle.yl_indentation.specs.FactsAlike.{fact_below, ContextState, context_state, IsAbove}
 use Rattle.yl_indentation.proofs.FactsAlikeMoved.{site_below, element_below, same_order}
 
 -- ---- what is held before the same lexemes, below so many lines and below as many others

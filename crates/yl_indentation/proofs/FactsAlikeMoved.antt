@@ -18,7 +18,8 @@ use Rattle.yl_indentation.specs.declared.element.Element.TheVariants.{Opening, C
 use Rattle.yl_indentation.specs.Elements.{element_at, lexeme_element}
 use Rattle.yl_indentation.specs.SlimElements.{slim_element}
 use Rattle.yl_indentation.specs.SymbolFacts.{element_of_symbol}
-use Rattle.yl_indentation.specs.FactsAlike.{token_below, symbol_after, with_earlier}
+use Rattle.yl_marks.specs.MarksAlike.{token_below, symbol_after}
+use Rattle.yl_indentation.specs.FactsAlike.{with_earlier}
 
 -- ---- a lexeme with what stands around it, and an element, this many lines below
 

@@ -14,7 +14,8 @@ use Rattle.yl_indentation.specs.Elements.{element_at, lexeme_element}
 use Rattle.yl_indentation.specs.SlimElements.{slim_element}
 use Rattle.yl_indentation.specs.Context.{ContextValue, latest_after}
 use Rattle.yl_indentation.specs.SymbolFacts.{behind_symbol, behind_symbols, facts_left}
-use Rattle.yl_indentation.specs.FactsAlike.{token_below, symbol_after, fact_below, IsAbove, with_earlier, facts_of_rows, after_rows}
+use Rattle.yl_marks.specs.MarksAlike.{token_below, symbol_after}
+use Rattle.yl_indentation.specs.FactsAlike.{fact_below, IsAbove, with_earlier, facts_of_rows, after_rows}
 use Rattle.yl_indentation.proofs.BySymbols.{go_on}
 
 -- ---- symbols, and then later ones

@@ -2,33 +2,16 @@
 -- line numbers and counts of lexemes.
 use Rattle.std.specs.Prelude.{ℕ, ◌≡◌, ◌+◌, ◌<◌, Bool, List, ◌++◌, length, map, Option, IfSome}
 use Rattle.std.specs.Option.{option_map}
-use Rattle.yl_text.specs.declared.position.Pos.{Pos}
 use Rattle.yl_lexeme.specs.declared.lexeme.Kind.{Kind}
 use Rattle.yl_marks.specs.declared.token.Token.{Token}
 use Rattle.yl_marks.specs.declared.symbol.Symbol.{Symbol}
-use Rattle.yl_marks.specs.declared.symbol.Symbol.TheVariants.{OpenSequence, OpenMapping, BeginKey, Close, One}
+use Rattle.yl_marks.specs.MarksAlike.{symbol_after, token_below}
 use Rattle.yl_indentation.specs.declared.context.OpenCollection.{OpenCollection}
 use Rattle.yl_indentation.specs.declared.fact.Fact.{Fact}
 use Rattle.yl_indentation.specs.Context.{ContextValue}
 use Rattle.yl_indentation.specs.SymbolFacts.{behind_symbols, facts_left}
 
 -- ---- rows further down
-
--- a place this many lines below
-abbrev pub pos_below : ℕ → Pos → Pos
-pos_below n p = record { line = n + p.line; col = p.col }
-
--- a lexeme this many lines below
-abbrev pub token_below : ℕ → Token → Token
-token_below n x = record { kind = x.kind; start = pos_below n x.start; end_line = n + x.end_line }
-
--- a symbol after this many more lexemes
-abbrev pub symbol_after : ℕ → Symbol → Symbol
-symbol_after n (OpenSequence i) = OpenSequence (n + i)
-symbol_after n (OpenMapping i) = OpenMapping (n + i)
-symbol_after n (BeginKey i) = BeginKey (n + i)
-symbol_after n Close = Close
-symbol_after n (One kind i) = One kind (n + i)
 
 -- a fact this many lines below
 abbrev pub fact_below : ℕ → Fact → Fact
