@@ -1,0 +1,182 @@
+//! At each border above a sound row: machines that read the rows above it, and machines that are resumed there.
+use crate::machines::Machines;
+use crate::rows::{TextRow, rows_of};
+use crate::told::are_findings_moved;
+use std::alloc::{AllocError, Global};
+use std::test::Fail;
+use yl_text::Finding;
+
+/// Whether machines tell the same of these rows and of the document's end, and hold the same behind each row.
+fn go_on_alike(
+    one: &mut Machines<Global>,
+    other: &mut Machines<Global>,
+    rows: &[TextRow<Global>],
+) -> Result<bool, AllocError> {
+    for row in rows {
+        if !one.tell_same(other, row)? {
+            return Ok(false);
+        }
+        if !one.hold_same(other)? {
+            return Ok(false);
+        }
+    }
+    one.end_same(other)
+}
+
+/// Whether machines that are resumed between these rows hold what those hold that read the rows above, also once these settled, and go on alike.
+fn is_resumed(
+    alloc: Global,
+    above: &[TextRow<Global>],
+    below: &[TextRow<Global>],
+) -> Result<bool, AllocError> {
+    let mut whole = Machines::behind(alloc, above)?;
+    let states = whole.states()?;
+    let mut resumed = whole.resumed(&states)?;
+    let _ = whole.settle()?;
+    if !whole.hold(&states)? {
+        return Ok(false);
+    }
+    if !resumed.hold(&states)? {
+        return Ok(false);
+    }
+    go_on_alike(&mut whole, &mut resumed, below)
+}
+
+/// Whether the latest lexeme of the rows is no opening bracket, by their state.
+fn is_settled(alloc: Global, above: &[TextRow<Global>]) -> Result<bool, AllocError> {
+    let machines = Machines::behind(alloc, above)?;
+    Ok(machines.rules.state().is_settled())
+}
+
+/// What machines that settle twice, and then read a row, tell of the lexeme before it and of the row, and how much of that the first time.
+fn told_in_parts(
+    machines: &mut Machines<Global>,
+    next: &TextRow<Global>,
+) -> Result<(usize, Vec<Finding<Global>>), AllocError> {
+    let mut told = machines.settle()?;
+    let count = told.len();
+    let mut again = machines.settle()?;
+    told.append(&mut again)?;
+    let mut row = machines.read(next)?;
+    told.append(&mut row.findings)?;
+    Ok((count, told))
+}
+
+/// How many problems are told at the latest lexeme above a border whose state is settled. Nothing if these, and those of the row below, are not what
+/// machines tell of that row which did not settle.
+fn settled(
+    alloc: Global,
+    above: &[TextRow<Global>],
+    next: &TextRow<Global>,
+) -> Result<Option<usize>, AllocError> {
+    let mut machines = Machines::behind(alloc, above)?;
+    let (count, told) = told_in_parts(&mut machines, next)?;
+    let mut others = Machines::behind(alloc, above)?;
+    let wanted = others.read(next)?;
+    let is_same = are_findings_moved(&told, 0, &wanted.findings, 0);
+    Ok(is_same.then_some(count))
+}
+
+/// Of a border: 1, whether machines are resumed rightly there, whether the state is settled, and how many problems are told at once there.
+fn at_border(
+    alloc: Global,
+    above: &[TextRow<Global>],
+    below: &[TextRow<Global>],
+) -> Result<[usize; 4], AllocError> {
+    let right = usize::from(is_resumed(alloc, above, below)?);
+    if !is_settled(alloc, above)? {
+        return Ok([1, right, 0, 0]);
+    }
+    let Some(next) = below.first() else {
+        return Err(AllocError);
+    };
+    let problems = settled(alloc, above, next)?;
+    Ok([1, right, 1, problems.unwrap_or(usize::MAX)])
+}
+
+/// The sums of two tallies.
+fn sums(one: [usize; 4], other: [usize; 4]) -> [usize; 4] {
+    let [a, b, c, d] = one;
+    let [e, f, g, h] = other;
+    [
+        a.saturating_add(e),
+        b.saturating_add(f),
+        c.saturating_add(g),
+        d.saturating_add(h),
+    ]
+}
+
+/// How many borders a text has, at how many of them machines are resumed rightly, at how many the state is settled, and how many problems are told at
+/// once there.
+fn tally(alloc: Global, text: &str) -> Result<[usize; 4], AllocError> {
+    let rows = rows_of(alloc, text)?;
+    let mut tally = [0usize; 4];
+    for (at, row) in rows.iter().enumerate() {
+        if at > 0 && row.is_sound {
+            let above = rows.get(..at).unwrap_or(&[]);
+            let below = rows.get(at..).unwrap_or(&[]);
+            tally = sums(tally, at_border(alloc, above, below)?);
+        }
+    }
+    Ok(tally)
+}
+
+/// Texts, each with how many borders it has, before how many of these the latest lexeme is no opening bracket, and how many problems wait there. A
+/// problem waits only where a row ends with an indicator: at a `:` or a `,` behind a space.
+const TEXTS: [(&str, usize, usize, usize); 6] = [
+    // A mapping in a sequence, and a sequence in that.
+    ("- a: 1\n  b :\n  - c\n-  d: 2\n", 3, 3, 1),
+    // Brackets over rows.
+    ("a: [1 ,\n  {b: c,\n  d}, [\n  ], e]\n", 3, 2, 1),
+    // Tags and anchors whose nodes are in the rows below.
+    ("a: !t\n  - &x\n    b\n  - &y !u\n    c: 1\n", 4, 4, 0),
+    // Keys with an indicator, and a scalar of two rows.
+    ("? a\n: b\n?\n  - c\n: 'd\n  e'\nf: g\n", 5, 5, 0),
+    // Directives, by which `yes` is a string.
+    ("%YAML 1.2\n---\na: yes\nb : yes\n", 3, 3, 0),
+    // A comment and an empty row among the rows.
+    ("a:\n\n  # b\n  c: &d\n    - e\n", 3, 3, 0),
+];
+
+#[test]
+fn of_small_texts(rt: HostRuntime) -> Result<(), Fail> {
+    for (text, borders, settles, problems) in TEXTS {
+        let wanted = [borders, borders, settles, problems];
+        assert_eq!(rt; tally(rt.alloc(), text)?, wanted, "{text:?}");
+    }
+    Ok(())
+}
+
+/// Eight rows of this piece, each with a step more before it than the one above, and the last rows.
+fn deep(alloc: Global, step: &str, piece: &str, last: &str) -> Result<String, AllocError> {
+    let mut text = String::new(alloc);
+    let mut steps = String::new(alloc);
+    for _i in 0..8 {
+        text.push_str(&steps)?;
+        text.push_str(piece)?;
+        steps.push_str(step)?;
+    }
+    text.push_str(&steps)?;
+    text.push_str(last)?;
+    Ok(text)
+}
+
+/// A text's step, its piece and its last rows, its borders, and those at which its state is settled.
+type DeepText = (&'static str, &'static str, &'static str, usize, usize);
+
+/// Rows that close what eight rows of five brackets open.
+const CLOSING: &str = "]]]]]\n]]]]]\n]]]]]\n]]]]]\n]]]]]\n]]]]]\n]]]]]\n]]]]]\n";
+
+#[test]
+fn of_forty_levels(rt: HostRuntime) -> Result<(), Fail> {
+    let texts: [DeepText; 2] = [
+        ("          ", "- - - - -\n", "a: 1\n- b\n", 9, 9),
+        ("", "[[[[[\n", CLOSING, 15, 7),
+    ];
+    for (step, piece, last, borders, settles) in texts {
+        let text = deep(rt.alloc(), step, piece, last)?;
+        let wanted = [borders, borders, settles, 0];
+        assert_eq!(rt; tally(rt.alloc(), text.as_str())?, wanted, "{piece:?}");
+    }
+    Ok(())
+}

@@ -1,0 +1,262 @@
+//! The machines that read a document row by row, and their states.
+use crate::rows::TextRow;
+use crate::told::Told;
+use std::alloc::{AllocError, Allocator};
+use yl_events::{SymbolParser, SymbolParserState};
+use yl_indentation::{FactReader, FactReaderState};
+use yl_layout::{LexemeOptions, LexemeRules, LexemeRulesState};
+use yl_lexeme::Meter;
+use yl_marks::{KeyMarker, MarkerState, RowLexemes, Token, push_tokens};
+use yl_text::Finding;
+
+/// The states of the machines before a row.
+#[derive(Drop)]
+pub(crate) struct States<A: Allocator> {
+    /// That of the marker.
+    pub(crate) marker: MarkerState<A>,
+    /// That of the parser.
+    pub(crate) parser: SymbolParserState<A>,
+    /// That of the reader of checked places.
+    pub(crate) reader: FactReaderState<A>,
+    /// That of the rules on lexemes.
+    pub(crate) rules: LexemeRulesState,
+}
+
+impl<A: Allocator> States<A> {
+    /// Which of the states are the same: of the marker, the parser, the reader and the rules.
+    pub(crate) fn same_ones(&self, other: &States<A>) -> [bool; 4] {
+        [
+            self.marker.is_same(&other.marker),
+            self.parser.is_same(&other.parser),
+            self.reader.is_same(&other.reader),
+            self.rules.is_same(other.rules),
+        ]
+    }
+
+    /// Whether all states are the same.
+    pub(crate) fn are_same(&self, other: &States<A>) -> bool {
+        let [marker, parser, reader, rules] = self.same_ones(other);
+        marker && parser && reader && rules
+    }
+}
+
+/// The machines that read a document, whose rows are given one after another.
+#[derive(Drop)]
+pub(crate) struct Machines<A: Allocator + Copy> {
+    alloc: A,
+    /// The marker.
+    pub(crate) marker: KeyMarker<A>,
+    /// The parser.
+    pub(crate) parser: SymbolParser<A>,
+    /// The reader of checked places.
+    pub(crate) reader: FactReader<A>,
+    /// The rules on lexemes.
+    pub(crate) rules: LexemeRules,
+    // The index of the next lexeme.
+    first: usize,
+    // How many brackets are open.
+    depth: usize,
+    // The line of the next row.
+    line: u32,
+}
+
+impl<A: Allocator + Copy> Machines<A> {
+    /// Machines at the start of a document.
+    pub(crate) fn start(alloc: A) -> Result<Machines<A>, AllocError> {
+        let mut parser = SymbolParser::new(alloc);
+        parser.begin(&mut Vec::new(alloc), &mut Meter::new())?;
+        Ok(Machines {
+            alloc,
+            marker: KeyMarker::new(alloc),
+            parser,
+            reader: FactReader::new(alloc),
+            rules: LexemeRules::new(),
+            first: 0,
+            depth: 0,
+            line: 0,
+        })
+    }
+
+    /// Machines that go on where others are whose states these are. Their next row is at line 1, and they count lexemes from the number of open
+    /// brackets on.
+    pub(crate) fn resumed(&self, states: &States<A>) -> Result<Machines<A>, AllocError> {
+        Ok(Machines {
+            alloc: self.alloc,
+            marker: KeyMarker::resume(&states.marker)?,
+            parser: SymbolParser::resume(&states.parser)?,
+            reader: FactReader::resume(&states.reader)?,
+            rules: LexemeRules::resume(states.rules),
+            first: self.depth,
+            depth: self.depth,
+            line: 1,
+        })
+    }
+
+    /// Their states.
+    pub(crate) fn states(&self) -> Result<States<A>, AllocError> {
+        Ok(States {
+            marker: self.marker.state()?,
+            parser: self.parser.state()?,
+            reader: self.reader.state()?,
+            rules: self.rules.state(),
+        })
+    }
+
+    // What is told of the next row, without anything yet.
+    fn nothing_told(&self) -> Told<A> {
+        Told {
+            first: self.first,
+            line: self.line,
+            symbols: Vec::new(self.alloc),
+            keys: Vec::new(self.alloc),
+            outlines: Vec::new(self.alloc),
+            facts: Vec::new(self.alloc),
+            findings: Vec::new(self.alloc),
+        }
+    }
+
+    // Marks and parses a row. A fault is an error here, since no document has one.
+    #[tactic(auto, using(yl_events::proofs::Counts::line_whole))]
+    fn parse(&mut self, line: &[Token], told: &mut Told<A>) -> Result<(), AllocError> {
+        let mut symbols = Vec::new(self.alloc);
+        self.marker.read(line, &mut symbols, &mut told.keys)?;
+        let fault = self.parser.feed(self.first, &symbols, &mut told.outlines)?;
+        told.symbols = symbols;
+        match fault {
+            None => Ok(()),
+            Some(_) => Err(AllocError),
+        }
+    }
+
+    // Has the rules on lexemes read a row.
+    fn judge(&mut self, row: &RowLexemes<'_, A>, told: &mut Told<A>) -> Result<(), AllocError> {
+        if told.keys.len() != row.lexemes.len() {
+            return Err(AllocError);
+        }
+        let options = LexemeOptions::standard();
+        self.rules
+            .read_row(&options, row, &told.keys, &mut told.findings)
+    }
+
+    // Has the reader of checked places read a row that begins with so many spaces.
+    fn check(
+        &mut self,
+        line: &[Token],
+        indentation: u32,
+        told: &mut Told<A>,
+    ) -> Result<(), AllocError> {
+        let counted = usize::MAX;
+        self.reader.read_line(
+            line,
+            self.first,
+            &told.symbols,
+            counted,
+            indentation,
+            &mut told.facts,
+        )
+    }
+
+    // Counts the lexemes of a row, and its line.
+    fn pass(&mut self, line: &[Token]) {
+        for token in line {
+            if token.kind.is_opening() {
+                self.depth = self.depth.saturating_add(1);
+            }
+            if token.kind.is_closing() {
+                self.depth = self.depth.saturating_sub(1);
+            }
+        }
+        self.first = self.first.saturating_add(line.len());
+        self.line = self.line.saturating_add(1);
+    }
+
+    /// Reads the next row.
+    pub(crate) fn read(&mut self, row: &TextRow<A>) -> Result<Told<A>, AllocError> {
+        let lexemes = RowLexemes {
+            line: self.line,
+            lexemes: &row.lexemes,
+        };
+        let mut tokens = Vec::new(self.alloc);
+        push_tokens(&lexemes, &mut tokens)?;
+        let mut told = self.nothing_told();
+        self.parse(&tokens, &mut told)?;
+        self.judge(&lexemes, &mut told)?;
+        self.check(&tokens, row.indentation, &mut told)?;
+        self.pass(&tokens);
+        Ok(told)
+    }
+
+    /// Reads the next rows.
+    pub(crate) fn read_all(&mut self, rows: &[TextRow<A>]) -> Result<(), AllocError> {
+        for row in rows {
+            let _ = self.read(row)?;
+        }
+        Ok(())
+    }
+
+    /// Machines that have read these rows.
+    pub(crate) fn behind(alloc: A, rows: &[TextRow<A>]) -> Result<Machines<A>, AllocError> {
+        let mut machines = Machines::start(alloc)?;
+        machines.read_all(rows)?;
+        Ok(machines)
+    }
+
+    /// Whether these are their states.
+    pub(crate) fn hold(&self, states: &States<A>) -> Result<bool, AllocError> {
+        let own = self.states()?;
+        Ok(own.are_same(states))
+    }
+
+    /// Whether their states are those of other machines.
+    pub(crate) fn hold_same(&self, other: &Machines<A>) -> Result<bool, AllocError> {
+        let states = other.states()?;
+        self.hold(&states)
+    }
+
+    /// Reads the next row, as other machines do. Whether both tell the same of it.
+    pub(crate) fn tell_same(
+        &mut self,
+        other: &mut Machines<A>,
+        row: &TextRow<A>,
+    ) -> Result<bool, AllocError> {
+        let told = self.read(row)?;
+        let others = other.read(row)?;
+        Ok(told.is_same(&others))
+    }
+
+    /// Ends the document, as other machines do. Whether both tell the same of that.
+    pub(crate) fn end_same(&mut self, other: &mut Machines<A>) -> Result<bool, AllocError> {
+        let told = self.finish()?;
+        let others = other.finish()?;
+        Ok(told.is_same(&others))
+    }
+
+    /// What the rules on lexemes still find at the latest lexeme.
+    pub(crate) fn settle(&mut self) -> Result<Vec<Finding<A>, A>, AllocError> {
+        let mut findings = Vec::new(self.alloc);
+        self.rules
+            .settle(&LexemeOptions::standard(), &mut findings)?;
+        Ok(findings)
+    }
+
+    // Ends the document.
+    fn end(&mut self, told: &mut Told<A>) -> Result<(), AllocError> {
+        self.marker.close(&mut told.symbols)?;
+        let fault = self
+            .parser
+            .finish(self.first, &told.symbols, &mut told.outlines)?;
+        self.rules
+            .finish(&LexemeOptions::standard(), &mut told.findings)?;
+        match fault {
+            None => Ok(()),
+            Some(_) => Err(AllocError),
+        }
+    }
+
+    /// Ends the document, and returns what is told of that.
+    pub(crate) fn finish(&mut self) -> Result<Told<A>, AllocError> {
+        let mut told = self.nothing_told();
+        self.end(&mut told)?;
+        Ok(told)
+    }
+}
