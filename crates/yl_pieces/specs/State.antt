@@ -1,0 +1,62 @@
+-- Bridge: what the judge of a document holds before a row, without lines and counts, and the
+-- machines that begin with it.
+use Rattle.std.specs.Prelude.{ℕ, true, false, Option, None, option_map}
+use Rattle.yl_lexeme.specs.declared.lexeme.Kind.{Kind}
+use Rattle.yl_marks.specs.declared.symbol.KeyedToken.{KeyedToken}
+use Rattle.yl_marks.specs.declared.token.Token.{Token}
+use Rattle.yl_marks.specs.FactsByLine.{KeyMarkerValue, key_marker_at_start}
+use Rattle.yl_marks.specs.MarksAlike.{KeyMarkerState, key_marker_state}
+use Rattle.yl_events.specs.State.{parser_state}
+use Rattle.yl_events.specs.SymbolParsing.{SymbolParserValue, symbols_at_start}
+use Rattle.yl_indentation.specs.Context.{ContextValue, nothing_open}
+use Rattle.yl_indentation.specs.FactsAlike.{ContextState, context_state}
+use Rattle.yl_layout.specs.declared.span.Span.{Span}
+use Rattle.yl_layout.specs.declared.state.LexemeRulesState.{LexemeRulesState}
+use Rattle.yl_layout.specs.LexemesAlike.{lexemes_state}
+use Rattle.yl_layout.specs.LexemesLeft.{LexemesRead, none_read}
+
+-- the marker's, the parser's, that of the rule indentation, and that of the rules on lexemes
+pub record DocumentState : Type 0 where
+  pub marker : KeyMarkerState
+  pub parser : SymbolParserValue
+  pub context : ContextState
+  pub lexemes : LexemeRulesState
+
+-- at a document's start
+abbrev pub start_state : DocumentState
+start_state = record {
+  marker = key_marker_state key_marker_at_start;
+  parser = parser_state symbols_at_start;
+  context = context_state nothing_open;
+  lexemes = lexemes_state none_read;
+}
+
+-- ---- machines with that state. Their latest lexeme begins and ends in line 0, and no lexeme is
+-- counted
+
+abbrev pub keyed_above : Kind → KeyedToken
+keyed_above kind = record { kind = kind; start = record { line = 0; col = 0 }; end_line = 0; depth = 0; is_first = true; may_begin = false; key = None }
+
+abbrev pub marker_from : KeyMarkerState → KeyMarkerValue
+marker_from s = record {
+  marks = record { count = 0; depth = s.marks.depth; latest = option_map keyed_above s.marks.latest; open_ones = s.marks.open_ones };
+  ahead = s.ahead;
+}
+
+abbrev pub token_above : Kind → Token
+token_above kind = record { kind = kind; start = record { line = 0; col = 0 }; end_line = 0 }
+
+abbrev pub context_from : ContextState → ContextValue
+context_from s = record { open_ones = s.open_ones; latest = option_map token_above s.latest; just_opened = s.just_opened }
+
+abbrev pub span_above : Kind → Span
+span_above kind = record { kind = kind; start = record { line = 0; col = 0 }; end_line = 0; end_col = 0 }
+
+abbrev pub lexemes_from_state : LexemeRulesState → LexemesRead
+lexemes_from_state s = record {
+  latest = option_map span_above s.latest;
+  earlier = None;
+  waits = false;
+  is_1_2 = s.is_1_2;
+  in_directives = s.in_directives;
+}
