@@ -1,3 +1,5 @@
 pub mod State
 pub mod Told
 pub mod Laws
+pub mod References
+pub mod KeysOfRuns

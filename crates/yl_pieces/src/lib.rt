@@ -1,2 +1,11 @@
-//! A run of rows of a document, judged by itself from the state before it.
+//! A run of rows of a document, judged by itself from the state before it: its laws.
+//!
+//! A document is cut into pieces, runs of rows. What the rows of a piece report is determined by the
+//! state before them. Keys, anchors and aliases alone reach further: of a piece they are names.
 #![tactic(auto)]
+
+mod keys;
+mod references;
+
+pub use keys::keys_of_runs;
+pub use references::{anchors_are_lexemes, references_are_lexemes};

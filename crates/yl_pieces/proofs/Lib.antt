@@ -1,0 +1,3 @@
+pub mod KeysOfRuns
+pub mod ReferencesTold
+pub mod ReferencesNamed
