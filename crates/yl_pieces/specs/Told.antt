@@ -1,7 +1,7 @@
 -- Bridge: what the rows of a document report by the state before them: what the rules on lexemes
 -- find, what the rule indentation checks, the comments, and the fault at a lexeme. The rules on keys
 -- and anchors have no part in it.
-use Rattle.std.specs.Prelude.{ℕ, Bool, not, ◌{◌≡◌, ℕ, Bool, true, ◌&&◌&◌, ◌||◌, ◌-◌, [], ◌++◌, List, map, length, take, replicate, Option, Some, None, option_map, option_and_then, slice_get}
+use Rattle.std.specs.Prelude.{ℕ, Bool, not, ◌&&◌, ◌||◌, ◌-◌, [], ◌++◌, List, map, length, take, replicate, Option, Some, None, option_map, option_and_then, slice_get}
 use Rattle.std.specs.Option.{option_map_or}
 use Rattle.yl_text.specs.declared.position.Pos.{Pos}
 use Rattle.yl_text.specs.Finding.{FindingValue}
