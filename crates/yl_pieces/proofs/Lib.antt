@@ -1,3 +1,10 @@
 pub mod KeysOfRuns
 pub mod ReferencesTold
 pub mod ReferencesNamed
+pub mod ToldBelowRows
+pub mod ToldBelowLists
+pub mod ToldBelow
+pub mod ToldBelowStart
+pub mod OfSectionSymbols
+pub mod OfSectionFault
+pub mod OfSection

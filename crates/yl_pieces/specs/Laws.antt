@@ -1,8 +1,7 @@
 -- Bridge: laws of what rows report: one run of rows after another, the same rows further down, and
 -- the rows of a whole section.
-use Rattle.std.specs.Prelude.{◌≡◌, ◌≤◌, ◌<◌, ◌+◌, ◌++◌, ◌∷◌, [], ℕ, true, List, map, length, Option, Some, None, option_map}
+use Rattle.std.specs.Prelude.{◌≡◌, ◌<◌, ◌+◌, ◌++◌, ◌∷◌, [], ℕ, true, List, map, length, Option, Some, None, option_map}
 use Rattle.std.specs.List.{AllByRecursion}
-use Rattle.yl_lexeme.specs.Lexeme.{LexemeValue}
 use Rattle.yl_marks.specs.Keys.{token_of}
 use Rattle.yl_marks.specs.Marks.{marked_lexemes}
 use Rattle.yl_events.specs.declared.fault.ParseFault.{ParseFault}

@@ -3,3 +3,4 @@ pub mod Told
 pub mod Laws
 pub mod References
 pub mod KeysOfRuns
+pub mod StartBelow

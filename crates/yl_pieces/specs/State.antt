@@ -1,6 +1,6 @@
 -- Bridge: what the judge of a document holds before a row, without lines and counts, and the
 -- machines that begin with it.
-use Rattle.std.specs.Prelude.{ℕ, true, false, Option, None, option_map}
+use Rattle.std.specs.Prelude.{true, false, None, option_map}
 use Rattle.yl_lexeme.specs.declared.lexeme.Kind.{Kind}
 use Rattle.yl_marks.specs.declared.symbol.KeyedToken.{KeyedToken}
 use Rattle.yl_marks.specs.declared.token.Token.{Token}

@@ -5,7 +5,11 @@
 #![tactic(auto)]
 
 mod keys;
+mod of_section;
 mod references;
+mod told_below;
 
 pub use keys::keys_of_runs;
+pub use of_section::section_is_told;
 pub use references::{anchors_are_lexemes, references_are_lexemes};
+pub use told_below::{rows_are_told_below, start_is_told_below};
