@@ -8,3 +8,11 @@ pub mod ToldBelowStart
 pub mod OfSectionSymbols
 pub mod OfSectionFault
 pub mod OfSection
+pub mod JoinedLines
+pub mod JoinedMarks
+pub mod JoinedParser
+pub mod JoinedFacts
+pub mod JoinedFindings
+pub mod JoinedComments
+pub mod JoinedTold
+pub mod JoinedFaults

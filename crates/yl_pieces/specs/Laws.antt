@@ -34,10 +34,11 @@ AreClosed rs = EndWithin (length rs) rs
 abbrev pub joined : Told → Told → Told
 joined t u = record { found = t.found ++ u.found; facts = t.facts ++ u.facts; comments = t.comments ++ u.comments; fault = u.fault }
 
--- rows without a fault, after which a piece may begin, and the rows after them
+-- rows without a fault, after which a piece may begin, and the rows after them. The states after
+-- all of them agree where the latter have no fault: after a fault no state is held
 pub record AreJoined (config : Config) (s : DocumentState) (line : ℕ) (front rest : List RecordValue) : Type 0 where
   pub told_is : told config s line (front ++ rest) ≡ joined (told config s line front) (told config (state_after s line front) (line + length front) rest)
-  pub state : state_after s line (front ++ rest) ≡ state_after (state_after s line front) (line + length front) rest
+  pub state : fault_in (state_after s line front) (line + length front) rest ≡ None → state_after s line (front ++ rest) ≡ state_after (state_after s line front) (line + length front) rest
 
 abbrev pub RowsAreJoined : Type 0
 RowsAreJoined = (config : Config) (s : DocumentState) (line : ℕ) (front rest : List RecordValue)

@@ -4,11 +4,13 @@
 //! state before them. Keys, anchors and aliases alone reach further: of a piece they are names.
 #![tactic(auto)]
 
+mod joined;
 mod keys;
 mod of_section;
 mod references;
 mod told_below;
 
+pub use joined::rows_are_joined;
 pub use keys::keys_of_runs;
 pub use of_section::section_is_told;
 pub use references::{anchors_are_lexemes, references_are_lexemes};
