@@ -16,3 +16,6 @@ pub mod JoinedFindings
 pub mod JoinedComments
 pub mod JoinedTold
 pub mod JoinedFaults
+pub mod KeyFindings
+pub mod DuplicatesOfRuns
+pub mod OrderingOfRuns

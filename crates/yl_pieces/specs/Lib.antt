@@ -4,3 +4,5 @@ pub mod Laws
 pub mod References
 pub mod KeysOfRuns
 pub mod StartBelow
+pub mod DuplicatesOfRuns
+pub mod OrderingOfRuns

@@ -4,14 +4,18 @@
 //! state before them. Keys, anchors and aliases alone reach further: of a piece they are names.
 #![tactic(auto)]
 
+mod duplicates;
 mod joined;
 mod keys;
 mod of_section;
+mod ordering;
 mod references;
 mod told_below;
 
+pub use duplicates::duplicates_of_runs;
 pub use joined::rows_are_joined;
 pub use keys::keys_of_runs;
 pub use of_section::section_is_told;
+pub use ordering::ordering_of_runs;
 pub use references::{anchors_are_lexemes, references_are_lexemes};
 pub use told_below::{rows_are_told_below, start_is_told_below};
