@@ -25,6 +25,11 @@ pub after_both : (s : OpenNodes) (es fs : List EventValue) → after_events s (e
 after_both s [] fs = refl
 after_both s (e ∷ es) fs = after_both (with_event e s) es fs
 
+-- lines have no part in it
+pub after_below : (n : ℕ) (s : OpenNodes) (es : List EventValue) → after_events s (map (event_below n) es) ≡ after_events s es
+after_below n s [] = refl
+after_below n s (e ∷ es) = after_below n (with_event e s) es
+
 module _ (test : List (List ℕ) → List ℕ → Bool) (rule : RuleId) (words : List ℕ) where
   abbrev at : List (List ℕ) → EventValue → Option (List ℕ) → List FindingValue
   at = finding_among test rule words

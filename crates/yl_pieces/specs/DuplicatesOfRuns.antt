@@ -52,7 +52,8 @@ pub record AsksFor (s : OpenNodes) (es : List EventValue) (h : ℕ) (name : List
 abbrev pub has_name : List ℕ → List (List ℕ) → Bool
 has_name name keys = list_any (λ key. bytes_eq key name) keys
 
--- for each key of the run that asks for earlier keys from before it: both have it or neither has
+-- for each key of the run that asks for earlier keys from before it: both have its name or neither
+-- has
 abbrev pub HaveSameNames : OpenNodes → OpenNodes → List EventValue → Type 0
 HaveSameNames s t es = (h : ℕ) (name : List ℕ) → AsksFor s es h name → has_name name (keys_at h (all_open s)) ≡ has_name name (keys_at h (all_open t))
 
