@@ -19,3 +19,7 @@ pub mod JoinedFaults
 pub mod KeyFindings
 pub mod DuplicatesOfRuns
 pub mod OrderingOfRuns
+pub mod EditTold
+pub mod WithinFindings
+pub mod WithinFacts
+pub mod Within

@@ -6,3 +6,5 @@ pub mod KeysOfRuns
 pub mod StartBelow
 pub mod DuplicatesOfRuns
 pub mod OrderingOfRuns
+pub mod Within
+pub mod Edit

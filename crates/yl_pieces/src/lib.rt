@@ -5,6 +5,7 @@
 #![tactic(auto)]
 
 mod duplicates;
+mod edit;
 mod joined;
 mod keys;
 mod of_section;
@@ -13,6 +14,7 @@ mod references;
 mod told_below;
 
 pub use duplicates::duplicates_of_runs;
+pub use edit::{edit_is_told, told_is_within};
 pub use joined::rows_are_joined;
 pub use keys::keys_of_runs;
 pub use of_section::section_is_told;
