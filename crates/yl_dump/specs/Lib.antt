@@ -5,7 +5,9 @@ pub mod EventLine
 pub mod LexemeLine
 pub mod Names
 pub mod Place
+pub mod Printed
 pub mod Quoting
 pub mod StateLine
 pub mod StepLines
 pub mod TextScan
+pub mod Writing

@@ -8,6 +8,7 @@ pub record TextScannerValue : Type 0 where
   pub line : ℕ  -- how many lines were read
   pub stand : PhaseValue  -- where the scanner stands before the next one
   pub rows : List RowValue  -- the lines that are still to be read
+  pub states : Bool  -- its steps have states
 
 -- the lines of the rest of a text; where its last line was read there is none
 abbrev pub rows_of : Bool → List ℕ → List RowValue

@@ -64,7 +64,9 @@ fn take_line<A: Allocator + Copy, W: Write>(
 fn take_lines<A: Allocator + Copy, W: Write>(
     documents: &mut Documents<A, W>,
     scanner: &mut TextScanner<'_, '_, A>,
-) -> Result<Option<FaultMessage>, DumpFault> {
+) -> Result<Option<FaultMessage>, DumpFault>
+    ensures { OnOk result (scanner.new.rows ≡ []) }
+{
     let mut fault = None;
     while !scanner.is_done() {
         let told = take_line(documents, scanner)?;
@@ -79,7 +81,9 @@ fn take_end<A: Allocator + Copy, W: Write>(
     documents: &mut Documents<A, W>,
     scanner: TextScanner<'_, '_, A>,
     fault: Option<FaultMessage>,
-) -> Result<Behind, DumpFault> {
+) -> Result<Behind, DumpFault>
+    requires { scanner.rows ≡ [] }
+{
     let line = scanner.line();
     let end = scanner.end();
     let mut step = scanner.finish()?;

@@ -7,6 +7,8 @@ ghost use Rattle.yl_row.specs.Entries.{Stopped};
 ghost use Rattle.yl_scan.specs.Step.{lexeme_above_at, fault_above_at, step_value};
 ghost use Rattle.yl_dump.specs.StepLines.{above_lines, lines_of_comment, failed_lines, step_lines};
 ghost use Rattle.yl_dump.specs.LexemeLine.{lexeme_line};
+ghost use Rattle.yl_dump.specs.Printed.{AppendsPrinted, output_of_text};
+ghost use Rattle.yl_dump.specs.Writing.{PrintsAll, PrintsOn, WritesOn, output_left};
 
 use crate::fault::{DumpFault, scan_fault};
 use crate::lexeme_line::{print_comment, print_fault, print_lexeme};
@@ -90,7 +92,8 @@ fn print_line<A: Allocator + Copy>(
     scanner: &mut TextScanner<'_, '_, A>,
 ) -> Result<(), AllocError>
     requires { scanner.old.rows ≢ [] }
-    ensures { OnOk result (scanner.new.rows ≡ drop 1 scanner.old.rows) }
+    ensures passed { OnOk result (scanner.new.rows ≡ drop 1 scanner.old.rows) }
+    ensures printed { OnOk result (PrintsOn page.old page.new (output_left scanner.old) (output_left scanner.new)) }
 {
     let line = scanner.line();
     let step = scanner.read_line()?;
@@ -103,10 +106,14 @@ fn print_line<A: Allocator + Copy>(
 fn print_end<A: Allocator + Copy>(
     page: &mut Page<A>,
     scanner: TextScanner<'_, '_, A>,
-) -> Result<(), AllocError> {
+) -> Result<(), AllocError>
+    requires { scanner.rows ≡ [] }
+    ensures { OnOk result (PrintsAll page.old page.new (output_left scanner.entry)) }
+{
     let line = scanner.line();
     let step = scanner.finish()?;
-    print_step(page, line, &step)
+    print_ended(page, line, &step.ended)?;
+    print_failed(page, line, step.failed)
 }
 
 // Reads the lines of a text, and prints what is found in them. Writes the page whenever it is
@@ -115,7 +122,11 @@ fn write_lines<A: Allocator + Copy, W: Write>(
     page: &mut Page<A>,
     scanner: &mut TextScanner<'_, '_, A>,
     out: &mut W,
-) -> Result<(), DumpFault> {
+) -> Result<(), DumpFault>
+    ensures done { OnOk result (scanner.new.rows ≡ []) }
+    ensures written { OnOk result (WritesOn (W.contents out.old) (W.contents out.new) page.old page.new
+        (output_left scanner.old) (output_left scanner.new)) }
+{
     while !scanner.is_done() {
         print_line(page, scanner)?;
         page.write_large(out)?;
@@ -123,19 +134,34 @@ fn write_lines<A: Allocator + Copy, W: Write>(
     Ok(())
 }
 
-// Reads a text, prints what is found in it, and writes the page.
+// Reads a text, prints what is found in it on an empty page, and writes the page.
 fn write_text<A: Allocator + Copy, W: Write>(
     page: &mut Page<A>,
     alloc: &A,
     text: &str,
     out: &mut W,
 ) -> Result<(), DumpFault>
-    requires { length text.now ≤ MAX_BYTES }
+    requires few { length text.now ≤ MAX_BYTES }
+    requires empty { page.old ≡ [] }
+    ensures { OnOk result (AppendsPrinted (W.contents out.old) (W.contents out.new) (output_of_text text.now)) }
 {
     let mut scanner = TextScanner::without_states(alloc, text);
     write_lines(page, &mut scanner, out)?;
     print_end(page, scanner)?;
     page.write_to(out)
+}
+
+/// Writes the lexemes, the comments and the scan fault of a text, as `write_lexemes` does.
+pub fn write_lexemes_to<A: Allocator + Copy, W: Write>(
+    alloc: A,
+    text: &str,
+    out: &mut W,
+) -> Result<(), DumpFault>
+    requires { length text.now ≤ MAX_BYTES }
+    ensures { OnOk result (AppendsPrinted (W.contents out.old) (W.contents out.new) (output_of_text text.now)) }
+{
+    let mut page = Page::new(alloc);
+    write_text(&mut page, &alloc, text, out)
 }
 
 /// Writes a line `LINE:COLUMN-LINE:COLUMN KIND "VALUE"` for each lexeme and each comment of a text,
@@ -149,6 +175,5 @@ pub fn write_lexemes<A: Allocator + Copy, W: Write + Drop>(
 ) -> Result<(), DumpFault>
     requires { length text.now ≤ MAX_BYTES }
 {
-    let mut page = Page::new(alloc);
-    write_text(&mut page, &alloc, text, &mut out)
+    write_lexemes_to(alloc, text, &mut out)
 }

@@ -1,6 +1,9 @@
 //! Writes the states of lines.
-ghost use Rattle.std.specs.Prelude.{◌≡◌, ◌≢◌, ◌≤◌, [], drop, length, OnOk};
+ghost use Rattle.std.specs.Prelude.{◌≡◌, ◌≢◌, ◌≤◌, [], ◌++◌, drop, length, true, OnOk};
+ghost use Rattle.std.specs.Io.KnownBytes.{Appends};
 ghost use Rattle.yl_text.specs.declared.TheConstants.{MAX_BYTES};
+ghost use Rattle.yl_dump.specs.Printed.{states_text};
+ghost use Rattle.yl_dump.specs.Writing.{states_left};
 
 use crate::fault::DumpFault;
 use crate::page::Page;
@@ -15,8 +18,11 @@ fn print_line<A: Allocator + Copy>(
     page: &mut Page<A>,
     scanner: &mut TextScanner<'_, '_, A>,
 ) -> Result<(), AllocError>
-    requires { scanner.old.rows ≢ [] }
-    ensures { OnOk result (scanner.new.rows ≡ drop 1 scanner.old.rows) }
+    requires rows { scanner.old.rows ≢ [] }
+    requires states { scanner.old.states ≡ true }
+    ensures printed { OnOk result (page.new ++ states_left scanner.new ≡ page.old ++ states_left scanner.old) }
+    ensures passed { OnOk result (scanner.new.rows ≡ drop 1 scanner.old.rows) }
+    ensures states { scanner.new.states ≡ true }
 {
     page.number(u64::from(scanner.line()) + 1)?;
     let step = scanner.read_line()?;
@@ -30,12 +36,29 @@ fn write_states<A: Allocator + Copy, W: Write>(
     page: &mut Page<A>,
     scanner: &mut TextScanner<'_, '_, A>,
     out: &mut W,
-) -> Result<(), DumpFault> {
+) -> Result<(), DumpFault>
+    requires { scanner.old.states ≡ true }
+    ensures { OnOk result (Appends (W.contents out.old) (W.contents out.new) (page.old ++ states_left scanner.old)) }
+{
     while !scanner.is_done() {
         print_line(alloc, page, scanner)?;
         page.write_large(out)?;
     }
     page.write_to(out)
+}
+
+/// Writes the states of the lines of a text, as `write_lines` does.
+pub fn write_lines_to<A: Allocator + Copy, W: Write>(
+    alloc: A,
+    text: &str,
+    out: &mut W,
+) -> Result<(), DumpFault>
+    requires { length text.now ≤ MAX_BYTES }
+    ensures { OnOk result (Appends (W.contents out.old) (W.contents out.new) (states_text text.now)) }
+{
+    let mut page = Page::new(alloc);
+    let mut scanner = TextScanner::new(&alloc, text);
+    write_states(alloc, &mut page, &mut scanner, out)
 }
 
 /// Writes a line for each line of a text. It is one of these:
@@ -53,7 +76,5 @@ pub fn write_lines<A: Allocator + Copy, W: Write + Drop>(
 ) -> Result<(), DumpFault>
     requires { length text.now ≤ MAX_BYTES }
 {
-    let mut page = Page::new(alloc);
-    let mut scanner = TextScanner::new(&alloc, text);
-    write_states(alloc, &mut page, &mut scanner, &mut out)
+    write_lines_to(alloc, text, &mut out)
 }

@@ -1,7 +1,9 @@
 //! Printed text that is not yet written.
-ghost use Rattle.std.specs.Prelude.{◌≡◌, [], ◌++◌, ◌∷◌, length, take, decimal, OnOk};
+ghost use Rattle.std.specs.Prelude.{◌≡◌, [], ◌++◌, ◌∷◌, length, take, decimal, IfErr, OnOk};
 ghost use Rattle.std.specs.Io.KnownBytes.{Appends};
 ghost use Rattle.yl_dump.specs.Place.{place_text};
+ghost use Rattle.yl_dump.specs.Writing.{Leaves};
+ghost use Rattle.yl_dump.specs.declared.fault.DumpFault.TheVariants.{Write as WriteRefused};
 
 use crate::fault::{DumpFault, TextPlace};
 use itoa::Buffer;
@@ -109,6 +111,7 @@ impl<A: Allocator> Page<A> {
     pub fn write_to<W: Write>(&mut self, out: &mut W) -> Result<(), DumpFault>
         ensures written { OnOk result (Appends (W.contents out.old) (W.contents out.new) self.old) }
         ensures none_waits { OnOk result (self.new ≡ []) }
+        ensures err { IfErr result (λ e. e ≡ WriteRefused) }
     {
         if out.write_all(self.text.as_slice()).is_err() {
             return Err(DumpFault::Write);
@@ -119,7 +122,10 @@ impl<A: Allocator> Page<A> {
 
     /// Writes the text and empties the page, if the text has at least 65,536 bytes. The only error
     /// is `Write`.
-    pub fn write_large<W: Write>(&mut self, out: &mut W) -> Result<(), DumpFault> {
+    pub fn write_large<W: Write>(&mut self, out: &mut W) -> Result<(), DumpFault>
+        ensures ok { OnOk result (Leaves (W.contents out.old) (W.contents out.new) self.old self.new) }
+        ensures err { IfErr result (λ e. e ≡ WriteRefused) }
+    {
         if self.text.len() < LARGE {
             return Ok(());
         }
