@@ -1,5 +1,5 @@
 -- What is printed of the lines that are still to be read.
-use Rattle.std.proofs.Common.{◌≡◌, ℕ, zero, suc, ◌+◌, Bool, true, false, List, [], ◌∷◌, ◌++◌, refl, sym, ap, subst, ◌∙◌, append_assoc, codes, decimal, map, arith}
+use Rattle.std.proofs.Common.{◌≡◌, ℕ, zero, suc, ◌+◌, Bool, true, false, List, [], ◌∷◌, ◌++◌, refl, sym, ap, subst, ◌∙◌, append_assoc, codes, decimal, map}
 use Rattle.std.specs.Prelude.{Option, Some, None, is_some, ◌||◌, option_to_list, option_map, Result, Ok, Err, OnOk, IfOk}
 use Rattle.std.specs.List.{flat_map}
 use Rattle.std.proofs.lemmas.List.{append-nil}
@@ -7,7 +7,7 @@ use Rattle.yl_text.specs.Lines.{RowValue, lines_of}
 use Rattle.yl_lexeme.specs.Lexeme.{LexemeValue, CommentValue}
 use Rattle.yl_lexeme.specs.Known.{SurroundingsValue, no_surroundings}
 use Rattle.yl_row.specs.declared.fault.PlacedScanFault.{PlacedScanFault}
-use Rattle.yl_row.specs.Entries.{LineStateValue, RowEntry, entries}
+use Rattle.yl_row.specs.Entries.{LineStateValue, RowEntry}
 use Rattle.yl_row.specs.Step.{FoundLexemeValue}
 use Rattle.yl_row.specs.Entries.{stopped_rows}
 use Rattle.yl_row.proofs.Agree.{run-entries}
@@ -17,7 +17,7 @@ use Rattle.yl_scan.specs.Remaining.{PhaseValue, Fresh, Within, Halted, remaining
 use Rattle.yl_scan.specs.Scanner.{is_halted}
 use Rattle.yl_scan.specs.Step.{characters_of, at_end}
 use Rattle.yl_dump.specs.TextScan.{TextScannerValue}
-use Rattle.yl_dump.specs.LexemeLine.{lexeme_line, comment_line}
+use Rattle.yl_dump.specs.LexemeLine.{lexeme_line}
 use Rattle.yl_dump.specs.StateLine.{line_text}
 use Rattle.yl_dump.specs.StepLines.{above_lines, lines_of_comment, failed_lines, step_lines}
 use Rattle.std.specs.Io.KnownBytes.{Appends}

@@ -1,5 +1,5 @@
 -- Bridge: what is written of a text, and what is still to be printed and written of it.
-use Rattle.std.specs.Prelude.{◌≡◌, ℕ, List, [], ◌++◌, Option, Some, None}
+use Rattle.std.specs.Prelude.{◌≡◌, ℕ, List, ◌++◌, Option}
 use Rattle.std.specs.Io.KnownBytes.{Appends}
 use Rattle.yl_scan.specs.Output.{ScanOutput}
 use Rattle.yl_scan.specs.Remaining.{remaining_output}

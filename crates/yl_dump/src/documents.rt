@@ -1,4 +1,7 @@
 //! Prints the documents of a text, one after another.
+ghost use Rattle.std.specs.Prelude.{◌≡◌, ◌++◌, [], length, IfErr, OnOk};
+ghost use Rattle.std.specs.Io.KnownBytes.{Appends};
+ghost use Rattle.yl_dump.specs.declared.fault.DumpFault.TheVariants.{Write as WriteRefused};
 
 use crate::document_fault::{Behind, DocumentFault, print_fault, text_fault};
 use crate::event::print_events;
@@ -46,7 +49,9 @@ impl<A: Allocator + Copy, W: Write> Documents<A, W> {
     }
 
     /// Prints a line that belongs to no document. The only error is out of memory.
-    pub fn print_line(&mut self, line: &str) -> Result<(), AllocError> {
+    pub fn print_line(&mut self, line: &str) -> Result<(), AllocError>
+        ensures { OnOk result (self.new ≡ record self.old { page = self.old.page ++ line.now; before = length (self.old.page ++ line.now) }) }
+    {
         self.page.text(line)?;
         self.before = self.page.len();
         Ok(())
@@ -117,7 +122,11 @@ impl<A: Allocator + Copy, W: Write> Documents<A, W> {
     }
 
     /// Writes the text that is printed.
-    pub fn write(&mut self) -> Result<(), DumpFault> {
+    pub fn write(&mut self) -> Result<(), DumpFault>
+        ensures written { OnOk result (Appends (W.contents self.old.out) (W.contents self.new.out) self.old.page) }
+        ensures others { OnOk result (self.new ≡ record self.old { out = self.new.out; page = [] }) }
+        ensures err { IfErr result (λ e. e ≡ WriteRefused) }
+    {
         self.page.write_to(&mut self.out)
     }
 

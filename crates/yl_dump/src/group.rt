@@ -1,6 +1,7 @@
 //! The lexemes of a document that start in one line.
-ghost use Rattle.std.specs.Prelude.{◌≡◌, ◌++◌, Some, OnOk, option_map};
+ghost use Rattle.std.specs.Prelude.{◌≡◌, ◌==◌, ◌↔◌, ◌++◌, ◌∷◌, [], Some, None, IsTrue, OnOk, option_map};
 ghost use Rattle.yl_dump.specs.EventLine.{lexeme_at, opening_of, own_lexeme, place_shown};
+ghost use Rattle.yl_dump.specs.LexemeLine.{text_place};
 ghost use Rattle.yl_events.specs.Event.{value_of};
 
 use crate::fault::TextPlace;
@@ -42,7 +43,9 @@ impl<A: Allocator + Copy> Model for Group<A> {
 
 impl<A: Allocator + Copy> Group<A> {
     /// Creates an empty group.
-    pub fn new(alloc: A) -> Group<A> {
+    pub fn new(alloc: A) -> Group<A>
+        ensures { result ≡ record { line = 0; opening = []; first = 0; lexemes = []; earlier = None } }
+    {
         Group {
             line: 0,
             place_opening: Page::new(alloc),
@@ -53,13 +56,17 @@ impl<A: Allocator + Copy> Group<A> {
     }
 
     /// Returns `true` if a lexeme that starts at line `line` belongs to the group.
-    pub fn is_in(&self, line: u32) -> bool {
+    pub fn is_in(&self, line: u32) -> bool
+        ensures { result ≡ (self.now.line == line) }
+    {
         self.line == line
     }
 
     /// Appends a lexeme that starts at line `line`. The other lexemes must start at this line too.
     /// The only error is out of memory.
-    pub fn push(&mut self, line: u32, lexeme: Lexeme<A>) -> Result<(), AllocError> {
+    pub fn push(&mut self, line: u32, lexeme: Lexeme<A>) -> Result<(), AllocError>
+        ensures { OnOk result (self.new ≡ record self.old { line = line; lexemes = self.old.lexemes ++ lexeme ∷ [] }) }
+    {
         self.line = line;
         self.lexemes.push(lexeme)?;
         Ok(())
@@ -67,7 +74,10 @@ impl<A: Allocator + Copy> Group<A> {
 
     /// Moves the lexemes out of their list to the end of the group. All of them, and the lexemes of
     /// the group, must start at line `line`. The only error is out of memory.
-    pub fn append(&mut self, line: u32, lexemes: &mut Vec<Lexeme<A>, A>) -> Result<(), AllocError> {
+    pub fn append(&mut self, line: u32, lexemes: &mut Vec<Lexeme<A>, A>) -> Result<(), AllocError>
+        ensures appended { OnOk result (self.new ≡ record self.old { line = line; lexemes = self.old.lexemes ++ lexemes.old.items }) }
+        ensures emptied { OnOk result (lexemes.new.items ≡ []) }
+    {
         self.line = line;
         self.lexemes.append(lexemes)
     }
@@ -140,7 +150,9 @@ impl<A: Allocator + Copy> Group<A> {
 
     /// Returns the position of the lexeme with this index in the document, if it starts in the line
     /// of the group.
-    pub fn place(&self, index: usize) -> Option<TextPlace> {
+    pub fn place(&self, index: usize) -> Option<TextPlace>
+        ensures { result ≡ option_map (λ x. text_place self.now.line x.start.col) (own_lexeme self.now index) }
+    {
         let lexeme = self.own(index)?;
         Some(TextPlace {
             line: u64::from(self.line),
@@ -167,14 +179,18 @@ impl<A: Allocator + Copy> Group<A> {
     }
 
     /// Empties the group before a document begins.
-    pub fn clear(&mut self) {
+    pub fn clear(&mut self)
+        ensures { self.new ≡ record self.old { first = 0; lexemes = []; earlier = None } }
+    {
         self.lexemes.clear();
         self.earlier_anchor = None;
         self.first = 0;
     }
 
     /// Returns `true` if the group has no lexemes of its line.
-    pub fn is_empty(&self) -> bool {
+    pub fn is_empty(&self) -> bool
+        ensures { IsTrue result ↔ (self.now.lexemes ≡ []) }
+    {
         self.lexemes.is_empty()
     }
 }

@@ -1,4 +1,4 @@
-use Rattle.std.proofs.Common.{ℕ, List, ◌++◌, ap, ◌∙◌}
+use Rattle.std.proofs.Common.{ℕ, ◌++◌, ap, ◌∙◌}
 use Rattle.yl_row.specs.Entries.{Stopped}
 use Rattle.yl_scan.specs.Scanner.{is_halted, state_before}
 use Rattle.yl_scan.specs.Step.{fault_above_at, step_value}
