@@ -129,10 +129,10 @@ fn write_text<A: Allocator + Copy, W: Write>(
 /// document is written before the document ends.
 ///
 /// Returns `Write` if the writer failed or accepted no bytes, or `Memory` if memory runs out.
-pub fn write_events<A: Allocator + Copy, W: Write + Drop>(
+pub fn write_events<A: Allocator + Copy, W: Write>(
     alloc: A,
     text: &str,
-    out: W,
+    out: &mut W,
 ) -> Result<(), DumpFault>
     requires { length text.now ≤ MAX_BYTES }
 {

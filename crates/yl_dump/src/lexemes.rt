@@ -151,8 +151,11 @@ fn write_text<A: Allocator + Copy, W: Write>(
     page.write_to(out)
 }
 
-/// Writes the lexemes, the comments and the scan fault of a text, as `write_lexemes` does.
-pub fn write_lexemes_to<A: Allocator + Copy, W: Write>(
+/// Writes a line `LINE:COLUMN-LINE:COLUMN KIND "VALUE"` for each lexeme and each comment of a text,
+/// in order. If the text has a scan fault, a line `LINE:COLUMN fault "TEXT"` follows them.
+///
+/// Returns `Write` if the writer failed or accepted no bytes, or `Memory` if memory runs out.
+pub fn write_lexemes<A: Allocator + Copy, W: Write>(
     alloc: A,
     text: &str,
     out: &mut W,
@@ -162,18 +165,4 @@ pub fn write_lexemes_to<A: Allocator + Copy, W: Write>(
 {
     let mut page = Page::new(alloc);
     write_text(&mut page, &alloc, text, out)
-}
-
-/// Writes a line `LINE:COLUMN-LINE:COLUMN KIND "VALUE"` for each lexeme and each comment of a text,
-/// in order. If the text has a scan fault, a line `LINE:COLUMN fault "TEXT"` follows them.
-///
-/// Returns `Write` if the writer failed or accepted no bytes, or `Memory` if memory runs out.
-pub fn write_lexemes<A: Allocator + Copy, W: Write + Drop>(
-    alloc: A,
-    text: &str,
-    mut out: W,
-) -> Result<(), DumpFault>
-    requires { length text.now ≤ MAX_BYTES }
-{
-    write_lexemes_to(alloc, text, &mut out)
 }

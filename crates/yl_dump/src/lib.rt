@@ -25,5 +25,5 @@ mod text_scanner;
 pub use begins::texts_cut_by_two;
 pub use events::write_events;
 pub use fault::DumpFault;
-pub use lexemes::{write_lexemes, write_lexemes_to};
-pub use lines::{write_lines, write_lines_to};
+pub use lexemes::write_lexemes;
+pub use lines::write_lines;

@@ -47,8 +47,15 @@ fn write_states<A: Allocator + Copy, W: Write>(
     page.write_to(out)
 }
 
-/// Writes the states of the lines of a text, as `write_lines` does.
-pub fn write_lines_to<A: Allocator + Copy, W: Write>(
+/// Writes a line for each line of a text. It is one of these:
+///
+/// - `LINE sound COLUMNS BRACKETS LAST`, with the columns of the open block collections, the open
+///   brackets, and the kind of the last lexeme before the line.
+/// - `LINE stopped`, if a fault is before the line.
+/// - `LINE not-sound`, if the line is blank, or if a lexeme or the reach of a fault is in progress.
+///
+/// Returns `Write` if the writer failed or accepted no bytes, or `Memory` if memory runs out.
+pub fn write_lines<A: Allocator + Copy, W: Write>(
     alloc: A,
     text: &str,
     out: &mut W,
@@ -59,22 +66,4 @@ pub fn write_lines_to<A: Allocator + Copy, W: Write>(
     let mut page = Page::new(alloc);
     let mut scanner = TextScanner::new(&alloc, text);
     write_states(alloc, &mut page, &mut scanner, out)
-}
-
-/// Writes a line for each line of a text. It is one of these:
-///
-/// - `LINE sound COLUMNS BRACKETS LAST`, with the columns of the open block collections, the open
-///   brackets, and the kind of the last lexeme before the line.
-/// - `LINE stopped`, if a fault is before the line.
-/// - `LINE not-sound`, if the line is blank, or if a lexeme or the reach of a fault is in progress.
-///
-/// Returns `Write` if the writer failed or accepted no bytes, or `Memory` if memory runs out.
-pub fn write_lines<A: Allocator + Copy, W: Write + Drop>(
-    alloc: A,
-    text: &str,
-    mut out: W,
-) -> Result<(), DumpFault>
-    requires { length text.now ≤ MAX_BYTES }
-{
-    write_lines_to(alloc, text, &mut out)
 }

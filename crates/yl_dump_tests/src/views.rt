@@ -20,15 +20,15 @@ pub fn write_view<A: Allocator + Copy, W: Write + Drop>(
     alloc: A,
     view: PrintedView,
     text: &str,
-    out: W,
+    mut out: W,
 ) -> Result<(), DumpFault> {
     if text.len() > MAX_BYTES {
         return Err(DumpFault::Memory);
     }
     match view {
-        PrintedView::Lexemes => write_lexemes(alloc, text, out),
-        PrintedView::Events => write_events(alloc, text, out),
-        PrintedView::Lines => write_lines(alloc, text, out),
+        PrintedView::Lexemes => write_lexemes(alloc, text, &mut out),
+        PrintedView::Events => write_events(alloc, text, &mut out),
+        PrintedView::Lines => write_lines(alloc, text, &mut out),
     }
 }
 

@@ -68,15 +68,15 @@ fn dump<A: Allocator + Copy, W: Write + Drop>(
     alloc: A,
     wanted: Wanted,
     text: &str,
-    out: W,
+    mut out: W,
 ) -> Result<(), RunFault> {
     if text.len() > MAX_BYTES {
         return Err(RunFault::Text(BadText::TooLarge));
     }
     let answer = match wanted {
-        Wanted::Lexemes => write_lexemes(alloc, text, out),
-        Wanted::Events => write_events(alloc, text, out),
-        _ => write_lines(alloc, text, out),
+        Wanted::Lexemes => write_lexemes(alloc, text, &mut out),
+        Wanted::Events => write_events(alloc, text, &mut out),
+        _ => write_lines(alloc, text, &mut out),
     };
     match answer {
         Ok(()) => Ok(()),

@@ -30,10 +30,11 @@ fn shown(rt: &HostRuntime, asked: &AskedDump) -> Result<(), RunFault> {
         Ok(text) => text,
         Err(fault) => return Err(RunFault::Text(fault)),
     };
+    let mut out = rt.stdout();
     let answer = match asked.view {
-        View::Lexemes => write_lexemes(rt.alloc(), text, rt.stdout()),
-        View::Events => write_events(rt.alloc(), text, rt.stdout()),
-        View::Lines => write_lines(rt.alloc(), text, rt.stdout()),
+        View::Lexemes => write_lexemes(rt.alloc(), text, &mut out),
+        View::Events => write_events(rt.alloc(), text, &mut out),
+        View::Lines => write_lines(rt.alloc(), text, &mut out),
     };
     match answer {
         Ok(()) => Ok(()),

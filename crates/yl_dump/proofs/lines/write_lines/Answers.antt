@@ -2,7 +2,7 @@ use Rattle.std.proofs.Common.{ℕ, List, true, subst}
 use Rattle.std.specs.Prelude.{OnOk}
 use Rattle.std.specs.Io.KnownBytes.{Appends}
 use Rattle.yl_dump.proofs.Told.{states_all}
-use Rattle.yl_dump.proofs.lines.write_lines_to.Goals as goal
+use Rattle.yl_dump.proofs.lines.write_lines.Goals as goal
 
 pub returns : goal.returns
 returns g c =
