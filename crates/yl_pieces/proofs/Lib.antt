@@ -23,3 +23,9 @@ pub mod EditTold
 pub mod WithinFindings
 pub mod WithinFacts
 pub mod Within
+pub mod EventsNamed
+pub mod EventsAlone
+pub mod EventsSteps
+pub mod EventsBelow
+pub mod EventsJoined
+pub mod EventsOfSection

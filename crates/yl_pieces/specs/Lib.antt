@@ -8,3 +8,4 @@ pub mod DuplicatesOfRuns
 pub mod OrderingOfRuns
 pub mod Within
 pub mod Edit
+pub mod Events

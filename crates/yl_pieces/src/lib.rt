@@ -6,6 +6,7 @@
 
 mod duplicates;
 mod edit;
+mod events;
 mod joined;
 mod keys;
 mod of_section;
@@ -15,6 +16,7 @@ mod told_below;
 
 pub use duplicates::duplicates_of_runs;
 pub use edit::{edit_is_told, told_is_within};
+pub use events::{events_are_below, events_are_joined, events_of_section};
 pub use joined::rows_are_joined;
 pub use keys::keys_of_runs;
 pub use of_section::section_is_told;
