@@ -14,7 +14,8 @@ use Rattle.yl_events.specs.Event.{AliasOf, DocumentEnd, DocumentStart, Empty, Ev
 use Rattle.yl_events.specs.ParsedAlike.{outline_after, outline_shape}
 use Rattle.yl_layout.specs.LexemesAlike.{lexeme_below}
 use Rattle.yl_sections.proofs.Lines.{get_after, get_before}
-use Rattle.yl_pieces.specs.Events.{event_alone, event_below}
+use Rattle.yl_pieces.specs.DuplicatesOfRuns.{event_below}
+use Rattle.yl_pieces.specs.Events.{event_alone}
 use Rattle.yl_pieces.proofs.EventsNamed.{IsWithin}
 
 -- ---- an event by the lexeme at its place

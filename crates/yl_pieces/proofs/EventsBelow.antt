@@ -12,7 +12,8 @@ use Rattle.yl_record.specs.Records.{RecordValue}
 use Rattle.yl_sections.specs.Sections.{lexemes_from}
 use Rattle.yl_pieces.specs.State.{DocumentState, marker_from, start_state}
 use Rattle.yl_pieces.specs.Told.{symbols_in, tokens_in}
-use Rattle.yl_pieces.specs.Events.{EventsAreBelow, StartEventsAreBelow, event_alone, event_below, events_in, outlines_in, outlines_told}
+use Rattle.yl_pieces.specs.DuplicatesOfRuns.{event_below}
+use Rattle.yl_pieces.specs.Events.{EventsAreBelow, StartEventsAreBelow, event_alone, events_in, outlines_in, outlines_told}
 use Rattle.yl_pieces.proofs.JoinedMarks.{from_above}
 use Rattle.yl_pieces.proofs.ToldBelowLists.{same_by_count}
 use Rattle.yl_pieces.proofs.ToldBelowRows.{lexemes_moved, lines_there}

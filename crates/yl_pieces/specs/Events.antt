@@ -1,18 +1,18 @@
 -- Bridge: the events of rows by the state before them, without their anchors, and laws of them: one
 -- run of rows after another, the same rows further down, and the rows of a whole section. The
 -- anchors and aliases of a document have laws of their own.
-use Rattle.std.specs.Prelude.{◌≡◌, ◌<◌, ◌+◌, ◌++◌, ◌∷◌, [], ℕ, false, List, map, length, Option, Some, None, option_map}
-use Rattle.yl_text.specs.declared.position.Pos.{Pos}
+use Rattle.std.specs.Prelude.{◌≡◌, ◌<◌, ◌+◌, ◌++◌, ◌∷◌, [], ℕ, false, List, map, length, Option, Some, None}
 use Rattle.yl_lexeme.specs.Lexeme.{LexemeValue}
 use Rattle.yl_marks.specs.Marks.{closings_of_all}
 use Rattle.yl_events.specs.declared.symbol.Outline.{Outline}
 use Rattle.yl_events.specs.DocumentOutcome.{DocumentOutcome, Events, Fails, steps}
-use Rattle.yl_events.specs.Event.{DocumentStart, EventAnchorValue, EventValue, event_of_outline}
+use Rattle.yl_events.specs.Event.{DocumentStart, EventValue, event_of_outline}
 use Rattle.yl_events.specs.Machine.{ParserState}
 use Rattle.yl_events.specs.SymbolParsing.{outcome_of_symbols}
 use Rattle.yl_record.specs.Records.{RecordValue}
 use Rattle.yl_sections.specs.Judge.{document_of}
 use Rattle.yl_sections.specs.Sections.{lexemes_from, lexemes_of}
+use Rattle.yl_pieces.specs.DuplicatesOfRuns.{event_below}
 use Rattle.yl_pieces.specs.State.{DocumentState, start_state}
 use Rattle.yl_pieces.specs.Told.{fault_in, state_after, symbols_in}
 use Rattle.yl_pieces.specs.Laws.{AreClosed}
@@ -61,16 +61,6 @@ EventsAreJoined = (s : DocumentState) (line : ℕ) (front rest : List RecordValu
     → events_in s line (front ++ rest) ≡ events_in s line front ++ events_in (state_after s line front) (line + length front) rest
 
 -- ---- the same rows further down
-
-abbrev pub place_below : ℕ → Pos → Pos
-place_below n p = record p { line = n + p.line }
-
-abbrev pub anchor_below : ℕ → EventAnchorValue → EventAnchorValue
-anchor_below n a = record a { place = place_below n a.place }
-
--- an event, so many lines below
-abbrev pub event_below : ℕ → EventValue → EventValue
-event_below n e = record e { place = option_map (place_below n) e.place; anchor = option_map (anchor_below n) e.anchor }
 
 -- lines move events, and nothing else: below line 0, where the latest lexeme stands
 abbrev pub EventsAreBelow : Type 0
