@@ -9,3 +9,6 @@ pub mod OrderingOfRuns
 pub mod Within
 pub mod Edit
 pub mod Events
+pub mod Directives
+pub mod Fault
+pub mod Piece
