@@ -25,6 +25,7 @@ use Rattle.yl_indentation.proofs.RowFacts.{after_first, facts_of_first}
 use Rattle.yl_layout.specs.declared.options.LexemeOptions.{LexemeOptions}
 use Rattle.yl_layout.specs.declared.state.LexemeRulesState.{LexemeRulesState}
 use Rattle.yl_layout.specs.Lexemes.{findings_behind, first_span}
+use Rattle.yl_layout.specs.LexemesAlike as lexemes
 use Rattle.yl_layout.specs.LexemesAlike.{after_lexemes, lexeme_below, lexemes_state}
 use Rattle.yl_layout.specs.LexemesLeft.{IsVersion, findings_at_indicator, findings_waiting, lexemes_left}
 use Rattle.yl_layout.specs.Version.{is_1_2_document}

@@ -1,5 +1,5 @@
 -- What is told of rows without a fault.
-use Rattle.std.proofs.Common.{◌≡◌, ◌+◌, Bool, List, [], ◌∷◌, ◌++◌, Option, None, length, map, take, refl, sym, ◌∙◌, ap, subst, append_assoc, append-nil, arith}
+use Rattle.std.proofs.Common.{◌≡◌, ◌+◌, ◌-◌, Bool, List, [], ◌∷◌, ◌++◌, Option, None, length, map, take, refl, sym, ◌∙◌, ap, subst, append_assoc, append-nil, arith}
 use Rattle.std.proofs.lemmas.List.{take_all}
 use Rattle.yl_text.specs.Finding.{FindingValue}
 use Rattle.yl_lexeme.specs.Lexeme.{LexemeValue}

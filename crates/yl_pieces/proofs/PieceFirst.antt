@@ -1,5 +1,5 @@
 -- The index of the first lexeme of a row.
-use Rattle.std.proofs.Common.{◌≡◌, ◌<◌, ℕ, suc, Bool, true, false, cond, List, [], ◌∷◌, ◌++◌, Option, Some, None, length, refl, ◌∙◌, ap, append_assoc, arith}
+use Rattle.std.proofs.Common.{◌≡◌, ◌<◌, ◌+◌, ℕ, suc, Bool, true, false, cond, List, [], ◌∷◌, ◌++◌, Option, Some, None, length, refl, ◌∙◌, ap, append_assoc, arith}
 use Rattle.yl_marks.specs.declared.symbol.KeyedToken.{KeyedToken}
 use Rattle.yl_marks.specs.declared.symbol.Marking.{Marking}
 use Rattle.yl_marks.specs.declared.symbol.OpenBlock.{OpenBlock}

@@ -38,7 +38,7 @@ use Rattle.yl_pieces.specs.State.{DocumentState, context_from, lexemes_from_stat
 use Rattle.yl_pieces.specs.Told.{Told, ToldFault, fault_in, keys_in, spaces_in, symbols_in, told, told_by, told_fault, tokens_in, version_in}
 use Rattle.yl_pieces.specs.Piece.{GoOnFrom, HasRead, Machines, StopsAt, symbols_by, tokens_by}
 use Rattle.yl_pieces.proofs.PieceAlike.{facts_are, keys_are, left_is, symbols_are, version_is}
-use Rattle.yl_pieces.proofs.PieceJudging.{above, at_row, extra_left, facts_to, here, k, keys_above, keys_all, later_lines, later_symbols, long, rows_count, symbols_all, taken_alike, ts, whole}
+use Rattle.yl_pieces.proofs.PieceJudging.{above, at, at_row, extra_left, facts_to, here, k, keys_above, keys_all, later_lines, later_symbols, long, rows_count, symbols_all, taken_alike, ts, whole}
 use Rattle.yl_pieces.proofs.PieceLines.{indices_of_rows, row_lexemes}
 use Rattle.yl_pieces.proofs.PieceMoved.{same_symbols}
 use Rattle.yl_pieces.proofs.PieceSteps.{count_after, fails_alike, fault_there}
