@@ -29,13 +29,3 @@ pub mod EventsSteps
 pub mod EventsBelow
 pub mod EventsJoined
 pub mod EventsOfSection
-pub mod PieceLines
-pub mod PieceSteps
-pub mod PieceMoved
-pub mod PieceAlike
-pub mod PieceJudging
-pub mod PieceStops
-pub mod PieceEnds
-pub mod PieceDirectives
-pub mod PieceMore
-pub mod PieceFirst

@@ -9,6 +9,3 @@ pub mod OrderingOfRuns
 pub mod Within
 pub mod Edit
 pub mod Events
-pub mod Directives
-pub mod Fault
-pub mod Piece

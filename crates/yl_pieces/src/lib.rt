@@ -23,13 +23,3 @@ pub use of_section::section_is_told;
 pub use ordering::ordering_of_runs;
 pub use references::{anchors_are_lexemes, references_are_lexemes};
 pub use told_below::{rows_are_told_below, start_is_told_below};
-mod comments;
-mod piece;
-mod reader;
-mod rows;
-mod rules;
-mod state;
-
-pub use piece::{Piece, PieceJudge};
-pub use rows::PieceFault;
-pub use state::DocumentState;

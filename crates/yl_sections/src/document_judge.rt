@@ -164,7 +164,7 @@ fn tell<A: Allocator + Copy>(
 /// Appends the findings of the rules on lexemes in the first `count` lexemes of a row, as if no
 /// lexeme followed them. The only error is out of memory.
 #[inline(never)]
-pub fn find_before<A: Allocator + Copy>(
+fn find_before<A: Allocator + Copy>(
     options: &LexemeOptions,
     row: &RowLexemes<'_, A>,
     keys: &[KeyFacts],
@@ -217,7 +217,7 @@ fn found_in_tree<A: Allocator + Copy>(
 
 /// Returns the number of lexemes of a document that are judged: those before its fault, if it has
 /// one, else `end`.
-pub fn counted_in(fault: Option<PlacedParseFault>, end: usize) -> usize
+fn counted_in(fault: Option<PlacedParseFault>, end: usize) -> usize
     ensures { result ≡ counted_in fault end }
 {
     match fault {

@@ -18,7 +18,7 @@ const ROW: usize = 8;
 
 /// Replaces `tokens` by the lexemes of a row without their values. Keeps the capacity. The only
 /// error is out of memory.
-pub fn read_tokens<A: Allocator>(
+fn read_tokens<A: Allocator>(
     row: &RowLexemes<'_, A>,
     tokens: &mut Vec<Token, A>,
 ) -> Result<(), AllocError>

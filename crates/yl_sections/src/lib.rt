@@ -18,10 +18,7 @@ mod rules;
 mod section_judge;
 mod sections;
 
-pub use comments::{LexemeEnd, column_in, last_end};
 pub use comparing::are_same_findings;
-pub use document_judge::{counted_in, find_before};
-pub use document_reader::read_tokens;
 pub use fault::SectionFault;
 pub use front::kept_of_front;
 pub use judging::{SectionsJudge, judge_all};
@@ -30,6 +27,5 @@ pub use laws::{
     first_section, lost_rows, one_kept, sections_are_documents, sections_are_local,
     states_tell_kinds,
 };
-pub use rules::lexeme_options;
-pub use section_judge::{SectionJudge, start_of};
+pub use section_judge::SectionJudge;
 pub use sections::{is_section_start, last_kind, section_len};

@@ -1,6 +1,0 @@
-use Rattle.std.proofs.Common.{◌≡◌, drop}
-use Rattle.yl_pieces.specs.Piece.{first_index}
-use Rattle.yl_pieces.proofs.reader.first_index.Given as goal
-
-abbrev pub invariant-loop-symbol : goal.invariant-loop-symbol
-invariant-loop-symbol l = first_index (drop l.symbol-index l.symbols) ≡ first_index l.symbols
