@@ -23,6 +23,8 @@ pub mod EditTold
 pub mod WithinFindings
 pub mod WithinFacts
 pub mod Within
+pub mod PatchedLists
+pub mod ToldPatched
 pub mod EventsNamed
 pub mod EventsAlone
 pub mod EventsSteps

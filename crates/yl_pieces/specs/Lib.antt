@@ -8,4 +8,5 @@ pub mod DuplicatesOfRuns
 pub mod OrderingOfRuns
 pub mod Within
 pub mod Edit
+pub mod Patched
 pub mod Events

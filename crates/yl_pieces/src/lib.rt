@@ -11,6 +11,7 @@ mod joined;
 mod keys;
 mod of_section;
 mod ordering;
+mod patched;
 mod references;
 mod told_below;
 
@@ -21,5 +22,6 @@ pub use joined::rows_are_joined;
 pub use keys::keys_of_runs;
 pub use of_section::section_is_told;
 pub use ordering::ordering_of_runs;
+pub use patched::told_is_patched;
 pub use references::{anchors_are_lexemes, references_are_lexemes};
 pub use told_below::{rows_are_told_below, start_is_told_below};
