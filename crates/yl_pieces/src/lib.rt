@@ -1,7 +1,8 @@
-//! A run of rows of a document, judged by itself from the state before it: its laws.
+//! Laws of a document that is judged from any row on.
 //!
-//! A document is cut into pieces, runs of rows. What the rows of a piece report is determined by the
-//! state before them. Keys, anchors and aliases alone reach further: of a piece they are names.
+//! What rows report is determined by the state before them, which has no line numbers and no counts,
+//! but for the rules on keys and anchors. Of those the laws go by runs of events and by lexemes.
+//! No function here does anything.
 #![tactic(auto)]
 
 mod duplicates;
