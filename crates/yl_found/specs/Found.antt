@@ -1,5 +1,5 @@
--- Meaning: all that is found in a text, whatever comments silence and whatever its first fault hides, parted into what is shown and what is
--- not; and the text's fault.
+-- Meaning: all problems of a text, whatever comments silence and its first fault hides, split into
+-- those that are shown and those that are suppressed; and the fault of the text.
 use Rattle.std.specs.Prelude.{Bool, List, Option, slice_get}
 use Rattle.yl_text.specs.Lines.{RowValue}
 use Rattle.yl_text.specs.Store.{end_of_lines}
@@ -15,22 +15,23 @@ use Rattle.yl_parting.specs.Parts.{PartsValue, parted, with_fault}
 use Rattle.yl_parting.specs.Showing.{shows}
 use Rattle.yl_found.specs.Faultless.{faultless}
 
--- all that is found in these lines, if this is kept of their sections, but no fault
+-- all problems of a text with these lines and these summaries of its sections, except for its fault
 abbrev pub found_by : Config → List RowValue → List KeptValue → List ProblemValue
 found_by config rows ks = unsilenced_by config rows (faultless ks)
 
--- it is shown: the first line does not silence the file, the comments that are shown do not silence it, and no fault hides it
+-- the problem is shown: the first line does not silence the file, no comment that is shown silences
+-- the problem, and no fault hides it
 abbrev pub is_shown : List RowValue → List KeptValue → ProblemValue → Bool
 is_shown rows ks p = shows (disables_file (first_text rows)) (is_silenced (comments_in_sections 0 (shown ks))) (rows_kept (shown ks)) p
 
--- what is found, in two lists
+-- the problems that are shown, and those that are suppressed
 abbrev pub parts_of : Config → List RowValue → List KeptValue → PartsValue
 parts_of config rows ks = parted (is_shown rows ks) (found_by config rows ks)
 
--- the problem of the text's fault, if it has one that is told
+-- the problem of the text's fault, if the report shows one
 abbrev pub fault_told : Config → List RowValue → List KeptValue → Option ProblemValue
 fault_told config rows ks = slice_get (report_of (levels_of config) (disables_file (first_text rows)) nothing_silenced (fault_in_sections 0 (end_of_lines rows) ks)) 0
 
--- both lists, with the fault in its place
+-- both lists, with the text's fault in its place
 abbrev pub all_parts : Config → List RowValue → List KeptValue → PartsValue
 all_parts config rows ks = with_fault (fault_told config rows ks) (parts_of config rows ks)

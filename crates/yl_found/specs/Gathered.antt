@@ -6,7 +6,8 @@ use Rattle.yl_rejudge.specs.Places.{rows_kept}
 use Rattle.yl_lint.specs.TextReport.{comments_in_sections}
 use Rattle.yl_found.specs.declared.gathered.Gathered.{Gathered}
 
--- they are those of the first sections, as far as these stand before `count`; so many these are, and so many lines they have
+-- the comments are those of the first `g.section` sections, except for sections from index `count`
+-- on; these sections have `g.row` lines
 pub record IsGathered {A : Type 0} (ks : List KeptValue) (count : ℕ) (g : Gathered A) : Type 0 where
   pub within : g.section ≤ length ks
   pub row : g.row ≡ rows_kept (take g.section ks)

@@ -1,5 +1,6 @@
--- Bridge: sections whose part in a report is theirs alone: what is found in them, and the comments that silence, stand in their own lines.
--- Each section is such a one, its fault aside, whatever its rows are.
+-- Bridge: sections whose part in a report is theirs alone: their findings, and their comments that
+-- silence, are in their own lines. Each section is such a one, its fault aside, whatever its rows
+-- are.
 use Rattle.std.specs.Prelude.{◌≡◌, ◌<◌, ◌≤◌, ℕ, Bool, true, not, ◌&&◌, None}
 use Rattle.std.specs.List.{AllByRecursion}
 use Rattle.yl_text.specs.declared.finding.RuleId.{RuleId}
@@ -8,19 +9,20 @@ use Rattle.yl_report.specs.Report.{is_syntax}
 use Rattle.yl_parting.specs.Showing.{is_indentation, is_of_lines}
 use Rattle.yl_sections.specs.Kept.{KeptValue}
 
--- it stands in the first lines, counted from 1
+-- the finding is in the first `rows` lines, which count from 1
 abbrev pub IsWithin : ℕ → FindingValue → Type 0
 IsWithin rows f = (0 < f.line) × (f.line ≤ rows)
 
--- a rule on sections, which is none on lines and no fault
+-- the rule is on sections: it is not on lines, and not that of a fault
 abbrev pub is_of_section : RuleId → Bool
 is_of_section rule = not (is_of_lines rule) && not (is_syntax rule)
 
--- and not the one of which facts are kept
+-- the rule is on sections, and not the one of which the summary has facts
 abbrev pub is_kept_rule : RuleId → Bool
 is_kept_rule rule = is_of_section rule && not (is_indentation rule)
 
--- no fault; all that is found, in its own lines and by rules on sections; its facts and its comments in its own lines
+-- the section has no fault, its findings are in its own lines and by rules on sections, and its
+-- facts and its comments are in its own lines
 pub record IsPlain (k : KeptValue) : Type 0 where
   pub sound : k.fault ≡ None
   pub found : AllByRecursion (IsWithin k.rows) k.found

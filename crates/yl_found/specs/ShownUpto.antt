@@ -8,6 +8,6 @@ use Rattle.yl_sections.specs.Kept.{KeptValue}
 use Rattle.yl_rejudge.specs.Places.{rows_kept}
 use Rattle.yl_lint.specs.TextReport.{comments_in_sections, first_text, shown}
 
--- of those that are shown, the first so many
+-- the problem is shown by the comments of the first n sections, as far as these are shown
 abbrev pub is_shown_upto : ℕ → List RowValue → List KeptValue → ProblemValue → Bool
 is_shown_upto n rows ks p = shows (disables_file (first_text rows)) (is_silenced (comments_in_sections 0 (take n (shown ks)))) (rows_kept (shown ks)) p

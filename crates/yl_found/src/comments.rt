@@ -11,7 +11,8 @@ use yl_lexeme::PlacedComment;
 use yl_overview::Survey;
 use yl_sections::Kept;
 
-/// The comments of the sections from one on, before `end`, counted from 0; the first of these begins at `row`. The only error is out of memory.
+/// Returns the comments of the sections with the indices `from..end`, counted from 0. The first of
+/// these sections begins at line `row`. The only error is out of memory.
 pub fn comments_among<'a, A: Allocator + Copy>(
     alloc: A,
     sections: &Spliced<'a, Kept<A>, A>,
@@ -27,8 +28,9 @@ pub fn comments_among<'a, A: Allocator + Copy>(
     Ok(comments)
 }
 
-/// The comments of the first `count` sections. Where an overview tells that none of its sections may silence a rule, it looks at none of them. It
-/// takes no memory where none may. The only error is out of memory.
+/// Returns the comments of the first `count` sections. Skips the sections of an overview in which
+/// no section may silence a rule. Does not allocate if no section of the text may silence a rule.
+/// The only error is out of memory.
 pub fn comments_upto<'a, A: Allocator + Copy>(
     alloc: A,
     survey: &Survey<'a, A>,

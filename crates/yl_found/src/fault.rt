@@ -1,4 +1,4 @@
-//! The fault of a text, as its report tells it.
+//! The fault of a text, as its report shows it.
 ghost use Rattle.std.specs.Prelude.{◌≡◌, ◌<◌, ◌∷◌, [], Some, length, slice_get, IfOk};
 ghost use Rattle.yl_text.specs.Store.{AreLines, end_of_lines};
 ghost use Rattle.yl_sections.specs.Kept.{KeptValue};
@@ -17,7 +17,8 @@ use yl_report::{Problem, Silences, arrange, disables_file};
 use yl_sections::{Kept, SectionFault};
 use yl_text::{Finding, Lines, Pos};
 
-/// The fault of a text that ends at `end`, where this is that of the first section with one.
+/// Returns the finding of the fault of a text. `fault` is the fault of the first section that has
+/// one, and `end` is the end of the text. The only error is out of memory.
 fn finding_at<A: Allocator + Copy>(
     alloc: A,
     end: Pos,
@@ -40,7 +41,8 @@ fn finding_at<A: Allocator + Copy>(
     finding_of_fault(alloc, overview.row, rows, end, &[], fault)
 }
 
-/// The fault of the sections of these lines, if they have one.
+/// Returns the finding of the first fault of these sections, or an empty list if none has a fault.
+/// The only error is out of memory.
 fn find_fault<L: Lines>(
     alloc: L::Alloc,
     lines: &L,
@@ -63,7 +65,8 @@ fn find_fault<L: Lines>(
     Ok(found)
 }
 
-/// The fault of a text of these lines as its report tells it, if it does. The only error is out of memory.
+/// Returns the problem of the fault of a text with these lines, if its report shows one. The only
+/// error is out of memory.
 pub fn fault_of<L: Lines>(
     alloc: L::Alloc,
     config: &Config,

@@ -1,4 +1,4 @@
-//! All that is found in a text, put together.
+//! Finds all problems of a text.
 ghost use Rattle.std.specs.Prelude.{◌≡◌, ◌++◌, IfOk, OnOk};
 ghost use Rattle.yl_text.specs.Store.{AreLines};
 ghost use Rattle.yl_indentation.specs.Measures.{empty_measure, measure_of};
@@ -20,7 +20,8 @@ use yl_report::{Problem, Silences, arrange};
 use yl_sections::Kept;
 use yl_text::{Finding, Lines};
 
-/// Puts what is found in all sections, whose facts have the measure `whole`, behind the rest.
+/// Appends the findings in all sections, whose facts have the measure `whole`. The only error is
+/// out of memory.
 fn push_all<A: Allocator + Copy>(
     alloc: A,
     options: &IndentationOptions,
@@ -41,7 +42,8 @@ fn push_all<A: Allocator + Copy>(
     Ok(())
 }
 
-/// All that is found in these lines, of whose sections this is kept and whose facts have the measure `whole`; but no fault.
+/// Returns all problems of a text with these lines and sections, except for its fault. The facts of
+/// the sections have the measure `whole`. The only error is out of memory.
 fn find_all<L: Lines>(
     alloc: L::Alloc,
     config: &Config,
@@ -58,8 +60,8 @@ fn find_all<L: Lines>(
     arrange(alloc, found, config.levels(), &Silences::none(alloc))
 }
 
-/// All that is found in these lines, of whose sections this is kept: what the report shows, with the text's fault in its place, and what else is
-/// found. The only error is out of memory.
+/// Returns all problems of a text with these lines and sections: those that its report shows, with
+/// the text's fault in its place, and the suppressed ones. The only error is out of memory.
 pub fn found_problems<L: Lines>(
     alloc: L::Alloc,
     config: &Config,

@@ -1,4 +1,4 @@
-//! A walk over sections, by their overviews, that gathers comments.
+//! Gathers the comments of sections in a walk over their overviews.
 ghost use Rattle.std.specs.Prelude.{◌≡◌, ◌+◌, ◌-◌, ◌≤◌, ◌++◌, [], length, map, take, drop, OnOk};
 ghost use Rattle.yl_lexeme.specs.PlacedComments.{placed_comment_value};
 ghost use Rattle.yl_lint.specs.TextReport.{comments_in_sections};
@@ -11,15 +11,19 @@ use yl_lint::{line_below, push_comments};
 use yl_overview::Overview;
 use yl_sections::Kept;
 
-/// The comments of the first sections of a text, how many sections these are, and how many lines they have.
+/// The comments of the first sections of a text.
 #[derive(Drop)]
 pub struct Gathered<'a, A: Allocator> {
+    /// The comments, at their positions in the text.
     pub comments: Vec<PlacedComment<'a>, A>,
+    /// The number of sections that were passed.
     pub section: usize,
+    /// The number of lines of these sections.
     pub row: u32,
 }
 
-/// Puts the comments of the sections from one on, before `end`, behind the others; the first of these sections begins at `row`.
+/// Appends the comments of the sections with the indices `from..end`, counted from 0. The first of
+/// these sections begins at line `row`. The only error is out of memory.
 pub fn push_among<'a, A: Allocator + Copy>(
     sections: &Spliced<'a, Kept<A>, A>,
     from: usize,
@@ -39,8 +43,9 @@ pub fn push_among<'a, A: Allocator + Copy>(
     Ok(())
 }
 
-/// Puts the comments of some sections, as far as they stand before `count`, behind the others. The first of them is the section `at`, begins at
-/// `row`, and this is their overview.
+/// Appends the comments of the sections of an overview, except for sections from index `count` on.
+/// The first of these sections has the index `at` and begins at line `row`. The only error is out
+/// of memory.
 fn push_known<'a, A: Allocator + Copy>(
     sections: &Spliced<'a, Kept<A>, A>,
     one: Overview,
@@ -69,7 +74,7 @@ fn push_known<'a, A: Allocator + Copy>(
 impl<'a, A: Allocator + Copy> Gathered<'a, A> {
     ghost use Rattle.yl_found.specs.Gathered.{IsGathered};
 
-    /// Those of no sections.
+    /// Creates a list of no comments, before the first section. Does not allocate.
     pub fn none(alloc: A) -> Gathered<'a, A>
         ensures comments { result.comments.items ≡ [] }
         ensures section { result.section ≡ 0 }
@@ -82,7 +87,8 @@ impl<'a, A: Allocator + Copy> Gathered<'a, A> {
         }
     }
 
-    /// Goes on over the sections of one overview more. Of those from `count` on no comment is wanted.
+    /// Passes the sections of the next overview and appends their comments, except for those of
+    /// sections from index `count` on. The only error is out of memory.
     pub fn go_on(
         &mut self,
         sections: &Spliced<'a, Kept<A>, A>,

@@ -1,8 +1,9 @@
-//! All that is found in a text, whatever comments silence and its first fault hides.
+//! All problems of a text, whatever comments silence and its first fault hides.
 //!
-//! It is that of the text's lines and that of its sections, one after another, and is put into two lists: what the report shows, with the
-//! text's fault in its place, and what it does not. What is found in a section stands in that section's own lines, so the report is the
-//! first of both lists (`report_is_shown`).
+//! These are the problems in the lines of the text and those in its sections, one section after
+//! another. They are split into two lists: the problems that the report shows, with the text's
+//! fault in its place, and the suppressed ones. The findings in a section are in the lines of this
+//! section, so the first list is the report (`report_is_shown`).
 #![tactic(auto)]
 
 mod comments;

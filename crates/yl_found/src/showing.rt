@@ -1,4 +1,4 @@
-//! Which of what is found in a text is shown.
+//! Decides which problems of a text are shown.
 ghost use Rattle.std.specs.Prelude.{◌≡◌, ◌≤◌, length, take, IfOk};
 ghost use Rattle.yl_parting.specs.Showing.{is_shown_by};
 ghost use Rattle.yl_rejudge.specs.Places.{rows_kept};
@@ -17,7 +17,8 @@ use yl_report::Silences;
 use yl_sections::Kept;
 use yl_text::Lines;
 
-/// How many sections are shown, where so many stand before the first with a fault: those up to that one.
+/// Returns the number of sections that are shown: those up to and including the first one with a
+/// fault.
 fn count_shown<A: Allocator + Copy>(sections: &Spliced<'_, Kept<A>, A>, overview: Overview) -> usize
     requires { IsFirstFault sections.now overview.sound overview.row }
     ensures within { result ≤ length sections.now }
@@ -30,7 +31,7 @@ fn count_shown<A: Allocator + Copy>(sections: &Spliced<'_, Kept<A>, A>, overview
     }
 }
 
-/// How many lines these have.
+/// Returns the number of lines of the sections that are shown.
 fn rows_shown<A: Allocator + Copy>(sections: &Spliced<'_, Kept<A>, A>, overview: Overview) -> u64
     requires { IsFirstFault sections.now overview.sound overview.row }
     ensures { result ≡ rows_kept (shown sections.now) }
@@ -43,9 +44,10 @@ fn rows_shown<A: Allocator + Copy>(sections: &Spliced<'_, Kept<A>, A>, overview:
     }
 }
 
-/// Which of what is found in these lines is shown, by the comments of the first `upto` of their sections: what stands in these is shown by all
-/// comments too. It looks at no section of which an overview tells that it silences nothing, and takes no memory where none may silence a rule.
-/// The only error is out of memory.
+/// Returns what decides which problems of a text with these lines are shown, by the comments of the
+/// first `upto` sections alone. For the problems in these sections it decides the same as by all
+/// comments. Skips the sections of an overview in which no section may silence a rule. Does not
+/// allocate if no section of the text may silence a rule. The only error is out of memory.
 pub fn showing_of<L: Lines>(
     alloc: L::Alloc,
     lines: &L,

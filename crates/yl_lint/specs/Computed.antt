@@ -1,4 +1,5 @@
--- Bridge: the report of a text, computed: by what is told of its documents while the lexemes are read.
+-- Bridge: the report of a text, computed: by the outcomes of its documents while the lexemes are
+-- read.
 use Rattle.std.specs.Prelude.{List, map}
 use Rattle.yl_text.specs.Lines.{RowValue}
 use Rattle.yl_report.specs.Report.{ProblemValue}

@@ -9,6 +9,6 @@ use Rattle.yl_lint.specs.TextReport.{IsReport}
 abbrev pub HasReport : Type 0
 HasReport = (config : Config) (rows : List RowValue) → (problems : List ProblemValue) × IsReport config rows problems
 
--- no text has two
+-- no text has two reports
 abbrev pub OneReport : Type 0
 OneReport = (config : Config) (rows : List RowValue) (xs ys : List ProblemValue) → IsReport config rows xs → IsReport config rows ys → xs ≡ ys

@@ -1,4 +1,5 @@
--- Bridge: what the lines to come still bring to the report of a text, by what is kept of those that were passed.
+-- Bridge: what the lines that follow add to the report of a text, by what is kept of the lines that
+-- were read.
 use Rattle.std.specs.Prelude.{ℕ, ◌≡◌, ◌+◌, List, ◌++◌, map}
 use Rattle.yl_text.specs.Finding.{FindingValue}
 use Rattle.yl_text.specs.Lines.{RowValue}
@@ -15,20 +16,20 @@ use Rattle.yl_sections.specs.Sections.{sections}
 use Rattle.yl_lint.specs.declared.kept.SectionReader.{SectionReader}
 use Rattle.yl_lint.specs.TextReport.{findings_from}
 
--- of the lines that were passed: what the rules that look at one line found in them, and those that look at the lines of a
--- whole text
+-- what is kept of the lines that were read: the findings of the rules that look at one line, and
+-- the findings of the rules that look at the lines of a whole text
 pub record LineReaderValue : Type 0 where
   pub options : RowOptions
   pub runs : RunReaderValue
   pub found : List FindingValue
   pub found_in_runs : List FindingValue
 
--- all that the rules on lines find, if these lines follow
+-- all findings of the rules on lines, if these lines follow
 abbrev pub lines_left : LineReaderValue → List RowValue → List FindingValue
 lines_left r rows = (r.found ++ findings_from r.options (r.runs.count + 1) rows) ++ (r.found_in_runs ++ runs_left r.runs rows)
 
--- all that is kept of sections, if these rows follow, each given as its characters: where the judge was fed some records, and the recorder
--- has those after them
+-- the summaries of all sections, if these rows follow, each given as its characters: the judge has
+-- read some records, and the recorder has those after them
 pub record KeepsRest {A : Type 0} (config : Config) (recorder : RecorderValue) (judge : SectionsJudge A) (rows : List (List ℕ)) (all : List KeptValue) : Type 0 where
   pub judged : List RecordValue
   pub judges : JudgesAll config judged judge

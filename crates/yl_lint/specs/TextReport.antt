@@ -1,5 +1,6 @@
--- Meaning: the report of a text: what the rules find in its lines and in its sections, with its fault, in order and with levels. Of the
--- sections after the first with a fault nothing is shown; what the rules on lines find is never hidden.
+-- Meaning: the report of a text: the findings in its lines and in its sections, and its fault, in
+-- order and with levels. Nothing is shown of the sections after the first one with a fault. The
+-- findings of the rules on lines are never hidden.
 use Rattle.std.specs.Prelude.{◌≡◌, ℕ, ◌+◌, List, [], ◌∷◌, ◌++◌, map, codes, slice_get}
 use Rattle.std.specs.Option.{option_map_or}
 use Rattle.std.specs.List.{flat_map}
@@ -28,7 +29,8 @@ use Rattle.yl_sections.specs.Sections.{sections}
 
 -- ---- lines
 
--- what the rules that look at one line find in each of these lines, the first of which has this number
+-- the findings of the rules that look at one line, in each of these lines; the first has this
+-- number
 abbrev pub findings_from : RowOptions → ℕ → List RowValue → List FindingValue
 findings_from o line [] = []
 findings_from o line (row ∷ rows) = row_findings o line row ++ findings_from o (line + 1) rows
@@ -44,17 +46,20 @@ first_text rows = option_map_or (λ row. row.text) (slice_get rows 0) []
 abbrev pub syntax_finding : Pos → List ℕ → FindingValue
 syntax_finding p text = record { line = p.line + 1; column = p.col + 1; rule = Syntax; message = codes "syntax error: " ++ text }
 
--- where a section ends before these, which begin at this line: at the next one's first lexeme, or else at the text's end
+-- the position after a section, before these sections, which begin at this line: that of the first
+-- lexeme of the next section, or else the end of the text
 abbrev pub place_after : ℕ → Pos → List KeptValue → Pos
 place_after line end [] = end
 place_after line end (k ∷ ks) = record { line = line; col = k.first }
 
--- the fault of a section of so many rows that begins at this line, before these sections
+-- the finding of the fault of a section of `rows` rows that begins at this line and comes before
+-- these sections
 abbrev pub finding_of_fault : ℕ → ℕ → Pos → List KeptValue → SectionFaultValue → FindingValue
 finding_of_fault line rows end ks (Here p text) = syntax_finding (record p { line = line + p.line }) text
 finding_of_fault line rows end ks (Behind text) = syntax_finding (place_after (line + rows) end ks) text
 
--- the text's fault, if it has one: the first of those of its sections, of which the first begins at this line
+-- the finding of the text's fault, if it has one: the first of the faults of its sections, of which
+-- the first section begins at this line
 abbrev pub fault_in_sections : ℕ → Pos → List KeptValue → List FindingValue
 fault_in_sections line end [] = []
 fault_in_sections line end (k ∷ ks) =
@@ -62,17 +67,17 @@ fault_in_sections line end (k ∷ ks) =
 
 -- ---- what sections show
 
--- the sections up to the first with a fault
+-- the sections up to and including the first one with a fault
 abbrev pub shown : List KeptValue → List KeptValue
 shown [] = []
 shown (k ∷ ks) = k ∷ unless_fault k.fault (shown ks)
 
--- so many lines further down
+-- the finding, moved `line` lines down
 abbrev pub moved : ℕ → FindingValue → FindingValue
 moved line f = record f { line = line + f.line }
 
--- what is found in a section that begins at this line. Its indentation is judged by the measure of the facts before it and that of all
--- facts that are shown
+-- the findings in a section that begins at this line. Its indentation is judged by the measure of
+-- the facts before it and by the measure of all facts that are shown
 abbrev pub findings_in_section : IndentationOptions → Measure → ℕ → Measure → KeptValue → List FindingValue
 findings_in_section o whole line before k = map (moved line) (k.found ++ indent_problems o before whole k.facts)
 
@@ -87,14 +92,15 @@ facts_in_sections ks = flat_map (λ k. k.facts) ks
 abbrev pub moved_comment : ℕ → PlacedCommentValue → PlacedCommentValue
 moved_comment line c = record c { line = line + c.line }
 
--- the comments of sections, of which the first begins at this line
+-- the comments of sections, of which the first begins at this line, at their positions in the text
 abbrev pub comments_in_sections : ℕ → List KeptValue → List PlacedCommentValue
 comments_in_sections line [] = []
 comments_in_sections line (k ∷ ks) = map (moved_comment line) k.comments ++ comments_in_sections (line + k.rows) ks
 
 -- ---- the report
 
--- all that is found in a text that ends there, in whose lines the rules found this, and of whose sections this is kept
+-- all findings in a text that ends at `end`, from the findings of the rules on lines and the
+-- summaries of its sections
 abbrev pub found_of_kept : Config → List FindingValue → Pos → List KeptValue → List FindingValue
 found_of_kept config in_lines end ks =
     let seen = shown ks in
@@ -109,11 +115,11 @@ report_of_kept config in_lines first end ks =
 abbrev pub records_of : List RowValue → List RecordValue
 records_of rows = records (characters_in rows)
 
--- the report of these lines, if this is kept of their sections
+-- the report of these lines, from the summaries of their sections
 abbrev pub report_by : Config → List RowValue → List KeptValue → List ProblemValue
 report_by config rows ks = report_of_kept config (findings_in_lines (options_of config) rows) (first_text rows) (end_of_lines rows) ks
 
--- this is kept of these sections: their documents build these events, or have this fault
+-- these are the summaries of these sections, whose documents build events or have a fault
 abbrev pub AreKept : Config → List (List RecordValue) → List KeptValue → Type 0
 AreKept config [] [] = Unit {0}
 AreKept config (s ∷ ss) (k ∷ ks) = IsKept config s k × AreKept config ss ks
@@ -125,7 +131,7 @@ pub record IsReport (config : Config) (rows : List RowValue) (problems : List Pr
   pub are : AreKept config (sections (records_of rows)) kept
   pub put : problems ≡ report_by config rows kept
 
--- tells the report of each text under a configuration
+-- the report of each text under a configuration
 pub record Reporter (config : Config) : Type 0 where
   pub tells : List RowValue → List ProblemValue
   pub is : (rows : List RowValue) → IsReport config rows (tells rows)

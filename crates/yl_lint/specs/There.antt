@@ -1,4 +1,4 @@
--- Meaning: what is found in some lines of a text, and in the sections that have these lines.
+-- Meaning: the findings in some lines of a text, and in the sections of these lines.
 use Rattle.std.specs.Prelude.{Bool, true, List, ◌++◌}
 use Rattle.yl_text.specs.declared.finding.RuleId.{RuleId}
 use Rattle.yl_text.specs.declared.finding.RuleId.TheVariants.{NewLines, NewLineAtEndOfFile}
@@ -14,18 +14,19 @@ use Rattle.yl_lint.specs.Onward.{onward_in_sections}
 use Rattle.yl_lint.specs.TextReport.{findings_from}
 use Rattle.yl_lint.specs.declared.there.Ends.{Ends}
 
--- a rule judges such lines: one judges a text's first line and no other, one its last line and no other
+-- a rule judges lines with these ends: new-lines judges only lines that begin a text, and
+-- new-line-at-end-of-file only lines that end one
 abbrev pub judges : Ends → RuleId → Bool
 judges e NewLines = e.begins
 judges e NewLineAtEndOfFile = e.ends
 judges e _ = true
 
--- in the lines; the first is line 1
+-- the findings of the rules on lines; the first line is line 1
 abbrev pub lines_there : RuleOptions → Ends → List RowValue → List FindingValue
 lines_there o e rows =
     findings_from o.row 1 rows
     ++ (items_if e.begins (new_lines o.run.new_line rows) ++ (empty_lines o.run.empty_lines rows ++ items_if e.ends (end_of_file rows)))
 
--- in the sections too, behind facts of this measure
+-- the findings in the lines and in their sections, after facts of this measure
 abbrev pub found_there : RuleOptions → Ends → Measure → List RowValue → List KeptValue → List FindingValue
 found_there o e before rows ks = lines_there o e rows ++ onward_in_sections o.indentation 0 before ks

@@ -74,7 +74,8 @@ pub fn push_section<A: Allocator + Copy>(
     push_indentation(alloc, options, whole, line, before, kept, found)
 }
 
-/// Appends the findings in these sections. The first one begins at line 0.
+/// Appends the findings in these sections. The first one begins at line 0. `whole` is the measure
+/// of all facts that are shown. The only error is out of memory.
 fn push_sections<A: Allocator + Copy>(
     alloc: A,
     options: &IndentationOptions,
@@ -95,7 +96,8 @@ fn push_sections<A: Allocator + Copy>(
 }
 
 /// Returns all findings in a text. `found` holds the findings of the rules on lines, `end` is the
-/// end of the text, and `kept` holds the summaries of its sections, in order.
+/// end of the text, and `kept` holds the summaries of its sections, in order. The only error is out
+/// of memory.
 fn found_of_kept<A: Allocator + Copy>(
     alloc: A,
     config: &Config,

@@ -8,7 +8,8 @@ use std::alloc::{AllocError, Allocator};
 use yl_lexeme::PlacedComment;
 use yl_sections::{Kept, KeptComment};
 
-/// Returns a comment of a section that begins at `line`, moved to its position in the text.
+/// Returns a comment of a section that begins at `line`, moved to its position in the text. Returns
+/// `AllocError` if the number of its line does not fit in 32 bits.
 fn moved_comment<A: Allocator>(
     line: u32,
     comment: &KeptComment<A>,

@@ -8,6 +8,7 @@ use std::alloc::{AllocError, Allocator};
 use yl_sections::{Kept, SectionFault};
 use yl_text::{Finding, Pos, RuleId};
 
+/// Returns the finding of a fault at this position. The only error is out of memory.
 fn syntax_finding<A: Allocator + Copy>(
     alloc: A,
     place: Pos,

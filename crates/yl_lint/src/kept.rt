@@ -15,7 +15,7 @@ use yl_lexeme::Meter;
 use yl_record::{Record, Recorder};
 use yl_sections::{Kept, SectionsJudge};
 
-/// The minimum number of records that are judged at once.
+/// The number of complete records from which on they are judged and released together.
 const ROOM: usize = 64;
 
 /// Returns references to the items. The only error is out of memory.
@@ -30,7 +30,7 @@ pub fn lent<T, A: Allocator>(alloc: A, items: &[T]) -> Result<Vec<&T, A>, AllocE
     Ok(all)
 }
 
-/// Judges the next rows.
+/// Judges the next rows. The only error is out of memory.
 fn judge_rows<A: Allocator + Copy>(
     config: &Config,
     rows: &[Record<A>],
@@ -46,7 +46,8 @@ fn judge_rows<A: Allocator + Copy>(
     Ok(())
 }
 
-/// Judges the complete records and releases them, if there are at least `ROOM` of them.
+/// Judges the complete records and releases them, if there are at least `ROOM` of them. The only
+/// error is out of memory.
 fn judge_complete<A: Allocator + Copy>(
     config: &Config,
     recorder: &mut Recorder<'_, A>,

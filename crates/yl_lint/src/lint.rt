@@ -39,8 +39,8 @@ fn report_of_read<A: Allocator + Copy>(
 }
 
 /// Returns the report of a text under a configuration, in order. Reads the text line by line. Keeps
-/// of each line only its findings, its part in the summary of its section, and the names of keys
-/// and anchors that are looked up again. The only error is out of memory.
+/// of each line that was judged only its findings, its part in the summary of its section, and the
+/// names of keys and anchors that are looked up again. The only error is out of memory.
 pub fn report_of_text<A: Allocator + Copy>(
     alloc: A,
     config: &Config,

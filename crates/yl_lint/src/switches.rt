@@ -33,6 +33,7 @@ fn own_line(comment: &PlacedComment<'_>) -> u64
     }
 }
 
+/// Returns `true` only if a comment may switch rules or silences one of the first `rows` lines.
 fn speaks_within(comment: &PlacedComment<'_>, rows: u32) -> bool
     ensures { result ≡ true → SpeaksWithin rows (placed_comment_value comment.now) }
 {
@@ -59,6 +60,7 @@ pub fn retain_switches<A: Allocator>(comments: &mut Vec<PlacedComment<'_>, A>)
     comments.retain(|comment| may_switch(comment));
 }
 
+/// Returns `true` only if two comments have the same text.
 fn is_same_text(one: &PlacedComment<'_>, other: &PlacedComment<'_>) -> bool
     ensures { result ≡ true → (placed_comment_value one.now).text ≡ (placed_comment_value other.now).text }
 {

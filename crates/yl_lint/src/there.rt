@@ -26,7 +26,8 @@ pub struct Ends {
 }
 
 /// Appends the findings in a section that begins at `line`. Its indentation is judged by the facts
-/// before it, which have the measure `before`, and by its own facts.
+/// before it, which have the measure `before`, and by its own facts. The only error is out of
+/// memory.
 fn push_onward<A: Allocator + Copy>(
     alloc: A,
     options: &IndentationOptions,
@@ -43,7 +44,8 @@ fn push_onward<A: Allocator + Copy>(
 }
 
 /// Appends the findings in these sections, also after a fault. The first section begins at line
-/// `down` of the text, and the facts before it have the measure `before`.
+/// `down` of the text, and the facts before it have the measure `before`. The only error is out of
+/// memory.
 fn push_sections<A: Allocator + Copy>(
     alloc: A,
     options: &IndentationOptions,
@@ -77,7 +79,8 @@ fn judges(ends: Ends, rule: RuleId) -> bool
     }
 }
 
-/// Returns the findings of the rules on lines in these lines of a text.
+/// Returns the findings of the rules on lines in these lines of a text. The only error is out of
+/// memory.
 fn find_in_some_lines<L: Lines>(
     alloc: L::Alloc,
     config: &Config,
@@ -92,7 +95,7 @@ fn find_in_some_lines<L: Lines>(
 }
 
 /// Returns the findings of the rules on lines in these lines of a text, each moved `down` lines
-/// down.
+/// down. The only error is out of memory.
 fn find_in_lines_there<L: Lines>(
     alloc: L::Alloc,
     config: &Config,

@@ -73,9 +73,10 @@ fn is_inner(a: usize, b: usize, count: usize, lines: usize) -> bool
     b - a == count && 0 < a && b < lines
 }
 
-/// Returns `true` only if the edit leaves the findings of the rules on lines as they are: it
-/// replaces lines by as many lines, each with the same findings as the line it replaces. `false`
-/// implies nothing. The only error is out of memory.
+/// Returns `true` only if the edit leaves the findings of the rules on lines, the first line and
+/// the end of the text as they are: it replaces lines by as many lines, each with the same findings
+/// as the line it replaces, and not the first line or the last. `false` implies nothing. The only
+/// error is out of memory.
 pub fn reads_alike<S: LineStore>(
     alloc: S::Alloc,
     config: &Config,

@@ -8,8 +8,8 @@ use Rattle.yl_overview.specs.declared.edit.Nearby.{Nearby}
 use Rattle.yl_overview.specs.declared.edit.SectionEdit.{SectionEdit}
 use Rattle.yl_overview.specs.declared.overview.Overview.{Overview}
 
--- the borders stand above the edit that puts others in place of the sections from one on, before another, and below it; and this is known of
--- the sections between them and the edit
+-- the two borders are at or before the sections `from..end` that an edit replaces, and at or after
+-- them; `above` and `below` are the overviews of the sections between the borders and the edit
 pub record IsNearby (ks : List KeptValue) (os : List Overview) (from end : ℕ) (n : Nearby) : Type 0 where
   pub start : IsBorder ks os n.start.sections n.start.overviews
   pub stop : IsBorder ks os n.stop.sections n.stop.overviews
@@ -18,7 +18,8 @@ pub record IsNearby (ks : List KeptValue) (os : List Overview) (from end : ℕ) 
   pub above : IsOverviewOf (take (from - n.start.sections) (drop n.start.sections ks)) n.above
   pub below : IsOverviewOf (take (n.stop.sections - end) (drop end ks)) n.below
 
--- what it says of the sections above, of those that go, of those that come and of those below is so
+-- the edit has the overviews of the sections above, of those that are removed, of those that are
+-- inserted, and of those below
 pub record IsSectionEdit {A : Type 0} (e : SectionEdit A) : Type 0 where
   pub range : IsRange e.from e.end (length e.sections.now.items)
   pub few : AreFew e.sections.now.items
@@ -30,10 +31,10 @@ pub record IsSectionEdit {A : Type 0} (e : SectionEdit A) : Type 0 where
   pub come : IsOverviewOf e.kept.now e.come
   pub below : IsOverviewOf (drop e.end e.sections.now.items) e.below
 
--- all sections after it
+-- all sections after the edit
 abbrev pub sections_after : {A : Type 0} → SectionEdit A → List KeptValue
 sections_after e = splice e.sections.now.items e.from e.end e.kept.now
 
--- how many of them stand before the border below
+-- the number of sections before the lower border, after the edit
 abbrev pub sections_upto : {A : Type 0} → SectionEdit A → ℕ
 sections_upto e = e.near.stop.sections - e.end + e.from + length e.kept.now

@@ -1,5 +1,5 @@
--- Bridge: what is known of sections that stand one after another: where the first with a fault stands, the measure of their facts, and which
--- of them may silence rules.
+-- Bridge: what is known of consecutive sections: where the first one with a fault is, the measure
+-- of their facts, and which of them may silence rules.
 use Rattle.std.specs.Prelude.{◌≡◌, ◌<◌, ◌≤◌, ◌^◌, ℕ, Bool, true, length, take, drop, slice_get, is_some, List, [], ◌∷◌, Some, None}
 use Rattle.std.specs.List.{AllByRecursion, list_any}
 use Rattle.yl_indentation.specs.Measures.{measure_of}
@@ -16,43 +16,44 @@ has_fault ks = list_any (λ k. is_some k.fault) ks
 abbrev pub IsSound : KeptValue → Type 0
 IsSound k = k.fault ≡ None
 
--- the first so many sections have no fault
+-- the first n sections have no fault
 pub record IsSoundUpto (ks : List KeptValue) (n : ℕ) : Type 0 where
   pub within : n ≤ length ks
   pub sound : AllByRecursion IsSound (take n ks)
 
--- the section at a place has a fault, if it is there
+-- the section at the index n has a fault, if there is one at this index
 abbrev pub IsFaulty : List KeptValue → ℕ → Type 0
 IsFaulty ks n = (k : KeptValue) → slice_get ks n ≡ Some k → is_some k.fault ≡ true
 
--- so many sections stand before the first with a fault, all where none has one, and they have so many lines
+-- `sound` sections are before the first one with a fault, or all are if none has a fault; they have
+-- `row` lines
 pub record IsFirstFault (ks : List KeptValue) (sound row : ℕ) : Type 0 where
   pub upto : IsSoundUpto ks sound
   pub next : IsFaulty ks sound
   pub rows : row ≡ rows_kept (take sound ks)
 
--- no comment of it may silence a rule
+-- the section has no comment that may silence a rule
 abbrev pub IsSilent : KeptValue → Type 0
 IsSilent k = k.comments ≡ []
 
--- the sections before one are silent, and have so many lines
+-- the first `from` sections are silent and have `row` lines
 pub record IsStart (ks : List KeptValue) (from row : ℕ) : Type 0 where
   pub within : from ≤ length ks
   pub silent : AllByRecursion IsSilent (take from ks)
   pub rows : row ≡ rows_kept (take from ks)
 
--- each section that is not silent is among those that it names
+-- each section that is not silent has an index from `from` on, before `end`
 pub record IsSilencingOf (ks : List KeptValue) (s : Silencing) : Type 0 where
   pub start : IsStart ks s.from s.row
   pub within : s.end ≤ length ks
   pub behind : AllByRecursion IsSilent (drop s.end ks)
 
--- sections, and lines of them, that can be counted
+-- the sections and their lines are few enough to be counted
 pub record AreFew (ks : List KeptValue) : Type 0 where
   pub sections : length ks < 2 ^ 63
   pub rows : rows_kept ks < 2 ^ 32
 
--- what is known of sections
+-- the overview of sections
 pub record IsOverviewOf (ks : List KeptValue) (o : Overview) : Type 0 where
   pub sections : o.sections ≡ length ks
   pub rows : o.rows ≡ rows_kept ks
@@ -60,12 +61,13 @@ pub record IsOverviewOf (ks : List KeptValue) (o : Overview) : Type 0 where
   pub whole : o.whole ≡ measure_of (facts_in_sections ks)
   pub silencing : IsSilencingOf ks o.silencing
 
--- what is known of some sections each, that make all of them
+-- the overviews of some sections each, which together are all of these sections
 abbrev pub AreOverviews : List KeptValue → List Overview → Type 0
 AreOverviews ks [] = ks ≡ []
 AreOverviews ks (o ∷ os) = IsOverviewOf (take o.sections ks) o × AreOverviews (drop o.sections ks) os
 
--- so many sections stand before a border between overviews, and these are theirs
+-- a border between overviews: `sections` sections are before it, and the first `overviews`
+-- overviews are theirs
 pub record IsBorder (ks : List KeptValue) (os : List Overview) (sections overviews : ℕ) : Type 0 where
   pub within : sections ≤ length ks
   pub count : overviews ≤ length os

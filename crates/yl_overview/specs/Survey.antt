@@ -1,9 +1,9 @@
--- Bridge: sections with overviews of some each.
+-- Bridge: sections, with overviews of some each.
 use Rattle.std.specs.Prelude.{◌∷◌, ◌++◌}
 use Rattle.yl_overview.specs.Overview.{AreFew, AreOverviews, IsOverviewOf}
 use Rattle.yl_overview.specs.declared.survey.Survey.{Survey}
 
--- what it says of its sections is so
+-- what the survey says of its sections is so
 pub record IsSurvey {A : Type 0} (s : Survey A) : Type 0 where
   pub few : AreFew s.sections
   pub all : IsOverviewOf s.sections s.all

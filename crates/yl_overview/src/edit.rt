@@ -9,12 +9,17 @@ use std::alloc::{AllocError, Allocator};
 use yl_chunks::{Chunks, Spliced};
 use yl_sections::Kept;
 
-/// The borders between overviews above an edit of sections and below it, and what is known of the sections between them and the edit.
+/// The borders between overviews above and below an edit of sections, and the overviews of the
+/// sections between them and the edit.
 #[derive(Clone, Copy)]
 pub struct Nearby {
+    /// The last border at or before the first section that the edit replaces.
     pub start: Border,
+    /// A border at or after the last section that the edit replaces.
     pub stop: Border,
+    /// The overview of the sections between `start` and the edit.
     pub above: Overview,
+    /// The overview of the sections between the edit and `stop`.
     pub below: Overview,
 }
 
@@ -25,7 +30,8 @@ impl Nearby {
     ghost use Rattle.yl_overview.specs.Overview.{AreFew, AreOverviews, IsOverviewOf};
     ghost use Rattle.yl_overview.specs.Edit.{IsNearby};
 
-    /// What is near the edit that puts others in place of the sections from one on, before `end`.
+    /// Returns the borders around an edit that replaces the sections with the indices `from..end`,
+    /// counted from 0, and the overviews of the sections between them and the edit.
     fn new<A: Allocator + Copy>(
         sections: &Chunks<Kept<A>, A>,
         overviews: &[Overview],
@@ -47,7 +53,7 @@ impl Nearby {
         }
     }
 
-    /// The overview of all sections above the edit.
+    /// Returns the overview of all sections above the edit.
     fn all_above(self, overviews: &[Overview]) -> Overview
         requires { self.start.overviews ≤ length overviews.now }
         ensures { (ks : List KeptValue) (from end : ℕ) → AreFew ks → from ≤ length ks → IsNearby ks overviews.now from end self → IsOverviewOf (take from ks) result }
@@ -55,7 +61,7 @@ impl Nearby {
         all_of(&overviews[..self.start.overviews]).and_later(self.above)
     }
 
-    /// The overview of all sections below it.
+    /// Returns the overview of all sections below the edit.
     fn all_below(self, overviews: &[Overview]) -> Overview
         requires { self.stop.overviews ≤ length overviews.now }
         ensures { (ks : List KeptValue) (from end : ℕ) → AreFew ks → IsNearby ks overviews.now from end self → IsOverviewOf (drop end ks) result }
@@ -65,24 +71,33 @@ impl Nearby {
     }
 }
 
-/// An edit of sections: what is kept of those from one on, before `end`, becomes this; sections are counted from 0. `overviews` are those of
-/// all sections before it, one after another, and `near` tells which of them it touches. With it goes what is known of the sections above, of
-/// those that go, of those that come in their place, and of those below.
+/// An edit of sections: the summaries of some sections are replaced by others. It holds the
+/// overviews of the sections that it removes, inserts and leaves as they are.
 #[derive(Drop)]
 pub struct SectionEdit<'a, A: Allocator> {
+    /// The summaries of all sections before the edit.
     pub sections: &'a Chunks<Kept<A>, A>,
+    /// The overviews of these sections, one after another.
     pub overviews: &'a [Overview],
+    /// The index of the first section that is replaced, counted from 0.
     pub from: usize,
+    /// The index after that of the last section that is replaced, counted from 0.
     pub end: usize,
+    /// The summaries of the sections that replace them.
     pub kept: &'a [Kept<A>],
+    /// The borders between overviews around the edit.
     pub near: Nearby,
+    /// The overview of the sections above.
     pub above: Overview,
+    /// The overview of the sections that are removed.
     pub gone: Overview,
+    /// The overview of the sections that are inserted.
     pub come: Overview,
+    /// The overview of the sections below.
     pub below: Overview,
 }
 
-/// Puts these behind the others.
+/// Appends these overviews. The only error is out of memory.
 fn push_copies<A: Allocator>(
     some: &[Overview],
     overviews: &mut Vec<Overview, A>,
@@ -103,7 +118,8 @@ impl<'a, A: Allocator + Copy> SectionEdit<'a, A> {
     ghost use Rattle.yl_overview.specs.Edit.{IsSectionEdit, sections_after, sections_upto};
     ghost use Rattle.yl_overview.specs.Survey.{IsSurvey};
 
-    /// The edit by which this is kept in place of the sections from one on, before `end`.
+    /// Creates the edit that puts `kept` in place of the sections with the indices `from..end`,
+    /// counted from 0. `overviews` are those of all sections.
     pub fn new(
         sections: &'a Chunks<Kept<A>, A>,
         overviews: &'a [Overview],
@@ -136,7 +152,7 @@ impl<'a, A: Allocator + Copy> SectionEdit<'a, A> {
         }
     }
 
-    /// What is known of all sections before the edit.
+    /// Returns the overview of all sections before the edit.
     pub fn before(&self) -> Overview
         requires { IsSectionEdit self.now }
         ensures { IsOverviewOf self.now.sections.now.items result }
@@ -144,7 +160,7 @@ impl<'a, A: Allocator + Copy> SectionEdit<'a, A> {
         self.above.and_later(self.gone).and_later(self.below)
     }
 
-    /// What is known of all sections after it.
+    /// Returns the overview of all sections after the edit.
     fn after(&self) -> Overview
         requires { IsSectionEdit self.now }
         ensures { IsOverviewOf (splice self.now.sections.now.items self.now.from self.now.end self.now.kept.now) result }
@@ -152,7 +168,7 @@ impl<'a, A: Allocator + Copy> SectionEdit<'a, A> {
         self.above.and_later(self.come).and_later(self.below)
     }
 
-    /// All sections after it.
+    /// Returns a view of the summaries of all sections after the edit.
     pub fn spliced(&self) -> Spliced<'a, Kept<A>, A>
         requires { IsSectionEdit self.now }
         ensures { result ≡ splice self.now.sections.now.items self.now.from self.now.end self.now.kept.now }
@@ -160,7 +176,7 @@ impl<'a, A: Allocator + Copy> SectionEdit<'a, A> {
         Spliced::new(self.sections, self.from, self.end, self.kept)
     }
 
-    /// What is known of the sections between the borders, as the edit leaves them.
+    /// Returns the overview of the sections between the two borders, after the edit.
     fn between(&self) -> Overview
         requires { IsSectionEdit self.now }
         ensures { IsOverviewOf (take (sections_upto self.now - self.now.near.start.sections) (drop self.now.near.start.sections (sections_after self.now))) result }
@@ -169,7 +185,7 @@ impl<'a, A: Allocator + Copy> SectionEdit<'a, A> {
         near.above.and_later(self.come).and_later(near.below)
     }
 
-    /// All sections after it, and what is known of them.
+    /// Returns all sections after the edit, and what is known of them.
     pub fn survey(&self) -> Survey<'a, A>
         requires { IsSectionEdit self.now }
         ensures survey { IsSurvey result }
@@ -185,7 +201,8 @@ impl<'a, A: Allocator + Copy> SectionEdit<'a, A> {
         }
     }
 
-    /// Puts overviews of the sections between the borders behind those of the sections above, as the edit leaves them.
+    /// Appends overviews of the sections between the two borders, after the edit, to those of the
+    /// sections above. The only error is out of memory.
     fn push_near(&self, after: &mut Vec<Overview, A>) -> Result<(), AllocError>
         requires edit { IsSectionEdit self.now }
         requires above { AreOverviews (take self.now.near.start.sections (sections_after self.now)) after.old.items }
@@ -201,7 +218,7 @@ impl<'a, A: Allocator + Copy> SectionEdit<'a, A> {
         push_overviews(&self.spliced(), near.start.sections, until, after)
     }
 
-    /// Overviews of all sections after it.
+    /// Returns overviews of all sections after the edit. The only error is out of memory.
     pub fn overviews_after(&self, alloc: A) -> Result<Vec<Overview, A>, AllocError>
         requires { IsSectionEdit self.now }
         ensures { IfOk result (λ v. AreOverviews (splice self.now.sections.now.items self.now.from self.now.end self.now.kept.now) v.items) }

@@ -1,8 +1,10 @@
 //! What is known of the sections of a text without a walk over them.
 //!
-//! An overview tells of sections that stand one after another how many lines they have, where the first with a fault stands, how their
-//! facts are indented, and which of them may silence rules. That of some and that of those behind them give that of all. So a text keeps one
-//! for some sections each, and an edit makes anew those of the sections that it touches.
+//! An overview says of consecutive sections how many lines they have, where the first one with a
+//! fault is, the measure of their indentation facts, and which of them may silence rules. The
+//! overview of some sections and that of the sections after them give the overview of all. So a
+//! text keeps an overview of every 32 sections or so, and an edit makes again only those around the
+//! sections that it touches.
 #![tactic(auto)]
 
 mod edit;

@@ -1,4 +1,4 @@
-//! What is known of sections that stand one after another.
+//! What is known of consecutive sections.
 ghost use Rattle.std.specs.Prelude.{◌≡◌, ◌++◌, ◌∷◌, [], List, length, true, false, is_some};
 ghost use Rattle.std.specs.List.{AllByRecursion};
 ghost use Rattle.yl_sections.specs.Kept.{KeptValue};
@@ -7,28 +7,38 @@ use std::alloc::Allocator;
 use yl_indentation::Measure;
 use yl_sections::Kept;
 
-/// Which of some sections may silence rules, counted from 0: some of those from `from` on, before `end`; `row` lines stand before the first of
-/// these. None may where `end` is 0.
+/// Which of some sections may silence rules. Each section with a comment that may do so has an
+/// index in `from..end`.
 #[derive(Clone, Copy)]
 pub struct Silencing {
+    /// The index of the first of these sections, counted from 0.
     pub from: usize,
+    /// The number of lines of the sections before them.
     pub row: u32,
+    /// The index after that of the last of these sections, counted from 0. It is 0 if no section
+    /// may silence a rule.
     pub end: usize,
 }
 
-/// What is known of sections that stand one after another: how many they are, and how many lines they have; how many stand before the first
-/// with a fault, all where none has one, and how many lines these have; the measure of the facts of all; and which of them may silence rules.
+/// What is known of consecutive sections.
 #[derive(Clone, Copy)]
 pub struct Overview {
+    /// The number of sections.
     pub sections: usize,
+    /// The number of their lines.
     pub rows: u32,
+    /// The number of sections before the first one with a fault, or of all sections if none has a
+    /// fault.
     pub sound: usize,
+    /// The number of lines of the first `sound` sections.
     pub row: u32,
+    /// The measure of the indentation facts of all sections.
     pub whole: Measure,
+    /// The sections that may silence rules.
     pub silencing: Silencing,
 }
 
-/// Whether a section has a fault.
+/// Returns `true` if the section has a fault.
 fn is_faulty<A: Allocator>(kept: &Kept<A>) -> bool
     ensures { result ≡ is_some kept.now.fault }
 {
@@ -38,7 +48,7 @@ fn is_faulty<A: Allocator>(kept: &Kept<A>) -> bool
     }
 }
 
-/// Whether a section has no fault and may silence no rule.
+/// Returns `true` only if the section has no fault and no comment that may silence rules.
 fn is_quiet<A: Allocator>(kept: &Kept<A>) -> bool
     ensures fault { result ≡ true → is_some kept.now.fault ≡ false }
     ensures comments { result ≡ true → length kept.now.comments ≡ 0 }
@@ -53,7 +63,7 @@ impl Overview {
     ghost use Rattle.std.specs.Prelude.{◌≡◌, ◌++◌, ◌∷◌, [], List, true, length};
     ghost use Rattle.yl_overview.specs.Overview.{AreFew, IsFirstFault, IsOverviewOf, IsSilencingOf, IsSilent, has_fault};
 
-    /// The overview of no sections.
+    /// Returns the overview of no sections.
     pub fn empty() -> Overview
         ensures { IsOverviewOf [] result }
     {
@@ -71,7 +81,7 @@ impl Overview {
         }
     }
 
-    /// The overview of one section.
+    /// Returns the overview of one section.
     pub fn of<A: Allocator>(kept: &Kept<A>) -> Overview
         ensures { IsOverviewOf (kept.now ∷ []) result }
     {
@@ -92,7 +102,8 @@ impl Overview {
         }
     }
 
-    /// How many of these sections and of those behind them stand before the first with a fault, and how many lines these have.
+    /// Returns the number of sections before the first one with a fault, among these and the later
+    /// ones, and the number of lines of these sections.
     fn first_fault(self, later: Overview) -> (usize, u32)
         ensures { (ks ls : List KeptValue) → AreFew (ks ++ ls) → IsOverviewOf ks self → IsOverviewOf ls later → IsFirstFault (ks ++ ls) result.0 result.1 }
     {
@@ -105,7 +116,7 @@ impl Overview {
         )
     }
 
-    /// Which of these sections and of those behind them may silence rules.
+    /// Returns which of these sections and of the later ones may silence rules.
     fn silencing_with(self, later: Overview) -> Silencing
         ensures { (ks ls : List KeptValue) → AreFew (ks ++ ls) → IsOverviewOf ks self → IsOverviewOf ls later → IsSilencingOf (ks ++ ls) result }
     {
@@ -127,7 +138,8 @@ impl Overview {
         }
     }
 
-    /// The overview of these sections and of those behind them, where they are not too many to be counted.
+    /// Returns the overview of these sections and of the later ones, if they are fewer than 2^63
+    /// sections with fewer than 2^32 lines.
     pub fn and_later(self, later: Overview) -> Overview
         ensures { (ks ls : List KeptValue) → AreFew (ks ++ ls) → IsOverviewOf ks self → IsOverviewOf ls later → IsOverviewOf (ks ++ ls) result }
     {
@@ -142,8 +154,9 @@ impl Overview {
         }
     }
 
-    /// Counts one section more, which stands behind these, where they are not too many to be counted. Most have no fault and may silence
-    /// nothing.
+    /// Adds one section after these, if they are then fewer than 2^63 sections with fewer than 2^32
+    /// lines. Takes a shorter way for a section without a fault and without a comment that may
+    /// silence rules, as most are.
     pub fn count<A: Allocator>(&mut self, kept: &Kept<A>)
         ensures { (ks : List KeptValue) → AreFew (ks ++ kept.now ∷ []) → IsOverviewOf ks self.old → IsOverviewOf (ks ++ kept.now ∷ []) self.new }
     {
@@ -158,14 +171,14 @@ impl Overview {
         self.whole = self.whole.and_later(kept.measure());
     }
 
-    /// Whether one of them has a fault, which hides what stands behind.
+    /// Returns `true` if one of the sections has a fault.
     pub fn has_fault(self) -> bool
         ensures { (ks : List KeptValue) → IsOverviewOf ks self → result ≡ has_fault ks }
     {
         self.sound < self.sections
     }
 
-    /// Whether none of them may silence a rule.
+    /// Returns `true` only if none of the sections may silence a rule.
     pub fn is_silent(self) -> bool
         ensures { (ks : List KeptValue) → IsOverviewOf ks self → result ≡ true → AllByRecursion IsSilent ks }
     {

@@ -1,4 +1,4 @@
-//! Overviews of some sections each, which make all sections of a text.
+//! Overviews of some sections each, which together are all sections of a text.
 ghost use Rattle.std.specs.Prelude.{◌≡◌, ◌-◌, ◌≤◌, ◌++◌, List, length, take, drop, IfOk, OnOk};
 ghost use Rattle.yl_text.specs.Store.{IsRange};
 ghost use Rattle.yl_sections.specs.Kept.{KeptValue};
@@ -12,11 +12,13 @@ use yl_chunks::{Chunks, Spliced};
 use yl_rejudge::Place;
 use yl_sections::Kept;
 
-/// An overview is of so many sections where it is made, or of fewer than twice as many. Where an edit leaves less than half as many of
-/// them, it is made with those behind it.
+/// The number of sections of a new overview. The last of those that are made together is of all
+/// sections that are left, fewer than twice as many. An edit makes overviews again from the border
+/// above it down to a border that is at least half as many sections below that one, if there is
+/// such a border.
 pub const USUAL: usize = 32;
 
-/// The overview of all sections of which these are overviews.
+/// Returns the overview of all sections of which these are the overviews.
 pub fn all_of(overviews: &[Overview]) -> Overview
     ensures { (ks : List KeptValue) → AreFew ks → AreOverviews ks overviews.now → IsOverviewOf ks result }
 {
@@ -27,7 +29,8 @@ pub fn all_of(overviews: &[Overview]) -> Overview
     all
 }
 
-/// Puts overviews of the sections from one on, before `end`, behind those of the sections before them.
+/// Appends overviews of the sections with the indices `from..end` to those of the sections before
+/// them. The only error is out of memory.
 pub fn push_overviews<A: Allocator + Copy>(
     sections: &Spliced<'_, Kept<A>, A>,
     from: usize,
@@ -52,7 +55,7 @@ pub fn push_overviews<A: Allocator + Copy>(
     Ok(())
 }
 
-/// Overviews of all sections.
+/// Returns overviews of all sections, one after another. The only error is out of memory.
 pub fn overviews_of<A: Allocator + Copy>(
     alloc: A,
     kept: &Chunks<Kept<A>, A>,
@@ -66,7 +69,9 @@ pub fn overviews_of<A: Allocator + Copy>(
     Ok(overviews)
 }
 
-/// The first section of the last overview that begins at or before a row, and its row.
+/// Returns the first section of the last overview that begins at or before row `row`, and the first
+/// row of this section. Returns the end of all sections if they are all before this row. Rows count
+/// from 0.
 pub fn nearest<A: Allocator>(kept: &Chunks<Kept<A>, A>, overviews: &[Overview], row: usize) -> Place
     requires few { AreFew kept.now.items }
     requires overviews { AreOverviews kept.now.items overviews.now }
@@ -88,14 +93,16 @@ pub fn nearest<A: Allocator>(kept: &Chunks<Kept<A>, A>, overviews: &[Overview], 
     best
 }
 
-/// A border between overviews: how many sections stand before it, and how many overviews.
+/// A border between overviews.
 #[derive(Clone, Copy)]
 pub struct Border {
+    /// The number of sections before the border.
     pub sections: usize,
+    /// The number of overviews before the border.
     pub overviews: usize,
 }
 
-/// The last border between overviews at or before a section.
+/// Returns the last border between overviews at or before section `from`, counted from 0.
 pub fn border_upto<A: Allocator>(
     kept: &Chunks<Kept<A>, A>,
     overviews: &[Overview],
@@ -124,7 +131,8 @@ pub fn border_upto<A: Allocator>(
     }
 }
 
-/// The first border between overviews, from one on, at or behind a section and far enough behind the first.
+/// Returns the first border between overviews at or after section `end` that has at least half of
+/// `USUAL` sections between `start` and it, or the border after all sections if there is none.
 pub fn border_behind<A: Allocator>(
     kept: &Chunks<Kept<A>, A>,
     overviews: &[Overview],

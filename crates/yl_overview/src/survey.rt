@@ -6,14 +6,18 @@ use std::alloc::Allocator;
 use yl_chunks::{Chunks, Spliced};
 use yl_sections::Kept;
 
-/// Sections that stand one after another, and what is known of them: overviews of some each, those of the first ones, one of some behind these
-/// and those of the others, and the overview of all.
+/// Consecutive sections, and what is known of them.
 #[derive(Drop)]
 pub struct Survey<'a, A: Allocator> {
+    /// The summaries of the sections.
     pub sections: Spliced<'a, Kept<A>, A>,
+    /// The overviews of the first sections, one after another.
     pub above: &'a [Overview],
+    /// The overview of the sections after these.
     pub near: Overview,
+    /// The overviews of the sections after these, one after another.
     pub below: &'a [Overview],
+    /// The overview of all sections.
     pub all: Overview,
 }
 
@@ -22,7 +26,7 @@ impl<'a, A: Allocator + Copy> Survey<'a, A> {
     ghost use Rattle.yl_overview.specs.Overview.{AreFew, AreOverviews};
     ghost use Rattle.yl_overview.specs.Survey.{IsSurvey};
 
-    /// What is known of sections of which these are overviews.
+    /// Creates a survey of sections of which these are the overviews.
     pub fn new(sections: &'a Chunks<Kept<A>, A>, overviews: &'a [Overview]) -> Survey<'a, A>
         requires few { AreFew sections.now.items }
         requires overviews { AreOverviews sections.now.items overviews.now }

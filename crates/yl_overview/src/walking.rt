@@ -8,7 +8,7 @@ use std::alloc::Allocator;
 use yl_chunks::{Chunks, Spliced};
 use yl_sections::Kept;
 
-/// The overview of these sections.
+/// Returns the overview of these sections.
 pub fn overview_of<A: Allocator>(kept: &[Kept<A>]) -> Overview
     requires { AreFew kept.now }
     ensures { IsOverviewOf kept.now result }
@@ -20,7 +20,8 @@ pub fn overview_of<A: Allocator>(kept: &[Kept<A>]) -> Overview
     overview
 }
 
-/// The overview of the sections from one on, before `end`, a chunk of them at a time.
+/// Returns the overview of the sections with the indices `from..end`, counted from 0. Takes a chunk
+/// of them at a time.
 pub fn overview_within<A: Allocator + Copy>(
     kept: &Chunks<Kept<A>, A>,
     from: usize,
@@ -41,7 +42,8 @@ pub fn overview_within<A: Allocator + Copy>(
     overview
 }
 
-/// The same where some sections are kept in place of others.
+/// Returns the overview of the sections with the indices `from..end`, counted from 0, of a list of
+/// which some are replaced.
 pub fn overview_between<A: Allocator + Copy>(
     sections: &Spliced<'_, Kept<A>, A>,
     from: usize,

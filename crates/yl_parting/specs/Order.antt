@@ -18,12 +18,12 @@ comes_before p q = is_lt (problem_order p q)
 abbrev pub IsInOrder : List ProblemValue → Type 0
 IsInOrder ps = IsStrictlySortedBy problem_order ps
 
--- p behind those that come before it
+-- the list with p before the first problem that does not come before p
 abbrev pub put_in : ProblemValue → List ProblemValue → List ProblemValue
 put_in p [] = p ∷ []
 put_in p (q ∷ qs) = if comes_before q p then q ∷ put_in p qs else p ∷ q ∷ qs
 
--- the problems of two lists that are in order, in order
+-- the problems of two lists that are in order, in one list that is in order
 abbrev pub merged : List ProblemValue → List ProblemValue → List ProblemValue
 merged [] qs = qs
 merged (p ∷ ps) qs = put_in p (merged ps qs)

@@ -1,27 +1,29 @@
--- Bridge: what stands last in two lists, taken out of them.
+-- Bridge: the last problem of two lists, removed from them.
 use Rattle.std.specs.Prelude.{◌≡◌, ℕ, ◌+◌, ◌-◌, ◌≤◌, true, false, List, [], ◌∷◌, ◌++◌, map, reverse, length, Option, Some, None, IfSome, slice_get}
 use Rattle.std.specs.List.{AllByRecursion}
 use Rattle.yl_report.specs.Report.{ProblemValue}
 use Rattle.yl_parting.specs.Order.{IsInOrder, merged}
 use Rattle.yl_parting.specs.Parts.{IsLow, above, behind, is_upto, shifted}
 
--- the last one, if there is one, stands in the first so many lines
+-- the last problem, if there is one, is in the first `line` lines
 abbrev pub EndsUpto : ℕ → List ProblemValue → Type 0
 EndsUpto line ps = IfSome (slice_get ps (length ps - 1)) (λ p. is_upto line p ≡ true)
 
--- from the one list to the other: the last one went, which stands behind the lines, or none does
+-- the list `qs` is `ps` without its last problem, which is below the first `line` lines; or it is
+-- `ps`, of which no last problem is below them
 abbrev pub PopsBehind : ℕ → List ProblemValue → List ProblemValue → Option ProblemValue → Type 0
 PopsBehind line ps qs None = (qs ≡ ps) × EndsUpto line ps
 PopsBehind line ps qs (Some p) = (ps ≡ qs ++ p ∷ []) × (is_upto line p ≡ false)
 
--- nothing of two lists stands behind the lines, and they are as they were
+-- no problem of the two lists is below the first `line` lines, and both lists stay
 pub record NoneBehind (line : ℕ) (ss us ts vs : List ProblemValue) : Type 0 where
   pub shown : behind line ss ≡ []
   pub suppressed : behind line us ≡ []
   pub shown_stays : ts ≡ ss
   pub suppressed_stays : vs ≡ us
 
--- of the two lists ss and us, which become ts and vs, the last one behind the lines went
+-- from the lists ss and us, which become ts and vs, the last problem below the first `line` lines
+-- is removed
 pub record LastGoes (line : ℕ) (ss us ts vs : List ProblemValue) (p : ProblemValue) : Type 0 where
   pub merged : merged (behind line ss) (behind line us) ≡ merged (behind line ts) (behind line vs) ++ p ∷ []
   pub shown_above : (n : ℕ) → n ≤ line → above n ts ≡ above n ss
@@ -31,12 +33,14 @@ pub record LastGoes (line : ℕ) (ss us ts vs : List ProblemValue) (p : ProblemV
   pub low : AllByRecursion IsLow ss → AllByRecursion IsLow us → AllByRecursion IsLow ts × AllByRecursion IsLow vs × IsLow p
   pub count : length ts + length vs + 1 ≡ length ss + length us
 
--- the last one behind the lines went from one of the two lists, or none stands there
+-- the last problem below the first `line` lines is removed from one of the two lists, or there is
+-- none
 abbrev pub PopsLast : ℕ → List ProblemValue → List ProblemValue → List ProblemValue → List ProblemValue → Option ProblemValue → Type 0
 PopsLast line ss us ts vs None = NoneBehind line ss us ts vs
 PopsLast line ss us ts vs (Some p) = LastGoes line ss us ts vs p
 
--- of the two lists ss and us, ts and vs are left, and what went stands in `spare`, shifted, what came last first
+-- the lists ss and us become ts and vs, and the removed problems are in `spare`, moved, the last
+-- one first
 pub record IsTaken (line new_end : ℕ) (ss us ts vs spare : List ProblemValue) : Type 0 where
   pub taken : map (shifted line new_end) (merged (behind line ts) (behind line vs)) ++ reverse spare ≡ map (shifted line new_end) (merged (behind line ss) (behind line us))
   pub shown_above : (n : ℕ) → n ≤ line → above n ts ≡ above n ss

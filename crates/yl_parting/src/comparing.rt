@@ -8,7 +8,7 @@ use std::alloc::Allocator;
 use std::cmp::Ordering;
 use yl_report::Problem;
 
-/// By rule name and message.
+/// Compares two problems by rule name and message.
 fn compare_in_place<A: Allocator>(a: &Problem<A>, b: &Problem<A>) -> Ordering
     ensures { result ≡ order_in_place (finding_told a.now) (finding_told b.now) }
 {
@@ -18,7 +18,7 @@ fn compare_in_place<A: Allocator>(a: &Problem<A>, b: &Problem<A>) -> Ordering
     }
 }
 
-/// By column, rule name and message.
+/// Compares two problems by column, rule name and message.
 fn compare_in_line<A: Allocator>(a: &Problem<A>, b: &Problem<A>) -> Ordering
     ensures { result ≡ order_in_line (finding_told a.now) (finding_told b.now) }
 {
@@ -28,7 +28,7 @@ fn compare_in_line<A: Allocator>(a: &Problem<A>, b: &Problem<A>) -> Ordering
     }
 }
 
-/// By line, column, rule name and message.
+/// Compares two problems by line, column, rule name and message.
 fn compare<A: Allocator>(a: &Problem<A>, b: &Problem<A>) -> Ordering
     ensures { result ≡ problem_order a.now b.now }
 {
@@ -38,7 +38,7 @@ fn compare<A: Allocator>(a: &Problem<A>, b: &Problem<A>) -> Ordering
     }
 }
 
-/// Whether the former comes before the latter in a report.
+/// Returns `true` if the former problem comes before the latter in a report.
 pub fn comes_before<A: Allocator>(a: &Problem<A>, b: &Problem<A>) -> bool
     ensures { result ≡ comes_before a.now b.now }
 {

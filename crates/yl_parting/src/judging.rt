@@ -1,4 +1,4 @@
-//! Indentation that is judged anew, in place of what was found of it behind some lines.
+//! Problems of the rule indentation below some lines, replaced by those that are found again.
 ghost use Rattle.std.specs.Prelude.{◌≡◌, ◌+◌, ◌≤◌, ℕ, [], ◌++◌, reverse, vec_len, vec_capacity};
 ghost use Rattle.std.specs.List.{AllByRecursion, filter};
 ghost use Rattle.yl_parting.specs.Order.{IsInOrder, merged};
@@ -11,14 +11,14 @@ use std::alloc::Allocator;
 use yl_report::Problem;
 use yl_text::RuleId;
 
-/// Whether it is the rule that judges a line by the lines above it.
+/// Returns `true` if this is the rule indentation, which judges a line by the lines above it.
 pub fn is_indentation(rule: RuleId) -> bool
     ensures { result ≡ is_indentation rule }
 {
     matches!(rule, RuleId::Indentation)
 }
 
-/// Drops the indentation behind the first lines.
+/// Removes the problems of the rule indentation below the first `line` lines.
 pub fn drop_indentation<A: Allocator>(problems: &mut Vec<Problem<A>, A>, line: u32)
     ensures items { problems.new.items ≡ filter (stays_judged line) problems.old.items }
     ensures len { vec_len problems.new ≤ vec_len problems.old }
@@ -28,7 +28,8 @@ pub fn drop_indentation<A: Allocator>(problems: &mut Vec<Problem<A>, A>, line: u
     problems.retain(|problem| problem.line() <= line || !is_indentation(problem.rule()));
 }
 
-/// Puts all of `spare` behind the problems, the last one first. It takes no memory.
+/// Appends all problems of `spare`, the last one first, and leaves `spare` empty. Does not
+/// allocate.
 fn push_back<A: Allocator>(problems: &mut Vec<Problem<A>, A>, spare: &mut Vec<Problem<A>, A>)
     requires { vec_len problems.old + vec_len spare.old ≤ vec_capacity problems.old }
     ensures items { problems.new.items ≡ problems.old.items ++ reverse spare.old.items }
@@ -42,7 +43,9 @@ fn push_back<A: Allocator>(problems: &mut Vec<Problem<A>, A>, spare: &mut Vec<Pr
     }
 }
 
-/// Merges indentation that stands behind the first lines into a list. It takes no memory.
+/// Merges problems of the rule indentation below the first `line` lines into a list. Both lists
+/// must be in order. The list and the empty list `spare` must have room for all problems of both.
+/// Does not allocate.
 pub fn merge_indentation<A: Allocator>(
     problems: &mut Vec<Problem<A>, A>,
     mut new: Vec<Problem<A>, A>,

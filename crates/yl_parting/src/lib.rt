@@ -1,8 +1,11 @@
-//! What is found in a text, parted into what is shown and what is not.
+//! The problems of a text, split into those that its report shows and those that are suppressed.
 //!
-//! Comments silence problems, and the first section with a fault hides what is found in the sections behind it. What is found but not shown is
-//! kept beside the report, so that an edit that shows or hides it needs no walk over the text: `FoundProblems` has both lists, each in the order of
-//! a report, and the text's fault among what is shown. A `Change` says what an edit makes of them; room for it is made before any of it is done.
+//! Comments silence problems, and the first section with a fault hides what is found in the
+//! sections after it, rules on lines apart. `FoundProblems` keeps the suppressed problems in a list
+//! beside the report, so an edit that shows or hides problems needs no walk over the text. Both
+//! lists are in the order of a report. The text's fault, if it is shown, is in the list of the
+//! report. A `Change` says what an edit makes of both lists. `make_room` allocates all that a
+//! change needs before any of it is made.
 #![tactic(auto)]
 
 mod change;

@@ -1,4 +1,4 @@
-//! What stands behind some lines in two lists, taken out and given back.
+//! Takes the problems below some lines out of two lists, and gives them back.
 ghost use Rattle.std.specs.Prelude.{◌≡◌, ◌+◌, ◌≤◌, not, [], ◌++◌, reverse, vec_len, vec_capacity};
 ghost use Rattle.std.specs.List.{filter};
 ghost use Rattle.yl_report.specs.Report.{ProblemValue};
@@ -16,7 +16,8 @@ use crate::showing::Showing;
 use std::alloc::Allocator;
 use yl_report::Problem;
 
-/// Whether the former of two lists ends with what comes last of both.
+/// Returns `true` if `one` has a last problem, and this problem comes after the last one of
+/// `other`, if there is one.
 fn ends_later<A: Allocator>(one: &[Problem<A>], other: &[Problem<A>]) -> bool
     ensures { result ≡ ends_later one.now other.now }
 {
@@ -29,7 +30,7 @@ fn ends_later<A: Allocator>(one: &[Problem<A>], other: &[Problem<A>]) -> bool
     comes_before(next, last)
 }
 
-/// Takes out the last problem, if it stands behind these lines.
+/// Removes and returns the last problem, if it is below the first `line` lines.
 fn pop_behind<A: Allocator>(problems: &mut Vec<Problem<A>, A>, line: u64) -> Option<Problem<A>>
     ensures popped { PopsBehind line problems.old.items problems.new.items result }
     ensures room { vec_capacity problems.new ≡ vec_capacity problems.old }
@@ -44,7 +45,7 @@ fn pop_behind<A: Allocator>(problems: &mut Vec<Problem<A>, A>, line: u64) -> Opt
     problems.pop()
 }
 
-/// Takes out what comes last of both, if it stands behind these lines.
+/// Removes and returns the last problem of both lists, if it is below the first `line` lines.
 fn pop_last<A: Allocator>(
     shown: &mut Vec<Problem<A>, A>,
     suppressed: &mut Vec<Problem<A>, A>,
@@ -63,8 +64,8 @@ fn pop_last<A: Allocator>(
     }
 }
 
-/// Takes out all that stands behind `old_end` lines, puts it behind `new_end` lines and then into `spare`, what comes last first. It takes no
-/// memory.
+/// Moves all problems below the first `old_end` lines out of both lists into `spare`, the last one
+/// first. Each moves up by `old_end` lines and down by `new_end` lines. Does not allocate.
 pub fn take_behind<A: Allocator>(
     shown: &mut Vec<Problem<A>, A>,
     suppressed: &mut Vec<Problem<A>, A>,
@@ -87,7 +88,7 @@ pub fn take_behind<A: Allocator>(
     }
 }
 
-/// Drops what stands behind the first lines.
+/// Removes the problems below the first `first` lines.
 pub fn keep_above<A: Allocator>(problems: &mut Vec<Problem<A>, A>, first: u32)
     requires { IsInOrder problems.old.items }
     ensures items { problems.new.items ≡ above first problems.old.items }
@@ -98,7 +99,8 @@ pub fn keep_above<A: Allocator>(problems: &mut Vec<Problem<A>, A>, first: u32)
     problems.truncate(count);
 }
 
-/// Gives each problem of `spare`, the last one first, to the list that it belongs to now. It takes no memory.
+/// Moves the problems of `spare`, the last one first, to the ends of both lists: those that `below`
+/// shows to `shown`, the others to `suppressed`. Does not allocate.
 pub fn give_back<A: Allocator>(
     shown: &mut Vec<Problem<A>, A>,
     suppressed: &mut Vec<Problem<A>, A>,

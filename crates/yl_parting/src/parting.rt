@@ -1,10 +1,10 @@
-//! What is found, parted into what is shown and what is not.
+//! Splits the problems of a text into those that are shown and those that are suppressed.
 use crate::change::FoundProblems;
 use crate::showing::Showing;
 use std::alloc::{AllocError, Allocator};
 use yl_report::Problem;
 
-/// How many of these are shown.
+/// Returns the number of these problems that are shown.
 fn count_shown<A: Allocator>(showing: &Showing<A>, problems: &[Problem<A>]) -> usize {
     let mut count: usize = 0;
     for problem in problems {
@@ -21,7 +21,8 @@ impl<A: Allocator + Copy> FoundProblems<A> {
     ghost use Rattle.yl_parting.specs.Parts.{parted};
     ghost use Rattle.yl_parting.specs.Showing.{is_shown_by};
 
-    /// These problems, each among what is shown or what is not. Both lists have the room that they need. The only error is out of memory.
+    /// Splits these problems into those that are shown and those that are suppressed. Each list is
+    /// allocated once. The only error is out of memory.
     pub fn part(
         alloc: A,
         showing: &Showing<A>,

@@ -1,4 +1,4 @@
-//! A change of both lists.
+//! Makes a change of both lists.
 ghost use Rattle.std.specs.Prelude.{◌≡◌, ◌+◌, ◌≤◌, OnOk, vec_len, vec_capacity};
 ghost use Rattle.yl_parting.specs.Order.{put_in};
 ghost use Rattle.yl_parting.specs.Rooms.{count_anew, crossing, fault_count};
@@ -12,7 +12,8 @@ use crate::showing::{Showing, is_syntax};
 use std::alloc::{AllocError, Allocator};
 use yl_report::Problem;
 
-/// How many more problems a list needs room for, where so many may come from the other one.
+/// Returns the number of problems that may come from the other list, which holds `count` problems:
+/// all of them if the problems below are split again, else 0.
 fn count_crossing<A: Allocator>(below: &Option<Showing<A>>, count: usize) -> usize
     ensures { result ≡ crossing below.now count }
 {
@@ -22,10 +23,11 @@ fn count_crossing<A: Allocator>(below: &Option<Showing<A>>, count: usize) -> usi
     }
 }
 
-/// A list with room for four times as many problems is not worth a move, however few of them are left.
+/// A list with room for at most four times this many problems is not replaced by a smaller one,
+/// however few problems are left in it.
 const LEAST: usize = 16;
 
-/// The text's fault, counted.
+/// Returns 1 if there is a fault, else 0.
 fn count_fault<A: Allocator>(fault: &Option<Problem<A>>) -> usize
     ensures { result ≡ fault_count fault.now }
 {
@@ -35,7 +37,7 @@ fn count_fault<A: Allocator>(fault: &Option<Problem<A>>) -> usize
     }
 }
 
-/// The indentation that is judged anew, counted.
+/// Returns the number of problems of the rule indentation that a patch puts in below its lines.
 fn count_indentation<A: Allocator>(indentation: &Option<Vec<Problem<A>, A>>) -> usize
     ensures { result ≡ count_anew indentation.now }
 {
@@ -45,7 +47,8 @@ fn count_indentation<A: Allocator>(indentation: &Option<Vec<Problem<A>, A>>) -> 
     }
 }
 
-/// How many of these stand behind the first lines and are no indentation.
+/// Returns the number of problems below the first `line` lines that are not of the rule
+/// indentation.
 fn count_others<A: Allocator>(problems: &[Problem<A>], line: u64) -> usize {
     let mut count: usize = 0;
     for problem in problems {
@@ -56,8 +59,9 @@ fn count_others<A: Allocator>(problems: &[Problem<A>], line: u64) -> usize {
     count
 }
 
-/// How many of these a patch leaves: those in the first `first` lines, and those behind `old_end`, but for indentation where that is judged
-/// anew. Where it is not, it looks at few of them.
+/// Returns the number of problems of a list that a patch leaves in it: those in the first `first`
+/// lines, and those below the first `old_end` lines. Leaves out the indentation below if the patch
+/// judges it again. Only then does the call look at each problem.
 fn count_left<A: Allocator>(problems: &[Problem<A>], patch: &LinesPatch<A>) -> usize {
     let (first, end) = (u64::from(patch.first), u64::from(patch.old_end));
     let above = problems.partition_point(|problem| problem.line() <= first);
@@ -68,7 +72,8 @@ fn count_left<A: Allocator>(problems: &[Problem<A>], patch: &LinesPatch<A>) -> u
     above.saturating_add(problems.len().saturating_sub(upto))
 }
 
-/// In place of a list with so much room, in which so many problems are left, one that has room for these; none where it is not far too large.
+/// Returns a new list with room for `count` problems, or `None` if a list with room for `room`
+/// problems is not far too large for them. The only error is out of memory.
 fn fitting<A: Allocator>(
     alloc: A,
     room: usize,
@@ -81,7 +86,8 @@ fn fitting<A: Allocator>(
     Ok(Some(list))
 }
 
-/// Moves the problems into the list that fits them, if there is one. It takes no memory.
+/// Moves the problems into the list `fitting`, if there is one and it has room for them. Does not
+/// allocate.
 fn settle<A: Allocator>(problems: &mut Vec<Problem<A>, A>, fitting: Option<Vec<Problem<A>, A>>)
     ensures { problems.new.items ≡ problems.old.items }
 {
@@ -94,7 +100,8 @@ fn settle<A: Allocator>(problems: &mut Vec<Problem<A>, A>, fitting: Option<Vec<P
     }
 }
 
-/// Puts a problem in its place, where there is room. It takes no memory.
+/// Inserts a problem in its place in the order of a report. The list must have room for it. Does
+/// not allocate.
 fn put_in<A: Allocator>(problems: &mut Vec<Problem<A>, A>, problem: Problem<A>)
     requires { vec_len problems.old + 1 ≤ vec_capacity problems.old }
     ensures { problems.new.items ≡ put_in problem problems.old.items }
@@ -112,7 +119,8 @@ impl<A: Allocator + Copy> FoundProblems<A> {
     ghost use Rattle.yl_parting.specs.Parts.{IsLow, judged_again, with_fault, without_fault};
     ghost use Rattle.yl_parting.specs.Rooms.{AreOrdered, HasRoom, HasRoomFor, IsIndentation, IsReady, IsReadyFor, IsRoomFor, ToldFault, count_anew, crossing, fault_count};
 
-    /// Takes the text's fault out of what is shown, if one may be there.
+    /// Removes the text's fault from the shown problems. `had_fault` may be false only if there is
+    /// none.
     fn take_fault(&mut self, had_fault: bool)
         requires { ToldFault had_fault self.old.shown.items }
         ensures parts { parts_in self.new ≡ without_fault (parts_in self.old) }
@@ -125,7 +133,8 @@ impl<A: Allocator + Copy> FoundProblems<A> {
         }
     }
 
-    /// Puts the text's fault in its place among what is shown, if there is one.
+    /// Inserts the text's fault, if there is one, in its place among the shown problems. The list
+    /// must have room for it. Does not allocate.
     fn put_fault(&mut self, fault: Option<Problem<A>>)
         requires { vec_len self.old.shown + fault_count fault ≤ vec_capacity self.old.shown }
         ensures { parts_in self.new ≡ with_fault fault (parts_in self.old) }
@@ -135,7 +144,8 @@ impl<A: Allocator + Copy> FoundProblems<A> {
         }
     }
 
-    /// Puts the text's fault in its place among what is shown, if there is one. Where there is no memory, all is as it was.
+    /// Inserts the text's fault, if there is one, in its place among the shown problems. The only
+    /// error is out of memory, after which both lists hold what they held.
     pub fn add_fault(&mut self, fault: Option<Problem<A>>) -> Result<(), AllocError>
         ensures put { OnOk result (parts_in self.new ≡ with_fault fault (parts_in self.old)) }
         ensures refused { OnErr result (parts_in self.new ≡ parts_in self.old) }
@@ -145,7 +155,9 @@ impl<A: Allocator + Copy> FoundProblems<A> {
         Ok(())
     }
 
-    /// Puts indentation that is judged anew in place of what was found of it behind the first lines, among what is not shown. It takes no memory.
+    /// Replaces the problems of the rule indentation below the first `line` lines by `indentation`,
+    /// if it is there. The new ones go among the suppressed problems, so all problems below these
+    /// lines must be split again afterwards. Does not allocate.
     fn judge_again(
         &mut self,
         line: u32,
@@ -171,7 +183,8 @@ impl<A: Allocator + Copy> FoundProblems<A> {
         merge_indentation(&mut self.suppressed, new, line, spare);
     }
 
-    /// Patches both lists where what stands below stays in its list; hands out the text's fault.
+    /// Patches both lists, where each problem below stays in its list. Returns the text's fault,
+    /// which is not put in yet. Does not allocate.
     fn put_both(&mut self, patch: LinesPatch<A>) -> Option<Problem<A>>
         requires lines { patch.first ≤ patch.old_end }
         requires ordered { AreOrdered (parts_in self.old) }
@@ -202,7 +215,8 @@ impl<A: Allocator + Copy> FoundProblems<A> {
         fault
     }
 
-    /// Patches both lists where what stands below is parted anew; hands out the text's fault.
+    /// Patches both lists, where the problems below are split again. Returns the text's fault,
+    /// which is not put in yet. Does not allocate.
     fn part_anew(
         &mut self,
         patch: LinesPatch<A>,
@@ -245,7 +259,7 @@ impl<A: Allocator + Copy> FoundProblems<A> {
         fault
     }
 
-    /// Patches both lists; hands out the text's fault.
+    /// Patches both lists. Returns the text's fault, which is not put in yet. Does not allocate.
     fn put_parts(&mut self, patch: LinesPatch<A>, spare: Vec<Problem<A>, A>) -> Option<Problem<A>>
         requires lines { patch.first ≤ patch.old_end }
         requires ordered { AreOrdered (parts_in self.old) }
@@ -261,7 +275,8 @@ impl<A: Allocator + Copy> FoundProblems<A> {
         }
     }
 
-    /// Patches both lists, and puts the text's fault in.
+    /// Patches both lists. Removes the text's fault from before the edit, and puts in that of the
+    /// patch. Does not allocate.
     fn patch_lines(&mut self, mut patch: LinesPatch<A>, mut spare: Vec<Problem<A>, A>)
         requires room { HasRoomFor self.old patch spare }
         requires ready { IsReadyFor patch (parts_in self.old) }
@@ -274,7 +289,9 @@ impl<A: Allocator + Copy> FoundProblems<A> {
         self.put_fault(fault);
     }
 
-    /// Makes room in both lists for what the patch puts in, and a list for what it takes out meanwhile.
+    /// Makes room in both lists for the problems that the patch puts in. Returns an empty list with
+    /// room for the problems that it takes out and puts back. The only error is out of memory. Both
+    /// lists hold what they held, also after an error.
     fn make_room_for(
         &mut self,
         alloc: A,
@@ -311,7 +328,8 @@ impl<A: Allocator + Copy> FoundProblems<A> {
         Ok(spare)
     }
 
-    /// Lists that fit, in place of those that the patch would leave with far more room than problems.
+    /// Allocates smaller lists in place of those that the patch would leave with far more room than
+    /// they need. The only error is out of memory.
     fn lists_that_fit(
         &self,
         alloc: A,
@@ -339,7 +357,8 @@ impl<A: Allocator + Copy> FoundProblems<A> {
         })
     }
 
-    /// Makes room for what the change puts in; what it hands out is needed by `renew`. Where there is no memory, all is as it was.
+    /// Makes room for what the change puts in, and returns the lists that `renew` needs. The only
+    /// error is out of memory. Both lists hold what they held, also after an error.
     pub fn make_room(&mut self, alloc: A, change: &Change<A>) -> Result<Spare<A>, AllocError>
         ensures parts { parts_in self.new ≡ parts_in self.old }
         ensures room { IfOk result (λ spare. HasRoom self.new change.now spare) }
@@ -357,7 +376,7 @@ impl<A: Allocator + Copy> FoundProblems<A> {
         }
     }
 
-    /// Makes the change, for which there is room. It takes no memory.
+    /// Makes the change. `make_room` must have made room for it. Does not allocate.
     pub fn renew(&mut self, change: Change<A>, spare: Spare<A>)
         requires room { HasRoom self.old change spare }
         requires ready { IsReady change (parts_in self.old) }

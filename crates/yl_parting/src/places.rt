@@ -1,4 +1,4 @@
-//! Where problems stand in a list that is in order.
+//! Places of problems in a list that is in order.
 ghost use Rattle.std.specs.Prelude.{◌≡◌, ◌≤◌, length};
 ghost use Rattle.std.specs.List.{prefix_len};
 ghost use Rattle.yl_report.specs.Report.{ProblemValue};
@@ -9,7 +9,7 @@ use crate::comparing::comes_before;
 use std::alloc::Allocator;
 use yl_report::Problem;
 
-/// How many problems stand in the first lines.
+/// Returns the number of problems in the first `line` lines.
 pub fn count_upto<A: Allocator>(problems: &[Problem<A>], line: u64) -> usize
     requires { IsInOrder problems.now }
     ensures count { result ≡ prefix_len (is_upto line) problems.now }
@@ -18,7 +18,7 @@ pub fn count_upto<A: Allocator>(problems: &[Problem<A>], line: u64) -> usize
     problems.partition_point(|problem| problem.line() <= line)
 }
 
-/// How many problems stand before the first that doesn't come before this one.
+/// Returns the number of problems before the first one that does not come before `problem`.
 pub fn count_before<A: Allocator>(problems: &[Problem<A>], problem: &Problem<A>) -> usize
     ensures count { result ≡ prefix_len (λ (q : ProblemValue). comes_before q problem.now) problems.now }
     ensures within { result ≤ length problems.now }

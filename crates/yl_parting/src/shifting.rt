@@ -1,4 +1,4 @@
-//! Problems in place of some others, where those behind them stand further up or down.
+//! Replaces the problems of some lines, and moves the problems below up or down.
 ghost use Rattle.std.specs.Prelude.{◌≡◌, ◌+◌, ◌<◌, ◌≤◌, ◌++◌, take, drop, map, vec_len, vec_capacity};
 ghost use Rattle.std.specs.List.{AllByRecursion, remove_range, slice_rotate_right, splice};
 ghost use Rattle.yl_text.specs.Store.{IsRange};
@@ -9,7 +9,7 @@ use crate::places::count_upto;
 use std::alloc::Allocator;
 use yl_report::Problem;
 
-/// Shifts one problem.
+/// Moves a problem up by `up` lines and then down by `down` lines.
 pub fn shift<A: Allocator>(problem: &mut Problem<A>, up: u32, down: u32)
     requires { IsLow problem.old }
     ensures { problem.new ≡ shifted up down problem.old }
@@ -18,7 +18,7 @@ pub fn shift<A: Allocator>(problem: &mut Problem<A>, up: u32, down: u32)
     problem.set_line(line + u64::from(down));
 }
 
-/// Shifts the problems from one on.
+/// Moves the problems from index `from` on up by `up` lines and then down by `down` lines.
 fn shift_from<A: Allocator>(problems: &mut Vec<Problem<A>, A>, from: usize, up: u32, down: u32)
     requires range { from ≤ vec_len problems.old }
     requires low { AllByRecursion IsLow problems.old.items }
@@ -30,7 +30,8 @@ fn shift_from<A: Allocator>(problems: &mut Vec<Problem<A>, A>, from: usize, up: 
     }
 }
 
-/// Shifts those behind some lines; where they stand behind as many then, it looks at none.
+/// Moves the problems below the first `old_end` lines up by `old_end` lines and down by `new_end`
+/// lines. Looks at none of them if the two numbers are the same.
 fn shift_behind<A: Allocator>(problems: &mut Vec<Problem<A>, A>, old_end: u32, new_end: u32)
     requires order { IsInOrder problems.old.items }
     requires low { AllByRecursion IsLow problems.old.items }
@@ -43,7 +44,7 @@ fn shift_behind<A: Allocator>(problems: &mut Vec<Problem<A>, A>, old_end: u32, n
     }
 }
 
-/// Moves the last problems before those from one on.
+/// Moves the last `count` problems to index `from`, before the others from there on.
 fn move_last_to<A: Allocator>(problems: &mut Vec<Problem<A>, A>, from: usize, count: usize)
     requires { from + count ≤ vec_len problems.old }
     ensures items { problems.new.items ≡ take from problems.old.items
@@ -54,7 +55,7 @@ fn move_last_to<A: Allocator>(problems: &mut Vec<Problem<A>, A>, from: usize, co
     problems[from..].rotate_right(count);
 }
 
-/// Takes out the problems from one on, before another.
+/// Removes the problems with the indices `a..b`.
 fn remove_between<A: Allocator>(problems: &mut Vec<Problem<A>, A>, a: usize, b: usize)
     requires { IsRange a b (vec_len problems.old) }
     ensures items { problems.new.items ≡ remove_range problems.old.items a b }
@@ -63,7 +64,8 @@ fn remove_between<A: Allocator>(problems: &mut Vec<Problem<A>, A>, a: usize, b: 
     drop(problems.drain(a..b));
 }
 
-/// Puts the new problems, which it takes out of their list, in place of those from one on, before another. It takes no memory.
+/// Moves the problems of `new` in place of those with the indices `a..b`. The list must have room
+/// for them beside all others. Does not allocate.
 fn put_between<A: Allocator>(
     problems: &mut Vec<Problem<A>, A>,
     a: usize,
@@ -81,8 +83,9 @@ fn put_between<A: Allocator>(
     remove_between(problems, a + added, b + added);
 }
 
-/// Puts the new problems in place of those behind `first` lines, up to `old_end`; those behind stand behind `new_end` lines then. It takes no
-/// memory.
+/// Moves the problems of `new` in place of those in the lines after the first `first`, up to
+/// `old_end`. The problems below move up by `old_end` lines and down by `new_end` lines. The list
+/// must have room for the new problems beside all others. Does not allocate.
 pub fn put_lines<A: Allocator>(
     problems: &mut Vec<Problem<A>, A>,
     first: u32,

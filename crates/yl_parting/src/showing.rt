@@ -1,4 +1,4 @@
-//! Which of the problems that are found in a text are shown.
+//! Decides which of the problems that are found in a text are shown.
 ghost use Rattle.std.specs.Prelude.{◌≡◌};
 ghost use Rattle.yl_report.specs.Report as report;
 ghost use Rattle.yl_parting.specs.Showing as spec;
@@ -7,15 +7,17 @@ use std::alloc::Allocator;
 use yl_report::{Problem, Silences};
 use yl_text::RuleId;
 
-/// Which of the problems that are found in a text are shown: what the comments silence, and the last line of the sections that are shown, counted
-/// from 1.
+/// What decides which of the problems that are found in a text are shown.
 #[derive(Drop)]
 pub struct Showing<A: Allocator> {
+    /// What the comments silence.
     pub silences: Silences<A>,
+    /// The last line of the sections that are shown, counted from 1.
     pub last: u64,
 }
 
-/// Whether a rule is on lines, so that it says the same whatever sections the lines are in.
+/// Returns `true` if the rule is on lines, so that what it finds does not depend on the sections
+/// that the lines are in.
 pub fn is_of_lines(rule: RuleId) -> bool
     ensures { result ≡ spec.is_of_lines rule }
 {
@@ -29,7 +31,7 @@ pub fn is_of_lines(rule: RuleId) -> bool
     )
 }
 
-/// Whether it is the rule of a text's fault.
+/// Returns `true` if this is the rule of a text's fault.
 pub fn is_syntax(rule: RuleId) -> bool
     ensures { result ≡ report.is_syntax rule }
 {
@@ -42,14 +44,15 @@ impl<A: Allocator> Showing<A> {
     ghost use Rattle.yl_report.specs.Silence.{is_silenced_at};
     ghost use Rattle.yl_parting.specs.Showing.{is_hidden, is_shown_by};
 
-    /// Whether the first section with a fault hides it.
+    /// Returns `true` if the first section with a fault hides the problem.
     fn hides(&self, problem: &Problem<A>) -> bool
         ensures { result ≡ is_hidden self.now.last problem.now }
     {
         problem.line() > self.last && !is_of_lines(problem.rule())
     }
 
-    /// Whether no comment silences it in its line.
+    /// Returns `true` if no comment silences the problem in its line. A comment never silences the
+    /// text's fault in its line.
     fn hears(&self, problem: &Problem<A>) -> bool
         ensures { result ≡ is_heard (is_silenced_at self.now.silences) problem.now }
     {
@@ -57,7 +60,7 @@ impl<A: Allocator> Showing<A> {
         is_syntax(problem.rule()) || !self.silences.is_silenced(problem.rule(), line)
     }
 
-    /// Whether the problem is shown.
+    /// Returns `true` if the problem is shown.
     #[tactic(auto, unfolding(crate::specs::Showing::is_shown_by))]
     pub fn shows(&self, problem: &Problem<A>) -> bool
         ensures { result ≡ is_shown_by self.now problem.now }

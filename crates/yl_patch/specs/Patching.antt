@@ -1,4 +1,4 @@
--- Bridge: what a patch of both lists of problems is to say of an edit of some sections.
+-- Bridge: what a patch of both lists of problems says of an edit of some sections.
 use Rattle.std.specs.Prelude.{◌≡◌, ◌<◌, ◌+◌, ◌-◌, ℕ, Bool, false, not, List, take, drop, Option, Some, None, IsSome}
 use Rattle.std.specs.List.{filter, splice}
 use Rattle.yl_text.specs.Lines.{RowValue}
@@ -14,20 +14,23 @@ use Rattle.yl_found.specs.Found.{fault_told, found_by, is_shown}
 use Rattle.yl_overview.specs.Overview.{has_fault}
 use Rattle.yl_patch.specs.Speaking.{SpeakAlike}
 
--- where these sections come in place of those from one on, before another, the first line silences the file as before; and if no fault above hides
--- them, they have a fault or not as those had, and their comments say the same of all lines below
+-- the sections `new` replace those with the indices from `from` on, before `end`: the first line
+-- silences the file as before; and if no section above has a fault, the new sections have a fault
+-- just if the old ones had one, and their comments say the same of all lines below
 pub record StaysShown (rows after : List RowValue) (ks new : List KeptValue) (from end : ℕ) : Type 0 where
   pub file : disables_file (first_text after) ≡ disables_file (first_text rows)
   pub faults : has_fault (take from ks) ≡ false → has_fault (take (end - from) (drop from ks)) ≡ has_fault new
   pub comments : has_fault (take from ks) ≡ false → SpeakAlike (take (end - from) (drop from ks)) new
 
--- below, the same is shown as before, or this test says what is shown
+-- the same problems below are shown as before, or this test says which are shown
 abbrev pub SaysBelow : Option (ProblemValue → Bool) → List RowValue → List RowValue → List KeptValue → List KeptValue → ℕ → ℕ → Type 0
 SaysBelow None rows after ks new from end = StaysShown rows after ks new from end
 SaysBelow (Some shows) rows after ks new from end = (q : ProblemValue) → shows q ≡ is_shown after (splice ks from end new) q
 
--- once the text has those lines and these sections come in place of those from one on, before another: this is found in the lines of the new
--- sections, and parted by what is shown then; `all` was found before, but for indentation that is judged anew
+-- the text has the lines `after`, and the sections `new` replace those with the indices from `from`
+-- on, before `end`. The problems `found` are those in the lines of the new sections, split by what
+-- is shown after the edit. `all` are the problems before the edit, except for indentation that is
+-- judged again
 pub record IsPatchOf (config : Config) (rows after : List RowValue) (ks new : List KeptValue) (from end : ℕ) (all found : List ProblemValue) (p : PatchValue) : Type 0 where
   pub first : p.first ≡ rows_kept (take from ks)
   pub old_end : p.old_end ≡ rows_kept (take end ks)

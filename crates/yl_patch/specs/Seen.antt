@@ -1,4 +1,5 @@
--- Bridge: what is seen of an edit in the lines of the touched sections, whatever comments say and a fault hides.
+-- Bridge: what is found in the lines of the sections that an edit touches, whatever comments
+-- silence and a fault hides.
 use Rattle.std.specs.Prelude.{◌≡◌, ◌+◌, ◌-◌, ◌==◌, ℕ, true, false, length, map, take, drop, slice_get, List}
 use Rattle.std.specs.List.{splice}
 use Rattle.yl_text.specs.Finding.{FindingValue}
@@ -17,23 +18,24 @@ use Rattle.yl_lint.specs.There.{found_there}
 use Rattle.yl_lint.specs.declared.there.Ends.{Ends}
 use Rattle.yl_patch.specs.declared.touched.Touched.{Touched}
 
--- the sections from one on, before another
+-- the sections with the indices from `from` on, before `end`
 abbrev pub sections_between : ℕ → ℕ → List KeptValue → List KeptValue
 sections_between from end ks = take (end - from) (drop from ks)
 
--- the measure of facts of this one and of those of these sections behind them
+-- the measure of facts that have this measure, and of the facts of these sections after them
 abbrev pub measure_upto : Measure → List KeptValue → Measure
 measure_upto above ks = and_later above (measure_of (facts_in_sections ks))
 
--- behind facts of either measure the same is found in these sections, under any options
+-- after facts of either measure the same is found in these sections, under any options
 abbrev pub AreFoundAlike : Measure → Measure → List KeptValue → Type 0
 AreFoundAlike one other ks = (options : IndentationOptions) (line : ℕ) → onward_in_sections options line one ks ≡ onward_in_sections options line other ks
 
--- the new lines of the touched sections
+-- the lines of the touched sections after the edit
 abbrev pub new_lines_of : Touched → ℕ → ℕ → List RowValue → List RowValue → List RowValue
 new_lines_of t a b rows ins = take (t.new_end - t.first) (drop t.first (splice rows a b ins))
 
--- the edit lies in the touched lines, which stand apart from those above and behind: these are so many rows, and the new ones so many
+-- the edit lies in the lines of the touched sections, which are apart from the lines above and
+-- below. They are the rows from `from_row` on, before `end_row`, and `count` rows after the edit
 pub record IsCut (rows ins : List RowValue) (a b from_row end_row count : ℕ) (t : Touched) (e : Ends) : Type 0 where
   pub inside : IsInside t a b (length ins) (length rows)
   pub first : t.first ≡ from_row
@@ -45,8 +47,8 @@ pub record IsCut (rows ins : List RowValue) (a b from_row end_row count : ℕ) (
   pub new_seam : e.begins ≡ false → is_filled (slice_get (splice rows a b ins) t.first) ≡ true
   pub behind_seam : e.ends ≡ false → is_filled (slice_get rows t.old_end) ≡ true
 
--- this is found in the touched lines and in the sections that are put in place of those from one on, before another; the lines that the edit
--- touches are theirs
+-- these are the findings in the touched lines after the edit, and in the sections that replace
+-- those with the indices from `from` on, before `end`; the lines that the edit touches are theirs
 pub record IsSeen (config : Config) (rows ins : List RowValue) (kept new : List KeptValue) (a b from end : ℕ) (t : Touched) (found : List FindingValue) : Type 0 where
   pub ends : Ends
   pub cut : IsCut rows ins a b (rows_kept (take from kept)) (rows_kept (take end kept)) (rows_kept new) t ends

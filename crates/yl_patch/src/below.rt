@@ -1,4 +1,4 @@
-//! What is shown of what is found below an edit.
+//! Decides whether the same problems below an edit are shown.
 ghost use Rattle.std.specs.Prelude.{◌≡◌, true, IfOk};
 ghost use Rattle.yl_overview.specs.Edit.{IsSectionEdit};
 ghost use Rattle.yl_patch.specs.Patching.{StaysShown};
@@ -10,8 +10,9 @@ use yl_overview::SectionEdit;
 use yl_report::disables_file;
 use yl_text::Lines;
 
-/// Whether it is seen that the edit which makes the new lines of the old ones leaves what is shown of all that is found below it. It looks at the
-/// first line and at the touched sections alone. The only error is out of memory.
+/// Returns `true` only if the same problems below the edit are shown as before. `false` implies
+/// nothing. Looks at the first line and the touched sections alone, and at whether a section above
+/// has a fault. The only error is out of memory.
 pub fn stays_shown<L: Lines, M: Lines>(
     alloc: L::Alloc,
     old: &L,

@@ -1,4 +1,5 @@
-//! Indentation below an edit, judged anew from the facts that are kept: no line is read.
+//! Judges the indentation below an edit again, by the facts in the summaries of the sections. Reads
+//! no line.
 ghost use Rattle.std.specs.Prelude.{◌≡◌, ◌≤◌, ◌++◌, false, length, map, drop, IfOk, MatchOption, OnOk};
 ghost use Rattle.yl_config.specs.Config.{levels_of, options_of};
 ghost use Rattle.yl_indentation.specs.Onward.{CountsEntriesOnceSeen, onward_problems};
@@ -20,8 +21,9 @@ use yl_report::{Problem, Silences, arrange};
 use yl_sections::Kept;
 use yl_text::Finding;
 
-/// Puts what the rule indentation finds in a section that begins at `line` behind the rest. It is judged by the facts before it, which have the
-/// measure `before`, and its own.
+/// Appends the findings of the rule indentation in a section that begins at `line`. Judges them by
+/// the facts before the section, which have the measure `before`, and by its own facts. The only
+/// error is out of memory.
 fn push_onward<A: Allocator + Copy>(
     alloc: A,
     options: &IndentationOptions,
@@ -37,7 +39,9 @@ fn push_onward<A: Allocator + Copy>(
     push_indentation(alloc, options, upto, line, before, one, found)
 }
 
-/// What the rule indentation finds from a section on, which begins at the line `first`, behind facts of the measure `before`.
+/// Returns the findings of the rule indentation in the sections from index `end` on. The first of
+/// these begins at the line `first`, and the facts before it have the measure `before`. The only
+/// error is out of memory.
 fn find_from<A: Allocator + Copy>(
     alloc: A,
     options: &IndentationOptions,
@@ -62,8 +66,9 @@ fn find_from<A: Allocator + Copy>(
     Ok(found)
 }
 
-/// The indentation below an edit, whose old lines end at `line`, judged anew; none where it is seen that the edit leaves it. The only error is out
-/// of memory.
+/// Returns the problems of the rule indentation below an edit, judged again. Returns `None` only if
+/// the edit leaves them, except for their lines. The sections below begin at `line`, which is their
+/// line before the edit. The only error is out of memory.
 pub fn indentation_below<A: Allocator + Copy>(
     alloc: A,
     config: &Config,

@@ -1,11 +1,15 @@
-//! What an edit does to the problems that are found in a text.
+//! What an edit makes of the problems that are found in a text.
 //!
-//! What is found in a text, whatever comments silence and the first fault hides, is that of its lines and that of its sections, one after
-//! another. So an edit within some sections changes what is found in their lines alone, and moves what is found below them. It is kept in
-//! two lists, what is shown and what is not (yl_found), and `patched_problems` says what an edit makes of them.
+//! The problems that are found in a text, before comments silence some and a fault hides some, are
+//! those of its lines and those of its sections, one section after another. So an edit within some
+//! sections changes the problems in the lines of these sections and moves the problems below.
+//! Below, only indentation may be judged otherwise. `yl_found` keeps all problems in two lists,
+//! those that are shown and those that are suppressed, and `patched_problems` says what an edit
+//! makes of both.
 //!
-//! Which of what is found below is shown stays too, where the touched sections hide it as before and their comments say the same of it.
-//! Where it does not, all below is parted anew. The text's fault stands among what is shown, in its place.
+//! Each problem below stays in its list if the touched sections hide it as before and their
+//! comments say the same of it. If they do not, or if indentation below is judged again, all
+//! problems below are split again. The text's fault is put in its place among the shown problems.
 #![tactic(auto)]
 
 mod below;

@@ -1,4 +1,4 @@
-//! Whether the indentation below an edit is judged alike before and after it.
+//! Decides whether the indentation below an edit is judged as before.
 ghost use Rattle.std.specs.Prelude.{◌≡◌, ◌≤◌, true, length, drop};
 ghost use Rattle.yl_overview.specs.Edit.{IsSectionEdit};
 ghost use Rattle.yl_patch.specs.Seen.{AreFoundAlike, measure_upto, sections_between};
@@ -9,8 +9,9 @@ use yl_indentation::{Measure, are_judged_alike};
 use yl_overview::SectionEdit;
 use yl_sections::Kept;
 
-/// Whether it is seen that the same is found from a section on, where the facts before it have the measure `other` in place of `one`. It
-/// looks no further once both are the same.
+/// Returns `true` only if the same is found in the sections from index `end` on, whether the facts
+/// before them have the measure `one` or the measure `other`. Looks at no further section once both
+/// measures are the same.
 fn is_alike_below<A: Allocator + Copy>(
     kept: &Chunks<Kept<A>, A>,
     end: usize,
@@ -37,7 +38,8 @@ fn is_alike_below<A: Allocator + Copy>(
     true
 }
 
-/// Whether it is seen that the edit leaves what is found in the sections below it.
+/// Returns `true` only if the edit leaves what is found in the sections below it, except for the
+/// lines.
 pub fn leaves_below<A: Allocator + Copy>(edit: &SectionEdit<'_, A>) -> bool
     requires { IsSectionEdit edit.now }
     ensures { result ≡ true → AreFoundAlike (measure_upto edit.now.above.whole (sections_between edit.now.from edit.now.end edit.now.sections.now.items)) (measure_upto edit.now.above.whole edit.now.kept.now) (drop edit.now.end edit.now.sections.now.items) }

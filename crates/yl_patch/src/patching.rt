@@ -1,4 +1,4 @@
-//! What an edit makes of what is found in a text.
+//! What an edit makes of the problems that are found in a text.
 ghost use Rattle.std.specs.Prelude.{◌≡◌, ◌&&◌, true, false, is_none, take, IfOk, MatchOption};
 ghost use Rattle.std.specs.List.{AllByRecursion, splice};
 ghost use Rattle.yl_config.specs.Config.{levels_of};
@@ -30,7 +30,8 @@ use yl_parting::{FoundProblems, LinesPatch, Showing};
 use yl_report::{Silences, arrange};
 use yl_text::{Finding, LineStore, Lines};
 
-/// What was found in some lines, parted by the comments of the first `upto` sections.
+/// Splits the findings in some lines into those that are shown and those that are suppressed, by
+/// the comments of the first `upto` sections. The only error is out of memory.
 fn part_found<L: Lines>(
     alloc: L::Alloc,
     config: &Config,
@@ -47,14 +48,16 @@ fn part_found<L: Lines>(
     FoundProblems::part(alloc, &showing, there)
 }
 
-/// Whether what is shown below is known: it stays, and nothing there is judged anew.
+/// Returns `true` if it is known which problems below are shown: `stays` says that they are the
+/// same as before, and no indentation is judged again.
 fn is_known_below<T>(stays: bool, anew: &Option<T>) -> bool
     ensures { result ≡ (stays && is_none anew.now) }
 {
     stays && anew.is_none()
 }
 
-/// Which of what is found is shown, unless that is known.
+/// Returns what decides which problems are shown, or `None` if `is_known` is set. The only error is
+/// out of memory.
 fn showing_unless<L: Lines>(
     alloc: L::Alloc,
     is_known: bool,
@@ -71,8 +74,10 @@ fn showing_unless<L: Lines>(
     Ok(Some(showing))
 }
 
-/// What an edit makes of what is found in a text, whose sections are plain before and after it; the touched ones hold its lines. Where indentation
-/// below is judged otherwise then, it is found anew from the facts that are kept. The only error is out of memory.
+/// Returns what an edit makes of the problems that are found in a text. The sections must be plain
+/// before and after the edit, their faults aside, and the lines of the edit must be in the touched
+/// sections. If the indentation below is judged otherwise after the edit, it is found again from
+/// the facts in the summaries. The only error is out of memory.
 pub fn patched_problems<S: LineStore>(
     alloc: S::Alloc,
     config: &Config,

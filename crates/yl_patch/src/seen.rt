@@ -1,4 +1,4 @@
-//! What is seen of an edit in the lines of the touched sections.
+//! The findings in the lines of the sections that an edit touches.
 ghost use Rattle.std.specs.Prelude.{take, IfOk};
 ghost use Rattle.yl_rejudge.specs.Places.{rows_kept};
 ghost use Rattle.yl_overview.specs.Edit.{IsSectionEdit};
@@ -13,14 +13,17 @@ use yl_lint::{TextEdit, Window, find_there};
 use yl_overview::SectionEdit;
 use yl_text::{Finding, LineStore, Lines};
 
-/// What is seen of an edit: where the touched sections stand, and what is found in their lines.
+/// The lines of the sections that an edit touches, and the findings in them.
 #[derive(Drop)]
 pub struct SeenEdit<A: Allocator> {
+    /// The lines of the sections that the edit touches.
     pub touched: Touched,
+    /// The findings in these lines after the edit.
     pub found: Vec<Finding<A>, A>,
 }
 
-/// What is seen of an edit, whatever comments say and a fault hides. The only error is out of memory.
+/// Returns the lines of the sections that an edit touches, and the findings in them after the edit,
+/// whatever comments silence and a fault hides. The only error is out of memory.
 pub fn see_edit<S: LineStore>(
     alloc: S::Alloc,
     config: &Config,

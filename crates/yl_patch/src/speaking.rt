@@ -1,4 +1,4 @@
-//! Whether comments say the same of all lines behind their sections.
+//! Decides whether comments say the same of all lines below their sections.
 ghost use Rattle.std.specs.Prelude.{◌≡◌, ◌-◌, true, map, take, drop, IfOk};
 ghost use Rattle.yl_lexeme.specs.PlacedComments.{placed_comment_value};
 ghost use Rattle.yl_lint.specs.TextReport.{comments_in_sections};
@@ -12,7 +12,8 @@ use yl_lexeme::PlacedComment;
 use yl_lint::{have_same_texts, retain_switches, speak_within};
 use yl_overview::SectionEdit;
 
-/// The comments of the sections that go, as if the first of these began the text.
+/// Returns the comments of the sections that the edit removes. Lines count from 0, from the first
+/// line of these sections. The only error is out of memory.
 fn comments_gone<'a, A: Allocator + Copy>(
     alloc: A,
     edit: &SectionEdit<'a, A>,
@@ -24,7 +25,8 @@ fn comments_gone<'a, A: Allocator + Copy>(
     comments_among(alloc, &before, edit.from, edit.end, 0)
 }
 
-/// The same of those that come.
+/// Returns the comments of the sections that the edit inserts. Lines count from 0, from the first
+/// line of these sections. The only error is out of memory.
 fn comments_come<'a, A: Allocator + Copy>(
     alloc: A,
     edit: &SectionEdit<'a, A>,
@@ -36,7 +38,8 @@ fn comments_come<'a, A: Allocator + Copy>(
     comments_among(alloc, &edit.spliced(), edit.from, end, 0)
 }
 
-/// Whether all comments of the sections that go, and all of those that come, say the same of all lines behind them.
+/// Returns `true` only if all comments of the removed sections and all comments of the inserted
+/// ones say the same of all lines below them. The only error is out of memory.
 fn all_speak_alike<A: Allocator + Copy>(
     alloc: A,
     edit: &SectionEdit<'_, A>,
@@ -54,8 +57,9 @@ fn all_speak_alike<A: Allocator + Copy>(
     Ok(have_same_texts(&gone, &here))
 }
 
-/// Whether the comments that are shown of the sections that go, and those of the sections that come, say the same of all lines behind them. Where
-/// some have a fault, that is seen only if all are silent.
+/// Returns `true` only if the shown comments of the removed sections and the shown comments of the
+/// inserted ones say the same of all lines below them. If one of these sections has a fault,
+/// returns `true` only if no comment of them may silence a rule. The only error is out of memory.
 pub fn speak_alike<A: Allocator + Copy>(
     alloc: A,
     edit: &SectionEdit<'_, A>,

@@ -1,4 +1,4 @@
-//! Where in a text the sections stand that an edit touches.
+//! The lines of the sections that an edit touches.
 ghost use Rattle.std.specs.Prelude.{◌≡◌, ◌==◌, ◌+◌, take};
 ghost use Rattle.yl_rejudge.specs.Places.{rows_kept};
 ghost use Rattle.yl_overview.specs.Edit.{IsSectionEdit};
@@ -7,15 +7,18 @@ use std::alloc::Allocator;
 use yl_lint::Ends;
 use yl_overview::SectionEdit;
 
-/// How many lines stand before the touched sections, and how many up to their end, in the old text and in the new one.
+/// The lines of the sections that an edit touches, before and after the edit.
 #[derive(Clone, Copy)]
 pub struct Touched {
+    /// The number of lines above these sections.
     pub first: u32,
+    /// The number of lines down to the end of these sections, before the edit.
     pub old_end: u32,
+    /// The number of lines down to the end of these sections, after the edit.
     pub new_end: u32,
 }
 
-/// Where the sections stand that an edit touches.
+/// Returns the lines of the sections that an edit touches.
 pub fn find_touched<A: Allocator>(edit: &SectionEdit<'_, A>) -> Touched
     requires { IsSectionEdit edit.now }
     ensures first { result.first ≡ rows_kept (take edit.now.from edit.now.sections.now.items) }
@@ -30,7 +33,7 @@ pub fn find_touched<A: Allocator>(edit: &SectionEdit<'_, A>) -> Touched
     }
 }
 
-/// Whether the touched lines begin a text of so many lines, and whether they end it.
+/// Returns whether the touched lines begin a text of `lines` lines, and whether they end it.
 pub fn ends_of(touched: Touched, lines: usize) -> Ends
     ensures begins { result.begins ≡ (touched.first == 0) }
     ensures ends { result.ends ≡ (touched.old_end == lines) }

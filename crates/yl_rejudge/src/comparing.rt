@@ -1,4 +1,4 @@
-//! Whether an edit leaves what is kept of all sections.
+//! Decides whether an edit leaves the summaries of all sections as they are.
 ghost use Rattle.std.specs.Prelude.{◌≡◌, ◌-◌, true, length, take, drop};
 ghost use Rattle.yl_text.specs.Store.{IsRange};
 
@@ -7,7 +7,8 @@ use std::alloc::Allocator;
 use yl_chunks::Chunks;
 use yl_sections::Kept;
 
-/// Whether what is kept of the sections from one on, before `end`, is the same as this.
+/// Returns `true` only if the summaries of the sections with the indices `from..end` are the same
+/// as these.
 fn are_same<A: Allocator + Copy>(
     kept: &Chunks<Kept<A>, A>,
     from: usize,
@@ -33,7 +34,7 @@ impl<A: Allocator + Copy> Rejudged<A> {
     ghost use Rattle.std.specs.List.{splice};
     ghost use Rattle.yl_text.specs.Store.{IsRange};
 
-    /// Whether what is kept of all sections stays as it is where this is put in.
+    /// Returns `true` only if the summaries of all sections stay as they are when these are put in.
     pub fn leaves(&self, kept: &Chunks<Kept<A>, A>) -> bool
         requires { IsRange self.now.from self.now.end (length kept.now.items) }
         ensures { result ≡ true → splice kept.now.items self.now.from self.now.end self.now.kept.items ≡ kept.now.items }

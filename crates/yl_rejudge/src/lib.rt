@@ -1,7 +1,7 @@
-//! Which sections of an edited text are judged again, and what is kept of them.
+//! The sections of an edited text that are judged again, and their summaries.
 //!
-//! A section is a run of rows with one document. An edit changes some rows; the sections before and after them stay as they are, and
-//! what is kept of them too.
+//! A section is a range of rows that holds one document. An edit changes some rows. The sections
+//! before and after these rows stay as they are, and so do their summaries.
 #![tactic(auto)]
 
 mod comparing;

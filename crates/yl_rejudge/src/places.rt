@@ -9,15 +9,18 @@ use yl_chunks::{Chunks, Spliced};
 use yl_record::Record;
 use yl_sections::Kept;
 
-/// A section, and its first row, both counted from 0; the end of all sections, where there is none.
+/// The place of a section, or the end of all sections.
 #[derive(Clone, Copy)]
 pub struct Place {
+    /// The index of the section, counted from 0, or the number of sections.
     pub section: usize,
+    /// The first row of the section, counted from 0, or the number of rows.
     pub row: usize,
 }
 
-/// The last section that begins at or before a row; the end, where all rows come before it. It is looked for from a section at or before
-/// it.
+/// Returns the last section that begins at or before row `row`, or the end of all sections if all
+/// their rows come before it. Searches from the section `near` on, which must begin at or before
+/// this row.
 pub fn section_of<A: Allocator + Copy>(kept: &Chunks<Kept<A>, A>, near: Place, row: usize) -> Place
     requires few { row < 2 ^ 63 }
     requires near { IsAt kept.now.items near }
@@ -41,7 +44,8 @@ pub fn section_of<A: Allocator + Copy>(kept: &Chunks<Kept<A>, A>, near: Place, r
     place
 }
 
-/// The same section, or the last one before it that begins in the new records too, or the first.
+/// Returns the section `from`, or the last one before it, that also begins in the new records, or
+/// the first section if none does.
 pub fn front_of<A: Allocator + Copy>(
     kept: &Chunks<Kept<A>, A>,
     records: &Spliced<'_, Record<A>, A>,
@@ -64,7 +68,8 @@ pub fn front_of<A: Allocator + Copy>(
     Place { section, row }
 }
 
-/// Whether an old row is one from `old_end` on, and begins a section of the new records, in which `end` stands for `old_end`.
+/// Returns `true` if an old row is row `old_end` or a later one, and begins a section of the new
+/// records too. The old rows from `old_end` on are the new ones from `end` on.
 fn is_back<A: Allocator + Copy>(
     records: &Spliced<'_, Record<A>, A>,
     row: usize,
@@ -77,7 +82,8 @@ fn is_back<A: Allocator + Copy>(
     row >= old_end && is_start_at(records, row - old_end + end)
 }
 
-/// The same section, or the first one after it that begins at `old_end` or after it, and in the new records too; else the end.
+/// Returns the section `from`, or the first one after it, that begins at row `old_end` or later and
+/// also begins in the new records, or the end of all sections if none does.
 pub fn back_of<A: Allocator + Copy>(
     kept: &Chunks<Kept<A>, A>,
     records: &Spliced<'_, Record<A>, A>,
@@ -104,7 +110,8 @@ pub fn back_of<A: Allocator + Copy>(
     Place { section, row }
 }
 
-/// Where the section of a place, which stays as it is, begins in the new records; where there is none, their number.
+/// Returns the row at which the section of a place, which stays as it is, begins in the new
+/// records. Returns `len`, the number of the new records, for the end of all sections.
 pub fn new_row<A: Allocator + Copy>(
     kept: &Chunks<Kept<A>, A>,
     len: usize,

@@ -1,4 +1,4 @@
-//! Judging the sections that an edit changed.
+//! Judges the sections that an edit changed.
 ghost use Rattle.std.specs.Prelude.{◌≡◌, ◌↔◌, ◌⊎◌, ◌+◌, ◌-◌, ◌<◌, ◌≤◌, ◌^◌, ◌∷◌, ℕ, IsTrue, List, length, map, take, drop, IfOk, OnOk};
 ghost use Rattle.std.specs.List.{splice};
 ghost use Rattle.yl_text.specs.Store.{IsRange};
@@ -21,15 +21,20 @@ use yl_record::Record;
 use yl_retyped::keep_sections;
 use yl_sections::{Kept, judge_all, kept_of_front};
 
-/// What is kept of the sections from one on to before `end`, both counted from 0, becomes this.
+/// What an edit makes of the summaries of all sections: the summaries of some sections are
+/// replaced.
 #[derive(Drop)]
 pub struct Rejudged<A: Allocator> {
+    /// The index of the first section that is replaced, counted from 0.
     pub from: usize,
+    /// The index after that of the last section that is replaced, counted from 0.
     pub end: usize,
+    /// The summaries of the sections that replace them.
     pub kept: Vec<Kept<A>, A>,
 }
 
-/// The records from x on to before z, counted from 0, lent.
+/// Returns references to the records of the rows `x..z`, counted from 0. The only error is out of
+/// memory.
 fn gather_between<'a, A: Allocator + Copy>(
     alloc: A,
     records: &Spliced<'a, Record<A>, A>,
@@ -47,7 +52,8 @@ fn gather_between<'a, A: Allocator + Copy>(
     Ok(all)
 }
 
-/// What is kept of each section of the records from x on to before z. Counts their documents in the meter.
+/// Returns the summary of each section of the rows `x..z`. Counts their documents in the meter. The
+/// only error is out of memory.
 fn judge_between<A: Allocator + Copy>(
     alloc: A,
     config: &Config,
@@ -68,8 +74,10 @@ fn judge_between<A: Allocator + Copy>(
     judge_all(alloc, config, &all, meter)
 }
 
-/// What is kept of each section of the records from `first` on to before z. Sections that stay come before them: where these are some
-/// and the records none, as where whole documents went, there is nothing to judge. Counts their documents in the meter.
+/// Returns the summary of each section of the rows from the place `first` on, before row `z`. If
+/// there are no such rows, but sections before them that stay, as after the removal of whole
+/// documents, there is nothing to judge. Counts the documents of these sections in the meter. The
+/// only error is out of memory.
 fn judge_changed<A: Allocator + Copy>(
     alloc: A,
     config: &Config,
@@ -93,8 +101,10 @@ fn judge_changed<A: Allocator + Copy>(
     }
 }
 
-/// What is kept of a section from `first` on of which the rows before `from` alone are left, by what is kept of all of it, and of each
-/// section of the records from there on to before z. Counts the documents of the latter in the meter.
+/// Returns the summary of the section at the place `first`, of which only the rows before `from`
+/// are left, and of each section of the rows `from..z`. Makes the first from `kept`, the summary of
+/// the whole section. Counts the documents of the other sections in the meter. The only error is
+/// out of memory.
 fn judge_behind<A: Allocator + Copy>(
     alloc: A,
     config: &Config,
@@ -126,7 +136,8 @@ fn judge_behind<A: Allocator + Copy>(
     Ok(all)
 }
 
-/// The same as `rejudge`, where the sections that hold a row from `from` on to before `end` are judged in any case.
+/// Does what `rejudge` does, but judges the sections that hold one of the rows `from..end` in any
+/// case.
 fn judge_edited<A: Allocator + Copy>(
     alloc: A,
     config: &Config,
@@ -177,7 +188,8 @@ fn judge_edited<A: Allocator + Copy>(
     })
 }
 
-/// Whether there is a section at a place, and it has the rows down to the one before `end`.
+/// Returns `true` if there is a section at the place, and it holds the rows from there on, before
+/// row `end`.
 fn is_in_section<A: Allocator + Copy>(kept: &Chunks<Kept<A>, A>, place: Place, end: usize) -> bool
     requires at { IsAt kept.now.items place }
     requires above { place.row ≤ end }
@@ -189,12 +201,16 @@ fn is_in_section<A: Allocator + Copy>(kept: &Chunks<Kept<A>, A>, place: Place, e
     end - place.row <= kept.get(place.section).rows() as usize
 }
 
-/// What is kept of the sections of the new records, from what is kept of those of the old ones: the new records are the old ones before
-/// row `from`, and from row `end` on the old ones from `old_end` on, rows counted from 0. Judges no section but those that hold a row
-/// from `from` on to before `end`, if the section above loses nothing but empty rows, and counts their documents in the meter. Where it is
-/// seen that the same is kept of one section that holds all of these rows, it is not judged, and its document is not counted; the rows are
-/// compared for that if they are no more than the meter says were scanned. The first one is looked for from a section at or before it. The
-/// only error is out of memory.
+/// Returns what an edit makes of the summaries of all sections. The new records are the old ones
+/// before row `from`, and from row `end` on they are the old ones from row `old_end` on. Rows count
+/// from 0. Searches the first changed section from the section `near` on, which must begin at or
+/// before row `from`.
+///
+/// Judges only the sections that hold one of the rows `from..end`, if the section above loses only
+/// rows without a lexeme and a comment, and counts their documents in the meter. If one section
+/// holds all these rows and is found to keep its summary, it is not judged, and its document is not
+/// counted. The rows are compared for this only if the meter says that at least as many were
+/// scanned. The only error is out of memory.
 pub fn rejudge<A: Allocator + Copy>(
     alloc: A,
     config: &Config,

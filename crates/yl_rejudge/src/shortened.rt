@@ -1,4 +1,4 @@
-//! A section that loses rows of which nothing was read.
+//! A section that loses rows in which no lexeme and no comment begins.
 ghost use Rattle.std.specs.Prelude.{◌≡◌, ◌↔◌, ◌≤◌, ◌<◌, ◌^◌, IsTrue, true, None, length, take};
 ghost use Rattle.yl_sections.specs.Front.{IsBare};
 ghost use Rattle.yl_rejudge.specs.Documents.{AreFront, EndsAnew};
@@ -11,7 +11,8 @@ use yl_chunks::{Chunks, Spliced};
 use yl_record::Record;
 use yl_sections::Kept;
 
-/// Whether no scan fault begins in a row before row `from`, or nothing at all in another row.
+/// Returns `true` if no scan fault begins in row `i`, where it is before row `from`, or no lexeme
+/// and no comment, where it is not.
 fn is_front_row<A: Allocator>(row: &Record<A>, i: usize, from: usize) -> bool
     ensures { IsTrue result ↔ (i < from → row.now.entry.fault ≡ None) × (from ≤ i → IsBare row.now) }
 {
@@ -22,7 +23,8 @@ fn is_front_row<A: Allocator>(row: &Record<A>, i: usize, from: usize) -> bool
     }
 }
 
-/// Whether all that is read of the rows from x on to before `end` begins before row `from`, and no scan fault does.
+/// Returns `true` if all lexemes and comments of the rows `x..end` begin before row `from`, and no
+/// scan fault does.
 fn are_front<A: Allocator + Copy>(
     records: &Chunks<Record<A>, A>,
     x: usize,
@@ -40,8 +42,9 @@ fn are_front<A: Allocator + Copy>(
     true
 }
 
-/// Whether the old section of a place ends before row `from` in the new records, and did not in the old ones, where nothing was read of
-/// the rows that it loses.
+/// Returns `true` if the old section at the place ends before row `from` in the new records, and
+/// did not in the old ones, and all its lexemes and comments begin before this row, and no scan
+/// fault does.
 pub fn ends_anew<A: Allocator + Copy>(
     kept: &Chunks<Kept<A>, A>,
     old: &Chunks<Record<A>, A>,

@@ -1,4 +1,4 @@
-//! Where sections of an edited text begin.
+//! The rows with which sections of an edited text begin.
 ghost use Rattle.std.specs.Prelude.{◌≡◌, ◌≤◌, length, take, None};
 ghost use Rattle.yl_sections.specs.Local.{is_start_at, kind_after};
 
@@ -8,7 +8,7 @@ use yl_lexeme::Kind;
 use yl_record::Record;
 use yl_sections::{is_section_start, last_kind};
 
-/// The kind of the last lexeme before row `i`, counted from 0.
+/// Returns the kind of the last lexeme before row `i`, counted from 0, if there is one.
 pub fn kind_before<A: Allocator + Copy>(
     records: &Spliced<'_, Record<A>, A>,
     i: usize,
@@ -27,7 +27,7 @@ pub fn kind_before<A: Allocator + Copy>(
     None
 }
 
-/// Whether a section begins with row `i`, counted from 0.
+/// Returns `true` if a section begins with row `i`, counted from 0.
 pub fn is_start_at<A: Allocator + Copy>(records: &Spliced<'_, Record<A>, A>, i: usize) -> bool
     ensures { result ≡ is_start_at records.now i }
 {

@@ -1,4 +1,4 @@
--- Bridge: what scanning an edited text again makes of the records that are kept.
+-- Bridge: what scanning an edited text again makes of its records.
 use Rattle.std.specs.Prelude.{◌≡◌, ◌≤◌, ◌<◌, ◌+◌, ◌⊎◌, ℕ, List, Option, IfSome, length, take, drop}
 use Rattle.std.specs.List.{splice}
 use Rattle.yl_text.specs.Store.{IsRange}
@@ -8,14 +8,16 @@ use Rattle.yl_rejudge.specs.Documents.{TakesNothing}
 use Rattle.yl_rescan.specs.Held.{AreHeld}
 use Rattle.yl_rescan.specs.Rescan.{IsRescan}
 
--- where k lines were put in place of those from a on, before b: the records from row `from` on that are made anew, before `old_end` in the old text
--- and before `end` in the new one, are those of the edited lines and of one above them, if there is one
+-- the lines from a on, before b, were replaced by k lines: the new records, which replace those
+-- from row `from` on, before `old_end`, and end before row `end` of the new text, are at least
+-- those of the edited lines and of the row above them, if there is one
 pub record HoldsEdit (a b k from old_end end : ℕ) : Type 0 where
   pub above : (from < a) ⊎ (from ≡ 0)
   pub old_lines : b ≤ old_end
   pub new_lines : a + k ≤ end
 
--- these records, put in place of the old ones from one row on, before another, make those that are kept of the new text: see `rescan`
+-- these records, in place of the old ones from row `from` on, before `old_end`, make the records
+-- that are held of the new text, as `rescan` promises
 pub record WasRescanned (old : List RecordValue) (ps qs : List (List ℕ)) (cut : Option ℕ) (a b k from old_end end n : ℕ) (items : List RecordValue) : Type 0 where
   pub range : IsRange from old_end (length old)
   pub held : AreHeld qs cut (splice old from old_end items)

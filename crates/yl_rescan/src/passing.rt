@@ -1,4 +1,5 @@
-//! Rows below a scan fault, which reading has stopped above: they are passed, or fed to no effect.
+//! Rows below a scan fault, at which reading has stopped. Their records are made without a scan, or
+//! by a scan that reads nothing.
 ghost use Rattle.std.specs.Prelude.{◌≡◌, ◌≤◌, ◌<◌, ◌+◌, ◌-◌, ◌^◌, ◌++◌, true, IsSome, IfSome, OnOk, length, take, drop};
 ghost use Rattle.yl_text.specs.Store.{AreLines};
 ghost use Rattle.yl_row.specs.Entries.{Stopped};
@@ -16,7 +17,7 @@ use yl_scan::LineState;
 use yl_sections::is_section_start;
 use yl_text::{Lines, rows_fit};
 
-/// Whether this row of the old records is sound, and a section begins with it; false says nothing.
+/// Returns `true` only if this row of the old records is sound and a section begins with it.
 pub fn is_old_start<A: Allocator + Copy>(records: &Chunks<Record<A>, A>, row: usize) -> bool
     ensures sound { result ≡ true → IsSome (state_of_row records.now.items row) }
     ensures start { result ≡ true → is_start_at records.now.items row ≡ true }
@@ -31,8 +32,8 @@ pub fn is_old_start<A: Allocator + Copy>(records: &Chunks<Record<A>, A>, row: us
     is_start_at(&Spliced::new(records, 0, 0, &[]), row)
 }
 
-/// The first of the old rows from one on, counted from 0, that is sound and with which a section begins, and would begin too where the last
-/// lexeme above it had this kind.
+/// Returns the first old row from row `from` on, counted from 0, that is sound and with which a
+/// section begins, and would also begin after a lexeme of the kind `last`.
 pub fn next_start<A: Allocator + Copy>(
     records: &Chunks<Record<A>, A>,
     from: usize,
@@ -51,8 +52,8 @@ pub fn next_start<A: Allocator + Copy>(
     None
 }
 
-/// Adds the records of the rows from one on to before `end`, counted from 0, where reading has stopped above them. The rows are not
-/// scanned. The only error is out of memory.
+/// Appends the records of the rows `from..end`, counted from 0, at which reading has stopped. The
+/// rows are not scanned. The only error is out of memory.
 pub fn pass<L: Lines>(
     alloc: L::Alloc,
     lines: &L,
@@ -73,7 +74,8 @@ pub fn pass<L: Lines>(
     Ok(())
 }
 
-/// The same, where the rows are scanned, and count in the meter.
+/// Appends the same records as `pass`, but scans the rows and counts them in the meter. The only
+/// error is out of memory.
 pub fn feed_stopped<L: Lines>(
     alloc: L::Alloc,
     lines: &L,

@@ -23,19 +23,25 @@ use yl_record::Record;
 use yl_rejudge::{is_start_at, kind_before};
 use yl_text::{LineStore, Lines, Patched, Row};
 
-/// What an edit does to a text's records: these come in place of those from `from` on, before `old_end`. They are those of the new
-/// text's rows from `from` on, before `end`. Rows are counted from 0. From row `cut` on, where there is one, the records that are kept
-/// are not those of the new text: reading has stopped above it.
+/// What an edit makes of the records of a text: the old records of the rows `from..old_end` are
+/// replaced by the new records of the rows `from..end`. Rows count from 0.
 #[derive(Drop)]
 pub struct Rescanned<A: Allocator> {
+    /// The first row whose record is replaced.
     pub from: usize,
+    /// The row after the last one whose record is replaced, before the edit.
     pub old_end: usize,
+    /// The row after the last one whose record is new, after the edit.
     pub end: usize,
+    /// The new records.
     pub records: Vec<Record<A>, A>,
+    /// The row from which on the records are not those of the new text, since reading has stopped
+    /// above it. `None` if all are those of the new text.
     pub cut: Option<usize>,
 }
 
-/// The old row that stands where scanning ended; old rows from `stop` on lie as far behind `b`.
+/// Returns the old row that corresponds to the row `end` at which scanning ended. The new rows from
+/// `stop` on are the old ones from `b` on, and there are `len` old rows.
 fn counterpart(why: ScanEnd, end: usize, stop: usize, b: usize, len: usize) -> usize
     requires { (why ≡ TextEnd → ⊥) → (stop ≤ end) × (end + b < 2 ^ 64) }
     ensures { result ≡ counterpart why end stop b len }
@@ -46,7 +52,8 @@ fn counterpart(why: ScanEnd, end: usize, stop: usize, b: usize, len: usize) -> u
     }
 }
 
-/// From which row on the records are to be kept that are not those of the new text, if there is one.
+/// Returns the row from which on the records that stay are not those of the new text, if there is
+/// such a row. `end` is the row at which scanning ended, and `at` its old row.
 fn next_cut(why: ScanEnd, cut: Option<usize>, at: usize, end: usize) -> Option<usize>
     requires { IfSome cut (λ n. n + end < 2 ^ 64) }
     ensures { result ≡ next_cut why cut at end }
@@ -58,8 +65,10 @@ fn next_cut(why: ScanEnd, cut: Option<usize>, at: usize, end: usize) -> Option<u
     }
 }
 
-/// Whether what is kept behind the new records may be: a section begins with the row at which they are cut, or it is the new text's. Where
-/// reading has stopped above the edit, in both texts, a section begins with that row as it did.
+/// Returns `true` if the old records from row `at` on may stay below the new ones. If records are
+/// to be cut at row `cut`, a section must begin with this row. If not, scanning must not have ended
+/// below a fault. They also stay if `is_below_fault` is set, which says that scanning began below a
+/// fault, and the states agree: then a section begins with row `cut` as before.
 fn may_keep<'a, A: Allocator + Copy>(
     old: &'a Chunks<Record<A>, A>,
     from: usize,
@@ -86,8 +95,9 @@ fn may_keep<'a, A: Allocator + Copy>(
     }
 }
 
-/// These new records, and after them those of the rows from their end on to before `end`, which are passed, since reading has stopped above
-/// them; in place of the old ones before `old_end`.
+/// Adds the records of the rows from `read.end` on, before `end`, to those of `read`. These rows
+/// are passed, since reading has stopped above them. All these records replace the old ones before
+/// `old_end`. The only error is out of memory.
 fn passed_to<L: Lines>(
     alloc: L::Alloc,
     lines: &L,
@@ -122,7 +132,7 @@ fn passed_to<L: Lines>(
     })
 }
 
-/// The first row from this one on that is not above row `cut`.
+/// Returns the row `at` or the row `cut`, whichever is later.
 fn first_below(cut: Option<usize>, at: usize) -> usize
     ensures least { at ≤ result }
     ensures below { IfSome cut (λ n. n ≤ result) }
@@ -133,8 +143,9 @@ fn first_below(cut: Option<usize>, at: usize) -> usize
     }
 }
 
-/// These new records, and after them those of the rows below, which are passed, since reading has stopped above their end: down to the
-/// first of the old rows below with which a section begins, or to the text's end. The old rows above row `cut` are not looked at.
+/// Adds the records of the rows below to those of `read`. These rows are passed, since reading has
+/// stopped above them: down to the first old row, from row `cut` on, with which a section begins,
+/// or to the text's end. The only error is out of memory.
 fn with_passed<L: Lines>(
     alloc: L::Alloc,
     lines: &L,
@@ -165,7 +176,7 @@ fn with_passed<L: Lines>(
     Ok(to_end)
 }
 
-/// The same as `rescan`, where the edit does not begin below the row at which the old records are cut.
+/// Does what `rescan` does if the edit does not begin below row `cut`.
 fn rescan_above<S: LineStore>(
     alloc: S::Alloc,
     store: &S,
@@ -213,8 +224,9 @@ fn rescan_above<S: LineStore>(
     })
 }
 
-/// The same, where it begins below row `cut`, at which the old records are cut: there reading has stopped, and so it has in the new text.
-/// So the records of the rows from there on say nothing. Of these rows the edit's own are scanned, and the others are passed.
+/// Does what `rescan` does if the edit begins below row `cut`. In both texts reading has stopped at
+/// this row, so nothing is read of the rows from there on. Of these rows, those of the edit are
+/// scanned, and the others are passed.
 fn rescan_below<S: LineStore>(
     alloc: S::Alloc,
     store: &S,
@@ -250,13 +262,20 @@ fn rescan_below<S: LineStore>(
     Ok(rescanned)
 }
 
-/// Scans a text again, where these rows are put in place of those from a on, before b. `old` is the records that are kept of the old text,
-/// from row `cut` on, if there is one, as they were before reading stopped there. It begins at the last sound row above the edit, and goes
-/// on to the first row behind it whose state is the old one's, or to the end. Where reading stops far from the text's end, it goes no
-/// further than to a row with which a section begins: what stands below it is kept. Where the edit begins below row `cut`, its own rows
-/// alone are scanned. Then, and where a section no longer begins with that row, the rows around them are passed, from row `cut` down to
-/// the first row below the edit with which a section begins, or to the text's end: nothing is read of these. Each row that is scanned
-/// counts in the meter, and no other. Rows are counted from 0. Nothing is changed; the only error is out of memory.
+/// Scans an edited text again, as far as the edit requires it. The edit puts `rows` in place of the
+/// lines `a..b` of the store. `old` are the records before the edit. If `cut` is a row, the records
+/// from this row on are those from before a scan fault that stops reading above it. Rows count from
+/// 0.
+///
+/// Scanning begins at the last sound row above row `a`. It ends at the first row below the edit
+/// that has the state that it had, or below a fault at a row from which on old records may stay, or
+/// at the text's end. If the edit begins below row `cut`, only its own rows are scanned. Other rows
+/// are passed, since reading has stopped above them: their records are made without a scan. These
+/// are the rows from row `cut` down to such an edit, and rows below the scanned ones, down to a row
+/// with which a section begins or to the text's end.
+///
+/// The meter counts each row that is scanned, and no other. Nothing else changes. The only error is
+/// out of memory.
 pub fn rescan<S: LineStore>(
     alloc: S::Alloc,
     store: &S,

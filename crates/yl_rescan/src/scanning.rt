@@ -1,4 +1,4 @@
-//! Rows that are scanned again.
+//! Scans rows again.
 ghost use Rattle.std.specs.Prelude.{◌≡◌, ◌↔◌, ◌≤◌, ◌<◌, ◌+◌, ◌-◌, ◌^◌, ℕ, List, [], true, IsTrue, IsSome, Some, None, IfOk, IfSome, OnOk, false, option_map, length, take, drop};
 ghost use Rattle.yl_text.specs.Store.{AreLines};
 ghost use Rattle.yl_row.specs.Entries.{LineStateValue, Stopped};
@@ -17,16 +17,16 @@ use yl_record::{Record, Recorder};
 use yl_scan::LineState;
 use yl_text::{Lines, rows_fit};
 
-/// Where scanning begins again.
+/// A row at which scanning begins again.
 #[derive(Drop)]
 pub struct Restart<'a, A: Allocator> {
-    /// A row, counted from 0.
+    /// The row, counted from 0.
     pub row: usize,
-    /// Its state; none at the text's start.
+    /// The state of the row, or `None` at the text's start.
     pub state: Option<&'a LineState<A>>,
 }
 
-/// The last sound row above row `a`, or the first.
+/// Returns the last sound row above row `a`, or row 0 if there is none.
 pub fn last_sound<'a, A: Allocator + Copy>(
     records: &'a Chunks<Record<A>, A>,
     a: usize,
@@ -51,7 +51,7 @@ pub fn last_sound<'a, A: Allocator + Copy>(
     }
 }
 
-/// Whether the row at `i` is sound, with this state.
+/// Returns `true` if row `i` is sound and has this state.
 fn agree<A: Allocator + Copy>(
     records: &Chunks<Record<A>, A>,
     i: usize,
@@ -68,7 +68,7 @@ fn agree<A: Allocator + Copy>(
     }
 }
 
-/// Whether this is the state of a row at which reading has stopped.
+/// Returns `true` if this is the state of a row at which reading has stopped.
 pub fn is_stopped<A: Allocator + Copy>(state: Option<&LineState<A>>) -> bool
     ensures { IsTrue result ↔ (option_map (λ s. s.now) state.entry ≡ Some Stopped) }
 {
@@ -78,10 +78,11 @@ pub fn is_stopped<A: Allocator + Copy>(state: Option<&LineState<A>>) -> bool
     }
 }
 
-/// So many rows at a text's end are read again, and not kept behind a fault: then nothing stands below what is read.
+/// If at most this many rows are left below a fault, they are all scanned again. Then no old
+/// records stay below the fault.
 const NEAR: usize = 512;
 
-/// Whether more rows stand below this one than are read again at a text's end.
+/// Returns `true` if more than `NEAR` rows are left, from row `row` on.
 fn is_far<A: Allocator + Copy>(records: &Chunks<Record<A>, A>, row: usize) -> bool {
     records.len().saturating_sub(row) > NEAR
 }
@@ -89,17 +90,18 @@ fn is_far<A: Allocator + Copy>(records: &Chunks<Record<A>, A>, row: usize) -> bo
 /// Why scanning ends before a row.
 #[derive(Clone, Copy)]
 pub enum ScanEnd {
-    /// The row agrees with the old one.
+    /// The row has the state of its old row.
     Agreed,
-    /// Reading has stopped above it.
+    /// Reading has stopped above the row.
     Halted,
-    /// There is none.
+    /// No row is left.
     TextEnd,
 }
 
-/// Why scanning ends before a row of this state, whose counterpart is the old row `at`, if it does. It ends where they agree, down to where
-/// the old records are cut. Where reading has stopped, it ends where a section begins with the old row, far from the text's end, or from
-/// where these are cut on.
+/// Returns why scanning ends before a row with this state, or `None` if it goes on. `at` is the old
+/// row that corresponds to this row. Scanning ends where the states agree, at `cut` or above it.
+/// Below a fault it ends at a row with which a section begins, far from the text's end; or, if the
+/// old records are cut, at `cut` or below it.
 fn scan_end<A: Allocator + Copy>(
     old: &Chunks<Record<A>, A>,
     cut: Option<usize>,
@@ -129,7 +131,8 @@ fn scan_end<A: Allocator + Copy>(
     None
 }
 
-/// The same of row `i`, if it is one from `stop` on; the old row of such a one lies as far behind `b`.
+/// Returns why scanning ends before row `i`, as `scan_end` does, or `None` if it goes on or row `i`
+/// is above row `stop`. The old row that corresponds to row `i` is `i - stop + b`.
 fn end_at<A: Allocator + Copy>(
     old: &Chunks<Record<A>, A>,
     cut: Option<usize>,
@@ -151,7 +154,8 @@ fn end_at<A: Allocator + Copy>(
     scan_end(old, cut, i - stop + b, state)
 }
 
-/// A recorder before a sound row with this state, or at a text's start. The only error is memory.
+/// Creates a recorder at a sound row with this state, or at a text's start. The only error is out
+/// of memory.
 fn recorder_at<'a, A: Allocator + Copy>(
     alloc: &'a A,
     state: Option<&LineState<A>>,
@@ -166,16 +170,21 @@ fn recorder_at<'a, A: Allocator + Copy>(
     }
 }
 
-/// The records of the rows from where scanning began to before `end`.
+/// The records of the rows that were scanned.
 #[derive(Drop)]
 pub struct Scanned<A: Allocator> {
+    /// The records of the rows from the restart on, before row `end`.
     pub records: Vec<Record<A>, A>,
+    /// The row at which scanning ended, counted from 0.
     pub end: usize,
+    /// Why scanning ended.
     pub why: ScanEnd,
 }
 
-/// Scans the rows from the restart on, to the first from `stop` on at which scanning ends, or to the text's end. The old row of one from
-/// `stop` on lies as far behind `b`. The only error is memory.
+/// Scans the rows from the restart on, down to the first row from `stop` on at which scanning ends,
+/// or to the text's end. The old row that corresponds to row `i` is `i - stop + b`. The meter
+/// counts each row that is scanned, with the row at which scanning ended. The only error is out of
+/// memory.
 pub fn rescan_from<L: Lines>(
     alloc: L::Alloc,
     lines: &L,

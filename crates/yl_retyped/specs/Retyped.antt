@@ -1,4 +1,5 @@
--- Bridge: what may stand before a value that is typed anew, and at which values the rules on values find nothing.
+-- Bridge: what may come before a value whose text changes, and at which values the rules on values
+-- find nothing.
 use Rattle.std.specs.Prelude.{◌≡◌, Bool, true, false, []}
 use Rattle.yl_lexeme.specs.declared.lexeme.Kind.{Kind}
 use Rattle.yl_lexeme.specs.declared.lexeme.Kind.TheVariants.{Entry, Value, Scalar}
@@ -8,7 +9,8 @@ use Rattle.yl_layout.specs.declared.options.LexemeOptions.{LexemeOptions}
 use Rattle.yl_layout.specs.Lexemes.{value_findings}
 use Rattle.yl_layout.specs.Spans.{span_of}
 
--- a node directly behind it, in its line, is no key unless one begins there
+-- an indicator that asks for a value: a node that follows it in its line is a key only if a mapping
+-- begins with it
 abbrev pub asks_for_value : Kind → Bool
 asks_for_value Entry = true
 asks_for_value Value = true
@@ -18,10 +20,11 @@ abbrev pub is_scalar : Kind → Bool
 is_scalar (Scalar style) = true
 is_scalar _ = false
 
--- what the keys of a document say of a lexeme that has no part in one
+-- what is known of a lexeme that is no part of a key
 abbrev pub no_key : KeyFacts
 no_key = record { is_key = false; has_tag = false }
 
--- the rules on values find nothing at a lexeme that is no key, where all truthy words count; nor then where fewer do
+-- the rules on values find nothing at a lexeme that is no key, if all truthy words count; so they
+-- find nothing if fewer count
 abbrev pub IsQuiet : LexemeOptions → LexemeValue → Type 0
 IsQuiet o x = value_findings false o (span_of x) x.value no_key ≡ []

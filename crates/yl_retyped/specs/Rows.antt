@@ -1,4 +1,4 @@
--- Bridge: rows that say the same to the rules, but for a value that is typed anew.
+-- Bridge: rows that are the same for the rules, apart from the text of a value.
 use Rattle.std.specs.Prelude.{ℕ, ◌≡◌, ◌≤◌, ◌<◌, ◌⊎◌, true, List, [], ◌∷◌, ◌++◌, Some, None, slice_get}
 use Rattle.yl_lexeme.specs.Lexeme.{LexemeValue}
 use Rattle.yl_marks.specs.Keys.{lexeme_at_line}
@@ -6,7 +6,8 @@ use Rattle.yl_layout.specs.declared.options.LexemeOptions.{LexemeOptions}
 use Rattle.yl_record.specs.Records.{RecordValue}
 use Rattle.yl_retyped.specs.Retyped.{IsQuiet, asks_for_value, is_scalar}
 
--- of one row: a scalar x behind p is typed anew, y, and ends in the row as before
+-- in one row, the scalar x after the lexeme p becomes y; both begin at one position and end in the
+-- row
 pub record IsValueRetyped (p x y : LexemeValue) : Type 0 where
   pub before : asks_for_value p.kind ≡ true
   pub beside : p.end.line ≡ 0
@@ -16,7 +17,8 @@ pub record IsValueRetyped (p x y : LexemeValue) : Type 0 where
   pub ends : x.end.line ≡ 0
   pub new_ends : y.end.line ≡ 0
 
--- the last of a row's lexemes is typed anew, and the rules on values find nothing at either text
+-- the last lexeme of a row changes its text, and the rules on values find nothing at the old text
+-- and at the new one
 pub record IsLastRetyped (o : LexemeOptions) (xs ys : List LexemeValue) : Type 0 where
   pub front : List LexemeValue
   pub p : LexemeValue
@@ -28,14 +30,14 @@ pub record IsLastRetyped (o : LexemeOptions) (xs ys : List LexemeValue) : Type 0
   pub quiet : IsQuiet o (lexeme_at_line 0 x)
   pub new_quiet : IsQuiet o (lexeme_at_line 0 y)
 
--- two rows say the same to the rules
+-- two rows are the same for the rules
 pub record IsSameRow (r s : RecordValue) : Type 0 where
   pub indentation : r.indentation ≡ s.indentation
   pub lexemes : r.entry.lexemes ≡ s.entry.lexemes
   pub comment : r.entry.comment ≡ s.entry.comment
   pub fault : r.entry.fault ≡ s.entry.fault
 
--- a row without comment and fault whose last value is typed anew
+-- the last value of a row without a comment changes its text; the indentation and the fault stay
 pub record IsRetypedRow (o : LexemeOptions) (r s : RecordValue) : Type 0 where
   pub indentation : r.indentation ≡ s.indentation
   pub lexemes : IsLastRetyped o r.entry.lexemes s.entry.lexemes
@@ -46,7 +48,7 @@ pub record IsRetypedRow (o : LexemeOptions) (r s : RecordValue) : Type 0 where
 abbrev pub IsRowAlike : LexemeOptions → RecordValue → RecordValue → Type 0
 IsRowAlike o r s = IsSameRow r s ⊎ IsRetypedRow o r s
 
--- so do the rows from one on to before another
+-- the rows from `from` on, before `end`, are alike in both lists
 abbrev pub AreRowsAlike : LexemeOptions → (old new : List RecordValue) (from end : ℕ) → Type 0
 AreRowsAlike o old new from end =
     (i : ℕ) (r s : RecordValue) → from ≤ i → i < end → slice_get old i ≡ Some r → slice_get new i ≡ Some s → IsRowAlike o r s

@@ -1,4 +1,4 @@
-//! Lexemes that are the same, and a value that is typed anew.
+//! Compares lexemes, and decides whether only the text of a value differs.
 ghost use Rattle.std.specs.Prelude.{◌≡◌, true, length, take, IfOk};
 ghost use Rattle.yl_marks.specs.Keys.{lexeme_at_line};
 ghost use Rattle.yl_retyped.specs.Retyped.{IsQuiet, asks_for_value, is_scalar};
@@ -9,7 +9,7 @@ use yl_layout::{LexemeOptions, lexeme_problems};
 use yl_lexeme::{Kind, Lexeme, LexemeAtLine};
 use yl_marks::KeyFacts;
 
-/// Whether two lexemes are the same.
+/// Returns `true` only if the two lexemes are equal.
 fn is_same<A: Allocator>(one: &Lexeme<A>, other: &Lexeme<A>) -> bool
     ensures { result ≡ true → one.now ≡ other.now }
 {
@@ -19,7 +19,7 @@ fn is_same<A: Allocator>(one: &Lexeme<A>, other: &Lexeme<A>) -> bool
         && one.value() == other.value()
 }
 
-/// Whether two lists of lexemes are the same.
+/// Returns `true` only if the two lists of lexemes are equal.
 pub fn are_same<A: Allocator>(one: &[Lexeme<A>], other: &[Lexeme<A>]) -> bool
     ensures { result ≡ true → one.now ≡ other.now }
 {
@@ -34,7 +34,8 @@ pub fn are_same<A: Allocator>(one: &[Lexeme<A>], other: &[Lexeme<A>]) -> bool
     true
 }
 
-/// Whether a node directly behind it, in its line, is no key unless one begins there.
+/// Returns `true` for the indicators that ask for a value. A node that follows one in its line is a
+/// key only if a mapping begins with it.
 fn asks_for_value(kind: Kind) -> bool
     ensures { result ≡ asks_for_value kind }
 {
@@ -47,7 +48,8 @@ fn is_scalar(kind: Kind) -> bool
     matches!(kind, Kind::Scalar(_))
 }
 
-/// Whether a scalar behind a lexeme that asks for a value is typed anew: both texts begin at one place and end in its row.
+/// Returns `true` only if `old` and `new` are scalars of one kind after a lexeme that asks for a
+/// value, which begin at one position and end in their row.
 fn is_value_retyped<A: Allocator>(before: &Lexeme<A>, old: &Lexeme<A>, new: &Lexeme<A>) -> bool
     ensures { result ≡ true → IsValueRetyped before.now old.now new.now }
 {
@@ -60,7 +62,8 @@ fn is_value_retyped<A: Allocator>(before: &Lexeme<A>, old: &Lexeme<A>, new: &Lex
         && new.end().line == 0
 }
 
-/// Whether the rules on values find nothing at a scalar that is no key. The only error is out of memory.
+/// Returns `true` only if the rules on values find nothing at this scalar, which must be no key.
+/// The only error is out of memory.
 fn is_quiet<A: Allocator + Copy>(
     alloc: A,
     options: &LexemeOptions,
@@ -78,8 +81,9 @@ fn is_quiet<A: Allocator + Copy>(
     Ok(found.is_empty())
 }
 
-/// Whether of two rows' lexemes the last alone differ, which are a value that is typed anew, and the rules on values find nothing at
-/// either. The only error is out of memory.
+/// Returns `true` only if the lexemes of two rows differ in the last one alone, if only the text of
+/// this value differs, and if the rules on values find nothing at the old text and at the new one.
+/// The only error is out of memory.
 pub fn is_last_retyped<A: Allocator + Copy>(
     alloc: A,
     options: &LexemeOptions,

@@ -1,8 +1,11 @@
-//! Whether an edit leaves what is kept of each section as it was, because nothing but values was typed anew.
+//! Decides whether an edit leaves the summaries of all sections as they were, since only values are
+//! typed again.
 //!
-//! A value that stands last in its line, directly behind an indicator that asks for one, is no key, and no mark depends on it. Where its
-//! text alone becomes another, and the rules on values find nothing at either text, what is kept of its section stays. So it does where no
-//! lexeme begins in the lines that are typed, before or after, as in those below a fault.
+//! A value that is last in its line, directly after an indicator that asks for one, is no key, and
+//! no mark depends on it. If only its text changes, and the rules on values find nothing at the old
+//! text and at the new one, the summary of its section stays. It also stays if the lines that are
+//! typed have the same lexemes, comments, indentation and faults as before, as lines below a fault
+//! may have.
 #![tactic(auto)]
 
 mod lexemes;

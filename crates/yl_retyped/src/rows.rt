@@ -1,4 +1,4 @@
-//! Rows that say the same to the rules, but for a value that is typed anew.
+//! Compares rows as far as the rules see them, apart from the text of a value.
 ghost use Rattle.std.specs.Prelude.{◌≡◌, true, option_map, IfOk};
 ghost use Rattle.yl_retyped.specs.Rows.{IsRowAlike};
 
@@ -8,7 +8,7 @@ use yl_layout::LexemeOptions;
 use yl_lexeme::Comment;
 use yl_record::Record;
 
-/// Whether two rows have the same comment, or none.
+/// Returns `true` only if the two comments are equal, or both are missing.
 fn is_same_comment<A: Allocator>(one: Option<&Comment<A>>, other: Option<&Comment<A>>) -> bool
     ensures { result ≡ true → option_map (λ c. c.now) one.entry ≡ option_map (λ c. c.now) other.entry }
 {
@@ -19,7 +19,8 @@ fn is_same_comment<A: Allocator>(one: Option<&Comment<A>>, other: Option<&Commen
     }
 }
 
-/// Whether two rows say the same to the rules, but for a value that is typed anew. The only error is out of memory.
+/// Returns `true` only if two rows are the same for the rules, apart from the text of a value at
+/// which the rules on values find nothing. The only error is out of memory.
 pub fn is_row_alike<A: Allocator + Copy>(
     alloc: A,
     options: &LexemeOptions,

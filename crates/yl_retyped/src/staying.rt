@@ -1,4 +1,4 @@
-//! Sections of which the same is kept, since their rows say the same to the rules.
+//! Decides whether the summaries of all sections stay, since the rows are the same for the rules.
 ghost use Rattle.std.specs.Prelude.{◌≡◌, ◌≤◌, true, false, None, length, map, take, drop, IfOk};
 ghost use Rattle.std.specs.Bool.{then_some};
 ghost use Rattle.yl_text.specs.declared.finding.RuleId.TheVariants.{QuotedStrings, Truthy};
@@ -16,21 +16,21 @@ use yl_layout::LexemeOptions;
 use yl_record::Record;
 use yl_text::RuleId;
 
-/// Whether a rule is on.
+/// Returns `true` if the rule is on.
 fn is_on(config: &Config, rule: RuleId) -> bool
     ensures { result ≡ is_on config.now rule }
 {
     config.levels().level_of(rule).is_some()
 }
 
-/// The options of a rule that is on.
+/// Returns the options if the rule is on.
 fn options_if<O: Copy>(is_on: bool, options: &O) -> Option<O>
     ensures { result ≡ then_some is_on options.now }
 {
     if is_on { Some(*options) } else { None }
 }
 
-/// The options of the rules on values alone.
+/// Returns the options of the rules on values. All other rules are off.
 fn value_options(config: &Config) -> LexemeOptions
     ensures truthy { result.truthy ≡ then_some (is_on config.now Truthy) (options_of config.now).truthy }
     ensures quoted { result.quoted_strings ≡ then_some (is_on config.now QuotedStrings) (options_of config.now).quoted_strings }
@@ -50,8 +50,8 @@ fn value_options(config: &Config) -> LexemeOptions
     }
 }
 
-/// Whether the rows from one on to before `end` say the same to the rules as the old ones, but for values that are typed anew. The only
-/// error is out of memory.
+/// Returns `true` only if the rows `from..end`, counted from 0, are the same for the rules as the
+/// old ones, apart from the texts of values. The only error is out of memory.
 fn are_rows_alike<A: Allocator + Copy>(
     alloc: A,
     options: &LexemeOptions,
@@ -72,8 +72,10 @@ fn are_rows_alike<A: Allocator + Copy>(
     Ok(true)
 }
 
-/// Whether it is seen that the same is kept of each section of the new records as of the old ones. The records are the same above row
-/// `from`, and from row `end` on, rows counted from 0. It takes time with the rows between alone. The only error is out of memory.
+/// Returns `true` only if the sections of the new records have the same summaries as those of the
+/// old ones. `false` implies nothing. The records before row `from` and those from row `end` on
+/// must be the same in both. Rows count from 0. Looks only at the rows between. The only error is
+/// out of memory.
 pub fn keep_sections<A: Allocator + Copy>(
     alloc: A,
     config: &Config,

@@ -4,6 +4,6 @@ use Rattle.yl_sections.specs.Kept.{KeptValue}
 use Rattle.yl_overview.specs.Overview.{AreOverviews}
 use Rattle.yl_overview.specs.declared.overview.Overview.{Overview}
 
--- the new overviews are theirs, or the old ones where there are none
+-- the new overviews are those of these sections, or the old ones are if there are no new ones
 abbrev pub AreOverviewsAfter : {A : Type 0} → List KeptValue → List Overview → Option (Vec Overview A) → Type 0
 AreOverviewsAfter ks os anew = MatchOption anew (AreOverviews ks os) (λ v. AreOverviews ks v.items)

@@ -1,4 +1,4 @@
--- Bridge: what an edit makes of what a session keeps of what is found in its text.
+-- Bridge: what an edit makes of the problems that a session keeps.
 use Rattle.std.specs.Prelude.{◌≡◌, List}
 use Rattle.yl_text.specs.Lines.{RowValue}
 use Rattle.yl_config.specs.declared.config.Config.{Config}
@@ -8,7 +8,8 @@ use Rattle.yl_parting.specs.Rooms.{IsReady}
 use Rattle.yl_parting.specs.declared.change.Change.{Change}
 use Rattle.yl_found.specs.Found.{all_parts}
 
--- the change can be made of the two lists of these lines and of what is kept of their sections, and makes them those of the new ones
+-- the change can be made of the two lists of these lines and summaries of sections, and makes them
+-- the two lists of the new lines and summaries
 pub record Makes {A : Type 0} (config : Config) (rows new : List RowValue) (ks ls : List KeptValue) (change : Change A) : Type 0 where
   pub ready : IsReady change (all_parts config rows ks)
   pub parts : renewed change (all_parts config rows ks) ≡ all_parts config new ls

@@ -1,4 +1,5 @@
--- Meaning: how much of a text an edit may scan, and of how many documents it may derive events.
+-- Meaning: how many rows of a text an edit may scan, and of how many documents it may derive the
+-- events.
 use Rattle.std.specs.Prelude.{ℕ, ◌+◌, ◌-◌, ◌≤◌, List}
 use Rattle.yl_record.specs.Records.{records}
 use Rattle.yl_sections.specs.Sections.{sections}
@@ -6,8 +7,10 @@ use Rattle.yl_rescan.specs.Rescan.{IsRestart, IsStop}
 use Rattle.yl_rejudge.specs.Documents.{documents_holding}
 use Rattle.yl_session.specs.declared.work.Work.{Work}
 
--- An edit of a text of these old rows, each given as its characters, put k lines in place of the lines a to b. Then at the most the
--- rows from r to m are scanned, and events are derived of the documents that hold one of these rows.
+-- An edit of a text with these old rows, each given as its characters, puts k lines in place of the
+-- lines from a on, before b. Then the number of rows that are scanned is at least k, and at most
+-- that of the rows from r to m. Events are derived of at most as many documents as hold one of
+-- these rows.
 pub record IsWork (old new : List (List ℕ)) (a b k : ℕ) (work : Work) : Type 0 where
   pub r : ℕ
   pub m : ℕ

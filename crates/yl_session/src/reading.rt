@@ -19,7 +19,7 @@ use yl_record::{Record, Recorder};
 use yl_sections::{Kept, judge_all};
 use yl_text::{Lines, rows_fit};
 
-/// The minimum number of records that move into chunks at once.
+/// The minimum number of records that move into chunks at once, except at the end of the text.
 const PIECE: usize = 4096;
 
 /// Returns the number of records that wait before they move, if `moved` records moved before. Each

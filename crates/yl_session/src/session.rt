@@ -32,8 +32,8 @@ use yl_text::{LineStore, Lines, Pos, Row, TextFault, are_one_place, line_edit, s
 /// their overviews, and all findings. The findings are split into those that the report shows and
 /// those that its first fault and its comments hide. If `cut` is a row, the records from this row
 /// on stand after a scan fault, after which nothing is read. They are as they were before the
-/// fault, so that they need not be made again once it is gone. The summaries of the sections belong
-/// to these records. The report shows nothing of the sections after a fault.
+/// fault, so that they need not be made again once the fault is removed. The summaries of the
+/// sections belong to these records. The report shows nothing of the sections after a fault.
 #[derive(Drop)]
 pub struct Session<S: LineStore> {
     alloc: S::Alloc,
