@@ -12,6 +12,9 @@ pub mod Fronts
 pub mod Stateless
 pub mod LineByLine
 pub mod Lines
+pub mod RowFirst
+pub mod RowDirectives
+pub mod JudgedRows
 pub mod DocumentJudging
 pub mod RowJudging
 pub mod Stopping

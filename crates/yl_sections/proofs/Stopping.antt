@@ -18,8 +18,8 @@ use Rattle.yl_sections.proofs.RowJudging.{has_some, left_is, line_of_placed, mov
 
 module _ {A : Type 0} (config : Config) (rs : List RecordValue) (r : RecordValue) (d e : DocumentJudge A) (fault : PlacedParseFault) (line : List LexemeValue) (count n spaces : ℕ) (at : n ≡ length rs)
     (are : line ≡ map (lexeme_at_line n) r.entry.lexemes) (some : 0 < length r.entry.lexemes) (spaces_are : spaces ≡ r.indentation) (long : length line ≡ count) (h : ReadsRows config rs d)
-    (stops : (xs : List LexemeValue) (ns : List ℕ) (left : List LexemeValue) → IsLine ns spaces line left → Reads config xs ns (line ++ left) d → Stops config xs ns d.count count fault e)
-    (s : StoppedDocument A) (found : s.found.items ≡ e.found.items) (facts : s.facts.items ≡ e.facts.items) (place : s.place ≡ start_at line (fault.place - d.count)) (text : s.text.now ≡ parse.fault_text fault.kind) where
+    (stops : (xs : List LexemeValue) (ns : List ℕ) (left : List LexemeValue) → IsLine ns spaces line left → Reads config xs ns (line ++ left) d → Stops config xs ns d.rows.reader.count count fault e)
+    (s : StoppedDocument A) (found : s.found.items ≡ e.rows.found.items) (facts : s.facts.items ≡ e.rows.facts.items) (place : s.place ≡ start_at line (fault.place - d.rows.reader.count)) (text : s.text.now ≡ parse.fault_text fault.kind) where
   module _ (more : List RecordValue) where
     abbrev all : List RecordValue
     all = rs ++ r ∷ more
@@ -30,25 +30,25 @@ module _ {A : Type 0} (config : Config) (rs : List RecordValue) (r : RecordValue
     reads : Reads config (lexemes_of all) (spaces_of all) (line ++ left) d
     reads = subst (λ (ys : List LexemeValue). Reads config (lexemes_of all) (spaces_of all) ys d) (left_is rs more r n line at are) (h (r ∷ more) (has_some rs more r some))
 
-    stopped : Stops config (lexemes_of all) (spaces_of all) d.count count fault e
+    stopped : Stops config (lexemes_of all) (spaces_of all) d.rows.reader.count count fault e
     stopped = stops (lexemes_of all) (spaces_of all) left (row_line rs more r n spaces line at spaces_are are some) reads
 
-    within : fault.place - d.count < length line
+    within : fault.place - d.rows.reader.count < length line
     within = omega (arith, stopped.there.0, stopped.there.1, long)
 
-    lexeme : (x : LexemeValue) × (slice_get line (fault.place - d.count) ≡ Some x)
-    lexeme = some_at line (fault.place - d.count) within
+    lexeme : (x : LexemeValue) × (slice_get line (fault.place - d.rows.reader.count) ≡ Some x)
+    lexeme = some_at line (fault.place - d.rows.reader.count) within
 
     here : slice_get (lexemes_of all) fault.place ≡ Some lexeme.0
     here =
-        ap (λ k. slice_get (lexemes_of all) k) {x = fault.place} {y = d.count + (fault.place - d.count)} (omega (arith, stopped.there.0))
-        ∙ (has_line (lexemes_of all) reads.front line left d.count reads.whole reads.read (fault.place - d.count) within ∙ lexeme.1)
+        ap (λ k. slice_get (lexemes_of all) k) {x = fault.place} {y = d.rows.reader.count + (fault.place - d.rows.reader.count)} (omega (arith, stopped.there.0))
+        ∙ (has_line (lexemes_of all) reads.front line left d.rows.reader.count reads.whole reads.read (fault.place - d.rows.reader.count) within ∙ lexeme.1)
 
     begins : lexeme.0.start ≡ s.place
     begins = sym (place ∙ ap start_of lexeme.1)
 
     pub on_line : s.place.line ≡ n
-    on_line = ap (λ (p : Pos). p.line) (sym begins) ∙ line_of_placed n r.entry.lexemes (fault.place - d.count) lexeme.0 (ap (λ (ys : List LexemeValue). slice_get ys (fault.place - d.count)) (sym are) ∙ lexeme.1)
+    on_line = ap (λ (p : Pos). p.line) (sym begins) ∙ line_of_placed n r.entry.lexemes (fault.place - d.rows.reader.count) lexeme.0 (ap (λ (ys : List LexemeValue). slice_get ys (fault.place - d.rows.reader.count)) (sym are) ∙ lexeme.1)
 
     is_stopped : IsStopped config all s
     is_stopped = record {

@@ -63,28 +63,28 @@ pub record IsLine (ns : List ℕ) (spaces : ℕ) (line left : List LexemeValue) 
 pub record Reads {A : Type 0} (config : Config) (xs : List LexemeValue) (ns : List ℕ) (left : List LexemeValue) (d : DocumentJudge A) : Type 0 where
   pub front : List LexemeValue
   pub whole : xs ≡ front ++ left
-  pub read : length front ≡ d.count
-  pub count : d.reader.marker.marks.count ≡ d.count
-  pub only : OnlyInnermostWaits d.reader.parser.goals
-  pub waits : option_map (λ w. w.index) d.waiting ≡ waiting_anchor d.reader.parser.goals
+  pub read : length front ≡ d.rows.reader.count
+  pub count : d.rows.reader.marker.marks.count ≡ d.rows.reader.count
+  pub only : OnlyInnermostWaits d.rows.reader.parser.goals
+  pub waits : option_map (λ w. w.index) d.waiting ≡ waiting_anchor d.rows.reader.parser.goals
   pub anchor : IsAnchorOf xs d.waiting
-  pub options : d.options ≡ lexeme_options_of config
-  pub version : IsVersion (is_1_2_document xs) d.rules left
+  pub options : d.rows.options ≡ lexeme_options_of config
+  pub version : IsVersion (is_1_2_document xs) d.rows.rules left
   pub found : (n : ℕ) → n ≤ length left
-      → d.found.items ++ lexemes_left (is_1_2_document xs) (lexeme_options_of config) d.rules (take n left) (facts_by_lines d.reader.marker (by_line (map token_of left)))
-      ≡ lexeme_findings (lexeme_options_of config) (d.count + n) xs
-  pub facts : (all : ℕ) → d.count ≤ all
-      → d.facts.items ++ facts_left d.places (map token_of xs) all ns (marks_by_lines d.reader.marker.marks (by_line (map token_of left)))
+      → d.rows.found.items ++ lexemes_left (is_1_2_document xs) (lexeme_options_of config) d.rows.rules (take n left) (facts_by_lines d.rows.reader.marker (by_line (map token_of left)))
+      ≡ lexeme_findings (lexeme_options_of config) (d.rows.reader.count + n) xs
+  pub facts : (all : ℕ) → d.rows.reader.count ≤ all
+      → d.rows.facts.items ++ facts_left d.rows.places (map token_of xs) all ns (marks_by_lines d.rows.reader.marker.marks (by_line (map token_of left)))
       ≡ indent_facts (map token_of xs) (marked_lexemes xs) all ns
-  pub told : Gives config xs d.tree (outcome_of_symbols d.reader.parser d.count [] (marks_by_lines d.reader.marker.marks (by_line (map token_of left)))) (document_of xs)
+  pub told : Gives config xs d.tree (outcome_of_symbols d.rows.reader.parser d.rows.reader.count [] (marks_by_lines d.rows.reader.marker.marks (by_line (map token_of left)))) (document_of xs)
 
 -- the document has this fault at a lexeme of a line, and the lexemes before it were judged; `first`
 -- is the index of the first lexeme of the line, and `count` the number of its lexemes
 pub record Stops {A : Type 0} (config : Config) (xs : List LexemeValue) (ns : List ℕ) (first count : ℕ) (f : PlacedParseFault) (d : DocumentJudge A) : Type 0 where
   pub fault : (document_of xs).fault ≡ Some f
   pub there : IsInLine first count f.place
-  pub found : d.found.items ≡ lexeme_findings (lexeme_options_of config) f.place xs
-  pub facts : d.facts.items ≡ indent_facts (map token_of xs) (marked_lexemes xs) f.place ns
+  pub found : d.rows.found.items ≡ lexeme_findings (lexeme_options_of config) f.place xs
+  pub facts : d.rows.facts.items ≡ indent_facts (map token_of xs) (marked_lexemes xs) f.place ns
 
 abbrev pub ReadsLine : {A : Type 0} → Option PlacedParseFault → Config → List LexemeValue → List ℕ → ℕ → ℕ → List LexemeValue → DocumentJudge A → Type 0
 ReadsLine None config xs ns first count left d = Reads config xs ns left d

@@ -8,4 +8,8 @@ pub mod Front
 pub mod Last
 pub mod Laws
 pub mod Reading
+pub mod Directives
+pub mod State
+pub mod RowReading
+pub mod JudgedRow
 pub mod Judging

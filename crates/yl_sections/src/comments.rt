@@ -27,7 +27,7 @@ pub struct LexemeEnd {
 
 /// Returns the end of the last lexeme after a row at `line` with these lexemes. `last` is the end
 /// of the last lexeme before the row.
-fn last_end<A: Allocator>(
+pub fn last_end<A: Allocator>(
     last: Option<LexemeEnd>,
     line: u32,
     lexemes: &[Lexeme<A>],
@@ -47,7 +47,7 @@ fn last_end<A: Allocator>(
 }
 
 /// Returns the column of the end of a lexeme, if the end is in this line.
-fn column_in(line: u32, last: Option<LexemeEnd>) -> Option<u32>
+pub fn column_in(line: u32, last: Option<LexemeEnd>) -> Option<u32>
     ensures { result ≡ option_and_then (λ e. then_some (e.line == line) e.col) last }
 {
     match last {

@@ -1,5 +1,5 @@
 //! Judges a document line by line.
-ghost use Rattle.std.specs.Prelude.{◌≡◌, ◌≤◌, ◌<◌, ◌+◌, ◌-◌, ◌^◌, ◌++◌, ◌∷◌, [], ℕ, Bool, List, map, length, take, Some, None, IfOk, OnOk, string_bytes};
+ghost use Rattle.std.specs.Prelude.{◌≡◌, ◌<◌, ◌+◌, ◌-◌, ◌^◌, ◌++◌, [], ℕ, List, map, length, Some, None, IfOk, OnOk};
 ghost use Rattle.yl_text.specs.Finding.{FindingValue};
 ghost use Rattle.yl_lexeme.specs.Lexeme.{LexemeValue};
 ghost use Rattle.yl_marks.specs.Keys.{lexeme_at_line};
@@ -8,23 +8,20 @@ ghost use Rattle.yl_events.specs.Event.{EventValue};
 ghost use Rattle.yl_events.specs.Named.{waiting_anchor};
 ghost use Rattle.yl_config.specs.declared.config.Config.{Config};
 ghost use Rattle.yl_events.specs.Seen.{event_seen, waiting_value};
-ghost use Rattle.yl_layout.specs.LexemesLeft.{IsVersion, lexemes_left};
 ghost use Rattle.yl_tree.specs.TreeRules.{Finds};
 ghost use Rattle.yl_sections.specs.Judging.{EndsSo, IsLine, Reads, ReadsLine, anchor_held};
 ghost use Rattle.yl_sections.specs.Kept.{event_findings};
-ghost use Rattle.yl_sections.specs.Reading.{counted_in};
 
-use crate::document_reader::DocumentReader;
-use crate::rules::{lexeme_options, tree_options};
+use crate::row_judge::RowJudge;
+use crate::row_reader::RowReader;
+use crate::rules::tree_options;
 use std::alloc::{AllocError, Allocator};
 use std::marker::Model;
-use std::mem;
 use yl_config::Config;
 use yl_events::{LineLexemes, Outline, PlacedParseFault, WaitingAnchor};
-use yl_indentation::{Fact, FactReader};
-use yl_layout::{LexemeOptions, LexemeRules};
+use yl_indentation::Fact;
 use yl_lexeme::Meter;
-use yl_marks::{KeyFacts, RowLexemes};
+use yl_marks::RowLexemes;
 use yl_text::{Finding, Pos};
 use yl_tree::TreeRules;
 
@@ -139,7 +136,7 @@ fn tell<A: Allocator + Copy>(
     held: &mut Option<HeldAnchor<A>>,
     first: usize,
     row: &RowLexemes<'_, A>,
-    reader: &DocumentReader<A>,
+    reader: &RowReader<A>,
     tree: &mut TreeRules<A>,
 ) -> Result<(), AllocError>
     ensures events { (es : List EventValue) (all : List FindingValue)
@@ -161,41 +158,13 @@ fn tell<A: Allocator + Copy>(
     Ok(())
 }
 
-/// Appends the findings of the rules on lexemes in the first `count` lexemes of a row, as if no
-/// lexeme followed them. The only error is out of memory.
-#[inline(never)]
-fn find_before<A: Allocator + Copy>(
-    options: &LexemeOptions,
-    row: &RowLexemes<'_, A>,
-    keys: &[KeyFacts],
-    count: usize,
-    rules: &mut LexemeRules,
-    found: &mut Vec<Finding<A>, A>,
-) -> Result<(), AllocError>
-    requires keys { length keys.now ≡ length row.now.lexemes.now }
-    requires count { count ≤ length row.now.lexemes.now }
-    ensures { (v : Bool) (rest : List LexemeValue)
-        → IsVersion v rules.old (map (lexeme_at_line row.now.line) row.now.lexemes.now ++ rest)
-        → OnOk result (found.new.items
-        ≡ found.old.items ++ lexemes_left v options.now rules.old (take count (map (lexeme_at_line row.now.line) row.now.lexemes.now)) (take count keys.now)) }
-{
-    let (lexemes, _) = row.lexemes.split_at(count);
-    let (keys, _) = keys.split_at(count);
-    let before = RowLexemes {
-        line: row.line,
-        lexemes,
-    };
-    rules.read_row(options, &before, keys, found)?;
-    rules.finish(options, found)
-}
-
 /// Returns the findings of the rules on keys and anchors in a document of `count` lexemes, or none
 /// if it has a fault. The reader holds the outlines of its end. The only error is out of memory.
 fn found_in_tree<A: Allocator + Copy>(
     alloc: A,
     waiting: &Option<HeldAnchor<A>>,
     count: usize,
-    reader: &DocumentReader<A>,
+    reader: &RowReader<A>,
     fault: Option<PlacedParseFault>,
     mut tree: TreeRules<A>,
 ) -> Result<Vec<Finding<A>, A>, AllocError>
@@ -215,17 +184,6 @@ fn found_in_tree<A: Allocator + Copy>(
     tree.finish()
 }
 
-/// Returns the number of lexemes of a document that are judged: those before its fault, if it has
-/// one, else `end`.
-fn counted_in(fault: Option<PlacedParseFault>, end: usize) -> usize
-    ensures { result ≡ counted_in fault end }
-{
-    match fault {
-        None => end,
-        Some(fault) => fault.place,
-    }
-}
-
 /// Returns the rules on keys and anchors at the start of a document. Their findings depend only on
 /// the events of that document.
 fn rules_at_start<A: Allocator + Copy>(alloc: A, config: &Config) -> TreeRules<A>
@@ -234,31 +192,17 @@ fn rules_at_start<A: Allocator + Copy>(alloc: A, config: &Config) -> TreeRules<A
     TreeRules::new(alloc, &tree_options(config))
 }
 
-/// A judge of a document, whose lines are given one after another. Of these lines it holds the
-/// names of keys and anchors that rules may still need, the neighbour of the next lexeme, and what
-/// is expected where.
+/// A judge of a document, whose rows are given one after another. Of these rows it holds the names
+/// of keys and anchors that rules may still need, the neighbour of the next lexeme, and what is
+/// expected where.
 #[derive(Drop)]
 pub struct DocumentJudge<A: Allocator + Copy> {
-    /// The allocator of the lists.
-    alloc: A,
-    /// The number of lexemes that were read.
-    count: usize,
-    /// The marks and the parser of the document.
-    reader: DocumentReader<A>,
+    /// The judge of the rows.
+    rows: RowJudge<A>,
     /// The anchor that waits for its node, if there is one.
     waiting: Option<HeldAnchor<A>>,
-    /// The reader of the facts.
-    places: FactReader<A>,
-    /// The options of the rules on lexemes that are on.
-    options: LexemeOptions,
-    /// The rules on lexemes.
-    rules: LexemeRules,
     /// The rules on keys and anchors.
     tree: TreeRules<A>,
-    /// The facts for the rule indentation so far.
-    facts: Vec<Fact, A>,
-    /// The findings of the rules on lexemes so far.
-    found: Vec<Finding<A>, A>,
 }
 
 /// The findings and the fault of a whole document that has no fault at a lexeme. Lines count from
@@ -287,21 +231,14 @@ impl<A: Allocator + Copy> DocumentJudge<A> {
         ensures counted { meter.new ≡ record meter.old { documents = meter.old.documents + 1 } }
         ensures reads { IfOk result (λ d. (xs : List LexemeValue) (ns : List ℕ) → 0 < length xs → Reads config.now xs ns xs d) }
     {
-        let reader = DocumentReader::begin(alloc, meter)?;
+        let rows = RowJudge::begin(alloc, config, meter)?;
         let mut tree = rules_at_start(alloc, config);
         let none = LineLexemes::new(&no_lexemes(), 0, None);
-        push_events(&none, &reader.outlines, &mut tree)?;
+        push_events(&none, &rows.reader.outlines, &mut tree)?;
         Ok(DocumentJudge {
-            alloc,
-            count: 0,
-            reader,
+            rows,
             waiting: None,
-            places: FactReader::new(alloc),
-            options: lexeme_options(config),
-            rules: LexemeRules::new(),
             tree,
-            facts: Vec::new(alloc),
-            found: Vec::new(alloc),
         })
     }
 
@@ -317,64 +254,37 @@ impl<A: Allocator + Copy> DocumentJudge<A> {
         ensures { (config : Config) (xs : List LexemeValue) (ns : List ℕ) (left : List LexemeValue)
             → IsLine ns spaces (map (lexeme_at_line row.now.line) row.now.lexemes.now) left
             → Reads config xs ns (map (lexeme_at_line row.now.line) row.now.lexemes.now ++ left) self.old
-            → IfOk result (λ fault. ReadsLine fault config xs ns self.old.count (length row.now.lexemes.now) left self.new) }
+            → IfOk result (λ fault. ReadsLine fault config xs ns self.old.rows.reader.count (length row.now.lexemes.now) left self.new) }
     {
-        let first = self.count;
-        let fault = self.reader.read(first, row)?;
-        let Some(end) = first.checked_add(row.lexemes.len()) else {
-            return Err(AllocError);
-        };
-        self.places.read_line(
-            &self.reader.tokens,
-            first,
-            &self.reader.symbols,
-            counted_in(fault, end),
-            spaces,
-            &mut self.facts,
-        )?;
-        let keys = &self.reader.keys;
-        if let Some(fault) = fault {
-            let count = fault.place - first;
-            find_before(
-                &self.options,
-                row,
-                keys,
-                count,
-                &mut self.rules,
-                &mut self.found,
-            )?;
+        let first = self.rows.count();
+        if let Some(fault) = self.rows.read(row, spaces)? {
             return Ok(Some(fault));
         }
-        self.rules
-            .read_row(&self.options, row, keys, &mut self.found)?;
         tell(
-            self.alloc,
+            self.rows.alloc,
             &mut self.waiting,
             first,
             row,
-            &self.reader,
+            &self.rows.reader,
             &mut self.tree,
         )?;
-        self.count = end;
         Ok(None)
     }
 
     /// Returns the number of lexemes of the rows that were read without a fault.
     pub fn count(&self) -> usize
-        ensures { result ≡ self.now.count }
+        ensures { result ≡ self.now.rows.reader.count }
     {
-        self.count
+        self.rows.count()
     }
 
     /// Removes the findings of the rules on lexemes and the facts for the rule indentation, and
     /// returns them.
     pub fn take(&mut self) -> (Vec<Finding<A>, A>, Vec<Fact, A>)
-        ensures found { result.0.items ≡ self.old.found.items }
-        ensures facts { result.1.items ≡ self.old.facts.items }
+        ensures found { result.0.items ≡ self.old.rows.found.items }
+        ensures facts { result.1.items ≡ self.old.rows.facts.items }
     {
-        let found = mem::replace(&mut self.found, Vec::new(self.alloc));
-        let facts = mem::replace(&mut self.facts, Vec::new(self.alloc));
-        (found, facts)
+        self.rows.take()
     }
 
     /// Returns the findings and the fault of the document, if no row follows. The only error is out
@@ -383,20 +293,15 @@ impl<A: Allocator + Copy> DocumentJudge<A> {
         ensures { (config : Config) (xs : List LexemeValue) (ns : List ℕ) → Reads config xs ns [] self → IfOk result (λ e. EndsSo config xs ns e) }
     {
         let DocumentJudge {
-            alloc,
-            count,
-            mut reader,
+            mut rows,
             waiting,
-            options,
-            rules,
             tree,
-            facts,
-            mut found,
-            ..
         } = self;
-        rules.finish(&options, &mut found)?;
-        let fault = reader.close(count)?;
-        let in_tree = found_in_tree(alloc, &waiting, count, &reader, fault, tree)?;
+        let count = rows.count();
+        let fault = rows.close()?;
+        let in_tree = found_in_tree(rows.alloc, &waiting, count, &rows.reader, fault, tree)?;
+        rows.finish()?;
+        let RowJudge { found, facts, .. } = rows;
         Ok(DocumentEnd {
             found,
             facts,

@@ -34,7 +34,7 @@ impl<A: Allocator + Copy> KeptComment<A> {
     ghost use Rattle.yl_lexeme.specs.PlacedComments.{placed_comment_value};
 
     /// Creates a copy of a comment. The only error is out of memory.
-    pub(crate) fn new(alloc: A, comment: &PlacedComment<'_>) -> Result<KeptComment<A>, AllocError>
+    pub fn new(alloc: A, comment: &PlacedComment<'_>) -> Result<KeptComment<A>, AllocError>
         ensures { IfOk result (λ c. c ≡ placed_comment_value comment.now) }
     {
         let text = String::from_str(alloc, comment.text)?;

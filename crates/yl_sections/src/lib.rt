@@ -8,16 +8,20 @@
 mod comments;
 mod comparing;
 mod document_judge;
-mod document_reader;
 mod fault;
 mod front;
 mod judging;
 mod kept;
 mod laws;
+mod row_judge;
+mod row_reader;
+mod row_rules;
 mod rules;
 mod section_judge;
 mod sections;
+mod state;
 
+pub use comments::{LexemeEnd, column_in, last_end};
 pub use comparing::are_same_findings;
 pub use fault::SectionFault;
 pub use front::kept_of_front;
@@ -27,5 +31,7 @@ pub use laws::{
     first_section, lost_rows, one_kept, sections_are_documents, sections_are_local,
     states_tell_kinds,
 };
-pub use section_judge::SectionJudge;
+pub use row_judge::RowJudge;
+pub use section_judge::{SectionJudge, start_of};
 pub use sections::{is_section_start, last_kind, section_len};
+pub use state::DocumentState;

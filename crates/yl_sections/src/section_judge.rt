@@ -77,7 +77,7 @@ struct TreeFindings<A: Allocator> {
 
 /// Returns the position at which the lexeme of the row with this index begins, or line 0 and column
 /// 0 if there is none.
-fn start_of<A: Allocator>(row: &RowLexemes<'_, A>, i: usize) -> Pos
+pub fn start_of<A: Allocator>(row: &RowLexemes<'_, A>, i: usize) -> Pos
     ensures { result ≡ start_at (map (lexeme_at_line row.now.line) row.now.lexemes.now) i }
 {
     match row.lexemes.get(i) {

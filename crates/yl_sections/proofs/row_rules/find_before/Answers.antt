@@ -5,7 +5,7 @@ use Rattle.yl_marks.specs.declared.facts.KeyFacts.{KeyFacts}
 use Rattle.yl_marks.specs.Keys.{lexeme_at_line}
 use Rattle.yl_layout.specs.LexemesLeft.{IsVersion, lexemes_left}
 use Rattle.yl_sections.proofs.Lines.{front_mapped, on_ok}
-use Rattle.yl_sections.proofs.document_judge.find_before.Goals as goal
+use Rattle.yl_sections.proofs.row_rules.find_before.Goals as goal
 
 pub returns : goal.returns
 returns g c = λ v rest h.
