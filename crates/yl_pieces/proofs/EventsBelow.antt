@@ -33,7 +33,7 @@ module _ (s : DocumentState) (n line : ℕ) (rs : List RecordValue) (far : IsAbo
   symbols_at : (i : ℕ) → symbols_in s i rs ≡ marks_of_rows before.marks (rows_below i rows)
   symbols_at i = ap (λ (ls : List (List Token)). marks_of_rows before.marks ls) (lines_there i rs)
 
-  symbols_stay : symbols_in s (n + line) rs ≡ symbols_in s line rs
+  pub symbols_stay : symbols_in s (n + line) rs ≡ symbols_in s line rs
   symbols_stay =
       symbols_at (n + line)
       ∙ same_by_count (marks_of_rows before.marks (rows_below (n + line) rows)) (marks_of_rows before.marks (rows_below line rows)) are_marked.alone

@@ -76,7 +76,7 @@ module _ (s : DocumentState) (line : ℕ) (front rest : List RecordValue) (close
       (subst (λ (us : List Token). AllByRecursion (StandsAbove below) us) (sym (joined_lines ts)) (closed_above line front closed)))
       (from_above below next.marker some)
 
-  symbols_are : symbols_in s line (front ++ rest) ≡ ws ++ symbols_after (length xs) vs
+  pub symbols_are : symbols_in s line (front ++ rest) ≡ ws ++ symbols_after (length xs) vs
   symbols_are =
       symbols_all s line front rest
       ∙ ap (λ (us : List Symbol). ws ++ us)

@@ -15,8 +15,10 @@ use Rattle.yl_tree.specs.KeyRules.{key_finding}
 use Rattle.yl_tree.specs.Messages.{name_finding, printed_character}
 use Rattle.yl_tree.specs.OpenNodes.{OpenNodes, with_event, collections_behind, keys_if_next}
 use Rattle.yl_tree.proofs.Keys.{earlier}
-use Rattle.yl_pieces.specs.KeysOfRuns.{after_events, all_open, height, is_before_key, keys_at, lowest, run_alone, without_keys}
-use Rattle.yl_pieces.specs.DuplicatesOfRuns.{AsksFor, event_below, finding_among, key_findings_after, place_below}
+use Rattle.yl_open_collections.specs.Counted.{after_events, finding_among, key_findings_after}
+use Rattle.yl_open_collections.specs.OpenBy.{without_keys}
+use Rattle.yl_pieces.specs.KeysOfRuns.{all_open, height, is_before_key, keys_at, lowest, run_alone}
+use Rattle.yl_pieces.specs.DuplicatesOfRuns.{AsksFor, event_below, place_below}
 use Rattle.yl_pieces.proofs.KeysOfRuns.{keys_of_runs}
 
 -- ---- runs after one another

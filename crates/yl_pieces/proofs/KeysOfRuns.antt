@@ -11,7 +11,9 @@ use Rattle.yl_events.specs.Event.{EventValue}
 use Rattle.yl_tree.specs.Keys.{is_collection_start, is_collection_end, is_mapping_start, name_of, earlier_keys}
 use Rattle.yl_tree.specs.OpenNodes.{OpenCollection, OpenNodes, new_collection, with_node, first_or_new, without_first, with_node_in, closed, opened, with_event, collections_behind, keys_if_next}
 use Rattle.yl_tree.proofs.Keys.{earlier}
-use Rattle.yl_pieces.specs.KeysOfRuns.{after_events, keyless, without_keys, is_before_key, height, staying, lowest, all_open, keys_at, lasting_keys, with_more_keys, all_with_earlier, with_earlier_keys, run_alone, KeysOfRuns}
+use Rattle.yl_open_collections.specs.Counted.{after_events}
+use Rattle.yl_open_collections.specs.OpenBy.{keyless, without_keys}
+use Rattle.yl_pieces.specs.KeysOfRuns.{is_before_key, height, staying, lowest, all_open, keys_at, lasting_keys, with_more_keys, all_with_earlier, with_earlier_keys, run_alone, KeysOfRuns}
 
 -- ---- the least of numbers
 
@@ -155,7 +157,7 @@ module _ (s t : OpenNodes) (same : length s.outer ≡ length t.outer) (e : Event
   same_outer false true off on = rw (off, on) (ap suc same)
   same_outer false false off none = rw (off, none) same
 
-same_lowest : (es : List EventValue) (s t : OpenNodes) → length s.outer ≡ length t.outer → lowest s es ≡ lowest t es
+pub same_lowest : (es : List EventValue) (s t : OpenNodes) → length s.outer ≡ length t.outer → lowest s es ≡ lowest t es
 same_lowest [] s t same = ap suc same
 same_lowest (e ∷ es) s t same =
     ap (λ (n : ℕ). min n (lowest (with_event e s) es)) (same_staying s t same e)

@@ -31,3 +31,17 @@ pub mod EventsSteps
 pub mod EventsBelow
 pub mod EventsJoined
 pub mod EventsOfSection
+pub mod PieceLines
+pub mod PieceSteps
+pub mod PieceMoved
+pub mod PieceAlike
+pub mod PieceJudging
+pub mod PieceStops
+pub mod PieceEnds
+pub mod PieceMore
+pub mod OneSectionSymbols
+pub mod OneSectionKinds
+pub mod JoinedSound
+pub mod LastKinds
+pub mod OneSection
+pub mod SectionEdited

@@ -11,8 +11,7 @@ use Rattle.yl_tree.specs.Keys.{is_collection_start, is_collection_end, is_mappin
 use Rattle.yl_tree.specs.Messages.{name_finding}
 use Rattle.yl_tree.specs.OpenNodes.{OpenCollection, OpenNodes, closed, with_event, with_node, keys_if_next}
 use Rattle.yl_tree.proofs.Names.{greatest_changes, greatest_stays}
-use Rattle.yl_pieces.specs.KeysOfRuns.{after_events}
-use Rattle.yl_pieces.specs.DuplicatesOfRuns.{finding_among}
+use Rattle.yl_open_collections.specs.Counted.{after_events, finding_among}
 use Rattle.yl_pieces.specs.OrderingOfRuns.{OrderingOfRuns, greater_of, greatest, ordering_after, with_greatest_key, with_greatest_keys}
 use Rattle.yl_pieces.proofs.KeyFindings.{all_found, all_moved, both, same_found}
 

@@ -1,9 +1,8 @@
 -- Bridge: what the rules on keys find at the events of a run, by the collections that are open
 -- before it.
-use Rattle.std.specs.Prelude.{ℕ, ◌≡◌, ◌≤◌, ◌+◌, true, Bool, if◌then◌else◌, List, [], ◌∷◌, ◌++◌, map, codes, bytes_eq, Option, Some, None, option_map}
+use Rattle.std.specs.Prelude.{ℕ, ◌≡◌, ◌≤◌, ◌+◌, Bool, true, List, [], ◌∷◌, ◌++◌, map, codes, bytes_eq, Some, option_map}
 use Rattle.std.specs.List.{list_any}
 use Rattle.yl_text.specs.declared.position.Pos.{Pos}
-use Rattle.yl_text.specs.declared.finding.RuleId.{RuleId}
 use Rattle.yl_text.specs.declared.finding.RuleId.TheVariants.{KeyDuplicates}
 use Rattle.yl_text.specs.Finding.{FindingValue}
 use Rattle.yl_events.specs.Event.{EventAnchorValue, EventValue}
@@ -11,24 +10,12 @@ use Rattle.yl_layout.specs.LexemesAlike.{finding_below}
 use Rattle.yl_tree.specs.declared.options.KeyDuplicatesOptions.{KeyDuplicatesOptions}
 use Rattle.yl_tree.specs.Keys.{name_of}
 use Rattle.yl_tree.specs.KeyRules.{is_duplicate, key_duplicates}
-use Rattle.yl_tree.specs.Messages.{name_finding}
-use Rattle.yl_tree.specs.OpenNodes.{OpenNodes, with_event, collections_behind, keys_if_next}
-use Rattle.yl_pieces.specs.KeysOfRuns.{after_events, all_open, height, is_before_key, keys_at, lowest, run_alone, without_keys}
+use Rattle.yl_tree.specs.OpenNodes.{OpenNodes, collections_behind}
+use Rattle.yl_open_collections.specs.Counted.{after_events, key_findings_after}
+use Rattle.yl_open_collections.specs.OpenBy.{without_keys}
+use Rattle.yl_pieces.specs.KeysOfRuns.{all_open, height, is_before_key, keys_at, lowest, run_alone}
 
 -- ---- what is found at a run
-
--- the finding at an event that has a name, if the test is true for these keys and the name
-abbrev pub finding_among : (List (List ℕ) → List ℕ → Bool) → RuleId → List ℕ → List (List ℕ) → EventValue → Option (List ℕ)
-    → List FindingValue
-finding_among test rule words earlier e None = []
-finding_among test rule words earlier e (Some name) = if test earlier name then name_finding rule e.place words name (codes "\" in mapping") else []
-
--- what a rule on keys finds at the events of a run, where these collections are open before it: at
--- each key, by the earlier keys of its mapping
-abbrev pub key_findings_after : (List (List ℕ) → List ℕ → Bool) → RuleId → List ℕ → OpenNodes → List EventValue → List FindingValue
-key_findings_after test rule words s [] = []
-key_findings_after test rule words s (e ∷ es) =
-    finding_among test rule words (keys_if_next s.innermost) e (name_of e) ++ key_findings_after test rule words (with_event e s) es
 
 -- what key-duplicates finds
 abbrev pub duplicates_after : KeyDuplicatesOptions → OpenNodes → List EventValue → List FindingValue

@@ -1,25 +1,14 @@
 -- Bridge: the keys of open collections after a run of events: those of the run alone, and those
 -- that were there before the run.
-use Rattle.std.specs.Prelude.{ℕ, suc, ◌≡◌, min, nat_le, ◌==◌, Bool, ◌&&◌, ◌||◌, if◌then◌else◌, List, [], ◌∷◌, ◌++◌, length, map, reverse}
+use Rattle.std.specs.Prelude.{ℕ, suc, ◌≡◌, min, nat_le, ◌==◌, Bool, ◌&&◌, ◌||◌, if◌then◌else◌, List, [], ◌∷◌, ◌++◌, length, reverse}
 use Rattle.std.specs.List.{list_any}
 use Rattle.yl_events.specs.Event.{EventValue}
 use Rattle.yl_tree.specs.Keys.{is_collection_end, earlier_keys}
 use Rattle.yl_tree.specs.OpenNodes.{OpenCollection, OpenNodes, with_event, collections_behind, keys_if_next}
+use Rattle.yl_open_collections.specs.Counted.{after_events}
+use Rattle.yl_open_collections.specs.OpenBy.{without_keys}
 
 -- ---- runs
-
--- the open collections after these events, in their order, after these
-abbrev pub after_events : OpenNodes → List EventValue → OpenNodes
-after_events s [] = s
-after_events s (e ∷ es) = after_events (with_event e s) es
-
--- the same collection without keys
-abbrev pub keyless : OpenCollection → OpenCollection
-keyless o = record { is_mapping = o.is_mapping; is_key_next = o.is_key_next; keys = [] }
-
--- the same open collections without keys: of each its kind, and whether a key comes next in it
-abbrev pub without_keys : OpenNodes → OpenNodes
-without_keys s = record { innermost = keyless s.innermost; outer = map keyless s.outer }
 
 -- a key comes next in the innermost collection
 abbrev pub is_before_key : OpenNodes → Bool

@@ -10,3 +10,7 @@ pub mod Within
 pub mod Edit
 pub mod Patched
 pub mod Events
+pub mod Fault
+pub mod Piece
+pub mod OneSection
+pub mod SectionEdited

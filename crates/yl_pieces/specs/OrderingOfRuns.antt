@@ -9,8 +9,10 @@ use Rattle.yl_layout.specs.LexemesAlike.{finding_below}
 use Rattle.yl_tree.specs.Greatest.{is_greater_among}
 use Rattle.yl_tree.specs.KeyRules.{is_greater, key_ordering}
 use Rattle.yl_tree.specs.OpenNodes.{OpenCollection, OpenNodes, collections_behind}
-use Rattle.yl_pieces.specs.KeysOfRuns.{after_events, all_open, keys_at, without_keys}
-use Rattle.yl_pieces.specs.DuplicatesOfRuns.{AsksFor, event_below, key_findings_after}
+use Rattle.yl_open_collections.specs.Counted.{after_events, key_findings_after}
+use Rattle.yl_open_collections.specs.OpenBy.{without_keys}
+use Rattle.yl_pieces.specs.KeysOfRuns.{all_open, keys_at}
+use Rattle.yl_pieces.specs.DuplicatesOfRuns.{AsksFor, event_below}
 
 -- what key-ordering finds at the events of a run, where these collections are open before it
 abbrev pub ordering_after : OpenNodes → List EventValue → List FindingValue

@@ -1,35 +1,16 @@
--- Bridge: what the judge of a document holds before a row, without lines and counts, and the
--- machines that begin with it.
+-- Bridge: the machines that begin with what the judge of a document holds before a row.
 use Rattle.std.specs.Prelude.{true, false, None, option_map}
 use Rattle.yl_lexeme.specs.declared.lexeme.Kind.{Kind}
 use Rattle.yl_marks.specs.declared.symbol.KeyedToken.{KeyedToken}
 use Rattle.yl_marks.specs.declared.token.Token.{Token}
-use Rattle.yl_marks.specs.FactsByLine.{KeyMarkerValue, key_marker_at_start}
-use Rattle.yl_marks.specs.MarksAlike.{KeyMarkerState, key_marker_state}
-use Rattle.yl_events.specs.State.{parser_state}
-use Rattle.yl_events.specs.SymbolParsing.{SymbolParserValue, symbols_at_start}
-use Rattle.yl_indentation.specs.Context.{ContextValue, nothing_open}
-use Rattle.yl_indentation.specs.FactsAlike.{ContextState, context_state}
+use Rattle.yl_marks.specs.FactsByLine.{KeyMarkerValue}
+use Rattle.yl_marks.specs.MarksAlike.{KeyMarkerState}
+use Rattle.yl_indentation.specs.Context.{ContextValue}
+use Rattle.yl_indentation.specs.FactsAlike.{ContextState}
 use Rattle.yl_layout.specs.declared.span.Span.{Span}
 use Rattle.yl_layout.specs.declared.state.LexemeRulesState.{LexemeRulesState}
-use Rattle.yl_layout.specs.LexemesAlike.{lexemes_state}
-use Rattle.yl_layout.specs.LexemesLeft.{LexemesRead, none_read}
-
--- the marker's, the parser's, that of the rule indentation, and that of the rules on lexemes
-pub record DocumentState : Type 0 where
-  pub marker : KeyMarkerState
-  pub parser : SymbolParserValue
-  pub context : ContextState
-  pub lexemes : LexemeRulesState
-
--- at a document's start
-abbrev pub start_state : DocumentState
-start_state = record {
-  marker = key_marker_state key_marker_at_start;
-  parser = parser_state symbols_at_start;
-  context = context_state nothing_open;
-  lexemes = lexemes_state none_read;
-}
+use Rattle.yl_layout.specs.LexemesLeft.{LexemesRead}
+pub use Rattle.yl_sections.specs.State.{DocumentState, start_state}
 
 -- ---- machines with that state. Their latest lexeme begins and ends in line 0, and no lexeme is
 -- counted

@@ -1,7 +1,7 @@
 -- Bridge: what the rows of a document report by the state before them: what the rules on lexemes
 -- find, what the rule indentation checks, the comments, and the fault at a lexeme. The rules on keys
 -- and anchors have no part in it.
-use Rattle.std.specs.Prelude.{ℕ, Bool, not, ◌&&◌, ◌||◌, ◌-◌, [], ◌++◌, List, map, length, take, replicate, Option, Some, None, option_map, option_and_then, slice_get}
+use Rattle.std.specs.Prelude.{ℕ, Bool, ◌&&◌, ◌||◌, ◌-◌, [], ◌++◌, List, map, length, take, replicate, Option, Some, None, option_map, option_and_then, slice_get}
 use Rattle.std.specs.Option.{option_map_or}
 use Rattle.yl_text.specs.declared.position.Pos.{Pos}
 use Rattle.yl_text.specs.Finding.{FindingValue}
@@ -25,7 +25,7 @@ use Rattle.yl_indentation.specs.declared.fact.Fact.{Fact}
 use Rattle.yl_indentation.specs.FactsAlike.{context_state}
 use Rattle.yl_indentation.specs.SymbolFacts.{behind_symbols, facts_left}
 use Rattle.yl_layout.specs.Lexemes.{findings_behind}
-use Rattle.yl_layout.specs.LexemesAlike.{after_lexemes, is_settled, lexemes_state}
+use Rattle.yl_layout.specs.LexemesAlike.{after_lexemes, lexemes_state}
 use Rattle.yl_layout.specs.Version.{is_1_2_document}
 use Rattle.yl_config.specs.declared.config.Config.{Config}
 use Rattle.yl_record.specs.Records.{RecordValue}
@@ -33,6 +33,7 @@ use Rattle.yl_sections.specs.Judging.{spaces_of}
 use Rattle.yl_sections.specs.Kept.{comments_from, lexeme_options_of}
 use Rattle.yl_sections.specs.Sections.{lexemes_from}
 use Rattle.yl_pieces.specs.State.{DocumentState, context_from, lexemes_from_state, marker_from}
+pub use Rattle.yl_sections.specs.State.{is_border}
 
 -- ---- the lexemes of the rows, the first of which is at this line
 
@@ -121,8 +122,3 @@ state_after s line rs =
       context = context_state (behind_symbols (tokens_in line rs) (spaces_in line rs) (context_from s.context) ws);
       lexemes = lexemes_state (after_lexemes (lexemes_from_state s.lexemes) (lexemes_from line rs));
     }
-
--- rows may begin a piece after this state: the latest lexeme is no opening bracket, and the
--- directives have ended
-abbrev pub is_border : DocumentState → Bool
-is_border s = is_settled s.lexemes && not s.lexemes.in_directives
