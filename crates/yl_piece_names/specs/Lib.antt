@@ -1,0 +1,9 @@
+pub mod Moved
+pub mod SameNames
+pub mod Asked
+pub mod AnchorsPatched
+pub mod TreePatched
+pub mod KindsAndTurns
+pub mod OpeningEvents
+pub mod KeptNames
+pub mod RowsPatched
