@@ -1,0 +1,12 @@
+pub mod Items
+pub mod Same
+pub mod CutItems
+pub mod CutFound
+pub mod CutShown
+pub mod Indented
+pub mod SameReports
+pub mod Local
+pub mod TwoPieces
+pub mod PieceCut
+pub mod PlainPieces
+pub mod PiecesWithin

@@ -1,0 +1,5 @@
+pub mod Cuts
+pub mod Laws
+pub mod Told
+pub mod Plain
+pub mod Within
