@@ -5,7 +5,7 @@
     tools/believed.py --short            the sums alone
     tools/believed.py --bridges          also the bridges, and which public contract names them
     tools/believed.py --from CRATE..     what the public calls of these crates reach, and no others: the headline is
-                                         --from yl_session yl_cli
+                                         --from yl_session yl_check yl_cli
     tools/believed.py --check            fails where a file of meaning imports a bridge that is no view
 
 A definition is meaning or bridge as the first line of its file in specs/ says. A bridge ties code to meaning and is not counted.
@@ -23,7 +23,7 @@ from collections import defaultdict
 
 ROOT = os.path.join(os.path.dirname(os.path.abspath(__file__)), '..')
 # layers that only other crates of the library call
-INNER = {'yl_scalar', 'yl_row', 'yl_args', 'refusing', 'callers'}
+INNER = {'yl_scalar', 'yl_row', 'failing_alloc', 'callers'}
 # and what other crates of the library alone call, of the crates that users meet
 INNER_CALLS = {
     'yl_text': {'first_special'},
@@ -131,7 +131,7 @@ def library():
         m = re.match(r'([a-z0-9_]+)[^:]*:', line)
         if m and os.path.exists(os.path.join(ROOT, 'crates', m.group(1), 'src/lib.rt')):
             crates.append(m.group(1))
-    return [c for c in crates if not c.endswith('_tests') and c not in ('callers', 'refusing', 'test_rows')]
+    return [c for c in crates if not c.endswith('_tests') and c not in ('callers', 'failing_alloc', 'test_cases')]
 
 
 def spans(text):

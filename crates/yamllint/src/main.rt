@@ -7,11 +7,10 @@ ghost use Rattle.yl_text.specs.Watched.{failures_of};
 use std::fs;
 use std::io::Write;
 use std::process::ExitCode;
-use yl_args::{Asked, Flags, asked};
-use yl_cli::{joined, lint};
+use yl_check::{joined, lint};
 use yl_config::Config;
 use yl_devices::{ProgramFault, RunFault};
-use yl_programs::{ended, stopped, words};
+use yl_programs::{Asked, Flags, asked, ended, stopped, words};
 use yl_sources::config_of;
 use yl_text::Watched;
 

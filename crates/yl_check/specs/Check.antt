@@ -6,12 +6,12 @@ use Rattle.yl_devices.specs.declared.fault.RunFault.{RunFault}
 use Rattle.yl_devices.specs.declared.fault.RunFault.TheVariants.{Read, Text, Write, Command, Memory}
 
 -- the bytes are no text; or they are one, and memory was refused
-abbrev pub IsReportFault : List ℕ → RunFault → Type 0
-IsReportFault bytes (Text fault) = IsBadText (without_mark bytes) fault
-IsReportFault bytes Memory = IsText (without_mark bytes)
-IsReportFault bytes Read = ⊥
-IsReportFault bytes Write = ⊥
-IsReportFault bytes Command = ⊥
+abbrev pub HasNoReport : List ℕ → RunFault → Type 0
+HasNoReport bytes (Text fault) = IsBadText (without_mark bytes) fault
+HasNoReport bytes Memory = IsText (without_mark bytes)
+HasNoReport bytes Read = ⊥
+HasNoReport bytes Write = ⊥
+HasNoReport bytes Command = ⊥
 
 -- 255 if one of two is, else 1 if one is, else 2 if one is, else 0
 abbrev pub joined_status : ℕ → ℕ → ℕ

@@ -1,4 +1,6 @@
 pub mod Check
+pub mod Run
+pub use Rattle.yl_config.specs.Config
 pub use Rattle.yl_devices.specs.Text
 pub use Rattle.yl_devices.specs.Written
 pub use Rattle.yl_formats.specs.Formats

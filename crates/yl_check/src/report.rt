@@ -9,7 +9,7 @@ ghost use Rattle.yl_devices.specs.Written.{AppendsFront};
 ghost use Rattle.yl_report.specs.Report.{status_of};
 ghost use Rattle.yl_formats.specs.Formats.{problems_text};
 ghost use Rattle.yl_lint.specs.TextReport.{IsReport};
-ghost use Rattle.yl_check.specs.Check.{IsReportFault};
+ghost use Rattle.yl_check.specs.Check.{HasNoReport};
 
 use std::alloc::Allocator;
 use std::io::Write;
@@ -41,7 +41,7 @@ pub fn report_of_bytes<A: Allocator + Copy>(
 ) -> Result<Vec<Problem<A>, A>, RunFault>
     ensures report { IfOk result (λ problems. IsReport config.now (lines_of (without_mark bytes.now)) problems.items) }
     ensures is_text { OnOk result (IsText (without_mark bytes.now)) }
-    ensures fault { IfErr result (IsReportFault bytes.now) }
+    ensures fault { IfErr result (HasNoReport bytes.now) }
 {
     let text = match text_of(bytes) {
         Ok(text) => text,

@@ -18,11 +18,11 @@ use Rattle.yl_lint.specs.Laws.{OneReport}
 use Rattle.yl_lint.proofs.Reported.{reporter, same_report}
 use Rattle.yl_report.specs.Report.{status_of}
 use Rattle.yl_session.proofs.Goes.{left_by-push, AreAnswers-push}
-use Rattle.yl_args.specs.declared.answer.Flags.{Flags}
+use Rattle.yl_programs.specs.declared.answer.Flags.{Flags}
 use Rattle.yl_cli.specs.Command.{Command, Bad, next_command}
 use Rattle.yl_devices.specs.declared.fault.RunFault.{RunFault}
 use Rattle.yl_devices.specs.declared.fault.RunFault.TheVariants as fault
-use Rattle.yl_cli.specs.Run.{Failures}
+use Rattle.yl_check.specs.Run.{Failures}
 use Rattle.yl_text.specs.Fault.{IsText}
 use Rattle.yl_devices.specs.Text.{IsCommandFault, without_mark}
 use Rattle.yl_cli.specs.Drive.{AreCommands, WereRead, text_of_run, replies, reply, shown_lines, IsBegun, IsDriven, IsDriveFault, refusal_name, IsAnswered, IsCut}

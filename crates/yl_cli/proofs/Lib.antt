@@ -1,4 +1,3 @@
 pub mod Begun
 pub mod Cut
 pub mod Driven
-pub mod Linted

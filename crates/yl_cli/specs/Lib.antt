@@ -1,7 +1,7 @@
 pub mod Command
 pub mod Drive
 pub mod Reading
-pub mod Run
+pub use Rattle.yl_check.specs.Run
 pub use Rattle.yl_config.specs.Config
 pub use Rattle.yl_report.specs.Report
 pub use Rattle.yl_devices.specs.Text

@@ -3,10 +3,9 @@
 
 mod command;
 mod editing;
-mod run;
 mod stream;
 
 pub use editing::drive;
-pub use run::{joined, lint, lint_bytes};
-pub use yl_args::{Asked, Flags, Source, Stop, asked, asked_edit};
+pub use yl_check::{joined, lint, lint_bytes};
 pub use yl_devices::{BadText, ProgramFault, RunFault, say};
+pub use yl_programs::{Asked, Flags, Source, Stop, asked, asked_edit};

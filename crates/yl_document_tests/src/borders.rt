@@ -1,4 +1,5 @@
-//! At each border above a sound row: machines that read the rows above it, and machines that are resumed there.
+//! Tests at each border above a sound row: machines that are resumed there go on as the machines
+//! that read the rows above.
 use crate::machines::Machines;
 use crate::rows::{TextRow, rows_of};
 use crate::told::are_findings_moved;
@@ -6,7 +7,8 @@ use std::alloc::{AllocError, Global};
 use std::test::Fail;
 use yl_text::Finding;
 
-/// Whether machines tell the same of these rows and of the document's end, and hold the same behind each row.
+/// Returns `true` if both machines say the same of these rows and of the end of the document, and
+/// hold the same after each row.
 fn go_on_alike(
     one: &mut Machines<Global>,
     other: &mut Machines<Global>,
@@ -23,7 +25,8 @@ fn go_on_alike(
     one.end_same(other)
 }
 
-/// Whether machines that are resumed between these rows hold what those hold that read the rows above, also once these settled, and go on alike.
+/// Returns `true` if machines that are resumed between these rows hold the same as the machines
+/// that read the rows above, also after those settle, and go on in the same way.
 fn is_resumed(
     alloc: Global,
     above: &[TextRow<Global>],
@@ -42,13 +45,15 @@ fn is_resumed(
     go_on_alike(&mut whole, &mut resumed, below)
 }
 
-/// Whether the latest lexeme of the rows is no opening bracket, by their state.
+/// Returns `true` if the state of the rules says that the latest lexeme of the rows is no opening
+/// bracket.
 fn is_settled(alloc: Global, above: &[TextRow<Global>]) -> Result<bool, AllocError> {
     let machines = Machines::behind(alloc, above)?;
     Ok(machines.rules.state().is_settled())
 }
 
-/// What machines that settle twice, and then read a row, tell of the lexeme before it and of the row, and how much of that the first time.
+/// Settles the machines twice, and then reads a row with them. Returns the number of findings of
+/// the first time, and all findings.
 fn told_in_parts(
     machines: &mut Machines<Global>,
     next: &TextRow<Global>,
@@ -62,8 +67,9 @@ fn told_in_parts(
     Ok((count, told))
 }
 
-/// How many problems are told at the latest lexeme above a border whose state is settled. Nothing if these, and those of the row below, are not what
-/// machines tell of that row which did not settle.
+/// Returns the number of findings at the latest lexeme above a border with a settled state. Returns
+/// `None` if these findings and those in the row below are not the findings of machines that did
+/// not settle before they read that row.
 fn settled(
     alloc: Global,
     above: &[TextRow<Global>],
@@ -77,7 +83,8 @@ fn settled(
     Ok(is_same.then_some(count))
 }
 
-/// Of a border: 1, whether machines are resumed rightly there, whether the state is settled, and how many problems are told at once there.
+/// Returns the tally of a border: 1, whether machines are resumed rightly there, whether the state
+/// is settled, and the number of problems that wait there.
 fn at_border(
     alloc: Global,
     above: &[TextRow<Global>],
@@ -94,7 +101,7 @@ fn at_border(
     Ok([1, right, 1, problems.unwrap_or(usize::MAX)])
 }
 
-/// The sums of two tallies.
+/// Returns the sums of two tallies.
 fn sums(one: [usize; 4], other: [usize; 4]) -> [usize; 4] {
     let [a, b, c, d] = one;
     let [e, f, g, h] = other;
@@ -106,8 +113,8 @@ fn sums(one: [usize; 4], other: [usize; 4]) -> [usize; 4] {
     ]
 }
 
-/// How many borders a text has, at how many of them machines are resumed rightly, at how many the state is settled, and how many problems are told at
-/// once there.
+/// Returns the tally of a text: the number of its borders, of those at which machines are resumed
+/// rightly, of those with a settled state, and of the problems that wait at these.
 fn tally(alloc: Global, text: &str) -> Result<[usize; 4], AllocError> {
     let rows = rows_of(alloc, text)?;
     let mut tally = [0usize; 4];
@@ -121,20 +128,21 @@ fn tally(alloc: Global, text: &str) -> Result<[usize; 4], AllocError> {
     Ok(tally)
 }
 
-/// Texts, each with how many borders it has, before how many of these the latest lexeme is no opening bracket, and how many problems wait there. A
-/// problem waits only where a row ends with an indicator: at a `:` or a `,` behind a space.
+/// Texts, each with the number of its borders, of those above which the latest lexeme is no opening
+/// bracket, and of the problems that wait there. A problem waits only if a row ends with an
+/// indicator: at a `:` or a `,` after a space.
 const TEXTS: [(&str, usize, usize, usize); 6] = [
-    // A mapping in a sequence, and a sequence in that.
+    // A mapping is in a sequence, and a sequence is in that mapping.
     ("- a: 1\n  b :\n  - c\n-  d: 2\n", 3, 3, 1),
-    // Brackets over rows.
+    // Brackets span rows.
     ("a: [1 ,\n  {b: c,\n  d}, [\n  ], e]\n", 3, 2, 1),
-    // Tags and anchors whose nodes are in the rows below.
+    // The nodes of tags and anchors are in the rows below.
     ("a: !t\n  - &x\n    b\n  - &y !u\n    c: 1\n", 4, 4, 0),
-    // Keys with an indicator, and a scalar of two rows.
+    // Keys have an indicator, and a scalar spans two rows.
     ("? a\n: b\n?\n  - c\n: 'd\n  e'\nf: g\n", 5, 5, 0),
-    // Directives, by which `yes` is a string.
+    // A directive makes `yes` a string.
     ("%YAML 1.2\n---\na: yes\nb : yes\n", 3, 3, 0),
-    // A comment and an empty row among the rows.
+    // A comment and an empty row are among the rows.
     ("a:\n\n  # b\n  c: &d\n    - e\n", 3, 3, 0),
 ];
 
@@ -147,7 +155,8 @@ fn of_small_texts(rt: HostRuntime) -> Result<(), Fail> {
     Ok(())
 }
 
-/// Eight rows of this piece, each with a step more before it than the one above, and the last rows.
+/// Returns eight rows of this piece, each with one step more before it than the row above, and then
+/// the last rows. The only error is out of memory.
 fn deep(alloc: Global, step: &str, piece: &str, last: &str) -> Result<String, AllocError> {
     let mut text = String::new(alloc);
     let mut steps = String::new(alloc);
@@ -161,10 +170,11 @@ fn deep(alloc: Global, step: &str, piece: &str, last: &str) -> Result<String, Al
     Ok(text)
 }
 
-/// A text's step, its piece and its last rows, its borders, and those at which its state is settled.
+/// The step, the piece and the last rows of a text, the number of its borders, and the number of
+/// those with a settled state.
 type DeepText = (&'static str, &'static str, &'static str, usize, usize);
 
-/// Rows that close what eight rows of five brackets open.
+/// The rows that close what eight rows of five brackets open.
 const CLOSING: &str = "]]]]]\n]]]]]\n]]]]]\n]]]]]\n]]]]]\n]]]]]\n]]]]]\n]]]]]\n";
 
 #[test]

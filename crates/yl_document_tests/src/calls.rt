@@ -1,4 +1,4 @@
-//! With memory, each call answers.
+//! Tests that each call over one document returns a result if no allocation is refused.
 use std::alloc::{AllocError, Global};
 use std::test::Fail;
 use yl_events::{mark, parse_document};
@@ -8,7 +8,7 @@ use yl_scan::{LineLexeme, scan};
 use yl_text::{lines_are_few_and_short, split};
 use yl_tree::{AnchorsOptions, KeyDuplicatesOptions, anchors, key_duplicates, key_ordering};
 
-// The lexemes at their lines.
+// Returns the lexemes at their lines. The only error is out of memory.
 fn placed(
     alloc: Global,
     lexemes: &[LineLexeme<Global>],
@@ -23,7 +23,7 @@ fn placed(
     Ok(placed)
 }
 
-// How many lexemes and marks there are, and in how many places indentation is checked.
+// Returns the number of lexemes and marks, and the number of indentation facts.
 fn marks_and_facts(
     alloc: Global,
     lexemes: &[LexemeAtLine<'_, Global>],
@@ -33,7 +33,7 @@ fn marks_and_facts(
     Ok([marked.len(), facts.len()])
 }
 
-// How many problems key-duplicates, key-ordering and anchors find.
+// Returns the numbers of problems that key-duplicates, key-ordering and anchors find.
 fn problems(alloc: Global, lexemes: &[LexemeAtLine<'_, Global>]) -> Result<[usize; 3], AllocError> {
     let built = parse_document(alloc, lexemes, &mut Meter::new())?;
     let events = built.events.as_slice();

@@ -1,5 +1,6 @@
-//! Tests of calls over one whole document that no program makes: the programs read documents line by line, and what comes of that is shown by the
-//! rows of `yl_text_rows`. Also tests of the states of the machines that read a document row by row.
+//! Tests of calls over one whole document. No program makes these calls: the programs read
+//! documents line by line, and the cases of `yl_text_cases` show what that gives. Also tests of the
+//! states of the machines that read a document row by row.
 #![tactic(auto)]
 
 #[cfg(test)]

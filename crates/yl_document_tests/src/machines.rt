@@ -12,18 +12,19 @@ use yl_text::Finding;
 /// The states of the machines before a row.
 #[derive(Drop)]
 pub(crate) struct States<A: Allocator> {
-    /// That of the marker.
+    /// The state of the marker.
     pub(crate) marker: MarkerState<A>,
-    /// That of the parser.
+    /// The state of the parser.
     pub(crate) parser: SymbolParserState<A>,
-    /// That of the reader of checked places.
+    /// The state of the fact reader.
     pub(crate) reader: FactReaderState<A>,
-    /// That of the rules on lexemes.
+    /// The state of the rules on lexemes.
     pub(crate) rules: LexemeRulesState,
 }
 
 impl<A: Allocator> States<A> {
-    /// Which of the states are the same: of the marker, the parser, the reader and the rules.
+    /// Returns which of the states are equal: those of the marker, the parser, the fact reader and
+    /// the rules.
     pub(crate) fn same_ones(&self, other: &States<A>) -> [bool; 4] {
         [
             self.marker.is_same(&other.marker),
@@ -33,7 +34,7 @@ impl<A: Allocator> States<A> {
         ]
     }
 
-    /// Whether all states are the same.
+    /// Returns `true` if all states are equal.
     pub(crate) fn are_same(&self, other: &States<A>) -> bool {
         let [marker, parser, reader, rules] = self.same_ones(other);
         marker && parser && reader && rules
@@ -48,20 +49,20 @@ pub(crate) struct Machines<A: Allocator + Copy> {
     pub(crate) marker: KeyMarker<A>,
     /// The parser.
     pub(crate) parser: SymbolParser<A>,
-    /// The reader of checked places.
+    /// The fact reader.
     pub(crate) reader: FactReader<A>,
     /// The rules on lexemes.
     pub(crate) rules: LexemeRules,
     // The index of the next lexeme.
     first: usize,
-    // How many brackets are open.
+    // The number of open brackets.
     depth: usize,
     // The line of the next row.
     line: u32,
 }
 
 impl<A: Allocator + Copy> Machines<A> {
-    /// Machines at the start of a document.
+    /// Creates machines at the start of a document. The only error is out of memory.
     pub(crate) fn start(alloc: A) -> Result<Machines<A>, AllocError> {
         let mut parser = SymbolParser::new(alloc);
         parser.begin(&mut Vec::new(alloc), &mut Meter::new())?;
@@ -77,8 +78,8 @@ impl<A: Allocator + Copy> Machines<A> {
         })
     }
 
-    /// Machines that go on where others are whose states these are. Their next row is at line 1, and they count lexemes from the number of open
-    /// brackets on.
+    /// Creates machines that go on from these states. Their next row is at line 1, and they count
+    /// lexemes from the number of open brackets on. The only error is out of memory.
     pub(crate) fn resumed(&self, states: &States<A>) -> Result<Machines<A>, AllocError> {
         Ok(Machines {
             alloc: self.alloc,
@@ -92,7 +93,7 @@ impl<A: Allocator + Copy> Machines<A> {
         })
     }
 
-    /// Their states.
+    /// Returns the states of the machines. The only error is out of memory.
     pub(crate) fn states(&self) -> Result<States<A>, AllocError> {
         Ok(States {
             marker: self.marker.state()?,
@@ -102,7 +103,7 @@ impl<A: Allocator + Copy> Machines<A> {
         })
     }
 
-    // What is told of the next row, without anything yet.
+    // Returns what is said of the next row before it is read: nothing.
     fn nothing_told(&self) -> Told<A> {
         Told {
             first: self.first,
@@ -115,7 +116,8 @@ impl<A: Allocator + Copy> Machines<A> {
         }
     }
 
-    // Marks and parses a row. A fault is an error here, since no document has one.
+    // Marks and parses a row. The only error is out of memory, which also stands for a fault, since
+    // no document here has one.
     #[tactic(auto, using(yl_events::proofs::Counts::line_whole))]
     fn parse(&mut self, line: &[Token], told: &mut Told<A>) -> Result<(), AllocError> {
         let mut symbols = Vec::new(self.alloc);
@@ -128,7 +130,7 @@ impl<A: Allocator + Copy> Machines<A> {
         }
     }
 
-    // Has the rules on lexemes read a row.
+    // Gives a row to the rules on lexemes. The only error is out of memory.
     fn judge(&mut self, row: &RowLexemes<'_, A>, told: &mut Told<A>) -> Result<(), AllocError> {
         if told.keys.len() != row.lexemes.len() {
             return Err(AllocError);
@@ -138,7 +140,8 @@ impl<A: Allocator + Copy> Machines<A> {
             .read_row(&options, row, &told.keys, &mut told.findings)
     }
 
-    // Has the reader of checked places read a row that begins with so many spaces.
+    // Gives a row that begins with `indentation` spaces to the fact reader. The only error is out
+    // of memory.
     fn check(
         &mut self,
         line: &[Token],
@@ -156,7 +159,7 @@ impl<A: Allocator + Copy> Machines<A> {
         )
     }
 
-    // Counts the lexemes of a row, and its line.
+    // Counts the lexemes and the brackets of a row, and its line.
     fn pass(&mut self, line: &[Token]) {
         for token in line {
             if token.kind.is_opening() {
@@ -170,7 +173,7 @@ impl<A: Allocator + Copy> Machines<A> {
         self.line = self.line.saturating_add(1);
     }
 
-    /// Reads the next row.
+    /// Reads the next row, and returns what the machines say of it.
     pub(crate) fn read(&mut self, row: &TextRow<A>) -> Result<Told<A>, AllocError> {
         let lexemes = RowLexemes {
             line: self.line,
@@ -194,26 +197,26 @@ impl<A: Allocator + Copy> Machines<A> {
         Ok(())
     }
 
-    /// Machines that have read these rows.
+    /// Creates machines that have read these rows.
     pub(crate) fn behind(alloc: A, rows: &[TextRow<A>]) -> Result<Machines<A>, AllocError> {
         let mut machines = Machines::start(alloc)?;
         machines.read_all(rows)?;
         Ok(machines)
     }
 
-    /// Whether these are their states.
+    /// Returns `true` if these are the states of the machines.
     pub(crate) fn hold(&self, states: &States<A>) -> Result<bool, AllocError> {
         let own = self.states()?;
         Ok(own.are_same(states))
     }
 
-    /// Whether their states are those of other machines.
+    /// Returns `true` if other machines have the same states.
     pub(crate) fn hold_same(&self, other: &Machines<A>) -> Result<bool, AllocError> {
         let states = other.states()?;
         self.hold(&states)
     }
 
-    /// Reads the next row, as other machines do. Whether both tell the same of it.
+    /// Reads the next row with both machines. Returns `true` if both say the same of it.
     pub(crate) fn tell_same(
         &mut self,
         other: &mut Machines<A>,
@@ -224,14 +227,14 @@ impl<A: Allocator + Copy> Machines<A> {
         Ok(told.is_same(&others))
     }
 
-    /// Ends the document, as other machines do. Whether both tell the same of that.
+    /// Ends the document with both machines. Returns `true` if both say the same of its end.
     pub(crate) fn end_same(&mut self, other: &mut Machines<A>) -> Result<bool, AllocError> {
         let told = self.finish()?;
         let others = other.finish()?;
         Ok(told.is_same(&others))
     }
 
-    /// What the rules on lexemes still find at the latest lexeme.
+    /// Returns the findings of the rules on lexemes that wait at the latest lexeme.
     pub(crate) fn settle(&mut self) -> Result<Vec<Finding<A>, A>, AllocError> {
         let mut findings = Vec::new(self.alloc);
         self.rules
@@ -239,7 +242,7 @@ impl<A: Allocator + Copy> Machines<A> {
         Ok(findings)
     }
 
-    // Ends the document.
+    // Ends the document. The only error is out of memory, which also stands for a fault.
     fn end(&mut self, told: &mut Told<A>) -> Result<(), AllocError> {
         self.marker.close(&mut told.symbols)?;
         let fault = self
@@ -253,7 +256,7 @@ impl<A: Allocator + Copy> Machines<A> {
         }
     }
 
-    /// Ends the document, and returns what is told of that.
+    /// Ends the document, and returns what the machines say of its end.
     pub(crate) fn finish(&mut self) -> Result<Told<A>, AllocError> {
         let mut told = self.nothing_told();
         self.end(&mut told)?;

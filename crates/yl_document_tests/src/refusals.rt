@@ -1,7 +1,8 @@
-//! Each allocation of the calls that copy what the machines hold is refused in turn, up to the first call that meets no refusal.
+//! Tests of the calls that copy what the machines hold. Each of their allocations is refused in
+//! turn, up to the first run without a refusal.
 use crate::machines::{Machines, States};
 use crate::rows::{TextRow, rows_of};
-use refusing::Refusing;
+use failing_alloc::FailingAlloc;
 use std::alloc::{AllocError, Global};
 use std::test::Fail;
 use yl_events::SymbolParser;
@@ -9,9 +10,9 @@ use yl_indentation::FactReader;
 use yl_layout::{LexemeOptions, LexemeRules};
 use yl_marks::KeyMarker;
 
-type Heap<'a> = &'a Refusing<Global>;
+type Heap<'a> = &'a FailingAlloc<Global>;
 
-/// A call that copies what a machine holds, or a state.
+/// A call that returns the state of a machine, or resumes a machine from a state.
 #[derive(Clone, Copy, Debug, PartialEq, Eq)]
 enum Call {
     MarkerState,
@@ -22,7 +23,7 @@ enum Call {
     ReaderResume,
 }
 
-/// Whether the call answers.
+/// Returns `true` if the call succeeds.
 fn answers(machines: &Machines<Heap<'_>>, states: &States<Heap<'_>>, call: Call) -> bool {
     match call {
         Call::MarkerState => machines.marker.state().is_ok(),
@@ -34,7 +35,8 @@ fn answers(machines: &Machines<Heap<'_>>, states: &States<Heap<'_>>, call: Call)
     }
 }
 
-/// How many allocations the call makes where none is refused. Nothing if it answers where one is, if it does not where none is, or if the machines hold
+/// Returns the number of allocations that the call makes if none is refused. Returns `None` if the
+/// call succeeds though one is refused, if it fails though none is, or if the machines hold
 /// something else after a refusal.
 fn refusals<'a>(
     heap: Heap<'a>,
@@ -57,7 +59,8 @@ fn refusals<'a>(
     Ok(None)
 }
 
-/// Whether the call makes so many allocations, and machines of which it was refused tell the same of the rest as those of which it was not.
+/// Returns `true` if the call makes `count` allocations, and if machines for which it was refused
+/// find the same in the next row, and hold the same after it, as machines for which it was not.
 fn is_refused<'a>(
     heap: Heap<'a>,
     above: &[TextRow<Heap<'a>>],
@@ -74,7 +77,9 @@ fn is_refused<'a>(
     Ok(is_told && is_held && refused == Some(count))
 }
 
-/// The first call between two rows that is not refused rightly. So many lists are copied of the marker, of the parser and of the reader.
+/// Returns the first call between two rows of which a refusal is not handled rightly, if there is
+/// one. `lists` are the numbers of lists that are copied of the marker, the parser and the fact
+/// reader.
 fn wrong_call<'a>(heap: Heap<'a>, text: &str, lists: [u64; 3]) -> Result<Option<Call>, AllocError> {
     let rows = rows_of(heap, text)?;
     let Some(next) = rows.get(1) else {
@@ -98,8 +103,9 @@ fn wrong_call<'a>(heap: Heap<'a>, text: &str, lists: [u64; 3]) -> Result<Option<
     Ok(None)
 }
 
-/// Texts of two rows, and how many lists are copied between these: of the marker, which holds block collections, of the parser, which holds goals and
-/// block collections, and of the reader, which holds collections. A list without items takes no allocation.
+/// Texts of two rows, and the numbers of lists that are copied between the rows: of the marker,
+/// which holds block collections, of the parser, which holds goals and block collections, and of
+/// the fact reader, which holds collections. A list without items needs no allocation.
 const TEXTS: [(&str, [u64; 3]); 4] = [
     ("a # b\n\n", [0, 1, 0]),
     ("- &x\n  a\n", [1, 2, 1]),
@@ -109,14 +115,15 @@ const TEXTS: [(&str, [u64; 3]); 4] = [
 
 #[test]
 fn of_each_copy(rt: HostRuntime) -> Result<(), Fail> {
-    let refusing = Refusing::new(rt.alloc());
+    let refusing = FailingAlloc::new(rt.alloc());
     for (text, lists) in TEXTS {
         assert_eq!(rt; wrong_call(&refusing, text, lists)?, None, "{text:?}");
     }
     Ok(())
 }
 
-/// Whether the rules on lexemes, once they have read a row behind which a problem waits, are refused the memory for it, and another time tell it.
+/// Returns `true` if the rules on lexemes fail to settle without memory when a problem waits after
+/// a row, and return this one problem with memory.
 fn is_settling_refused(heap: Heap<'_>) -> Result<bool, AllocError> {
     let rows = rows_of(heap, "a :")?;
     let mut machines = Machines::behind(heap, &rows)?;
@@ -128,7 +135,8 @@ fn is_settling_refused(heap: Heap<'_>) -> Result<bool, AllocError> {
     Ok(is_refused && told.len() == 1)
 }
 
-/// Whether the rules on lexemes ask for no memory to give or take a state, nor to settle where nothing waits.
+/// Returns `true` if the rules on lexemes do not allocate to return or take a state, nor to settle
+/// if no problem waits.
 fn takes_no_memory(heap: Heap<'_>) -> bool {
     heap.refuse(1);
     let mut rules = LexemeRules::resume(LexemeRules::new().state());
@@ -143,7 +151,7 @@ fn takes_no_memory(heap: Heap<'_>) -> bool {
 
 #[test]
 fn of_rules_on_lexemes(rt: HostRuntime) -> Result<(), Fail> {
-    let refusing = Refusing::new(rt.alloc());
+    let refusing = FailingAlloc::new(rt.alloc());
     assert!(rt; is_settling_refused(&refusing)?);
     assert!(rt; takes_no_memory(&refusing));
     Ok(())

@@ -7,15 +7,15 @@ use yl_text::{Row, lines_are_few_and_short, split};
 /// A row of a text.
 #[derive(Drop)]
 pub(crate) struct TextRow<A: Allocator> {
-    /// How many spaces it begins with.
+    /// The number of spaces at the start of the row.
     pub(crate) indentation: u32,
-    /// Whether it is sound.
+    /// Whether the row is sound.
     pub(crate) is_sound: bool,
-    /// The lexemes that begin in it.
+    /// The lexemes that begin in the row.
     pub(crate) lexemes: Vec<Lexeme<A>, A>,
 }
 
-/// How many spaces a row begins with.
+/// Returns the number of spaces at the start of a row.
 fn spaces_before(text: &str) -> u32 {
     let mut count = 0u32;
     for byte in text.bytes() {
@@ -27,7 +27,8 @@ fn spaces_before(text: &str) -> u32 {
     count
 }
 
-/// The rows, without lexemes.
+/// Returns the rows of a text, without lexemes. `sound` says which rows are sound. The only error
+/// is out of memory.
 fn bare_rows<A: Allocator + Copy>(
     alloc: A,
     rows: &[Row<A>],
@@ -44,7 +45,8 @@ fn bare_rows<A: Allocator + Copy>(
     Ok(bare)
 }
 
-/// The rows of a text.
+/// Returns the rows of a text. The only error is out of memory, which also stands for a text that
+/// is too large.
 pub(crate) fn rows_of<A: Allocator + Copy>(
     alloc: A,
     text: &str,

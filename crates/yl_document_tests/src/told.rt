@@ -1,11 +1,11 @@
-//! What is told of a row, and whether it is told alike in two places.
+//! What the machines say of a row, and whether they say the same in two places.
 use std::alloc::Allocator;
 use yl_events::{Outline, Shape};
 use yl_indentation::{Expectation, Fact};
 use yl_marks::{KeyFacts, Symbol};
 use yl_text::Finding;
 
-/// What machines tell of a row, or of the end of a document.
+/// What the machines say of a row, or of the end of a document.
 #[derive(Drop)]
 pub(crate) struct Told<A: Allocator> {
     /// The index of the row's first lexeme.
@@ -14,22 +14,23 @@ pub(crate) struct Told<A: Allocator> {
     pub(crate) line: u32,
     /// The row's lexemes with their marks.
     pub(crate) symbols: Vec<Symbol, A>,
-    /// The facts about its lexemes.
+    /// The facts about keys of its lexemes.
     pub(crate) keys: Vec<KeyFacts, A>,
     /// The outlines of its events.
     pub(crate) outlines: Vec<Outline, A>,
-    /// Its checked places.
+    /// The indentation facts of the row.
     pub(crate) facts: Vec<Fact, A>,
-    /// What the rules on lexemes find.
+    /// The findings of the rules on lexemes.
     pub(crate) findings: Vec<Finding<A>, A>,
 }
 
-/// How many lexemes the lexeme of this index comes behind the one of the index `first`.
+/// Returns the distance of the lexeme of index `i` after the one of index `first`.
 fn behind(i: u32, first: usize) -> usize {
     (i as usize).wrapping_sub(first)
 }
 
-/// Whether two symbols are the same, but for where their rows' first lexemes are.
+/// Returns `true` if two symbols are equal, apart from the indices of the first lexemes of their
+/// rows.
 fn is_moved(one: Symbol, first: usize, other: Symbol, other_first: usize) -> bool {
     match (one, other) {
         (Symbol::OpenSequence(i), Symbol::OpenSequence(j))
@@ -43,7 +44,7 @@ fn is_moved(one: Symbol, first: usize, other: Symbol, other_first: usize) -> boo
     }
 }
 
-/// Whether two shapes are the same.
+/// Returns `true` if two shapes are equal.
 fn is_same_shape(one: Shape, other: Shape) -> bool {
     match (one, other) {
         (Shape::Scalar(style), Shape::Scalar(other_style)) => style == other_style,
@@ -59,7 +60,8 @@ fn is_same_shape(one: Shape, other: Shape) -> bool {
     }
 }
 
-/// Whether two places are the same, but for where their rows' first lexemes are.
+/// Returns `true` if two lexemes have the same distance after the first lexemes of their rows, or
+/// both are missing.
 fn is_place_moved(one: Option<u32>, first: usize, other: Option<u32>, other_first: usize) -> bool {
     match (one, other) {
         (Some(i), Some(j)) => behind(i, first) == behind(j, other_first),
@@ -68,7 +70,8 @@ fn is_place_moved(one: Option<u32>, first: usize, other: Option<u32>, other_firs
     }
 }
 
-/// Whether two outlines are the same, but for where their rows' first lexemes are, and for which lexemes their anchors are.
+/// Returns `true` if two outlines are equal, apart from the indices of the first lexemes of their
+/// rows and from the lexemes of their anchors.
 fn is_outline_moved(one: &Outline, first: usize, other: &Outline, other_first: usize) -> bool {
     is_same_shape(one.kind, other.kind)
         && one.is_tagged == other.is_tagged
@@ -76,7 +79,7 @@ fn is_outline_moved(one: &Outline, first: usize, other: &Outline, other_first: u
         && is_place_moved(one.place, first, other.place, other_first)
 }
 
-/// Whether two expectations are the same.
+/// Returns `true` if two expectations are equal.
 fn is_same_expectation(one: Expectation, other: Expectation) -> bool {
     match (one, other) {
         (Expectation::At(m), Expectation::At(n))
@@ -86,14 +89,14 @@ fn is_same_expectation(one: Expectation, other: Expectation) -> bool {
     }
 }
 
-/// Whether two facts are the same, but for where their rows are.
+/// Returns `true` if two facts are equal, apart from the lines of their rows.
 fn is_fact_moved(one: &Fact, line: u32, other: &Fact, other_line: u32) -> bool {
     one.line.wrapping_sub(line) == other.line.wrapping_sub(other_line)
         && one.column == other.column
         && is_same_expectation(one.expectation, other.expectation)
 }
 
-/// Whether two findings are the same, but for where their rows are.
+/// Returns `true` if two findings are equal, apart from the lines of their rows.
 fn is_finding_moved<A: Allocator>(
     one: &Finding<A>,
     line: u32,
@@ -106,7 +109,7 @@ fn is_finding_moved<A: Allocator>(
         && one.message() == other.message()
 }
 
-/// Whether findings are the same, but for where their rows are.
+/// Returns `true` if two lists of findings are equal, apart from the lines of their rows.
 pub(crate) fn are_findings_moved<A: Allocator>(
     one: &[Finding<A>],
     line: u32,
@@ -122,7 +125,7 @@ pub(crate) fn are_findings_moved<A: Allocator>(
 }
 
 impl<A: Allocator> Told<A> {
-    /// Whether the marks are the same, but for the indices.
+    /// Returns `true` if the marks are equal, apart from the indices.
     fn has_same_marks(&self, other: &Told<A>) -> bool {
         for (x, y) in self.symbols.iter().zip(&other.symbols) {
             if !is_moved(*x, self.first, *y, other.first) {
@@ -132,7 +135,7 @@ impl<A: Allocator> Told<A> {
         self.symbols.len() == other.symbols.len()
     }
 
-    /// Whether the outlines are the same, but for the indices.
+    /// Returns `true` if the outlines are equal, apart from the indices.
     fn has_same_outlines(&self, other: &Told<A>) -> bool {
         for (x, y) in self.outlines.iter().zip(&other.outlines) {
             if !is_outline_moved(x, self.first, y, other.first) {
@@ -142,7 +145,7 @@ impl<A: Allocator> Told<A> {
         self.outlines.len() == other.outlines.len()
     }
 
-    /// Whether the checked places are the same, but for the lines.
+    /// Returns `true` if the indentation facts are equal, apart from the lines.
     fn has_same_facts(&self, other: &Told<A>) -> bool {
         for (x, y) in self.facts.iter().zip(&other.facts) {
             if !is_fact_moved(x, self.line, y, other.line) {
@@ -152,7 +155,7 @@ impl<A: Allocator> Told<A> {
         self.facts.len() == other.facts.len()
     }
 
-    /// Whether the same is told, but for the indices and the lines.
+    /// Returns `true` if both say the same, apart from the indices and the lines.
     pub(crate) fn is_same(&self, other: &Told<A>) -> bool {
         self.has_same_marks(other)
             && self.keys.as_slice() == other.keys.as_slice()

@@ -1,14 +1,14 @@
 //! Tests with an allocator that refuses one allocation, each in turn.
 use crate::views::{PrintedView, write_view};
-use refusing::Refusing;
+use failing_alloc::FailingAlloc;
 use std::alloc::Global;
 use std::test::Fail;
 use yl_dump::DumpFault;
 
 /// A view, a text, and what the model prints of it.
-type Row = (PrintedView, &'static str, &'static str);
+type Case = (PrintedView, &'static str, &'static str);
 
-static ROWS: [Row; 9] = [
+static CASES: [Case; 9] = [
     (
         PrintedView::Lexemes,
         "- {\"a\": &b c}\n- 'd\n  e' # f\n- *b\n---\n[g: |\n",
@@ -60,11 +60,11 @@ static ROWS: [Row; 9] = [
 // the result.
 fn written(
     global: Global,
-    heap: &Refusing<Global>,
-    row: &Row,
+    heap: &FailingAlloc<Global>,
+    case: &Case,
     nth: u64,
 ) -> (Vec<u8>, Result<(), DumpFault>) {
-    let (view, text, _) = *row;
+    let (view, text, _) = *case;
     let mut bytes = Vec::new(global);
     heap.refuse(nth);
     let answer = write_view(heap, view, text, &mut bytes);
@@ -74,11 +74,11 @@ fn written(
 // Returns the number of allocations that were refused before one run was refused none. Returns
 // `None` if a refused run returned anything but out of memory, if it wrote what is not the
 // beginning of the printed text, or if the last run did not write the text.
-fn refusals(global: Global, row: &Row) -> Option<u64> {
-    let heap = Refusing::new(global);
-    let printed = row.2.as_bytes();
+fn refusals(global: Global, case: &Case) -> Option<u64> {
+    let heap = FailingAlloc::new(global);
+    let printed = case.2.as_bytes();
     for n in 0..u64::MAX {
-        let (bytes, answer) = written(global, &heap, row, n + 1);
+        let (bytes, answer) = written(global, &heap, case, n + 1);
         if heap.is_armed() {
             let is_whole = answer == Ok(()) && bytes.as_slice() == printed;
             return is_whole.then_some(n);
@@ -92,9 +92,9 @@ fn refusals(global: Global, row: &Row) -> Option<u64> {
 
 #[test]
 fn memory_is_refused(rt: HostRuntime) -> Result<(), Fail> {
-    for row in &ROWS {
-        let count = refusals(rt.alloc(), row);
-        assert!(rt; count > Some(0), "{}", row.1);
+    for case in &CASES {
+        let count = refusals(rt.alloc(), case);
+        assert!(rt; count > Some(0), "{}", case.1);
     }
     Ok(())
 }

@@ -5,6 +5,4 @@
 #[cfg(test)]
 mod printing;
 #[cfg(test)]
-mod rows;
-#[cfg(test)]
-mod writer;
+mod problems;

@@ -1,8 +1,10 @@
 //! Tests of printed problems.
-use crate::rows::{DIGITS, DIGITS_PRINTS, MIXED, MIXED_PRINTS, Print, Row, WARNED, WARNED_PRINTS};
-use crate::writer::MemoryWriter;
+use crate::problems::{
+    DIGITS, DIGITS_PRINTS, MIXED, MIXED_PRINTS, Print, ProblemParts, WARNED, WARNED_PRINTS,
+};
 use std::alloc::{AllocError, Global};
 use std::test::Fail;
+use test_cases::MemoryWriter;
 use yl_devices::WriteFault;
 use yl_formats::{Format, write_problems};
 use yl_report::Problem;
@@ -10,9 +12,12 @@ use yl_text::{Finding, Watched};
 
 const NAME: &str = "a b.yaml";
 
-fn problems_of(alloc: Global, rows: &[Row]) -> Result<Vec<Problem<Global>>, AllocError> {
+fn problems_of(
+    alloc: Global,
+    all_parts: &[ProblemParts],
+) -> Result<Vec<Problem<Global>>, AllocError> {
     let mut problems = Vec::new(alloc);
-    for (line, column, level, rule, message) in rows {
+    for (line, column, level, rule, message) in all_parts {
         let found = Finding::fixed(*line, *column, *rule, message);
         problems.push(Problem::new(found, *level))?;
     }
@@ -29,12 +34,10 @@ fn printed(
     fails_at: u64,
     alloc: Global,
 ) -> (Vec<u8>, Result<(), WriteFault>) {
-    let mut out = Watched::new(MemoryWriter {
-        bytes: Vec::new(alloc),
-        most,
-        calls: 0,
-        fails_at,
-    });
+    let mut writer = MemoryWriter::new(alloc);
+    writer.most = most;
+    writer.fails_at = fails_at;
+    let mut out = Watched::new(writer);
     let answer = write_problems(format, NAME, problems, no_warnings, &mut out);
     (out.into_inner().bytes, answer)
 }
@@ -63,13 +66,13 @@ fn stops_at_each_write(alloc: Global, problems: &[Problem<Global>], print: &Prin
 
 #[test]
 fn as_yamllint_prints(rt: HostRuntime) -> Result<(), Fail> {
-    let rows: [(&[Row], &[Print]); 3] = [
+    let cases: [(&[ProblemParts], &[Print]); 3] = [
         (&MIXED, &MIXED_PRINTS),
         (&WARNED, &WARNED_PRINTS),
         (&DIGITS, &DIGITS_PRINTS),
     ];
-    for (rows, prints) in rows {
-        let problems = problems_of(rt.alloc(), rows)?;
+    for (all_parts, prints) in cases {
+        let problems = problems_of(rt.alloc(), all_parts)?;
         for print in prints {
             assert!(rt;
                 is_printed(rt.alloc(), problems.as_slice(), print),

@@ -1,5 +1,5 @@
-//! Tests of the scanner and of the recorder that only one who calls them row by row can make. What they tell of texts is shown by the rows of
-//! `yl_text_rows`.
+//! Tests of the scanner and of the recorder that only one who calls them row by row can make. What they tell of texts is shown by the cases of
+//! `yl_text_cases`.
 #![tactic(auto)]
 
 #[cfg(test)]

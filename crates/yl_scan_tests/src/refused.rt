@@ -2,7 +2,7 @@
 //! refusal.
 use crate::feeding::{MANY, fed, is_short, recorded};
 use crate::texts::TEXTS;
-use refusing::Refusing;
+use failing_alloc::FailingAlloc;
 use std::alloc::{AllocError, Global};
 use std::test::Fail;
 use yl_lexeme::Meter;
@@ -10,7 +10,7 @@ use yl_record::{Record, Recorder};
 use yl_scan::{LineState, Scanner};
 use yl_text::{Row, split};
 
-type Heap<'a> = &'a Refusing<Global>;
+type Heap<'a> = &'a FailingAlloc<Global>;
 
 /// How rows are read: by a scanner as they are, by one that gets their texts, and by a recorder.
 #[derive(Clone, Copy)]
@@ -116,7 +116,7 @@ fn state_at<'r, 'a>(
 
 /// How many growths there are where none is refused and a text is read from this row on. Where one is, a call is refused, and the calls behind it are.
 fn growths(global: Global, text: &str, from: usize, way: Way) -> Result<u64, Fail> {
-    let refusing = Refusing::new(global);
+    let refusing = FailingAlloc::new(global);
     let heap: Heap<'_> = &refusing;
     let rows = split(heap, text.as_bytes())?;
     let records = recorded(global, Recorder::start(&heap), 1, &rows)?;

@@ -1,6 +1,6 @@
 //! Tests that need code of their own: random edits of sessions over both stores, the number of
 //! bytes that a session holds, texts that are too large, and the number of writes of a report. The
-//! rows of `yl_session_rows` test the answers to edits and the state after them, also when
+//! cases of `yl_session_cases` test the answers to edits and the state after them, also when
 //! allocations are refused.
 #![tactic(auto)]
 

@@ -5,6 +5,7 @@ use crate::shown::state_shown;
 use std::alloc::{AllocError, Global};
 use std::process::Abort;
 use std::test::Fail;
+use test_cases::Random;
 use yl_chunks::ChunkStore;
 use yl_session::Session;
 use yl_text::{LineStore, PlainStore};
@@ -25,7 +26,7 @@ static PIECES: &[&str] = &[
     "...\n",
     "\n",
     "\n\n\n\n",
-    // Problems of lines and of sections.
+    // Most of these have problems of lines or of sections.
     "a: 1\n",
     "b:  2\n",
     "c: 3 \n",
@@ -35,12 +36,12 @@ static PIECES: &[&str] = &[
     "x: &a 1\n",
     "x: *a\n",
     "#comment \n",
-    // Widths of indentation.
+    // These have several widths of indentation.
     "m:\n  n: 1\n",
     "m:\n    n: 1\n",
     "m:\n   - n\n",
     "m:\n- n\n",
-    // Comments that hide problems.
+    // These comments switch rules, or silence a line or the file.
     "# yamllint disable\n",
     "# yamllint disable rule:colons\n",
     "# yamllint enable\n",
@@ -48,8 +49,8 @@ static PIECES: &[&str] = &[
     "# yamllint disable-line\n",
     "e:  5 # yamllint disable-line rule:colons\n",
     "# yamllint disable-file\n",
-    // Faults that are found at their position or after their document, and brackets and quotes that
-    // are closed in a later line or never.
+    // These have a fault at a position or after their document, and brackets and quotes that are
+    // closed in a later line or never.
     "n: ['1' 2]\n",
     "f: [1,\n",
     "  2]\n",
@@ -61,29 +62,6 @@ static PIECES: &[&str] = &[
 
 // The number of pieces without a fault.
 const SOUND: usize = 31;
-
-// A generator of pseudorandom numbers, which are the same at each run.
-#[derive(Drop)]
-struct Random {
-    seed: u64,
-}
-
-impl Random {
-    // Returns the next number, which is less than `bound`.
-    fn below(&mut self, bound: usize) -> usize {
-        self.seed = self
-            .seed
-            .wrapping_mul(6_364_136_223_846_793_005)
-            .wrapping_add(1_442_695_040_888_963_407);
-        ((self.seed >> 33) % (bound as u64).max(1)) as usize
-    }
-
-    // Returns a number from `least` to `most`.
-    fn between(&mut self, least: usize, most: usize) -> usize {
-        let more = most.saturating_sub(least).saturating_add(1);
-        least.saturating_add(self.below(more))
-    }
-}
 
 // Returns the indices of `count` random pieces among the first `kinds` pieces.
 fn random_pieces(
@@ -108,14 +86,14 @@ fn text_of(alloc: Global, pieces: &[usize]) -> Result<String, AllocError> {
     Ok(text)
 }
 
-// Returns the number of lines that end in pieces.
+// Returns the number of line breaks in the text of these pieces. The only error is out of memory.
 fn lines_in(alloc: Global, pieces: &[usize]) -> Result<u32, AllocError> {
     let text = text_of(alloc, pieces)?;
     let ends = text.bytes().filter(|byte| *byte == b'\n').count();
     Ok(u32::try_from(ends).unwrap_or(u32::MAX))
 }
 
-// An edit: these pieces replace those from the first index to before the second.
+// An edit: these pieces replace those with the indices `from..end`.
 #[derive(Drop)]
 struct PiecesEdit {
     from: usize,
@@ -193,7 +171,7 @@ fn check_text<S: LineStore<Alloc = Global>>(
     alloc: Global,
     seed: u64,
 ) -> Result<(), Fail> {
-    let mut random = Random { seed };
+    let mut random = Random::new(seed);
     let kinds = random.between(SOUND, PIECES.len());
     let count = random.between(4, 20);
     let mut pieces = random_pieces(alloc, &mut random, kinds, count)?;

@@ -20,8 +20,8 @@ pub fn edit<S: LineStore>(
     session.edit(from, to, bytes)
 }
 
-/// Replaces the lines from the first to before the second number by these bytes, as an edit between
-/// the starts of these lines.
+/// Replaces the lines `a..b`, counted from 0, by these bytes. The edit is one of the range between
+/// the starts of the lines `a` and `b`.
 pub fn edit_lines<S: LineStore>(
     session: &mut Session<S>,
     a: u32,

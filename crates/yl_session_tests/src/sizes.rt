@@ -1,6 +1,6 @@
 //! Tests of texts, bytes of edits and configurations that are too large.
 use crate::sessions::{config_fault, edit, opened};
-use refusing::Refusing;
+use failing_alloc::FailingAlloc;
 use std::alloc::Global;
 use std::test::Fail;
 use yl_config::ConfigFault;
@@ -16,7 +16,7 @@ fn fault_of<S: LineStore<Alloc = Global>>(alloc: Global, bytes: &[u8]) -> Option
 // Returns the fault of an edit of the text `a\n`, if there is one. The edit puts these bytes
 // between two columns of the first line, and its first allocation is refused.
 fn edit_fault<S: LineStore>(
-    heap: &Refusing<Global>,
+    heap: &FailingAlloc<Global>,
     taken: S::Alloc,
     from: u32,
     to: u32,
@@ -33,7 +33,7 @@ fn edit_fault<S: LineStore>(
 // A text of the maximum size needs memory, and a text with one more byte is too large.
 #[test]
 fn what_is_too_large_is_refused(rt: HostRuntime) -> Result<(), Fail> {
-    let heap = Refusing::new(rt.alloc());
+    let heap = FailingAlloc::new(rt.alloc());
     let long = vec![in rt.alloc(); b'x'; 67_108_865]?;
     let long = long.as_slice();
     let whole = fault_of::<PlainStore<Global>>(rt.alloc(), long);
@@ -41,10 +41,14 @@ fn what_is_too_large_is_refused(rt: HostRuntime) -> Result<(), Fail> {
     for (from, to, most) in [(0, 2, 67_108_864), (1, 2, 67_108_863), (1, 1, 67_108_862)] {
         let most: usize = most;
         let fitting = long.get(..most).unwrap_or(&[]);
-        let fault = edit_fault::<PlainStore<&Refusing<Global>>>(&heap, &heap, from, to, fitting)?;
+        let fault = edit_fault::<PlainStore<&FailingAlloc<Global>>>(
+            &heap, &heap, from, to, fitting,
+        )?;
         assert_eq!(rt; fault, Some(TextFault::Memory));
         let longer = long.get(..=most).unwrap_or(&[]);
-        let fault = edit_fault::<PlainStore<&Refusing<Global>>>(&heap, &heap, from, to, longer)?;
+        let fault = edit_fault::<PlainStore<&FailingAlloc<Global>>>(
+            &heap, &heap, from, to, longer,
+        )?;
         assert_eq!(rt; fault, Some(TextFault::TooLarge));
     }
     Ok(())

@@ -7,8 +7,8 @@ use Rattle.yl_config.specs.Config.{config_settings}
 use Rattle.yl_config.specs.Outcome.{IsConfigOf}
 use Rattle.yl_config.specs.Settings.{standard}
 use Rattle.yl_devices.specs.Text.{without_mark}
-use Rattle.yl_args.specs.declared.answer.Source.{Source}
-use Rattle.yl_args.specs.declared.answer.Source.TheVariants.{Standard, File, Data}
+use Rattle.yl_programs.specs.declared.answer.Source.{Source}
+use Rattle.yl_programs.specs.declared.answer.Source.TheVariants.{Standard, File, Data}
 
 -- this is what the bytes say that were given, where they are known, less one leading byte-order mark
 abbrev pub IsConfigRead : Option (List ℕ) → Result Config ConfigFault → Type 0

@@ -8,10 +8,9 @@ use crate::saying::say_config;
 use std::alloc::Allocator;
 use std::fs;
 use std::io::Read;
-use yl_args::Source;
 use yl_config::{Config, ConfigFault};
 use yl_devices::{ProgramFault, RunFault, read_text, without_mark};
-use yl_programs::{FAULT, stopped};
+use yl_programs::{FAULT, Source, stopped};
 use yl_text::Watched;
 
 /// Reads the text of a configuration to its end, and returns the configuration or its fault.

@@ -1,11 +1,12 @@
-//! Stores and lists in chunks: edits of about one, two and three chunks of numbers, from and to each place near a chunk's border.
+//! Tests of stores and lists in chunks: edits of about one, two and three chunks of numbers, from
+//! and to each place near a border of chunks.
 
 mod lists;
 
 use crate::stores::{Heap, place};
 use crate::texts::is_edited;
+use failing_alloc::FailingAlloc;
 pub(crate) use lists::is_made_at_once;
-use refusing::Refusing;
 use std::alloc::{AllocError, Global};
 use std::test::Fail;
 
@@ -16,14 +17,15 @@ enum Kind {
     List,
 }
 
-// An edit of the first numbers: how many there are, the first that goes, the one behind the last that
-// goes, and how many come in.
+/// An edit of the list of the first numbers: its length, the first index that is removed, the index
+/// after the last one that is removed, and the number of items that are inserted.
 pub(crate) type Edit = (usize, usize, usize, usize);
 
-// The first number of those that are put in.
+// The first number that is inserted.
 const NEW: usize = 1000;
 
-// The number at i behind an edit that puts `count` of them in place of those from a to b.
+// Returns the number at index `i` after an edit that puts `count` numbers in place of those with
+// the indices `a..b`.
 fn wanted(i: usize, a: usize, b: usize, count: usize) -> usize {
     let end = a.saturating_add(count);
     if i < a {
@@ -35,25 +37,26 @@ fn wanted(i: usize, a: usize, b: usize, count: usize) -> usize {
     }
 }
 
-// How many numbers there are behind an edit.
+// Returns the length of the list after an edit.
 fn size_behind(edit: Edit) -> usize {
     let (size, a, b, count) = edit;
     size.saturating_sub(b.saturating_sub(a))
         .saturating_add(count)
 }
 
-// The first numbers of the lines of a text, and of those that are put in. All have as many digits.
+// The first number of the lines of a text, and of those that are inserted. All numbers have as many
+// digits.
 const FIRST: usize = 10_000;
 
 const FIRST_NEW: usize = 20_000;
 
-// How many bytes such a line has, and how many stand before its break.
+// The number of bytes of such a line, and of those before its line break.
 const LINE: usize = 6;
 
 const DIGITS: usize = 5;
 
-// Lines that are numbers from `first` on, `count` of them. Each has a break, but for the last where it
-// is the last of the text.
+// Returns `count` lines that are the numbers from `first` on. Each ends in a line break, except for
+// the last one if `is_last` is set. The only error is out of memory.
 fn numbered(
     alloc: Global,
     first: usize,
@@ -71,7 +74,8 @@ fn numbered(
     Ok(text)
 }
 
-// Whether both stores make an edit of the lines of a text rightly.
+// Returns whether both stores make an edit of the lines of a text rightly, or `None` if a call
+// returns an error.
 fn is_stored(alloc: Global, heap: Heap<'_>, edit: Edit) -> Option<bool> {
     let (size, a, b, count) = edit;
     let is_end = b == size;
@@ -87,16 +91,18 @@ fn is_stored(alloc: Global, heap: Heap<'_>, edit: Edit) -> Option<bool> {
     is_edited(alloc, heap, text.as_str(), range, places, bytes.as_str()).ok()
 }
 
-// How many numbers the texts and lists have.
+// The lengths of the texts and lists.
 const SIZES: [usize; 4] = [255, 256, 257, 513];
 
-// Places at their ends, and about the borders of chunks that halve or third them.
+// Indices at their ends, and near the borders of chunks that are halves or thirds of them.
 const PLACES: [usize; 12] = [0, 1, 128, 129, 171, 172, 254, 255, 256, 257, 342, 513];
 
-// How many numbers are put in: with them a chunk keeps its items, is filled, is split, or is left empty.
+// The numbers of items that are inserted. With these a chunk keeps its items, is filled, is split,
+// or is left empty.
 const COUNTS: [usize; 6] = [0, 1, 2, 128, 256, 257];
 
-// How many numbers are not put rightly in place of those from a to b, of these counts the first.
+// Returns the first of these counts of items that are not put rightly in place of the items with
+// the indices `a..b`, if there is one.
 fn wrong_count(
     alloc: Global,
     heap: Heap<'_>,
@@ -118,7 +124,7 @@ fn wrong_count(
     None
 }
 
-// The first edit about a border that is not made rightly.
+// Returns the first edit near a border that is not made rightly, if there is one.
 fn wrong_edit(alloc: Global, heap: Heap<'_>, kind: Kind) -> Option<Edit> {
     for size in SIZES {
         for a in PLACES {
@@ -137,7 +143,7 @@ fn wrong_edit(alloc: Global, heap: Heap<'_>, kind: Kind) -> Option<Edit> {
 
 #[test]
 fn edits_about_each_border(rt: HostRuntime) -> Result<(), Fail> {
-    let heap = Refusing::new(rt.alloc());
+    let heap = FailingAlloc::new(rt.alloc());
     for kind in [Kind::Store, Kind::List] {
         assert_eq!(rt; wrong_edit(rt.alloc(), &heap, kind), None);
     }

@@ -1,16 +1,18 @@
-//! How often memory is asked for, and each growth of a list refused in turn, up to the first run that meets no refusal.
+//! Tests of the number of allocations. Each allocation of an edit of a list is refused in turn, up
+//! to the first run without a refusal.
 
 use crate::chunks::{Edit, is_made_at_once};
 use crate::stores::{Heap, opened, place};
 use crate::texts::shows;
-use refusing::Refusing;
+use failing_alloc::FailingAlloc;
 use std::alloc::{AllocError, Allocator, Global};
 use std::test::Fail;
 use yl_text::{
     Break, LineStore, Lines, Patched, PlainStore, Pos, Row, TextFault, characters, line_edit, split,
 };
 
-// Whether the buffer is empty after a refusal, and serves again; what it has room for takes no memory.
+// Returns `true` if the buffer is empty after a refusal and can be used again, and if nothing is
+// allocated for what it has room for.
 fn is_buffer_kept<A: Allocator + Copy>(
     alloc: A,
     heap: Heap<'_>,
@@ -26,7 +28,7 @@ fn is_buffer_kept<A: Allocator + Copy>(
     Ok(is_refused && is_read && heap.is_armed() && buffer.len() == 2)
 }
 
-// Whether a store takes the rows with no growth at all.
+// Returns `true` if a store takes the rows without an allocation.
 fn are_taken<'a, S: LineStore<Alloc = Heap<'a>>>(heap: Heap<'a>) -> Result<bool, TextFault> {
     let mut rows = split(heap, b"a\nb")?;
     heap.refuse(1);
@@ -36,7 +38,8 @@ fn are_taken<'a, S: LineStore<Alloc = Heap<'a>>>(heap: Heap<'a>) -> Result<bool,
     Ok(heap.is_armed() && store.len() == 2 && rows.is_empty())
 }
 
-// Whether the bytes of a line edit from this place on take one growth, as large as they are.
+// Returns `true` if a line edit from this position on makes one allocation for its bytes, exactly
+// as large as they are.
 fn takes_one_growth<'a, S: LineStore<Alloc = Heap<'a>>>(
     heap: Heap<'a>,
     from: Pos,
@@ -55,7 +58,8 @@ fn takes_one_growth<'a, S: LineStore<Alloc = Heap<'a>>>(
     Ok(is_refused && left == 1 && edit.bytes.capacity() == edit.bytes.len())
 }
 
-// Whether a store of lines that are not ASCII is shown with its middle line replaced, and so many of the lines are lent together.
+// Returns `true` if a store of lines that are not ASCII shows its lines with the middle one
+// replaced, and lends 1, 2 and 1 of these lines together.
 fn is_patched<'a, S: LineStore<Alloc = Heap<'a>>>(heap: Heap<'a>) -> Result<bool, TextFault> {
     let store: S = opened(heap, "ключ: значение\r\n名: 値\n🙂".as_bytes())?;
     let whole = split(heap, "ключ: значение\r\né\rè\n\n🙂".as_bytes())?;
@@ -76,7 +80,7 @@ fn is_patched<'a, S: LineStore<Alloc = Heap<'a>>>(heap: Heap<'a>) -> Result<bool
 
 #[test]
 fn of_single_calls(rt: HostRuntime) -> Result<(), Fail> {
-    let heap = Refusing::new(rt.alloc());
+    let heap = FailingAlloc::new(rt.alloc());
     let row = Row::new(rt.alloc(), "aé", Break::No)?;
     assert!(rt; is_buffer_kept(&heap, &heap, &row)?);
     heap.refuse(0);
@@ -89,7 +93,8 @@ fn of_single_calls(rt: HostRuntime) -> Result<(), Fail> {
     Ok(())
 }
 
-// Edits of lists, and how often each asks for memory at least. The numbers of 257 are in two chunks.
+// Edits of lists, and the least number of allocations of each. A list of 257 numbers has two
+// chunks.
 const EDITS: [(Edit, u64); 6] = [
     ((10, 3, 4, 1), 0),
     ((10, 3, 3, 100), 1),
@@ -99,7 +104,8 @@ const EDITS: [(Edit, u64); 6] = [
     ((257, 5, 250, 600), 5),
 ];
 
-// How many growths there are where none is refused.
+// Returns the number of allocations of an edit if none is refused, or `None` if the list is ever
+// not as it must be.
 fn refused_in_turn(heap: Heap<'_>, edit: Edit) -> Option<u64> {
     for n in 1..u64::MAX {
         if is_made_at_once(heap, heap, n, edit)? {
@@ -111,7 +117,7 @@ fn refused_in_turn(heap: Heap<'_>, edit: Edit) -> Option<u64> {
 
 #[test]
 fn of_each_edit(rt: HostRuntime) -> Result<(), Fail> {
-    let heap = Refusing::new(rt.alloc());
+    let heap = FailingAlloc::new(rt.alloc());
     for (edit, least) in EDITS {
         let growths = refused_in_turn(&heap, edit);
         assert!(rt; growths >= Some(least), "{growths:?} growths of {edit:?}");

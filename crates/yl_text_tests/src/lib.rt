@@ -1,4 +1,6 @@
-//! Tests of lists and stores in chunks, of random edits, of what asks for no memory, and of the first byte that is not printable ASCII. What is shown of texts is told by the rows of `yl_session_rows`.
+//! Tests of lists and stores in chunks, of random edits, of calls that must not allocate, and of
+//! the first byte that is not printable ASCII. The cases of `yl_session_cases` test what is shown
+//! of texts.
 #![tactic(auto)]
 
 #[cfg(test)]

@@ -1,30 +1,15 @@
-//! Random edits between places of small texts, by both stores, against the lines of the edited text.
+//! Tests of random edits between positions of small texts, with both stores, against the lines of
+//! the edited text.
 
 use crate::stores::{Heap, place};
 use crate::texts::is_edited;
-use refusing::Refusing;
+use failing_alloc::FailingAlloc;
 use std::alloc::{AllocError, Global};
 use std::test::Fail;
+use test_cases::Random;
 use yl_text::Pos;
 
-// Numbers that look random, the same ones at each run.
-#[derive(Drop)]
-struct Random {
-    seed: u64,
-}
-
-impl Random {
-    // The next number, below a bound.
-    fn below(&mut self, bound: usize) -> usize {
-        self.seed = self
-            .seed
-            .wrapping_mul(6_364_136_223_846_793_005)
-            .wrapping_add(1_442_695_040_888_963_407);
-        ((self.seed >> 33) % (bound as u64).max(1)) as usize
-    }
-}
-
-// What texts are made of. A break is as likely as a letter.
+// The characters of the texts. A line break is as likely as a letter.
 const CHARACTERS: [char; 10] = [
     'a',
     'b',
@@ -38,7 +23,7 @@ const CHARACTERS: [char; 10] = [
     '\u{2028}',
 ];
 
-// A text of so many characters.
+// Returns a random text of `len` characters. The only error is out of memory.
 fn random_text(alloc: Global, random: &mut Random, len: usize) -> Result<String, AllocError> {
     let mut text = String::new(alloc);
     for _ in 0..len {
@@ -49,8 +34,9 @@ fn random_text(alloc: Global, random: &mut Random, len: usize) -> Result<String,
     Ok(text)
 }
 
-// A place of a text behind some of its characters, and how many bytes stand before it. At the start of a line
-// the place behind the break before it is one with it; either may be given.
+// Returns the position after the first `count` characters of a text, and the number of bytes before
+// it. If a line begins there, the position after the line break before it is the same one, and
+// `other_name` chooses that.
 fn place_behind(text: &str, count: usize, other_name: bool) -> (Pos, usize) {
     let (mut line, mut col, mut byte) = (0usize, 0usize, 0usize);
     let mut last_cols = 0usize;
@@ -74,7 +60,7 @@ fn place_behind(text: &str, count: usize, other_name: bool) -> (Pos, usize) {
     (place(line, col), byte)
 }
 
-// Makes a random edit of a random text, and tells whether it is made rightly.
+// Makes a random edit of a random text. Returns `true` if it is made rightly.
 fn is_random_edit_made(alloc: Global, heap: Heap<'_>, random: &mut Random) -> Result<bool, Fail> {
     let len = random.below(26);
     let text = random_text(alloc, random, len)?;
@@ -90,8 +76,8 @@ fn is_random_edit_made(alloc: Global, heap: Heap<'_>, random: &mut Random) -> Re
 
 #[test]
 fn of_both_stores(rt: HostRuntime) -> Result<(), Fail> {
-    let heap = Refusing::new(rt.alloc());
-    let mut random = Random { seed: 46 };
+    let heap = FailingAlloc::new(rt.alloc());
+    let mut random = Random::new(46);
     for n in 0..60_000 {
         assert!(rt;
             is_random_edit_made(rt.alloc(), &heap, &mut random)?,

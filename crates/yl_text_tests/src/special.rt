@@ -1,10 +1,12 @@
-//! The first byte that is not printable ASCII, against a plain scan, in bytes of each small length.
+//! Tests of the first byte that is not printable ASCII, against a plain scan, in bytes of each
+//! length up to 130.
 
 use std::alloc::{AllocError, Global};
 use std::test::Fail;
 use yl_text::first_special;
 
-// The place of the first byte that is not 0x20 to 0x7E, or the length.
+// Returns the index of the first byte that is not from 0x20 to 0x7E, or the length if there is
+// none.
 fn scanned(bytes: &[u8]) -> usize {
     for (place, byte) in bytes.iter().enumerate() {
         if *byte < 0x20 || *byte > 0x7E {
@@ -14,7 +16,8 @@ fn scanned(bytes: &[u8]) -> usize {
     bytes.len()
 }
 
-// So many printable bytes, the first and the last of these in turn.
+// Returns `len` printable bytes, the first and the last of these in turn. The only error is out of
+// memory.
 fn printable(alloc: Global, len: usize) -> Result<Vec<u8>, AllocError> {
     let mut bytes = Vec::new(alloc);
     for _ in 0..len {
@@ -24,8 +27,9 @@ fn printable(alloc: Global, len: usize) -> Result<Vec<u8>, AllocError> {
     Ok(bytes)
 }
 
-// The first place of so many bytes at which one of these bytes, by itself, is told otherwise than by the scan. Where the place is behind the last,
-// none of them stands anywhere.
+// Returns the first index, and the byte there, for which `first_special` and the scan differ, if
+// there is one. Each of these bytes stands alone among printable ones; at the index `len` there is
+// none of them.
 fn missed(alloc: Global, len: usize) -> Result<Option<(usize, u8)>, AllocError> {
     for place in 0..=len {
         for byte in [b'\n', b'\r', b'\t', 0xC3] {

@@ -4,13 +4,15 @@ ghost use Rattle.std.specs.Prelude.{◌≡◌, IfOk};
 ghost use Rattle.yl_text.specs.PutLines.{incoming_lines};
 ghost use Rattle.yl_text.specs.Store.{AreLines};
 
-use refusing::Refusing;
+use failing_alloc::FailingAlloc;
 use std::alloc::{Allocator, Global};
 use yl_text::{LineStore, Lines, Pos, Row, TextFault, line_edit, one_answer_to_an_edit, split};
 
-pub(crate) type Heap<'a> = &'a Refusing<Global>;
+/// An allocator that can refuse one allocation.
+pub(crate) type Heap<'a> = &'a FailingAlloc<Global>;
 
-// A store of the lines of these bytes.
+/// Creates a store of the lines of these bytes. Returns the fault of the bytes, or `Memory` if
+/// memory runs out.
 pub(crate) fn opened<'a, S: LineStore<Alloc = Heap<'a>>>(
     heap: Heap<'a>,
     bytes: &[u8],
@@ -24,7 +26,8 @@ pub(crate) fn opened<'a, S: LineStore<Alloc = Heap<'a>>>(
     Ok(store)
 }
 
-// The rows that an edit puts in, before a kept line or at the end.
+// Returns the rows of these bytes. If `before` is set, they are put before another row, and so the
+// last of them is left out.
 fn incoming<A: Allocator + Copy>(
     alloc: A,
     before: bool,
@@ -39,7 +42,7 @@ fn incoming<A: Allocator + Copy>(
     Ok(rows)
 }
 
-// A place, its numbers cut to those that one has.
+/// Returns the position at this line and column, each cut to the greatest that fits in 32 bits.
 pub(crate) fn place(line: usize, col: usize) -> Pos {
     Pos {
         line: line.min(u32::MAX as usize) as u32,
@@ -47,7 +50,8 @@ pub(crate) fn place(line: usize, col: usize) -> Pos {
     }
 }
 
-// Makes an edit between two places. Whether the store takes the rows that come in, all of them.
+/// Makes an edit between two positions. Returns `true` if the store takes all rows that are put in.
+/// Returns the fault of the edit, or `Memory` if memory runs out.
 pub(crate) fn edit<'a, S: LineStore<Alloc = Heap<'a>>>(
     heap: Heap<'a>,
     store: &mut S,

@@ -5,7 +5,7 @@ use std::alloc::{AllocError, Allocator, Global};
 use yl_chunks::ChunkStore;
 use yl_text::{LineStore, Lines, PlainStore, Pos, Row, TextFault, are_one_place, split};
 
-// The text with these bytes in place of those from p to q.
+// Returns the text with these bytes in place of the bytes `p..q`. The only error is out of memory.
 fn replaced(
     alloc: Global,
     text: &[u8],
@@ -20,7 +20,7 @@ fn replaced(
     Ok(whole)
 }
 
-// Whether these are the rows of the lines.
+/// Returns `true` if these are the rows of the lines.
 pub(crate) fn shows<S: Lines, A: Allocator>(lines: &S, rows: &[Row<A>]) -> bool {
     if lines.len() != rows.len() {
         return false;
@@ -33,7 +33,8 @@ pub(crate) fn shows<S: Lines, A: Allocator>(lines: &S, rows: &[Row<A>]) -> bool 
     true
 }
 
-// Whether a store of a text takes these places for one, or for two, and shows this whole text behind an edit between them.
+// Returns `true` if a store of a text says as `are_one` does whether the two positions are one, and
+// shows the text `whole` after an edit between them.
 fn has_rows<'a, S: LineStore<Alloc = Heap<'a>>>(
     heap: Heap<'a>,
     text: &str,
@@ -52,8 +53,9 @@ fn has_rows<'a, S: LineStore<Alloc = Heap<'a>>>(
     Ok(is_told && is_made && is_whole)
 }
 
-// Makes an edit that can be made, of what stands between two bytes, by both stores, and tells whether the text that is
-// edited is shown then, and whether the places are taken for one where they are.
+/// Makes an edit that has no fault with both stores. It replaces the bytes of a range, which are
+/// between these two positions. Returns `true` if both stores show the edited text, and say rightly
+/// whether the positions are one.
 pub(crate) fn is_edited(
     alloc: Global,
     heap: Heap<'_>,

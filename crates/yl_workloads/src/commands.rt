@@ -3,13 +3,13 @@ use crate::maker::Maker;
 use itoa::Buffer;
 use std::alloc::{AllocError, Global};
 
-/// What is typed behind a value, a letter at a time.
+/// What is typed after a value, one letter at a time.
 const TYPED: &[u8] = b"-candidate";
 
-/// The line under a place, as it is put in, changed and taken out.
+/// The line below a place, as it is inserted and then changed.
 const ADDED: [&[u8]; 2] = [b"note-1: draft", b"note-1: final"];
 
-/// The line under a place while something is opened and closed in it.
+/// The line below a place, while something is opened and closed in it.
 const OPENED: [&[u8]; 4] = [
     b"title: \"draft",
     b"title: \"draft\"",
@@ -17,40 +17,40 @@ const OPENED: [&[u8]; 4] = [
     b"title: [draft]",
 ];
 
-/// What is typed behind a value until its line is too long.
+/// What is typed after a value until its line is too long.
 const SENTENCE: &[u8] =
     b" of the team that answers for it, and of each one that calls it while it is moved";
 
-/// How many letters of it are typed first, with blanks between them.
+/// The number of letters of `SENTENCE` that are typed first, blanks included.
 const FIRST_LETTERS: usize = 12;
 
-/// A line that gets longer than this one is too long.
+/// A line with more bytes than this is too long.
 const WIDTH: usize = 80;
 
-/// How many letters are typed in front of that column, and how many past it.
+/// The number of letters that are typed up to that column, and the number of those past it.
 const LETTERS_BEFORE: usize = 2;
 
 const LETTERS_PAST: usize = 6;
 
-/// What is typed behind the line under an open quote.
+/// What is typed after the line below an open quote.
 const UNDER_QUOTE: &[u8] = b"two";
 
-/// Commands as `yl_cli::drive` reads them, one after another. Lines count from 0. Each is of whole
-/// lines: its places are columns 0.
+/// Commands as `yl_cli::drive` reads them, one after another. Lines count from 0. Each command
+/// replaces whole lines, so all its columns are 0.
 #[derive(Drop)]
 pub struct Commands {
     bytes: Vec<u8>,
 }
 
 impl Commands {
-    /// No command yet.
+    /// Creates an empty list of commands.
     pub fn new(alloc: Global) -> Commands {
         Commands {
             bytes: Vec::new(alloc),
         }
     }
 
-    /// The commands, as they are read.
+    /// Returns the bytes of the commands.
     pub fn as_slice(&self) -> &[u8] {
         self.bytes.as_slice()
     }
@@ -62,7 +62,7 @@ impl Commands {
         Ok(())
     }
 
-    // The front of a command in place of `count` lines from `first` on.
+    // Appends the front of a command that replaces `count` lines from line `first` on.
     fn lines(&mut self, first: u64, count: u64) -> Result<(), AllocError> {
         self.bytes.extend_from_slice(b"replace ")?;
         self.number(first, b' ')?;
@@ -71,7 +71,8 @@ impl Commands {
         self.bytes.extend_from_slice(b"0 ")
     }
 
-    // Puts a line of two parts in place of `count` lines from `first` on.
+    // Appends a command that puts one line, given in two parts, in place of `count` lines from line
+    // `first` on.
     fn line(
         &mut self,
         first: u64,
@@ -88,13 +89,14 @@ impl Commands {
         Ok(())
     }
 
-    // Takes the line `first` out.
+    // Appends a command that removes the line `first`.
     fn without(&mut self, first: u64) -> Result<(), AllocError> {
         self.lines(first, 1)?;
         self.bytes.extend_from_slice(b"0\n")
     }
 
-    // Puts a line in under a place, and the other ones in its place; then takes it out.
+    // Appends commands that insert the first of these lines below a place, put each of the others
+    // in its place, and remove it.
     fn lines_under(&mut self, at: u64, blanks: &[u8], lines: &[&[u8]]) -> Result<(), AllocError> {
         let under = at.wrapping_add(1);
         let mut count = 0;
@@ -105,7 +107,7 @@ impl Commands {
         self.without(under)
     }
 
-    // Types behind a line's value, then edits under it.
+    // Appends commands that type after the value of a line, and then edit lines below it.
     fn work_at(&mut self, at: u64, line: &[u8]) -> Result<(), AllocError> {
         for end in 1..=TYPED.len() {
             self.line(at, 1, line, &TYPED[..end])?;
@@ -115,7 +117,8 @@ impl Commands {
         self.lines_under(at, blanks, &OPENED)
     }
 
-    // Types words behind a line's value: the first ones, and those that make it too long.
+    // Appends commands that type words after the value of a line: the first letters, and those that
+    // make the line too long.
     fn words_at(&mut self, at: u64, line: &[u8]) -> Result<(), AllocError> {
         for end in 1..=SENTENCE.len() {
             let column = line.len().wrapping_add(end);
@@ -127,7 +130,8 @@ impl Commands {
         Ok(())
     }
 
-    // Opens a quote in a line of its own, types behind the line under it, closes it, and takes it out.
+    // Appends commands that open a quote in a new line, type after the line below it, close the
+    // quote, and remove the new line.
     fn quote_above(&mut self, at: u64, under: &[u8]) -> Result<(), AllocError> {
         let blanks = blanks_of(under);
         self.line(at, 0, blanks, OPENED[0])?;
@@ -138,9 +142,9 @@ impl Commands {
         self.without(at)
     }
 
-    /// Adds the commands of work on words at `count` places, in order, all over a text of about
-    /// `lines` lines: where two lines have values, words are typed behind the first one, then a
-    /// quote is opened and closed between them.
+    /// Appends the commands of work on words at up to `count` places, in order, all over a text of
+    /// about `lines` lines. At two lines with values, words are typed after the first one, and then
+    /// a quote is opened and closed between them. The only error is out of memory.
     pub fn words(
         &mut self,
         text: &[u8],
@@ -168,8 +172,8 @@ impl Commands {
         Ok(())
     }
 
-    /// Adds the commands of work at `count` places, in order, all over a text of about `lines`
-    /// lines.
+    /// Appends the commands of work at up to `count` places, in order, all over a text of about
+    /// `lines` lines. The only error is out of memory.
     pub fn work(
         &mut self,
         text: &[u8],
@@ -195,7 +199,7 @@ impl Commands {
     }
 }
 
-// The blanks with which a line begins.
+// Returns the blanks at the start of a line.
 fn blanks_of(line: &[u8]) -> &[u8] {
     match line.iter().position(|c| *c != b' ') {
         Some(end) if end <= line.len() => &line[..end],
@@ -203,7 +207,7 @@ fn blanks_of(line: &[u8]) -> &[u8] {
     }
 }
 
-// Whether a line ends in a value to which letters can be added.
+// Returns `true` if a line ends in a value to which letters can be added.
 fn is_value(line: &[u8]) -> bool {
     let ends_so = match line.last() {
         Some(last) => last.is_ascii_alphanumeric(),
@@ -212,7 +216,7 @@ fn is_value(line: &[u8]) -> bool {
     ends_so && line.contains(&b':') && !line.contains(&b'|') && !line.contains(&b'#')
 }
 
-// Whether a line ends in a value to which words can be added.
+// Returns `true` if a line ends in a value to which words can be added.
 fn is_words(line: &[u8]) -> bool {
     is_value(line) && !line.contains(&b'*') && !line.contains(&b'"')
 }

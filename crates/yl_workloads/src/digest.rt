@@ -1,6 +1,6 @@
-//! A digest of many bytes, after Fowler, Noll and Vo (FNV-1a with 64 bits).
+//! A digest of many bytes, by Fowler, Noll and Vo (FNV-1a with 64 bits).
 
-/// What was seen so far.
+/// The digest of the bytes that were added so far, and their number.
 #[derive(Clone, Copy)]
 pub struct Digest {
     value: u64,
@@ -8,7 +8,7 @@ pub struct Digest {
 }
 
 impl Digest {
-    /// Nothing was seen.
+    /// Creates the digest of no bytes.
     pub fn new() -> Digest {
         Digest {
             value: 0xcbf2_9ce4_8422_2325,
@@ -21,7 +21,7 @@ impl Digest {
         self.count = self.count.wrapping_add(1);
     }
 
-    /// Sees what a call printed, then its status.
+    /// Adds what a call printed, and then its status.
     pub fn see(&mut self, printed: &[u8], status: u8) {
         for byte in printed {
             self.see_byte(*byte);
@@ -29,12 +29,12 @@ impl Digest {
         self.see_byte(status);
     }
 
-    /// The digest.
+    /// Returns the digest.
     pub fn value(&self) -> u64 {
         self.value
     }
 
-    /// How many bytes were seen, a status being one.
+    /// Returns the number of bytes that were added, with one byte for each status.
     pub fn count(&self) -> u64 {
         self.count
     }

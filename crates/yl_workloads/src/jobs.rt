@@ -1,4 +1,5 @@
-//! The jobs: each calls what a user waits for on texts of its own, and sees all that it prints.
+//! The jobs. Each makes the calls that a user waits for on texts of its own, and adds all that they
+//! print to a digest.
 use crate::commands::Commands;
 use crate::digest::Digest;
 use crate::maker::Maker;
@@ -7,12 +8,12 @@ use crate::texts::{
     HURRIED_MANIFEST, MANIFESTS, WARNINGS,
 };
 use std::alloc::{AllocError, Global};
-use yl_args::Flags;
 use yl_chunks::ChunkStore;
 use yl_cli::{drive, lint};
 use yl_config::Config;
 use yl_devices::{RunFault, text_of};
 use yl_dump::{DumpFault, write_events};
+use yl_programs::Flags;
 use yl_text::Watched;
 
 const FLAGS: Flags = Flags {
@@ -21,62 +22,63 @@ const FLAGS: Flags = Flags {
     work: false,
 };
 
-// Problems that are warnings are found, and not printed.
+// Flags by which warnings are found, and not printed.
 const NO_WARNINGS: Flags = Flags {
     strict: true,
     no_warnings: true,
     work: false,
 };
 
-// The name under which problems are told.
+// The name under which problems are printed.
 const NAME: &str = "text.yaml";
 
-/// How many objects a file of Kubernetes manifests has: some 1 MB.
+/// The number of objects of a file of Kubernetes manifests, which has some 1 MB.
 const OBJECTS: u32 = 1_800;
 /// A small file has fewer entries than this.
 const ENTRIES_OF_FILE: u32 = 60;
-/// How many lines of flow collections a document has: some 2 MB.
+/// The number of lines of flow collections of a document, which has some 2 MB.
 const FLOW_LINES: u32 = 6_000;
-/// How many entries a long line of flow collections has, which one of `FLOW_LONG_EVERY` lines is.
+/// The number of entries of a long line of flow collections. One of `FLOW_LONG_EVERY` lines is
+/// long.
 const FLOW_LONG: u32 = 400;
 
 const FLOW_LONG_EVERY: u32 = 64;
-/// How many documents an edited text has, and how many entries each of these.
+/// The number of documents of an edited text, and the number of entries of each.
 const DOCUMENTS: u32 = 500;
 
 const ENTRIES_OF_DOCUMENT: u32 = 120;
-/// How many entries an edited text of one document has.
+/// The number of entries of an edited text of one document.
 const ENTRIES_OF_ONE: u32 = 2_500;
-/// About as many lines has an entry, twice.
+/// The approximate number of lines of two entries.
 const LINES_OF_TWO: u32 = 9;
-/// How many documents a text with many problems has, how many problems each of these, and about how
-/// many lines.
+/// The number of documents of a text with many problems, the number of problems of each, and the
+/// approximate number of its lines.
 const DOCUMENTS_WITH_PROBLEMS: u32 = 4_000;
 
 const PROBLEMS_OF_DOCUMENT: u32 = 5;
 
 const LINES_OF_DOCUMENT: u32 = 44;
 
-/// What is asked for.
+/// The work that is asked for.
 #[derive(Clone, Copy)]
 pub enum Job {
-    /// Files of Kubernetes manifests are linted.
+    /// Lints files of Kubernetes manifests.
     Manifests,
-    /// Small files are linted.
+    /// Lints small files.
     Files,
-    /// Documents of flow collections with some very long lines are linted.
+    /// Lints documents of flow collections with some very long lines.
     Flow,
-    /// A text of many documents is edited.
+    /// Edits a text of many documents.
     Typing,
-    /// A text of one large document is edited.
+    /// Edits a text of one large document.
     Document,
-    /// The events of files of Kubernetes manifests are printed.
+    /// Prints the events of files of Kubernetes manifests.
     Events,
-    /// A text of many documents with problems is edited.
+    /// Edits a text of many documents with problems.
     Problems,
 }
 
-/// The job of this name.
+/// Returns the job of this name, if there is one.
 pub fn job_of(word: &str) -> Option<Job> {
     match word {
         "manifests" => Some(Job::Manifests),
@@ -112,7 +114,7 @@ fn put_documents(maker: &mut Maker) -> Result<(), AllocError> {
     Ok(())
 }
 
-// Documents with an entry with a problem behind each of some others.
+// Adds documents in which an entry with a problem follows each of some other entries.
 fn put_documents_with_problems(maker: &mut Maker) -> Result<(), AllocError> {
     for _ in 0..DOCUMENTS_WITH_PROBLEMS {
         maker.put(HEAD)?;
@@ -124,7 +126,7 @@ fn put_documents_with_problems(maker: &mut Maker) -> Result<(), AllocError> {
     Ok(())
 }
 
-// Some entries of a flow sequence, a comma behind each.
+// Adds a line of entries of a flow sequence, each with a comma after it.
 fn put_flow_line(maker: &mut Maker, count: u32) -> Result<(), AllocError> {
     let mut before = "  ";
     for _ in 0..count {
@@ -218,7 +220,7 @@ fn see_file(
     }
 }
 
-// Edits a text at `count` places.
+// Edits a text at up to `count` places.
 fn see_work(
     alloc: Global,
     job: Job,
@@ -250,7 +252,7 @@ fn see_work(
     see_edits(alloc, config, FLAGS, text.as_slice(), &commands, digest)
 }
 
-// Edits a text with many problems, which are warnings, at `count` places.
+// Edits a text with many problems, which are warnings, at up to `count` places.
 fn see_problems(alloc: Global, seed: u64, count: u32, digest: &mut Digest) -> Result<(), RunFault> {
     let Ok(config) = Config::read(alloc, WARNINGS.as_bytes()) else {
         return Err(RunFault::Memory);
@@ -272,8 +274,8 @@ fn see_problems(alloc: Global, seed: u64, count: u32, digest: &mut Digest) -> Re
     )
 }
 
-/// Does a job on `count` texts, or at `count` places of one text, and answers what was seen. Each
-/// seed gives other texts.
+/// Does a job on `count` texts, or at up to `count` places of one text, and returns the digest of
+/// what was printed. Each seed gives other texts. Returns the fault of a run, if it has one.
 pub fn done(alloc: Global, job: Job, seed: u64, count: u32) -> Result<Digest, RunFault> {
     let mut digest = Digest::new();
     match job {

@@ -1,5 +1,5 @@
-//! `yl_workloads JOB SEED COUNT`: does the work of a benchmark on texts that it makes, and prints the
-//! job's name, a digest of all that was printed, and how many bytes that were.
+//! `yl_workloads JOB SEED COUNT`: does the work of a benchmark on texts that it makes, and prints
+//! the job's name, a digest of all that was printed, and the number of bytes of that.
 #![tactic(auto)]
 
 mod commands;
@@ -14,7 +14,7 @@ use jobs::{Job, done, job_of};
 use std::process::ExitCode;
 use yl_programs::{FAULT, words};
 
-// What the words ask for.
+// Returns what the words ask for, if they are a job, a seed and a number.
 fn asked(words: &[String]) -> Option<(Job, u64, u32)> {
     let [job, seed, count] = words else {
         return None;
@@ -25,7 +25,7 @@ fn asked(words: &[String]) -> Option<(Job, u64, u32)> {
     Some((job, seed, count))
 }
 
-// Prints what was seen.
+// Prints the job's name, the digest and the number of bytes. Returns `true` if all is printed.
 fn tell(rt: &HostRuntime, job: &str, digest: Digest) -> bool {
     let mut buffer = Buffer::new();
     let value = buffer.format(digest.value());

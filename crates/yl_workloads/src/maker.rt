@@ -1,11 +1,11 @@
-//! Makes texts of pieces, the same ones for the same seed.
+//! Makes texts of pieces. The same seed gives the same texts.
 use crate::texts::WORDS;
 use itoa::Buffer;
 use rand_core::Rng;
 use rand_pcg::Pcg32;
 use std::alloc::{AllocError, Global};
 
-/// A text that grows by pieces.
+/// A text to which pieces are added.
 #[derive(Drop)]
 pub struct Maker {
     random: Pcg32,
@@ -14,7 +14,7 @@ pub struct Maker {
 }
 
 impl Maker {
-    /// No text yet. Each seed and each stream of it gives another.
+    /// Creates an empty text. Each seed, and each stream of a seed, makes other choices.
     pub fn new(alloc: Global, seed: u64, stream: u64) -> Maker {
         Maker {
             random: Pcg32::new(seed, stream),
@@ -23,7 +23,7 @@ impl Maker {
         }
     }
 
-    /// The next choice: a number below `n`, or 0 where that is 0.
+    /// Returns the next choice: a number less than `n`, or 0 if `n` is 0.
     pub fn below(&mut self, n: u32) -> u32 {
         if n == 0 {
             0
@@ -32,7 +32,7 @@ impl Maker {
         }
     }
 
-    /// The text.
+    /// Returns the text.
     pub fn into_text(self) -> Vec<u8> {
         self.text
     }
@@ -42,7 +42,8 @@ impl Maker {
         self.text.extend_from_slice(buffer.format(n).as_bytes())
     }
 
-    // What stands at `@`: a word, a number, or one that no other piece has, once more too.
+    // Adds what a field stands for: a word, a number, a number that no other piece has, or the last
+    // such number again.
     fn put_field(&mut self, field: u8) -> Result<(), AllocError> {
         if field == b'w' {
             let at = self.below(32) as usize;
@@ -62,7 +63,7 @@ impl Maker {
         self.put_number(n + 1_000)
     }
 
-    /// Adds a piece, each field of it filled in.
+    /// Adds a piece with each of its fields filled in. The only error is out of memory.
     pub fn put(&mut self, piece: &str) -> Result<(), AllocError> {
         let mut is_first = true;
         for part in piece.as_bytes().split(|c| *c == b'@') {
@@ -78,7 +79,8 @@ impl Maker {
         Ok(())
     }
 
-    /// Adds one of these pieces, or in one of `every` cases the rare one.
+    /// Adds one of these pieces, or in one of `every` cases the rare one. The only error is out of
+    /// memory.
     pub fn put_one(&mut self, pieces: &[&str], rare: &str, every: u32) -> Result<(), AllocError> {
         let rarely = self.below(every) == 0;
         let at = self.below(pieces.len().min(1_000) as u32) as usize;

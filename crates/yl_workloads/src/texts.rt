@@ -1,5 +1,5 @@
-//! Pieces of YAML files as people keep them. In a piece `@w` stands for a word, `@n` for a number,
-//! `@s` for a number that no other piece of its text has, and `@l` for the last of those once more.
+//! Pieces of YAML files as people keep them. In a piece, `@w` stands for a word, `@n` for a number,
+//! `@s` for a number that no other piece of its text has, and `@l` for the last such number again.
 
 /// The words of the texts.
 pub const WORDS: [&str; 32] = [
@@ -37,7 +37,7 @@ pub const WORDS: [&str; 32] = [
     "worker",
 ];
 
-/// Kubernetes objects, a document each.
+/// Kubernetes objects, each a document.
 pub const MANIFESTS: [&str; 6] = [
     "---
 apiVersion: v1
@@ -215,7 +215,7 @@ spec:
   externalName: @w.@w.@w.example.com/a/path/that/nobody/wrapped/because/it/could/not/be/wrapped
 ";
 
-/// How the one document of a file with many entries begins.
+/// The start of a document with many entries.
 pub const HEAD: &str = "---
 name: @w-@n
 version: \"3.@n\"
@@ -255,7 +255,7 @@ pub const HURRIED_ENTRY: &str = "  @w-@s :
     enabled: yes
 ";
 
-/// Entries with one problem each, whose message says what was found.
+/// Entries with one problem each, whose message names what was found.
 pub const ENTRIES_WITH_PROBLEMS: [&str; 5] = [
     "  @w-@s:
     image: registry.example.com/@w/@w:@n.@n
@@ -283,7 +283,7 @@ pub const ENTRIES_WITH_PROBLEMS: [&str; 5] = [
 ",
 ];
 
-/// A configuration by which what these entries have are warnings.
+/// A configuration by which the problems of these entries are warnings.
 pub const WARNINGS: &str = "---
 extends: default
 rules:
@@ -294,11 +294,12 @@ rules:
   truthy: {level: warning}
 ";
 
-/// How a document of flow collections begins and ends, as JSON is written.
+/// The start of a document of flow collections, which is written as JSON is.
 pub const FLOW_HEAD: &str = "---
 {\"source\": \"@w\", \"items\": [
 ";
 
+/// The end of a document of flow collections.
 pub const FLOW_END: &str = "  {}
 ]}
 ";

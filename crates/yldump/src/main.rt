@@ -2,10 +2,9 @@
 #![tactic(auto)]
 
 use std::process::ExitCode;
-use yl_args::{AskedDump, View, asked_dump};
 use yl_devices::{ProgramFault, RunFault, read_text, text_of};
 use yl_dump::{DumpFault, write_events, write_lexemes, write_lines};
-use yl_programs::{bytes_of, ended, stopped, words};
+use yl_programs::{AskedDump, View, asked_dump, bytes_of, ended, stopped, words};
 use yl_text::Watched;
 
 const NAME: &str = "yldump";

@@ -3,12 +3,11 @@
 #![tactic(auto)]
 
 use std::process::ExitCode;
-use yl_args::{Asked, asked_edit};
 use yl_chunks::ChunkStore;
 use yl_cli::drive;
 use yl_config::Config;
 use yl_devices::{ProgramFault, RunFault};
-use yl_programs::{bytes_of, ended, stopped, words};
+use yl_programs::{Asked, asked_edit, bytes_of, ended, stopped, words};
 use yl_sources::config_of;
 use yl_text::Watched;
 

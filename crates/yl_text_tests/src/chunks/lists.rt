@@ -1,4 +1,5 @@
-//! Lists of numbers: room made, filled and refused, and lists of which some items are replaced.
+//! Lists of numbers: room that is made, filled and refused, and lists of which some items are
+//! replaced.
 
 ghost use Rattle.std.specs.Prelude.{◌≡◌, ◌+◌, ◌^◌, ◌<◌, ◌≤◌, IfOk, IsTrue, length, vec_len};
 ghost use Rattle.yl_text.specs.Store.{IsRange};
@@ -8,10 +9,10 @@ use crate::stores::Heap;
 use std::alloc::{AllocError, Allocator};
 use yl_chunks::{Chunks, Spliced};
 
-// The most numbers of a list here.
+// The lists here, and what is inserted into them, are shorter than this.
 const MANY: usize = 1 << 20;
 
-// The numbers from `first` on, `count` of them.
+// Returns the numbers from `first` on, `count` of them. The only error is out of memory.
 fn numbers<A: Allocator>(alloc: A, first: usize, count: usize) -> Result<Vec<usize, A>, AllocError>
     ensures { IfOk result (λ numbers. vec_len numbers ≡ count) }
 {
@@ -22,14 +23,14 @@ fn numbers<A: Allocator>(alloc: A, first: usize, count: usize) -> Result<Vec<usi
     Ok(numbers)
 }
 
-// The list of the first numbers, so many.
+// Returns the list of the first `size` numbers. The only error is out of memory.
 fn listed<A: Allocator + Copy>(alloc: A, size: usize) -> Result<Chunks<usize, A>, AllocError> {
     let mut list = Chunks::new(alloc);
     list.splice(0, 0, &mut numbers(alloc, 0, size)?)?;
     Ok(list)
 }
 
-// Whether this is the list behind that edit.
+// Returns `true` if this is the list after the edit.
 fn is_edited<A: Allocator + Copy>(list: &Chunks<usize, A>, edit: Edit) -> bool {
     let (_, a, b, count) = edit;
     for i in 0..list.len() {
@@ -40,7 +41,7 @@ fn is_edited<A: Allocator + Copy>(list: &Chunks<usize, A>, edit: Edit) -> bool {
     list.len() == size_behind(edit)
 }
 
-// Whether the list is seen so with the new numbers in place of the others.
+// Returns `true` if this is a view of the list after the edit.
 fn is_seen_edited<A: Allocator + Copy>(seen: &Spliced<'_, usize, A>, edit: Edit) -> bool {
     let (_, a, b, count) = edit;
     for i in 0..seen.len() {
@@ -51,8 +52,9 @@ fn is_seen_edited<A: Allocator + Copy>(seen: &Spliced<'_, usize, A>, edit: Edit)
     seen.len() == size_behind(edit)
 }
 
-// Makes room for an edit and fills it, which takes no memory. The nth growth of the list is refused; at 0
-// none is. Whether all new numbers were taken, with no growth.
+// Makes room for an edit and fills it. The `nth` allocation for the room is refused, or none if
+// `nth` is 0. Returns `true` if all new numbers were taken, and nothing was allocated to fill the
+// room.
 fn fill<A: Allocator + Copy>(
     heap: Heap<'_>,
     nth: u64,
@@ -75,7 +77,7 @@ fn fill<A: Allocator + Copy>(
     Ok(is_armed && new.is_empty())
 }
 
-// Whether this edit can be made of the list.
+// Returns `true` only if this edit can be made of the list.
 fn can_be_made<A: Allocator + Copy>(
     list: &Chunks<usize, A>,
     a: usize,
@@ -87,7 +89,7 @@ fn can_be_made<A: Allocator + Copy>(
     a <= b && b <= list.len() && list.len() < MANY && count < MANY
 }
 
-// Whether an edit is seen before it is made.
+// Returns `true` if a view of the list shows an edit before it is made.
 fn is_seen<A: Allocator + Copy>(alloc: A, list: &Chunks<usize, A>, edit: Edit) -> bool {
     let (_, a, b, count) = edit;
     let Ok(new) = numbers(alloc, NEW, count) else {
@@ -99,7 +101,8 @@ fn is_seen<A: Allocator + Copy>(alloc: A, list: &Chunks<usize, A>, edit: Edit) -
     is_seen_edited(&Spliced::new(list, a, b, new.as_slice()), edit)
 }
 
-// Whether an edit is made, with its nth growth refused; there is no answer where the list is not as it has to be then.
+// Makes an edit. The `n`th allocation of the edit is refused, or none if `n` is 0. Returns whether
+// the edit was made, or `None` if the list is not as it must be then.
 fn is_made<A: Allocator + Copy>(
     alloc: A,
     heap: Heap<'_>,
@@ -120,7 +123,9 @@ fn is_made<A: Allocator + Copy>(
     }
 }
 
-// The same of a list of its own, of the heap. A refusal changes nothing, and the same edit is made when it is asked again.
+/// Makes an edit of a new list. The `n`th allocation of the edit is refused, or none if `n` is 0.
+/// Returns whether the edit was made. Returns `None` if the list is ever not as it must be, or if
+/// the edit is not made when it is tried again after a refusal.
 pub(crate) fn is_made_at_once<A: Allocator + Copy>(
     alloc: A,
     heap: Heap<'_>,

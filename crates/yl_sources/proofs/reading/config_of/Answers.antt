@@ -3,7 +3,7 @@ use Rattle.std.specs.Prelude.{string_bytes}
 use Rattle.yl_config.specs.declared.config.Config.{Config}
 use Rattle.yl_config.specs.Answered.{settings_answer}
 use Rattle.yl_config.specs.Outcome.{IsConfigOf}
-use Rattle.yl_args.specs.declared.answer.Source.TheVariants.{Data}
+use Rattle.yl_programs.specs.declared.answer.Source.TheVariants.{Data}
 use Rattle.yl_sources.specs.Source.{IsSourceAnswer}
 use Rattle.yl_sources.proofs.Read.{read_answer}
 use Rattle.yl_sources.proofs.reading.config_of.Goals as goal
