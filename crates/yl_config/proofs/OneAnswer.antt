@@ -5,7 +5,7 @@ use Rattle.yl_text.specs.declared.position.Pos.{Pos}
 use Rattle.yl_text.specs.declared.TheConstants.{MAX_BYTES}
 use Rattle.yl_text.specs.Fault.{IsText}
 use Rattle.yl_text.specs.Lines.{lines_of}
-use Rattle.yl_documents.proofs.OneBuilding.{all_same}
+use Rattle.yl_config.proofs.OneBuilding.{all_same}
 use Rattle.yl_scan.specs.Step.{characters_of}
 use Rattle.yl_config.specs.declared.fault.ConfigFault.{ConfigFault}
 use Rattle.yl_config.specs.declared.fault.ConfigFault.TheVariants as fault
@@ -16,9 +16,9 @@ use Rattle.yl_config.specs.Document.{judgement}
 use Rattle.yl_config.specs.Faults.{fault_by, place_from_one}
 use Rattle.yl_config.specs.Outcome.{IsConfigOf, OneAnswer, Says, from_own, judged_own, judged_text, judged_unless}
 use Rattle.yl_config.specs.Settings.{Settings}
-use Rattle.yl_documents.specs.Syntax.{text_fault}
-use Rattle.yl_documents.specs.TextDocuments.{BuiltDocumentValue}
-use Rattle.yl_documents.specs.TextReading.{TextReading, reading_of}
+use Rattle.yl_config.specs.Syntax.{text_fault}
+use Rattle.yl_config.specs.TextDocuments.{BuiltDocumentValue}
+use Rattle.yl_config.specs.TextReading.{TextReading, reading_of}
 
 one_said : (r : TextReading) (a b : Result Settings ConfigFault) → Says r a → Says r b → a ≡ b
 one_said r a b h k = h.judged ∙ (ap (judged_text r) (all_same _ h.documents k.documents h.built k.built) ∙ sym k.judged)

@@ -19,9 +19,9 @@ use Rattle.yl_config.specs.declared.fault.ConfigFault.TheVariants as fault
 use Rattle.yl_config.specs.Outcome.{IsConfigOf, Says, from_own, judged_own, judged_text, judged_unless}
 use Rattle.yl_config.specs.Settings.{Settings}
 use Rattle.yl_config.proofs.OneAnswer.{said_of_text}
-use Rattle.yl_documents.specs.Syntax.{earlier_place, open_end, parse_fault}
-use Rattle.yl_documents.specs.TextDocuments.{AreBuilt, BuiltDocumentValue, documents_of}
-use Rattle.yl_documents.specs.TextReading.{TextReading, end_of, lexeme_in_text, place_of_fault, reading_of}
+use Rattle.yl_config.specs.Syntax.{earlier_place, open_end, parse_fault}
+use Rattle.yl_config.specs.TextDocuments.{AreBuilt, BuiltDocumentValue, documents_of}
+use Rattle.yl_config.specs.TextReading.{TextReading, end_of, lexeme_in_text, place_of_fault, reading_of}
 
 -- what was scanned of rows gives what they are read to, and with its documents what is said of them
 pub says : (rows : List (List ℕ)) (scanned : ScannedTextValue) (xs : List LexemeValue) (stop place : Option Pos) (ds : List BuiltDocumentValue) (answer : Result Settings ConfigFault)

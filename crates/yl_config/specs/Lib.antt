@@ -7,3 +7,7 @@ pub mod Answered
 pub mod Outcome
 pub use Rattle.yl_rules.specs.LevelOf
 pub use Rattle.yl_rules.specs.Levels
+pub mod TextReading
+pub mod TextDocuments
+pub mod Syntax
+pub mod Law

@@ -9,7 +9,7 @@ use Rattle.yl_events.specs.Event.{EventKindValue}
 use Rattle.yl_config.specs.declared.misfit.Misfit.{Misfit}
 use Rattle.yl_config.specs.declared.misfit.MisfitKind.{MisfitKind}
 use Rattle.yl_config.specs.declared.misfit.MisfitKind.TheVariants.{NotAMapping, UnknownKey, UnknownRule, UnknownOption, BadValue, BadLevel, UnknownExtends}
-use Rattle.yl_documents.specs.Syntax.{stands_before}
+use Rattle.yl_config.specs.Syntax.{stands_before}
 use Rattle.yl_settings.specs.declared.table.Answer.{Answer}
 use Rattle.yl_settings.specs.declared.table.Answer.TheVariants.{UnknownName, WrongValue, Taken}
 use Rattle.yl_tree.specs.Anchors.{is_alias_event}

@@ -16,9 +16,9 @@ use Rattle.yl_config.specs.declared.fault.ConfigFault.TheVariants as fault
 use Rattle.yl_config.specs.Document.{document_judgement}
 use Rattle.yl_config.specs.Faults.{place_from_one}
 use Rattle.yl_config.specs.Settings.{Settings}
-use Rattle.yl_documents.specs.Syntax.{place_behind, text_fault}
-use Rattle.yl_documents.specs.TextDocuments.{BuiltDocumentValue, AreBuilt, documents_of}
-use Rattle.yl_documents.specs.TextReading.{TextReading, reading_of}
+use Rattle.yl_config.specs.Syntax.{place_behind, text_fault}
+use Rattle.yl_config.specs.TextDocuments.{BuiltDocumentValue, AreBuilt, documents_of}
+use Rattle.yl_config.specs.TextReading.{TextReading, reading_of}
 
 -- ---- the document of a configuration
 

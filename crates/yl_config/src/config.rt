@@ -10,7 +10,7 @@ ghost use Rattle.yl_settings.specs.Standard.{standard_rule_options};
 
 use yl_events::Event;
 use yl_indentation::IndentationOptions;
-use yl_layout::{
+use yl_lexeme_rules::{
     BracketsOptions, ColonsOptions, CommasOptions, DocumentStartOptions, HyphensOptions,
     QuotedStringsOptions, TruthyOptions,
 };

@@ -2,7 +2,7 @@
 ghost use Rattle.std.specs.Prelude.{◌≡◌, ◌||◌, ◌∷◌, [], Some};
 ghost use Rattle.yl_config.specs.Misfits.{comes_before, earlier, rank};
 
-use yl_documents::stands_before;
+use crate::syntax::stands_before;
 use yl_text::Pos;
 
 /// Why a part of a configuration does not fit.

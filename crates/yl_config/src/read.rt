@@ -4,14 +4,14 @@ ghost use Rattle.std.specs.Str.{chars};
 ghost use Rattle.yl_scan.specs.Step.{characters_of};
 ghost use Rattle.yl_config.specs.Answered.{settings_answer};
 ghost use Rattle.yl_config.specs.Outcome.{IsConfigOf, Says, from_own, is_lone_end, judged_own};
-ghost use Rattle.yl_documents.specs.TextReading.{reading_of};
+ghost use Rattle.yl_config.specs.TextReading.{reading_of};
 
 use crate::config::Config;
+use crate::documents::{BuiltDocument, build_all};
 use crate::fault::{ConfigFault, from_one};
+use crate::syntax::{place_behind, text_fault};
+use crate::text::{end_of, in_text, place_of_scan_fault};
 use std::alloc::{AllocError, Allocator};
-use yl_documents::{
-    BuiltDocument, build_all, end_of, in_text, place_behind, place_of_scan_fault, text_fault,
-};
 use yl_lexeme::{Kind, Meter};
 use yl_scan::scan;
 use yl_text::{MAX_BYTES, Row, TextFault, split};

@@ -4,8 +4,8 @@ use crate::told::Told;
 use std::alloc::{AllocError, Allocator};
 use yl_events::{SymbolParser, SymbolParserState};
 use yl_indentation::{FactReader, FactReaderState};
-use yl_layout::{LexemeOptions, LexemeRules, LexemeRulesState};
 use yl_lexeme::Meter;
+use yl_lexeme_rules::{LexemeOptions, LexemeRules, LexemeRulesState};
 use yl_marks::{KeyMarker, MarkerState, RowLexemes, Token, push_tokens};
 use yl_text::Finding;
 

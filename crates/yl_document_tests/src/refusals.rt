@@ -7,7 +7,7 @@ use std::alloc::{AllocError, Global};
 use std::test::Fail;
 use yl_events::SymbolParser;
 use yl_indentation::FactReader;
-use yl_layout::{LexemeOptions, LexemeRules};
+use yl_lexeme_rules::{LexemeOptions, LexemeRules};
 use yl_marks::KeyMarker;
 
 type Heap<'a> = &'a FailingAlloc<Global>;

@@ -24,7 +24,7 @@ pub use laws::{
 };
 pub use line_lexemes::{LineLexemes, WaitingAnchor};
 pub use parser::Parser;
-pub use symbol::{Outline, Shape};
+pub use symbol::{BracketKind, Goal, Outline, Properties, Shape, Where};
 pub use symbol_parser::SymbolParser;
 pub use symbol_parser_state::SymbolParserState;
 pub use yl_marks::{Collection, Marked, Token, line_len, mark, token_of};

@@ -67,7 +67,7 @@ impl<A: Allocator> SymbolParserState<A> {
     }
 
     /// Returns what is still to be read, the innermost goal last.
-    pub(crate) fn goals(&self) -> &Vec<Goal, A>
+    pub fn goals(&self) -> &Vec<Goal, A>
         ensures goals { reverse result.now.items ≡ self.now.goals }
         ensures state { map goal_state result.now.items ≡ result.now.items }
     {

@@ -22,14 +22,14 @@ use Rattle.yl_sections.specs.Kept.{KeptValue}
 use Rattle.yl_rejudge.specs.Places.{rows_kept}
 use Rattle.yl_lint.specs.Onward.{onward_in_sections}
 use Rattle.yl_lint.specs.TextReport.{fault_in_sections, findings_from, findings_in_lines, first_text}
-use Rattle.yl_parting.specs.Parts.{IsLow, is_no_fault}
-use Rattle.yl_parting.specs.Showing.{is_of_lines}
+use Rattle.yl_problem_lists.specs.Parts.{IsLow, is_no_fault}
+use Rattle.yl_problem_lists.specs.Showing.{is_of_lines}
 use Rattle.yl_found.specs.Faultless.{faultless}
 use Rattle.yl_found.specs.Found.{fault_told, found_by, is_shown, parts_of}
 use Rattle.yl_found.specs.Plain.{IsPlain, is_of_section}
 use Rattle.yl_found.proofs.RuleKinds.{in_lines_of, in_sections_of, lines_no_fault, section_no_fault}
 use Rattle.yl_lint.proofs.LineParts.{Between, between_both, empty_lines_between, end_of_file_between, new_lines_between, rows_between}
-use Rattle.yl_parting.proofs.Ordered.{filter_all, filter_swap}
+use Rattle.yl_problem_lists.proofs.Ordered.{filter_all, filter_swap}
 use Rattle.yl_found.proofs.Passing.{all_report}
 use Rattle.yl_found.proofs.ReportShown.{fault_of_all, found_whole}
 use Rattle.yl_found.proofs.Sections.{between_wider, sections_between}

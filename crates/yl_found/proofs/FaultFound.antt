@@ -17,7 +17,7 @@ use Rattle.yl_indentation.specs.Measures.{empty_measure}
 use Rattle.yl_config.specs.declared.config.Config.{Config}
 use Rattle.yl_config.specs.Config.{levels_of, options_of}
 use Rattle.yl_report.specs.Heard.{nothing_silenced}
-use Rattle.yl_parting.specs.Parts.{is_no_fault}
+use Rattle.yl_problem_lists.specs.Parts.{is_no_fault}
 use Rattle.yl_report.specs.Report.{ProblemValue, is_reported, report_of, sorted_once, with_level}
 use Rattle.yl_sections.specs.Kept.{KeptValue, SectionFaultValue, Here, Behind}
 use Rattle.yl_sections.specs.Owned.{section_fault_value}
@@ -29,9 +29,9 @@ use Rattle.yl_lint.specs.Unsilenced.{unsilenced_of_kept}
 use Rattle.yl_found.specs.Faultless.{faultless}
 use Rattle.yl_found.specs.Found.{all_parts, found_by}
 use Rattle.yl_found.specs.Plain.{IsPlain}
-use Rattle.yl_overview.specs.Overview.{IsFirstFault, IsSound}
+use Rattle.yl_summary.specs.Overview.{IsFirstFault, IsSound}
 use Rattle.yl_found.proofs.Ready.{no_fault_in, none_shown, none_told}
-use Rattle.yl_overview.proofs.Walks.{measured}
+use Rattle.yl_summary.proofs.Walks.{measured}
 use Rattle.yl_lint.proofs.Pushed.{one_at}
 use Rattle.yl_found.proofs.ShownSections.{of_sound, shown_sound}
 use Rattle.yl_found.proofs.WithoutFaults.{findings_faultless, measured_faultless, sound_faultless}

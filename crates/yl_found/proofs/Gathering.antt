@@ -9,11 +9,11 @@ use Rattle.yl_lexeme.specs.PlacedComments.{placed_comment_value}
 use Rattle.yl_sections.specs.Kept.{KeptValue}
 use Rattle.yl_rejudge.specs.Places.{rows_kept}
 use Rattle.yl_lint.specs.TextReport.{comments_in_sections}
-use Rattle.yl_overview.specs.Overview.{AreOverviews, IsOverviewOf, IsSilencingOf, IsSilent}
-use Rattle.yl_overview.specs.declared.overview.Overview.{Overview}
-use Rattle.yl_overview.specs.declared.overview.Silencing.{Silencing}
-use Rattle.yl_overview.proofs.Joined.{lent, lent_is, next_of}
-use Rattle.yl_overview.proofs.Walks.{rows_both}
+use Rattle.yl_summary.specs.Overview.{AreOverviews, IsOverviewOf, IsSilencingOf, IsSilent}
+use Rattle.yl_summary.specs.declared.overview.Overview.{Overview}
+use Rattle.yl_summary.specs.declared.overview.Silencing.{Silencing}
+use Rattle.yl_summary.proofs.Joined.{lent, lent_is, next_of}
+use Rattle.yl_summary.proofs.Walks.{rows_both}
 use Rattle.yl_found.specs.Gathered.{IsGathered}
 use Rattle.yl_found.specs.declared.gathered.Gathered.{Gathered}
 use Rattle.yl_found.proofs.Sections.{comments_both, no_comments}

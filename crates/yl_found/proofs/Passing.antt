@@ -13,7 +13,7 @@ use Rattle.yl_report.specs.Report.{ProblemValue, finding_order, is_reported, rep
 use Rattle.yl_report.proofs.Filtered.{all_filter, filter_in, in_filter}
 use Rattle.yl_report.proofs.Inserted.{sorted_once_arranged}
 use Rattle.yl_report.proofs.Unique.{from_in, in_from, one_arrangement}
-use Rattle.yl_parting.proofs.Ordered.{filter_swap}
+use Rattle.yl_problem_lists.proofs.Ordered.{filter_swap}
 use Rattle.yl_lint.proofs.Arranged.{all_sorted}
 
 -- ---- what passes of a list

@@ -16,15 +16,15 @@ use Rattle.yl_report.specs.Report.{ProblemValue, report_of}
 use Rattle.yl_sections.specs.Kept.{KeptValue, SectionFaultValue}
 use Rattle.yl_lint.specs.Onward.{onward_in_sections}
 use Rattle.yl_lint.specs.TextReport.{comments_in_sections, fault_in_sections, findings_in_lines, first_text, found_of_kept, report_by, report_of_kept, shown, finding_of_fault}
-use Rattle.yl_parting.specs.Order.{IsInOrder}
-use Rattle.yl_parting.specs.Parts.{is_no_fault, with_fault, without_fault}
-use Rattle.yl_parting.proofs.Faults.{report_in_order}
-use Rattle.yl_parting.proofs.Following.{fault_goes}
-use Rattle.yl_parting.proofs.Ordered.{order_filter}
+use Rattle.yl_problem_lists.specs.Order.{IsInOrder}
+use Rattle.yl_problem_lists.specs.Parts.{is_no_fault, with_fault, without_fault}
+use Rattle.yl_problem_lists.proofs.Faults.{report_in_order}
+use Rattle.yl_problem_lists.proofs.Following.{fault_goes}
+use Rattle.yl_problem_lists.proofs.Ordered.{order_filter}
 use Rattle.yl_found.specs.Faultless.{faultless}
 use Rattle.yl_found.specs.Found.{all_parts, fault_told, found_by, is_shown, parts_of}
 use Rattle.yl_found.specs.Plain.{IsPlain}
-use Rattle.yl_overview.specs.Overview.{IsSound}
+use Rattle.yl_summary.specs.Overview.{IsSound}
 use Rattle.yl_found.proofs.EachFound.{fault_of_syntax, no_fault_shown}
 use Rattle.yl_found.proofs.ReportShown.{found_whole, report_shown}
 

@@ -28,10 +28,10 @@ use Rattle.yl_lint.specs.Onward.{onward_in_sections}
 use Rattle.yl_lint.specs.TextReport.{comments_in_sections, fault_in_sections, findings_in_lines, findings_in_sections, first_text, report_by, report_of_kept, shown, finding_of_fault}
 use Rattle.yl_lint.specs.Unsilenced.{unsilenced_of_kept}
 use Rattle.yl_lint.proofs.Onward.{whole_looks_back}
-use Rattle.yl_parting.specs.Parts.{parted, with_fault}
-use Rattle.yl_parting.specs.Showing.{is_hidden, is_of_lines, shows}
-use Rattle.yl_parting.proofs.Faults.{fault_comes}
-use Rattle.yl_parting.proofs.Ordered.{filter_all, filter_none}
+use Rattle.yl_problem_lists.specs.Parts.{parted, with_fault}
+use Rattle.yl_problem_lists.specs.Showing.{is_hidden, is_of_lines, shows}
+use Rattle.yl_problem_lists.proofs.Faults.{fault_comes}
+use Rattle.yl_problem_lists.proofs.Ordered.{filter_all, filter_none}
 use Rattle.yl_found.specs.Faultless.{faultless, faultless_one}
 use Rattle.yl_found.specs.Found.{all_parts, fault_told, found_by}
 use Rattle.yl_found.specs.Plain.{IsPlain, is_of_section}
@@ -39,7 +39,7 @@ use Rattle.yl_found.proofs.RuleKinds.{AreOf, in_lines_of, in_sections_of, lines_
 use Rattle.yl_lint.proofs.LineParts.{Between}
 use Rattle.yl_found.proofs.Passing.{filter_both, filter_report}
 use Rattle.yl_found.proofs.Sections.{no_fault, sections_between, sections_both, shown_plain}
-use Rattle.yl_overview.proofs.Walks.{measured}
+use Rattle.yl_summary.proofs.Walks.{measured}
 use Rattle.yl_found.proofs.WithoutFaults.{onward_faultless, rows_faultless}
 
 -- ---- sections that are shown, and those behind the first with a fault

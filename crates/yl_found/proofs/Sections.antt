@@ -24,8 +24,8 @@ use Rattle.yl_rejudge.specs.Places.{rows_kept}
 use Rattle.yl_lint.specs.TextReport.{moved, shown, fault_in_sections, comments_in_sections, moved_comment, facts_in_sections, finding_of_fault}
 use Rattle.yl_lint.specs.Onward.{onward_in_section, onward_in_sections}
 use Rattle.yl_found.specs.Plain.{IsPlain}
-use Rattle.yl_overview.specs.Overview.{IsSilent}
-use Rattle.yl_overview.proofs.Walks.{measured}
+use Rattle.yl_summary.specs.Overview.{IsSilent}
+use Rattle.yl_summary.proofs.Walks.{measured}
 use Rattle.yl_lint.proofs.LineParts.{Between, between_both}
 use Rattle.yl_lint.proofs.Pushed.{sections_moved}
 

@@ -11,7 +11,7 @@ use Rattle.yl_rejudge.specs.Places.{rows_kept}
 use Rattle.yl_lint.specs.TextReport.{comments_in_sections, moved_comment, shown}
 use Rattle.yl_found.specs.Faultless.{faultless}
 use Rattle.yl_found.specs.Plain.{IsPlain}
-use Rattle.yl_overview.specs.Overview.{IsSound, has_fault}
+use Rattle.yl_summary.specs.Overview.{IsSound, has_fault}
 use Rattle.yl_found.proofs.ReportShown.{plain_shown}
 use Rattle.yl_found.proofs.Sections.{comments_two, comments_within}
 use Rattle.yl_lint.proofs.Silenced.{moved_high, said_above}

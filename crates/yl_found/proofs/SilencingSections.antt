@@ -8,8 +8,8 @@ use Rattle.yl_lexeme.specs.Lexeme.{PlacedCommentValue}
 use Rattle.yl_sections.specs.Kept.{KeptValue}
 use Rattle.yl_rejudge.specs.Places.{rows_kept}
 use Rattle.yl_lint.specs.TextReport.{comments_in_sections, moved_comment}
-use Rattle.yl_overview.specs.Overview.{AreFew, IsSilencingOf, IsSilent}
-use Rattle.yl_overview.specs.declared.overview.Silencing.{Silencing}
+use Rattle.yl_summary.specs.Overview.{AreFew, IsSilencingOf, IsSilent}
+use Rattle.yl_summary.specs.declared.overview.Silencing.{Silencing}
 use Rattle.yl_found.proofs.Sections.{comments_both, no_comments}
 use Rattle.yl_lint.proofs.Pushed.{one_at}
 

@@ -14,8 +14,8 @@ use Rattle.yl_lint.specs.Onward.{onward_in_section, onward_in_sections}
 use Rattle.yl_lint.specs.TextReport.{facts_in_sections, findings_in_section, findings_in_sections}
 use Rattle.yl_found.specs.Faultless.{faultless, faultless_one}
 use Rattle.yl_found.specs.Plain.{IsPlain}
-use Rattle.yl_overview.specs.Overview.{IsSound}
-use Rattle.yl_overview.proofs.Walks.{measured}
+use Rattle.yl_summary.specs.Overview.{IsSound}
+use Rattle.yl_summary.proofs.Walks.{measured}
 
 -- ---- sections as if none had a fault
 

@@ -11,8 +11,8 @@ use Rattle.yl_report.specs.Report.{ProblemValue, report_of}
 use Rattle.yl_sections.specs.Kept.{KeptValue, rows_kept}
 use Rattle.yl_lint.specs.TextReport.{comments_in_sections, fault_in_sections, first_text, shown}
 use Rattle.yl_lint.specs.Unsilenced.{unsilenced_by}
-use Rattle.yl_parting.specs.Parts.{PartsValue, parted, with_fault}
-use Rattle.yl_parting.specs.Showing.{shows}
+use Rattle.yl_problem_lists.specs.Parts.{PartsValue, parted, with_fault}
+use Rattle.yl_problem_lists.specs.Showing.{shows}
 use Rattle.yl_found.specs.Faultless.{faultless}
 
 -- all problems of a text with these lines and these summaries of its sections, except for its fault

@@ -6,7 +6,7 @@ use Rattle.std.specs.List.{AllByRecursion}
 use Rattle.yl_text.specs.declared.finding.RuleId.{RuleId}
 use Rattle.yl_text.specs.Finding.{FindingValue}
 use Rattle.yl_report.specs.Report.{is_syntax}
-use Rattle.yl_parting.specs.Showing.{is_indentation, is_of_lines}
+use Rattle.yl_problem_lists.specs.Showing.{is_indentation, is_of_lines}
 use Rattle.yl_sections.specs.Kept.{KeptValue}
 
 -- the finding is in the first `rows` lines, which count from 1

@@ -2,14 +2,14 @@
 ghost use Rattle.std.specs.Prelude.{◌≡◌, ◌≤◌, ◌-◌, length, map, take, drop, IfOk};
 ghost use Rattle.yl_lexeme.specs.PlacedComments.{placed_comment_value};
 ghost use Rattle.yl_lint.specs.TextReport.{comments_in_sections};
-ghost use Rattle.yl_overview.specs.Survey.{IsSurvey};
+ghost use Rattle.yl_summary.specs.Survey.{IsSurvey};
 
 use crate::gathered::{Gathered, push_among};
 use std::alloc::{AllocError, Allocator};
 use yl_chunks::Spliced;
 use yl_lexeme::PlacedComment;
-use yl_overview::Survey;
 use yl_sections::Kept;
+use yl_summary::Survey;
 
 /// Returns the comments of the sections with the indices `from..end`, counted from 0. The first of
 /// these sections begins at line `row`. The only error is out of memory.

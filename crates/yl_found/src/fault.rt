@@ -5,16 +5,16 @@ ghost use Rattle.yl_sections.specs.Kept.{KeptValue};
 ghost use Rattle.yl_sections.specs.Owned.{section_fault_value};
 ghost use Rattle.yl_lint.specs.TextReport.{fault_in_sections};
 ghost use Rattle.yl_found.specs.Found.{fault_told};
-ghost use Rattle.yl_overview.specs.Overview.{IsFirstFault};
-ghost use Rattle.yl_overview.specs.Survey.{IsSurvey};
+ghost use Rattle.yl_summary.specs.Overview.{IsFirstFault};
+ghost use Rattle.yl_summary.specs.Survey.{IsSurvey};
 
 use std::alloc::{AllocError, Allocator};
 use yl_chunks::Spliced;
 use yl_config::Config;
 use yl_lint::{end_of, finding_of_fault, first_text};
-use yl_overview::{Overview, Survey};
 use yl_report::{Problem, Silences, arrange, disables_file};
 use yl_sections::{Kept, SectionFault};
+use yl_summary::{Overview, Survey};
 use yl_text::{Finding, Lines, Pos};
 
 /// Returns the finding of the fault of a text. `fault` is the fault of the first section that has

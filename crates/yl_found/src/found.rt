@@ -2,9 +2,9 @@
 ghost use Rattle.std.specs.Prelude.{◌≡◌, ◌++◌, IfOk, OnOk};
 ghost use Rattle.yl_text.specs.Store.{AreLines};
 ghost use Rattle.yl_indentation.specs.Measures.{empty_measure, measure_of};
-ghost use Rattle.yl_parting.specs.Changes.{parts_in};
+ghost use Rattle.yl_problem_lists.specs.Changes.{parts_in};
 ghost use Rattle.yl_lint.specs.TextReport.{facts_in_sections, findings_in_sections};
-ghost use Rattle.yl_overview.specs.Survey.{IsSurvey};
+ghost use Rattle.yl_summary.specs.Survey.{IsSurvey};
 ghost use Rattle.yl_found.specs.Found.{all_parts, found_by};
 
 use crate::fault::fault_of;
@@ -14,10 +14,10 @@ use yl_chunks::Spliced;
 use yl_config::Config;
 use yl_indentation::{IndentationOptions, Measure};
 use yl_lint::{find_in_lines, line_below, push_section};
-use yl_overview::Survey;
-use yl_parting::FoundProblems;
+use yl_problem_lists::FoundProblems;
 use yl_report::{Problem, Silences, arrange};
 use yl_sections::Kept;
+use yl_summary::Survey;
 use yl_text::{Finding, Lines};
 
 /// Appends the findings in all sections, whose facts have the measure `whole`. The only error is

@@ -2,14 +2,14 @@
 ghost use Rattle.std.specs.Prelude.{◌≡◌, ◌+◌, ◌-◌, ◌≤◌, ◌++◌, [], length, map, take, drop, OnOk};
 ghost use Rattle.yl_lexeme.specs.PlacedComments.{placed_comment_value};
 ghost use Rattle.yl_lint.specs.TextReport.{comments_in_sections};
-ghost use Rattle.yl_overview.specs.Overview.{AreFew, IsOverviewOf};
+ghost use Rattle.yl_summary.specs.Overview.{AreFew, IsOverviewOf};
 
 use std::alloc::{AllocError, Allocator};
 use yl_chunks::Spliced;
 use yl_lexeme::PlacedComment;
 use yl_lint::{line_below, push_comments};
-use yl_overview::Overview;
 use yl_sections::Kept;
+use yl_summary::Overview;
 
 /// The comments of the first sections of a text.
 #[derive(Drop)]

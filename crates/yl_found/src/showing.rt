@@ -1,20 +1,20 @@
 //! Decides which problems of a text are shown.
 ghost use Rattle.std.specs.Prelude.{◌≡◌, ◌≤◌, length, take, IfOk};
-ghost use Rattle.yl_parting.specs.Showing.{is_shown_by};
+ghost use Rattle.yl_problem_lists.specs.Showing.{is_shown_by};
 ghost use Rattle.yl_rejudge.specs.Places.{rows_kept};
 ghost use Rattle.yl_lint.specs.TextReport.{shown};
-ghost use Rattle.yl_overview.specs.Overview.{IsFirstFault};
-ghost use Rattle.yl_overview.specs.Survey.{IsSurvey};
+ghost use Rattle.yl_summary.specs.Overview.{IsFirstFault};
+ghost use Rattle.yl_summary.specs.Survey.{IsSurvey};
 ghost use Rattle.yl_found.specs.ShownUpto.{is_shown_upto};
 
 use crate::comments::comments_upto;
 use std::alloc::{AllocError, Allocator};
 use yl_chunks::Spliced;
 use yl_lint::first_text;
-use yl_overview::{Overview, Survey};
-use yl_parting::Showing;
+use yl_problem_lists::Showing;
 use yl_report::Silences;
 use yl_sections::Kept;
+use yl_summary::{Overview, Survey};
 use yl_text::Lines;
 
 /// Returns the number of sections that are shown: those up to and including the first one with a

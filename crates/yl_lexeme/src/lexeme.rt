@@ -3,8 +3,7 @@
 use crate::version::is_version_1_2;
 use std::alloc::Allocator;
 use std::marker::Model;
-use yl_inline::{InlineString, ShortText, Storage};
-use yl_text::Pos;
+use yl_text::{InlineString, Pos, ShortText, Storage};
 
 /// The style of a scalar (YAML 1.2.2, 7.3 and 8.1).
 #[derive(Clone, Copy, Debug, PartialEq, Eq)]

@@ -18,16 +18,16 @@ use Rattle.yl_indentation.specs.Onward.{onward_problems}
 use Rattle.yl_settings.specs.declared.options.RuleOptions.{RuleOptions}
 use Rattle.yl_report.specs.Heard.{nothing_silenced}
 use Rattle.yl_report.specs.Report.{ProblemValue, report_of}
-use Rattle.yl_parting.specs.Following.{IsJudgedAgain}
-use Rattle.yl_parting.specs.Order.{IsInOrder}
-use Rattle.yl_parting.specs.Parts.{IsLow, is_upto, stays_judged}
-use Rattle.yl_parting.specs.Rooms.{IsIndentation}
-use Rattle.yl_parting.specs.Showing.{is_indentation, is_of_lines}
-use Rattle.yl_parting.proofs.Faults.{report_in_order}
-use Rattle.yl_parting.proofs.Judged.{is_other, judged_behind}
-use Rattle.yl_parting.proofs.OfKind.{kind_report}
-use Rattle.yl_parting.proofs.InOrder.{passing}
-use Rattle.yl_parting.proofs.Ordered.{filter_all, filter_none}
+use Rattle.yl_problem_lists.specs.Following.{IsJudgedAgain}
+use Rattle.yl_problem_lists.specs.Order.{IsInOrder}
+use Rattle.yl_problem_lists.specs.Parts.{IsLow, is_upto, stays_judged}
+use Rattle.yl_problem_lists.specs.Rooms.{IsIndentation}
+use Rattle.yl_problem_lists.specs.Showing.{is_indentation, is_of_lines}
+use Rattle.yl_problem_lists.proofs.Faults.{report_in_order}
+use Rattle.yl_problem_lists.proofs.Judged.{is_other, judged_behind}
+use Rattle.yl_problem_lists.proofs.OfKind.{kind_report}
+use Rattle.yl_problem_lists.proofs.InOrder.{passing}
+use Rattle.yl_problem_lists.proofs.Ordered.{filter_all, filter_none}
 use Rattle.yl_sections.specs.Kept.{KeptValue}
 use Rattle.yl_rejudge.specs.Places.{rows_kept}
 use Rattle.yl_lint.specs.Onward.{indentation_in_sections, onward_in_section, onward_in_sections}
@@ -37,7 +37,7 @@ use Rattle.yl_lint.specs.declared.there.Ends.{Ends}
 use Rattle.yl_lint.proofs.Arranged.{arranged, arranged_lines, arranged_moved, lower}
 use Rattle.yl_lint.proofs.LineParts.{Between, if_none}
 use Rattle.yl_lint.proofs.Pushed.{all_moved, one_at, there_moved}
-use Rattle.yl_overview.proofs.Walks.{measured, none_left}
+use Rattle.yl_summary.proofs.Walks.{measured, none_left}
 use Rattle.yl_found.specs.Faultless.{faultless}
 use Rattle.yl_found.specs.Plain.{IsPlain, is_kept_rule, is_of_section}
 use Rattle.yl_patch.proofs.Parts.{above_low_by, above_lower, in_both, in_lower, in_wider, lines_above, part, part_between, upto_false, upto_true}

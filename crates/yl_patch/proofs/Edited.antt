@@ -13,9 +13,9 @@ use Rattle.yl_config.specs.declared.config.Config.{Config}
 use Rattle.yl_config.specs.Config.{levels_of, options_of}
 use Rattle.yl_report.specs.Heard.{nothing_silenced}
 use Rattle.yl_report.specs.Report.{ProblemValue, report_of}
-use Rattle.yl_parting.specs.Following.{IsJudgedAgain}
-use Rattle.yl_parting.specs.Order.{IsInOrder}
-use Rattle.yl_parting.specs.Parts.{above, behind, shifted}
+use Rattle.yl_problem_lists.specs.Following.{IsJudgedAgain}
+use Rattle.yl_problem_lists.specs.Order.{IsInOrder}
+use Rattle.yl_problem_lists.specs.Parts.{above, behind, shifted}
 use Rattle.yl_sections.specs.Kept.{KeptValue}
 use Rattle.yl_rejudge.specs.Places.{rows_kept}
 use Rattle.yl_lint.specs.Onward.{indentation_in_sections, onward_in_sections}
@@ -24,7 +24,7 @@ use Rattle.yl_lint.specs.There.{found_there, lines_there}
 use Rattle.yl_lint.specs.declared.there.Ends.{Ends}
 use Rattle.yl_lint.proofs.Arranged.{arranged, lower}
 use Rattle.yl_lint.proofs.LineParts.{if_none}
-use Rattle.yl_overview.proofs.Walks.{measured, rows_until}
+use Rattle.yl_summary.proofs.Walks.{measured, rows_until}
 use Rattle.yl_found.specs.Faultless.{faultless, faultless_one}
 use Rattle.yl_found.specs.Found.{found_by}
 use Rattle.yl_found.specs.Plain.{IsPlain}

@@ -19,12 +19,12 @@ use Rattle.yl_rejudge.specs.Places.{rows_kept}
 use Rattle.yl_lint.specs.Onward.{onward_in_sections}
 use Rattle.yl_lint.specs.TextReport.{moved, findings_from}
 use Rattle.yl_found.specs.Plain.{IsPlain}
-use Rattle.yl_parting.specs.Parts.{is_upto, shifted}
+use Rattle.yl_problem_lists.specs.Parts.{is_upto, shifted}
 use Rattle.yl_patch.specs.Seen.{AreFoundAlike}
 use Rattle.yl_lint.proofs.Arranged.{AreSame, arranged, arranged_same, arranged_apart, arranged_moved, below, lower, in_front, in_behind, in_either}
 use Rattle.yl_lint.proofs.LineParts.{Between, between_both, empty_lines_between, end_of_file_between, first_apart, if_none, is_seam, last_apart, new_lines_between, rows_apart, rows_between, runs_apart}
 use Rattle.yl_found.proofs.Sections.{between_wider, between_moved, sections_apart, sections_between}
-use Rattle.yl_overview.proofs.Walks.{measured}
+use Rattle.yl_summary.proofs.Walks.{measured}
 
 -- ---- what is found in a part of a text
 

@@ -9,13 +9,13 @@ use Rattle.yl_config.specs.declared.config.Config.{Config}
 use Rattle.yl_report.specs.Report.{ProblemValue}
 use Rattle.yl_sections.specs.Kept.{KeptValue}
 use Rattle.yl_rejudge.specs.Places.{rows_kept}
-use Rattle.yl_parting.specs.Changes.{PatchValue, moved, patched}
-use Rattle.yl_parting.specs.Following.{Follows, FollowsBelow}
-use Rattle.yl_parting.specs.Order.{IsInOrder}
-use Rattle.yl_parting.specs.Parts.{PartsValue, above, behind, is_upto, parted, shifted, with_fault, without_fault}
-use Rattle.yl_parting.proofs.Following.{parts_follow}
-use Rattle.yl_parting.proofs.Judged.{judged_above, judged_order}
-use Rattle.yl_parting.proofs.Ordered.{all_behind}
+use Rattle.yl_problem_lists.specs.Changes.{PatchValue, moved, patched}
+use Rattle.yl_problem_lists.specs.Following.{Follows, FollowsBelow}
+use Rattle.yl_problem_lists.specs.Order.{IsInOrder}
+use Rattle.yl_problem_lists.specs.Parts.{PartsValue, above, behind, is_upto, parted, shifted, with_fault, without_fault}
+use Rattle.yl_problem_lists.proofs.Following.{parts_follow}
+use Rattle.yl_problem_lists.proofs.Judged.{judged_above, judged_order}
+use Rattle.yl_problem_lists.proofs.Ordered.{all_behind}
 use Rattle.yl_found.specs.Faultless.{faultless}
 use Rattle.yl_found.specs.Found.{all_parts, found_by, is_shown, parts_of}
 use Rattle.yl_patch.specs.Patching.{IsPatchOf, SaysBelow}

@@ -5,10 +5,10 @@ use Rattle.yl_text.specs.Lines.{RowValue}
 use Rattle.yl_config.specs.declared.config.Config.{Config}
 use Rattle.yl_sections.specs.Kept.{KeptValue}
 use Rattle.yl_rejudge.specs.Places.{rows_kept}
-use Rattle.yl_parting.specs.Parts.{IsLow, PartsValue, is_no_fault, without_fault}
-use Rattle.yl_parting.specs.Rooms.{IsJudgedReady, IsReadyFor, ToldFault}
-use Rattle.yl_parting.specs.declared.change.LinesPatch.{LinesPatch}
-use Rattle.yl_parting.proofs.Ordered.{order_filter}
+use Rattle.yl_problem_lists.specs.Parts.{IsLow, PartsValue, is_no_fault, without_fault}
+use Rattle.yl_problem_lists.specs.Rooms.{IsJudgedReady, IsReadyFor, ToldFault}
+use Rattle.yl_problem_lists.specs.declared.change.LinesPatch.{LinesPatch}
+use Rattle.yl_problem_lists.proofs.Ordered.{order_filter}
 use Rattle.yl_found.specs.Faultless.{faultless}
 use Rattle.yl_found.specs.Found.{all_parts, parts_of}
 use Rattle.yl_found.specs.Plain.{IsPlain}

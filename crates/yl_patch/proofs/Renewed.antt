@@ -18,7 +18,7 @@ use Rattle.yl_config.specs.declared.config.Config.{Config}
 use Rattle.yl_config.specs.Config.{levels_of, options_of}
 use Rattle.yl_report.specs.Heard.{nothing_silenced}
 use Rattle.yl_report.specs.Report.{ProblemValue, report_of}
-use Rattle.yl_parting.specs.Parts.{above, behind, is_upto, shifted}
+use Rattle.yl_problem_lists.specs.Parts.{above, behind, is_upto, shifted}
 use Rattle.yl_sections.specs.Kept.{KeptValue, items_if}
 use Rattle.yl_rejudge.specs.Places.{rows_kept}
 use Rattle.yl_lint.proofs.Onward.{whole_looks_back}
@@ -37,7 +37,7 @@ use Rattle.yl_lint.proofs.Arranged.{arranged, arranged_lines, arranged_moved, lo
 use Rattle.yl_lint.proofs.LineParts.{if_none, is_seam, none_by, seam_behind, seam_more}
 use Rattle.yl_patch.proofs.Parts.{lines_above, part, part_between, parts_apart, patched, patched_so}
 use Rattle.yl_found.proofs.Sections.{no_fault, shown_plain}
-use Rattle.yl_overview.proofs.Walks.{measured}
+use Rattle.yl_summary.proofs.Walks.{measured}
 
 -- ---- what is found in a whole text
 

@@ -18,10 +18,10 @@ use Rattle.yl_sections.specs.Kept.{KeptValue}
 use Rattle.yl_rejudge.specs.Places.{rows_kept}
 use Rattle.yl_lint.specs.Onward.{indentation_in_sections}
 use Rattle.yl_lint.specs.TextReport.{comments_in_sections, facts_in_sections, first_text, shown}
-use Rattle.yl_parting.specs.Changes.{PatchValue, patched}
-use Rattle.yl_parting.specs.Following.{IsJudgedAgain, found_after}
-use Rattle.yl_parting.specs.Parts.{above, behind, shifted, with_fault, without_fault}
-use Rattle.yl_parting.specs.Showing.{shows}
+use Rattle.yl_problem_lists.specs.Changes.{PatchValue, patched}
+use Rattle.yl_problem_lists.specs.Following.{IsJudgedAgain, found_after}
+use Rattle.yl_problem_lists.specs.Parts.{above, behind, shifted, with_fault, without_fault}
+use Rattle.yl_problem_lists.specs.Showing.{shows}
 use Rattle.yl_found.specs.Faultless.{faultless, faultless_one}
 use Rattle.yl_found.specs.Found.{all_parts, fault_told, found_by}
 use Rattle.yl_patch.specs.Patching.{SaysBelow}
@@ -32,7 +32,7 @@ use Rattle.yl_found.proofs.EachFound.{InFirst}
 use Rattle.yl_patch.proofs.PartsEdited.{parts_edited}
 use Rattle.yl_patch.proofs.Edited.{all_judged, found_edited, indentation_anew, judged_alike, judged_anew}
 use Rattle.yl_patch.proofs.ShownThere.{rows_upto, shown_upto, suppressed_upto, there_in_first}
-use Rattle.yl_overview.proofs.Walks.{rows_both}
+use Rattle.yl_summary.proofs.Walks.{rows_both}
 
 -- those that were put in place of some are among all
 plain_put : (ks new : List KeptValue) (from end : ℕ) → from ≤ length ks → AllByRecursion IsPlain (faultless (splice ks from end new)) → AllByRecursion IsPlain (faultless new)

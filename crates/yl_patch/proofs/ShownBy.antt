@@ -6,8 +6,8 @@ use Rattle.std.specs.List.{splice}
 use Rattle.std.specs.Option.{option_map}
 use Rattle.yl_text.specs.Lines.{RowValue}
 use Rattle.yl_report.specs.Report.{ProblemValue}
-use Rattle.yl_parting.specs.Showing.{is_shown_by}
-use Rattle.yl_parting.specs.declared.showing.Showing.{Showing}
+use Rattle.yl_problem_lists.specs.Showing.{is_shown_by}
+use Rattle.yl_problem_lists.specs.declared.showing.Showing.{Showing}
 use Rattle.yl_sections.specs.Kept.{KeptValue}
 use Rattle.yl_lint.specs.TextReport.{shown}
 use Rattle.yl_found.specs.Found.{is_shown}

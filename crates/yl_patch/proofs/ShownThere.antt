@@ -19,8 +19,8 @@ use Rattle.yl_sections.specs.Kept.{KeptValue, items_if}
 use Rattle.yl_rejudge.specs.Places.{rows_kept}
 use Rattle.yl_lint.specs.Onward.{onward_in_sections}
 use Rattle.yl_lint.specs.TextReport.{comments_in_sections, findings_from, first_text, moved, shown}
-use Rattle.yl_parting.specs.Showing.{shows}
-use Rattle.yl_parting.proofs.Ordered.{filter_same}
+use Rattle.yl_problem_lists.specs.Showing.{shows}
+use Rattle.yl_problem_lists.proofs.Ordered.{filter_same}
 use Rattle.yl_found.specs.Faultless.{faultless}
 use Rattle.yl_found.specs.Found.{is_shown}
 use Rattle.yl_found.specs.Plain.{IsPlain}
@@ -31,7 +31,7 @@ use Rattle.yl_found.proofs.EachFound.{InFirst}
 use Rattle.yl_lint.proofs.LineParts.{Between, between_both, empty_lines_between, end_of_file_between, new_lines_between, rows_between}
 use Rattle.yl_found.proofs.Passing.{all_report}
 use Rattle.yl_found.proofs.Sections.{between_moved, between_wider, sections_between}
-use Rattle.yl_overview.proofs.Walks.{rows_both}
+use Rattle.yl_summary.proofs.Walks.{rows_both}
 use Rattle.yl_found.proofs.WithoutFaults.{onward_faultless, rows_faultless}
 
 -- ---- the lines of what is found there

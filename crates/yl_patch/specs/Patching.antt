@@ -8,10 +8,10 @@ use Rattle.yl_report.specs.Report.{ProblemValue}
 use Rattle.yl_sections.specs.Kept.{KeptValue}
 use Rattle.yl_rejudge.specs.Places.{rows_kept}
 use Rattle.yl_lint.specs.TextReport.{first_text}
-use Rattle.yl_parting.specs.Changes.{PatchValue}
-use Rattle.yl_parting.specs.Following.{IsJudgedAgain, found_after}
+use Rattle.yl_problem_lists.specs.Changes.{PatchValue}
+use Rattle.yl_problem_lists.specs.Following.{IsJudgedAgain, found_after}
 use Rattle.yl_found.specs.Found.{fault_told, found_by, is_shown}
-use Rattle.yl_overview.specs.Overview.{has_fault}
+use Rattle.yl_summary.specs.Overview.{has_fault}
 use Rattle.yl_patch.specs.Speaking.{SpeakAlike}
 
 -- the sections `new` replace those with the indices from `from` on, before `end`: the first line

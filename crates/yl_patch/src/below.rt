@@ -1,13 +1,13 @@
 //! Decides whether the same problems below an edit are shown.
 ghost use Rattle.std.specs.Prelude.{◌≡◌, true, IfOk};
-ghost use Rattle.yl_overview.specs.Edit.{IsSectionEdit};
+ghost use Rattle.yl_summary.specs.Edit.{IsSectionEdit};
 ghost use Rattle.yl_patch.specs.Patching.{StaysShown};
 
 use crate::speaking::speak_alike;
 use std::alloc::AllocError;
 use yl_lint::first_text;
-use yl_overview::SectionEdit;
 use yl_report::disables_file;
+use yl_summary::SectionEdit;
 use yl_text::Lines;
 
 /// Returns `true` only if the same problems below the edit are shown as before. `false` implies

@@ -7,7 +7,7 @@ ghost use Rattle.yl_report.specs.Heard.{nothing_silenced};
 ghost use Rattle.yl_report.specs.Report.{report_of};
 ghost use Rattle.yl_lint.specs.Onward.{indentation_in_sections};
 ghost use Rattle.yl_lint.specs.TextReport.{moved};
-ghost use Rattle.yl_overview.specs.Edit.{IsSectionEdit};
+ghost use Rattle.yl_summary.specs.Edit.{IsSectionEdit};
 ghost use Rattle.yl_patch.specs.Seen.{AreFoundAlike, measure_upto, sections_between};
 
 use crate::measures::leaves_below;
@@ -16,9 +16,9 @@ use yl_chunks::Chunks;
 use yl_config::Config;
 use yl_indentation::{IndentationOptions, Measure};
 use yl_lint::{line_below, push_indentation};
-use yl_overview::SectionEdit;
 use yl_report::{Problem, Silences, arrange};
 use yl_sections::Kept;
+use yl_summary::SectionEdit;
 use yl_text::Finding;
 
 /// Appends the findings of the rule indentation in a section that begins at `line`. Judges them by

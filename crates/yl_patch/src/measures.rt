@@ -1,13 +1,13 @@
 //! Decides whether the indentation below an edit is judged as before.
 ghost use Rattle.std.specs.Prelude.{◌≡◌, ◌≤◌, true, length, drop};
-ghost use Rattle.yl_overview.specs.Edit.{IsSectionEdit};
+ghost use Rattle.yl_summary.specs.Edit.{IsSectionEdit};
 ghost use Rattle.yl_patch.specs.Seen.{AreFoundAlike, measure_upto, sections_between};
 
 use std::alloc::Allocator;
 use yl_chunks::Chunks;
 use yl_indentation::{Measure, are_judged_alike};
-use yl_overview::SectionEdit;
 use yl_sections::Kept;
+use yl_summary::SectionEdit;
 
 /// Returns `true` only if the same is found in the sections from index `end` on, whether the facts
 /// before them have the measure `one` or the measure `other`. Looks at no further section once both

@@ -1,7 +1,7 @@
 //! The findings in the lines of the sections that an edit touches.
 ghost use Rattle.std.specs.Prelude.{take, IfOk};
 ghost use Rattle.yl_rejudge.specs.Places.{rows_kept};
-ghost use Rattle.yl_overview.specs.Edit.{IsSectionEdit};
+ghost use Rattle.yl_summary.specs.Edit.{IsSectionEdit};
 ghost use Rattle.yl_lint.specs.Edit.{IsTextEdit};
 ghost use Rattle.yl_patch.specs.Cut.{IsApart};
 ghost use Rattle.yl_patch.specs.Seen.{IsSeen};
@@ -10,7 +10,7 @@ use crate::touched::{Touched, ends_of, find_touched};
 use std::alloc::{AllocError, Allocator};
 use yl_config::Config;
 use yl_lint::{TextEdit, Window, find_there};
-use yl_overview::SectionEdit;
+use yl_summary::SectionEdit;
 use yl_text::{Finding, LineStore, Lines};
 
 /// The lines of the sections that an edit touches, and the findings in them.

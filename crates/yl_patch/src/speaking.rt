@@ -2,7 +2,7 @@
 ghost use Rattle.std.specs.Prelude.{◌≡◌, ◌-◌, true, map, take, drop, IfOk};
 ghost use Rattle.yl_lexeme.specs.PlacedComments.{placed_comment_value};
 ghost use Rattle.yl_lint.specs.TextReport.{comments_in_sections};
-ghost use Rattle.yl_overview.specs.Edit.{IsSectionEdit};
+ghost use Rattle.yl_summary.specs.Edit.{IsSectionEdit};
 ghost use Rattle.yl_patch.specs.Speaking.{AllSpeakAlike, SpeakAlike};
 
 use std::alloc::{AllocError, Allocator};
@@ -10,7 +10,7 @@ use yl_chunks::Spliced;
 use yl_found::comments_among;
 use yl_lexeme::PlacedComment;
 use yl_lint::{have_same_texts, retain_switches, speak_within};
-use yl_overview::SectionEdit;
+use yl_summary::SectionEdit;
 
 /// Returns the comments of the sections that the edit removes. Lines count from 0, from the first
 /// line of these sections. The only error is out of memory.

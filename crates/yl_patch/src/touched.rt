@@ -1,11 +1,11 @@
 //! The lines of the sections that an edit touches.
 ghost use Rattle.std.specs.Prelude.{◌≡◌, ◌==◌, ◌+◌, take};
 ghost use Rattle.yl_rejudge.specs.Places.{rows_kept};
-ghost use Rattle.yl_overview.specs.Edit.{IsSectionEdit};
+ghost use Rattle.yl_summary.specs.Edit.{IsSectionEdit};
 
 use std::alloc::Allocator;
 use yl_lint::Ends;
-use yl_overview::SectionEdit;
+use yl_summary::SectionEdit;
 
 /// The lines of the sections that an edit touches, before and after the edit.
 #[derive(Clone, Copy)]

@@ -9,7 +9,7 @@ use Rattle.yl_text.specs.declared.finding.RuleId.TheVariants.{Anchors}
 use Rattle.yl_text.specs.Finding.{FindingValue, at_each}
 use Rattle.yl_text.proofs.Every.{all_both, all_if, all_then}
 use Rattle.yl_events.specs.Event.{EventValue}
-use Rattle.yl_layout.specs.LexemesAlike.{finding_below}
+use Rattle.yl_lexeme_rules.specs.LexemesAlike.{finding_below}
 use Rattle.yl_tree.specs.declared.options.AnchorsOptions.{AnchorsOptions}
 use Rattle.yl_tree.specs.Anchors.{anchors, anchors_at, is_alias_of, is_anchor_of, is_declared, is_used}
 use Rattle.yl_tree.specs.Messages.{name_finding}

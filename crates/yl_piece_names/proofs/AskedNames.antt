@@ -11,7 +11,7 @@ use Rattle.yl_text.specs.declared.finding.RuleId.{RuleId}
 use Rattle.yl_text.specs.declared.finding.RuleId.TheVariants.{KeyDuplicates, KeyOrdering}
 use Rattle.yl_text.proofs.Every.{all_then}
 use Rattle.yl_events.specs.Event.{EventValue}
-use Rattle.yl_layout.specs.LexemesAlike.{finding_below}
+use Rattle.yl_lexeme_rules.specs.LexemesAlike.{finding_below}
 use Rattle.yl_tree.specs.declared.options.KeyDuplicatesOptions.{KeyDuplicatesOptions}
 use Rattle.yl_tree.specs.KeyRules.{is_duplicate, is_greater}
 use Rattle.yl_tree.specs.Greatest.{is_greater_among}

@@ -8,7 +8,7 @@ use Rattle.yl_text.specs.declared.position.Pos.{Pos}
 use Rattle.yl_text.specs.declared.finding.RuleId.{RuleId}
 use Rattle.yl_text.specs.Finding.{FindingValue, one_finding}
 use Rattle.yl_events.specs.Event.{EventValue}
-use Rattle.yl_layout.specs.LexemesAlike.{finding_below}
+use Rattle.yl_lexeme_rules.specs.LexemesAlike.{finding_below}
 use Rattle.yl_tree.specs.Keys.{name_of}
 use Rattle.yl_tree.specs.Messages.{name_finding, printed_character}
 use Rattle.yl_tree.specs.OpenNodes.{OpenNodes, with_event, keys_if_next}

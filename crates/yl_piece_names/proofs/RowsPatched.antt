@@ -10,7 +10,7 @@ use Rattle.yl_lexeme.specs.Lexeme.{LexemeValue}
 use Rattle.yl_events.specs.declared.fault.ParseFault.{ParseFault}
 use Rattle.yl_events.specs.declared.fault.PlacedParseFault.{PlacedParseFault}
 use Rattle.yl_events.specs.Event.{EventValue}
-use Rattle.yl_layout.specs.LexemesAlike.{after_lexemes, finding_below, is_settled, lexemes_state}
+use Rattle.yl_lexeme_rules.specs.LexemesAlike.{after_lexemes, finding_below, is_settled, lexemes_state}
 use Rattle.yl_tree.specs.declared.options.TreeOptions.{TreeOptions}
 use Rattle.yl_tree.specs.OpenNodes.{OpenNodes}
 use Rattle.yl_config.specs.declared.config.Config.{Config}

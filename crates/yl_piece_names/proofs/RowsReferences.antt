@@ -8,7 +8,7 @@ use Rattle.yl_text.proofs.Every.{all_flat_map}
 use Rattle.yl_lexeme.specs.declared.lexeme.Kind.{Kind}
 use Rattle.yl_lexeme.specs.Lexeme.{LexemeValue}
 use Rattle.yl_events.specs.Built.{Builds}
-use Rattle.yl_layout.specs.LexemesAlike.{lexeme_below}
+use Rattle.yl_lexeme_rules.specs.LexemesAlike.{lexeme_below}
 use Rattle.yl_record.specs.Records.{RecordValue}
 use Rattle.yl_sections.specs.Judge.{document_of}
 use Rattle.yl_sections.specs.Sections.{lexemes_from, lexemes_of}

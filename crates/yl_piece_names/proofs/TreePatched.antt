@@ -12,7 +12,7 @@ use Rattle.yl_text.specs.declared.finding.RuleId.TheVariants.{KeyDuplicates, Key
 use Rattle.yl_text.specs.Finding.{FindingValue}
 use Rattle.yl_text.proofs.Every.{all_both, all_if, all_then}
 use Rattle.yl_events.specs.Event.{EventValue}
-use Rattle.yl_layout.specs.LexemesAlike.{finding_below}
+use Rattle.yl_lexeme_rules.specs.LexemesAlike.{finding_below}
 use Rattle.yl_tree.specs.declared.options.AnchorsOptions.{AnchorsOptions}
 use Rattle.yl_tree.specs.declared.options.KeyDuplicatesOptions.{KeyDuplicatesOptions}
 use Rattle.yl_tree.specs.declared.options.TreeOptions.{TreeOptions}

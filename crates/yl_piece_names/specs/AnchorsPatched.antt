@@ -4,7 +4,7 @@ use Rattle.std.specs.Prelude.{ℕ, ◌≡◌, ◌+◌, false, List, [], ◌++◌
 use Rattle.std.specs.List.{AllByRecursion, flat_map}
 use Rattle.yl_text.specs.Finding.{FindingValue, at_each}
 use Rattle.yl_events.specs.Event.{EventValue, AliasOf, Empty}
-use Rattle.yl_layout.specs.LexemesAlike.{finding_below}
+use Rattle.yl_lexeme_rules.specs.LexemesAlike.{finding_below}
 use Rattle.yl_tree.specs.declared.options.AnchorsOptions.{AnchorsOptions}
 use Rattle.yl_tree.specs.Anchors.{anchors, anchors_at}
 use Rattle.yl_pieces.specs.References.{NamedReference, DeclaresName, UsesName, references_of_event, anchor_of_alias}

@@ -12,7 +12,7 @@ use Rattle.yl_events.specs.declared.symbol.Shape.{Shape}
 use Rattle.yl_events.specs.declared.symbol.Shape.TheVariants as shape
 use Rattle.yl_events.specs.Event.{AliasOf, DocumentEnd, DocumentStart, Empty, EventKindValue, EventValue, MappingEnd, MappingStart, ScalarOf, SequenceEnd, SequenceStart, content_value, kind_of, start_at, start_of, value_of}
 use Rattle.yl_events.specs.ParsedAlike.{outline_after, outline_shape}
-use Rattle.yl_layout.specs.LexemesAlike.{lexeme_below}
+use Rattle.yl_lexeme_rules.specs.LexemesAlike.{lexeme_below}
 use Rattle.yl_sections.proofs.Lines.{get_after, get_before}
 use Rattle.yl_pieces.specs.DuplicatesOfRuns.{event_below}
 use Rattle.yl_pieces.specs.Events.{event_alone}

@@ -7,16 +7,16 @@ use Rattle.yl_lexeme.specs.declared.lexeme.Kind.{Kind}
 use Rattle.yl_lexeme.specs.Lexeme.{LexemeValue}
 use Rattle.yl_marks.specs.declared.facts.KeyFacts.{KeyFacts}
 use Rattle.yl_marks.specs.Keys.{token_of}
-use Rattle.yl_layout.specs.declared.options.LexemeOptions.{LexemeOptions}
-use Rattle.yl_layout.specs.declared.span.Span.{Span}
-use Rattle.yl_layout.specs.declared.state.LexemeRulesState.{LexemeRulesState}
-use Rattle.yl_layout.specs.Lexemes.{findings_behind, first_span}
-use Rattle.yl_layout.specs.LexemesLeft.{IsVersion, LexemesRead, after_lexeme, findings_told, findings_waiting, lexemes_left}
-use Rattle.yl_layout.specs.LexemesAlike.{AreJudgedAlike, IsAbove, after_lexemes, finding_below, is_settled, lexeme_below, lexemes_state}
-use Rattle.yl_layout.specs.Spans.{span_of}
-use Rattle.yl_layout.specs.Version.{is_1_2_document}
-use Rattle.yl_layout.proofs.LexemesAlike.{judged_alike}
-use Rattle.yl_layout.proofs.LexemesLeft.{lexemes_more, version_on}
+use Rattle.yl_lexeme_rules.specs.declared.options.LexemeOptions.{LexemeOptions}
+use Rattle.yl_lexeme_rules.specs.declared.span.Span.{Span}
+use Rattle.yl_lexeme_rules.specs.declared.state.LexemeRulesState.{LexemeRulesState}
+use Rattle.yl_lexeme_rules.specs.Lexemes.{findings_behind, first_span}
+use Rattle.yl_lexeme_rules.specs.LexemesLeft.{IsVersion, LexemesRead, after_lexeme, findings_told, findings_waiting, lexemes_left}
+use Rattle.yl_lexeme_rules.specs.LexemesAlike.{AreJudgedAlike, IsAbove, after_lexemes, finding_below, is_settled, lexeme_below, lexemes_state}
+use Rattle.yl_lexeme_rules.specs.Spans.{span_of}
+use Rattle.yl_lexeme_rules.specs.Version.{is_1_2_document}
+use Rattle.yl_lexeme_rules.proofs.LexemesAlike.{judged_alike}
+use Rattle.yl_lexeme_rules.proofs.LexemesLeft.{lexemes_more, version_on}
 use Rattle.yl_pieces.specs.State.{lexemes_from_state, span_above}
 use Rattle.yl_pieces.proofs.JoinedLines.{StandsAbove}
 

@@ -12,7 +12,7 @@ use Rattle.yl_marks.specs.MarksAlike.{rows_below, token_below}
 use Rattle.yl_marks.proofs.MarksAlikeKeys.{choice, same_place}
 use Rattle.yl_marks.proofs.Runs.{one_run, run_len}
 use Rattle.yl_indentation.specs.LineFacts.{BeginElsewhere}
-use Rattle.yl_layout.specs.LexemesAlike.{lexeme_below}
+use Rattle.yl_lexeme_rules.specs.LexemesAlike.{lexeme_below}
 use Rattle.yl_record.specs.Records.{RecordValue}
 use Rattle.yl_sections.specs.Judging.{spaces_of}
 use Rattle.yl_sections.specs.Sections.{lexemes_from}

@@ -31,12 +31,12 @@ use Rattle.yl_indentation.specs.FactsAlike.{ContextState, context_state}
 use Rattle.yl_indentation.specs.LineFacts.{NameIndices}
 use Rattle.yl_indentation.specs.SymbolFacts.{behind_symbols, facts_left}
 use Rattle.yl_indentation.proofs.RowFacts.{above_after}
-use Rattle.yl_layout.specs.declared.options.LexemeOptions.{LexemeOptions}
-use Rattle.yl_layout.specs.declared.state.LexemeRulesState.{LexemeRulesState}
-use Rattle.yl_layout.specs.Lexemes.{findings_behind}
-use Rattle.yl_layout.specs.LexemesLeft.{LexemesRead}
-use Rattle.yl_layout.specs.LexemesAlike as layout
-use Rattle.yl_layout.specs.LexemesAlike.{after_lexemes, is_settled, lexeme_below, lexemes_state}
+use Rattle.yl_lexeme_rules.specs.declared.options.LexemeOptions.{LexemeOptions}
+use Rattle.yl_lexeme_rules.specs.declared.state.LexemeRulesState.{LexemeRulesState}
+use Rattle.yl_lexeme_rules.specs.Lexemes.{findings_behind}
+use Rattle.yl_lexeme_rules.specs.LexemesLeft.{LexemesRead}
+use Rattle.yl_lexeme_rules.specs.LexemesAlike as layout
+use Rattle.yl_lexeme_rules.specs.LexemesAlike.{after_lexemes, is_settled, lexeme_below, lexemes_state}
 use Rattle.yl_config.specs.declared.config.Config.{Config}
 use Rattle.yl_record.specs.Records.{RecordValue}
 use Rattle.yl_sections.specs.Judging.{spaces_of}

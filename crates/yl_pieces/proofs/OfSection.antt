@@ -20,9 +20,9 @@ use Rattle.yl_indentation.specs.Context.{nothing_open}
 use Rattle.yl_indentation.specs.Facts.{indent_facts}
 use Rattle.yl_indentation.specs.SymbolFacts.{behind_symbols, facts_left}
 use Rattle.yl_indentation.proofs.BySymbols.{go_on, none_counts}
-use Rattle.yl_layout.specs.declared.options.LexemeOptions.{LexemeOptions}
-use Rattle.yl_layout.specs.Lexemes.{findings_behind, lexeme_findings}
-use Rattle.yl_layout.specs.Version.{is_1_2_document}
+use Rattle.yl_lexeme_rules.specs.declared.options.LexemeOptions.{LexemeOptions}
+use Rattle.yl_lexeme_rules.specs.Lexemes.{findings_behind, lexeme_findings}
+use Rattle.yl_lexeme_rules.specs.Version.{is_1_2_document}
 use Rattle.yl_record.specs.Records.{RecordValue}
 use Rattle.yl_sections.specs.Judge.{document_of}
 use Rattle.yl_sections.specs.Judging.{spaces_of}

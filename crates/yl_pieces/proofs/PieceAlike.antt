@@ -22,13 +22,13 @@ use Rattle.yl_indentation.specs.FactsAlike.{AreToldAlike, ContextState, context_
 use Rattle.yl_indentation.specs.SymbolFacts.{behind_symbols, facts_left}
 use Rattle.yl_indentation.proofs.FactsAlike.{facts_are_alike}
 use Rattle.yl_indentation.proofs.RowFacts.{after_first, facts_of_first}
-use Rattle.yl_layout.specs.declared.options.LexemeOptions.{LexemeOptions}
-use Rattle.yl_layout.specs.declared.state.LexemeRulesState.{LexemeRulesState}
-use Rattle.yl_layout.specs.Lexemes.{findings_behind, first_span}
-use Rattle.yl_layout.specs.LexemesAlike.{after_lexemes, lexeme_below, lexemes_state}
-use Rattle.yl_layout.specs.LexemesLeft.{IsVersion, findings_at_indicator, findings_waiting, lexemes_left}
-use Rattle.yl_layout.specs.Version.{is_1_2_document}
-use Rattle.yl_layout.proofs.LexemesAlike.{judged_alike}
+use Rattle.yl_lexeme_rules.specs.declared.options.LexemeOptions.{LexemeOptions}
+use Rattle.yl_lexeme_rules.specs.declared.state.LexemeRulesState.{LexemeRulesState}
+use Rattle.yl_lexeme_rules.specs.Lexemes.{findings_behind, first_span}
+use Rattle.yl_lexeme_rules.specs.LexemesAlike.{after_lexemes, lexeme_below, lexemes_state}
+use Rattle.yl_lexeme_rules.specs.LexemesLeft.{IsVersion, findings_at_indicator, findings_waiting, lexemes_left}
+use Rattle.yl_lexeme_rules.specs.Version.{is_1_2_document}
+use Rattle.yl_lexeme_rules.proofs.LexemesAlike.{judged_alike}
 use Rattle.yl_record.specs.Records.{RecordValue}
 use Rattle.yl_sections.specs.Judging.{spaces_of}
 use Rattle.yl_sections.specs.Sections.{lexemes_from}

@@ -29,12 +29,12 @@ use Rattle.yl_indentation.specs.LineFacts.{AreIndented}
 use Rattle.yl_indentation.specs.SymbolFacts.{behind_symbols, facts_left}
 use Rattle.yl_indentation.proofs.BySymbols.{as_counted, go_on}
 use Rattle.yl_indentation.proofs.RowFacts.{behind_both}
-use Rattle.yl_layout.specs.declared.options.LexemeOptions.{LexemeOptions}
-use Rattle.yl_layout.specs.declared.span.Span.{Span}
-use Rattle.yl_layout.specs.Lexemes.{findings_at, findings_behind, first_span}
-use Rattle.yl_layout.specs.LexemesAlike.{after_lexemes}
-use Rattle.yl_layout.specs.LexemesLeft.{IsVersion, LexemesRead, after_lexeme, findings_waiting, lexemes_left}
-use Rattle.yl_layout.specs.Spans.{span_of}
+use Rattle.yl_lexeme_rules.specs.declared.options.LexemeOptions.{LexemeOptions}
+use Rattle.yl_lexeme_rules.specs.declared.span.Span.{Span}
+use Rattle.yl_lexeme_rules.specs.Lexemes.{findings_at, findings_behind, first_span}
+use Rattle.yl_lexeme_rules.specs.LexemesAlike.{after_lexemes}
+use Rattle.yl_lexeme_rules.specs.LexemesLeft.{IsVersion, LexemesRead, after_lexeme, findings_waiting, lexemes_left}
+use Rattle.yl_lexeme_rules.specs.Spans.{span_of}
 use Rattle.yl_config.specs.declared.config.Config.{Config}
 use Rattle.yl_record.specs.Records.{RecordValue}
 use Rattle.yl_sections.specs.JudgedRow.{JudgesRow}

@@ -13,7 +13,7 @@ use Rattle.yl_marks.specs.MarksAlike.{rows_below, symbol_after, token_below}
 use Rattle.yl_marks.proofs.MarksAlikeKeys.{choice, same_place}
 use Rattle.yl_indentation.specs.declared.fact.Fact.{Fact}
 use Rattle.yl_indentation.specs.FactsAlike.{fact_below}
-use Rattle.yl_layout.specs.LexemesAlike.{finding_below, lexeme_below}
+use Rattle.yl_lexeme_rules.specs.LexemesAlike.{finding_below, lexeme_below}
 use Rattle.yl_record.specs.Records.{RecordValue}
 use Rattle.yl_sections.specs.Sections.{lexemes_from}
 use Rattle.yl_pieces.specs.Told.{tokens_in}

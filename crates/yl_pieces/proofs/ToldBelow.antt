@@ -25,13 +25,13 @@ use Rattle.yl_indentation.specs.FactsAlike as indenting
 use Rattle.yl_indentation.specs.SymbolFacts.{behind_symbols, facts_left}
 use Rattle.yl_indentation.proofs.FactsAlike.{facts_are_alike}
 use Rattle.yl_indentation.proofs.RowFacts.{after_first, facts_of_first}
-use Rattle.yl_layout.specs.declared.options.LexemeOptions.{LexemeOptions}
-use Rattle.yl_layout.specs.declared.state.LexemeRulesState.{LexemeRulesState}
-use Rattle.yl_layout.specs.Lexemes.{findings_behind}
-use Rattle.yl_layout.specs.LexemesAlike.{AreJudgedAlike, after_lexemes, finding_below, lexeme_below, lexemes_state}
-use Rattle.yl_layout.specs.LexemesAlike as judging
-use Rattle.yl_layout.specs.LexemesLeft.{LexemesRead}
-use Rattle.yl_layout.proofs.LexemesAlike.{judged_alike}
+use Rattle.yl_lexeme_rules.specs.declared.options.LexemeOptions.{LexemeOptions}
+use Rattle.yl_lexeme_rules.specs.declared.state.LexemeRulesState.{LexemeRulesState}
+use Rattle.yl_lexeme_rules.specs.Lexemes.{findings_behind}
+use Rattle.yl_lexeme_rules.specs.LexemesAlike.{AreJudgedAlike, after_lexemes, finding_below, lexeme_below, lexemes_state}
+use Rattle.yl_lexeme_rules.specs.LexemesAlike as judging
+use Rattle.yl_lexeme_rules.specs.LexemesLeft.{LexemesRead}
+use Rattle.yl_lexeme_rules.proofs.LexemesAlike.{judged_alike}
 use Rattle.yl_config.specs.declared.config.Config.{Config}
 use Rattle.yl_record.specs.Records.{RecordValue}
 use Rattle.yl_sections.specs.Judging.{spaces_of}

@@ -6,7 +6,7 @@ use Rattle.yl_marks.specs.declared.symbol.Symbol.TheVariants.{OpenSequence, Open
 use Rattle.yl_marks.specs.MarksAlike.{symbol_after}
 use Rattle.yl_indentation.specs.declared.fact.Fact.{Fact}
 use Rattle.yl_indentation.specs.FactsAlike.{fact_below}
-use Rattle.yl_layout.specs.LexemesAlike.{finding_below}
+use Rattle.yl_lexeme_rules.specs.LexemesAlike.{finding_below}
 
 -- ---- symbols
 

@@ -11,8 +11,8 @@ use Rattle.yl_marks.specs.Keys.{lexeme_at_line, token_of}
 use Rattle.yl_marks.specs.ByLine.{before_lines, by_line}
 use Rattle.yl_marks.specs.MarksAlike.{rows_below, token_below}
 use Rattle.yl_marks.proofs.MarksAlikeKeys.{choice, same_place}
-use Rattle.yl_layout.specs.LexemesAlike.{lexeme_below}
-use Rattle.yl_layout.specs.Version.{is_1_2_document}
+use Rattle.yl_lexeme_rules.specs.LexemesAlike.{lexeme_below}
+use Rattle.yl_lexeme_rules.specs.Version.{is_1_2_document}
 use Rattle.yl_record.specs.Records.{RecordValue}
 use Rattle.yl_sections.specs.declared.comments.LexemeEnd.{LexemeEnd}
 use Rattle.yl_sections.specs.Kept.{comment_at, comments_from, last_lexeme_end}

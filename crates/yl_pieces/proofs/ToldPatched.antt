@@ -6,7 +6,7 @@ use Rattle.yl_text.proofs.Every.{all_map, all_then}
 use Rattle.yl_lexeme.specs.Lexeme.{PlacedCommentValue}
 use Rattle.yl_indentation.specs.declared.fact.Fact.{Fact}
 use Rattle.yl_indentation.specs.FactsAlike.{fact_below}
-use Rattle.yl_layout.specs.LexemesAlike.{finding_below}
+use Rattle.yl_lexeme_rules.specs.LexemesAlike.{finding_below}
 use Rattle.yl_config.specs.declared.config.Config.{Config}
 use Rattle.yl_record.specs.Records.{RecordValue}
 use Rattle.yl_pieces.specs.State.{DocumentState, start_state}

@@ -9,27 +9,27 @@ use Rattle.yl_text.specs.Finding.{FindingValue}
 use Rattle.yl_text.proofs.Every.{all_both, all_either, all_if}
 use Rattle.yl_lexeme.specs.Lexeme.{LexemeValue, is_comma, is_entry, is_key, is_value}
 use Rattle.yl_marks.specs.declared.facts.KeyFacts.{KeyFacts}
-use Rattle.yl_layout.specs.declared.span.Span.{Span}
-use Rattle.yl_layout.specs.declared.brackets.Forbid.{Forbid}
-use Rattle.yl_layout.specs.declared.brackets.Forbid.TheVariants.{Nothing, NonEmpty, Everything}
-use Rattle.yl_layout.specs.declared.brackets.BracketsOptions.{BracketsOptions}
-use Rattle.yl_layout.specs.declared.colons.ColonsOptions.{ColonsOptions}
-use Rattle.yl_layout.specs.declared.commas.CommasOptions.{CommasOptions}
-use Rattle.yl_layout.specs.declared.document_start.DocumentStartOptions.{DocumentStartOptions}
-use Rattle.yl_layout.specs.declared.hyphens.HyphensOptions.{HyphensOptions}
-use Rattle.yl_layout.specs.declared.options.LexemeOptions.{LexemeOptions}
-use Rattle.yl_layout.specs.declared.quoted_strings.QuotedStringsOptions.{QuotedStringsOptions}
-use Rattle.yl_layout.specs.declared.truthy.TruthyOptions.{TruthyOptions}
-use Rattle.yl_layout.specs.Spans.{distance, is_less, span_of, too_few, too_many, too_many_behind}
-use Rattle.yl_layout.specs.Brackets.{before_closing, behind_opening_at, brackets, closes, forbidden_finding, inside, inside_empty, opens, rule_of}
-use Rattle.yl_layout.specs.Colons.{before_colon, colons, is_alias}
-use Rattle.yl_layout.specs.Commas.{before_comma, behind_comma, commas, first_comma}
-use Rattle.yl_layout.specs.DocumentStart.{document_start, is_bare, is_start_marker}
-use Rattle.yl_layout.specs.Hyphens.{hyphens}
-use Rattle.yl_layout.specs.Kinds.{flow_findings}
-use Rattle.yl_layout.specs.Lexemes.{findings_at, findings_behind, first_span}
-use Rattle.yl_layout.specs.QuotedStrings.{is_misquoted, quoted_strings}
-use Rattle.yl_layout.specs.Truthy.{is_truthy, truthy}
+use Rattle.yl_lexeme_rules.specs.declared.span.Span.{Span}
+use Rattle.yl_lexeme_rules.specs.declared.brackets.Forbid.{Forbid}
+use Rattle.yl_lexeme_rules.specs.declared.brackets.Forbid.TheVariants.{Nothing, NonEmpty, Everything}
+use Rattle.yl_lexeme_rules.specs.declared.brackets.BracketsOptions.{BracketsOptions}
+use Rattle.yl_lexeme_rules.specs.declared.colons.ColonsOptions.{ColonsOptions}
+use Rattle.yl_lexeme_rules.specs.declared.commas.CommasOptions.{CommasOptions}
+use Rattle.yl_lexeme_rules.specs.declared.document_start.DocumentStartOptions.{DocumentStartOptions}
+use Rattle.yl_lexeme_rules.specs.declared.hyphens.HyphensOptions.{HyphensOptions}
+use Rattle.yl_lexeme_rules.specs.declared.options.LexemeOptions.{LexemeOptions}
+use Rattle.yl_lexeme_rules.specs.declared.quoted_strings.QuotedStringsOptions.{QuotedStringsOptions}
+use Rattle.yl_lexeme_rules.specs.declared.truthy.TruthyOptions.{TruthyOptions}
+use Rattle.yl_lexeme_rules.specs.Spans.{distance, is_less, span_of, too_few, too_many, too_many_behind}
+use Rattle.yl_lexeme_rules.specs.Brackets.{before_closing, behind_opening_at, brackets, closes, forbidden_finding, inside, inside_empty, opens, rule_of}
+use Rattle.yl_lexeme_rules.specs.Colons.{before_colon, colons, is_alias}
+use Rattle.yl_lexeme_rules.specs.Commas.{before_comma, behind_comma, commas, first_comma}
+use Rattle.yl_lexeme_rules.specs.DocumentStart.{document_start, is_bare, is_start_marker}
+use Rattle.yl_lexeme_rules.specs.Hyphens.{hyphens}
+use Rattle.yl_lexeme_rules.specs.Kinds.{flow_findings}
+use Rattle.yl_lexeme_rules.specs.Lexemes.{findings_at, findings_behind, first_span}
+use Rattle.yl_lexeme_rules.specs.QuotedStrings.{is_misquoted, quoted_strings}
+use Rattle.yl_lexeme_rules.specs.Truthy.{is_truthy, truthy}
 
 -- something holds of the lines of lexemes
 module _ (Is : ℕ → Type 0) where

@@ -6,7 +6,7 @@ use Rattle.yl_text.specs.declared.position.Pos.{Pos}
 use Rattle.yl_text.specs.declared.finding.RuleId.TheVariants.{KeyDuplicates}
 use Rattle.yl_text.specs.Finding.{FindingValue}
 use Rattle.yl_events.specs.Event.{EventAnchorValue, EventValue}
-use Rattle.yl_layout.specs.LexemesAlike.{finding_below}
+use Rattle.yl_lexeme_rules.specs.LexemesAlike.{finding_below}
 use Rattle.yl_tree.specs.declared.options.KeyDuplicatesOptions.{KeyDuplicatesOptions}
 use Rattle.yl_tree.specs.Keys.{name_of}
 use Rattle.yl_tree.specs.KeyRules.{is_duplicate, key_duplicates}

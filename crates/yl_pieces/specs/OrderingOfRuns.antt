@@ -5,7 +5,7 @@ use Rattle.std.specs.Option.{option_to_list}
 use Rattle.yl_text.specs.declared.finding.RuleId.TheVariants.{KeyOrdering}
 use Rattle.yl_text.specs.Finding.{FindingValue}
 use Rattle.yl_events.specs.Event.{EventValue}
-use Rattle.yl_layout.specs.LexemesAlike.{finding_below}
+use Rattle.yl_lexeme_rules.specs.LexemesAlike.{finding_below}
 use Rattle.yl_tree.specs.Greatest.{is_greater_among}
 use Rattle.yl_tree.specs.KeyRules.{is_greater, key_ordering}
 use Rattle.yl_tree.specs.OpenNodes.{OpenCollection, OpenNodes, collections_behind}

@@ -20,9 +20,9 @@ use Rattle.yl_indentation.specs.Context.{ContextValue}
 use Rattle.yl_indentation.specs.FactsAlike as facts
 use Rattle.yl_indentation.specs.FactsAlike.{context_state}
 use Rattle.yl_indentation.specs.SymbolFacts.{behind_symbols, facts_left}
-use Rattle.yl_layout.specs.LexemesAlike as layout
-use Rattle.yl_layout.specs.LexemesAlike.{after_lexemes, lexemes_state}
-use Rattle.yl_layout.specs.LexemesLeft.{IsVersion, LexemesRead, lexemes_left}
+use Rattle.yl_lexeme_rules.specs.LexemesAlike as layout
+use Rattle.yl_lexeme_rules.specs.LexemesAlike.{after_lexemes, lexemes_state}
+use Rattle.yl_lexeme_rules.specs.LexemesLeft.{IsVersion, LexemesRead, lexemes_left}
 use Rattle.yl_config.specs.declared.config.Config.{Config}
 use Rattle.yl_record.specs.Records.{RecordValue}
 use Rattle.yl_sections.specs.declared.row_judge.RowJudge.{RowJudge}

@@ -7,9 +7,9 @@ use Rattle.yl_marks.specs.FactsByLine.{KeyMarkerValue}
 use Rattle.yl_marks.specs.MarksAlike.{KeyMarkerState}
 use Rattle.yl_indentation.specs.Context.{ContextValue}
 use Rattle.yl_indentation.specs.FactsAlike.{ContextState}
-use Rattle.yl_layout.specs.declared.span.Span.{Span}
-use Rattle.yl_layout.specs.declared.state.LexemeRulesState.{LexemeRulesState}
-use Rattle.yl_layout.specs.LexemesLeft.{LexemesRead}
+use Rattle.yl_lexeme_rules.specs.declared.span.Span.{Span}
+use Rattle.yl_lexeme_rules.specs.declared.state.LexemeRulesState.{LexemeRulesState}
+use Rattle.yl_lexeme_rules.specs.LexemesLeft.{LexemesRead}
 pub use Rattle.yl_sections.specs.State.{DocumentState, start_state}
 
 -- ---- machines with that state. Their latest lexeme begins and ends in line 0, and no lexeme is

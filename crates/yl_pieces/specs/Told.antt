@@ -24,9 +24,9 @@ use Rattle.yl_events.specs.Trail.{fault_from, trail_after}
 use Rattle.yl_indentation.specs.declared.fact.Fact.{Fact}
 use Rattle.yl_indentation.specs.FactsAlike.{context_state}
 use Rattle.yl_indentation.specs.SymbolFacts.{behind_symbols, facts_left}
-use Rattle.yl_layout.specs.Lexemes.{findings_behind}
-use Rattle.yl_layout.specs.LexemesAlike.{after_lexemes, lexemes_state}
-use Rattle.yl_layout.specs.Version.{is_1_2_document}
+use Rattle.yl_lexeme_rules.specs.Lexemes.{findings_behind}
+use Rattle.yl_lexeme_rules.specs.LexemesAlike.{after_lexemes, lexemes_state}
+use Rattle.yl_lexeme_rules.specs.Version.{is_1_2_document}
 use Rattle.yl_config.specs.declared.config.Config.{Config}
 use Rattle.yl_record.specs.Records.{RecordValue}
 use Rattle.yl_sections.specs.Judging.{spaces_of}

@@ -20,9 +20,9 @@ use Rattle.yl_config.specs.Faults.{fault_by, place_from_one}
 use Rattle.yl_config.specs.Misfits.{earliest}
 use Rattle.yl_config.specs.Outcome.{from_own}
 use Rattle.yl_config.proofs.Saying.{their_lines}
-use Rattle.yl_documents.specs.Syntax.{earlier_place, open_end, parse_fault, text_fault}
-use Rattle.yl_documents.specs.TextDocuments.{AreBuilt, BuiltDocumentValue, documents_of}
-use Rattle.yl_documents.specs.TextReading.{TextReading, end_of, lexeme_in_text, place_of_fault, reading_of}
+use Rattle.yl_config.specs.Syntax.{earlier_place, open_end, parse_fault, text_fault}
+use Rattle.yl_config.specs.TextDocuments.{AreBuilt, BuiltDocumentValue, documents_of}
+use Rattle.yl_config.specs.TextReading.{TextReading, end_of, lexeme_in_text, place_of_fault, reading_of}
 use Rattle.yl_project.specs.Misfits.{root_misfits}
 use Rattle.yl_project.specs.Outcome.{IsToldOf, Judge, Says, SaysOfText, projecting, told, told_of, told_own, told_unless}
 use Rattle.yl_project.specs.Said.{ProjectValue, said_over}

@@ -15,9 +15,9 @@ use Rattle.yl_config.specs.Document.{next_misfits, root_of}
 use Rattle.yl_config.specs.Faults.{fault_of_misfit, place_from_one}
 use Rattle.yl_config.specs.Misfits.{earliest}
 use Rattle.yl_config.specs.Outcome.{from_own}
-use Rattle.yl_documents.specs.Syntax.{place_behind, text_fault}
-use Rattle.yl_documents.specs.TextDocuments.{BuiltDocumentValue, AreBuilt, documents_of}
-use Rattle.yl_documents.specs.TextReading.{TextReading, reading_of}
+use Rattle.yl_config.specs.Syntax.{place_behind, text_fault}
+use Rattle.yl_config.specs.TextDocuments.{BuiltDocumentValue, AreBuilt, documents_of}
+use Rattle.yl_config.specs.TextReading.{TextReading, reading_of}
 use Rattle.yl_project.specs.Misfits.{root_misfits}
 use Rattle.yl_project.specs.Named.{NamedValue, named_of}
 use Rattle.yl_project.specs.Said.{ProjectValue, said_over}

@@ -5,7 +5,7 @@ ghost use Rattle.yl_text.specs.Lines.{lines_of};
 ghost use Rattle.yl_events.specs.Event.{event_value};
 ghost use Rattle.yl_scan.specs.Step.{characters_of};
 ghost use Rattle.yl_config.specs.Outcome.{from_own};
-ghost use Rattle.yl_documents.specs.TextReading.{reading_of};
+ghost use Rattle.yl_config.specs.TextReading.{reading_of};
 ghost use Rattle.yl_project.specs.Answered.{project_answer, project_value};
 ghost use Rattle.yl_project.specs.Outcome.{IsNamedIn, IsProjectOver, Says, naming, next_place, own_events, projecting, told, told_of, told_own};
 
@@ -14,9 +14,9 @@ use crate::named::{Named, named_of};
 use crate::project::Project;
 use crate::texts::read_lines;
 use std::alloc::{AllocError, Allocator};
-use yl_config::{ConfigFault, Misfit, fault_of, from_one, from_own, root_of};
-use yl_documents::{
-    BuiltDocument, build_all, end_of, in_text, place_behind, place_of_scan_fault, text_fault,
+use yl_config::{
+    BuiltDocument, ConfigFault, Misfit, build_all, end_of, fault_of, from_one, from_own, in_text,
+    place_behind, place_of_scan_fault, root_of, text_fault,
 };
 use yl_events::Event;
 use yl_lexeme::Meter;

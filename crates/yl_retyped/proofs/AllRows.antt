@@ -3,7 +3,7 @@ use Rattle.std.proofs.Common.{◌≡◌, ◌≤◌, ℕ, inl, inr, List, [], ◌
 use Rattle.std.proofs.lemmas.List.{length-drop}
 use Rattle.yl_lexeme.specs.declared.lexeme.Kind.{Kind}
 use Rattle.yl_lexeme.specs.Lexeme.{LexemeValue}
-use Rattle.yl_layout.specs.declared.options.LexemeOptions.{LexemeOptions}
+use Rattle.yl_lexeme_rules.specs.declared.options.LexemeOptions.{LexemeOptions}
 use Rattle.yl_config.specs.declared.config.Config.{Config}
 use Rattle.yl_record.specs.Records.{RecordValue}
 use Rattle.yl_sections.specs.Judge.{kept_of_section}

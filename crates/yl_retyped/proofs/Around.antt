@@ -7,12 +7,12 @@ use Rattle.yl_lexeme.specs.declared.lexeme.Kind.{Kind}
 use Rattle.yl_lexeme.specs.Lexeme.{LexemeValue}
 use Rattle.yl_marks.specs.declared.token.Token.{Token}
 use Rattle.yl_marks.specs.Keys.{lexeme_at_line, token_of}
-use Rattle.yl_layout.specs.declared.options.LexemeOptions.{LexemeOptions}
-use Rattle.yl_layout.specs.declared.quoted_strings.QuotedStringsOptions.{QuotedStringsOptions}
-use Rattle.yl_layout.specs.declared.truthy.TruthyOptions.{TruthyOptions}
-use Rattle.yl_layout.specs.QuotedStrings.{quoted_strings}
-use Rattle.yl_layout.specs.Spans.{span_of}
-use Rattle.yl_layout.specs.Truthy.{truthy}
+use Rattle.yl_lexeme_rules.specs.declared.options.LexemeOptions.{LexemeOptions}
+use Rattle.yl_lexeme_rules.specs.declared.quoted_strings.QuotedStringsOptions.{QuotedStringsOptions}
+use Rattle.yl_lexeme_rules.specs.declared.truthy.TruthyOptions.{TruthyOptions}
+use Rattle.yl_lexeme_rules.specs.QuotedStrings.{quoted_strings}
+use Rattle.yl_lexeme_rules.specs.Spans.{span_of}
+use Rattle.yl_lexeme_rules.specs.Truthy.{truthy}
 use Rattle.yl_events.specs.Event.{start_of}
 use Rattle.yl_record.specs.Records.{RecordValue}
 use Rattle.yl_sections.specs.Sections.{lexemes_from, lexemes_of}

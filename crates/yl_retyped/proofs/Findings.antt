@@ -12,27 +12,27 @@ use Rattle.yl_marks.specs.declared.token.Token.{Token}
 use Rattle.yl_marks.specs.declared.facts.KeyFacts.{KeyFacts}
 use Rattle.yl_marks.specs.Facts.{facts_from, key_facts}
 use Rattle.yl_marks.specs.Keys.{keyed_tokens, token_of}
-use Rattle.yl_layout.specs.declared.brackets.Forbid.{Forbid}
-use Rattle.yl_layout.specs.declared.brackets.Forbid.TheVariants.{Everything, NonEmpty, Nothing}
-use Rattle.yl_layout.specs.declared.brackets.BracketsOptions.{BracketsOptions}
-use Rattle.yl_layout.specs.declared.colons.ColonsOptions.{ColonsOptions}
-use Rattle.yl_layout.specs.declared.commas.CommasOptions.{CommasOptions}
-use Rattle.yl_layout.specs.declared.hyphens.HyphensOptions.{HyphensOptions}
-use Rattle.yl_layout.specs.declared.document_start.DocumentStartOptions.{DocumentStartOptions}
-use Rattle.yl_layout.specs.declared.options.LexemeOptions.{LexemeOptions}
-use Rattle.yl_layout.specs.Brackets.{behind_opening_at, brackets}
-use Rattle.yl_layout.specs.Colons.{colons}
-use Rattle.yl_layout.specs.Commas.{commas}
-use Rattle.yl_layout.specs.DocumentStart.{document_start}
-use Rattle.yl_layout.specs.Hyphens.{hyphens}
-use Rattle.yl_layout.specs.Kinds.{block_findings, flow_findings, indicator_findings}
-use Rattle.yl_layout.specs.Lexemes.{findings_at, findings_behind, first_span, lexeme_findings, value_findings}
-use Rattle.yl_layout.specs.declared.truthy.TruthyOptions.{TruthyOptions}
-use Rattle.yl_layout.specs.QuotedStrings.{quoted_strings}
-use Rattle.yl_layout.specs.Spans.{span_of}
-use Rattle.yl_layout.specs.Truthy.{truthy}
-use Rattle.yl_layout.specs.Version.{is_1_2_document}
-use Rattle.yl_layout.proofs.KindLemmas.{found_at}
+use Rattle.yl_lexeme_rules.specs.declared.brackets.Forbid.{Forbid}
+use Rattle.yl_lexeme_rules.specs.declared.brackets.Forbid.TheVariants.{Everything, NonEmpty, Nothing}
+use Rattle.yl_lexeme_rules.specs.declared.brackets.BracketsOptions.{BracketsOptions}
+use Rattle.yl_lexeme_rules.specs.declared.colons.ColonsOptions.{ColonsOptions}
+use Rattle.yl_lexeme_rules.specs.declared.commas.CommasOptions.{CommasOptions}
+use Rattle.yl_lexeme_rules.specs.declared.hyphens.HyphensOptions.{HyphensOptions}
+use Rattle.yl_lexeme_rules.specs.declared.document_start.DocumentStartOptions.{DocumentStartOptions}
+use Rattle.yl_lexeme_rules.specs.declared.options.LexemeOptions.{LexemeOptions}
+use Rattle.yl_lexeme_rules.specs.Brackets.{behind_opening_at, brackets}
+use Rattle.yl_lexeme_rules.specs.Colons.{colons}
+use Rattle.yl_lexeme_rules.specs.Commas.{commas}
+use Rattle.yl_lexeme_rules.specs.DocumentStart.{document_start}
+use Rattle.yl_lexeme_rules.specs.Hyphens.{hyphens}
+use Rattle.yl_lexeme_rules.specs.Kinds.{block_findings, flow_findings, indicator_findings}
+use Rattle.yl_lexeme_rules.specs.Lexemes.{findings_at, findings_behind, first_span, lexeme_findings, value_findings}
+use Rattle.yl_lexeme_rules.specs.declared.truthy.TruthyOptions.{TruthyOptions}
+use Rattle.yl_lexeme_rules.specs.QuotedStrings.{quoted_strings}
+use Rattle.yl_lexeme_rules.specs.Spans.{span_of}
+use Rattle.yl_lexeme_rules.specs.Truthy.{truthy}
+use Rattle.yl_lexeme_rules.specs.Version.{is_1_2_document}
+use Rattle.yl_lexeme_rules.proofs.KindLemmas.{found_at}
 use Rattle.yl_retyped.specs.Retyped.{IsQuiet, is_scalar, no_key}
 use Rattle.yl_retyped.proofs.Typed.{AreBelow, IsRetyped}
 use Rattle.yl_retyped.proofs.Statements.{SayNothing}

@@ -12,8 +12,8 @@ use Rattle.yl_marks.specs.declared.token.Token.{Token}
 use Rattle.yl_marks.specs.ByLine.{by_line}
 use Rattle.yl_marks.specs.Keys.{lexeme_at_line, token_of}
 use Rattle.yl_marks.specs.Marks.{symbols_of_lexemes}
-use Rattle.yl_layout.specs.declared.options.LexemeOptions.{LexemeOptions}
-use Rattle.yl_layout.specs.Lexemes.{lexeme_findings}
+use Rattle.yl_lexeme_rules.specs.declared.options.LexemeOptions.{LexemeOptions}
+use Rattle.yl_lexeme_rules.specs.Lexemes.{lexeme_findings}
 use Rattle.yl_events.specs.declared.symbol.Outline.{Outline}
 use Rattle.yl_events.specs.Derives.{Derives}
 use Rattle.yl_events.specs.DocumentOutcome.{DocumentOutcome, Events, Fails}

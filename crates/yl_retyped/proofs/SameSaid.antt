@@ -11,7 +11,7 @@ use Rattle.yl_marks.specs.declared.token.Token.{Token}
 use Rattle.yl_marks.specs.Keys.{token_of}
 use Rattle.yl_events.specs.declared.fault.PlacedParseFault.{PlacedParseFault}
 use Rattle.yl_events.specs.Event.{EventValue}
-use Rattle.yl_layout.specs.Lexemes.{lexeme_findings}
+use Rattle.yl_lexeme_rules.specs.Lexemes.{lexeme_findings}
 use Rattle.yl_indentation.specs.declared.fact.Fact.{Fact}
 use Rattle.yl_rules.specs.Addressed.{is_addressed}
 use Rattle.yl_config.specs.declared.config.Config.{Config}

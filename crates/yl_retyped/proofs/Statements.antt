@@ -8,8 +8,8 @@ use Rattle.yl_marks.specs.declared.facts.KeyFacts.{KeyFacts}
 use Rattle.yl_marks.specs.declared.symbol.Symbol.{Symbol}
 use Rattle.yl_marks.specs.Facts.{key_facts}
 use Rattle.yl_marks.specs.Marks.{symbols_of_lexemes}
-use Rattle.yl_layout.specs.declared.options.LexemeOptions.{LexemeOptions}
-use Rattle.yl_layout.specs.Lexemes.{lexeme_findings}
+use Rattle.yl_lexeme_rules.specs.declared.options.LexemeOptions.{LexemeOptions}
+use Rattle.yl_lexeme_rules.specs.Lexemes.{lexeme_findings}
 use Rattle.yl_events.specs.declared.symbol.Outline.{Outline}
 use Rattle.yl_events.specs.Event.{event_of_outline}
 use Rattle.yl_events.specs.Derives.{Derives}

@@ -5,9 +5,9 @@ use Rattle.yl_lexeme.specs.declared.lexeme.Kind.{Kind}
 use Rattle.yl_lexeme.specs.declared.lexeme.Kind.TheVariants.{Entry, Value, Scalar}
 use Rattle.yl_lexeme.specs.Lexeme.{LexemeValue}
 use Rattle.yl_marks.specs.declared.facts.KeyFacts.{KeyFacts}
-use Rattle.yl_layout.specs.declared.options.LexemeOptions.{LexemeOptions}
-use Rattle.yl_layout.specs.Lexemes.{value_findings}
-use Rattle.yl_layout.specs.Spans.{span_of}
+use Rattle.yl_lexeme_rules.specs.declared.options.LexemeOptions.{LexemeOptions}
+use Rattle.yl_lexeme_rules.specs.Lexemes.{value_findings}
+use Rattle.yl_lexeme_rules.specs.Spans.{span_of}
 
 -- an indicator that asks for a value: a node that follows it in its line is a key only if a mapping
 -- begins with it

@@ -2,7 +2,7 @@
 use Rattle.std.specs.Prelude.{ℕ, ◌≡◌, ◌≤◌, ◌<◌, ◌⊎◌, true, List, [], ◌∷◌, ◌++◌, Some, None, slice_get}
 use Rattle.yl_lexeme.specs.Lexeme.{LexemeValue}
 use Rattle.yl_marks.specs.Keys.{lexeme_at_line}
-use Rattle.yl_layout.specs.declared.options.LexemeOptions.{LexemeOptions}
+use Rattle.yl_lexeme_rules.specs.declared.options.LexemeOptions.{LexemeOptions}
 use Rattle.yl_record.specs.Records.{RecordValue}
 use Rattle.yl_retyped.specs.Retyped.{IsQuiet, asks_for_value, is_scalar}
 

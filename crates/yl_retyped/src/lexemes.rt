@@ -5,8 +5,8 @@ ghost use Rattle.yl_retyped.specs.Retyped.{IsQuiet, asks_for_value, is_scalar};
 ghost use Rattle.yl_retyped.specs.Rows.{IsLastRetyped, IsValueRetyped};
 
 use std::alloc::{AllocError, Allocator};
-use yl_layout::{LexemeOptions, lexeme_problems};
 use yl_lexeme::{Kind, Lexeme, LexemeAtLine};
+use yl_lexeme_rules::{LexemeOptions, lexeme_problems};
 use yl_marks::KeyFacts;
 
 /// Returns `true` only if the two lexemes are equal.

@@ -4,8 +4,8 @@ ghost use Rattle.yl_retyped.specs.Rows.{IsRowAlike};
 
 use crate::lexemes::{are_same, is_last_retyped};
 use std::alloc::{AllocError, Allocator};
-use yl_layout::LexemeOptions;
 use yl_lexeme::Comment;
+use yl_lexeme_rules::LexemeOptions;
 use yl_record::Record;
 
 /// Returns `true` only if the two comments are equal, or both are missing.

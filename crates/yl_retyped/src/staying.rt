@@ -12,7 +12,7 @@ use crate::rows::is_row_alike;
 use std::alloc::{AllocError, Allocator};
 use yl_chunks::{Chunks, Spliced};
 use yl_config::Config;
-use yl_layout::LexemeOptions;
+use yl_lexeme_rules::LexemeOptions;
 use yl_record::Record;
 use yl_text::RuleId;
 

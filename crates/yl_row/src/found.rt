@@ -27,12 +27,12 @@ use crate::word::{
     tag_len,
 };
 use std::alloc::{AllocError, Allocator};
-use yl_inline::InlineString;
 use yl_lexeme::{Kind, Style, Surroundings, near};
 use yl_scalar::{
     BlockReader, PlainReader, QuotedReader, ScalarStep, first_bad, inline_text_of, is_blank,
     is_marker_of, leading_white, simple_quoted,
 };
+use yl_text::InlineString;
 
 /// A lexeme that ends in its row, or has a fault.
 #[derive(Drop)]

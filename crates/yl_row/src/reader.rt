@@ -5,8 +5,8 @@ ghost use Rattle.yl_row.specs.ScalarReader.{reader_step, reader_finish};
 ghost use Rattle.yl_row.specs.Reader.{scalar_reader_value, rows_of, value_of, reader_step_value, reader_outcome_value};
 
 use std::alloc::{AllocError, Allocator};
-use yl_inline::InlineString;
 use yl_scalar::{BlockReader, PlainReader, QuotedReader, ScalarOutcome, ScalarStep};
+use yl_text::InlineString;
 
 /// A reader of a scalar that may go on in the row below.
 #[derive(Drop)]

@@ -19,10 +19,9 @@ use crate::reader::ScalarReader;
 use crate::sign::{place_fault, sign_at, sign_fault};
 use crate::word::begins_comment;
 use std::alloc::{AllocError, Allocator};
-use yl_inline::InlineString;
 use yl_lexeme::{Comment, Kind, Lexeme, Style, Surroundings};
 use yl_scalar::{is_white, text_of};
-use yl_text::Pos;
+use yl_text::{InlineString, Pos};
 
 /// A scalar that may go on in the row below, and the column at which it begins.
 #[derive(Drop)]

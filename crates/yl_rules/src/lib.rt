@@ -30,7 +30,7 @@ pub use width::character_count;
 pub use yl_indentation::{
     Fact, IndentSequences, IndentationOptions, Measure, Spaces, indent_facts, indent_problems,
 };
-pub use yl_layout::{
+pub use yl_lexeme_rules::{
     BracketsOptions, ColonsOptions, CommasOptions, DocumentStartOptions, Forbid, HyphensOptions,
     LexemeOptions, QuoteType, QuotedStringsOptions, TruthyOptions, TruthyWords, lexeme_problems,
 };

@@ -5,7 +5,7 @@ ghost use Rattle.std.specs.Str.{chars, encode_utf8_all, IsAscii, IsUtf8};
 ghost use Rattle.yl_scalar.specs.Folding.{joint};
 
 use std::alloc::{AllocError, Allocator};
-use yl_inline::InlineString;
+use yl_text::InlineString;
 
 /// Appends what a break with `blanks` blank rows after it stands for: a line feed for each blank
 /// row, or a space if there is none. The only error is out of memory.

@@ -15,7 +15,7 @@ use crate::character::{
 use crate::folding::{add_break, inline_text_of, with_characters};
 use std::alloc::{AllocError, Allocator};
 use std::mem;
-use yl_inline::InlineString;
+use yl_text::InlineString;
 
 /// A reader of a plain scalar, which takes its rows one after another.
 #[derive(Drop)]

@@ -11,7 +11,7 @@ use crate::character::{is_blank, is_marker, is_quoted_character, is_white, leadi
 use crate::escape::escape;
 use crate::folding::{inline_text_of, push_joint};
 use std::alloc::{AllocError, Allocator};
-use yl_inline::InlineString;
+use yl_text::InlineString;
 
 /// A reader of a quoted scalar, which takes its rows one after another.
 #[derive(Drop)]

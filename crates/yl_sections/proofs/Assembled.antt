@@ -10,7 +10,7 @@ use Rattle.yl_text.specs.Finding.{FindingValue}
 use Rattle.yl_lexeme.specs.Lexeme.{LexemeValue, PlacedCommentValue}
 use Rattle.yl_events.specs.Event.{EventValue}
 use Rattle.yl_indentation.specs.declared.fact.Fact.{Fact}
-use Rattle.yl_layout.specs.Lexemes.{lexeme_findings}
+use Rattle.yl_lexeme_rules.specs.Lexemes.{lexeme_findings}
 use Rattle.yl_config.specs.declared.config.Config.{Config}
 use Rattle.yl_record.specs.Records.{RecordValue}
 use Rattle.yl_sections.specs.Judge.{document_of, kept_of_section}

@@ -38,12 +38,12 @@ use Rattle.yl_indentation.specs.LineFacts as facts
 use Rattle.yl_indentation.specs.LineFacts.{AreIndented}
 use Rattle.yl_indentation.specs.SymbolFacts.{facts_left}
 use Rattle.yl_indentation.proofs.BySymbols.{by_symbols, none_counts}
-use Rattle.yl_layout.specs.declared.options.LexemeOptions.{LexemeOptions}
-use Rattle.yl_layout.specs.declared.span.Span.{Span}
-use Rattle.yl_layout.specs.Lexemes.{findings_at, findings_behind, first_span, lexeme_findings}
-use Rattle.yl_layout.specs.LexemesLeft.{LexemesRead, findings_waiting, lexemes_left}
-use Rattle.yl_layout.specs.Spans.{span_of}
-use Rattle.yl_layout.specs.Version.{is_1_2_document}
+use Rattle.yl_lexeme_rules.specs.declared.options.LexemeOptions.{LexemeOptions}
+use Rattle.yl_lexeme_rules.specs.declared.span.Span.{Span}
+use Rattle.yl_lexeme_rules.specs.Lexemes.{findings_at, findings_behind, first_span, lexeme_findings}
+use Rattle.yl_lexeme_rules.specs.LexemesLeft.{LexemesRead, findings_waiting, lexemes_left}
+use Rattle.yl_lexeme_rules.specs.Spans.{span_of}
+use Rattle.yl_lexeme_rules.specs.Version.{is_1_2_document}
 use Rattle.yl_tree.specs.declared.tree_rules.TreeRules.{TreeRules}
 use Rattle.yl_tree.specs.TreeRules.{Finds}
 use Rattle.yl_config.specs.declared.config.Config.{Config}

@@ -8,7 +8,7 @@ use Rattle.yl_lexeme.specs.declared.lexeme.Kind.{Kind}
 use Rattle.yl_lexeme.specs.Lexeme.{LexemeValue}
 use Rattle.yl_marks.specs.Keys.{lexeme_at_line}
 use Rattle.yl_events.specs.Cut.{is_beginning, beginnings_behind, beginnings_by_two}
-use Rattle.yl_documents.specs.TextDocuments.{cut_behind, cut_at}
+use Rattle.yl_config.specs.TextDocuments.{cut_behind, cut_at}
 use Rattle.yl_record.specs.Records.{RecordValue}
 use Rattle.yl_sections.specs.Sections.{Parts, last_kind_from, is_section_start, with_row, parts, lexemes_from}
 use Rattle.yl_sections.specs.Documents.{with_document}

@@ -16,7 +16,7 @@ use Rattle.yl_events.specs.declared.symbol.Outline.{Outline}
 use Rattle.yl_events.specs.DocumentOutcome.{DocumentOutcome, Events, Fails}
 use Rattle.yl_events.specs.Event.{EventValue, anchor_of, event_of_outline, start_at, start_of}
 use Rattle.yl_events.specs.Parsing.{parser_at_start, start_events, document_outcome_of_lines}
-use Rattle.yl_layout.proofs.Own.{OfLexemeRules, own_lexemes}
+use Rattle.yl_lexeme_rules.proofs.Own.{OfLexemeRules, own_lexemes}
 use Rattle.yl_indentation.specs.declared.fact.Fact.{Fact}
 use Rattle.yl_indentation.proofs.Own.{own_facts}
 use Rattle.yl_tree.proofs.Own.{Begins, OfEventRules, own_events}

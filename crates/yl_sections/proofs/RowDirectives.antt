@@ -3,8 +3,8 @@ use Rattle.std.proofs.Common.{◌≡◌, ℕ, Bool, true, false, ◌&&◌, List,
 use Rattle.yl_lexeme.specs.Directives.{is_directive}
 use Rattle.yl_lexeme.specs.Lexeme.{LexemeValue}
 use Rattle.yl_marks.specs.Keys.{lexeme_at_line}
-use Rattle.yl_layout.specs.LexemesAlike.{after_lexemes}
-use Rattle.yl_layout.specs.LexemesLeft.{LexemesRead, after_lexeme}
+use Rattle.yl_lexeme_rules.specs.LexemesAlike.{after_lexemes}
+use Rattle.yl_lexeme_rules.specs.LexemesLeft.{LexemesRead, after_lexeme}
 use Rattle.yl_sections.specs.Directives.{are_directives}
 
 and_all : (a : Bool) → a ≡ (a && true)

@@ -16,8 +16,8 @@ use Rattle.yl_scan.specs.Output.{at_line, output_of_entries}
 use Rattle.yl_events.specs.Documents.{is_document_start, is_document_end}
 use Rattle.yl_events.specs.Cut.{is_beginning}
 use Rattle.yl_events.proofs.ByTwo.{cuts_by_two}
-use Rattle.yl_documents.specs.TextReading.{lexeme_in_text, reading_of}
-use Rattle.yl_documents.specs.TextDocuments.{cut_at, documents_of}
+use Rattle.yl_config.specs.TextReading.{lexeme_in_text, reading_of}
+use Rattle.yl_config.specs.TextDocuments.{cut_at, documents_of}
 use Rattle.yl_record.specs.Records.{RecordValue, records, records_with}
 use Rattle.yl_sections.specs.Sections.{lexemes_from, sections}
 use Rattle.yl_sections.specs.Documents.{moved_down, section_documents, with_document, SectionsAreDocuments}

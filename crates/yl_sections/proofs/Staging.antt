@@ -16,7 +16,7 @@ use Rattle.yl_marks.specs.Marks.{marked_lexemes}
 use Rattle.yl_events.specs.declared.fault.PlacedParseFault.{PlacedParseFault}
 use Rattle.yl_events.specs.Faults as parse
 use Rattle.yl_indentation.specs.Facts.{indent_facts}
-use Rattle.yl_layout.specs.Lexemes.{lexeme_findings}
+use Rattle.yl_lexeme_rules.specs.Lexemes.{lexeme_findings}
 use Rattle.yl_config.specs.declared.config.Config.{Config}
 use Rattle.yl_record.specs.Records.{RecordValue}
 use Rattle.yl_sections.specs.declared.comments.CommentReader.{CommentReader}

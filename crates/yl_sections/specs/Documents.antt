@@ -1,8 +1,8 @@
 -- Meaning: a law: the documents of a text are those of its sections.
 use Rattle.std.specs.Prelude.{◌≡◌, ℕ, List, [], ◌∷◌, ◌+◌, map, length}
 use Rattle.yl_lexeme.specs.Lexeme.{LexemeValue}
-use Rattle.yl_documents.specs.TextReading.{reading_of}
-use Rattle.yl_documents.specs.TextDocuments.{documents_of}
+use Rattle.yl_config.specs.TextReading.{reading_of}
+use Rattle.yl_config.specs.TextDocuments.{documents_of}
 use Rattle.yl_record.specs.Records.{RecordValue, records}
 use Rattle.yl_sections.specs.Sections.{sections, lexemes_of}
 

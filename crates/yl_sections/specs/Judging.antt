@@ -13,9 +13,9 @@ use Rattle.yl_events.specs.Faults as parse
 use Rattle.yl_events.specs.Named.{IsInLine, OnlyInnermostWaits, waiting_anchor}
 use Rattle.yl_events.specs.Seen.{IsAnchorOf, LineValue, WaitingAnchorValue, start_seen, value_seen}
 use Rattle.yl_events.specs.SymbolParsing.{outcome_of_symbols}
-use Rattle.yl_layout.specs.Lexemes.{lexeme_findings}
-use Rattle.yl_layout.specs.LexemesLeft.{IsVersion, lexemes_left}
-use Rattle.yl_layout.specs.Version.{is_1_2_document}
+use Rattle.yl_lexeme_rules.specs.Lexemes.{lexeme_findings}
+use Rattle.yl_lexeme_rules.specs.LexemesLeft.{IsVersion, lexemes_left}
+use Rattle.yl_lexeme_rules.specs.Version.{is_1_2_document}
 use Rattle.yl_indentation.specs.Facts.{indent_facts}
 use Rattle.yl_indentation.specs.LineFacts.{BeginElsewhere}
 use Rattle.yl_indentation.specs.SymbolFacts.{facts_left}

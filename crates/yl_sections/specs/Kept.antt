@@ -21,8 +21,8 @@ use Rattle.yl_events.specs.declared.fault.PlacedParseFault.{PlacedParseFault}
 use Rattle.yl_events.specs.Event.{EventValue}
 use Rattle.yl_events.specs.Built.{Builds}
 use Rattle.yl_events.specs.Faults as parse
-use Rattle.yl_layout.specs.declared.options.LexemeOptions.{LexemeOptions}
-use Rattle.yl_layout.specs.Lexemes.{lexeme_findings}
+use Rattle.yl_lexeme_rules.specs.declared.options.LexemeOptions.{LexemeOptions}
+use Rattle.yl_lexeme_rules.specs.Lexemes.{lexeme_findings}
 use Rattle.yl_indentation.specs.declared.fact.Fact.{Fact}
 use Rattle.yl_indentation.specs.Facts.{indent_facts}
 use Rattle.yl_tree.specs.declared.options.TreeOptions.{TreeOptions}

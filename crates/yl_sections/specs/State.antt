@@ -6,9 +6,9 @@ use Rattle.yl_events.specs.State.{parser_state}
 use Rattle.yl_events.specs.SymbolParsing.{SymbolParserValue, symbols_at_start}
 use Rattle.yl_indentation.specs.Context.{nothing_open}
 use Rattle.yl_indentation.specs.FactsAlike.{ContextState, context_state}
-use Rattle.yl_layout.specs.declared.state.LexemeRulesState.{LexemeRulesState}
-use Rattle.yl_layout.specs.LexemesAlike.{is_settled, lexemes_state}
-use Rattle.yl_layout.specs.LexemesLeft.{none_read}
+use Rattle.yl_lexeme_rules.specs.declared.state.LexemeRulesState.{LexemeRulesState}
+use Rattle.yl_lexeme_rules.specs.LexemesAlike.{is_settled, lexemes_state}
+use Rattle.yl_lexeme_rules.specs.LexemesLeft.{none_read}
 
 -- the marker's, the parser's, that of the rule indentation, and that of the rules on lexemes
 pub record DocumentState : Type 0 where

@@ -5,7 +5,7 @@ ghost use Rattle.yl_marks.specs.Keys.{lexeme_at_line};
 ghost use Rattle.yl_marks.specs.Marks.{closings_of_all};
 ghost use Rattle.yl_events.specs.Parsing.{IsOutcome};
 ghost use Rattle.yl_events.specs.SymbolParsing.{outcome_of_symbols};
-ghost use Rattle.yl_layout.specs.LexemesLeft.{lexemes_left};
+ghost use Rattle.yl_lexeme_rules.specs.LexemesLeft.{lexemes_left};
 ghost use Rattle.yl_sections.specs.JudgedRow.{GoesOn, IsAtStart, JudgesRow, state_behind};
 ghost use Rattle.yl_sections.specs.Reading.{counted_in};
 ghost use Rattle.yl_sections.specs.RowReading.{IsCounted};
@@ -19,8 +19,8 @@ use std::mem;
 use yl_config::Config;
 use yl_events::PlacedParseFault;
 use yl_indentation::{Fact, FactReader};
-use yl_layout::LexemeOptions;
 use yl_lexeme::Meter;
+use yl_lexeme_rules::LexemeOptions;
 use yl_marks::RowLexemes;
 use yl_text::Finding;
 

@@ -3,15 +3,15 @@ ghost use Rattle.std.specs.Prelude.{◌≡◌, ◌≤◌, ◌++◌, ◌&&◌, []
 ghost use Rattle.yl_lexeme.specs.Lexeme.{LexemeValue};
 ghost use Rattle.yl_marks.specs.declared.facts.KeyFacts.{KeyFacts};
 ghost use Rattle.yl_marks.specs.Keys.{lexeme_at_line};
-ghost use Rattle.yl_layout.specs.LexemesAlike as alike;
-ghost use Rattle.yl_layout.specs.LexemesAlike.{after_lexemes, is_settled, lexemes_state};
-ghost use Rattle.yl_layout.specs.LexemesLeft.{IsVersion, lexemes_left, none_read};
+ghost use Rattle.yl_lexeme_rules.specs.LexemesAlike as alike;
+ghost use Rattle.yl_lexeme_rules.specs.LexemesAlike.{after_lexemes, is_settled, lexemes_state};
+ghost use Rattle.yl_lexeme_rules.specs.LexemesLeft.{IsVersion, lexemes_left, none_read};
 ghost use Rattle.yl_sections.specs.Directives.{are_directives};
 
 use std::alloc::{AllocError, Allocator};
 use std::marker::Model;
-use yl_layout::{LexemeOptions, LexemeRules, LexemeRulesState};
 use yl_lexeme::{Kind, Lexeme};
+use yl_lexeme_rules::{LexemeOptions, LexemeRules, LexemeRulesState};
 use yl_marks::{KeyFacts, RowLexemes};
 use yl_text::Finding;
 
@@ -73,7 +73,7 @@ pub struct RulesState {
 
 impl Model for RulesState {
     ghost use Rattle.std.specs.Prelude.{◌≡◌};
-    ghost use Rattle.yl_layout.specs.declared.state.LexemeRulesState.{LexemeRulesState};
+    ghost use Rattle.yl_lexeme_rules.specs.declared.state.LexemeRulesState.{LexemeRulesState};
 
     ghost Value = { LexemeRulesState };
 
@@ -110,7 +110,7 @@ pub struct RowRules {
 
 impl Model for RowRules {
     ghost use Rattle.std.specs.Prelude.{◌≡◌};
-    ghost use Rattle.yl_layout.specs.LexemesLeft.{LexemesRead};
+    ghost use Rattle.yl_lexeme_rules.specs.LexemesLeft.{LexemesRead};
 
     ghost Value = { LexemesRead };
 

@@ -6,8 +6,8 @@ ghost use Rattle.yl_sections.specs.Kept.{is_on, lexeme_options_of, shown_comment
 
 use std::alloc::{AllocError, Allocator};
 use yl_config::Config;
-use yl_layout::LexemeOptions;
 use yl_lexeme::PlacedComment;
+use yl_lexeme_rules::LexemeOptions;
 use yl_rules::comment_problems;
 use yl_text::{Finding, RuleId};
 use yl_tree::TreeOptions;

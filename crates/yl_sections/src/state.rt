@@ -43,6 +43,13 @@ impl<A: Allocator> DocumentState<A> {
             && self.lexemes.is_same(&other.lexemes)
     }
 
+    /// Returns what the parser holds.
+    pub fn parser(&self) -> &SymbolParserState<A>
+        ensures { result.now ≡ self.now.parser }
+    {
+        &self.parser
+    }
+
     /// Returns whether rows may begin a piece after this state: the latest lexeme is no opening
     /// bracket, and the directives have ended.
     pub fn is_border(&self) -> bool

@@ -13,7 +13,7 @@ use Rattle.yl_sections.specs.Sections.{sections}
 use Rattle.yl_config.specs.declared.config.Config.{Config}
 use Rattle.yl_rejudge.specs.Places.{rows_kept}
 use Rattle.yl_rejudge.proofs.SectionsEdited.{count_kept, few_sections, rows_of_kept}
-use Rattle.yl_overview.specs.Overview.{AreFew}
+use Rattle.yl_summary.specs.Overview.{AreFew}
 use Rattle.yl_lint.proofs.FewLines.{few_lines}
 
 -- a record a line

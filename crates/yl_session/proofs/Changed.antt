@@ -6,7 +6,7 @@ use Rattle.yl_sections.specs.Kept.{KeptValue}
 use Rattle.yl_rejudge.proofs.Same.{splice_same}
 use Rattle.yl_text.specs.Lines.{RowValue}
 use Rattle.yl_rejudge.specs.Places.{rows_kept}
-use Rattle.yl_overview.specs.declared.edit.SectionEdit.{SectionEdit}
+use Rattle.yl_summary.specs.declared.edit.SectionEdit.{SectionEdit}
 use Rattle.yl_patch.specs.Cut.{IsApart}
 use Rattle.yl_session.specs.Touched.{IsEditOf, IsTouching, touched_by, touched_end}
 

@@ -19,14 +19,14 @@ use Rattle.yl_rejudge.specs.Places.{rows_kept}
 use Rattle.yl_lint.specs.TextReport.{comments_in_sections, fault_in_sections, findings_in_lines, first_text, report_by, shown}
 use Rattle.yl_lint.specs.Computed.{report}
 use Rattle.yl_lint.specs.Unsilenced.{unsilenced_of_kept}
-use Rattle.yl_overview.specs.Overview.{AreOverviews}
-use Rattle.yl_overview.specs.declared.overview.Overview.{Overview}
-use Rattle.yl_parting.specs.Parts.{PartsValue, parted, with_fault, without_fault}
-use Rattle.yl_parting.specs.Changes.{patch_in, patched}
-use Rattle.yl_parting.specs.Rooms.{IsReadyFor}
-use Rattle.yl_parting.specs.declared.change.Change.TheVariants.{Patch, Stay}
-use Rattle.yl_parting.specs.declared.change.LinesPatch.{LinesPatch}
-use Rattle.yl_parting.specs.Showing.{shows}
+use Rattle.yl_summary.specs.Overview.{AreOverviews}
+use Rattle.yl_summary.specs.declared.overview.Overview.{Overview}
+use Rattle.yl_problem_lists.specs.Parts.{PartsValue, parted, with_fault, without_fault}
+use Rattle.yl_problem_lists.specs.Changes.{patch_in, patched}
+use Rattle.yl_problem_lists.specs.Rooms.{IsReadyFor}
+use Rattle.yl_problem_lists.specs.declared.change.Change.TheVariants.{Patch, Stay}
+use Rattle.yl_problem_lists.specs.declared.change.LinesPatch.{LinesPatch}
+use Rattle.yl_problem_lists.specs.Showing.{shows}
 use Rattle.yl_found.specs.Faultless.{faultless}
 use Rattle.yl_found.specs.Found.{all_parts}
 use Rattle.yl_found.proofs.ReportShown.{report_shown}

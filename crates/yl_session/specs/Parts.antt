@@ -3,9 +3,9 @@ use Rattle.std.specs.Prelude.{◌≡◌, List}
 use Rattle.yl_text.specs.Lines.{RowValue}
 use Rattle.yl_config.specs.declared.config.Config.{Config}
 use Rattle.yl_sections.specs.Kept.{KeptValue}
-use Rattle.yl_parting.specs.Changes.{renewed}
-use Rattle.yl_parting.specs.Rooms.{IsReady}
-use Rattle.yl_parting.specs.declared.change.Change.{Change}
+use Rattle.yl_problem_lists.specs.Changes.{renewed}
+use Rattle.yl_problem_lists.specs.Rooms.{IsReady}
+use Rattle.yl_problem_lists.specs.declared.change.Change.{Change}
 use Rattle.yl_found.specs.Found.{all_parts}
 
 -- the change can be made of the two lists of these lines and summaries of sections, and makes them

@@ -4,7 +4,7 @@ use Rattle.std.specs.Prelude.{◌≡◌, ◌<◌, ◌+◌, ℕ, List, [], ◌∷
 use Rattle.yl_text.specs.Lines.{RowValue}
 use Rattle.yl_sections.specs.Kept.{KeptValue}
 use Rattle.yl_rejudge.specs.Places.{rows_kept}
-use Rattle.yl_overview.specs.declared.edit.SectionEdit.{SectionEdit}
+use Rattle.yl_summary.specs.declared.edit.SectionEdit.{SectionEdit}
 use Rattle.yl_patch.specs.Cut.{IsApart}
 
 -- the index after that of the last touched section: the one after `from` if no summaries are put

@@ -3,8 +3,8 @@ ghost use Rattle.std.specs.Prelude.{◌≡◌, IfOk};
 ghost use Rattle.yl_text.specs.Store.{AreLines};
 ghost use Rattle.yl_lint.specs.TextReport.{records_of};
 ghost use Rattle.yl_lint.specs.Computed.{kept_of_text};
-ghost use Rattle.yl_parting.specs.Changes.{parts_in};
-ghost use Rattle.yl_overview.specs.Overview.{AreOverviews};
+ghost use Rattle.yl_problem_lists.specs.Changes.{parts_in};
+ghost use Rattle.yl_summary.specs.Overview.{AreOverviews};
 ghost use Rattle.yl_found.specs.Found.{all_parts};
 
 use crate::reading::{in_chunks, read};
@@ -13,9 +13,9 @@ use std::alloc::{AllocError, Allocator};
 use yl_chunks::Chunks;
 use yl_config::Config;
 use yl_found::found_problems;
-use yl_overview::Survey;
-use yl_parting::FoundProblems;
+use yl_problem_lists::FoundProblems;
 use yl_record::Record;
+use yl_summary::Survey;
 use yl_text::LineStore;
 
 /// The records of a text, the summaries of its sections, and all findings in it.

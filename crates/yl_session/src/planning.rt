@@ -6,10 +6,10 @@ ghost use Rattle.yl_record.specs.Records.{characters_in};
 ghost use Rattle.yl_sections.specs.Judge.{kept_of_section};
 ghost use Rattle.yl_sections.specs.Sections.{sections};
 ghost use Rattle.yl_rescan.specs.Held.{AreHeld};
-ghost use Rattle.yl_parting.specs.Changes.{parts_in};
-ghost use Rattle.yl_parting.specs.Rooms.{HasRoom};
+ghost use Rattle.yl_problem_lists.specs.Changes.{parts_in};
+ghost use Rattle.yl_problem_lists.specs.Rooms.{HasRoom};
 ghost use Rattle.yl_lint.specs.Edit.{IsTextEdit};
-ghost use Rattle.yl_overview.specs.Overview.{AreOverviews};
+ghost use Rattle.yl_summary.specs.Overview.{AreOverviews};
 ghost use Rattle.yl_session.specs.Known.{AreOverviewsAfter};
 ghost use Rattle.yl_session.specs.Parts.{Makes};
 ghost use Rattle.yl_session.specs.Work.{IsWork};
@@ -22,12 +22,12 @@ use yl_chunks::{Chunks, Spliced};
 use yl_config::Config;
 use yl_lexeme::Meter;
 use yl_lint::TextEdit;
-use yl_overview::nearest;
-use yl_parting::{FoundProblems, Spare};
+use yl_problem_lists::{FoundProblems, Spare};
 use yl_record::Record;
 use yl_rejudge::{Rejudged, rejudge};
 use yl_rescan::{Rescanned, rescan};
 use yl_sections::Kept;
+use yl_summary::nearest;
 use yl_text::LineStore;
 
 /// What an edit changes: the records of some rows, the summaries of some sections, the overviews,

@@ -2,8 +2,8 @@
 ghost use Rattle.std.specs.Prelude.{◌≡◌, ◌<◌, true, [], length, IfOk, MatchOption};
 ghost use Rattle.std.specs.List.{AllByRecursion, splice};
 ghost use Rattle.yl_text.specs.Store.{IsRange};
-ghost use Rattle.yl_overview.specs.Edit.{IsSectionEdit};
-ghost use Rattle.yl_overview.specs.Overview.{AreFew, AreOverviews};
+ghost use Rattle.yl_summary.specs.Edit.{IsSectionEdit};
+ghost use Rattle.yl_summary.specs.Overview.{AreFew, AreOverviews};
 ghost use Rattle.yl_lint.specs.Edit.{IsTextEdit};
 ghost use Rattle.yl_found.specs.Faultless.{faultless};
 ghost use Rattle.yl_found.specs.Plain.{IsPlain};
@@ -15,10 +15,10 @@ use crate::sections::KnownSections;
 use std::alloc::{AllocError, Allocator};
 use yl_config::Config;
 use yl_lint::{TextEdit, reads_alike};
-use yl_overview::{Overview, SectionEdit};
-use yl_parting::Change;
 use yl_patch::patched_problems;
+use yl_problem_lists::Change;
 use yl_rejudge::Rejudged;
+use yl_summary::{Overview, SectionEdit};
 use yl_text::LineStore;
 
 /// The change of the problems of a text, and new overviews of its sections if they change.

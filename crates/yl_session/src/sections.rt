@@ -1,14 +1,14 @@
 //! The summaries of the sections of a text and their overviews.
 ghost use Rattle.std.specs.Prelude.{◌≡◌, Some, vec_len, IfOk};
 ghost use Rattle.std.specs.List.{splice};
-ghost use Rattle.yl_overview.specs.Overview.{AreFew, AreOverviews};
+ghost use Rattle.yl_summary.specs.Overview.{AreFew, AreOverviews};
 ghost use Rattle.yl_session.specs.Known.{AreOverviewsAfter};
 
 use std::alloc::{AllocError, Allocator};
 use yl_chunks::Chunks;
-use yl_overview::{Overview, overviews_of};
 use yl_rejudge::Rejudged;
 use yl_sections::Kept;
+use yl_summary::{Overview, overviews_of};
 
 /// The summaries of the sections of a text, and the overviews, each of several sections.
 #[derive(Drop)]

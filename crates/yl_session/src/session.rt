@@ -21,7 +21,7 @@ use std::marker::Model;
 use yl_chunks::Chunks;
 use yl_config::Config;
 use yl_lint::{TextEdit, one_report};
-use yl_parting::FoundProblems;
+use yl_problem_lists::FoundProblems;
 use yl_record::Record;
 use yl_report::{Problem, status};
 use yl_text::{LineStore, Lines, Pos, Row, TextFault, are_one_place, line_edit, split};
@@ -53,9 +53,9 @@ impl<S: LineStore> Model for Session<S> {
     ghost use Rattle.yl_sections.specs.Sections.{sections};
     ghost use Rattle.yl_rescan.specs.Held.{AreHeld};
     ghost use Rattle.yl_lint.specs.Computed.{report};
-    ghost use Rattle.yl_parting.specs.Changes.{parts_in};
+    ghost use Rattle.yl_problem_lists.specs.Changes.{parts_in};
     ghost use Rattle.yl_found.specs.Found.{all_parts};
-    ghost use Rattle.yl_overview.specs.Overview.{AreOverviews};
+    ghost use Rattle.yl_summary.specs.Overview.{AreOverviews};
     ghost use Rattle.yl_text.specs.Store.{AreLines};
 
     ghost Value = { SessionValue };

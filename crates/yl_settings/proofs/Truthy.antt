@@ -1,8 +1,8 @@
 -- The truthy words of a sequence, one by one.
 use Rattle.std.proofs.Common.{◌≡◌, ℕ, suc, ◌+◌, ◌<◌, Bool, true, false, List, [], ◌∷◌, Option, Some, length, bytes_eq, if◌then◌else◌, sym, ap, arith}
-use Rattle.yl_layout.specs.declared.truthy.TruthyWords.{TruthyWords}
+use Rattle.yl_lexeme_rules.specs.declared.truthy.TruthyWords.{TruthyWords}
 use Rattle.std.specs.List.{position_from}
-use Rattle.yl_layout.specs.Truthy.{truthy_index, truthy_words}
+use Rattle.yl_lexeme_rules.specs.Truthy.{truthy_index, truthy_words}
 use Rattle.yl_text.specs.declared.position.Pos.{Pos}
 use Rattle.yl_events.specs.Event.{EventKindValue}
 use Rattle.yl_settings.specs.Nodes.{Nodes, NoNode, Node}

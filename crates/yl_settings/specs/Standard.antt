@@ -1,8 +1,8 @@
 -- Meaning: the options of yamllint's default configuration.
 use Rattle.std.specs.Prelude.{true, false, Some}
 use Rattle.yl_rules.specs.declared.new_lines.NewLine.TheVariants.{Unix}
-use Rattle.yl_layout.specs.declared.quoted_strings.QuoteType.TheVariants.{Any}
-use Rattle.yl_layout.specs.Standard.{standard_brackets, standard_truthy}
+use Rattle.yl_lexeme_rules.specs.declared.quoted_strings.QuoteType.TheVariants.{Any}
+use Rattle.yl_lexeme_rules.specs.Standard.{standard_brackets, standard_truthy}
 use Rattle.yl_indentation.specs.declared.options.Spaces.TheVariants.{Consistent}
 use Rattle.yl_indentation.specs.declared.options.IndentSequences.TheVariants.{Indented}
 use Rattle.yl_settings.specs.declared.options.RuleOptions.{RuleOptions}

@@ -4,12 +4,12 @@ use Rattle.yl_rules.specs.declared.level.Level.{Level}
 use Rattle.yl_rules.specs.declared.level.Level.TheVariants.{Error, Warning}
 use Rattle.yl_rules.specs.declared.new_lines.NewLine.{NewLine}
 use Rattle.yl_rules.specs.declared.new_lines.NewLine.TheVariants.{Unix, Dos}
-use Rattle.yl_layout.specs.declared.brackets.Forbid.{Forbid}
-use Rattle.yl_layout.specs.declared.brackets.Forbid.TheVariants.{Nothing, NonEmpty, Everything}
-use Rattle.yl_layout.specs.declared.quoted_strings.QuoteType.{QuoteType}
-use Rattle.yl_layout.specs.declared.quoted_strings.QuoteType.TheVariants.{Any, Single, Double}
-use Rattle.yl_layout.specs.declared.truthy.TruthyWords.{TruthyWords}
-use Rattle.yl_layout.specs.Truthy.{truthy_index}
+use Rattle.yl_lexeme_rules.specs.declared.brackets.Forbid.{Forbid}
+use Rattle.yl_lexeme_rules.specs.declared.brackets.Forbid.TheVariants.{Nothing, NonEmpty, Everything}
+use Rattle.yl_lexeme_rules.specs.declared.quoted_strings.QuoteType.{QuoteType}
+use Rattle.yl_lexeme_rules.specs.declared.quoted_strings.QuoteType.TheVariants.{Any, Single, Double}
+use Rattle.yl_lexeme_rules.specs.declared.truthy.TruthyWords.{TruthyWords}
+use Rattle.yl_lexeme_rules.specs.Truthy.{truthy_index}
 use Rattle.yl_indentation.specs.declared.options.Spaces.{Spaces}
 use Rattle.yl_indentation.specs.declared.options.Spaces.TheVariants as spaces
 use Rattle.yl_indentation.specs.declared.options.IndentSequences.{IndentSequences}

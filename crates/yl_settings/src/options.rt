@@ -3,7 +3,7 @@ ghost use Rattle.std.specs.Prelude.{◌≡◌};
 ghost use Rattle.yl_settings.specs.Standard.{standard_rule_options};
 
 use yl_indentation::IndentationOptions;
-use yl_layout::{
+use yl_lexeme_rules::{
     BracketsOptions, ColonsOptions, CommasOptions, DocumentStartOptions, HyphensOptions,
     QuotedStringsOptions, TruthyOptions,
 };

@@ -11,7 +11,7 @@ use crate::values::{
 };
 use yl_events::Event;
 use yl_indentation::IndentationOptions;
-use yl_layout::{
+use yl_lexeme_rules::{
     BracketsOptions, ColonsOptions, CommasOptions, DocumentStartOptions, HyphensOptions,
     QuotedStringsOptions, TruthyOptions,
 };

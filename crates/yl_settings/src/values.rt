@@ -4,13 +4,13 @@ ghost use Rattle.yl_events.specs.Event.{kind_value};
 ghost use Rattle.yl_settings.specs.Item.{item_value};
 ghost use Rattle.yl_settings.specs.Values.{flag_in, forbid_in, level_in, limit_in, new_line_in, no_in, number_in, quote_type_in, sequences_in, spaces_in, truthy_in, with_word};
 ghost use Rattle.yl_settings.specs.Words.{word};
-ghost use Rattle.yl_layout.specs.Truthy.{truthy_index};
+ghost use Rattle.yl_lexeme_rules.specs.Truthy.{truthy_index};
 
 use crate::node::{Item, first_item, starts_sequence};
 use crate::words;
 use yl_events::{Event, EventKind};
 use yl_indentation::{IndentSequences, Spaces};
-use yl_layout::{Forbid, QuoteType, TruthyWords};
+use yl_lexeme_rules::{Forbid, QuoteType, TruthyWords};
 use yl_rules::{Level, NewLine};
 
 /// Returns the truth value that a plain scalar denotes, or `None` if it denotes none.

@@ -13,3 +13,4 @@ pub mod Special
 pub mod Split
 pub mod Store
 pub mod Watched
+pub mod InlineString

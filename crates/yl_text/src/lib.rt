@@ -1,5 +1,5 @@
 //! The lines of a text: rows, stores of rows, edits and findings. Also readers and writers that
-//! count their failures.
+//! count their failures, and strings that can store a short text in the value itself.
 #![tactic(auto)]
 
 ghost use Rattle.yl_text.specs.Edit.{EditHasOneFault, EditHasNoFaultBeside, EditHasFaultOrNone};
@@ -12,6 +12,7 @@ mod device;
 mod edit;
 mod fault;
 mod finding;
+mod inline_string;
 mod patched;
 mod places;
 mod plain_store;
@@ -27,6 +28,7 @@ pub use device::Watched;
 pub use edit::bytes_between;
 pub use fault::TextFault;
 pub use finding::{Finding, RuleId};
+pub use inline_string::{InlineString, ShortText, Storage};
 pub use patched::Patched;
 pub use places::{LineEdit, are_one_place, line_edit};
 pub use plain_store::{PlainStore, bytes_of, put_between};

@@ -1,7 +1,7 @@
 use Rattle.std.proofs.Common.{◌+◌, List, [], ◌∷◌, ◌++◌, append-nil, map, drop, ap, arith, subst, sym, ◌∙◌}
 use Rattle.yl_lexeme.specs.PlacedComments.{placed_comment_value}
-use Rattle.yl_overview.specs.Overview.{AreOverviews}
-use Rattle.yl_overview.specs.declared.overview.Overview.{Overview}
+use Rattle.yl_summary.specs.Overview.{AreOverviews}
+use Rattle.yl_summary.specs.declared.overview.Overview.{Overview}
 use Rattle.yl_found.proofs.Gathering.{all_said, behind, head_of, none_gathered, none_said, tail_of}
 use Rattle.yl_found.proofs.comments.comments_upto.Goals as goal
 

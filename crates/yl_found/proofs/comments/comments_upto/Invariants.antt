@@ -1,5 +1,5 @@
 use Rattle.std.proofs.Common.{[], ◌∷◌, ◌++◌, drop}
-use Rattle.yl_overview.specs.Overview.{AreOverviews}
+use Rattle.yl_summary.specs.Overview.{AreOverviews}
 use Rattle.yl_found.specs.Gathered.{IsGathered}
 use Rattle.yl_found.proofs.comments.comments_upto.Given as goal
 

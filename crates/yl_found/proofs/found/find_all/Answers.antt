@@ -9,7 +9,7 @@ use Rattle.yl_report.specs.Silence.{is_file_silenced_by, is_silenced_at}
 use Rattle.yl_lint.specs.TextReport.{findings_in_lines, findings_in_sections}
 use Rattle.yl_found.proofs.FaultFound.{found_all, told_as}
 use Rattle.yl_found.proofs.Given.{then_ok}
-use Rattle.yl_overview.proofs.Walks.{measured}
+use Rattle.yl_summary.proofs.Walks.{measured}
 use Rattle.yl_found.proofs.found.find_all.Goals as goal
 
 pub returns : goal.returns

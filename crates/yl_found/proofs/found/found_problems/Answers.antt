@@ -1,7 +1,7 @@
 use Rattle.std.proofs.Common.{◌∙◌, ap, arith, List}
 use Rattle.std.specs.Prelude.{Bool, Option}
 use Rattle.yl_report.specs.Report.{ProblemValue}
-use Rattle.yl_parting.specs.Parts.{PartsValue, parted, with_fault}
+use Rattle.yl_problem_lists.specs.Parts.{PartsValue, parted, with_fault}
 use Rattle.yl_found.specs.Found.{is_shown, parts_of}
 use Rattle.yl_found.proofs.Shows.{upto_all}
 use Rattle.yl_found.proofs.found.found_problems.Goals as goal

@@ -4,7 +4,7 @@ use Rattle.yl_rules.specs.LevelOf.{level_of}
 use Rattle.yl_config.specs.Config.{levels_of}
 use Rattle.yl_report.specs.Report.{ProblemValue}
 use Rattle.yl_report.specs.Silence.{is_file_silenced_by, is_silenced_at}
-use Rattle.yl_parting.specs.Parts.{parted}
+use Rattle.yl_problem_lists.specs.Parts.{parted}
 use Rattle.yl_found.specs.ShownUpto.{is_shown_upto}
 use Rattle.yl_found.proofs.FaultFound.{told_as}
 use Rattle.yl_found.proofs.Given.{then_ok}

@@ -6,13 +6,13 @@ use Rattle.yl_text.specs.Lines.{RowValue}
 use Rattle.yl_config.specs.Config.{levels_of, options_of}
 use Rattle.yl_report.specs.Heard.{nothing_silenced}
 use Rattle.yl_report.specs.Report.{report_of}
-use Rattle.yl_parting.specs.Changes.{patch_in}
-use Rattle.yl_parting.specs.Parts.{PartsValue, parted}
+use Rattle.yl_problem_lists.specs.Changes.{patch_in}
+use Rattle.yl_problem_lists.specs.Parts.{PartsValue, parted}
 use Rattle.yl_sections.specs.Kept.{KeptValue}
 use Rattle.yl_found.specs.Found.{fault_told}
 use Rattle.yl_found.specs.ShownUpto.{is_shown_upto}
 use Rattle.yl_found.proofs.FaultFound.{told_none}
-use Rattle.yl_overview.proofs.Whole.{none_first}
+use Rattle.yl_summary.proofs.Whole.{none_first}
 use Rattle.yl_lint.proofs.FewLines.{few_lines}
 use Rattle.yl_patch.proofs.PatchReady.{ready_for}
 use Rattle.yl_patch.proofs.SeenPatch.{says_indentation, seen_patch}
@@ -20,10 +20,10 @@ use Rattle.yl_patch.proofs.ShownBy.{below_says, told_in, told_where}
 use Rattle.yl_found.proofs.WithoutFaults.{all_below}
 use Rattle.yl_patch.proofs.Again.{indentation_told, judged_ready}
 use Rattle.yl_patch.specs.Seen.{AreFoundAlike, measure_upto, sections_between}
-use Rattle.yl_parting.specs.Showing.{is_shown_by}
+use Rattle.yl_problem_lists.specs.Showing.{is_shown_by}
 use Rattle.yl_rejudge.specs.Places.{rows_kept}
-use Rattle.yl_overview.proofs.Walks.{rows_both}
-use Rattle.yl_parting.proofs.Lines.{part}
+use Rattle.yl_summary.proofs.Walks.{rows_both}
+use Rattle.yl_problem_lists.proofs.Lines.{part}
 use Rattle.yl_patch.proofs.patching.patched_problems.Goals as goal
 
 pub returns-clause-ready : goal.returns-clause-ready

@@ -1,5 +1,5 @@
 use Rattle.std.proofs.Common.{◌++◌, take, drop, arith}
-use Rattle.yl_overview.proofs.Walks.{rows_both, rows_until}
+use Rattle.yl_summary.proofs.Walks.{rows_both, rows_until}
 use Rattle.yl_rejudge.proofs.KeptRows.{rows_front}
 use Rattle.yl_patch.proofs.touched.find_touched.Goals as goal
 

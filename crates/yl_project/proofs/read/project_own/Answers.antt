@@ -2,7 +2,7 @@ use Rattle.std.proofs.Common.{◌≡◌, List, Option, IfOk, map, subst}
 use Rattle.yl_text.specs.declared.position.Pos.{Pos}
 use Rattle.yl_text.specs.Lines.{lines_of}
 use Rattle.yl_events.specs.Event.{EventValue}
-use Rattle.yl_documents.specs.TextDocuments.{BuiltDocumentValue}
+use Rattle.yl_config.specs.TextDocuments.{BuiltDocumentValue}
 use Rattle.yl_project.specs.Answered.{project_answer, project_value}
 use Rattle.yl_project.specs.Outcome.{own_events, projecting, told_of, told_own}
 use Rattle.yl_project.proofs.read.project_own.Goals as goal

@@ -6,9 +6,9 @@ use Rattle.yl_config.specs.declared.fault.ConfigFault.{ConfigFault}
 use Rattle.yl_config.specs.declared.fault.ConfigFault.TheVariants.{Syntax}
 use Rattle.yl_config.specs.declared.fault.FaultPlace.{FaultPlace}
 use Rattle.yl_config.specs.Outcome.{from_own}
-use Rattle.yl_documents.specs.Syntax.{text_fault}
-use Rattle.yl_documents.specs.TextDocuments.{AreBuilt, BuiltDocumentValue, documents_of}
-use Rattle.yl_documents.specs.TextReading.{reading_of}
+use Rattle.yl_config.specs.Syntax.{text_fault}
+use Rattle.yl_config.specs.TextDocuments.{AreBuilt, BuiltDocumentValue, documents_of}
+use Rattle.yl_config.specs.TextReading.{reading_of}
 use Rattle.yl_project.specs.Answered.{project_answer, project_value}
 use Rattle.yl_project.specs.Outcome.{projecting, told_own, told_unless}
 use Rattle.yl_project.specs.Said.{ProjectValue}

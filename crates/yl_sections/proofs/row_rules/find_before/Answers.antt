@@ -3,7 +3,7 @@ use Rattle.std.proofs.lemmas.List.{take-append-drop}
 use Rattle.yl_lexeme.specs.Lexeme.{LexemeValue}
 use Rattle.yl_marks.specs.declared.facts.KeyFacts.{KeyFacts}
 use Rattle.yl_marks.specs.Keys.{lexeme_at_line}
-use Rattle.yl_layout.specs.LexemesLeft.{IsVersion, lexemes_left}
+use Rattle.yl_lexeme_rules.specs.LexemesLeft.{IsVersion, lexemes_left}
 use Rattle.yl_sections.proofs.Lines.{front_mapped, on_ok}
 use Rattle.yl_sections.proofs.row_rules.find_before.Goals as goal
 

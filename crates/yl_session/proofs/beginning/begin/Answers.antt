@@ -1,7 +1,7 @@
 use Rattle.std.proofs.Common.{List, None, ap, refl, subst, sym, ◌∙◌}
 use Rattle.yl_lint.specs.TextReport.{records_of}
-use Rattle.yl_overview.specs.Overview.{AreOverviews}
-use Rattle.yl_overview.specs.declared.overview.Overview.{Overview}
+use Rattle.yl_summary.specs.Overview.{AreOverviews}
+use Rattle.yl_summary.specs.declared.overview.Overview.{Overview}
 use Rattle.yl_found.specs.Found.{all_parts}
 use Rattle.yl_session.proofs.Bounds.{are_few}
 use Rattle.yl_session.proofs.beginning.begin.Goals as goal

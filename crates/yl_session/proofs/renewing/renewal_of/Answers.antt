@@ -1,10 +1,10 @@
 use Rattle.std.proofs.Common.{◌≡◌, ◌∙◌, List, ap, subst, sym}
 use Rattle.std.specs.List.{AllByRecursion, splice}
 use Rattle.yl_sections.specs.Kept.{KeptValue}
-use Rattle.yl_overview.specs.Overview.{AreOverviews}
+use Rattle.yl_summary.specs.Overview.{AreOverviews}
 use Rattle.yl_found.specs.Faultless.{faultless}
 use Rattle.yl_found.specs.Plain.{IsPlain}
-use Rattle.yl_parting.specs.declared.change.Change.TheVariants.{Patch}
+use Rattle.yl_problem_lists.specs.declared.change.Change.TheVariants.{Patch}
 use Rattle.yl_session.specs.Parts.{Makes}
 use Rattle.yl_session.proofs.Parts.{known_after, patches, stays}
 use Rattle.yl_session.proofs.Changed.{apart_of}

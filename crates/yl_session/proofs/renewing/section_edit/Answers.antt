@@ -2,7 +2,7 @@ use Rattle.std.proofs.Common.{◌≡◌, List, [], arith, sym, subst, ◌∙◌}
 use Rattle.std.specs.Vec.{vec_len}
 use Rattle.std.proofs.lemmas.Bool.{eqb-true}
 use Rattle.yl_sections.specs.Kept.{KeptValue}
-use Rattle.yl_overview.specs.Overview.{AreFew}
+use Rattle.yl_summary.specs.Overview.{AreFew}
 use Rattle.yl_session.proofs.Changed.{ends_one, ends_some, itself, no_items, touches_one, touches_some, were_some}
 use Rattle.yl_session.proofs.renewing.section_edit.Goals as goal
 

@@ -1,6 +1,6 @@
 use Rattle.std.proofs.Common.{◌≡◌, Option, Some, ap, sym, ◌∙◌}
 use Rattle.yl_events.specs.Event.{kind_value}
-use Rattle.yl_layout.specs.declared.truthy.TruthyWords.{TruthyWords}
+use Rattle.yl_lexeme_rules.specs.declared.truthy.TruthyWords.{TruthyWords}
 use Rattle.yl_settings.specs.Item.{nodes_at}
 use Rattle.yl_settings.specs.Nodes.{NoNode}
 use Rattle.yl_settings.specs.Values.{no_words, words_beside}

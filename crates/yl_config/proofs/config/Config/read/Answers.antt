@@ -4,7 +4,7 @@ use Rattle.yl_text.specs.Bounds.{AreFew, IsShort}
 use Rattle.yl_text.specs.Lines.{RowValue, IsLines}
 use Rattle.yl_text.proofs.Fitting.{lines_are_few, lines_are_short}
 use Rattle.yl_scan.specs.Step.{characters_of}
-use Rattle.yl_documents.specs.TextReading.{reading_of}
+use Rattle.yl_config.specs.TextReading.{reading_of}
 use Rattle.yl_config.specs.Answered.{settings_answer}
 use Rattle.yl_config.specs.Outcome.{Says}
 use Rattle.yl_config.proofs.Saying.{are_lines, no_utf8, said_of_rows}

@@ -3,7 +3,7 @@ use Rattle.yl_text.specs.Bounds.{AreFew, IsShort}
 use Rattle.yl_text.specs.Lines.{RowValue}
 use Rattle.yl_text.proofs.Fitting.{lines_are_few, lines_are_short}
 use Rattle.yl_scan.specs.Step.{characters_of}
-use Rattle.yl_documents.specs.TextReading.{reading_of}
+use Rattle.yl_config.specs.TextReading.{reading_of}
 use Rattle.yl_config.proofs.Saying.{are_lines, no_utf8}
 use Rattle.yl_project.specs.Outcome.{Says, naming}
 use Rattle.yl_project.proofs.Saying.{told_of_rows}

@@ -6,9 +6,9 @@ use Rattle.yl_marks.specs.ByLine.{by_line, marks_by_lines}
 use Rattle.yl_marks.specs.FactsByLine.{KeyMarkerValue, facts_by_lines}
 use Rattle.yl_marks.specs.Keys.{token_of}
 use Rattle.yl_events.specs.SymbolParsing.{outcome_of_symbols}
-use Rattle.yl_layout.specs.LexemesLeft.{IsVersion, LexemesRead, lexemes_left}
-use Rattle.yl_layout.specs.Version.{is_1_2_document}
-use Rattle.yl_layout.specs.Lexemes.{lexeme_findings}
+use Rattle.yl_lexeme_rules.specs.LexemesLeft.{IsVersion, LexemesRead, lexemes_left}
+use Rattle.yl_lexeme_rules.specs.Version.{is_1_2_document}
+use Rattle.yl_lexeme_rules.specs.Lexemes.{lexeme_findings}
 use Rattle.yl_sections.specs.Judge.{document_of}
 use Rattle.yl_sections.specs.Kept.{lexeme_options_of, tree_options_of}
 use Rattle.yl_sections.specs.Reading.{Gives}

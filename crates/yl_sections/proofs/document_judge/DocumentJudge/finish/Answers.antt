@@ -2,10 +2,10 @@ use Rattle.std.proofs.Common.{[], ◌≡◌, ◌∙◌, ◌+◌, ◌++◌, List,
 use Rattle.yl_text.specs.Finding.{FindingValue}
 use Rattle.yl_marks.specs.Keys.{token_of}
 use Rattle.yl_events.specs.Seen.{event_seen}
-use Rattle.yl_layout.specs.declared.options.LexemeOptions.{LexemeOptions}
-use Rattle.yl_layout.specs.Lexemes.{lexeme_findings}
-use Rattle.yl_layout.specs.LexemesLeft.{lexemes_left}
-use Rattle.yl_layout.specs.Version.{is_1_2_document}
+use Rattle.yl_lexeme_rules.specs.declared.options.LexemeOptions.{LexemeOptions}
+use Rattle.yl_lexeme_rules.specs.Lexemes.{lexeme_findings}
+use Rattle.yl_lexeme_rules.specs.LexemesLeft.{lexemes_left}
+use Rattle.yl_lexeme_rules.specs.Version.{is_1_2_document}
 use Rattle.yl_tree.specs.TreeRules.{Finds}
 use Rattle.yl_sections.specs.declared.row_judge.RowJudge.{RowJudge}
 use Rattle.yl_sections.specs.Kept.{lexeme_options_of}

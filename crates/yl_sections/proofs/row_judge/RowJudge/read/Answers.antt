@@ -4,7 +4,7 @@ use Rattle.std.proofs.lemmas.List.{length-map}
 use Rattle.yl_marks.specs.declared.facts.KeyFacts.{KeyFacts}
 use Rattle.yl_marks.specs.Keys.{lexeme_at_line, token_of}
 use Rattle.yl_events.specs.declared.fault.PlacedParseFault.{PlacedParseFault}
-use Rattle.yl_layout.specs.LexemesLeft.{lexemes_left}
+use Rattle.yl_lexeme_rules.specs.LexemesLeft.{lexemes_left}
 use Rattle.yl_sections.specs.JudgedRow.{keys_behind, marks_behind}
 use Rattle.yl_sections.specs.Reading.{counted_in}
 use Rattle.yl_sections.specs.RowReading.{ParsesFrom}

@@ -1,7 +1,7 @@
 use Rattle.std.proofs.Common.{◌≡◌, ◌++◌, map, subst, take}
 use Rattle.std.specs.Prelude.{OnOk}
 use Rattle.yl_marks.specs.Keys.{lexeme_at_line}
-use Rattle.yl_layout.specs.LexemesLeft.{IsVersion, LexemesRead, lexemes_left}
+use Rattle.yl_lexeme_rules.specs.LexemesLeft.{IsVersion, LexemesRead, lexemes_left}
 use Rattle.yl_sections.proofs.row_rules.RowRules.find_before.Goals as goal
 
 pub returns : goal.returns

@@ -1,6 +1,6 @@
 use Rattle.std.proofs.Common.{◌≡◌, ◌++◌, [], subst}
 use Rattle.std.specs.Prelude.{OnOk}
-use Rattle.yl_layout.specs.LexemesLeft.{LexemesRead, lexemes_left}
+use Rattle.yl_lexeme_rules.specs.LexemesLeft.{LexemesRead, lexemes_left}
 use Rattle.yl_sections.proofs.row_rules.RowRules.finish.Goals as goal
 
 pub returns : goal.returns

@@ -1,5 +1,5 @@
 use Rattle.std.proofs.Common.{◌∙◌, ◌&&◌, ap, sym}
-use Rattle.yl_layout.specs.LexemesLeft.{LexemesRead}
+use Rattle.yl_lexeme_rules.specs.LexemesLeft.{LexemesRead}
 use Rattle.yl_sections.specs.Directives.{are_directives}
 use Rattle.yl_sections.proofs.RowDirectives.{directives_after}
 use Rattle.yl_sections.proofs.row_rules.RowRules.read_row.Goals as goal

@@ -3,7 +3,7 @@ use Rattle.std.specs.Prelude.{option_map}
 use Rattle.yl_text.specs.Finding.{FindingValue}
 use Rattle.yl_text.specs.declared.finding.RuleId.TheVariants.{Indentation}
 use Rattle.yl_lexeme.specs.Lexeme.{PlacedCommentValue}
-use Rattle.yl_layout.specs.Lexemes.{lexeme_findings}
+use Rattle.yl_lexeme_rules.specs.Lexemes.{lexeme_findings}
 use Rattle.yl_sections.specs.Judge.{document_of}
 use Rattle.yl_sections.specs.Judging.{with_scan_fault}
 use Rattle.yl_sections.specs.Kept.{comment_lines, counted_of, hidden_events, is_on, items_if, lexeme_options_of, shown_comment_findings, shown_comments, unless_fault}

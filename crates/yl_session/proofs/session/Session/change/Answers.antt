@@ -11,12 +11,12 @@ use Rattle.yl_sections.specs.Kept.{KeptValue}
 use Rattle.yl_sections.specs.Sections.{sections}
 use Rattle.yl_rescan.specs.Held.{AreHeld}
 use Rattle.yl_lint.specs.Computed.{report}
-use Rattle.yl_parting.specs.Changes.{parts_in, renewed}
-use Rattle.yl_parting.specs.Parts.{PartsValue}
-use Rattle.yl_parting.specs.Rooms.{IsReady}
-use Rattle.yl_parting.specs.declared.change.Change.{Change}
+use Rattle.yl_problem_lists.specs.Changes.{parts_in, renewed}
+use Rattle.yl_problem_lists.specs.Parts.{PartsValue}
+use Rattle.yl_problem_lists.specs.Rooms.{IsReady}
+use Rattle.yl_problem_lists.specs.declared.change.Change.{Change}
 use Rattle.yl_found.specs.Found.{all_parts}
-use Rattle.yl_overview.specs.Overview.{AreOverviews}
+use Rattle.yl_summary.specs.Overview.{AreOverviews}
 use Rattle.yl_session.specs.Known.{AreOverviewsAfter}
 use Rattle.yl_session.specs.Parts.{Makes}
 use Rattle.yl_session.specs.State.{SessionValue}

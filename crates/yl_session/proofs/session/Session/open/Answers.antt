@@ -10,7 +10,7 @@ use Rattle.yl_sections.specs.Kept.{KeptValue}
 use Rattle.yl_sections.specs.Sections.{sections}
 use Rattle.yl_lint.specs.TextReport.{records_of}
 use Rattle.yl_lint.specs.Computed.{kept_of_text, report}
-use Rattle.yl_parting.specs.Parts.{PartsValue}
+use Rattle.yl_problem_lists.specs.Parts.{PartsValue}
 use Rattle.yl_found.specs.Found.{all_parts}
 use Rattle.yl_lint.proofs.Reported.{is_report}
 use Rattle.yl_session.proofs.Parts.{shown_is_report}

@@ -1,5 +1,0 @@
-use Rattle.yl_documents.proofs.OneBuilding.{all_same}
-use Rattle.yl_documents.proofs.one_building.Goals as goal
-
-pub returns : goal.returns
-returns c = all_same

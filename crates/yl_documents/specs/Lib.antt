@@ -1,4 +1,0 @@
-pub mod TextReading
-pub mod TextDocuments
-pub mod Syntax
-pub mod Law

@@ -1,5 +1,0 @@
-use Rattle.yl_layout.proofs.LexemesAlike.{judged_alike}
-use Rattle.yl_layout.proofs.state.lexemes_are_judged_alike.Goals as goal
-
-pub returns : goal.returns
-returns c = judged_alike

@@ -1,0 +1,9 @@
+pub mod KindLemmas
+pub mod LexemesLeft
+pub mod LexemesAlikeBelow
+pub mod LexemesAlikeAbove
+pub mod LexemesAlike
+pub mod TruthyLemmas
+pub mod Own
+pub mod Examples
+pub mod FirstBytes

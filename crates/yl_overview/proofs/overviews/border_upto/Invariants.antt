@@ -1,9 +1,0 @@
-use Rattle.std.proofs.Common.{◌≤◌}
-use Rattle.yl_overview.specs.Overview.{IsBorder}
-use Rattle.yl_overview.proofs.overviews.border_upto.Given as goal
-
-abbrev pub invariant-loop-i : goal.invariant-loop-i
-invariant-loop-i g l = record {
-  border : IsBorder l.kept.items l.overviews l.sections l.i;
-  upto : l.sections ≤ l.from;
-}

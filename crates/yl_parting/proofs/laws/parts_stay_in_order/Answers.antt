@@ -1,5 +1,0 @@
-use Rattle.yl_parting.proofs.InOrder.{fault_in_order, parts_in_order}
-use Rattle.yl_parting.proofs.laws.parts_stay_in_order.Goals as goal
-
-pub returns : goal.returns
-returns c = record { parts = parts_in_order; fault = fault_in_order }

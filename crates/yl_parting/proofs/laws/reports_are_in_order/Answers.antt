@@ -1,5 +1,0 @@
-use Rattle.yl_parting.proofs.Faults.{report_in_order}
-use Rattle.yl_parting.proofs.laws.reports_are_in_order.Goals as goal
-
-pub returns : goal.returns
-returns c = report_in_order
