@@ -17,7 +17,7 @@ use crate::state::DocumentState;
 use std::alloc::{AllocError, Allocator};
 use std::mem;
 use yl_config::Config;
-use yl_events::PlacedParseFault;
+use yl_events::{Outline, PlacedParseFault};
 use yl_indentation::{Fact, FactReader};
 use yl_lexeme::Meter;
 use yl_lexeme_rules::LexemeOptions;
@@ -144,6 +144,13 @@ impl<A: Allocator + Copy> RowJudge<A> {
         ensures { result ≡ self.now.reader.count }
     {
         self.reader.count
+    }
+
+    /// Returns the outlines of the latest row that was read, or of the document's start or end.
+    pub fn outlines(&self) -> &[Outline]
+        ensures { result.now ≡ self.now.reader.outlines.items }
+    {
+        &self.reader.outlines
     }
 
     /// Returns the state behind the rows, if none of them has a fault. The only error is out of
