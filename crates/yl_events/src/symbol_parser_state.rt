@@ -2,8 +2,9 @@
 
 ghost use Rattle.std.specs.Prelude.{◌≡◌, ◌↔◌, IsTrue, IfOk, map, reverse};
 ghost use Rattle.yl_events.specs.State.{properties_state, goal_state, parser_state};
+ghost use Rattle.yl_events.specs.SymbolParsing.{symbols_at_start};
 
-use crate::symbol::{Goal, Properties};
+use crate::symbol::{Goal, Properties, Where};
 use crate::trail::Trail;
 use std::alloc::{AllocError, Allocator};
 use std::marker::Model;
@@ -83,6 +84,18 @@ impl<A: Allocator> SymbolParserState<A> {
 }
 
 impl<A: Allocator + Copy> SymbolParserState<A> {
+    /// Creates the state of a parser at the start of a document. The only error is out of memory.
+    pub fn start(alloc: A) -> Result<SymbolParserState<A>, AllocError>
+        ensures { IfOk result (λ state. state ≡ parser_state symbols_at_start) }
+    {
+        let goals = [
+            Goal::Ending,
+            Goal::Formed(Where::InBlock(false), None),
+            Goal::Prefix,
+        ];
+        SymbolParserState::new(alloc, &goals, &Trail::new(alloc))
+    }
+
     /// Creates the state of a parser with these goals, the innermost last, and this trail. The only
     /// error is out of memory.
     #[tactic(auto, using(crate::proofs::States::goals_again, crate::proofs::States::goals_reversed))]

@@ -142,6 +142,33 @@ impl<A: Allocator> Model for Kept<A> {
     ghost invariant = { λ k. k.measure ≡ measure_of k.facts.items };
 }
 
+impl<A: Allocator + Copy> Kept<A> {
+    ghost use Rattle.std.specs.Prelude.{◌≡◌, [], None};
+
+    /// Creates the summary of rows without a fault, of which these parts are kept.
+    pub fn faultless(
+        rows: u32,
+        first: u32,
+        found: Vec<Finding<A>, A>,
+        facts: Vec<Fact, A>,
+        comments: Vec<KeptComment<A>, A>,
+    ) -> Kept<A>
+        ensures { result ≡ record {
+          rows = rows;
+          first = first;
+          found = found.items;
+          facts = facts.items;
+          comments = comments.items;
+          fault = None;
+          hidden = [];
+          parse_fault = None;
+        } }
+    {
+        let hidden = Vec::new(*found.allocator());
+        Kept::new(rows, first, found, facts, comments, None, hidden, None)
+    }
+}
+
 impl<A: Allocator> Kept<A> {
     ghost use Rattle.std.specs.Prelude.{◌≡◌};
     ghost use Rattle.std.specs.Option.{option_map};

@@ -1,11 +1,11 @@
 //! What the judge of a document holds before a row.
 
-use crate::row_rules::RulesState;
-use std::alloc::Allocator;
+use crate::row_rules::{RowRules, RulesState};
+use std::alloc::{AllocError, Allocator};
 use std::marker::Model;
 use yl_events::SymbolParserState;
-use yl_indentation::FactReaderState;
-use yl_marks::MarkerState;
+use yl_indentation::{FactReader, FactReaderState};
+use yl_marks::{KeyMarker, MarkerState};
 
 /// What the judge of a document holds before a row, without lines and counts.
 #[derive(Drop)]
@@ -56,5 +56,26 @@ impl<A: Allocator> DocumentState<A> {
         ensures { result ≡ is_border self.now }
     {
         self.lexemes.is_border()
+    }
+}
+
+impl<A: Allocator + Copy> DocumentState<A> {
+    ghost use Rattle.std.specs.Prelude.{◌≡◌, IfOk};
+    ghost use Rattle.yl_sections.specs.State.{start_state};
+
+    /// Returns the state at the start of a document. The only error is out of memory.
+    pub fn start(alloc: A) -> Result<DocumentState<A>, AllocError>
+        ensures { IfOk result (λ s. s ≡ start_state) }
+    {
+        let marker = KeyMarker::new(alloc).state()?;
+        let parser = SymbolParserState::start(alloc)?;
+        let context = FactReader::new(alloc).state()?;
+        let lexemes = RowRules::new().state();
+        Ok(DocumentState {
+            marker,
+            parser,
+            context,
+            lexemes,
+        })
     }
 }
