@@ -19,11 +19,10 @@ use Rattle.yl_config.specs.Config.{levels_of, options_of}
 use Rattle.yl_report.specs.Heard.{nothing_silenced}
 use Rattle.yl_problem_lists.specs.Parts.{is_no_fault}
 use Rattle.yl_report.specs.Report.{ProblemValue, is_reported, report_of, sorted_once, with_level}
-use Rattle.yl_sections.specs.Kept.{KeptValue, SectionFaultValue, Here, Behind}
+use Rattle.yl_sections.specs.Kept.{KeptValue, SectionFaultValue, Here, Behind, rows_kept}
 use Rattle.yl_sections.specs.Owned.{section_fault_value}
 use Rattle.yl_sections.specs.declared.fault.SectionFault.{SectionFault}
-use Rattle.yl_rejudge.specs.Places.{rows_kept}
-use Rattle.yl_rejudge.proofs.KeptRows.{got}
+use Rattle.yl_sections.proofs.KeptRows.{got}
 use Rattle.yl_lint.specs.TextReport.{fault_in_sections, finding_of_fault, findings_in_lines, findings_in_sections, shown}
 use Rattle.yl_lint.specs.Unsilenced.{unsilenced_of_kept}
 use Rattle.yl_found.specs.Faultless.{faultless}

@@ -6,8 +6,7 @@ use Rattle.std.proofs.lemmas.List.{same_lists, places, length-take, length-drop}
 use Rattle.yl_text.proofs.Every.{all_take}
 use Rattle.yl_lexeme.specs.Lexeme.{PlacedCommentValue}
 use Rattle.yl_lexeme.specs.PlacedComments.{placed_comment_value}
-use Rattle.yl_sections.specs.Kept.{KeptValue}
-use Rattle.yl_rejudge.specs.Places.{rows_kept}
+use Rattle.yl_sections.specs.Kept.{KeptValue, rows_kept}
 use Rattle.yl_lint.specs.TextReport.{comments_in_sections}
 use Rattle.yl_summary.specs.Overview.{AreOverviews, IsOverviewOf, IsSilencingOf, IsSilent}
 use Rattle.yl_summary.specs.declared.overview.Overview.{Overview}

@@ -22,8 +22,7 @@ use Rattle.yl_report.specs.Directive.{disables_file, is_silenced}
 use Rattle.yl_report.specs.Heard.{is_heard, nothing_silenced}
 use Rattle.yl_report.specs.Report.{ProblemValue, is_syntax, report_of}
 use Rattle.yl_report.proofs.Heard.{heard_report}
-use Rattle.yl_sections.specs.Kept.{KeptValue, SectionFaultValue, Here, Behind, unless_fault}
-use Rattle.yl_rejudge.specs.Places.{rows_kept}
+use Rattle.yl_sections.specs.Kept.{KeptValue, SectionFaultValue, Here, Behind, unless_fault, rows_kept}
 use Rattle.yl_lint.specs.Onward.{onward_in_sections}
 use Rattle.yl_lint.specs.TextReport.{comments_in_sections, fault_in_sections, findings_in_lines, findings_in_sections, first_text, report_by, report_of_kept, shown, finding_of_fault}
 use Rattle.yl_lint.specs.Unsilenced.{unsilenced_of_kept}

@@ -5,9 +5,8 @@ use Rattle.std.specs.List.{AllByRecursion, filter, slice_get}
 use Rattle.std.proofs.lemmas.List.{same_lists, places, take_all, take-append-drop}
 use Rattle.std.proofs.lemmas.Option.{slice_get_cases, slice_get_within}
 use Rattle.yl_lexeme.specs.Lexeme.{PlacedCommentValue}
-use Rattle.yl_sections.specs.Kept.{KeptValue, SectionFaultValue, unless_fault}
-use Rattle.yl_rejudge.specs.Places.{rows_kept}
-use Rattle.yl_rejudge.proofs.KeptRows.{got}
+use Rattle.yl_sections.specs.Kept.{KeptValue, SectionFaultValue, unless_fault, rows_kept}
+use Rattle.yl_sections.proofs.KeptRows.{got}
 use Rattle.yl_lint.specs.TextReport.{comments_in_sections, shown}
 use Rattle.yl_summary.specs.Overview.{IsFirstFault, IsSound}
 use Rattle.yl_lint.specs.Switches.{SpeaksWithin, may_switch, switch_texts}

@@ -19,8 +19,7 @@ use Rattle.yl_indentation.specs.Measures.{empty_measure, and_later, measure_at, 
 use Rattle.yl_indentation.specs.Onward.{onward_problems}
 use Rattle.yl_indentation.specs.Problems.{finding_at, finding_by, finding_by_width, is_indented, not_as_expected, width_by_spaces}
 use Rattle.yl_indentation.proofs.Measured.{and_later_assoc, measure_is_local}
-use Rattle.yl_sections.specs.Kept.{KeptValue, SectionFaultValue, unless_fault}
-use Rattle.yl_rejudge.specs.Places.{rows_kept}
+use Rattle.yl_sections.specs.Kept.{KeptValue, SectionFaultValue, unless_fault, rows_kept}
 use Rattle.yl_lint.specs.TextReport.{moved, shown, fault_in_sections, comments_in_sections, moved_comment, facts_in_sections, finding_of_fault}
 use Rattle.yl_lint.specs.Onward.{onward_in_section, onward_in_sections}
 use Rattle.yl_found.specs.Plain.{IsPlain}

@@ -6,8 +6,7 @@ use Rattle.std.proofs.lemmas.List.{take-append-drop}
 use Rattle.yl_text.specs.declared.finding.RuleId.{RuleId}
 use Rattle.yl_lexeme.specs.Lexeme.{PlacedCommentValue}
 use Rattle.yl_report.specs.Directive.{is_silenced}
-use Rattle.yl_sections.specs.Kept.{KeptValue, SectionFaultValue, unless_fault}
-use Rattle.yl_rejudge.specs.Places.{rows_kept}
+use Rattle.yl_sections.specs.Kept.{KeptValue, SectionFaultValue, unless_fault, rows_kept}
 use Rattle.yl_lint.specs.TextReport.{comments_in_sections, moved_comment, shown}
 use Rattle.yl_found.specs.Faultless.{faultless}
 use Rattle.yl_found.specs.Plain.{IsPlain}

@@ -6,8 +6,7 @@ use Rattle.yl_report.specs.Directive.{disables_file, is_silenced}
 use Rattle.yl_report.specs.Silence.{is_file_silenced_by, is_silenced_at}
 use Rattle.yl_report.specs.declared.silence.Silences.{Silences}
 use Rattle.yl_problem_lists.specs.Showing.{is_shown_by, shows}
-use Rattle.yl_sections.specs.Kept.{KeptValue, SectionFaultValue, unless_fault}
-use Rattle.yl_rejudge.specs.Places.{rows_kept}
+use Rattle.yl_sections.specs.Kept.{KeptValue, SectionFaultValue, unless_fault, rows_kept}
 use Rattle.yl_lint.specs.TextReport.{comments_in_sections, first_text, shown}
 use Rattle.yl_found.specs.Found.{is_shown}
 use Rattle.yl_found.specs.ShownUpto.{is_shown_upto}

@@ -5,8 +5,7 @@ use Rattle.std.proofs.lemmas.Bool.{cases_lt}
 use Rattle.std.proofs.lemmas.List.{same_lists, places, length-take}
 use Rattle.yl_text.proofs.Every.{all_both, all_drop, all_take}
 use Rattle.yl_lexeme.specs.Lexeme.{PlacedCommentValue}
-use Rattle.yl_sections.specs.Kept.{KeptValue}
-use Rattle.yl_rejudge.specs.Places.{rows_kept}
+use Rattle.yl_sections.specs.Kept.{KeptValue, rows_kept}
 use Rattle.yl_lint.specs.TextReport.{comments_in_sections, moved_comment}
 use Rattle.yl_summary.specs.Overview.{AreFew, IsSilencingOf, IsSilent}
 use Rattle.yl_summary.specs.declared.overview.Silencing.{Silencing}

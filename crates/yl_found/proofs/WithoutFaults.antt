@@ -8,8 +8,7 @@ use Rattle.yl_indentation.specs.declared.fact.Fact.{Fact}
 use Rattle.yl_indentation.specs.declared.measure.Measure.{Measure}
 use Rattle.yl_indentation.specs.declared.options.IndentationOptions.{IndentationOptions}
 use Rattle.yl_indentation.specs.Measures.{and_later, measure_of}
-use Rattle.yl_sections.specs.Kept.{KeptValue}
-use Rattle.yl_rejudge.specs.Places.{rows_kept}
+use Rattle.yl_sections.specs.Kept.{KeptValue, rows_kept}
 use Rattle.yl_lint.specs.Onward.{onward_in_section, onward_in_sections}
 use Rattle.yl_lint.specs.TextReport.{facts_in_sections, findings_in_section, findings_in_sections}
 use Rattle.yl_found.specs.Faultless.{faultless, faultless_one}

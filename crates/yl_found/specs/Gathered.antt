@@ -1,8 +1,7 @@
 -- Bridge: how far the comments of a text's sections were gathered.
 use Rattle.std.specs.Prelude.{◌≡◌, ◌≤◌, ℕ, List, length, map, take}
 use Rattle.yl_lexeme.specs.PlacedComments.{placed_comment_value}
-use Rattle.yl_sections.specs.Kept.{KeptValue}
-use Rattle.yl_rejudge.specs.Places.{rows_kept}
+use Rattle.yl_sections.specs.Kept.{KeptValue, rows_kept}
 use Rattle.yl_lint.specs.TextReport.{comments_in_sections}
 use Rattle.yl_found.specs.declared.gathered.Gathered.{Gathered}
 

@@ -4,8 +4,7 @@ use Rattle.yl_text.specs.Lines.{RowValue}
 use Rattle.yl_report.specs.Directive.{disables_file, is_silenced}
 use Rattle.yl_report.specs.Report.{ProblemValue}
 use Rattle.yl_problem_lists.specs.Showing.{shows}
-use Rattle.yl_sections.specs.Kept.{KeptValue}
-use Rattle.yl_rejudge.specs.Places.{rows_kept}
+use Rattle.yl_sections.specs.Kept.{KeptValue, rows_kept}
 use Rattle.yl_lint.specs.TextReport.{comments_in_sections, first_text, shown}
 
 -- the problem is shown by the comments of the first n sections, as far as these are shown

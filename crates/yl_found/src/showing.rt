@@ -1,7 +1,7 @@
 //! Decides which problems of a text are shown.
 ghost use Rattle.std.specs.Prelude.{◌≡◌, ◌≤◌, length, take, IfOk};
 ghost use Rattle.yl_problem_lists.specs.Showing.{is_shown_by};
-ghost use Rattle.yl_rejudge.specs.Places.{rows_kept};
+ghost use Rattle.yl_sections.specs.Kept.{rows_kept};
 ghost use Rattle.yl_lint.specs.TextReport.{shown};
 ghost use Rattle.yl_summary.specs.Overview.{IsFirstFault};
 ghost use Rattle.yl_summary.specs.Survey.{IsSurvey};

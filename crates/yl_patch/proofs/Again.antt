@@ -28,8 +28,7 @@ use Rattle.yl_problem_lists.proofs.Judged.{is_other, judged_behind}
 use Rattle.yl_problem_lists.proofs.OfKind.{kind_report}
 use Rattle.yl_problem_lists.proofs.InOrder.{passing}
 use Rattle.yl_problem_lists.proofs.Ordered.{filter_all, filter_none}
-use Rattle.yl_sections.specs.Kept.{KeptValue}
-use Rattle.yl_rejudge.specs.Places.{rows_kept}
+use Rattle.yl_sections.specs.Kept.{KeptValue, rows_kept}
 use Rattle.yl_lint.specs.Onward.{indentation_in_sections, onward_in_section, onward_in_sections}
 use Rattle.yl_lint.specs.TextReport.{moved}
 use Rattle.yl_lint.specs.There.{lines_there}

@@ -10,8 +10,7 @@ use Rattle.yl_text.specs.declared.finding.RuleId.{RuleId}
 use Rattle.yl_lexeme.specs.Lexeme.{PlacedCommentValue}
 use Rattle.yl_report.specs.Directive.{disables_file, is_silenced}
 use Rattle.yl_report.specs.Report.{ProblemValue, is_syntax}
-use Rattle.yl_sections.specs.Kept.{KeptValue}
-use Rattle.yl_rejudge.specs.Places.{rows_kept}
+use Rattle.yl_sections.specs.Kept.{KeptValue, rows_kept}
 use Rattle.yl_lint.specs.TextReport.{comments_in_sections, first_text, moved_comment, shown}
 use Rattle.yl_problem_lists.specs.Parts.{shifted}
 use Rattle.yl_problem_lists.specs.Showing.{is_of_lines, shows}

@@ -16,8 +16,7 @@ use Rattle.yl_report.specs.Report.{ProblemValue, report_of}
 use Rattle.yl_problem_lists.specs.Following.{IsJudgedAgain}
 use Rattle.yl_problem_lists.specs.Order.{IsInOrder}
 use Rattle.yl_problem_lists.specs.Parts.{above, behind, shifted}
-use Rattle.yl_sections.specs.Kept.{KeptValue}
-use Rattle.yl_rejudge.specs.Places.{rows_kept}
+use Rattle.yl_sections.specs.Kept.{KeptValue, rows_kept}
 use Rattle.yl_lint.specs.Onward.{indentation_in_sections, onward_in_sections}
 use Rattle.yl_lint.specs.TextReport.{moved}
 use Rattle.yl_lint.specs.There.{found_there, lines_there}

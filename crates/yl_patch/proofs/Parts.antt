@@ -14,8 +14,7 @@ use Rattle.yl_indentation.specs.declared.measure.Measure.{Measure}
 use Rattle.yl_indentation.specs.Measures.{and_later}
 use Rattle.yl_settings.specs.declared.options.RuleOptions.{RuleOptions}
 use Rattle.yl_report.specs.Report.{ProblemValue}
-use Rattle.yl_sections.specs.Kept.{KeptValue, items_if}
-use Rattle.yl_rejudge.specs.Places.{rows_kept}
+use Rattle.yl_sections.specs.Kept.{KeptValue, items_if, rows_kept}
 use Rattle.yl_lint.specs.Onward.{onward_in_sections}
 use Rattle.yl_lint.specs.TextReport.{moved, findings_from}
 use Rattle.yl_found.specs.Plain.{IsPlain}

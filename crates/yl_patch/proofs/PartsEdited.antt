@@ -7,8 +7,7 @@ use Rattle.yl_text.proofs.Every.{all_then}
 use Rattle.yl_text.specs.Lines.{RowValue}
 use Rattle.yl_config.specs.declared.config.Config.{Config}
 use Rattle.yl_report.specs.Report.{ProblemValue}
-use Rattle.yl_sections.specs.Kept.{KeptValue}
-use Rattle.yl_rejudge.specs.Places.{rows_kept}
+use Rattle.yl_sections.specs.Kept.{KeptValue, rows_kept}
 use Rattle.yl_problem_lists.specs.Changes.{PatchValue, moved, patched}
 use Rattle.yl_problem_lists.specs.Following.{Follows, FollowsBelow}
 use Rattle.yl_problem_lists.specs.Order.{IsInOrder}

@@ -3,8 +3,7 @@ use Rattle.std.proofs.Common.{◌≡◌, ◌<◌, ◌≤◌, ◌^◌, List, leng
 use Rattle.std.specs.List.{AllByRecursion}
 use Rattle.yl_text.specs.Lines.{RowValue}
 use Rattle.yl_config.specs.declared.config.Config.{Config}
-use Rattle.yl_sections.specs.Kept.{KeptValue}
-use Rattle.yl_rejudge.specs.Places.{rows_kept}
+use Rattle.yl_sections.specs.Kept.{KeptValue, rows_kept}
 use Rattle.yl_problem_lists.specs.Parts.{IsLow, PartsValue, is_no_fault, without_fault}
 use Rattle.yl_problem_lists.specs.Rooms.{IsJudgedReady, IsReadyFor, ToldFault}
 use Rattle.yl_problem_lists.specs.declared.change.LinesPatch.{LinesPatch}

@@ -19,8 +19,7 @@ use Rattle.yl_config.specs.Config.{levels_of, options_of}
 use Rattle.yl_report.specs.Heard.{nothing_silenced}
 use Rattle.yl_report.specs.Report.{ProblemValue, report_of}
 use Rattle.yl_problem_lists.specs.Parts.{above, behind, is_upto, shifted}
-use Rattle.yl_sections.specs.Kept.{KeptValue, items_if}
-use Rattle.yl_rejudge.specs.Places.{rows_kept}
+use Rattle.yl_sections.specs.Kept.{KeptValue, items_if, rows_kept}
 use Rattle.yl_lint.proofs.Onward.{whole_looks_back}
 use Rattle.yl_lint.specs.Onward.{onward_in_sections}
 use Rattle.yl_lint.specs.TextReport.{findings_from, findings_in_lines, findings_in_sections, moved, shown}

@@ -14,8 +14,7 @@ use Rattle.yl_config.specs.Config.{levels_of, options_of}
 use Rattle.yl_report.specs.Directive.{disables_file, is_silenced}
 use Rattle.yl_report.specs.Heard.{nothing_silenced}
 use Rattle.yl_report.specs.Report.{ProblemValue, report_of}
-use Rattle.yl_sections.specs.Kept.{KeptValue}
-use Rattle.yl_rejudge.specs.Places.{rows_kept}
+use Rattle.yl_sections.specs.Kept.{KeptValue, rows_kept}
 use Rattle.yl_lint.specs.Onward.{indentation_in_sections}
 use Rattle.yl_lint.specs.TextReport.{comments_in_sections, facts_in_sections, first_text, shown}
 use Rattle.yl_problem_lists.specs.Changes.{PatchValue, patched}

@@ -2,8 +2,7 @@
 use Rattle.std.proofs.Common.{◌≡◌, false, List, [], ◌∷◌, Option, Some, None, ap, sym, subst, refl, ◌∙◌}
 use Rattle.std.specs.List.{AllByRecursion}
 use Rattle.yl_lexeme.specs.Lexeme.{PlacedCommentValue}
-use Rattle.yl_sections.specs.Kept.{KeptValue, SectionFaultValue, unless_fault}
-use Rattle.yl_rejudge.specs.Places.{rows_kept}
+use Rattle.yl_sections.specs.Kept.{KeptValue, SectionFaultValue, unless_fault, rows_kept}
 use Rattle.yl_lint.specs.TextReport.{comments_in_sections, shown}
 use Rattle.yl_summary.specs.Overview.{IsSilent, has_fault}
 use Rattle.yl_lint.specs.Switches.{SpeaksWithin, switch_texts}

@@ -15,8 +15,7 @@ use Rattle.yl_indentation.specs.declared.measure.Measure.{Measure}
 use Rattle.yl_settings.specs.declared.options.RuleOptions.{RuleOptions}
 use Rattle.yl_report.specs.Directive.{disables_file, is_silenced}
 use Rattle.yl_report.specs.Report.{ProblemValue, report_of}
-use Rattle.yl_sections.specs.Kept.{KeptValue, items_if}
-use Rattle.yl_rejudge.specs.Places.{rows_kept}
+use Rattle.yl_sections.specs.Kept.{KeptValue, items_if, rows_kept}
 use Rattle.yl_lint.specs.Onward.{onward_in_sections}
 use Rattle.yl_lint.specs.TextReport.{comments_in_sections, findings_from, first_text, moved, shown}
 use Rattle.yl_problem_lists.specs.Showing.{shows}

@@ -5,8 +5,7 @@ use Rattle.yl_text.specs.Lines.{RowValue}
 use Rattle.yl_config.specs.declared.config.Config.{Config}
 use Rattle.yl_report.specs.Directive.{disables_file}
 use Rattle.yl_report.specs.Report.{ProblemValue}
-use Rattle.yl_sections.specs.Kept.{KeptValue}
-use Rattle.yl_rejudge.specs.Places.{rows_kept}
+use Rattle.yl_sections.specs.Kept.{KeptValue, rows_kept}
 use Rattle.yl_lint.specs.TextReport.{first_text}
 use Rattle.yl_problem_lists.specs.Changes.{PatchValue}
 use Rattle.yl_problem_lists.specs.Following.{IsJudgedAgain, found_after}

@@ -9,8 +9,7 @@ use Rattle.yl_indentation.specs.declared.options.IndentationOptions.{Indentation
 use Rattle.yl_indentation.specs.Measures.{and_later, measure_of}
 use Rattle.yl_config.specs.declared.config.Config.{Config}
 use Rattle.yl_config.specs.Config.{options_of}
-use Rattle.yl_sections.specs.Kept.{KeptValue}
-use Rattle.yl_rejudge.specs.Places.{rows_kept}
+use Rattle.yl_sections.specs.Kept.{KeptValue, rows_kept}
 use Rattle.yl_lint.specs.Onward.{onward_in_sections}
 use Rattle.yl_lint.specs.TextReport.{facts_in_sections, moved}
 use Rattle.yl_patch.specs.Cut.{IsInside, is_filled}

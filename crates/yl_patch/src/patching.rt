@@ -8,7 +8,7 @@ ghost use Rattle.yl_problem_lists.specs.Changes.{parts_in, patch_in, patched};
 ghost use Rattle.yl_problem_lists.specs.Parts.{parted, with_fault, without_fault};
 ghost use Rattle.yl_problem_lists.specs.Rooms.{IsReadyFor};
 ghost use Rattle.yl_problem_lists.specs.Showing.{is_shown_by};
-ghost use Rattle.yl_rejudge.specs.Places.{rows_kept};
+ghost use Rattle.yl_sections.specs.Kept.{rows_kept};
 ghost use Rattle.yl_summary.specs.Edit.{IsSectionEdit};
 ghost use Rattle.yl_summary.specs.Survey.{IsSurvey};
 ghost use Rattle.yl_lint.specs.Edit.{IsTextEdit};

@@ -1,6 +1,6 @@
 //! The findings in the lines of the sections that an edit touches.
 ghost use Rattle.std.specs.Prelude.{take, IfOk};
-ghost use Rattle.yl_rejudge.specs.Places.{rows_kept};
+ghost use Rattle.yl_sections.specs.Kept.{rows_kept};
 ghost use Rattle.yl_summary.specs.Edit.{IsSectionEdit};
 ghost use Rattle.yl_lint.specs.Edit.{IsTextEdit};
 ghost use Rattle.yl_patch.specs.Cut.{IsApart};

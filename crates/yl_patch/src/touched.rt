@@ -1,6 +1,6 @@
 //! The lines of the sections that an edit touches.
 ghost use Rattle.std.specs.Prelude.{◌≡◌, ◌==◌, ◌+◌, take};
-ghost use Rattle.yl_rejudge.specs.Places.{rows_kept};
+ghost use Rattle.yl_sections.specs.Kept.{rows_kept};
 ghost use Rattle.yl_summary.specs.Edit.{IsSectionEdit};
 
 use std::alloc::Allocator;

@@ -14,8 +14,9 @@ use Rattle.yl_sections.specs.Kept.{KeptValue, documents_in}
 use Rattle.yl_sections.specs.Judge.{kept_of_section}
 use Rattle.yl_sections.proofs.Local.{sections_then, joined_parts}
 use Rattle.yl_rejudge.specs.Places.{changed_sections}
-use Rattle.yl_rejudge.specs.Documents.{AreFront, documents_holding}
-use Rattle.yl_rejudge.proofs.SectionStarts.{start_there, not_first, starts_past, same_before, front_same}
+use Rattle.yl_sections.specs.Holding.{documents_holding}
+use Rattle.yl_rejudge.specs.Documents.{AreFront}
+use Rattle.yl_sections.proofs.SectionStarts.{start_there, not_first, starts_past, same_before, front_same}
 use Rattle.yl_rejudge.proofs.SectionsEdited.{AreCut, within_new, rows_of_sections, some_judged, changed_none, changed_some}
 use Rattle.yl_rejudge.proofs.Bound.{AreNext, held, holding_part, cut_starts, in_front, no_start_before, no_start_after, first_or, z_high}
 

@@ -10,9 +10,9 @@ use Rattle.yl_sections.specs.Local.{kind_after, begins_section, is_start_at, row
 use Rattle.yl_sections.specs.Kept.{document_count, documents_in}
 use Rattle.yl_sections.proofs.Cuts.{last_anew}
 use Rattle.yl_rejudge.specs.Places.{changed_sections}
-use Rattle.yl_rejudge.specs.Alike.{GoOnAlike}
-use Rattle.yl_rejudge.specs.Documents.{documents_holding, IsInSection}
-use Rattle.yl_rejudge.proofs.SectionStarts.{starts_after, start_there, start_found, IsPlaceIn, rows_ordered, rows_apart, same_before, not_first, front_same, starts_past, from_row}
+use Rattle.yl_sections.specs.Alike.{GoOnAlike}
+use Rattle.yl_sections.specs.Holding.{documents_holding, IsInSection}
+use Rattle.yl_sections.proofs.SectionStarts.{starts_after, start_there, start_found, IsPlaceIn, rows_ordered, rows_apart, same_before, not_first, front_same, starts_past, from_row}
 use Rattle.yl_rejudge.proofs.SectionsEdited.{AreCut, rows_of_sections, some_judged, ends, within_new, changed_none, changed_some}
 
 -- ---- documents at lines

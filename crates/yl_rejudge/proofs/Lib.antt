@@ -1,5 +1,3 @@
-pub mod SectionStarts
-pub mod KeptRows
 pub mod SectionsEdited
 pub mod Bound
 pub mod Anew

@@ -5,12 +5,13 @@ use Rattle.yl_config.specs.declared.config.Config.{Config}
 use Rattle.yl_record.specs.Records.{RecordValue}
 use Rattle.yl_sections.specs.Sections.{sections}
 use Rattle.yl_sections.specs.Local.{is_start_at, row_total}
-use Rattle.yl_sections.specs.Kept.{KeptValue, documents_in}
+use Rattle.yl_sections.specs.Kept.{KeptValue, documents_in, rows_kept}
 use Rattle.yl_sections.specs.Judge.{kept_of_section}
-use Rattle.yl_rejudge.specs.Places.{AreAround, changed_sections, rows_kept}
-use Rattle.yl_rejudge.specs.Alike.{GoOnAlike}
-use Rattle.yl_rejudge.specs.Documents.{TakesNothing, AreFront, EndsAnew, documents_holding}
-use Rattle.yl_rejudge.proofs.KeptRows.{rows_front}
+use Rattle.yl_rejudge.specs.Places.{AreAround, changed_sections}
+use Rattle.yl_sections.specs.Alike.{GoOnAlike}
+use Rattle.yl_sections.specs.Holding.{TakesNothing, documents_holding}
+use Rattle.yl_rejudge.specs.Documents.{AreFront, EndsAnew}
+use Rattle.yl_sections.proofs.KeptRows.{rows_front}
 use Rattle.yl_rejudge.proofs.SectionsEdited.{AreCut, rows_of_kept, rows_to, count_kept, within_new, changed, kept_spliced}
 use Rattle.yl_rejudge.proofs.Bound.{AreNext, in_section, z_high, documents_near}
 use Rattle.yl_rejudge.proofs.Anew.{high, changed_anew, documents_anew, kept_anew, section_there, section_reaches}

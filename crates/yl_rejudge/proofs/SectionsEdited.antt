@@ -10,12 +10,12 @@ use Rattle.yl_config.specs.declared.config.Config.{Config}
 use Rattle.yl_record.specs.Records.{RecordValue}
 use Rattle.yl_sections.specs.Sections.{Parts, last_kind_from, is_section_start, with_row, parts, sections}
 use Rattle.yl_sections.specs.Local.{is_start_at, row_total, all_rows}
-use Rattle.yl_sections.specs.Kept.{KeptValue, documents_in}
+use Rattle.yl_sections.specs.Kept.{KeptValue, documents_in, rows_kept}
 use Rattle.yl_sections.specs.Judge.{kept_of_section}
 use Rattle.yl_sections.proofs.Rows.{seen}
 use Rattle.yl_sections.proofs.Local.{sections_local, sections_then, joined_parts, take_joined, drop_joined, front_sections, back_sections}
-use Rattle.yl_rejudge.specs.Places.{rows_kept, changed_sections}
-use Rattle.yl_rejudge.proofs.SectionStarts.{starts_past, not_first}
+use Rattle.yl_rejudge.specs.Places.{changed_sections}
+use Rattle.yl_sections.proofs.SectionStarts.{starts_past, not_first}
 
 -- ---- rows of sections
 

@@ -1,16 +1,9 @@
--- Bridge: places in the summaries of sections, and the sections that are judged again.
+-- Bridge: the sections that are judged again.
 use Rattle.std.specs.Prelude.{◌≡◌, ◌≤◌, ◌<◌, ◌⊎◌, ℕ, true, ◌+◌, ◌-◌, ◌==◌, ◌&&◌, ltb, if◌then◌else◌, List, [], ◌∷◌, length, take, drop}
 use Rattle.yl_record.specs.Records.{RecordValue}
 use Rattle.yl_sections.specs.Sections.{sections}
 use Rattle.yl_sections.specs.Local.{is_start_at}
-use Rattle.yl_sections.specs.Kept.{KeptValue}
-pub use Rattle.yl_sections.specs.Kept.{rows_kept}
-use Rattle.yl_rejudge.specs.declared.places.Place.{Place}
-
--- the section of the place begins with its row, or the place is the end of all sections
-pub record IsAt (ks : List KeptValue) (p : Place) : Type 0 where
-  pub section : p.section ≤ length ks
-  pub row : p.row ≡ rows_kept (take p.section ks)
+use Rattle.yl_sections.specs.Kept.{KeptValue, rows_kept}
 
 -- the sections with the indices from f on, before e, are replaced: they begin with row `from` or
 -- above it. If sections are left after them, these begin with row `old_end` or below it, and a

@@ -8,8 +8,5 @@ mod comparing;
 mod places;
 mod rejudging;
 mod shortened;
-mod starts;
 
-pub use places::Place;
 pub use rejudging::{Rejudged, rejudge};
-pub use starts::{is_start_at, kind_before};

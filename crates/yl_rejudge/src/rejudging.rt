@@ -4,14 +4,15 @@ ghost use Rattle.std.specs.List.{splice};
 ghost use Rattle.yl_text.specs.Store.{IsRange};
 ghost use Rattle.yl_sections.specs.Sections.{sections};
 ghost use Rattle.yl_sections.specs.Judge.{kept_of_section};
-ghost use Rattle.yl_sections.specs.Kept.{documents_in};
-ghost use Rattle.yl_rejudge.specs.Places.{AllStay, AreAround, IsAt, changed_sections, rows_kept};
-ghost use Rattle.yl_rejudge.specs.Alike.{GoOnAlike};
+ghost use Rattle.yl_sections.specs.Kept.{documents_in, rows_kept};
+ghost use Rattle.yl_sections.specs.Places.{IsAt};
+ghost use Rattle.yl_rejudge.specs.Places.{AllStay, AreAround, changed_sections};
+ghost use Rattle.yl_sections.specs.Alike.{GoOnAlike};
 ghost use Rattle.yl_record.specs.Records.{RecordValue};
 ghost use Rattle.yl_sections.specs.Front.{IsFront};
-ghost use Rattle.yl_rejudge.specs.Documents.{TakesNothing, documents_holding};
+ghost use Rattle.yl_sections.specs.Holding.{TakesNothing, documents_holding};
 
-use crate::places::{Place, back_of, front_of, new_row, section_of};
+use crate::places::{back_of, front_of, new_row};
 use crate::shortened::ends_anew;
 use std::alloc::{AllocError, Allocator};
 use yl_chunks::{Chunks, Spliced};
@@ -19,7 +20,7 @@ use yl_config::Config;
 use yl_lexeme::Meter;
 use yl_record::Record;
 use yl_retyped::keep_sections;
-use yl_sections::{Kept, judge_all, kept_of_front};
+use yl_sections::{Kept, Place, judge_all, kept_of_front, section_of};
 
 /// What an edit makes of the summaries of all sections: the summaries of some sections are
 /// replaced.

@@ -2,14 +2,12 @@
 ghost use Rattle.std.specs.Prelude.{◌≡◌, ◌↔◌, ◌≤◌, ◌<◌, ◌^◌, IsTrue, true, None, length, take};
 ghost use Rattle.yl_sections.specs.Front.{IsBare};
 ghost use Rattle.yl_rejudge.specs.Documents.{AreFront, EndsAnew};
-ghost use Rattle.yl_rejudge.specs.Places.{rows_kept};
+ghost use Rattle.yl_sections.specs.Kept.{rows_kept};
 
-use crate::places::Place;
-use crate::starts::is_start_at;
 use std::alloc::Allocator;
 use yl_chunks::{Chunks, Spliced};
 use yl_record::Record;
-use yl_sections::Kept;
+use yl_sections::{Kept, Place, is_start_at};
 
 /// Returns `true` if no scan fault begins in row `i`, where it is before row `from`, or no lexeme
 /// and no comment, where it is not.

@@ -9,7 +9,7 @@ use Rattle.yl_record.specs.Records.{RecordValue, records}
 use Rattle.yl_sections.specs.Sections.{lexemes_of, sections}
 use Rattle.yl_sections.specs.Local.{row_total}
 use Rattle.yl_sections.specs.Kept.{document_count}
-use Rattle.yl_rejudge.specs.Documents.{documents_holding}
+use Rattle.yl_sections.specs.Holding.{documents_holding}
 use Rattle.yl_rescan.specs.Held.{IsCutAt}
 use Rattle.yl_rescan.proofs.Cut.{held_sections, quiet, rows_above, stops_at, true_sections}
 use Rattle.yl_sections.proofs.Quiet.{IsQuietRow, same_documents}

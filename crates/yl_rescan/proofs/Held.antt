@@ -9,7 +9,7 @@ use Rattle.yl_record.specs.Records.{RecordValue, records}
 use Rattle.yl_record.specs.Recorded.{records_from}
 use Rattle.yl_sections.specs.Local.{begins_section, is_start_at, kind_after}
 use Rattle.yl_sections.proofs.Last.{last_kept, stopped_empty}
-use Rattle.yl_rejudge.proofs.SectionStarts.{from_row, quiet}
+use Rattle.yl_sections.proofs.SectionStarts.{from_row, quiet}
 use Rattle.yl_rescan.specs.Agree.{state_of_row}
 use Rattle.yl_rescan.specs.Held.{AreHeld, IsCutAt, last_in}
 use Rattle.yl_rescan.proofs.Rows.{records_from_length, records_length, records_state, sound_behind, state_first, state_in_front}

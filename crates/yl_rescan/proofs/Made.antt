@@ -13,9 +13,9 @@ use Rattle.yl_record.specs.Recorded.{records_from}
 use Rattle.yl_sections.specs.Front.{IsFront}
 use Rattle.yl_sections.specs.Local.{is_start_at, kind_after}
 use Rattle.yl_sections.proofs.Lost.{lost_rows}
-use Rattle.yl_rejudge.specs.Alike.{GoOnAlike}
-use Rattle.yl_rejudge.specs.Documents.{ReadsNothing, TakesNothing}
-use Rattle.yl_rejudge.proofs.SectionStarts.{not_first, same_before}
+use Rattle.yl_sections.specs.Alike.{GoOnAlike}
+use Rattle.yl_sections.specs.Holding.{ReadsNothing, TakesNothing}
+use Rattle.yl_sections.proofs.SectionStarts.{not_first, same_before}
 use Rattle.yl_rescan.specs.Agree.{agree, agrees, counterpart, next_cut, read_beyond, state_of_row, BeginsBelow, EndsAt, GoesOn, MayKeep, StopsAt, StopsPassed}
 use Rattle.yl_rescan.specs.Held.{AreHeld, IsCutAt}
 use Rattle.yl_rescan.specs.Made.{HoldsEdit, WasRescanned}

@@ -11,8 +11,8 @@ use Rattle.yl_record.specs.Recorded.{records_from}
 use Rattle.yl_sections.specs.Last.{HasNoLexeme}
 use Rattle.yl_sections.specs.Local.{begins_section, is_start_at, kind_after}
 use Rattle.yl_sections.proofs.Last.{last_kept, stopped_empty}
-use Rattle.yl_rejudge.specs.Alike.{GoOnAlike}
-use Rattle.yl_rejudge.proofs.SectionStarts.{from_row, quiet, starts_past}
+use Rattle.yl_sections.specs.Alike.{GoOnAlike}
+use Rattle.yl_sections.proofs.SectionStarts.{from_row, quiet, starts_past}
 use Rattle.yl_rescan.specs.Agree.{state_of_row}
 use Rattle.yl_rescan.specs.Held.{IsCutAt, last_in}
 use Rattle.yl_rescan.proofs.Edits.{rows_behind, same_behind}

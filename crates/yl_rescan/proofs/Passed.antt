@@ -27,8 +27,8 @@ use Rattle.yl_sections.specs.Last.{HasNoLexeme}
 use Rattle.yl_sections.specs.Local.{begins_section, is_start_at, kind_after}
 use Rattle.yl_sections.specs.Sections.{last_kind_from}
 use Rattle.yl_sections.proofs.Last.{last_from, run_count, stopped_count}
-use Rattle.yl_rejudge.proofs.SectionStarts.{from_row, not_first, starts_after}
-use Rattle.yl_rejudge.proofs.SectionStarts as starts
+use Rattle.yl_sections.proofs.SectionStarts.{from_row, not_first, starts_after}
+use Rattle.yl_sections.proofs.SectionStarts as starts
 use Rattle.yl_rescan.specs.Agree.{state_of_row}
 use Rattle.yl_rescan.specs.Held.{AreHeld, IsCutAt, last_in}
 use Rattle.yl_rescan.proofs.Held.{begins_by, drop_both, take_part}

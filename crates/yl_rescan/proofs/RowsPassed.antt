@@ -11,8 +11,8 @@ use Rattle.yl_row.specs.Entries.{LineStateValue, Stopped}
 use Rattle.yl_record.specs.Records.{RecordValue, records}
 use Rattle.yl_record.specs.Recorded.{records_from}
 use Rattle.yl_sections.specs.Local.{begins_section, is_start_at, kind_after}
-use Rattle.yl_rejudge.specs.Alike.{GoOnAlike}
-use Rattle.yl_rejudge.specs.Documents.{TakesNothing}
+use Rattle.yl_sections.specs.Alike.{GoOnAlike}
+use Rattle.yl_sections.specs.Holding.{TakesNothing}
 use Rattle.yl_rescan.specs.Agree.{StopsPassed, state_of_row}
 use Rattle.yl_rescan.specs.Held.{AreHeld, IsCutAt, last_in}
 use Rattle.yl_rescan.specs.Made.{HoldsEdit, WasRescanned}

@@ -6,7 +6,7 @@ use Rattle.yl_record.specs.Records.{RecordValue}
 use Rattle.yl_sections.specs.Last.{HasNoLexeme}
 use Rattle.yl_sections.specs.Local.{begins_section, kind_after, is_start_at}
 use Rattle.yl_sections.proofs.Cuts.{last_anew}
-use Rattle.yl_rejudge.proofs.SectionStarts.{starts_after, from_row, quiet, same_before}
+use Rattle.yl_sections.proofs.SectionStarts.{starts_after, from_row, quiet, same_before}
 
 -- behind a last lexeme of the same kind
 pub by_kind : (old new : List RecordValue) (i j e : ℕ) → kind_after None (take i old) ≡ kind_after None (take j new) → drop i old ≡ drop j new → is_start_at new (j + e) ≡ is_start_at old (i + e)

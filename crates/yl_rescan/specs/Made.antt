@@ -3,8 +3,8 @@ use Rattle.std.specs.Prelude.{◌≡◌, ◌≤◌, ◌<◌, ◌+◌, ◌⊎◌,
 use Rattle.std.specs.List.{splice}
 use Rattle.yl_text.specs.Store.{IsRange}
 use Rattle.yl_record.specs.Records.{RecordValue}
-use Rattle.yl_rejudge.specs.Alike.{GoOnAlike}
-use Rattle.yl_rejudge.specs.Documents.{TakesNothing}
+use Rattle.yl_sections.specs.Alike.{GoOnAlike}
+use Rattle.yl_sections.specs.Holding.{TakesNothing}
 use Rattle.yl_rescan.specs.Held.{AreHeld}
 use Rattle.yl_rescan.specs.Rescan.{IsRescan}
 

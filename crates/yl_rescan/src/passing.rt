@@ -12,9 +12,8 @@ use std::alloc::{AllocError, Allocator};
 use yl_chunks::{Chunks, Spliced};
 use yl_lexeme::{Kind, Meter};
 use yl_record::{Record, Recorder};
-use yl_rejudge::is_start_at;
 use yl_scan::LineState;
-use yl_sections::is_section_start;
+use yl_sections::{is_section_start, is_start_at};
 use yl_text::{Lines, rows_fit};
 
 /// Returns `true` only if this row of the old records is sound and a section begins with it.

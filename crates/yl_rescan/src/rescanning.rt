@@ -6,8 +6,8 @@ ghost use Rattle.yl_row.specs.Entries.{Stopped};
 ghost use Rattle.yl_record.specs.Records.{characters_in};
 ghost use Rattle.yl_record.specs.Recorded.{records_from};
 ghost use Rattle.yl_sections.specs.Local.{is_start_at, kind_after};
-ghost use Rattle.yl_rejudge.specs.Alike.{GoOnAlike};
-ghost use Rattle.yl_rejudge.specs.Documents.{TakesNothing};
+ghost use Rattle.yl_sections.specs.Alike.{GoOnAlike};
+ghost use Rattle.yl_sections.specs.Holding.{TakesNothing};
 ghost use Rattle.yl_rescan.specs.Agree.{counterpart, next_cut, MayKeep, StopsPassed};
 ghost use Rattle.yl_rescan.specs.Held.{AreHeld, IsCutAt};
 ghost use Rattle.yl_rescan.specs.Made.{HoldsEdit, WasRescanned};
@@ -20,7 +20,7 @@ use std::alloc::{AllocError, Allocator};
 use yl_chunks::{Chunks, Spliced};
 use yl_lexeme::Meter;
 use yl_record::Record;
-use yl_rejudge::{is_start_at, kind_before};
+use yl_sections::{is_start_at, kind_before};
 use yl_text::{LineStore, Lines, Patched, Row};
 
 /// What an edit makes of the records of a text: the old records of the rows `from..old_end` are

@@ -26,3 +26,5 @@ pub mod SectionDocuments
 pub mod Quiet
 pub mod QuietSections
 mod Examples
+pub mod SectionStarts
+pub mod KeptRows

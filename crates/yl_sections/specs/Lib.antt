@@ -13,3 +13,6 @@ pub mod State
 pub mod RowReading
 pub mod JudgedRow
 pub mod Judging
+pub mod Places
+pub mod Holding
+pub mod Alike

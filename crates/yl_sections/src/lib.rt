@@ -13,12 +13,14 @@ mod front;
 mod judging;
 mod kept;
 mod laws;
+mod places;
 mod row_judge;
 mod row_reader;
 mod row_rules;
 mod rules;
 mod section_judge;
 mod sections;
+mod starts;
 mod state;
 
 pub use comments::{LexemeEnd, column_in, last_end};
@@ -31,7 +33,9 @@ pub use laws::{
     first_section, lost_rows, one_kept, sections_are_documents, sections_are_local,
     states_tell_kinds,
 };
+pub use places::{Place, section_of};
 pub use row_judge::RowJudge;
 pub use section_judge::{SectionJudge, start_of};
 pub use sections::{is_section_start, last_kind, section_len};
+pub use starts::{is_start_at, kind_before};
 pub use state::DocumentState;

@@ -9,14 +9,14 @@ use Rattle.yl_text.specs.Lines.{RowValue}
 use Rattle.yl_text.specs.Store.{IsRange}
 use Rattle.yl_record.specs.Records.{RecordValue, characters_in}
 use Rattle.yl_sections.specs.Judge.{kept_of_section}
-use Rattle.yl_sections.specs.Kept.{KeptValue}
+use Rattle.yl_sections.specs.Kept.{KeptValue, rows_kept}
 use Rattle.yl_sections.specs.Local.{is_start_at}
 use Rattle.yl_sections.specs.Sections.{sections}
 use Rattle.yl_config.specs.declared.config.Config.{Config}
-use Rattle.yl_rejudge.specs.Alike.{GoOnAlike}
-use Rattle.yl_rejudge.specs.Places.{AllStay, AreAround, rows_kept}
-use Rattle.yl_rejudge.proofs.KeptRows.{rows_front}
-use Rattle.yl_rejudge.proofs.SectionStarts.{not_first, start_there, starts_past}
+use Rattle.yl_sections.specs.Alike.{GoOnAlike}
+use Rattle.yl_rejudge.specs.Places.{AllStay, AreAround}
+use Rattle.yl_sections.proofs.KeptRows.{rows_front}
+use Rattle.yl_sections.proofs.SectionStarts.{not_first, start_there, starts_past}
 use Rattle.yl_rejudge.proofs.SectionsEdited.{count_kept, rows_of_kept, rows_to}
 use Rattle.yl_rescan.specs.Held.{AreHeld}
 use Rattle.yl_rescan.specs.Made.{HoldsEdit}

@@ -8,10 +8,9 @@ use Rattle.yl_record.specs.Records.{RecordValue, characters_in}
 use Rattle.yl_rescan.specs.Held.{AreHeld}
 use Rattle.yl_rescan.proofs.Held.{held_length}
 use Rattle.yl_sections.specs.Judge.{kept_of_section}
-use Rattle.yl_sections.specs.Kept.{KeptValue}
+use Rattle.yl_sections.specs.Kept.{KeptValue, rows_kept}
 use Rattle.yl_sections.specs.Sections.{sections}
 use Rattle.yl_config.specs.declared.config.Config.{Config}
-use Rattle.yl_rejudge.specs.Places.{rows_kept}
 use Rattle.yl_rejudge.proofs.SectionsEdited.{count_kept, few_sections, rows_of_kept}
 use Rattle.yl_summary.specs.Overview.{AreFew}
 use Rattle.yl_lint.proofs.FewLines.{few_lines}

@@ -2,10 +2,9 @@
 use Rattle.std.proofs.Common.{◌≡◌, ◌+◌, ◌-◌, ◌<◌, ◌==◌, ℕ, Bool, true, false, List, [], ◌∷◌, length, take, drop, ap, arith, refl, rules, sym, ◌∙◌}
 use Rattle.std.proofs.lemmas.List.{places, same_lists}
 use Rattle.std.specs.List.{splice}
-use Rattle.yl_sections.specs.Kept.{KeptValue}
+use Rattle.yl_sections.specs.Kept.{KeptValue, rows_kept}
 use Rattle.yl_rejudge.proofs.Same.{splice_same}
 use Rattle.yl_text.specs.Lines.{RowValue}
-use Rattle.yl_rejudge.specs.Places.{rows_kept}
 use Rattle.yl_summary.specs.declared.edit.SectionEdit.{SectionEdit}
 use Rattle.yl_patch.specs.Cut.{IsApart}
 use Rattle.yl_session.specs.Touched.{IsEditOf, IsTouching, touched_by, touched_end}

@@ -12,10 +12,9 @@ use Rattle.yl_report.specs.Heard.{nothing_silenced}
 use Rattle.yl_record.specs.Records.{RecordValue, characters_in}
 use Rattle.yl_report.specs.Report.{report_of}
 use Rattle.yl_sections.specs.Judge.{kept_of_section}
-use Rattle.yl_sections.specs.Kept.{KeptValue}
+use Rattle.yl_sections.specs.Kept.{KeptValue, rows_kept}
 use Rattle.yl_sections.specs.Sections.{sections}
 use Rattle.yl_rescan.specs.Held.{AreHeld}
-use Rattle.yl_rejudge.specs.Places.{rows_kept}
 use Rattle.yl_lint.specs.TextReport.{comments_in_sections, fault_in_sections, findings_in_lines, first_text, report_by, shown}
 use Rattle.yl_lint.specs.Computed.{report}
 use Rattle.yl_lint.specs.Unsilenced.{unsilenced_of_kept}

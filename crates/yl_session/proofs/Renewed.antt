@@ -8,8 +8,8 @@ use Rattle.yl_scan.specs.Restart.{state_at}
 use Rattle.yl_record.specs.Records.{RecordValue, records}
 use Rattle.yl_sections.specs.Local.{is_start_at}
 use Rattle.yl_sections.specs.Sections.{sections}
-use Rattle.yl_rejudge.specs.Documents.{documents_holding}
-use Rattle.yl_rejudge.proofs.SectionStarts.{not_first}
+use Rattle.yl_sections.specs.Holding.{documents_holding}
+use Rattle.yl_sections.proofs.SectionStarts.{not_first}
 use Rattle.yl_rescan.specs.Held.{AreHeld}
 use Rattle.yl_rescan.specs.Rescan.{IsRescan, IsRestart, IsStop}
 use Rattle.yl_rescan.proofs.Rows.{each_row}

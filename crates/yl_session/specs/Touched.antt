@@ -2,8 +2,7 @@
 -- section that has the lines of the edit, which is then put in its own place.
 use Rattle.std.specs.Prelude.{◌≡◌, ◌<◌, ◌+◌, ℕ, List, [], ◌∷◌, length, take, drop}
 use Rattle.yl_text.specs.Lines.{RowValue}
-use Rattle.yl_sections.specs.Kept.{KeptValue}
-use Rattle.yl_rejudge.specs.Places.{rows_kept}
+use Rattle.yl_sections.specs.Kept.{KeptValue, rows_kept}
 use Rattle.yl_summary.specs.declared.edit.SectionEdit.{SectionEdit}
 use Rattle.yl_patch.specs.Cut.{IsApart}
 

@@ -4,7 +4,7 @@ use Rattle.std.specs.Prelude.{ℕ, ◌+◌, ◌-◌, ◌≤◌, List}
 use Rattle.yl_record.specs.Records.{records}
 use Rattle.yl_sections.specs.Sections.{sections}
 use Rattle.yl_rescan.specs.Rescan.{IsRestart, IsStop}
-use Rattle.yl_rejudge.specs.Documents.{documents_holding}
+use Rattle.yl_sections.specs.Holding.{documents_holding}
 use Rattle.yl_session.specs.declared.work.Work.{Work}
 
 -- An edit of a text with these old rows, each given as its characters, puts k lines in place of the

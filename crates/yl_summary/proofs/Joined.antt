@@ -3,9 +3,9 @@ use Rattle.std.proofs.Common.{◌≡◌, ℕ, suc, ◌+◌, ◌-◌, ◌<◌, �
 use Rattle.std.specs.List.{splice}
 use Rattle.std.proofs.Math.Seq.{drop-cons}
 use Rattle.std.proofs.lemmas.List.{same_lists, places, get_or_default, take_more, length-take, length-drop, take_all, take-append-drop}
-use Rattle.yl_sections.specs.Kept.{KeptValue}
-use Rattle.yl_rejudge.specs.Places.{IsAt, rows_kept}
-use Rattle.yl_rejudge.proofs.KeptRows.{rows_front}
+use Rattle.yl_sections.specs.Kept.{KeptValue, rows_kept}
+use Rattle.yl_sections.specs.Places.{IsAt}
+use Rattle.yl_sections.proofs.KeptRows.{rows_front}
 use Rattle.yl_indentation.specs.Measures.{empty_measure}
 use Rattle.yl_summary.specs.Overview.{AreFew, AreOverviews, IsBorder, IsOverviewOf}
 use Rattle.yl_summary.specs.declared.overview.Overview.{Overview}

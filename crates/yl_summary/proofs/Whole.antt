@@ -9,12 +9,11 @@ use Rattle.std.proofs.lemmas.Option.{get_or_from_slice_get, slice_get-get_or, sl
 use Rattle.yl_text.proofs.Every.{all_both, all_drop}
 use Rattle.yl_indentation.specs.declared.measure.Measure.{Measure}
 use Rattle.yl_indentation.specs.Measures.{and_later, measure_of}
-use Rattle.yl_sections.specs.Kept.{KeptValue}
-use Rattle.yl_rejudge.specs.Places.{rows_kept}
+use Rattle.yl_sections.specs.Kept.{KeptValue, rows_kept}
 use Rattle.yl_summary.specs.Overview.{AreFew, IsFaulty, IsFirstFault, IsOverviewOf, IsSilencingOf, IsSilent, IsSound, IsStart, has_fault}
 use Rattle.yl_summary.specs.declared.overview.Overview.{Overview}
 use Rattle.yl_summary.specs.declared.overview.Silencing.{Silencing}
-use Rattle.yl_rejudge.proofs.KeptRows.{rows_front}
+use Rattle.yl_sections.proofs.KeptRows.{rows_front}
 use Rattle.yl_summary.proofs.Walks.{measured, measured_both, one_more, rows_both}
 
 take_front : {X : Type 0} (xs ys : List X) (n : ℕ) → n ≤ length xs → take n (xs ++ ys) ≡ take n xs

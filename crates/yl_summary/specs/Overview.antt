@@ -3,8 +3,7 @@
 use Rattle.std.specs.Prelude.{◌≡◌, ◌<◌, ◌≤◌, ◌^◌, ℕ, Bool, true, length, take, drop, slice_get, is_some, List, [], ◌∷◌, Some, None}
 use Rattle.std.specs.List.{AllByRecursion, list_any}
 use Rattle.yl_indentation.specs.Measures.{measure_of}
-use Rattle.yl_sections.specs.Kept.{KeptValue}
-use Rattle.yl_rejudge.specs.Places.{rows_kept}
+use Rattle.yl_sections.specs.Kept.{KeptValue, rows_kept}
 use Rattle.yl_lint.specs.TextReport.{facts_in_sections}
 use Rattle.yl_summary.specs.declared.overview.Overview.{Overview}
 use Rattle.yl_summary.specs.declared.overview.Silencing.{Silencing}

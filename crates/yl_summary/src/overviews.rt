@@ -2,15 +2,14 @@
 ghost use Rattle.std.specs.Prelude.{◌≡◌, ◌-◌, ◌≤◌, ◌++◌, List, length, take, drop, IfOk, OnOk};
 ghost use Rattle.yl_text.specs.Store.{IsRange};
 ghost use Rattle.yl_sections.specs.Kept.{KeptValue};
-ghost use Rattle.yl_rejudge.specs.Places.{IsAt};
+ghost use Rattle.yl_sections.specs.Places.{IsAt};
 ghost use Rattle.yl_summary.specs.Overview.{AreFew, AreOverviews, IsBorder, IsOverviewOf};
 
 use crate::overview::Overview;
 use crate::walking::overview_between;
 use std::alloc::{AllocError, Allocator};
 use yl_chunks::{Chunks, Spliced};
-use yl_rejudge::Place;
-use yl_sections::Kept;
+use yl_sections::{Kept, Place};
 
 /// The number of sections of a new overview. The last of those that are made together is of all
 /// sections that are left, fewer than twice as many. An edit makes overviews again from the border

@@ -1,7 +1,7 @@
 use Rattle.std.proofs.Common.{◌++◌, ap, arith, ◌∙◌}
 use Rattle.yl_indentation.specs.Measures.{and_later, empty_measure}
 use Rattle.yl_lint.specs.TextReport.{findings_in_sections}
-use Rattle.yl_rejudge.proofs.KeptRows.{got}
+use Rattle.yl_sections.proofs.KeptRows.{got}
 use Rattle.yl_found.proofs.Pushed.{pushed_all, pushed_whole}
 use Rattle.yl_found.proofs.found.push_all.Goals as goal
 

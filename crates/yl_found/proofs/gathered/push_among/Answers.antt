@@ -2,7 +2,7 @@ use Rattle.std.proofs.Common.{◌-◌, ◌++◌, map, take, drop, ap, arith, ◌
 use Rattle.yl_lexeme.specs.PlacedComments.{placed_comment_value}
 use Rattle.yl_lint.specs.TextReport.{comments_in_sections, moved_comment}
 use Rattle.yl_found.proofs.SilencingSections.{comments_end, comments_next}
-use Rattle.yl_rejudge.proofs.KeptRows.{got}
+use Rattle.yl_sections.proofs.KeptRows.{got}
 use Rattle.yl_found.proofs.gathered.push_among.Goals as goal
 
 pub loop-i-preserved : goal.loop-i-preserved

@@ -2,7 +2,7 @@ use Rattle.std.proofs.Common.{◌<◌, List, length, drop, ap, arith, subst, ◌
 use Rattle.yl_indentation.specs.declared.fact.Fact.{Fact}
 use Rattle.yl_indentation.specs.Measures.{and_later}
 use Rattle.yl_indentation.specs.Onward.{AreJudgedAlike}
-use Rattle.yl_rejudge.proofs.KeptRows.{got}
+use Rattle.yl_sections.proofs.KeptRows.{got}
 use Rattle.yl_patch.proofs.Later.{alike_none, found_next, same_alike}
 use Rattle.yl_patch.proofs.measures.is_alike_below.Goals as goal
 

@@ -8,7 +8,7 @@ use Rattle.yl_report.specs.Heard.{nothing_silenced}
 use Rattle.yl_report.specs.Report.{report_of}
 use Rattle.yl_problem_lists.specs.Changes.{patch_in}
 use Rattle.yl_problem_lists.specs.Parts.{PartsValue, parted}
-use Rattle.yl_sections.specs.Kept.{KeptValue}
+use Rattle.yl_sections.specs.Kept.{KeptValue, rows_kept}
 use Rattle.yl_found.specs.Found.{fault_told}
 use Rattle.yl_found.specs.ShownUpto.{is_shown_upto}
 use Rattle.yl_found.proofs.FaultFound.{told_none}
@@ -21,7 +21,6 @@ use Rattle.yl_found.proofs.WithoutFaults.{all_below}
 use Rattle.yl_patch.proofs.Again.{indentation_told, judged_ready}
 use Rattle.yl_patch.specs.Seen.{AreFoundAlike, measure_upto, sections_between}
 use Rattle.yl_problem_lists.specs.Showing.{is_shown_by}
-use Rattle.yl_rejudge.specs.Places.{rows_kept}
 use Rattle.yl_summary.proofs.Walks.{rows_both}
 use Rattle.yl_problem_lists.proofs.Lines.{part}
 use Rattle.yl_patch.proofs.patching.patched_problems.Goals as goal

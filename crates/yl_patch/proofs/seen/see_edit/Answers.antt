@@ -6,7 +6,7 @@ use Rattle.yl_config.specs.Config.{options_of}
 use Rattle.yl_indentation.specs.Onward.{CountsEntriesOnceSeen}
 use Rattle.yl_indentation.proofs.Onward.{facts_count}
 use Rattle.yl_lint.specs.TextReport.{facts_in_sections, moved}
-use Rattle.yl_rejudge.specs.Places.{rows_kept}
+use Rattle.yl_sections.specs.Kept.{rows_kept}
 use Rattle.yl_patch.proofs.Given.{is_cut, same_there, window_fits}
 use Rattle.yl_summary.proofs.Walks.{measured}
 use Rattle.yl_patch.proofs.seen.see_edit.Goals as goal

@@ -1,6 +1,6 @@
 use Rattle.std.proofs.Common.{◌-◌, map, take, drop, ap, ◌∙◌}
 use Rattle.yl_lexeme.specs.PlacedComments.{placed_comment_value}
-use Rattle.yl_rejudge.specs.Places.{rows_kept}
+use Rattle.yl_sections.specs.Kept.{rows_kept}
 use Rattle.yl_lint.specs.TextReport.{comments_in_sections}
 use Rattle.yl_found.proofs.Said.{said_within, same_switches}
 use Rattle.yl_patch.proofs.speaking.all_speak_alike.Goals as goal

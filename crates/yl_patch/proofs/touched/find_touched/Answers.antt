@@ -1,6 +1,6 @@
 use Rattle.std.proofs.Common.{◌++◌, take, drop, arith}
 use Rattle.yl_summary.proofs.Walks.{rows_both, rows_until}
-use Rattle.yl_rejudge.proofs.KeptRows.{rows_front}
+use Rattle.yl_sections.proofs.KeptRows.{rows_front}
 use Rattle.yl_patch.proofs.touched.find_touched.Goals as goal
 
 pub overflow_add-result : goal.overflow_add-result

@@ -1,7 +1,7 @@
 use Rattle.std.proofs.Common.{◌≡◌, ◌+◌, ◌-◌, ◌≤◌, take, arith, ap, sym, ◌∙◌}
 use Rattle.yl_sections.specs.Local.{is_start_at}
-use Rattle.yl_rejudge.specs.Places.{rows_kept}
-use Rattle.yl_rejudge.proofs.KeptRows.{got, rows_more, rows_front, passed_on, not_back}
+use Rattle.yl_sections.specs.Kept.{rows_kept}
+use Rattle.yl_sections.proofs.KeptRows.{got, rows_more, rows_front, passed_on, not_back}
 use Rattle.yl_rejudge.proofs.places.back_of.Goals as goal
 
 pub is_back-requires : goal.is_back-requires

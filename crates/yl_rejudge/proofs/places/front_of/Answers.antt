@@ -1,8 +1,7 @@
 use Rattle.std.proofs.Common.{◌≡◌, ◌+◌, ◌-◌, ◌<◌, ◌≤◌, ℕ, false, List, length, take, get_or, arith, ap, ◌∙◌, sym}
 use Rattle.yl_sections.specs.Local.{is_start_at}
-use Rattle.yl_sections.specs.Kept.{KeptValue}
-use Rattle.yl_rejudge.specs.Places.{rows_kept}
-use Rattle.yl_rejudge.proofs.KeptRows.{got, rows_more, passed_back}
+use Rattle.yl_sections.specs.Kept.{KeptValue, rows_kept}
+use Rattle.yl_sections.proofs.KeptRows.{got, rows_more, passed_back}
 use Rattle.yl_rejudge.proofs.places.front_of.Goals as goal
 
 -- one section back

@@ -1,6 +1,6 @@
 use Rattle.std.proofs.Common.{◌≡◌, ◌<◌, ◌≤◌, ℕ, false, take}
 use Rattle.yl_sections.specs.Local.{is_start_at}
-use Rattle.yl_rejudge.specs.Places.{rows_kept}
+use Rattle.yl_sections.specs.Kept.{rows_kept}
 use Rattle.yl_rejudge.proofs.places.front_of.Given as goal
 
 abbrev pub invariant-loop-section : goal.invariant-loop-section

@@ -1,8 +1,8 @@
 use Rattle.std.proofs.Common.{◌≡◌, ◌+◌, ◌-◌, ◌≤◌, ◌↔◌, ℕ, IsTrue, take, arith}
 use Rattle.std.specs.Prelude.{leb}
 use Rattle.std.proofs.lemmas.Bool.{le-leb, leb-true}
-use Rattle.yl_rejudge.specs.Places.{rows_kept}
-use Rattle.yl_rejudge.proofs.KeptRows.{got, rows_more}
+use Rattle.yl_sections.specs.Kept.{rows_kept}
+use Rattle.yl_sections.proofs.KeptRows.{got, rows_more}
 use Rattle.yl_rejudge.proofs.rejudging.is_in_section.Goals as goal
 
 -- so many rows from one on reach `end`

@@ -1,7 +1,7 @@
 use Rattle.std.proofs.Common.{◌≡◌, ◌<◌, Bool, true, false, IsTrue, ◌==◌, ◌-◌, ◌+◌, ◌∙◌, length, cond, arith, ap, inl, inr}
 use Rattle.yl_rejudge.specs.Places.{changed_sections}
 use Rattle.yl_rejudge.proofs.SectionsEdited.{few_sections, rows_of_kept, count_kept, kept_spliced}
-use Rattle.yl_rejudge.proofs.KeptRows.{got}
+use Rattle.yl_sections.proofs.KeptRows.{got}
 use Rattle.yl_rejudge.proofs.Outcome.{outcome, row_few, kept_rows, anew_spliced, seen_anew, around}
 use Rattle.yl_rejudge.proofs.rejudging.judge_edited.Goals as goal
 

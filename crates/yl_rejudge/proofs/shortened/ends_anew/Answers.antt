@@ -1,10 +1,9 @@
 use Rattle.std.proofs.Common.{◌≡◌, ◌+◌, ◌<◌, ◌≤◌, ◌↔◌, ℕ, Bool, true, false, IsTrue, List, length, take, get_or, arith, sym, subst, ◌∙◌}
 use Rattle.yl_record.specs.Records.{RecordValue}
-use Rattle.yl_sections.specs.Kept.{KeptValue}
+use Rattle.yl_sections.specs.Kept.{KeptValue, rows_kept}
 use Rattle.yl_sections.specs.Local.{is_start_at}
-use Rattle.yl_rejudge.specs.Places.{rows_kept}
 use Rattle.yl_rejudge.specs.Documents.{AreFront, EndsAnew}
-use Rattle.yl_rejudge.proofs.KeptRows.{got, rows_more, rows_front}
+use Rattle.yl_sections.proofs.KeptRows.{got, rows_more, rows_front}
 use Rattle.yl_rejudge.proofs.shortened.ends_anew.Goals as goal
 use Rattle.yl_rejudge.proofs.shortened.ends_anew.Goals.{then-end-from-via-then-end-from, then-end-from-via-else-end-from+then-not-is_start_at}
 

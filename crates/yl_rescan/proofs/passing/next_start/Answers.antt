@@ -1,7 +1,7 @@
 use Rattle.std.proofs.Common.{List, ap, sym, ◌∙◌}
 use Rattle.yl_lexeme.specs.Lexeme.{LexemeValue}
 use Rattle.yl_sections.specs.Sections.{is_section_start}
-use Rattle.yl_rejudge.proofs.KeptRows.{starts_here}
+use Rattle.yl_sections.proofs.KeptRows.{starts_here}
 use Rattle.yl_rescan.proofs.passing.next_start.Goals as goal
 
 pub returns-then-is_section_start-clause-begins : goal.returns-then-is_section_start-clause-begins

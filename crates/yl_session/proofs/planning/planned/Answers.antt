@@ -8,9 +8,9 @@ use Rattle.yl_record.specs.Records.{RecordValue, characters_in}
 use Rattle.yl_sections.specs.Judge.{kept_of_section}
 use Rattle.yl_sections.specs.Kept.{KeptValue}
 use Rattle.yl_sections.specs.Sections.{sections}
-use Rattle.yl_rejudge.specs.Alike.{GoOnAlike}
+use Rattle.yl_sections.specs.Alike.{GoOnAlike}
 use Rattle.yl_rejudge.specs.Places.{AreAround}
-use Rattle.yl_rejudge.specs.Documents.{TakesNothing}
+use Rattle.yl_sections.specs.Holding.{TakesNothing}
 use Rattle.yl_rescan.specs.Held.{AreHeld}
 use Rattle.yl_rescan.proofs.Edits.{length-spliced}
 use Rattle.yl_config.specs.declared.config.Config.{Config}

@@ -1,5 +1,5 @@
 use Rattle.std.proofs.Common.{◌≤◌, drop}
-use Rattle.yl_rejudge.specs.Places.{IsAt}
+use Rattle.yl_sections.specs.Places.{IsAt}
 use Rattle.yl_summary.specs.Overview.{AreOverviews}
 use Rattle.yl_summary.proofs.overviews.nearest.Given as goal
 

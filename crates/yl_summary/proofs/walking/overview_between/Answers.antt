@@ -1,5 +1,5 @@
 use Rattle.std.proofs.Common.{arith}
-use Rattle.yl_rejudge.proofs.KeptRows.{got}
+use Rattle.yl_sections.proofs.KeptRows.{got}
 use Rattle.yl_summary.proofs.Whole.{between_more}
 use Rattle.yl_summary.proofs.walking.overview_between.Goals as goal
 

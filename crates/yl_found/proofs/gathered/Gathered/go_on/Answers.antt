@@ -1,6 +1,6 @@
 use Rattle.std.proofs.Common.{◌≡◌, ◌+◌, map, take, ap, arith, refl, sym, ◌∙◌}
 use Rattle.yl_lexeme.specs.PlacedComments.{placed_comment_value}
-use Rattle.yl_rejudge.specs.Places.{rows_kept}
+use Rattle.yl_sections.specs.Kept.{rows_kept}
 use Rattle.yl_lint.specs.TextReport.{comments_in_sections}
 use Rattle.yl_found.proofs.Gathering.{rows_more, said_more, within_more}
 use Rattle.yl_found.proofs.gathered.Gathered.go_on.Goals as goal

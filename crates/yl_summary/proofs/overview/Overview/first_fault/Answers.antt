@@ -1,5 +1,5 @@
 use Rattle.std.proofs.Common.{arith, length-append}
-use Rattle.yl_rejudge.proofs.KeptRows.{rows_front}
+use Rattle.yl_sections.proofs.KeptRows.{rows_front}
 use Rattle.yl_summary.proofs.Walks.{rows_both}
 use Rattle.yl_summary.proofs.Whole.{first_back, first_front}
 use Rattle.yl_summary.proofs.overview.Overview.first_fault.Goals as goal

@@ -1,5 +1,5 @@
 use Rattle.std.proofs.Common.{drop, arith, refl, subst, length-append}
-use Rattle.yl_rejudge.proofs.KeptRows.{rows_front}
+use Rattle.yl_sections.proofs.KeptRows.{rows_front}
 use Rattle.yl_summary.proofs.Walks.{rows_both}
 use Rattle.yl_summary.proofs.Whole.{Silent, both_speak, silent_before, silent_later}
 use Rattle.yl_summary.proofs.overview.Overview.silencing_with.Goals as goal

@@ -1,6 +1,6 @@
 use Rattle.std.proofs.Common.{◌≡◌, ◌≤◌, take, None}
 use Rattle.yl_sections.specs.Local.{kind_after}
-use Rattle.yl_rejudge.proofs.starts.kind_before.Given as goal
+use Rattle.yl_sections.proofs.starts.kind_before.Given as goal
 
 abbrev pub invariant-loop-row : goal.invariant-loop-row
 invariant-loop-row g l = record {

@@ -7,9 +7,8 @@ use Rattle.yl_lexeme.specs.declared.lexeme.Kind.{Kind}
 use Rattle.yl_lexeme.specs.Lexeme.{LexemeValue}
 use Rattle.yl_record.specs.Records.{RecordValue}
 use Rattle.yl_sections.specs.Sections.{last_kind_from, is_section_start}
-use Rattle.yl_sections.specs.Kept.{KeptValue}
+use Rattle.yl_sections.specs.Kept.{KeptValue, rows_kept}
 use Rattle.yl_sections.specs.Local.{kind_after, begins_section}
-use Rattle.yl_rejudge.specs.Places.{rows_kept}
 
 pub last_step : (last : Option Kind) (es : List RecordValue) (r : ℕ) (e : RecordValue) → slice_get es r ≡ Some e → kind_after last (take (r + 1) es) ≡ last_kind_from (kind_after last (take r es)) e.entry.lexemes
 last_step last [] r e h = cc

@@ -4,8 +4,8 @@ use Rattle.yl_lexeme.specs.Lexeme.{LexemeValue}
 use Rattle.yl_record.specs.Records.{RecordValue}
 use Rattle.yl_sections.specs.Sections.{last_kind_from}
 use Rattle.yl_sections.specs.Local.{kind_after}
-use Rattle.yl_rejudge.proofs.KeptRows.{last_step, last_none, last_some}
-use Rattle.yl_rejudge.proofs.starts.kind_before.Goals as goal
+use Rattle.yl_sections.proofs.KeptRows.{last_step, last_none, last_some}
+use Rattle.yl_sections.proofs.starts.kind_before.Goals as goal
 
 -- the row before
 step : (es : List RecordValue) (row i : ℕ) (e : RecordValue) (xs : List LexemeValue) → 0 < row → slice_get es (row - 1) ≡ Some e → xs ≡ e.entry.lexemes → kind_after None (take row es) ≡ kind_after None (take i es)

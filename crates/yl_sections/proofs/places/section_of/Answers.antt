@@ -1,7 +1,7 @@
 use Rattle.std.proofs.Common.{◌≡◌, ◌+◌, arith, refl, take, ap, inl, inr}
-use Rattle.yl_rejudge.specs.Places.{rows_kept}
-use Rattle.yl_rejudge.proofs.KeptRows.{got, rows_more}
-use Rattle.yl_rejudge.proofs.places.section_of.Goals as goal
+use Rattle.yl_sections.specs.Kept.{rows_kept}
+use Rattle.yl_sections.proofs.KeptRows.{got, rows_more}
+use Rattle.yl_sections.proofs.places.section_of.Goals as goal
 
 pub loop-i-preserved : goal.loop-i-preserved
 loop-i-preserved g c =

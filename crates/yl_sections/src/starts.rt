@@ -2,11 +2,11 @@
 ghost use Rattle.std.specs.Prelude.{◌≡◌, ◌≤◌, length, take, None};
 ghost use Rattle.yl_sections.specs.Local.{is_start_at, kind_after};
 
+use crate::sections::{is_section_start, last_kind};
 use std::alloc::Allocator;
 use yl_chunks::Spliced;
 use yl_lexeme::Kind;
 use yl_record::Record;
-use yl_sections::{is_section_start, last_kind};
 
 /// Returns the kind of the last lexeme before row `i`, counted from 0, if there is one.
 pub fn kind_before<A: Allocator + Copy>(

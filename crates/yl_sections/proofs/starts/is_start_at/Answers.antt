@@ -3,8 +3,8 @@ use Rattle.yl_lexeme.specs.declared.lexeme.Kind.{Kind}
 use Rattle.yl_lexeme.specs.Lexeme.{LexemeValue}
 use Rattle.yl_sections.specs.Sections.{is_section_start}
 use Rattle.yl_sections.specs.Local.{kind_after}
-use Rattle.yl_rejudge.proofs.KeptRows.{starts_here, starts_past}
-use Rattle.yl_rejudge.proofs.starts.is_start_at.Goals as goal
+use Rattle.yl_sections.proofs.KeptRows.{starts_here, starts_past}
+use Rattle.yl_sections.proofs.starts.is_start_at.Goals as goal
 
 pub returns-then-i-len : goal.returns-then-i-len
 returns-then-i-len g c =
