@@ -31,7 +31,7 @@ use Rattle.yl_found.specs.Plain.{IsPlain}
 use Rattle.yl_summary.specs.Overview.{IsFirstFault, IsSound}
 use Rattle.yl_found.proofs.Ready.{no_fault_in, none_shown, none_told}
 use Rattle.yl_summary.proofs.Walks.{measured}
-use Rattle.yl_lint.proofs.Pushed.{one_at}
+use Rattle.yl_edited_lines.proofs.Pushed.{one_at}
 use Rattle.yl_found.proofs.ShownSections.{of_sound, shown_sound}
 use Rattle.yl_found.proofs.WithoutFaults.{findings_faultless, measured_faultless, sound_faultless}
 

@@ -7,7 +7,7 @@ use Rattle.yl_indentation.specs.Measures.{and_later, measure_of}
 use Rattle.yl_sections.specs.Kept.{KeptValue}
 use Rattle.yl_lint.specs.TextReport.{findings_in_section, findings_in_sections}
 use Rattle.yl_summary.proofs.Walks.{none_left}
-use Rattle.yl_lint.proofs.Pushed.{one_at}
+use Rattle.yl_edited_lines.proofs.Pushed.{one_at}
 
 module _ (o : IndentationOptions) (whole : Measure) (line next : ℕ) (here later : Measure) (old new total : List FindingValue) (ks : List KeptValue) (i : ℕ) where
   pub pushed_whole : (k : KeptValue) → i < length ks → k ≡ get_or ks i k → next ≡ line + k.rows → later ≡ and_later here (measure_of k.facts)

@@ -34,8 +34,8 @@ use Rattle.yl_report.specs.Report.{is_syntax}
 use Rattle.yl_sections.specs.Kept.{KeptValue, items_if}
 use Rattle.yl_lint.specs.Onward.{onward_in_section, onward_in_sections}
 use Rattle.yl_lint.specs.TextReport.{findings_from, findings_in_lines, moved}
-use Rattle.yl_lint.specs.There.{lines_there}
-use Rattle.yl_lint.specs.declared.there.Ends.{Ends}
+use Rattle.yl_edited_lines.specs.There.{lines_there}
+use Rattle.yl_edited_lines.specs.declared.there.Ends.{Ends}
 use Rattle.yl_problem_lists.specs.Showing.{is_indentation, is_of_lines}
 use Rattle.yl_found.specs.Plain.{IsPlain, is_kept_rule, is_of_section}
 

@@ -9,9 +9,9 @@ use Rattle.yl_sections.specs.Kept.{KeptValue, SectionFaultValue, unless_fault, r
 use Rattle.yl_sections.proofs.KeptRows.{got}
 use Rattle.yl_lint.specs.TextReport.{comments_in_sections, shown}
 use Rattle.yl_summary.specs.Overview.{IsFirstFault, IsSound}
-use Rattle.yl_lint.specs.Switches.{SpeaksWithin, may_switch, switch_texts}
+use Rattle.yl_edited_lines.specs.Switches.{SpeaksWithin, may_switch, switch_texts}
 use Rattle.yl_summary.proofs.Walks.{one_more, rows_both}
-use Rattle.yl_lint.proofs.Pushed.{one_at}
+use Rattle.yl_edited_lines.proofs.Pushed.{one_at}
 
 -- ---- the sections that are shown
 

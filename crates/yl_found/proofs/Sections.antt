@@ -26,7 +26,7 @@ use Rattle.yl_found.specs.Plain.{IsPlain}
 use Rattle.yl_summary.specs.Overview.{IsSilent}
 use Rattle.yl_summary.proofs.Walks.{measured}
 use Rattle.yl_lint.proofs.LineParts.{Between, between_both}
-use Rattle.yl_lint.proofs.Pushed.{sections_moved}
+use Rattle.yl_edited_lines.proofs.Pushed.{sections_moved}
 
 -- ---- sections that have no fault, and those that silence nothing
 

@@ -13,7 +13,7 @@ use Rattle.yl_found.specs.Plain.{IsPlain}
 use Rattle.yl_summary.specs.Overview.{IsSound, has_fault}
 use Rattle.yl_found.proofs.ReportShown.{plain_shown}
 use Rattle.yl_found.proofs.Sections.{comments_two, comments_within}
-use Rattle.yl_lint.proofs.Silenced.{moved_high, said_above}
+use Rattle.yl_edited_lines.proofs.Silenced.{moved_high, said_above}
 use Rattle.yl_found.proofs.WithoutFaults.{rows_faultless}
 
 -- ---- one after another

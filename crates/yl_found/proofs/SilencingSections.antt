@@ -10,7 +10,7 @@ use Rattle.yl_lint.specs.TextReport.{comments_in_sections, moved_comment}
 use Rattle.yl_summary.specs.Overview.{AreFew, IsSilencingOf, IsSilent}
 use Rattle.yl_summary.specs.declared.overview.Silencing.{Silencing}
 use Rattle.yl_found.proofs.Sections.{comments_both, no_comments}
-use Rattle.yl_lint.proofs.Pushed.{one_at}
+use Rattle.yl_edited_lines.proofs.Pushed.{one_at}
 
 abbrev Silent : List KeptValue → Type 0
 Silent ks = AllByRecursion IsSilent ks

@@ -7,11 +7,4 @@ pub mod Shown
 pub mod Onward
 pub mod Together
 pub mod Arranged
-pub mod ByEnds
-pub mod FewLines
 pub mod LineParts
-pub mod Pushed
-pub mod ReadAlike
-pub mod Windows
-pub mod Silenced
-pub mod Spoken

@@ -4,7 +4,3 @@ pub mod TextReport
 pub mod Computed
 pub mod Unsilenced
 pub mod Onward
-pub mod Edit
-pub mod Alike
-pub mod There
-pub mod Switches

@@ -5,33 +5,22 @@
 //! sections after the first one with a fault.
 //!
 //! A session keeps the records and the summaries of the sections. It calls the steps one by one:
-//! each finds the problems in lines, in a section, in some of both, or of a fault. `TextEdit` is an
-//! edit of the lines, and `reads_alike` says whether it leaves their findings as they are.
+//! each finds the problems in lines, in a section, or of a fault.
 #![tactic(auto)]
 
 mod assembling;
 mod comments;
-mod edit;
 mod fault;
 mod kept;
 mod laws;
 mod lines;
 mod lint;
 mod moving;
-mod switches;
-mod there;
-mod unchanged;
-mod window;
 
 pub use assembling::{push_indentation, push_section, report_of_kept};
 pub use comments::push_comments;
-pub use edit::TextEdit;
 pub use fault::finding_of_fault;
 pub use laws::{heard_of_text, indentation_looks_back, one_report};
 pub use lines::{end_of, find_in_lines, first_text};
 pub use lint::report_of_text;
-pub use moving::line_below;
-pub use switches::{have_same_texts, retain_switches, speak_within};
-pub use there::{Ends, find_there};
-pub use unchanged::reads_alike;
-pub use window::Window;
+pub use moving::{line_below, push_moved};

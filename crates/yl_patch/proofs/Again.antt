@@ -31,11 +31,11 @@ use Rattle.yl_problem_lists.proofs.Ordered.{filter_all, filter_none}
 use Rattle.yl_sections.specs.Kept.{KeptValue, rows_kept}
 use Rattle.yl_lint.specs.Onward.{indentation_in_sections, onward_in_section, onward_in_sections}
 use Rattle.yl_lint.specs.TextReport.{moved}
-use Rattle.yl_lint.specs.There.{lines_there}
-use Rattle.yl_lint.specs.declared.there.Ends.{Ends}
+use Rattle.yl_edited_lines.specs.There.{lines_there}
+use Rattle.yl_edited_lines.specs.declared.there.Ends.{Ends}
 use Rattle.yl_lint.proofs.Arranged.{arranged, arranged_lines, arranged_moved, lower}
 use Rattle.yl_lint.proofs.LineParts.{Between, if_none}
-use Rattle.yl_lint.proofs.Pushed.{all_moved, one_at, there_moved}
+use Rattle.yl_edited_lines.proofs.Pushed.{all_moved, one_at, there_moved}
 use Rattle.yl_summary.proofs.Walks.{measured, none_left}
 use Rattle.yl_found.specs.Faultless.{faultless}
 use Rattle.yl_found.specs.Plain.{IsPlain, is_kept_rule, is_of_section}

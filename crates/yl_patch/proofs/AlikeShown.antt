@@ -18,12 +18,12 @@ use Rattle.yl_found.specs.Faultless.{faultless, faultless_one}
 use Rattle.yl_found.specs.Found.{is_shown}
 use Rattle.yl_found.specs.Plain.{IsPlain}
 use Rattle.yl_summary.specs.Overview.{has_fault}
-use Rattle.yl_lint.specs.Switches.{SpeaksWithin}
+use Rattle.yl_edited_lines.specs.Switches.{SpeaksWithin}
 use Rattle.yl_patch.specs.Speaking.{SpeakAlike}
 use Rattle.yl_found.proofs.Sections.{comments_two, comments_three}
 use Rattle.yl_summary.proofs.Walks.{rows_both, rows_until}
 use Rattle.yl_found.proofs.ShownSections.{rows_shown, said_by_first, said_upto, shown_both, shown_comments_within, shown_covered, shown_sound}
-use Rattle.yl_lint.proofs.Silenced.{IsHeardAbove, heard_further, heard_moved, said_alike, same_off}
+use Rattle.yl_edited_lines.proofs.Silenced.{IsHeardAbove, heard_further, heard_moved, said_alike, same_off}
 
 -- ---- by its parts
 

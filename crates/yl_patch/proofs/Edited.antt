@@ -19,8 +19,8 @@ use Rattle.yl_problem_lists.specs.Parts.{above, behind, shifted}
 use Rattle.yl_sections.specs.Kept.{KeptValue, rows_kept}
 use Rattle.yl_lint.specs.Onward.{indentation_in_sections, onward_in_sections}
 use Rattle.yl_lint.specs.TextReport.{moved}
-use Rattle.yl_lint.specs.There.{found_there, lines_there}
-use Rattle.yl_lint.specs.declared.there.Ends.{Ends}
+use Rattle.yl_edited_lines.specs.There.{found_there, lines_there}
+use Rattle.yl_edited_lines.specs.declared.there.Ends.{Ends}
 use Rattle.yl_lint.proofs.Arranged.{arranged, lower}
 use Rattle.yl_lint.proofs.LineParts.{if_none}
 use Rattle.yl_summary.proofs.Walks.{measured, rows_until}

@@ -11,8 +11,8 @@ use Rattle.yl_settings.specs.declared.options.RuleOptions.{RuleOptions}
 use Rattle.yl_sections.specs.Kept.{KeptValue}
 use Rattle.yl_patch.specs.Cut.{IsApart, IsInside, is_filled}
 use Rattle.yl_patch.specs.Seen.{IsCut}
-use Rattle.yl_lint.specs.There.{found_there}
-use Rattle.yl_lint.specs.declared.there.Ends.{Ends}
+use Rattle.yl_edited_lines.specs.There.{found_there}
+use Rattle.yl_edited_lines.specs.declared.there.Ends.{Ends}
 use Rattle.yl_patch.specs.declared.touched.Touched.{Touched}
 use Rattle.yl_found.proofs.Given.{never}
 use Rattle.yl_patch.proofs.Renewed.{spliced_length}

@@ -9,7 +9,7 @@ use Rattle.yl_lint.specs.Onward.{onward_in_section, onward_in_sections}
 use Rattle.yl_lint.specs.TextReport.{moved}
 use Rattle.yl_patch.specs.Seen.{AreFoundAlike}
 use Rattle.yl_summary.proofs.Walks.{none_left}
-use Rattle.yl_lint.proofs.Pushed.{one_at}
+use Rattle.yl_edited_lines.proofs.Pushed.{one_at}
 
 -- ---- sections behind facts of either measure
 

@@ -29,8 +29,8 @@ use Rattle.yl_found.specs.Faultless.{faultless}
 use Rattle.yl_found.specs.Found.{found_by}
 use Rattle.yl_found.specs.Plain.{IsPlain}
 use Rattle.yl_patch.specs.Seen.{measure_upto}
-use Rattle.yl_lint.specs.There.{found_there}
-use Rattle.yl_lint.specs.declared.there.Ends.{Ends}
+use Rattle.yl_edited_lines.specs.There.{found_there}
+use Rattle.yl_edited_lines.specs.declared.there.Ends.{Ends}
 use Rattle.yl_patch.specs.declared.touched.Touched.{Touched}
 use Rattle.yl_lint.proofs.Arranged.{arranged, arranged_lines, arranged_moved, lower}
 use Rattle.yl_lint.proofs.LineParts.{if_none, is_seam, none_by, seam_behind, seam_more}

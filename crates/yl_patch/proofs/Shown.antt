@@ -5,7 +5,7 @@ use Rattle.yl_lexeme.specs.Lexeme.{PlacedCommentValue}
 use Rattle.yl_sections.specs.Kept.{KeptValue, SectionFaultValue, unless_fault, rows_kept}
 use Rattle.yl_lint.specs.TextReport.{comments_in_sections, shown}
 use Rattle.yl_summary.specs.Overview.{IsSilent, has_fault}
-use Rattle.yl_lint.specs.Switches.{SpeaksWithin, switch_texts}
+use Rattle.yl_edited_lines.specs.Switches.{SpeaksWithin, switch_texts}
 use Rattle.yl_patch.specs.Speaking.{SpeakAlike}
 use Rattle.yl_found.proofs.Sections.{no_comments}
 use Rattle.yl_found.proofs.ShownSections.{shown_sound}

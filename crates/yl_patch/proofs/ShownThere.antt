@@ -23,8 +23,8 @@ use Rattle.yl_problem_lists.proofs.Ordered.{filter_same}
 use Rattle.yl_found.specs.Faultless.{faultless}
 use Rattle.yl_found.specs.Found.{is_shown}
 use Rattle.yl_found.specs.Plain.{IsPlain}
-use Rattle.yl_lint.specs.There.{found_there, lines_there}
-use Rattle.yl_lint.specs.declared.there.Ends.{Ends}
+use Rattle.yl_edited_lines.specs.There.{found_there, lines_there}
+use Rattle.yl_edited_lines.specs.declared.there.Ends.{Ends}
 use Rattle.yl_patch.proofs.AlikeShown.{upto_alike}
 use Rattle.yl_found.proofs.EachFound.{InFirst}
 use Rattle.yl_lint.proofs.LineParts.{Between, between_both, empty_lines_between, end_of_file_between, new_lines_between, rows_between}

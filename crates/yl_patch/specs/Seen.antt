@@ -13,8 +13,8 @@ use Rattle.yl_sections.specs.Kept.{KeptValue, rows_kept}
 use Rattle.yl_lint.specs.Onward.{onward_in_sections}
 use Rattle.yl_lint.specs.TextReport.{facts_in_sections, moved}
 use Rattle.yl_patch.specs.Cut.{IsInside, is_filled}
-use Rattle.yl_lint.specs.There.{found_there}
-use Rattle.yl_lint.specs.declared.there.Ends.{Ends}
+use Rattle.yl_edited_lines.specs.There.{found_there}
+use Rattle.yl_edited_lines.specs.declared.there.Ends.{Ends}
 use Rattle.yl_patch.specs.declared.touched.Touched.{Touched}
 
 -- the sections with the indices from `from` on, before `end`

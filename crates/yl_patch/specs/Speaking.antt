@@ -2,7 +2,7 @@
 use Rattle.std.specs.Prelude.{◌≡◌, List}
 use Rattle.std.specs.List.{AllByRecursion}
 use Rattle.yl_sections.specs.Kept.{KeptValue, rows_kept}
-use Rattle.yl_lint.specs.Switches.{SpeaksWithin, switch_texts}
+use Rattle.yl_edited_lines.specs.Switches.{SpeaksWithin, switch_texts}
 use Rattle.yl_lint.specs.TextReport.{comments_in_sections, shown}
 
 -- no shown comment of these sections speaks of a single line below them, and the shown comments

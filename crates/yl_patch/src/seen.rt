@@ -2,14 +2,14 @@
 ghost use Rattle.std.specs.Prelude.{take, IfOk};
 ghost use Rattle.yl_sections.specs.Kept.{rows_kept};
 ghost use Rattle.yl_summary.specs.Edit.{IsSectionEdit};
-ghost use Rattle.yl_lint.specs.Edit.{IsTextEdit};
+ghost use Rattle.yl_edited_lines.specs.Edit.{IsTextEdit};
 ghost use Rattle.yl_patch.specs.Cut.{IsApart};
 ghost use Rattle.yl_patch.specs.Seen.{IsSeen};
 
 use crate::touched::{Touched, ends_of, find_touched};
 use std::alloc::{AllocError, Allocator};
 use yl_config::Config;
-use yl_lint::{TextEdit, Window, find_there};
+use yl_edited_lines::{TextEdit, Window, find_there};
 use yl_summary::SectionEdit;
 use yl_text::{Finding, LineStore, Lines};
 

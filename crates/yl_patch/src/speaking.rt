@@ -7,9 +7,9 @@ ghost use Rattle.yl_patch.specs.Speaking.{AllSpeakAlike, SpeakAlike};
 
 use std::alloc::{AllocError, Allocator};
 use yl_chunks::Spliced;
+use yl_edited_lines::{have_same_texts, retain_switches, speak_within};
 use yl_found::comments_among;
 use yl_lexeme::PlacedComment;
-use yl_lint::{have_same_texts, retain_switches, speak_within};
 use yl_summary::SectionEdit;
 
 /// Returns the comments of the sections that the edit removes. Lines count from 0, from the first

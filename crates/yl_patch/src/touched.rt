@@ -4,7 +4,7 @@ ghost use Rattle.yl_sections.specs.Kept.{rows_kept};
 ghost use Rattle.yl_summary.specs.Edit.{IsSectionEdit};
 
 use std::alloc::Allocator;
-use yl_lint::Ends;
+use yl_edited_lines::Ends;
 use yl_summary::SectionEdit;
 
 /// The lines of the sections that an edit touches, before and after the edit.

@@ -22,7 +22,7 @@ use Rattle.yl_rescan.specs.Held.{AreHeld}
 use Rattle.yl_rescan.specs.Made.{HoldsEdit}
 use Rattle.yl_rescan.proofs.Edits.{length-spliced}
 use Rattle.yl_rescan.proofs.Filled.{start_filled}
-use Rattle.yl_lint.specs.Edit.{IsTextEdit}
+use Rattle.yl_edited_lines.specs.Edit.{IsTextEdit}
 use Rattle.yl_summary.proofs.Walks.{rows_both, rows_until}
 use Rattle.yl_problem_lists.proofs.Lines.{part}
 use Rattle.yl_patch.specs.Cut.{IsApart, is_filled}

@@ -13,7 +13,7 @@ use Rattle.yl_sections.specs.Sections.{sections}
 use Rattle.yl_config.specs.declared.config.Config.{Config}
 use Rattle.yl_rejudge.proofs.SectionsEdited.{count_kept, few_sections, rows_of_kept}
 use Rattle.yl_summary.specs.Overview.{AreFew}
-use Rattle.yl_lint.proofs.FewLines.{few_lines}
+use Rattle.yl_edited_lines.proofs.FewLines.{few_lines}
 
 -- a record a line
 pub count_records : (ps : List RowValue) (cut : Option ℕ) (rs : List RecordValue) → AreHeld (characters_in ps) cut rs → length rs ≡ length ps

@@ -30,7 +30,7 @@ use Rattle.yl_found.specs.Faultless.{faultless}
 use Rattle.yl_found.specs.Found.{all_parts}
 use Rattle.yl_found.proofs.ReportShown.{report_shown}
 use Rattle.yl_found.proofs.SectionsPlain.{kept_plain}
-use Rattle.yl_lint.specs.Alike.{AreReadAlike}
+use Rattle.yl_edited_lines.specs.Alike.{AreReadAlike}
 use Rattle.yl_session.specs.Known.{AreOverviewsAfter}
 use Rattle.yl_session.specs.Parts.{Makes}
 use Rattle.yl_session.proofs.HeldReport.{held_report}

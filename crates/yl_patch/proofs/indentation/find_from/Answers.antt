@@ -1,7 +1,7 @@
 use Rattle.std.proofs.Common.{drop, ap, arith, ◌∙◌}
 use Rattle.yl_indentation.specs.Measures.{and_later}
 use Rattle.yl_lint.specs.Onward.{indentation_in_sections}
-use Rattle.yl_lint.proofs.Pushed.{counts_more}
+use Rattle.yl_edited_lines.proofs.Pushed.{counts_more}
 use Rattle.yl_sections.proofs.KeptRows.{got}
 use Rattle.yl_patch.proofs.Again.{none_again, pushed_again}
 use Rattle.yl_patch.proofs.indentation.find_from.Goals as goal

@@ -13,7 +13,7 @@ use Rattle.yl_found.specs.Found.{fault_told}
 use Rattle.yl_found.specs.ShownUpto.{is_shown_upto}
 use Rattle.yl_found.proofs.FaultFound.{told_none}
 use Rattle.yl_summary.proofs.Whole.{none_first}
-use Rattle.yl_lint.proofs.FewLines.{few_lines}
+use Rattle.yl_edited_lines.proofs.FewLines.{few_lines}
 use Rattle.yl_patch.proofs.PatchReady.{ready_for}
 use Rattle.yl_patch.proofs.SeenPatch.{says_indentation, seen_patch}
 use Rattle.yl_patch.proofs.ShownBy.{below_says, told_in, told_where}

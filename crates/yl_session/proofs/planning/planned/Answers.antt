@@ -14,7 +14,7 @@ use Rattle.yl_sections.specs.Holding.{TakesNothing}
 use Rattle.yl_rescan.specs.Held.{AreHeld}
 use Rattle.yl_rescan.proofs.Edits.{length-spliced}
 use Rattle.yl_config.specs.declared.config.Config.{Config}
-use Rattle.yl_lint.proofs.FewLines.{few_lines}
+use Rattle.yl_edited_lines.proofs.FewLines.{few_lines}
 use Rattle.yl_found.proofs.SectionsPlain.{kept_plain}
 use Rattle.yl_session.proofs.Apart.{others_touch, stay_touch}
 use Rattle.yl_session.proofs.Bounds.{are_few, count_records}

@@ -1,5 +1,5 @@
 use Rattle.std.proofs.Common.{None, arith}
-use Rattle.yl_lint.proofs.FewLines.{few_lines}
+use Rattle.yl_edited_lines.proofs.FewLines.{few_lines}
 use Rattle.yl_session.proofs.Bounds.{count_records}
 use Rattle.yl_session.proofs.reading.read.Goals as goal
 

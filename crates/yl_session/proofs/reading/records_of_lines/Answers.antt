@@ -5,7 +5,7 @@ use Rattle.yl_record.specs.Records.{RecordValue}
 use Rattle.yl_lexeme.specs.declared.meter.Meter.{Meter}
 use Rattle.yl_lint.proofs.Streamed.{few_at_end}
 use Rattle.yl_session.specs.Reading.{IsReadTo}
-use Rattle.yl_lint.proofs.FewLines.{few_lines}
+use Rattle.yl_edited_lines.proofs.FewLines.{few_lines}
 use Rattle.yl_session.proofs.Read.{all_read, nothing_read, row_fed}
 use Rattle.yl_session.proofs.reading.records_of_lines.Goals as goal
 use Rattle.yl_session.proofs.reading.records_of_lines.Goals.{then-waiting-piece+in_ok-recorder, else-waiting-piece}

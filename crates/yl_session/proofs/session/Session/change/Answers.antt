@@ -20,7 +20,7 @@ use Rattle.yl_summary.specs.Overview.{AreOverviews}
 use Rattle.yl_session.specs.Known.{AreOverviewsAfter}
 use Rattle.yl_session.specs.Parts.{Makes}
 use Rattle.yl_session.specs.State.{SessionValue}
-use Rattle.yl_lint.proofs.FewLines.{few_lines}
+use Rattle.yl_edited_lines.proofs.FewLines.{few_lines}
 use Rattle.yl_session.proofs.Bounds.{count_records, few_kept}
 use Rattle.yl_session.proofs.Parts.{parts_same, shown_is_report}
 use Rattle.yl_session.proofs.session.Session.change.Goals as goal

@@ -1,0 +1,7 @@
+pub mod ByEnds
+pub mod FewLines
+pub mod Pushed
+pub mod ReadAlike
+pub mod Windows
+pub mod Silenced
+pub mod Spoken

@@ -1,0 +1,4 @@
+pub mod Edit
+pub mod Alike
+pub mod There
+pub mod Switches
