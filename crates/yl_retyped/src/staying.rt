@@ -14,21 +14,8 @@ use yl_chunks::{Chunks, Spliced};
 use yl_config::Config;
 use yl_lexeme_rules::LexemeOptions;
 use yl_record::Record;
+use yl_sections::{is_on, options_if};
 use yl_text::RuleId;
-
-/// Returns `true` if the rule is on.
-fn is_on(config: &Config, rule: RuleId) -> bool
-    ensures { result ≡ is_on config.now rule }
-{
-    config.levels().level_of(rule).is_some()
-}
-
-/// Returns the options if the rule is on.
-fn options_if<O: Copy>(is_on: bool, options: &O) -> Option<O>
-    ensures { result ≡ then_some is_on options.now }
-{
-    if is_on { Some(*options) } else { None }
-}
 
 /// Returns the options of the rules on values. All other rules are off.
 fn value_options(config: &Config) -> LexemeOptions

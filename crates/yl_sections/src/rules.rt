@@ -20,7 +20,7 @@ pub fn is_on(config: &Config, rule: RuleId) -> bool
 }
 
 /// Returns the options if the rule is on.
-fn options_if<O: Copy>(is_on: bool, options: &O) -> Option<O>
+pub fn options_if<O: Copy>(is_on: bool, options: &O) -> Option<O>
     ensures { result ≡ then_some is_on options.now }
 {
     if is_on { Some(*options) } else { None }
