@@ -35,7 +35,7 @@ pub use laws::{
 };
 pub use places::{Place, section_of};
 pub use row_judge::RowJudge;
-pub use rules::{is_on, options_if};
+pub use rules::{comments_found, is_on, options_if, tree_options};
 pub use section_judge::{SectionJudge, start_of};
 pub use sections::{is_section_start, last_kind, section_len};
 pub use starts::{is_start_at, kind_before};
