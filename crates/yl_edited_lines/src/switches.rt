@@ -2,12 +2,12 @@
 ghost use Rattle.std.specs.Prelude.{◌≡◌, true, map};
 ghost use Rattle.std.specs.List.{AllByRecursion, filter};
 ghost use Rattle.yl_lexeme.specs.PlacedComments.{placed_comment_value};
-ghost use Rattle.yl_report.specs.Directive as directive;
 ghost use Rattle.yl_edited_lines.specs.Switches.{SpeaksWithin};
 ghost use Rattle.yl_edited_lines.specs.Switches as spec;
 
 use std::alloc::Allocator;
 use yl_lexeme::PlacedComment;
+use yl_report::own_line;
 
 /// Returns `true` if a comment may switch rules. A comment that starts with `# yamllint
 /// disable-line` silences one line only.
@@ -18,19 +18,6 @@ fn may_switch(comment: &PlacedComment<'_>) -> bool
         .text
         .as_bytes()
         .starts_with(b"# yamllint disable-line")
-}
-
-/// Returns the line that a `disable-line` comment silences: its own line if it stands after a
-/// lexeme, else the next line.
-fn own_line(comment: &PlacedComment<'_>) -> u64
-    ensures { result ≡ directive.own_line (placed_comment_value comment.now) }
-{
-    let line = u64::from(comment.line);
-    if comment.behind.is_some() {
-        line
-    } else {
-        line + 1
-    }
 }
 
 /// Returns `true` only if a comment may switch rules or silences one of the first `rows` lines.

@@ -1,16 +1,9 @@
 //! Prints the rule of a problem.
 ghost use Rattle.std.specs.Prelude.{◌≡◌, ◌++◌};
-ghost use Rattle.yl_report.specs.Report.{is_syntax};
 ghost use Rattle.yl_formats.specs.Formats.{rule_between, syntax_mark};
 
+use yl_report::is_syntax;
 use yl_text::RuleId;
-
-// Returns `true` if the rule is `Syntax`, which is the rule of the faults of a text.
-fn is_syntax(rule: RuleId) -> bool
-    ensures { result ≡ is_syntax rule }
-{
-    matches!(rule, RuleId::Syntax)
-}
 
 /// Returns the text after the message of a problem of this rule. It is empty unless the rule is
 /// `Syntax`.

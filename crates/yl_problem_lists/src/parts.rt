@@ -8,9 +8,9 @@ use crate::judging::{drop_indentation, is_indentation, merge_indentation};
 use crate::merging::{give_back, keep_above, take_behind};
 use crate::places::{count_before, count_upto};
 use crate::shifting::put_lines;
-use crate::showing::{Showing, is_syntax};
+use crate::showing::Showing;
 use std::alloc::{AllocError, Allocator};
-use yl_report::Problem;
+use yl_report::{Problem, is_syntax};
 
 /// Returns the number of problems that may come from the other list, which holds `count` problems:
 /// all of them if the problems below are split again, else 0.

@@ -1,10 +1,9 @@
 //! Decides which of the problems that are found in a text are shown.
 ghost use Rattle.std.specs.Prelude.{◌≡◌};
-ghost use Rattle.yl_report.specs.Report as report;
 ghost use Rattle.yl_problem_lists.specs.Showing as spec;
 
 use std::alloc::Allocator;
-use yl_report::{Problem, Silences};
+use yl_report::{Problem, Silences, is_syntax};
 use yl_text::RuleId;
 
 /// What decides which of the problems that are found in a text are shown.
@@ -29,13 +28,6 @@ pub fn is_of_lines(rule: RuleId) -> bool
             | RuleId::NewLines
             | RuleId::TrailingSpaces
     )
-}
-
-/// Returns `true` if this is the rule of a text's fault.
-pub fn is_syntax(rule: RuleId) -> bool
-    ensures { result ≡ report.is_syntax rule }
-{
-    matches!(rule, RuleId::Syntax)
 }
 
 impl<A: Allocator> Showing<A> {

@@ -50,7 +50,7 @@ pub fn one_arrangement()
     ensures exists { SortedOnceArranges }
 {}
 
-/// Returns `true` if the rule is `syntax`.
+/// Returns `true` if the rule is `syntax`, which is the rule of a text's fault.
 pub fn is_syntax(rule: RuleId) -> bool
     ensures { result ≡ spec.is_syntax rule }
 {

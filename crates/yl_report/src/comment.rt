@@ -30,8 +30,8 @@ pub fn enables(rule: RuleId, comment: &PlacedComment<'_>) -> bool
     says(b"# yamllint enable", rule, comment)
 }
 
-// Returns the line that a `disable-line` comment silences: its own line if it stands after a
-// lexeme, else the next line. Lines count from 0.
+/// Returns the line that a `disable-line` comment silences: its own line if it stands after a
+/// lexeme, else the next line. Lines count from 0.
 pub fn own_line(comment: &PlacedComment<'_>) -> u64
     ensures { result ≡ spec.own_line (placed_comment_value comment.now) }
 {

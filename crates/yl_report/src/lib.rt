@@ -12,8 +12,8 @@ mod printing;
 mod problem;
 mod silence;
 
-pub use arranging::{arrange, compare, one_arrangement};
-pub use comment::disables_file;
+pub use arranging::{arrange, compare, is_syntax, one_arrangement};
+pub use comment::{disables_file, own_line};
 pub use hearing::heard_reports;
 pub use printing::write_report;
 pub use problem::{Problem, status};
